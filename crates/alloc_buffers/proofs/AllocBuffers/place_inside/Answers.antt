@@ -1,0 +1,13 @@
+use Rattle.std.proofs.Common.{◌≡◌, sym, ◌∙◌, ap, ◌+◌, ◌≤◌, arith, subst, ℕ}
+use Rattle.regions.specs.Tiles.{Gap}
+use Rattle.alloc_buffers.specs.Placement.{BuffersStand, IsPlaced, Buffers}
+use Rattle.alloc_buffers.proofs.Placed.{inside_placed}
+use Rattle.alloc_buffers.proofs.AllocBuffers.place_inside.Goals as goal
+pub returns-clause-placed : goal.returns-clause-placed
+returns-clause-placed c = inside_placed _ _ _ _ _ _ _ _ _ _ _ c.self.view_is c.requires.stand c.requires.unmoved c.law.ensures.positive c.law.ensures.fitting c.requires.opened c.requires.positive c.requires.room c.new.ensures c.split_filler-next.ensures.split (c.word.ensures ∙ c.split_filler-next.ensures.rest) c.open_buffer.ensures c.new-2.ensures
+
+pub split_filler-next-requires-clause-small : goal.split_filler-next-requires-clause-small
+split_filler-next-requires-clause-small c =
+    let f = c.requires.stand.fillers c.args.mutator c.args.buffer c.requires.opened in
+    let w = c.law.ensures.within c.args.buffer.next (Gap c.args.buffer.rest) f.filler in
+    omega (arith, w, c.law.ensures.in_all)

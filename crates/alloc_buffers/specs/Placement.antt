@@ -1,0 +1,124 @@
+-- Where an object goes.
+use Rattle.std.specs.Prelude.{◌≡◌, ◌≢◌, ◌∷◌, [], ℕ, zero, suc, ◌+◌, ◌-◌, ◌*◌, ◌<◌, ◌≤◌, Option, Some, None, List, replicate, slice_get, slice_set, slice_index_or, length, if◌then◌else◌, nat_le}
+use Rattle.regions.specs.Tiles.{Tile, Gap}
+use Rattle.heap_model.specs.Heap.{Stored}
+use Rattle.regions.specs.declared.row.Kind.TheVariants as kinds
+use Rattle.regions.specs.Table.{Table, used_of, kind_of, first_free, taken, push_tile, replace_tile, gap, tile_in, object_at, HasNoMoved}
+use Rattle.alloc_buffers.specs.declared.Buffer.{Buffer}
+
+pub record Buffers : Type 0 where
+  -- how many words a new buffer gets
+  pub words : ℕ
+  -- the region that buffers are cut from
+  pub current : Option ℕ
+  -- each mutator's open buffer
+  pub open_buffers : List (Option Buffer)
+
+-- an object's place, and what stands then
+pub record Placement : Type 0 where
+  pub at : ℕ
+  pub table : Table
+  pub buffers : Buffers
+
+-- a region with room, which may have been taken for it
+pub record Room : Type 0 where
+  pub region : ℕ
+  pub table : Table
+
+unfoldable pub top_of : Table → ℕ → ℕ
+top_of t k = k * t.words_per_region + used_of t k
+
+abbrev pub fresh_room : Table → Option ℕ → Option Room
+fresh_room t None = None
+fresh_room t (Some k) = Some (record { region = k; table = taken t (Some k) })
+
+abbrev pub room_for : Table → Option ℕ → ℕ → Option Room
+room_for t None w = fresh_room t (first_free t)
+room_for t (Some k) w = if nat_le (used_of t k + w) t.words_per_region then Some (record { region = k; table = t }) else fresh_room t (first_free t)
+
+-- an open buffer, unless it has no words
+abbrev pub buffer_of : ℕ → ℕ → Option Buffer
+buffer_of next zero = None
+buffer_of next (suc n) = Some (record { next = next; rest = suc n })
+
+abbrev pub with_gap : Table → ℕ → ℕ → Table
+with_gap t k zero = t
+with_gap t k (suc n) = push_tile t k (Gap (suc n))
+
+abbrev pub with_buffer : Buffers → Option ℕ → ℕ → Option Buffer → Buffers
+with_buffer b current m buffer = record { words = b.words; current = current; open_buffers = slice_set b.open_buffers m buffer }
+
+abbrev pub in_new_buffer : Buffers → ℕ → ℕ → Option Room → Option Placement
+in_new_buffer b m size None = None
+in_new_buffer b m size (Some r) = Some (record {
+  at = top_of r.table r.region;
+  table = with_gap (push_tile r.table r.region (Gap size)) r.region (b.words - size);
+  buffers = with_buffer b (Some r.region) m (buffer_of (top_of r.table r.region + size) (b.words - size))
+})
+
+abbrev pub alone : Buffers → ℕ → Option Room → Option Placement
+alone b size None = None
+alone b size (Some r) = Some (record {
+  at = top_of r.table r.region;
+  table = push_tile r.table r.region (Gap size);
+  buffers = record { words = b.words; current = Some r.region; open_buffers = b.open_buffers }
+})
+
+abbrev pub outside : Table → Buffers → ℕ → ℕ → Option Placement
+outside t b m size = if nat_le size b.words then in_new_buffer b m size (room_for t b.current b.words) else alone b size (room_for t b.current size)
+
+abbrev pub in_buffer : Table → Buffers → ℕ → ℕ → Buffer → Placement
+in_buffer t b m size x = record {
+  at = x.next;
+  table = replace_tile t x.next (Gap size ∷ gap (x.rest - size));
+  buffers = with_buffer b b.current m (buffer_of (x.next + size) (x.rest - size))
+}
+
+abbrev pub place_by : Table → Buffers → ℕ → ℕ → Option Buffer → Option Placement
+place_by t b m size None = outside t b m size
+place_by t b m size (Some x) = if nat_le size x.rest then Some (in_buffer t b m size x) else outside t b m size
+
+-- the place of an object of a size for a mutator, None where there is no room
+abbrev pub place_of : Table → Buffers → ℕ → ℕ → Option Placement
+place_of t b m size = place_by t b m size (slice_index_or b.open_buffers m None)
+
+pub record HasFiller (t : Table) (x : Buffer) : Type 0 where
+  pub positive : 0 < x.rest
+  pub filler : tile_in t x.next ≡ Some (Gap x.rest)
+
+-- open buffers are fillers of the table, each its own, and the current region is an ordinary one
+pub record BuffersStand (t : Table) (b : Buffers) : Type 0 where
+  pub known : (k : ℕ) → b.current ≡ Some k → k < length t.regions
+  pub ordinary : (k : ℕ) → b.current ≡ Some k → kind_of t k ≡ kinds.Ordinary
+  pub fillers : (m : ℕ) (x : Buffer) → slice_get b.open_buffers m ≡ Some (Some x) → HasFiller t x
+  pub apart : (m n : ℕ) (x y : Buffer) → slice_get b.open_buffers m ≡ Some (Some x) → slice_get b.open_buffers n ≡ Some (Some y) → x.next ≡ y.next → m ≡ n
+
+-- a filler of the size is at the place, which belongs to no buffer, and no object changed
+pub record IsPlaced (t t' : Table) (b b' : Buffers) (size a : ℕ) : Type 0 where
+  pub filler : tile_in t' a ≡ Some (Gap size)
+  pub spare : (m : ℕ) (x : Buffer) → slice_get b'.open_buffers m ≡ Some (Some x) → x.next ≢ a
+  pub objects : (y : ℕ) → object_at t' y ≡ object_at t y
+  pub unmoved : HasNoMoved t'
+  pub region_size : t'.words_per_region ≡ t.words_per_region
+  pub stand : BuffersStand t' b'
+  pub open_count : length b'.open_buffers ≡ length b.open_buffers
+  pub words : b'.words ≡ b.words
+
+-- region k of t' has room for w words; t' is t, but that k may have been free
+pub record HasRoom (t t' : Table) (k w : ℕ) : Type 0 where
+  pub region_size : t'.words_per_region ≡ t.words_per_region
+  pub known : k < length t'.regions
+  pub ordinary : kind_of t' k ≡ kinds.Ordinary
+  pub room : used_of t' k + w ≤ t'.words_per_region
+  pub unmoved : HasNoMoved t → HasNoMoved t'
+  pub kinds_same : (j : ℕ) → kind_of t j ≡ kinds.Ordinary → kind_of t' j ≡ kinds.Ordinary
+  pub count : length t'.regions ≡ length t.regions
+  pub tiles : (y : ℕ) → tile_in t' y ≡ tile_in t y
+
+-- no buffer is open, and no region is current
+abbrev pub closed : ℕ → ℕ → Buffers
+closed words mutators = record { words = words; current = None; open_buffers = replicate mutators None }
+
+-- no buffer is open
+abbrev pub retired : Buffers → Buffers
+retired b = record { words = b.words; current = b.current; open_buffers = replicate (length b.open_buffers) None }

@@ -1,0 +1,61 @@
+//! The command line.
+
+use clap::error::ErrorKind;
+use clap::{Arg, ArgAction, Command, Error};
+use std::alloc::Global;
+
+/// What is done with the file.
+#[derive(Clone, Copy, Debug, PartialEq, Eq)]
+pub enum Task {
+    /// The lines of a script, in the order of the file.
+    Run,
+}
+
+/// What a command line asks for.
+#[derive(Debug, Drop)]
+pub struct Job<'a> {
+    file: &'a str,
+    task: Task,
+}
+
+impl<'a> Job<'a> {
+    /// The path of the script or record.
+    pub fn file(&self) -> &'a str {
+        self.file
+    }
+
+    pub fn task(&self) -> Task {
+        self.task
+    }
+}
+
+fn with_file<'a>(alloc: Global, name: &'a str, about: &'a str) -> Result<Command<'a>, Error> {
+    let file = Arg::new(alloc, "FILE")
+        .required(true)
+        .action(ArgAction::Set);
+    Ok(Command::new(alloc, name).about(about).arg(file)?)
+}
+
+fn command<'a>(alloc: Global) -> Result<Command<'a>, Error> {
+    let run = with_file(alloc, "run", "Does the steps of a script, and prints the record")?;
+    Ok(Command::new(alloc, "g1heap")
+        .about("A Garbage-First heap by steps")
+        .subcommand_required(true)
+        .subcommand(run)?)
+}
+
+/// What the words of a command line ask for, or the text for the user.
+pub fn read_words<'a>(alloc: Global, words: &'a [String]) -> Result<Job<'a>, Error> {
+    let mut command = command(alloc)?;
+    let matches = command.try_get_matches_from_mut(words)?;
+    let Some((_, found)) = matches.subcommand() else {
+        return Err(command.error(ErrorKind::MissingSubcommand, "a subcommand is required")?);
+    };
+    let Some(file) = found.get_str("FILE") else {
+        return Err(command.error(ErrorKind::MissingRequiredArgument, "FILE is required")?);
+    };
+    Ok(Job {
+        file,
+        task: Task::Run,
+    })
+}

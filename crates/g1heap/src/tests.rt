@@ -1,0 +1,253 @@
+//! The program's job on scripts, faulty readers and writers, and command lines.
+
+mod cases;
+
+use crate::job::read_words;
+use crate::perform::perform;
+use cases::CASES;
+use std::alloc::Global;
+use std::io;
+use std::io::{Read, Write};
+use std::process::Abort;
+use std::test::Fail;
+
+/// What a job answered and wrote.
+#[derive(Drop)]
+struct Outcome {
+    status: u8,
+    out: Vec<u8>,
+    err: Vec<u8>,
+}
+
+fn words(alloc: Global, given: &[&str]) -> Result<Vec<String>, Fail> {
+    let mut words = Vec::new(alloc);
+    words.push(String::from_str(alloc, "g1heap")?)?;
+    for word in given {
+        words.push(String::from_str(alloc, word)?)?;
+    }
+    Ok(words)
+}
+
+/// Runs a script.
+fn run(alloc: Global, script: &str) -> Result<Outcome, Fail> {
+    let words = words(alloc, &["run", "script.heap"])?;
+    let Ok(job) = read_words(alloc, words.as_slice()) else {
+        return Err(Fail::from("the words are understood"));
+    };
+    let mut reader = script.as_bytes();
+    let mut out = Vec::new(alloc);
+    let mut err = Vec::new(alloc);
+    let status = perform(alloc, &job, &mut reader, &mut out, &mut err);
+    Ok(Outcome { status, out, err })
+}
+
+fn assert_outcome(rt: &impl Abort, name: &str, outcome: &Outcome, status: u8, out: &str, err: &str) {
+    assert_eq!(rt; outcome.out.as_slice(), out.as_bytes(), "{name}");
+    assert_eq!(rt; outcome.err.as_slice(), err.as_bytes(), "{name}");
+    assert_eq!(rt; outcome.status, status, "{name}");
+}
+
+#[test]
+fn faulty_scripts(rt: HostRuntime) -> Result<(), Fail> {
+    for case in &CASES {
+        let outcome = run(rt.alloc(), case.script)?;
+        assert_outcome(&rt, case.name, &outcome, case.status, case.out, case.err);
+    }
+    Ok(())
+}
+
+/// The script of a record's lines: their counts and replies left out.
+fn script_of(alloc: Global, record: &str) -> Result<String, Fail> {
+    let mut script = String::new(alloc);
+    for (index, line) in record.lines().enumerate() {
+        let line = line.split_once(" = ").map_or(line, |parts| parts.0);
+        let line = if index == 0 {
+            line
+        } else {
+            line.split_once(" ").map_or("", |parts| parts.1)
+        };
+        script.push_str(line)?;
+        script.push_str("\n")?;
+    }
+    Ok(script)
+}
+
+static RECORDS: [(&str, &str); 4] = [
+    (
+        "first read",
+        "heap 4 16 8 1 0\n1 0 new r0 1 1 = #0\n2 0 read r0 0 = 0\n3 0 get r1 r0 0 = nil\n",
+    ),
+    ("no steps", "heap 4 16 8 1 0\n"),
+    (
+        "names spent",
+        "heap 4 16 8 1 18446744073709551614\n1 0 new r0 0 0 = #18446744073709551614\n2 0 new r1 40 40 = refused 4 TooBig\n3 0 new r1 0 0 = refused 5 NamesSpent\n",
+    ),
+    (
+        "fills a heap",
+        "heap 2 16 8 1 0\n1 0 new r0 3 3 = #0\n2 0 new r0 3 3 = #1\n3 0 new r0 3 3 = #2\n4 0 new r0 3 3 = #3\n5 0 new r0 3 3 = refused 3 Full\n",
+    ),
+];
+
+#[test]
+fn records(rt: HostRuntime) -> Result<(), Fail> {
+    for (name, record) in RECORDS {
+        let script = script_of(rt.alloc(), record)?;
+        let outcome = run(rt.alloc(), script.as_str())?;
+        assert_outcome(&rt, name, &outcome, 0, record, "");
+    }
+    Ok(())
+}
+
+/// Each beginning of a good script: the empty one lacks a heap line, one that ends in a line feed is a
+/// script, and any other is cut in its last line.
+#[test]
+fn beginnings(rt: HostRuntime) -> Result<(), Fail> {
+    let script = "heap 4 16 8 1 0\n0 new r0 1 1\n0 read r0 0\n0 get r1 r0 0\n";
+    let records = [
+        "",
+        "heap 4 16 8 1 0\n",
+        "heap 4 16 8 1 0\n1 0 new r0 1 1 = #0\n",
+        "heap 4 16 8 1 0\n1 0 new r0 1 1 = #0\n2 0 read r0 0 = 0\n",
+        "heap 4 16 8 1 0\n1 0 new r0 1 1 = #0\n2 0 read r0 0 = 0\n3 0 get r1 r0 0 = nil\n",
+    ];
+    let faults = [
+        "g1heap: line 1: 1 Cut\n",
+        "g1heap: line 2: 1 Cut\n",
+        "g1heap: line 3: 1 Cut\n",
+        "g1heap: line 4: 1 Cut\n",
+    ];
+    let mut lines = 0usize;
+    for (count, byte) in script.bytes().enumerate() {
+        let Some(beginning) = script.get(..count) else {
+            return Err(Fail::from("the script is ASCII"));
+        };
+        let outcome = run(rt.alloc(), beginning)?;
+        if count == 0 {
+            assert_outcome(&rt, beginning, &outcome, 1, "", "g1heap: line 1: 3 BadHeap\n");
+        } else if beginning.ends_with("\n") {
+            let Some(record) = records.get(lines) else {
+                return Err(Fail::from("a record for each line"));
+            };
+            assert_outcome(&rt, beginning, &outcome, 0, record, "");
+        } else {
+            let Some(fault) = faults.get(lines) else {
+                return Err(Fail::from("a fault for each line"));
+            };
+            assert_outcome(&rt, beginning, &outcome, 1, "", fault);
+        }
+        if byte == b'\n' {
+            lines = lines.saturating_add(1);
+        }
+    }
+    Ok(())
+}
+
+/// A reader that fails once its bytes are read.
+#[derive(Drop)]
+struct BrokenReader<'a> {
+    bytes: &'a [u8],
+}
+
+impl Read for BrokenReader<'_> {
+    fn read(&mut self, buf: &mut [u8]) -> io::Result<usize> {
+        let count = self.bytes.read(buf)?;
+        if count == 0 {
+            return Err(io::Error::from(io::ErrorKind::Other));
+        }
+        Ok(count)
+    }
+}
+
+/// A writer that takes some bytes and then fails.
+#[derive(Drop)]
+struct BrokenWriter {
+    taken: Vec<u8>,
+    room: usize,
+}
+
+impl Write for BrokenWriter {
+    fn write(&mut self, buf: &[u8]) -> io::Result<usize> {
+        let count = buf.len().min(self.room);
+        if count == 0 {
+            return Err(io::Error::from(io::ErrorKind::Other));
+        }
+        self.taken.extend_from_slice(&buf[..count])?;
+        self.room -= count;
+        Ok(count)
+    }
+
+    fn flush(&mut self) -> io::Result<()> {
+        Ok(())
+    }
+}
+
+#[test]
+fn broken_reader(rt: HostRuntime) -> Result<(), Fail> {
+    let alloc = rt.alloc();
+    let words = words(alloc, &["run", "script.heap"])?;
+    let Ok(job) = read_words(alloc, words.as_slice()) else {
+        return Err(Fail::from("the words are understood"));
+    };
+    let mut reader = BrokenReader {
+        bytes: b"heap 4 16 8 1 0\n",
+    };
+    let mut out = Vec::new(alloc);
+    let mut err = Vec::new(alloc);
+    let status = perform(alloc, &job, &mut reader, &mut out, &mut err);
+    let outcome = Outcome { status, out, err };
+    assert_outcome(&rt, "broken reader", &outcome, 1, "", "g1heap: cannot read\n");
+    Ok(())
+}
+
+/// A writer that fails after so many bytes has a beginning of the record.
+#[test]
+fn broken_writer(rt: HostRuntime) -> Result<(), Fail> {
+    let alloc = rt.alloc();
+    let words = words(alloc, &["run", "script.heap"])?;
+    let Ok(job) = read_words(alloc, words.as_slice()) else {
+        return Err(Fail::from("the words are understood"));
+    };
+    let record = "heap 4 16 8 1 0\n1 0 new r0 1 1 = #0\n";
+    for room in 0..36usize {
+        let mut reader = b"heap 4 16 8 1 0\n0 new r0 1 1\n".as_slice();
+        let mut out = BrokenWriter {
+            taken: Vec::new(alloc),
+            room,
+        };
+        let mut err = Vec::new(alloc);
+        let status = perform(alloc, &job, &mut reader, &mut out, &mut err);
+        let Some(beginning) = record.get(..room) else {
+            return Err(Fail::from("the record is ASCII"));
+        };
+        let outcome = Outcome {
+            status,
+            out: out.taken,
+            err,
+        };
+        assert_outcome(&rt, "broken writer", &outcome, 1, beginning, "g1heap: cannot write\n");
+    }
+    Ok(())
+}
+
+/// Command lines that aren't understood end with status 2, help with status 0.
+#[test]
+fn command_lines(rt: HostRuntime) -> Result<(), Fail> {
+    let alloc = rt.alloc();
+    let lines: [(&[&str], i32); 7] = [
+        (&[], 2),
+        (&["--help"], 0),
+        (&["walk", "script.heap"], 2),
+        (&["run"], 2),
+        (&["run", "one.heap", "two.heap"], 2),
+        (&["run", "one.heap", "--schedule", "1"], 2),
+        (&["check", "one.record"], 2),
+    ];
+    for (line, status) in lines {
+        let words = words(alloc, line)?;
+        match read_words(alloc, words.as_slice()) {
+            Ok(_) => return Err(Fail::from("understood")),
+            Err(error) => assert_eq!(rt; error.exit_code(), status),
+        }
+    }
+    Ok(())
+}

@@ -1,0 +1,15 @@
+pub mod Lists
+pub mod Names
+pub mod Advance
+pub mod Shown
+pub mod Begin
+pub mod Marks
+pub mod Mutate
+pub mod Finish
+pub mod Changed
+pub mod Relocated
+pub mod Evacuated
+pub mod Walks
+pub mod Kept
+pub mod Counted
+pub mod Same

@@ -1,0 +1,88 @@
+-- Lists by place.
+use Rattle.std.proofs.Common.{◌≡◌, ℕ, zero, suc, ◌⊎◌, List, ◌∷◌, [], ◌++◌, length, Some, refl, ap, ◌∙◌, subst, inl, inr}
+use Rattle.std.specs.Prelude.{slice_set, slice_get}
+use Rattle.std.specs.List.{AllZip}
+
+module _ {A B : Type 0} (R : A → B → Type 0) where
+  pub AllZip-get : (xs : List A) (ys : List B) → AllZip R xs ys → (i : ℕ) (x : A) → slice_get xs i ≡ Some x → (y : B) × (slice_get ys i ≡ Some y) × R x y
+  AllZip-get [] ys z i x e = cc
+  AllZip-get (u ∷ xs) [] z i x e = absurd z
+  AllZip-get (u ∷ xs) (v ∷ ys) z zero x e = let q : u ≡ x = cc in (v, refl, subst (λ k. R k v) q z.0)
+  AllZip-get (u ∷ xs) (v ∷ ys) z (suc i) x e = AllZip-get xs ys z.1 i x e
+
+  pub AllZip-get_right : (xs : List A) (ys : List B) → AllZip R xs ys → (i : ℕ) (y : B) → slice_get ys i ≡ Some y → (x : A) × (slice_get xs i ≡ Some x) × R x y
+  AllZip-get_right [] [] z i y e = cc
+  AllZip-get_right [] (v ∷ ys) z i y e = absurd z
+  AllZip-get_right (u ∷ xs) [] z i y e = absurd z
+  AllZip-get_right (u ∷ xs) (v ∷ ys) z zero y e = let q : v ≡ y = cc in (u, refl, subst (λ k. R u k) q z.0)
+  AllZip-get_right (u ∷ xs) (v ∷ ys) z (suc i) y e = AllZip-get_right xs ys z.1 i y e
+
+  pub AllZip-set : (xs : List A) (ys : List B) → AllZip R xs ys → (i : ℕ) (x : A) (y : B) → R x y → AllZip R (slice_set xs i x) (slice_set ys i y)
+  AllZip-set [] [] z i x y r = tt
+  AllZip-set [] (v ∷ ys) z i x y r = absurd z
+  AllZip-set (u ∷ xs) [] z i x y r = absurd z
+  AllZip-set (u ∷ xs) (v ∷ ys) z zero x y r = (r, z.1)
+  AllZip-set (u ∷ xs) (v ∷ ys) z (suc i) x y r = (z.0, AllZip-set xs ys z.1 i x y r)
+
+  pub AllZip_map : (Q : A → B → Type 0) → ((x : A) (y : B) → R x y → Q x y) → (xs : List A) (ys : List B) → AllZip R xs ys → AllZip Q xs ys
+  AllZip_map Q f [] [] z = tt
+  AllZip_map Q f [] (v ∷ ys) z = absurd z
+  AllZip_map Q f (u ∷ xs) [] z = absurd z
+  AllZip_map Q f (u ∷ xs) (v ∷ ys) z = (f u v z.0, AllZip_map Q f xs ys z.1)
+
+module _ {A B C : Type 0} (R : A → B → Type 0) (Q : A → C → Type 0) (P : C → B → Type 0) where
+  pub AllZip_through : ((x : A) (y : B) (w : C) → R x y → Q x w → P w y) → (xs : List A) (ys : List B) (ws : List C) → AllZip R xs ys → AllZip Q xs ws → AllZip P ws ys
+  AllZip_through f [] [] [] z q = tt
+  AllZip_through f [] [] (w ∷ ws) z q = absurd q
+  AllZip_through f [] (v ∷ ys) ws z q = absurd z
+  AllZip_through f (u ∷ xs) [] ws z q = absurd z
+  AllZip_through f (u ∷ xs) (v ∷ ys) [] z q = absurd q
+  AllZip_through f (u ∷ xs) (v ∷ ys) (w ∷ ws) z q = (f u v w z.0 q.0, AllZip_through f xs ys ws z.1 q.1)
+
+module _ {A : Type 0} where
+  -- what is found, under another name
+  pub get_as : (xs : List A) (i : ℕ) (x y : A) → slice_get xs i ≡ Some x → x ≡ y → slice_get xs i ≡ Some y
+  get_as xs i x y e q = e ∙ ap Some q
+
+  pub get-set_cases : (xs : List A) (i j : ℕ) (v w : A) → slice_get (slice_set xs i v) j ≡ Some w → (w ≡ v) ⊎ (slice_get xs j ≡ Some w)
+  get-set_cases [] i j v w e = cc
+  get-set_cases (x ∷ xs) zero zero v w e = inl cc
+  get-set_cases (x ∷ xs) zero (suc j) v w e = inr e
+  get-set_cases (x ∷ xs) (suc i) zero v w e = inr e
+  get-set_cases (x ∷ xs) (suc i) (suc j) v w e = get-set_cases xs i j v w e
+
+  pub get_kept-set : (xs : List A) (i j : ℕ) (v w : A) → slice_get xs j ≡ Some w → (i ≡ j) ⊎ (slice_get (slice_set xs i v) j ≡ Some w)
+  get_kept-set [] i j v w e = inr e
+  get_kept-set (x ∷ xs) zero zero v w e = inl refl
+  get_kept-set (x ∷ xs) zero (suc j) v w e = inr e
+  get_kept-set (x ∷ xs) (suc i) zero v w e = inr e
+  get_kept-set (x ∷ xs) (suc i) (suc j) v w e =
+      elim (get_kept-set xs i j v w e) [ inl q ↦ inl (ap suc q) | inr q ↦ inr q ]
+
+  pub get-set_other : (xs : List A) (i j : ℕ) (v : A) → (i ≡ j → ⊥) → slice_get (slice_set xs i v) j ≡ slice_get xs j
+  get-set_other [] i j v n = refl
+  get-set_other (x ∷ xs) zero zero v n = absurd (n refl)
+  get-set_other (x ∷ xs) zero (suc j) v n = refl
+  get-set_other (x ∷ xs) (suc i) zero v n = refl
+  get-set_other (x ∷ xs) (suc i) (suc j) v n = get-set_other xs i j v (λ q. n (ap suc q))
+
+  pub get-set_same : (xs : List A) (i : ℕ) (v w : A) → slice_get xs i ≡ Some w → slice_get (slice_set xs i v) i ≡ Some v
+  get-set_same [] i v w e = cc
+  get-set_same (x ∷ xs) zero v w e = refl
+  get-set_same (x ∷ xs) (suc i) v w e = get-set_same xs i v w e
+
+  pub get_kept-append : (xs ys : List A) (w : A) (j : ℕ) → slice_get xs j ≡ Some w → slice_get (xs ++ ys) j ≡ Some w
+  get_kept-append [] ys w j e = cc
+  get_kept-append (x ∷ xs) ys w zero e = e
+  get_kept-append (x ∷ xs) ys w (suc j) e = get_kept-append xs ys w j e
+
+  pub get-push_last : (xs : List A) (v : A) → slice_get (xs ++ v ∷ []) (length xs) ≡ Some v
+  get-push_last [] v = refl
+  get-push_last (x ∷ xs) v = get-push_last xs v
+
+module _ {A B : Type 0} (R Q : A → B → Type 0) where
+  pub AllZip_map_at : (xs : List A) (ys : List B) → ((i : ℕ) (x : A) (y : B) → slice_get xs i ≡ Some x → R x y → Q x y) → AllZip R xs ys → AllZip Q xs ys
+  AllZip_map_at [] [] f z = tt
+  AllZip_map_at [] (v ∷ ys) f z = absurd z
+  AllZip_map_at (u ∷ xs) [] f z = absurd z
+  AllZip_map_at (u ∷ xs) (v ∷ ys) f z = (f zero u v refl z.0, AllZip_map_at xs ys (λ i x y e r. f (suc i) x y e r) z.1)

@@ -1,0 +1,135 @@
+-- Moves keep what the heap shows, and the snapshot invariant.
+use Rattle.std.proofs.Common.{◌≡◌, ℕ, true, false, Option, Some, None, refl, sym, ap, ◌∙◌, subst, inl, inr, arith}
+use Rattle.std.specs.List.{AllZip}
+use Rattle.heap_model.specs.Graph.{Graph, object_named, object_fields}
+use Rattle.heap_model.specs.Heap.{Heap, Stored, fields, Points, IsRoot, IsShown, Shows}
+use Rattle.heap_model.specs.Marking.{Marking, IsFound, ByRoot, ByLive, ByNew, MarkingInvariant}
+use Rattle.heap_model.specs.Relocation.{IsMoved, Relocates, KeepsOld}
+use Rattle.heap_model.proofs.Names.{bool_cases}
+use Rattle.heap_model.proofs.Lists.{AllZip-get, AllZip-get_right, AllZip_through}
+use Rattle.heap_model.proofs.Shown.{target_reachable, root_reachable}
+use Rattle.heap_model.proofs.Advance.{invariant_after}
+
+moved_from : (place : ℕ → Option ℕ) (w : Option ℕ) (b : ℕ) → IsMoved place w (Some b) → (a : ℕ) × (w ≡ Some a) × (place a ≡ Some b)
+moved_from place None b s = absurd s
+moved_from place (Some a) b s = (a, refl, s)
+
+moved_to : (place : ℕ → Option ℕ) (a : ℕ) (w : Option ℕ) → IsMoved place (Some a) w → (b : ℕ) × (w ≡ Some b) × (place a ≡ Some b)
+moved_to place a None s = absurd s
+moved_to place a (Some b) s = (b, refl, s)
+
+module _ (place : ℕ → Option ℕ) (g : Graph) (h h' : Heap) (shows : Shows g h) (r : Relocates place h h') where
+  shown_moved : (w v w' : Option ℕ) → IsShown h w v → IsMoved place w w' → IsShown h' w' v
+  shown_moved None None None s t = tt
+  shown_moved None None (Some b) s t = absurd t
+  shown_moved None (Some n) w' s t = absurd s
+  shown_moved (Some a) None w' s t = absurd s
+  shown_moved (Some a) (Some n) None s t = absurd t
+  shown_moved (Some a) (Some n) (Some b) s t = let c = r.kept a b s.0 s.1 t in (c.copy, c.at, c.name ∙ s.2)
+
+  -- the copy that stands at b, and the object that it came from
+  pub record Origin (b : ℕ) (y : Stored) : Type 0 where
+    pub from : ℕ
+    pub object : Stored
+    pub at : h.kept from ≡ Some object
+    pub placed : place from ≡ Some b
+    pub name : y.name ≡ object.name
+    pub values : y.values ≡ object.values
+    pub pointers : AllZip (IsMoved place) (fields object) (fields y)
+
+  origin : (b : ℕ) (y : Stored) → h'.kept b ≡ Some y → Origin b y
+  origin b y e =
+      let c = r.came b y e in
+      let k = r.kept c.from b c.object c.at c.placed in
+      let same : k.copy ≡ y = let e1 = k.at in cc in
+      record {
+        from = c.from;
+        object = c.object;
+        at = c.at;
+        placed = c.placed;
+        name = ap (λ (z : Stored). z.name) (sym same) ∙ k.name;
+        values = ap (λ (z : Stored). z.values) (sym same) ∙ k.values;
+        pointers = subst (λ (z : Stored). AllZip (IsMoved place) (fields c.object) (fields z)) same k.pointers;
+      }
+
+  pub relocated_shows : Shows g h'
+  relocated_shows = record {
+    roots = AllZip_through (IsShown h) (IsMoved place) (IsShown h') shown_moved h.roots g.roots h'.roots shows.roots r.roots;
+    distinct = λ a b x y ea eb e.
+        let p = origin a x ea in
+        let q = origin b y eb in
+        let same = shows.distinct p.from q.from p.object q.object p.at q.at (sym p.name ∙ e ∙ q.name) in
+        let e1 = ap place same in
+        let e2 = p.placed in
+        let e3 = q.placed in
+        cc;
+    objects = λ a x e.
+        let p = origin a x e in
+        let o = shows.objects p.from p.object p.at in
+        record {
+          object = o.object;
+          named = ap (object_named g) p.name ∙ o.named;
+          values = p.values ∙ o.values;
+          pointers = AllZip_through (IsShown h) (IsMoved place) (IsShown h') shown_moved (fields p.object) (object_fields o.object) (fields x) o.pointers p.pointers;
+        };
+  }
+
+  module _ (live : ℕ → Type 0) (limit : ℕ) (m : Marking) (i : MarkingInvariant live limit h m) (keeps : KeepsOld place h m) where
+    edge : (a b : ℕ) → m.old a ≡ true → (p : Points h a b) → m.old b ≡ true → Points h' a b
+    edge a b oa p ob =
+        let k = r.kept a a p.object p.at (keeps.stays a p.object p.at oa) in
+        let (w, is, t) = AllZip-get (IsMoved place) (fields p.object) (fields k.copy) k.pointers p.field (Some b) p.is in
+        let (c, e, placed) = moved_to place b w t in
+        let (y, at, _) = target_reachable g h shows g a b p in
+        let stays = keeps.stays b y at ob in
+        let same : c ≡ b = cc in
+        record { object = k.copy; at = k.at; field = p.field; is = is ∙ ap Some (e ∙ ap Some same) }
+
+    root_back : (c : ℕ) → m.old c ≡ true → IsRoot h' c → IsRoot h c
+    root_back c o root =
+        let (w, is, t) = AllZip-get_right (IsMoved place) h.roots h'.roots r.roots root.place (Some c) root.is in
+        let (a, e, placed) = moved_from place w c t in
+        let before : IsRoot h a = record { place = root.place; is = is ∙ ap Some e } in
+        let (y, at, _) = root_reachable g h shows a before in
+        subst (IsRoot h) (keeps.none_comes a c y at placed o) before
+
+    pub record Before (c d : ℕ) (y : Stored) : Type 0 where
+      pub origin : Origin c y
+      pub points : Points h origin.from d
+      pub name : points.object.name ≡ y.name
+
+    points_back : (c d : ℕ) → m.old d ≡ true → (p : Points h' c d) → Before c d p.object
+    points_back c d o p =
+        let k = origin c p.object p.at in
+        let (w, is, t) = AllZip-get_right (IsMoved place) (fields k.object) (fields p.object) k.pointers p.field (Some d) p.is in
+        let (a, e, placed) = moved_from place w d t in
+        let before : Points h k.from a = record { object = k.object; at = k.at; field = p.field; is = is ∙ ap Some e } in
+        let (y, at, _) = target_reachable g h shows g k.from a before in
+        let same = keeps.none_comes a d y at placed o in
+        record { origin = k; points = record { object = k.object; at = k.at; field = p.field; is = is ∙ ap Some (e ∙ ap Some same) }; name = sym k.name }
+
+    -- what came to a new address was new
+    from_new : (c : ℕ) (y : Stored) → (k : Origin c y) → m.old c ≡ false → m.old k.from ≡ false
+    from_new c y k new = elim (bool_cases (m.old k.from)) [
+      | inl o ↦ absurd (let stays = keeps.stays k.from k.object k.at o in let placed = k.placed in let same : k.from ≡ c = cc in let here = ap m.old same in cc)
+      | inr n ↦ n
+    ]
+
+    found_back : (a : ℕ) → m.old a ≡ true → IsFound live h' m a → IsFound live h m a
+    found_back a o (ByRoot c root) = ByRoot c (root_back c o root)
+    found_back a o (ByLive c d p reach) = let b = points_back c d o p in ByLive b.origin.from d b.points (subst live (sym b.name) reach)
+    found_back a o (ByNew c d p new) = let b = points_back c d o p in ByNew b.origin.from d b.points (from_new c p.object b.origin new)
+
+    pub relocated_invariant : MarkingInvariant live limit h' m
+    relocated_invariant = invariant_after live limit h m h' m (record {
+      old = λ a. refl;
+      marked = λ a k. k;
+      logged = λ a e. inr e;
+      edges = λ a b _ o un p ob. inl (un, edge a b o p ob);
+      stays = λ a x at o. let k = r.kept a a x at (keeps.stays a x at o) in record { object = k.copy; at = k.at; named = k.name };
+      came = λ a x at o. let k = origin a x at in let same = keeps.none_comes k.from a k.object k.at k.placed o in record { object = k.object; at = ap h.kept (sym same) ∙ k.at; named = sym k.name };
+      newly_marked = λ a k. inl k;
+      newly_logged = λ a e. inl e;
+      found = found_back;
+      fresh = λ a x at n. let k = origin a x at in let above = i.new_names k.from k.object k.at (from_new a x k n) in let named = k.name in omega arith;
+    }) i

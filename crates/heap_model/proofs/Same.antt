@@ -1,0 +1,30 @@
+-- The invariant reads heaps and marking at each address alone.
+use Rattle.std.proofs.Common.{ℕ, refl, sym, ap, ◌∙◌, inl, inr}
+use Rattle.std.specs.Prelude.{slice_get}
+use Rattle.heap_model.specs.Heap.{Heap, Points, SameHeap}
+use Rattle.heap_model.specs.Marking.{Marking, MarkingInvariant, IsFound, ByRoot, ByLive, ByNew, SameMarking}
+use Rattle.heap_model.proofs.Advance.{invariant_after}
+
+module _ (live : ℕ → Type 0) (limit : ℕ) (h h' : Heap) (m m' : Marking) (heap : SameHeap h h') (marks : SameMarking m m') (i : MarkingInvariant live limit h m) where
+  points : (a b : ℕ) → Points h' a b → Points h a b
+  points a b p = record { object = p.object; at = sym (heap.kept a) ∙ p.at; field = p.field; is = p.is }
+
+  found : (a : ℕ) → IsFound live h' m' a → IsFound live h m a
+  unfolding points
+  found a (ByRoot b r) = ByRoot b (record { place = r.place; is = sym (ap (λ l. slice_get l r.place) heap.roots) ∙ r.is })
+  found a (ByLive b c p l) = ByLive b c (points b c p) l
+  found a (ByNew b c p n) = ByNew b c (points b c p) (sym (marks.old b) ∙ n)
+
+  pub same_invariant : MarkingInvariant live limit h' m'
+  same_invariant = invariant_after live limit h m h' m' (record {
+    old = marks.old;
+    marked = λ a k. marks.marked a ∙ k;
+    logged = λ a e. inr ((marks.logged a).0 e);
+    edges = λ a b _ _ un p _. inl (marks.scanned a ∙ un, record { object = p.object; at = heap.kept a ∙ p.at; field = p.field; is = p.is });
+    stays = λ a x at _. record { object = x; at = heap.kept a ∙ at; named = refl };
+    came = λ a x at _. record { object = x; at = sym (heap.kept a) ∙ at; named = refl };
+    newly_marked = λ a k. inl (sym (marks.marked a) ∙ k);
+    newly_logged = λ a e. inl ((marks.logged a).1 e);
+    found = λ a _ f. found a f;
+    fresh = λ a x at o. i.new_names a x (sym (heap.kept a) ∙ at) o;
+  }) i

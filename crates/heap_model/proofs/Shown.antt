@@ -1,0 +1,94 @@
+-- What the heap shows of the graph.
+use Rattle.std.proofs.Common.{◌≡◌, ℕ, Option, Some, None, refl, sym, ap, ◌∙◌}
+use Rattle.std.specs.Prelude.{slice_get}
+use Rattle.heap_model.specs.Graph.{Graph, Object, object_named, object_fields, IsReachable, FromRoot, FromObject}
+use Rattle.heap_model.specs.Heap.{Heap, Stored, Points, IsRoot, IsShown, Shows, StandsOnce, IsClosed, fields}
+use Rattle.heap_model.proofs.Lists.{AllZip-get, AllZip-get_right}
+
+-- the object of this name stands at the end of this pointer
+pub record PointsTo (h : Heap) (a n : ℕ) : Type 0 where
+  pub address : ℕ
+  pub points : Points h a address
+  pub object : Stored
+  pub at : h.kept address ≡ Some object
+  pub named : object.name ≡ n
+
+pub record StandsRoot (h : Heap) (n : ℕ) : Type 0 where
+  pub address : ℕ
+  pub root : IsRoot h address
+  pub object : Stored
+  pub at : h.kept address ≡ Some object
+  pub named : object.name ≡ n
+
+root_to : (h : Heap) (j n : ℕ) (w : Option ℕ) → slice_get h.roots j ≡ Some w → IsShown h w (Some n) → StandsRoot h n
+root_to h j n None at s = absurd s
+root_to h j n (Some a) at s = record { address = a; root = record { place = j; is = at }; object = s.0; at = s.1; named = s.2 }
+
+pointer_to : (h : Heap) (a : ℕ) (x : Stored) (i n : ℕ) (w : Option ℕ) → h.kept a ≡ Some x → slice_get x.pointers i ≡ Some w → IsShown h w (Some n) → PointsTo h a n
+pointer_to h a x i n None at is s = absurd s
+pointer_to h a x i n (Some b) at is s = record { address = b; points = record { object = x; at = at; field = i; is = is }; object = s.0; at = s.1; named = s.2 }
+
+shown_name : (h : Heap) (a : ℕ) (v : Option ℕ) → IsShown h (Some a) v → (n : ℕ) × (v ≡ Some n) × (x : Stored) × (h.kept a ≡ Some x) × (x.name ≡ n)
+shown_name h a None s = absurd s
+shown_name h a (Some n) s = (n, refl, s.0, s.1, s.2)
+
+module _ (g : Graph) (h : Heap) (shows : Shows g h) where
+  pub root_stands : (j n : ℕ) → slice_get g.roots j ≡ Some (Some n) → StandsRoot h n
+  root_stands j n e =
+      let (w, at, s) = AllZip-get_right (IsShown h) h.roots g.roots shows.roots j (Some n) e in
+      root_to h j n w at s
+
+  pub pointer_stands : (a : ℕ) (x : Stored) (o : Object) (i n : ℕ) → h.kept a ≡ Some x → object_named g x.name ≡ Some o → slice_get o.pointers i ≡ Some (Some n) → PointsTo h a n
+  pointer_stands a x o i n at named e =
+      let shown = shows.objects a x at in
+      let same : shown.object ≡ o = let n1 = shown.named in cc in
+      let e' : slice_get shown.object.pointers i ≡ Some (Some n) = rw same e in
+      let (w, is, s) = AllZip-get_right (IsShown h) x.pointers shown.object.pointers shown.pointers i (Some n) e' in
+      pointer_to h a x i n w at is s
+
+  -- a pointer of a kept object whose name is reachable leads to a kept object whose name is reachable
+  pub target_reachable : (r : Graph) (a b : ℕ) → (p : Points h a b) → (y : Stored) × (h.kept b ≡ Some y) × (IsReachable g p.object.name → IsReachable g y.name)
+  target_reachable r a b p =
+      let shown = shows.objects a p.object p.at in
+      let (v, is, s) = AllZip-get (IsShown h) p.object.pointers shown.object.pointers shown.pointers p.field (Some b) p.is in
+      let (n, is', y, here, called) = shown_name h b v s in
+      (y, here, λ reach. FromObject p.object.name y.name p.field shown.object reach shown.named (is ∙ ap Some (is' ∙ ap Some (sym called))))
+
+  pub root_reachable : (a : ℕ) → IsRoot h a → (y : Stored) × (h.kept a ≡ Some y) × IsReachable g y.name
+  root_reachable a r =
+      let (v, is, s) = AllZip-get (IsShown h) h.roots g.roots shows.roots r.place (Some a) r.is in
+      let (n, is', y, here, called) = shown_name h a v s in
+      (y, here, FromRoot r.place y.name (is ∙ ap Some (is' ∙ ap Some (sym called))))
+
+  pub closed : IsClosed h
+  closed = record {
+    root = λ j a e.
+        let (v, is, s) = AllZip-get (IsShown h) h.roots g.roots shows.roots j (Some a) e in
+        let (n, is', y, here, called) = shown_name h a v s in
+        (y, here);
+    field = λ b i a y at e.
+        let shown = shows.objects b y at in
+        let (v, is, s) = AllZip-get (IsShown h) (fields y) (object_fields shown.object) shown.pointers i (Some a) e in
+        let (n, is', z, here, called) = shown_name h a v s in
+        (z, here);
+  }
+
+  -- an object of this name is kept
+  stands_somewhere : (n : ℕ) → IsReachable g n → (a : ℕ) × (x : Stored) × (h.kept a ≡ Some x) × (x.name ≡ n)
+  stands_somewhere n (FromRoot j k e) = let t = root_stands j k e in (t.address, t.object, t.at, t.named)
+  stands_somewhere n (FromObject k l i o r e q) =
+      let (a, x, at, named) = stands_somewhere k r in
+      let t = pointer_stands a x o i l at (ap (object_named g) named ∙ e) q in
+      (t.address, t.object, t.at, t.named)
+
+  pub stands_once : (n : ℕ) → IsReachable g n → StandsOnce g h n
+  stands_once n r =
+      let (a, x, at, named) = stands_somewhere n r in
+      record {
+        address = a;
+        object = x;
+        at = at;
+        named = named;
+        only = λ b y here called. shows.distinct b a y x here at (called ∙ sym named);
+        contents = shows.objects a x at;
+      }

@@ -1,0 +1,47 @@
+-- The object graph: objects by unchanging names, and root places that lead to them. No object is ever
+-- removed, so objects stand in a list, by name: the first one bears the first name, each later one the next.
+use Rattle.std.specs.Prelude.{◌≡◌, ℕ, ◌+◌, ◌-◌, List, ◌∷◌, [], ◌++◌, length, Option, Some, None, slice_set, slice_get, nat_le, if◌then◌else◌}
+
+-- pointers are nil or names; marking and reachability follow them
+pub record Object : Type 0 where
+  pub pointers : List (Option ℕ)
+  pub values : List ℕ
+
+-- every field of the object that holds a name, in the order in which the heap stores them
+abbrev pub object_fields : Object → List (Option ℕ)
+object_fields o = o.pointers
+
+pub record Graph : Type 0 where
+  -- how many words the heap has
+  pub room : ℕ
+  pub first_name : ℕ
+  -- how many mutators there are
+  pub mutators : ℕ
+  pub objects : List Object
+  -- nil or a name in each root place: the globals, then each mutator's registers
+  pub roots : List (Option ℕ)
+
+-- the name of the next object
+abbrev pub next_name : Graph → ℕ
+next_name g = g.first_name + length g.objects
+
+-- the object of this name
+unfoldable pub object_named : Graph → ℕ → Option Object
+object_named g n = if nat_le g.first_name n then slice_get g.objects (n - g.first_name) else None
+
+-- a root place holds the name, or a pointer of an object whose name is reachable
+pub data IsReachable (g : Graph) : ℕ → Type 0 where
+  FromRoot : (j n : ℕ) → slice_get g.roots j ≡ Some (Some n) → IsReachable g n
+  FromObject : (m n i : ℕ) (o : Object) → IsReachable g m → object_named g m ≡ Some o → slice_get o.pointers i ≡ Some (Some n) → IsReachable g n
+
+-- the graph with another value in a root place
+abbrev pub with_root : Graph → ℕ → Option ℕ → Graph
+with_root g j v = record g { roots = slice_set g.roots j v }
+
+-- the graph with one more object, which bears the next name, and that name in a root place
+abbrev pub with_object : Graph → Object → ℕ → Graph
+with_object g o j = record g { objects = g.objects ++ o ∷ []; roots = slice_set g.roots j (Some (next_name g)) }
+
+-- the graph with another object under a name
+abbrev pub with_changed : Graph → ℕ → Object → Graph
+with_changed g n o = record g { objects = slice_set g.objects (n - g.first_name) o }

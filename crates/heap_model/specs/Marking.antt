@@ -1,0 +1,121 @@
+-- Marking from a snapshot: the graph as it was when marking began. What was reachable then is marked in the end,
+-- whatever mutators do meanwhile, since the old value of each pointer that they overwrite is logged.
+use Rattle.std.specs.Prelude.{◌≡◌, ℕ, ◌<◌, ◌≤◌, ◌⊎◌, ◌↔◌, Bool, true, false, List, [], Option, Some, None, Contains, if◌then◌else◌}
+use Rattle.heap_model.specs.Graph.{Graph, IsReachable, next_name}
+use Rattle.heap_model.specs.Heap.{Heap, Stored, Points, IsRoot}
+
+-- What marking knows of each address. An object is grey when it is marked and not scanned yet
+pub record Marking : Type 0 where
+  -- below its region's top at mark start: what stands there was made before marking began
+  pub old : ℕ → Bool
+  pub marked : ℕ → Bool
+  pub scanned : ℕ → Bool
+  -- old values of overwritten pointers, which marking has not taken yet
+  pub logged : List ℕ
+
+-- a path of present pointers leads to the address from a grey or logged object, and all objects of the path but
+-- the last are old and unscanned
+pub data Pending (h : Heap) (m : Marking) : ℕ → Type 0 where
+  FromGrey : (a : ℕ) → m.marked a ≡ true → m.scanned a ≡ false → Pending h m a
+  FromLogged : (a : ℕ) → Contains m.logged a → Pending h m a
+  Through : (a b : ℕ) → Pending h m a → m.old a ≡ true → m.scanned a ≡ false → Points h a b → Pending h m b
+
+-- a kept object of this name is marked, or will be
+pub record WillBeMarked (h : Heap) (m : Marking) (n : ℕ) : Type 0 where
+  pub address : ℕ
+  pub object : Stored
+  pub at : h.kept address ≡ Some object
+  pub named : object.name ≡ n
+  pub why : (m.marked address ≡ true) ⊎ Pending h m address
+
+-- an old object whose name is to be marked stands here
+pub record IsOldLive (live : ℕ → Type 0) (h : Heap) (m : Marking) (a : ℕ) : Type 0 where
+  pub object : Stored
+  pub at : h.kept a ≡ Some object
+  pub old : m.old a ≡ true
+  pub is_live : live object.name
+
+-- a root word names the address, or a pointer of an object whose name is to be marked, or of a new object
+pub data IsFound (live : ℕ → Type 0) (h : Heap) (m : Marking) : ℕ → Type 0 where
+  ByRoot : (a : ℕ) → IsRoot h a → IsFound live h m a
+  ByLive : (a b : ℕ) (p : Points h a b) → live p.object.name → IsFound live h m b
+  ByNew : (a b : ℕ) → Points h a b → m.old a ≡ false → IsFound live h m b
+
+-- While marking runs, with the names that are to be marked: each of these is below the limit, and is marked or
+-- will be; what is marked or logged is such an object; an old object that is found is one; and old objects are
+-- named below the limit, new ones from there on
+pub record MarkingInvariant (live : ℕ → Type 0) (limit : ℕ) (h : Heap) (m : Marking) : Type 0 where
+  pub below : (n : ℕ) → live n → n < limit
+  pub all : (n : ℕ) → live n → WillBeMarked h m n
+  pub marked : (a : ℕ) → m.marked a ≡ true → IsOldLive live h m a
+  pub logged : (a : ℕ) → Contains m.logged a → IsOldLive live h m a
+  pub found : (a : ℕ) (x : Stored) → h.kept a ≡ Some x → m.old a ≡ true → IsFound live h m a → live x.name
+  pub old_names : (a : ℕ) (x : Stored) → h.kept a ≡ Some x → m.old a ≡ true → x.name < limit
+  pub new_names : (a : ℕ) (x : Stored) → h.kept a ≡ Some x → m.old a ≡ false → limit ≤ x.name
+
+-- the snapshot-at-the-beginning invariant: to be marked is what is reachable in the snapshot
+abbrev pub KeepsSnapshot : Graph → Heap → Marking → Type 0
+KeepsSnapshot s h m = MarkingInvariant (IsReachable s) (next_name s) h m
+
+-- marking has just begun: all objects are old, and what roots name is marked and grey
+pub record Begins (h : Heap) (m : Marking) : Type 0 where
+  pub old : (a : ℕ) (x : Stored) → h.kept a ≡ Some x → m.old a ≡ true
+  pub marked : (a : ℕ) → m.marked a ≡ true → IsRoot h a
+  pub roots : (a : ℕ) → IsRoot h a → m.marked a ≡ true
+  pub scanned : (a : ℕ) → m.scanned a ≡ false
+  pub logged : m.logged ≡ []
+
+-- a grey object points to the old address b
+pub record IsTarget (h : Heap) (m : Marking) (b : ℕ) : Type 0 where
+  pub from : ℕ
+  pub marked : m.marked from ≡ true
+  pub grey : m.scanned from ≡ false
+  pub points : Points h from b
+  pub old : m.old b ≡ true
+
+-- a part of marking, large or small: logged addresses and old targets of grey objects may be marked, logged
+-- addresses that are marked may go, and what is newly scanned has marked old targets alone
+pub record MarksMore (h : Heap) (m m' : Marking) : Type 0 where
+  pub old : (a : ℕ) → m'.old a ≡ m.old a
+  pub marked : (a : ℕ) → m.marked a ≡ true → m'.marked a ≡ true
+  pub newly_marked : (a : ℕ) → m'.marked a ≡ true → (m.marked a ≡ true) ⊎ Contains m.logged a ⊎ IsTarget h m a
+  pub newly_scanned : (a : ℕ) → m'.scanned a ≡ true → (m.scanned a ≡ true) ⊎ ((b : ℕ) → Points h a b → m.old b ≡ true → m'.marked b ≡ true)
+  pub taken : (a : ℕ) → Contains m.logged a → (m'.marked a ≡ true) ⊎ Contains m'.logged a
+  pub logged : (a : ℕ) → Contains m'.logged a → Contains m.logged a
+
+-- the deletion barrier: the old value of a pointer is logged where it is an old address, and nothing else changed
+pub record IsSaved (m m' : Marking) (w : Option ℕ) : Type 0 where
+  pub old : (a : ℕ) → m'.old a ≡ m.old a
+  pub marked : (a : ℕ) → m'.marked a ≡ m.marked a
+  pub scanned : (a : ℕ) → m'.scanned a ≡ m.scanned a
+  pub kept : (a : ℕ) → Contains m.logged a → Contains m'.logged a
+  pub saved : (a : ℕ) → w ≡ Some a → m.old a ≡ true → Contains m'.logged a
+  pub only : (a : ℕ) → Contains m'.logged a → Contains m.logged a ⊎ ((w ≡ Some a) × (m.old a ≡ true))
+
+-- each address is old, marked, scanned or logged in both or in neither
+pub record SameMarking (m m' : Marking) : Type 0 where
+  pub old : (a : ℕ) → m'.old a ≡ m.old a
+  pub marked : (a : ℕ) → m'.marked a ≡ m.marked a
+  pub scanned : (a : ℕ) → m'.scanned a ≡ m.scanned a
+  pub logged : (a : ℕ) → Contains m.logged a ↔ Contains m'.logged a
+
+-- nothing is left to mark
+pub record IsDone (m : Marking) : Type 0 where
+  pub grey : (a : ℕ) → m.marked a ≡ true → m.scanned a ≡ true
+  pub logged : m.logged ≡ []
+
+-- what is kept once marking is over: what is marked or new
+abbrev pub kept_after : Heap → Marking → ℕ → Option Stored
+kept_after h m a = if m.marked a then h.kept a else (if m.old a then None else h.kept a)
+
+-- a marked object has this name
+pub record IsMarkedName (h : Heap) (m : Marking) (n : ℕ) : Type 0 where
+  pub address : ℕ
+  pub object : Stored
+  pub at : h.kept address ≡ Some object
+  pub named : object.name ≡ n
+  pub marked : m.marked address ≡ true
+
+-- marking is exact: the marked names are those that are reachable in the snapshot
+abbrev pub MarksExactly : Graph → Heap → Marking → Type 0
+MarksExactly s h m = (n : ℕ) → IsReachable s n ↔ IsMarkedName h m n

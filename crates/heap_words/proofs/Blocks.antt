@@ -1,0 +1,49 @@
+-- Words written in the place of others.
+use Rattle.std.proofs.Common.{◌≡◌, ℕ, zero, suc, ◌+◌, ◌<◌, ◌≤◌, List, [], ◌∷◌, ◌++◌, length, take, drop, get_or, set, refl, sym, ◌∙◌, ap, arith, add-zero, zero-add, replicate, drop-cons}
+use Rattle.std.proofs.lemmas.List.{length-append, length-take, length-drop, append_assoc, set_at, replicate_more, length-replicate}
+use lib.Seq.{paste}
+use Rattle.heap_words.specs.Contents.{put}
+
+pub put_none : (ws : List ℕ) (n : ℕ) → put ws n [] ≡ ws
+put_none ws zero = refl
+put_none [] (suc n) = refl
+put_none (w ∷ ws) (suc n) = ap (λ xs. w ∷ xs) (put_none ws n)
+
+pub put_more : (ws : List ℕ) (n m v : ℕ) (block : List ℕ) → length block ≡ m → n + m < length ws → set (put ws n block) (n + m) v ≡ put ws n (block ++ v ∷ [])
+put_more ws zero m v block e h =
+    let at : 0 + m ≡ length block = omega arith in
+    let split : drop (length block) ws ≡ get_or ws m 0 ∷ drop (suc m) ws = rw e (drop-cons ws m 0 (omega arith)) in
+    let l : length (block ++ v ∷ []) ≡ suc m = rw length-append (omega arith) in
+    rw (at, split, l) (set_at block (get_or ws m 0) (drop (suc m) ws) v (length block) refl ∙ sym (append_assoc block (v ∷ []) (drop (suc m) ws)))
+put_more [] (suc n) m v block e h = absurd (omega arith)
+put_more (w ∷ ws) (suc n) m v block e h =
+    let at : suc n + m ≡ suc (n + m) = omega arith in
+    rw at (ap (λ xs. w ∷ xs) (put_more ws n m v block e (omega arith)))
+
+-- an object's words, of which i behind the name are written
+pub written_start : (ws : List ℕ) (n h name : ℕ) → n + 2 ≤ length ws → set (set ws n h) (n + 1) name ≡ put ws n (h ∷ name ∷ [])
+written_start ws n h name l =
+    let a = put_more ws n 0 h [] refl (omega arith) in
+    let b = put_more ws n 1 name (h ∷ []) refl (omega arith) in
+    let c : set ws n h ≡ put ws n (h ∷ []) = rw (add-zero, put_none) at a in
+    rw c b
+
+pub written_more : (ws : List ℕ) (n h name i : ℕ) → n + 2 + i < length ws → set (put ws n (h ∷ name ∷ replicate i 0)) (n + 2 + i) 0 ≡ put ws n (h ∷ name ∷ replicate (i + 1) 0)
+written_more ws n h name i l =
+    let e : n + 2 + i ≡ n + (2 + i) = omega arith in
+    let len : length (h ∷ name ∷ replicate i 0) ≡ 2 + i = omega (arith, length-replicate {A = ℕ} i 0) in
+    rw (e, ← replicate_more {X = ℕ} i 0) (put_more ws n (2 + i) 0 (h ∷ name ∷ replicate i 0) len (omega arith))
+
+-- a block is the words before it, its own, and those behind it
+pub put_whole : (ws : List ℕ) (n : ℕ) (block : List ℕ) → n ≤ length ws → put ws n block ≡ take n ws ++ (block ++ drop (n + length block) ws)
+put_whole ws zero block h = rw (zero-add (length block)) refl
+put_whole [] (suc n) block h = absurd (omega arith)
+put_whole (w ∷ ws) (suc n) block h =
+    let e : suc n + length block ≡ suc (n + length block) = omega arith in
+    rw e (ap (λ xs. w ∷ xs) (put_whole ws n block (omega arith)))
+
+-- what a copy within writes
+pub paste_put : (ws : List ℕ) (from to m : ℕ) → from + m ≤ length ws → to + m ≤ length ws → paste ws to (drop from ws) m ≡ put ws to (take m (drop from ws))
+paste_put ws from to m h l =
+    let len : length (take m (drop from ws)) ≡ m = simp (length-take, length-drop) (omega arith) in
+    append_assoc (take to ws) (take m (drop from ws)) (drop (to + m) ws) ∙ sym (put_whole ws to (take m (drop from ws)) (omega arith) ∙ rw len refl)

@@ -1,0 +1,213 @@
+//! Headers and the words that they are written as.
+ghost use Rattle.std.specs.Prelude.{◌≡◌, ℕ, ◌+◌, ◌<◌, ◌≤◌, ◌^◌, IfSome, IfNone, ◌≢◌, Some};
+ghost use Rattle.heap_words.specs.Headers.{header_word, IsHeader, header_of, pointer_of, pointer_word};
+
+use crate::addr::{Addr, Ptr};
+use std::marker::Model;
+
+/// A count of words that a header has room for.
+#[derive(Clone, Copy, Debug, PartialEq, Eq)]
+pub struct Count(u32);
+
+impl Model for Count {
+    ghost use Rattle.std.specs.Prelude.{ℕ, ◌<◌, ◌^◌};
+
+    ghost Value = { ℕ };
+
+    ghost view = { λ a. a.0 };
+
+    ghost invariant = { λ a. a.0 < 2 ^ 24 };
+
+    ghost inverse = { λ n. record { 0 = n } };
+}
+
+impl Count {
+    /// A count below 2^24.
+    pub fn new(count: u32) -> Count
+        requires { count < 2 ^ 24 }
+        ensures { result ≡ count }
+    {
+        Count(count)
+    }
+
+    /// The count as a number.
+    pub fn get(self) -> u32
+        ensures value { result ≡ self }
+        ensures small { result < 2 ^ 24 }
+    {
+        self.0
+    }
+}
+
+/// A filler's size in words, which is at least 1.
+#[derive(Clone, Copy, Debug, PartialEq, Eq)]
+pub struct FillerSize(u32);
+
+impl Model for FillerSize {
+    ghost use Rattle.std.specs.Prelude.{ℕ, ◌<◌, ◌^◌};
+
+    ghost Value = { ℕ };
+
+    ghost view = { λ a. a.0 };
+
+    ghost invariant = { λ a. (0 < a.0) × (a.0 < 2 ^ 24) };
+
+    ghost inverse = { λ n. record { 0 = n } };
+}
+
+impl FillerSize {
+    /// A size below 2^24, of words.
+    pub fn new(size: u32) -> FillerSize
+        requires positive { 0 < size }
+        requires small { size < 2 ^ 24 }
+        ensures { result ≡ size }
+    {
+        FillerSize(size)
+    }
+
+    /// The size as a number.
+    pub fn get(self) -> u32
+        ensures value { result ≡ self }
+        ensures positive { 0 < result }
+        ensures small { result < 2 ^ 24 }
+    {
+        self.0
+    }
+}
+
+/// How many pointers and data words an object has.
+#[derive(Clone, Copy, Debug, PartialEq, Eq)]
+pub struct Counts {
+    /// How many pointers.
+    pub pointers: Count,
+    /// How many data words.
+    pub values: Count,
+}
+
+/// The header of a tile, told apart by its two lowest bits.
+#[derive(Clone, Copy, Debug, PartialEq, Eq)]
+pub enum Header {
+    /// 0: the count of pointers in bits 8 to 31, of data words in bits 32 to 55.
+    Object { pointers: Count, data: Count },
+    /// 1: the filler's size in bits 8 to 31.
+    Filler { size: FillerSize },
+    /// 2: the new address in bits 8 to 39.
+    Forwarded { to: Addr },
+}
+
+/// The word of a header.
+#[tactic(auto, unfolding(crate::specs::Headers::header_of))]
+pub fn encode_header(header: Header) -> u64
+    ensures word { result ≡ header_word header }
+    ensures back { header_of result ≡ Some header }
+    ensures fits { IsHeader header }
+{
+    match header {
+        Header::Object { pointers, data } => {
+            (u64::from(pointers.get()) << 8) | (u64::from(data.get()) << 32)
+        }
+        Header::Filler { size } => (u64::from(size.get()) << 8) | 1,
+        Header::Forwarded { to } => (u64::from(to.word()) << 8) | 2,
+    }
+}
+
+/// The header that a word is, None if it is ill-formed.
+#[tactic(auto, unfolding(crate::specs::Headers::header_of))]
+pub fn decode_header(word: u64) -> Option<Header>
+    ensures value { result ≡ header_of word }
+    ensures some { IfSome result (λ h. (header_word h ≡ word) × IsHeader h) }
+    ensures none { IfNone result ((h : Header) → IsHeader h → header_word h ≢ word) }
+{
+    let low = word & 0xff;
+    let rest = word >> 8;
+    if low == 0 && rest < 1 << 48 {
+        Some(Header::Object {
+            pointers: Count::new((rest & 0xff_ffff) as u32),
+            data: Count::new((rest >> 24) as u32),
+        })
+    } else if low == 1 && 0 < rest && rest < 1 << 24 {
+        Some(Header::Filler {
+            size: FillerSize::new(rest as u32),
+        })
+    } else if low == 2 && rest < 1 << 32 {
+        Some(Header::Forwarded {
+            to: Addr::new(rest as u32),
+        })
+    } else {
+        None
+    }
+}
+
+/// The target that a pointer word names, unless it is nil.
+pub fn decode_pointer(word: u64) -> Ptr
+    ensures { result ≡ pointer_of word }
+{
+    if word == 0 {
+        None
+    } else {
+        Some(Addr::new(((word - 1) & 0xffff_ffff) as u32))
+    }
+}
+
+/// The word of a pointer.
+pub fn encode_pointer(target: Ptr) -> u64
+    ensures word { result ≡ pointer_word target }
+    ensures back { pointer_of result ≡ target }
+{
+    match target {
+        None => 0,
+        Some(to) => u64::from(to.word()) + 1,
+    }
+}
+
+#[cfg(test)]
+mod tests {
+    use super::*;
+
+    fn object(pointers: u32, values: u32) -> Header
+        requires pointers { pointers < 2 ^ 24 }
+        requires values { values < 2 ^ 24 }
+    {
+        Header::Object {
+            pointers: Count::new(pointers),
+            data: Count::new(values),
+        }
+    }
+
+    fn filler(size: u32) -> Header
+        requires positive { 0 < size }
+        requires small { size < 2 ^ 24 }
+    {
+        Header::Filler {
+            size: FillerSize::new(size),
+        }
+    }
+
+    fn forwarded(to: u32) -> Header {
+        Header::Forwarded { to: Addr::new(to) }
+    }
+
+    /// Words that were put together by hand from the layout.
+    #[test]
+    fn reads_and_writes_headers(rt: HostRuntime) {
+        assert_eq!(rt; encode_header(object(1, 1)), 4_294_967_552);
+        assert_eq!(rt; encode_header(filler(5)), 1281);
+        assert_eq!(rt; encode_header(forwarded(16)), 4098);
+        assert_eq!(rt; decode_header(4_294_967_552), Some(object(1, 1)));
+        assert_eq!(rt; decode_header(1281), Some(filler(5)));
+        assert_eq!(rt; decode_header(4098), Some(forwarded(16)));
+        assert_eq!(rt; decode_header(0), Some(object(0, 0)));
+        for word in [1, 3, 4, 1 << 32 | 1, 1 << 40 | 2, 1 << 56] {
+            assert_eq!(rt; decode_header(word), None, "at {word}");
+        }
+    }
+
+    #[test]
+    fn reads_and_writes_pointers(rt: HostRuntime) {
+        assert_eq!(rt; encode_pointer(None), 0);
+        assert_eq!(rt; encode_pointer(Some(Addr::new(0))), 1);
+        assert_eq!(rt; decode_pointer(0), None);
+        assert_eq!(rt; decode_pointer(1), Some(Addr::new(0)));
+        assert_eq!(rt; decode_pointer(17), Some(Addr::new(16)));
+    }
+}

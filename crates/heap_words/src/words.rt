@@ -1,0 +1,264 @@
+//! The words of a heap, read and written as objects.
+//!
+//! An object is its header, its name, its pointers and its data, one word each:
+//!
+//! ```text
+//!   object            + 1     + 2           + 2 + p         + 2 + p + d
+//!   | header: p and d | name  | p pointers  | d data words  |
+//! ```
+
+ghost use Rattle.std.specs.Prelude.{◌≡◌, ◌+◌, ◌<◌, ◌≤◌, ◌∷◌, length, replicate, slice_index, slice_set, take, drop, IfOk};
+ghost use Rattle.heap_words.specs.Headers.{header_of, header_word, pointer_of, pointer_word};
+ghost use Rattle.heap_words.specs.Contents.{put, header_at, counts_of, pointer_count_at};
+ghost use Rattle.heap_words.specs.declared.header.Header.TheVariants as headers;
+
+use crate::addr::{Addr, Ptr};
+use crate::header::{
+    Count, Counts, FillerSize, Header, decode_header, decode_pointer, encode_header, encode_pointer,
+};
+use std::alloc::{AllocError, Global};
+use std::marker::Model;
+
+/// All words of a heap, in address order. Clauses see the list of the words.
+#[derive(Drop)]
+pub struct Words {
+    items: Vec<u64>,
+}
+
+impl Model for Words {
+    ghost use Rattle.std.specs.Prelude.{List, ℕ};
+
+    ghost Value = { List ℕ };
+
+    ghost view = { λ w. w.items.items };
+}
+
+/// Writes a header, a name and as many zeros as there are fields.
+fn write_fresh(words: &mut [u64], at: usize, header: u64, name: u64, fields: usize)
+    requires { at + 2 + fields ≤ length words.old }
+    ensures { words.new ≡ put words.old at (header ∷ name ∷ replicate fields 0) }
+{
+    words[at] = header;
+    words[at + 1] = name;
+    for i in 0..fields {
+        words[at + 2 + i] = 0;
+    }
+}
+
+/// Copies words within a slice.
+fn copy_within(words: &mut [u64], from: usize, to: usize, size: usize)
+    requires source { from + size ≤ length words.old }
+    requires target { to + size ≤ length words.old }
+    ensures { words.new ≡ put words.old to (take size (drop from words.old)) }
+{
+    words.copy_within(from..from + size, to);
+}
+
+/// The counts of an object's header, none of another one's.
+fn counts_in(word: u64) -> Option<Counts>
+    ensures { result ≡ counts_of (header_of word) }
+{
+    match decode_header(word) {
+        Some(header) => match header {
+            Header::Object { pointers, data } => Some(Counts {
+                pointers,
+                values: data,
+            }),
+            Header::Filler { .. } | Header::Forwarded { .. } => None,
+        },
+        None => None,
+    }
+}
+
+impl Words {
+    /// So many words, each 0.
+    pub fn new(alloc: Global, count: usize) -> Result<Words, AllocError>
+        ensures { IfOk result (λ words. words ≡ replicate count 0) }
+    {
+        Ok(Words {
+            items: vec![in alloc; 0; count]?,
+        })
+    }
+
+    /// How many words there are.
+    pub fn len(&self) -> usize
+        ensures { result ≡ length self.now }
+    {
+        self.items.len()
+    }
+
+    /// The header at an address, None if the word there is ill-formed.
+    pub fn header(&self, at: Addr) -> Option<Header>
+        requires { at < length self.now }
+        ensures { result ≡ header_at self.now at }
+    {
+        decode_header(self.items[at.word() as usize])
+    }
+
+    /// How many pointers and data words the object at an address has, None if no object's header is there.
+    pub fn object_at(&self, at: Addr) -> Option<Counts>
+        requires { at < length self.now }
+        ensures { result ≡ counts_of (header_at self.now at) }
+    {
+        counts_in(self.items[at.word() as usize])
+    }
+
+    /// The name of the object at an address, which stands behind its header.
+    pub fn name(&self, object: Addr) -> u64
+        requires { object + 1 < length self.now }
+        ensures { result ≡ slice_index self.now (object + 1) }
+    {
+        self.items[object.word() as usize + 1]
+    }
+
+    /// A pointer of the object at an address, counted from 0.
+    pub fn get_ptr(&self, object: Addr, field: u32) -> Ptr
+        requires { object + 2 + field < length self.now }
+        ensures { result ≡ pointer_of (slice_index self.now (object + 2 + field)) }
+    {
+        decode_pointer(self.items[object.word() as usize + 2 + field as usize])
+    }
+
+    /// Sets a pointer of the object at an address.
+    pub fn set_ptr(&mut self, object: Addr, field: u32, target: Ptr)
+        requires { object + 2 + field < length self.old }
+        ensures word { self.new ≡ slice_set self.old (object + 2 + field) (pointer_word target) }
+        ensures back { pointer_of (pointer_word target) ≡ target }
+    {
+        self.items[object.word() as usize + 2 + field as usize] = encode_pointer(target);
+    }
+
+    /// Where a data word of the object at an address is.
+    fn data_place(&self, object: Addr, field: u32) -> usize
+        requires { object < length self.now }
+        ensures { result ≡ object + 2 + pointer_count_at self.now object + field }
+    {
+        let pointers = match self.object_at(object) {
+            Some(counts) => counts.pointers.get(),
+            None => 0,
+        };
+        object.word() as usize + 2 + pointers as usize + field as usize
+    }
+
+    /// A data word of the object at an address, counted from 0 behind the pointers that its header tells.
+    pub fn get_data(&self, object: Addr, field: u32) -> u64
+        requires at { object < length self.now }
+        requires within { object + 2 + pointer_count_at self.now object + field < length self.now }
+        ensures { result ≡ slice_index self.now (object + 2 + pointer_count_at self.now object + field) }
+    {
+        self.items[self.data_place(object, field)]
+    }
+
+    /// Sets a data word of the object at an address.
+    pub fn set_data(&mut self, object: Addr, field: u32, value: u64)
+        requires at { object < length self.old }
+        requires within { object + 2 + pointer_count_at self.old object + field < length self.old }
+        ensures { self.new ≡ slice_set self.old (object + 2 + pointer_count_at self.old object + field) value }
+    {
+        let at = self.data_place(object, field);
+        self.items[at] = value;
+    }
+
+    /// Writes an object whose pointers are nil and whose data words are 0.
+    pub fn write_object(&mut self, at: Addr, name: u64, counts: Counts)
+        requires { at + (2 + counts.pointers + counts.values) ≤ length self.old }
+        ensures { self.new ≡ put self.old at (header_word (headers.Object counts.pointers counts.values) ∷ name ∷ replicate (counts.pointers + counts.values) 0) }
+    {
+        let Counts { pointers, values } = counts;
+        let fields = pointers.get() as usize + values.get() as usize;
+        let header = encode_header(Header::Object {
+            pointers,
+            data: values,
+        });
+        write_fresh(&mut self.items, at.word() as usize, header, name, fields);
+    }
+
+    /// Writes a filler's header. Its other words stay.
+    pub fn write_filler(&mut self, at: Addr, size: FillerSize)
+        requires { at < length self.old }
+        ensures { self.new ≡ slice_set self.old at (header_word (headers.Filler size)) }
+    {
+        self.items[at.word() as usize] = encode_header(Header::Filler { size });
+    }
+
+    /// Writes the header of an object that was forwarded. Its other words stay.
+    pub fn write_forwarded(&mut self, at: Addr, to: Addr)
+        requires { at < length self.old }
+        ensures { self.new ≡ slice_set self.old at (header_word (headers.Forwarded to)) }
+    {
+        self.items[at.word() as usize] = encode_header(Header::Forwarded { to });
+    }
+
+    /// Copies so many words to another place. The two places may overlap.
+    pub fn copy(&mut self, from: Addr, to: Addr, size: u32)
+        requires source { from + size ≤ length self.old }
+        requires target { to + size ≤ length self.old }
+        ensures { self.new ≡ put self.old to (take size (drop from self.old)) }
+    {
+        copy_within(
+            &mut self.items,
+            from.word() as usize,
+            to.word() as usize,
+            size as usize,
+        );
+    }
+}
+
+#[cfg(test)]
+mod tests {
+    use super::*;
+    use std::test::Fail;
+
+    fn pointers_of(words: &Words, object: Addr) -> u32
+        requires { object < length words.now }
+        ensures { result ≡ pointer_count_at words.now object }
+    {
+        match words.object_at(object) {
+            Some(counts) => counts.pointers.get(),
+            None => 0,
+        }
+    }
+
+    fn small() -> Counts
+        ensures pointers { result.pointers ≡ 1 }
+        ensures values { result.values ≡ 2 }
+    {
+        Counts {
+            pointers: Count::new(1),
+            values: Count::new(2),
+        }
+    }
+
+    /// An object of one pointer and two data words, a filler behind it, and a copy of the object.
+    #[test]
+    fn holds_objects(rt: HostRuntime) -> Result<(), Fail> {
+        let mut words = Words::new(rt.alloc(), 16)?;
+        assert!(rt; words.len() == 16);
+        let object = Addr::new(1);
+        words.write_object(object, 7, small());
+        assert!(rt; words.len() == 16);
+        words.write_filler(Addr::new(6), FillerSize::new(2));
+        words.set_ptr(object, 0, Some(Addr::new(8)));
+        assert!(rt; words.len() == 16);
+        assert!(rt; pointers_of(&words, object) == 1);
+        words.set_data(object, 1, 9);
+        assert!(rt; words.len() == 16);
+        words.copy(object, Addr::new(8), 5);
+        assert!(rt; words.len() == 16);
+        words.write_forwarded(object, Addr::new(8));
+        assert!(rt; words.len() == 16);
+        let copy = Addr::new(8);
+        assert!(rt; pointers_of(&words, copy) == 1);
+        assert_eq!(rt; words.object_at(copy), Some(small()));
+        assert_eq!(rt; words.name(copy), 7);
+        assert_eq!(rt; words.get_ptr(copy, 0), Some(Addr::new(8)));
+        assert_eq!(rt; words.get_data(copy, 0), 0);
+        assert_eq!(rt; words.get_data(copy, 1), 9);
+        let size = FillerSize::new(2);
+        assert_eq!(rt; words.header(Addr::new(6)), Some(Header::Filler { size }));
+        let to = Addr::new(8);
+        assert_eq!(rt; words.header(object), Some(Header::Forwarded { to }));
+        assert_eq!(rt; words.object_at(object), None);
+        Ok(())
+    }
+}

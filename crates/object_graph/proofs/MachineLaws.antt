@@ -1,0 +1,72 @@
+-- What each step keeps.
+use Rattle.std.proofs.Common.{◌≡◌, ℕ, ◌+◌, ◌-◌, ◌^◌, Option, Some, None, Bool, true, false, cond, slice_get, Result, Ok, Err, refl, ap, ◌∙◌}
+use Rattle.std.specs.Prelude.{◌==◌, nat_lt, IfOk, OnErr}
+use Rattle.object_graph.specs.declared.step.Reply.{Reply}
+use Rattle.object_graph.specs.declared.step.Reply.TheVariants as replies
+use Rattle.heap_model.specs.Graph.{Object, Graph, next_name}
+use Rattle.object_graph.specs.State.{root_at, register_place}
+use Rattle.object_graph.specs.Machine.{Outcome, refused, on_contents, on_name, on_field, act, outcome_of}
+use Rattle.object_graph.specs.declared.step.Action.{Action}
+use Rattle.object_graph.specs.declared.step.Action.TheVariants as actions
+use Rattle.object_graph.specs.declared.step.Op.{Op}
+use Rattle.object_graph.specs.declared.step.Refusal.TheVariants as refusals
+
+on_contents_law : (P : Outcome → Type 0) (g : Graph) (o : Option Object) (f : Object → Outcome) → P (refused g refusals.Nil) → ((x : Object) → P (f x)) → P (on_contents g o f)
+on_contents_law P g None f nil each = nil
+on_contents_law P g (Some x) f nil each = each x
+
+on_name_law : (P : Outcome → Type 0) (g : Graph) (o : Option ℕ) (f : ℕ → Object → Outcome) → P (refused g refusals.Nil) → ((n : ℕ) (x : Object) → P (f n x)) → P (on_name g o f)
+on_name_law P g None f nil each = nil
+on_name_law P g (Some n) f nil each = on_contents_law P g (slice_get g.objects (n - g.first_name)) (f n) nil (each n)
+
+on_field_law : {X : Type 0} (P : Outcome → Type 0) (g : Graph) (o : Option X) (f : X → Outcome) → P (refused g refusals.NoField) → ((x : X) → P (f x)) → P (on_field g o f)
+on_field_law P g None f none each = none
+on_field_law P g (Some x) f none each = each x
+
+cond_law : (P : Outcome → Type 0) (b : Bool) (x y : Outcome) → P x → P y → P (cond b x y)
+cond_law P true x y p q = p
+cond_law P false x y p q = q
+
+-- A step that changes roots and objects alone keeps the number of mutators.
+abbrev KeepsMutators : Graph → Outcome → Type 0
+KeepsMutators g out = out.1.mutators ≡ g.mutators
+
+act_keeps : (g : Graph) (m : ℕ) (a : Action) → KeepsMutators g (act g m a)
+act_keeps g m (actions.New to p d) =
+    cond_law (KeepsMutators g) (nat_lt g.room (2 + p + d)) (refused g refusals.TooBig) _ refl
+    (cond_law (KeepsMutators g) (next_name g == 2 ^ 64 - 1) (refused g refusals.NamesSpent) _ refl refl)
+act_keeps g m (actions.Get to object i) = on_name_law (KeepsMutators g) g (root_at g (register_place m object.number)) _ refl (λ n x. on_field_law (KeepsMutators g) g (slice_get x.pointers i) _ refl (λ v. refl))
+act_keeps g m (actions.Put object i value) = on_name_law (KeepsMutators g) g (root_at g (register_place m object.number)) _ refl (λ n x. on_field_law (KeepsMutators g) g (slice_get x.pointers i) _ refl (λ v. refl))
+act_keeps g m (actions.Read object i) = on_name_law (KeepsMutators g) g (root_at g (register_place m object.number)) _ refl (λ n x. on_field_law (KeepsMutators g) g (slice_get x.values i) _ refl (λ v. refl))
+act_keeps g m (actions.Write object i value) = on_name_law (KeepsMutators g) g (root_at g (register_place m object.number)) _ refl (λ n x. on_field_law (KeepsMutators g) g (slice_get x.values i) _ refl (λ v. refl))
+act_keeps g m (actions.Move to from) = refl
+act_keeps g m (actions.Drop register) = refl
+act_keeps g m (actions.Load to from) = refl
+act_keeps g m (actions.Save to from) = refl
+act_keeps g m (actions.Shape object) = on_name_law (KeepsMutators g) g (root_at g (register_place m object.number)) _ refl (λ n x. refl)
+
+pub outcome_of-mutators : (g : Graph) (o : Op) → (outcome_of g o).1.mutators ≡ g.mutators
+outcome_of-mutators g o = act_keeps g o.mutator o.action
+
+-- an answer, and what it left
+pub served-mutators : {E : Type 0} (r : Result Reply E) (old new : Graph) (o : Op) → IfOk r (λ reply. (reply, new) ≡ outcome_of old o) → OnErr r (new ≡ old) → new.mutators ≡ old.mutators
+served-mutators (Ok reply) old new o ok err = ap (λ (out : Outcome). out.1.mutators) ok ∙ outcome_of-mutators old o
+served-mutators (Err e) old new o ok err = ap (λ (g : Graph). g.mutators) err
+
+-- the graph's own reply is never Full
+abbrev NotFull : Outcome → Type 0
+NotFull out = out.0 ≡ replies.Refused refusals.Full → ⊥
+
+pub act-not_full : (g : Graph) (m : ℕ) (a : Action) → (act g m a).0 ≡ replies.Refused refusals.Full → ⊥
+act-not_full g m (actions.New to p d) =
+    cond_law NotFull (nat_lt g.room (2 + p + d)) (refused g refusals.TooBig) _ (λ h. cc)
+    (cond_law NotFull (next_name g == 2 ^ 64 - 1) (refused g refusals.NamesSpent) _ (λ h. cc) (λ h. cc))
+act-not_full g m (actions.Get to object i) = on_name_law NotFull g (root_at g (register_place m object.number)) _ (λ h. cc) (λ n x. on_field_law NotFull g (slice_get x.pointers i) _ (λ h. cc) (λ v h. cc))
+act-not_full g m (actions.Put object i value) = on_name_law NotFull g (root_at g (register_place m object.number)) _ (λ h. cc) (λ n x. on_field_law NotFull g (slice_get x.pointers i) _ (λ h. cc) (λ v h. cc))
+act-not_full g m (actions.Read object i) = on_name_law NotFull g (root_at g (register_place m object.number)) _ (λ h. cc) (λ n x. on_field_law NotFull g (slice_get x.values i) _ (λ h. cc) (λ v h. cc))
+act-not_full g m (actions.Write object i value) = on_name_law NotFull g (root_at g (register_place m object.number)) _ (λ h. cc) (λ n x. on_field_law NotFull g (slice_get x.values i) _ (λ h. cc) (λ v h. cc))
+act-not_full g m (actions.Move to from) = λ h. cc
+act-not_full g m (actions.Drop register) = λ h. cc
+act-not_full g m (actions.Load to from) = λ h. cc
+act-not_full g m (actions.Save to from) = λ h. cc
+act-not_full g m (actions.Shape object) = on_name_law NotFull g (root_at g (register_place m object.number)) _ (λ h. cc) (λ n x h. cc)

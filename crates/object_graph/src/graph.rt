@@ -1,0 +1,328 @@
+//! The graph of objects by name, and what each step of a mutator does to it.
+
+ghost use Rattle.std.specs.Prelude.{◌≡◌, ◌<◌, ◌≤◌, ◌+◌, ◌*◌, ◌↔◌, ◌≢◌, IsTrue, IsOk, IfOk, OnErr};
+ghost use Rattle.object_graph.specs.Run.{IsCollectorReply};
+
+use crate::object::Object;
+use crate::step::{Action, CollectorStep, Event, GlobalRoot, Op, Refusal, Register, Reply, Step};
+use heap_words::config::Config;
+use std::alloc::{AllocError, Global};
+use std::marker::Model;
+
+/// The graph of objects by name, as a heap would be from which nothing is ever freed or moved.
+#[derive(Debug, Drop)]
+pub struct Graph {
+    room: u64,
+    first_name: u64,
+    mutators: u32,
+    objects: Vec<Object>,
+    roots: Vec<Option<u64>>,
+}
+
+impl Model for Graph {
+    ghost use Rattle.heap_model.specs.Graph as model;
+    ghost use Rattle.object_graph.specs.State.{IsState};
+
+    ghost Value = { model.Graph };
+
+    ghost view = { λ g. record { room = g.room; first_name = g.first_name; mutators = g.mutators; objects = g.objects.items; roots = g.roots.items } };
+
+    ghost invariant = { λ g. IsState (record { room = g.room; first_name = g.first_name; mutators = g.mutators; objects = g.objects.items; roots = g.roots.items }) };
+}
+
+impl Graph {
+    ghost use Rattle.object_graph.specs.State.{root_at, register_place, place_of, first_state};
+    ghost use Rattle.heap_model.specs.Graph as model;
+    ghost use Rattle.heap_model.specs.Graph.{next_name, with_root};
+    ghost use Rattle.object_graph.specs.Run.{Creates, EventHappens, ForMutator};
+    ghost use Rattle.object_graph.specs.Machine.{act, outcome_of, stored};
+
+    /// What a mutator's register holds.
+    fn register(&self, mutator: u32, register: Register) -> Option<u64>
+        requires { mutator < self.now.mutators }
+        ensures { result ≡ root_at self.now (register_place mutator register.number) }
+    {
+        self.roots[16 + 8 * mutator as usize + register.number as usize]
+    }
+
+    fn set_register(&mut self, mutator: u32, register: Register, value: Option<u64>)
+        requires { mutator < self.old.mutators }
+        ensures { self.new ≡ with_root self.old (register_place mutator register.number) value }
+    {
+        self.roots[16 + 8 * mutator as usize + register.number as usize] = value;
+    }
+
+    /// Where the object stands that a register names, if it names one.
+    fn place(&self, mutator: u32, register: Register) -> Option<usize>
+        requires { mutator < self.now.mutators }
+        ensures { result ≡ place_of self.now (root_at self.now (register_place mutator register.number)) }
+    {
+        let name = self.register(mutator, register)?;
+        let place = (name.saturating_sub(self.first_name)) as usize;
+        if place < self.objects.len() {
+            Some(place)
+        } else {
+            None
+        }
+    }
+
+    fn new_object(
+        &mut self,
+        mutator: u32,
+        to: Register,
+        pointers: u32,
+        values: u32,
+    ) -> Result<Reply, AllocError>
+        requires { mutator < self.old.mutators }
+        ensures ok { IfOk result (λ reply. (reply, self.new) ≡ act self.old mutator (Action.New to pointers values)) }
+        ensures err { OnErr result (self.new ≡ self.old) }
+        ensures memory { ((act self.old mutator (Action.New to pointers values)).0 ≢ Reply.Named (Some (next_name self.old))) → IsOk result }
+    {
+        if self.room < 2 + u64::from(pointers) + u64::from(values) {
+            return Ok(Reply::Refused(Refusal::TooBig));
+        }
+        let name = self.first_name + self.objects.len() as u64;
+        if name == u64::MAX {
+            return Ok(Reply::Refused(Refusal::NamesSpent));
+        }
+        let alloc = *self.objects.allocator();
+        let object = Object {
+            pointers: vec![in alloc; None; pointers as usize]?,
+            values: vec![in alloc; 0; values as usize]?,
+        };
+        self.objects.push(object)?;
+        self.roots[16 + 8 * mutator as usize + to.number as usize] = Some(name);
+        Ok(Reply::Named(Some(name)))
+    }
+
+    fn get(&mut self, mutator: u32, to: Register, object: Register, field: u32) -> Reply
+        requires { mutator < self.old.mutators }
+        ensures { (result, self.new) ≡ act self.old mutator (Action.Get to object field) }
+    {
+        let Some(place) = self.place(mutator, object) else {
+            return Reply::Refused(Refusal::Nil);
+        };
+        let object = &self.objects[place];
+        let Some(value) = object.pointers.get(field as usize).copied() else {
+            return Reply::Refused(Refusal::NoField);
+        };
+        self.set_register(mutator, to, value);
+        Reply::Named(value)
+    }
+
+    fn move_register(&mut self, mutator: u32, to: Register, from: Register) -> Reply
+        requires { mutator < self.old.mutators }
+        ensures { (result, self.new) ≡ act self.old mutator (Action.Move to from) }
+    {
+        let value = self.register(mutator, from);
+        self.set_register(mutator, to, value);
+        Reply::Done
+    }
+
+    /// What `put` stores: nil, or what a register holds.
+    fn stored(&self, mutator: u32, value: Option<Register>) -> Option<u64>
+        requires { mutator < self.now.mutators }
+        ensures { result ≡ stored self.now mutator value }
+    {
+        match value {
+            None => None,
+            Some(register) => self.register(mutator, register),
+        }
+    }
+
+    fn put(&mut self, mutator: u32, object: Register, field: u32, value: Option<Register>) -> Reply
+        requires { mutator < self.old.mutators }
+        ensures { (result, self.new) ≡ act self.old mutator (Action.Put object field value) }
+    {
+        let Some(place) = self.place(mutator, object) else {
+            return Reply::Refused(Refusal::Nil);
+        };
+        let value = self.stored(mutator, value);
+        if field >= self.objects[place].pointer_count() {
+            return Reply::Refused(Refusal::NoField);
+        }
+        self.objects[place].set_pointer(field, value);
+        Reply::Done
+    }
+
+    fn read(&self, mutator: u32, object: Register, field: u32) -> Reply
+        requires { mutator < self.now.mutators }
+        ensures { (result, self.now) ≡ act self.now mutator (Action.Read object field) }
+    {
+        let Some(place) = self.place(mutator, object) else {
+            return Reply::Refused(Refusal::Nil);
+        };
+        let object = &self.objects[place];
+        match object.values.get(field as usize) {
+            None => Reply::Refused(Refusal::NoField),
+            Some(word) => Reply::Word(*word),
+        }
+    }
+
+    fn write(&mut self, mutator: u32, object: Register, field: u32, value: u64) -> Reply
+        requires { mutator < self.old.mutators }
+        ensures { (result, self.new) ≡ act self.old mutator (Action.Write object field value) }
+    {
+        let Some(place) = self.place(mutator, object) else {
+            return Reply::Refused(Refusal::Nil);
+        };
+        if field >= self.objects[place].value_count() {
+            return Reply::Refused(Refusal::NoField);
+        }
+        self.objects[place].set_value(field, value);
+        Reply::Done
+    }
+
+    fn load(&mut self, mutator: u32, to: Register, from: GlobalRoot) -> Reply
+        requires { mutator < self.old.mutators }
+        ensures { (result, self.new) ≡ act self.old mutator (Action.Load to from) }
+    {
+        let value = self.roots[from.number as usize];
+        self.set_register(mutator, to, value);
+        Reply::Named(value)
+    }
+
+    fn save(&mut self, mutator: u32, to: GlobalRoot, from: Register) -> Reply
+        requires { mutator < self.old.mutators }
+        ensures { (result, self.new) ≡ act self.old mutator (Action.Save to from) }
+    {
+        let value = self.register(mutator, from);
+        self.roots[to.number as usize] = value;
+        Reply::Done
+    }
+
+    fn shape(&self, mutator: u32, object: Register) -> Reply
+        requires { mutator < self.now.mutators }
+        ensures { (result, self.now) ≡ act self.now mutator (Action.Shape object) }
+    {
+        let Some(place) = self.place(mutator, object) else {
+            return Reply::Refused(Refusal::Nil);
+        };
+        Reply::Shape {
+            pointers: self.objects[place].pointer_count(),
+            values: self.objects[place].value_count(),
+        }
+    }
+
+    /// The reply to a mutator's step, which the graph takes. Refused for memory, the graph is unchanged.
+    pub fn apply(&mut self, op: Op) -> Result<Reply, AllocError>
+        requires { op.mutator < self.old.mutators }
+        ensures ok { IfOk result (λ reply. (reply, self.new) ≡ outcome_of self.old op) }
+        ensures err { OnErr result (self.new ≡ self.old) }
+        ensures mutators { self.new.mutators ≡ self.old.mutators }
+        // Only a step that would create an object takes memory.
+        ensures memory { (Creates self.old op → ⊥) → IsOk result }
+    {
+        self.serve(op)
+    }
+
+    fn serve(&mut self, op: Op) -> Result<Reply, AllocError>
+        requires { op.mutator < self.old.mutators }
+        ensures ok { IfOk result (λ reply. (reply, self.new) ≡ outcome_of self.old op) }
+        ensures err { OnErr result (self.new ≡ self.old) }
+        ensures memory { (Creates self.old op → ⊥) → IsOk result }
+    {
+        let mutator = op.mutator;
+        match op.action {
+            Action::New {
+                to,
+                pointers,
+                values,
+            } => self.new_object(mutator, to, pointers, values),
+            Action::Get { to, object, field } => Ok(self.get(mutator, to, object, field)),
+            Action::Put {
+                object,
+                field,
+                value,
+            } => Ok(self.put(mutator, object, field, value)),
+            Action::Read { object, field } => Ok(self.read(mutator, object, field)),
+            Action::Write {
+                object,
+                field,
+                value,
+            } => Ok(self.write(mutator, object, field, value)),
+            Action::Move { to, from } => Ok(self.move_register(mutator, to, from)),
+            Action::Drop { register } => {
+                self.set_register(mutator, register, None);
+                Ok(Reply::Done)
+            }
+            Action::Load { to, from } => Ok(self.load(mutator, to, from)),
+            Action::Save { to, from } => Ok(self.save(mutator, to, from)),
+            Action::Shape { object } => Ok(self.shape(mutator, object)),
+        }
+    }
+
+    /// Whether a step would create an object.
+    fn creates(&self, op: Op) -> bool
+        ensures { IsTrue result ↔ Creates self.now op }
+    {
+        match op.action {
+            Action::New {
+                pointers,
+                values,
+                ..
+            } => {
+                self.room >= 2 + u64::from(pointers) + u64::from(values)
+                    && self.first_name + self.objects.len() as u64 != u64::MAX
+            }
+            _ => false,
+        }
+    }
+
+    /// Takes an event, if it may happen: then the graph is the one after it. Refused for memory, the graph is
+    /// unchanged. Once an event may not happen, the graph is no longer that of the events.
+    pub fn take(&mut self, event: &Event) -> Result<bool, AllocError>
+        requires { ForMutator event.now.step (λ o. o.mutator < self.old.mutators) }
+        ensures yes { IfOk result (λ yes. IsTrue yes → EventHappens self.old event.now self.new) }
+        ensures no { IfOk result (λ yes. (after : model.Graph) → EventHappens self.old event.now after → IsTrue yes) }
+        ensures err { OnErr result (self.new ≡ self.old) }
+        ensures mutators { self.new.mutators ≡ self.old.mutators }
+    {
+        match event.step {
+            Step::Collector(step) => Ok(is_collector_reply(step, event.reply)),
+            Step::Mutator(op) => {
+                if event.reply == Reply::Refused(Refusal::Full) {
+                    return Ok(self.creates(op));
+                }
+                let reply = self.apply(op)?;
+                Ok(reply == event.reply)
+            }
+        }
+    }
+
+    /// The graph of a new heap: no objects, and each root nil.
+    pub fn new(alloc: Global, config: &Config) -> Result<Graph, AllocError>
+        ensures { IfOk result (λ g. g ≡ first_state config.now) }
+    {
+        let places = 16 + 8 * config.mutators as usize;
+        Ok(Graph {
+            room: u64::from(config.regions) * u64::from(config.words),
+            first_name: config.first_name,
+            mutators: config.mutators,
+            objects: Vec::new(alloc),
+            roots: vec![in alloc; None; places]?,
+        })
+    }
+}
+
+/// Whether a step of the collector may have the reply.
+fn is_collector_reply(step: CollectorStep, reply: Reply) -> bool
+    ensures { IsTrue result ↔ IsCollectorReply step reply }
+{
+    match step {
+        CollectorStep::Begin => matches!(reply, Reply::Done | Reply::Refused(Refusal::MarkRunning)),
+        CollectorStep::Mark(_) => {
+            matches!(reply, Reply::Done | Reply::Refused(Refusal::NotMarking))
+        }
+        CollectorStep::Remark => matches!(
+            reply,
+            Reply::Marked(_) | Reply::Refused(Refusal::NotMarking)
+        ),
+        CollectorStep::Cleanup => matches!(
+            reply,
+            Reply::Reclaimed(_) | Reply::Refused(Refusal::MarkRunning)
+        ),
+        CollectorStep::Refine(_) => matches!(reply, Reply::Refined(_)),
+        CollectorStep::Pause(_) => matches!(reply, Reply::Moved { .. }),
+    }
+}

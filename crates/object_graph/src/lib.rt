@@ -1,0 +1,34 @@
+//! The graph of objects by name, and the judge of records.
+//!
+//! A mutator's step has one reply and leads to one graph; the collector's steps leave the graph as it is. So the
+//! graph tells what every reply of a heap must be, however its objects are stored, moved and reclaimed.
+//!
+//! ```text
+//!   event                      reply    roots                objects
+//!                                       r0 nil  r1 nil
+//!   0 new r0 1 0               #0       r0 0    r1 nil       0: [nil]
+//!   0 new r1 0 1               #1       r0 0    r1 1         0: [nil]   1: 0
+//!   0 put r0 0 r1              ok       r0 0    r1 1         0: [1]     1: 0
+//!   0 drop r1                  ok       r0 0    r1 nil       0: [1]     1: 0
+//!   0 get r1 r0 0              #1       r0 0    r1 1         0: [1]     1: 0
+//! ```
+//!
+//! `Graph` takes steps (`apply`) and events (`take`); a `Plan` holds the steps to be done, a `Record` the events that
+//! were; `check` says whether a record is a run of the graph, and if not, at which event it breaks.
+#![tactic(auto)]
+
+mod graph;
+mod judge;
+mod object;
+mod record;
+mod step;
+#[cfg(test)]
+mod tests;
+
+pub use graph::Graph;
+pub use judge::{Verdict, check, judged_once, run_once};
+pub use object::Object;
+pub use record::{Plan, Record};
+pub use step::{
+    Action, Actor, CollectorStep, Event, GlobalRoot, Op, Refusal, Register, Reply, Step,
+};

@@ -1,0 +1,178 @@
+//! The steps of mutators and of the collector, their replies, and events.
+
+ghost use Rattle.std.specs.Prelude.{◌<◌};
+
+/// One of a mutator's registers, `r0` to `r7`. A register holds nil or an object's name.
+#[derive(Clone, Copy, Debug, PartialEq, Eq)]
+pub struct Register {
+    /// 0 to 7.
+    pub number: u8,
+    pub ghost in_range: { number < 8 },
+}
+
+/// One of the globals, `g0` to `g15`. A global holds nil or an object's name.
+#[derive(Clone, Copy, Debug, PartialEq, Eq)]
+pub struct GlobalRoot {
+    /// 0 to 15.
+    pub number: u8,
+    pub ghost in_range: { number < 16 },
+}
+
+/// What a mutator does. Where an object is needed, the register may be nil, and the step is refused; fields
+/// count from 0, pointers and data words apart.
+#[derive(Clone, Copy, Debug, PartialEq, Eq)]
+pub enum Action {
+    /// An object of so many nil pointers and data words of 0 is made, and `to` holds its name.
+    New {
+        to: Register,
+        pointers: u32,
+        values: u32,
+    },
+    /// `to` takes the pointer in a field of the object.
+    Get {
+        to: Register,
+        object: Register,
+        field: u32,
+    },
+    /// A pointer field of the object takes what a register holds, or nil where there is none.
+    Put {
+        object: Register,
+        field: u32,
+        value: Option<Register>,
+    },
+    /// Tells a data word of the object.
+    Read {
+        object: Register,
+        field: u32,
+    },
+    /// A data word of the object takes a value.
+    Write {
+        object: Register,
+        field: u32,
+        value: u64,
+    },
+    /// `to` takes what `from` holds.
+    Move {
+        to: Register,
+        from: Register,
+    },
+    /// The register becomes nil.
+    Drop {
+        register: Register,
+    },
+    /// `to` takes what the global holds.
+    Load {
+        to: Register,
+        from: GlobalRoot,
+    },
+    /// The global takes what `from` holds.
+    Save {
+        to: GlobalRoot,
+        from: Register,
+    },
+    /// Tells how many pointers and data words the object has.
+    Shape {
+        object: Register,
+    },
+}
+
+/// A step of a mutator.
+#[derive(Clone, Copy, Debug, PartialEq, Eq)]
+pub struct Op {
+    /// The mutator's number, from 0.
+    pub mutator: u32,
+    /// What it does.
+    pub action: Action,
+}
+
+/// What the collector does.
+#[derive(Clone, Copy, Debug, PartialEq, Eq)]
+pub enum CollectorStep {
+    /// Marking begins, with the present graph as its snapshot.
+    Begin,
+    /// At most so many units of marking.
+    Mark(u32),
+    /// Marking is brought to its end.
+    Remark,
+    /// Regions with nothing live are reclaimed.
+    Cleanup,
+    /// At most so many queued cards are refined.
+    Refine(u32),
+    /// Live objects are copied out of some regions, at most so many words, and these regions are reclaimed.
+    Pause(u32),
+}
+
+/// A step of a mutator or of the collector.
+#[derive(Clone, Copy, Debug, PartialEq, Eq)]
+pub enum Step {
+    /// One of a mutator's steps.
+    Mutator(Op),
+    /// One of the collector's.
+    Collector(CollectorStep),
+}
+
+/// Why a step is refused.
+#[derive(Clone, Copy, Debug, PartialEq, Eq)]
+pub enum Refusal {
+    /// The register that should name an object is nil.
+    Nil,
+    /// The object has no such field.
+    NoField,
+    /// There is no room for the new object now.
+    Full,
+    /// The new object is larger than the heap.
+    TooBig,
+    /// No names are left.
+    NamesSpent,
+    /// Marking is running.
+    MarkRunning,
+    /// Marking is not running.
+    NotMarking,
+}
+
+/// The reply to a step.
+#[derive(Clone, Copy, Debug, PartialEq, Eq)]
+pub enum Reply {
+    /// The step was done, and there is nothing to tell.
+    Done,
+    /// An object's name, or nil.
+    Named(Option<u64>),
+    /// A data word.
+    Word(u64),
+    /// How many pointers and data words an object has.
+    Shape { pointers: u32, values: u32 },
+    /// How many objects were marked in this cycle.
+    Marked(u32),
+    /// How many regions were reclaimed.
+    Reclaimed(u32),
+    /// How many cards were refined.
+    Refined(u32),
+    /// How many regions a pause reclaimed, and how many words it copied.
+    Moved { regions: u32, words: u32 },
+    /// The step changed nothing.
+    Refused(Refusal),
+}
+
+/// Who takes a step.
+#[derive(Clone, Copy, Debug, PartialEq, Eq)]
+pub enum Actor {
+    /// The mutator of this number.
+    Mutator(u32),
+    /// The scripted collector, which takes any of the collector's steps.
+    Collector,
+    /// A background marker, 0 to 7, which only marks.
+    Marker(u8),
+    /// A background refiner, 0 to 7, which only refines.
+    Refiner(u8),
+}
+
+/// A step that took effect, who took it, and the reply.
+#[derive(Clone, Copy, Debug, PartialEq, Eq)]
+pub struct Event {
+    /// Who took the step.
+    pub actor: Actor,
+    /// What was done.
+    pub step: Step,
+    /// What came of it.
+    pub reply: Reply,
+}

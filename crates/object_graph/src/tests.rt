@@ -1,0 +1,197 @@
+//! Each step once, each refusal of the graph, and small records before the judge.
+
+ghost use Rattle.std.specs.Prelude.{◌≡◌, ◌<◌};
+ghost use Rattle.object_graph.specs.declared.step.Actor.TheVariants as actors;
+ghost use Rattle.object_graph.specs.declared.step.Step.TheVariants as steps;
+
+use crate::graph::Graph;
+use crate::judge::{Verdict, check};
+use crate::record::{Plan, Record};
+use crate::step::{
+    Action, Actor, CollectorStep, Event, GlobalRoot, Op, Refusal, Register, Reply, Step,
+};
+use heap_words::config::Config;
+use std::alloc::AllocError;
+use std::test::Fail;
+
+/// A heap of 64 words and one mutator.
+fn config(first_name: u64) -> Config
+    ensures { result.mutators ≡ 1 }
+{
+    Config {
+        regions: 4,
+        words: 16,
+        buffer: 8,
+        mutators: 1,
+        first_name,
+    }
+}
+
+fn r(number: u8) -> Register
+    requires { number < 8 }
+{
+    Register { number }
+}
+
+fn new(to: u8, pointers: u32, values: u32) -> Action
+    requires { to < 8 }
+{
+    Action::New {
+        to: r(to),
+        pointers,
+        values,
+    }
+}
+
+fn get(to: u8, object: u8, field: u32) -> Action
+    requires to { to < 8 }
+    requires object { object < 8 }
+{
+    Action::Get {
+        to: r(to),
+        object: r(object),
+        field,
+    }
+}
+
+fn read(object: u8, field: u32) -> Action
+    requires { object < 8 }
+{
+    Action::Read {
+        object: r(object),
+        field,
+    }
+}
+
+fn apply(graph: &mut Graph, action: Action) -> Result<Reply, AllocError>
+    requires { 0 < graph.old.mutators }
+    ensures { graph.new.mutators ≡ graph.old.mutators }
+{
+    graph.apply(Op { mutator: 0, action })
+}
+
+#[test]
+fn reads_and_writes_objects(rt: HostRuntime) -> Result<(), Fail> {
+    let mut graph = Graph::new(rt.alloc(), &config(0))?;
+    let g = &mut graph;
+    assert_eq!(rt; apply(g, new(0, 1, 1))?, Reply::Named(Some(0)));
+    assert_eq!(rt; apply(g, new(1, 0, 2))?, Reply::Named(Some(1)));
+    let put = Action::Put {
+        object: r(0),
+        field: 0,
+        value: Some(r(1)),
+    };
+    assert_eq!(rt; apply(g, put)?, Reply::Done);
+    assert_eq!(rt; apply(g, get(2, 0, 0))?, Reply::Named(Some(1)));
+    let write = Action::Write {
+        object: r(2),
+        field: 1,
+        value: 9,
+    };
+    assert_eq!(rt; apply(g, write)?, Reply::Done);
+    assert_eq!(rt; apply(g, read(1, 1))?, Reply::Word(9));
+    let shape = Reply::Shape {
+        pointers: 1,
+        values: 1,
+    };
+    assert_eq!(rt; apply(g, Action::Shape { object: r(0) })?, shape);
+    Ok(())
+}
+
+#[test]
+fn moves_roots(rt: HostRuntime) -> Result<(), Fail> {
+    let mut graph = Graph::new(rt.alloc(), &config(0))?;
+    let g = &mut graph;
+    assert_eq!(rt; apply(g, new(0, 1, 1))?, Reply::Named(Some(0)));
+    let copy = Action::Move {
+        to: r(3),
+        from: r(0),
+    };
+    assert_eq!(rt; apply(g, copy)?, Reply::Done);
+    let save = Action::Save {
+        to: GlobalRoot { number: 15 },
+        from: r(3),
+    };
+    assert_eq!(rt; apply(g, save)?, Reply::Done);
+    assert_eq!(rt; apply(g, Action::Drop { register: r(3) })?, Reply::Done);
+    let load = Action::Load {
+        to: r(4),
+        from: GlobalRoot { number: 15 },
+    };
+    assert_eq!(rt; apply(g, load)?, Reply::Named(Some(0)));
+    assert_eq!(rt; apply(g, read(3, 0))?, Reply::Refused(Refusal::Nil));
+    Ok(())
+}
+
+#[test]
+fn refuses_in_order(rt: HostRuntime) -> Result<(), Fail> {
+    let mut graph = Graph::new(rt.alloc(), &config(u64::MAX - 1))?;
+    let g = &mut graph;
+    assert_eq!(rt; apply(g, read(0, 0))?, Reply::Refused(Refusal::Nil));
+    assert_eq!(rt; apply(g, new(0, 60, 3))?, Reply::Refused(Refusal::TooBig));
+    assert_eq!(rt; apply(g, new(0, 60, 2))?, Reply::Named(Some(u64::MAX - 1)));
+    assert_eq!(rt; apply(g, get(1, 0, 60))?, Reply::Refused(Refusal::NoField));
+    assert_eq!(rt; apply(g, get(1, 0, 59))?, Reply::Named(None));
+    assert_eq!(rt; apply(g, new(0, 60, 3))?, Reply::Refused(Refusal::TooBig));
+    assert_eq!(rt;
+        apply(g, new(0, 0, 0))?,
+        Reply::Refused(Refusal::NamesSpent)
+    );
+    Ok(())
+}
+
+fn done(action: Action, reply: Reply) -> Event
+    ensures actor { result.actor ≡ actors.Mutator 0 }
+    ensures step { result.step ≡ steps.Mutator (record { mutator = 0; action = action }) }
+{
+    Event {
+        actor: Actor::Mutator(0),
+        step: Step::Mutator(Op { mutator: 0, action }),
+        reply,
+    }
+}
+
+#[test]
+fn judges_records(rt: HostRuntime) -> Result<(), Fail> {
+    let alloc = rt.alloc();
+    let full = Reply::Refused(Refusal::Full);
+    let mut may_be = Record::new(alloc, config(0));
+    may_be.push(done(new(0, 0, 0), full))?;
+    may_be.push(done(read(0, 0), Reply::Refused(Refusal::Nil)))?;
+    may_be.push(Event {
+        actor: Actor::Collector,
+        step: Step::Collector(CollectorStep::Remark),
+        reply: Reply::Marked(99),
+    })?;
+    assert_eq!(rt; check(alloc, &may_be)?, Verdict::Yes(3));
+
+    let mut too_big = Record::new(alloc, config(0));
+    too_big.push(done(new(0, 63, 0), full))?;
+    assert_eq!(rt; check(alloc, &too_big)?, Verdict::No(1));
+
+    let mut misread = Record::new(alloc, config(7));
+    misread.push(done(new(0, 1, 0), Reply::Named(Some(7))))?;
+    misread.push(Event {
+        actor: Actor::Marker(7),
+        step: Step::Collector(CollectorStep::Mark(4)),
+        reply: Reply::Done,
+    })?;
+    misread.push(done(get(1, 0, 0), Reply::Named(Some(7))))?;
+    assert_eq!(rt; misread.events().len(), 3);
+    assert_eq!(rt; misread.config().first_name, 7);
+    assert_eq!(rt; check(alloc, &misread)?, Verdict::No(3));
+    Ok(())
+}
+
+#[test]
+fn keeps_plans(rt: HostRuntime) -> Result<(), Fail> {
+    let mut plan = Plan::new(rt.alloc(), config(0));
+    plan.push(Step::Collector(CollectorStep::Begin))?;
+    plan.push(Step::Mutator(Op {
+        mutator: 0,
+        action: new(0, 0, 0),
+    }))?;
+    assert_eq!(rt; plan.steps().len(), 2);
+    assert_eq!(rt; plan.config().regions, 4);
+    Ok(())
+}

@@ -1,0 +1,24 @@
+use Rattle.std.proofs.Common.{arith, sym, subst, ◌≡◌, ◌*◌, length, replicate, ℕ, List, refl, ap, ◌∙◌}
+use Rattle.std.proofs.lemmas.List.{length-replicate}
+use Rattle.regions.proofs.Making.{new_table, free_table-unmoved}
+use Rattle.regions.specs.Table.{HasNoMoved}
+use Rattle.regions.proofs.table.RegionTable.new.Goals as goal
+
+pub invariant_of-result : goal.invariant_of-result
+invariant_of-result c =
+    let s = c.in_ok-check.ensures.suits.0 refl in
+    let long : length c.in-Ok.words ≡ c.args.config.now.regions * c.args.config.now.words = ap (λ (ws : List ℕ). length ws) c.in-Ok.ensures ∙ length-replicate {A = ℕ} _ 0 in
+    (new_table c.args.config.now.words c.args.config.now.regions _ _ (omega (arith, s.words.at_least)) (omega (arith, s.words.at_most)) long s.words.in_all c.in-Ok-free_rows.ensures).is_table
+
+pub returns-clause-made : goal.returns-clause-made
+returns-clause-made c =
+    let s = c.in_ok-check.ensures.suits.0 refl in
+    let long : length c.in-Ok.words ≡ c.args.config.now.regions * c.args.config.now.words = ap (λ (ws : List ℕ). length ws) c.in-Ok.ensures ∙ length-replicate {A = ℕ} _ 0 in
+    (new_table c.args.config.now.words c.args.config.now.regions _ _ (omega (arith, s.words.at_least)) (omega (arith, s.words.at_most)) long s.words.in_all c.in-Ok-free_rows.ensures).table_is
+
+pub returns-clause-unmoved : goal.returns-clause-unmoved
+returns-clause-unmoved c =
+    let s = c.in_ok-check.ensures.suits.0 refl in
+    let long : length c.in-Ok.words ≡ c.args.config.now.regions * c.args.config.now.words = ap (λ (ws : List ℕ). length ws) c.in-Ok.ensures ∙ length-replicate {A = ℕ} _ 0 in
+    let made = (new_table c.args.config.now.words c.args.config.now.regions _ _ (omega (arith, s.words.at_least)) (omega (arith, s.words.at_most)) long s.words.in_all c.in-Ok-free_rows.ensures).table_is in
+    subst HasNoMoved (sym made) (free_table-unmoved c.args.config.now.regions c.args.config.now.words)

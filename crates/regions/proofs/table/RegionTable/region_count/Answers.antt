@@ -1,0 +1,11 @@
+use Rattle.std.proofs.Common.{◌≡◌, arith, length, sym, ap, ◌∙◌}
+use Rattle.regions.specs.Table.{Table}
+use Rattle.regions.specs.Rows.{sizes_in}
+use Rattle.regions.proofs.Making.{length-regions_of}
+use Rattle.regions.proofs.RunGone.{rows_small}
+use Rattle.regions.proofs.table.RegionTable.region_count.Goals as goal
+
+pub returns : goal.returns
+returns c =
+    let count : length c.args.self.now.regions ≡ length c.self.inside.rows.items = ap (λ (u : Table). length u.regions) (sym c.self.view_is) ∙ length-regions_of (sizes_in c.self.inside.words) c.self.inside.words_per_region c.self.inside.rows.items c.self.inside.words in
+    omega (arith, count)

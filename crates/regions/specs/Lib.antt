@@ -1,0 +1,6 @@
+pub mod Tiles
+pub mod Table
+pub mod Shapes
+pub mod Walks
+pub mod Shaped
+pub mod Rows

@@ -1,0 +1,149 @@
+-- How the words of the heap are read as regions.
+use Rattle.std.specs.Prelude.{◌≡◌, ℕ, zero, suc, ◌+◌, ◌-◌, ◌*◌, ◌^◌, ◌<◌, ◌≤◌, min, Bool, true, false, Option, Some, None, List, [], ◌∷◌, length, take, drop, slice_index, slice_set}
+use Rattle.heap_words.specs.declared.header.Header.{Header}
+use Rattle.heap_words.specs.declared.header.Header.TheVariants.{Object, Filler, Forwarded}
+use Rattle.heap_words.specs.Headers.{header_of, header_word}
+use Rattle.heap_model.specs.Heap.{Stored}
+use Rattle.regions.specs.Tiles.{stored_of, tiles, IsTiled}
+use Rattle.regions.specs.Table.{Region, Free, Ordinary, First, Rest, Table, HasTargets}
+use Rattle.regions.specs.declared.row.Row.{Row}
+use Rattle.regions.specs.declared.row.Kind.{Kind}
+use Rattle.regions.specs.declared.row.Kind.TheVariants as kinds
+
+abbrev pub object_size : Option Header → ℕ
+object_size None = 1
+object_size (Some (Object p d)) = 2 + p + d
+object_size (Some (Filler n)) = 1
+object_size (Some (Forwarded to)) = 1
+
+-- the size of the object at an address
+abbrev pub sizes_in : List ℕ → ℕ → ℕ
+sizes_in words a = object_size (header_of (slice_index words a))
+
+-- where a header's object went
+abbrev pub header_target : Option Header → Option ℕ
+header_target None = None
+header_target (Some (Object p d)) = None
+header_target (Some (Filler n)) = None
+header_target (Some (Forwarded to)) = Some to
+
+abbrev pub stored_by : List ℕ → Option Header → Stored
+stored_by ws None = stored_of 0 0 ws
+stored_by ws (Some (Object p d)) = stored_of p d ws
+stored_by ws (Some (Filler n)) = stored_of 0 0 ws
+stored_by ws (Some (Forwarded to)) = stored_of 0 0 ws
+
+abbrev pub first_stored : List ℕ → Stored
+first_stored [] = stored_of 0 0 []
+first_stored (w ∷ ws) = stored_by ws (header_of w)
+
+-- the region whose words begin ws
+abbrev pub region_by : (ℕ → ℕ) → List ℕ → ℕ → Kind → Region
+region_by sizes ws used kinds.Free = Free
+region_by sizes ws used kinds.Ordinary = Ordinary (tiles sizes 0 (take used ws))
+region_by sizes ws used kinds.First = First (first_stored ws)
+region_by sizes ws used kinds.Rest = Rest used
+
+abbrev pub region_of : (ℕ → ℕ) → List ℕ → Row → Region
+region_of sizes ws row = region_by sizes ws row.used row.kind
+
+abbrev pub regions_of : (ℕ → ℕ) → ℕ → List ℕ → List Row → List Region
+regions_of sizes size ws [] = []
+regions_of sizes size ws (row ∷ rows) = region_of sizes ws row ∷ regions_of sizes size (drop size ws) rows
+
+abbrev pub IsObject : Option Header → Type 0
+IsObject None = ⊥
+IsObject (Some (Object p d)) = Unit {0}
+IsObject (Some (Filler n)) = ⊥
+IsObject (Some (Forwarded to)) = ⊥
+
+-- a row that begins no later than its region, and how many words of its object lie in the next ones
+abbrev pub IsRow : (ℕ → ℕ) → ℕ → List ℕ → ℕ → Kind → Type 0
+IsRow sizes size ws used kinds.Free = used ≡ 0
+IsRow sizes size ws used kinds.Ordinary = (used ≤ size) × IsTiled sizes 0 (take used ws)
+IsRow sizes size ws used kinds.First = IsObject (header_of (slice_index ws 0)) × (used ≡ min size (object_size (header_of (slice_index ws 0))))
+IsRow sizes size ws used kinds.Rest = ⊥
+
+abbrev pub IsRestRow : ℕ → ℕ → ℕ → Kind → Type 0
+IsRestRow size left used kinds.Free = ⊥
+IsRestRow size left used kinds.Ordinary = ⊥
+IsRestRow size left used kinds.First = ⊥
+IsRestRow size left used kinds.Rest = used ≡ min size left
+
+-- the words of a humongous object behind its first region
+abbrev pub left_by : ℕ → List ℕ → Kind → ℕ
+left_by size ws kinds.Free = 0
+left_by size ws kinds.Ordinary = 0
+left_by size ws kinds.First = object_size (header_of (slice_index ws 0)) - size
+left_by size ws kinds.Rest = 0
+
+-- rows are right, the first `left` words belonging to an object that began before them
+abbrev pub AreRows : (ℕ → ℕ) → ℕ → ℕ → List ℕ → List Row → Type 0
+AreRows sizes size left ws [] = left ≡ 0
+AreRows sizes size zero ws (row ∷ rows) = IsRow sizes size ws row.used row.kind × AreRows sizes size (left_by size ws row.kind) (drop size ws) rows
+AreRows sizes size (suc left) ws (row ∷ rows) = IsRestRow size (suc left) row.used row.kind × AreRows sizes size (suc left - size) (drop size ws) rows
+
+abbrev pub table_of : ℕ → List ℕ → List Row → Table
+table_of size words rows = record { words_per_region = size; regions = regions_of (sizes_in words) size words rows }
+
+abbrev pub table_by : (ℕ → ℕ) → ℕ → List ℕ → List Row → Table
+table_by f size words rows = record { words_per_region = size; regions = regions_of f size words rows }
+
+pub record IsTableBy (f : ℕ → ℕ) (size : ℕ) (words : List ℕ) (rows : List Row) : Type 0 where
+  pub region_size : (0 < size) × (size ≤ 2 ^ 12)
+  pub covers : length words ≡ length rows * size
+  pub small : length words ≤ 2 ^ 20
+  pub rows_right : AreRows f size 0 words rows
+
+pub record IsTable (size : ℕ) (words : List ℕ) (rows : List Row) : Type 0 where
+  pub region_size : (0 < size) × (size ≤ 2 ^ 12)
+  pub covers : length words ≡ length rows * size
+  pub small : length words ≤ 2 ^ 20
+  pub rows_right : AreRows (sizes_in words) size 0 words rows
+  pub targets : HasTargets (table_of size words rows)
+
+abbrev pub kind_is_free : Kind → Bool
+kind_is_free kinds.Free = true
+kind_is_free kinds.Ordinary = false
+kind_is_free kinds.First = false
+kind_is_free kinds.Rest = false
+
+-- the row of a free region
+abbrev pub free_row : Row
+free_row = record { kind = kinds.Free; used = 0 }
+
+abbrev pub run_kind : ℕ → Kind
+run_kind zero = kinds.First
+run_kind (suc i) = kinds.Rest
+
+-- the row of the i-th region of an object of s words
+abbrev pub run_row : ℕ → ℕ → ℕ → Row
+run_row size s i = record { kind = run_kind i; used = min size (s - i * size) }
+
+-- the rows i and so on of an object of s words, m of them
+abbrev pub run_rows : ℕ → ℕ → ℕ → ℕ → List Row
+run_rows size s i zero = []
+run_rows size s i (suc m) = run_row size s i ∷ run_rows size s (suc i) m
+
+abbrev pub kind_is_rest : Kind → Bool
+kind_is_rest kinds.Free = false
+kind_is_rest kinds.Ordinary = false
+kind_is_rest kinds.First = false
+kind_is_rest kinds.Rest = true
+
+-- the words with a filler's header at n, unless it has no words
+abbrev pub put_gap : List ℕ → ℕ → ℕ → List ℕ
+put_gap words n zero = words
+put_gap words n (suc m) = slice_set words n (header_word (Filler (suc m)))
+
+-- how many data words a header's object has
+abbrev pub value_count : Option Header → ℕ
+value_count None = 0
+value_count (Some (Object p d)) = d
+value_count (Some (Filler n)) = 0
+value_count (Some (Forwarded to)) = 0
+
+-- the address, if there is one, is below the limit
+abbrev pub IsBelow : Option ℕ → ℕ → Type 0
+IsBelow None n = Unit {0}
+IsBelow (Some a) n = a < n

@@ -1,0 +1,31 @@
+-- What the value of every table meets beside what its type says.
+use Rattle.std.specs.Prelude.{◌≡◌, ℕ, ◌+◌, ◌-◌, ◌*◌, ◌^◌, ◌<◌, ◌≤◌, Some, length, min}
+use Rattle.heap_model.specs.Heap.{Stored}
+use Rattle.regions.specs.Tiles.{Tile, Live, tile_size}
+use Rattle.regions.specs.Table.{Table, First, Rest, region_number, kind_of, tile_in, AreTargetsRight}
+use Rattle.regions.specs.Walks.{AreFitting}
+use Rattle.regions.specs.declared.row.Kind.TheVariants as kinds
+
+-- region k is the later region of a run, j regions behind its first, and n of its words are the object's
+pub record IsLater (t : Table) (k n : ℕ) : Type 0 where
+  pub first : ℕ
+  pub later : ℕ
+  pub object : Stored
+  pub number : first + later ≡ k
+  pub behind : 0 < later
+  pub begins : region_number t first ≡ First object
+  pub reaches : later * t.words_per_region < tile_size (Live object)
+  pub words : n ≡ min t.words_per_region (tile_size (Live object) - later * t.words_per_region)
+
+-- what is known of every table
+pub record IsShaped (t : Table) : Type 0 where
+  pub positive : 0 < t.words_per_region
+  pub small : t.words_per_region ≤ 2 ^ 12
+  pub in_all : length t.regions * t.words_per_region ≤ 2 ^ 20
+  pub fitting : AreFitting t
+  -- each tile's words lie in the heap
+  pub within : (a : ℕ) (tile : Tile) → tile_in t a ≡ Some tile → a + tile_size tile ≤ length t.regions * t.words_per_region
+  -- the regions that a run reaches are its later ones, and there are no others
+  pub run : (k j : ℕ) (object : Stored) → region_number t k ≡ First object → 0 < j → j * t.words_per_region < tile_size (Live object) → kind_of t (k + j) ≡ kinds.Rest
+  pub later : (k n : ℕ) → region_number t k ≡ Rest n → IsLater t k n
+  pub targets : AreTargetsRight t

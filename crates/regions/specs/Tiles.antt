@@ -1,0 +1,63 @@
+-- Tiles: what the words of a region say, from its bottom to its top.
+use Rattle.std.specs.Prelude.{◌≡◌, ℕ, zero, suc, ◌+◌, ◌-◌, ◌<◌, Option, Some, None, List, [], ◌∷◌, ◌++◌, length, take, drop, map, slice_index, if◌then◌else◌, nat_le, IsSome}
+use Rattle.heap_model.specs.Heap.{Stored}
+use Rattle.heap_words.specs.declared.header.Header.{Header}
+use Rattle.heap_words.specs.declared.header.Header.TheVariants.{Object, Filler, Forwarded}
+use Rattle.heap_words.specs.Headers.{header_of, pointer_of}
+
+-- an object, a filler of so many words, or an object that went to an address, of so many words
+pub data Tile : Type 0 where
+  Live : Stored → Tile
+  Gap : ℕ → Tile
+  Moved : ℕ → ℕ → Tile
+
+abbrev pub tile_size : Tile → ℕ
+tile_size (Live s) = 2 + length s.pointers + length s.values
+tile_size (Gap n) = n
+tile_size (Moved to n) = n
+
+-- the words of tiles
+abbrev pub total_size : List Tile → ℕ
+total_size [] = 0
+total_size (t ∷ ts) = tile_size t + total_size ts
+
+-- the tile that starts at an offset from the first one
+abbrev pub tile_at : ℕ → List Tile → Option Tile
+tile_at o [] = None
+tile_at zero (t ∷ ts) = Some t
+tile_at (suc o) (t ∷ ts) = if nat_le (tile_size t) (suc o) then tile_at (suc o - tile_size t) ts else None
+
+-- the tile that starts at an offset gives way to these
+abbrev pub replace : ℕ → List Tile → List Tile → List Tile
+replace o new [] = []
+replace zero new (t ∷ ts) = new ++ ts
+replace (suc o) new (t ∷ ts) = t ∷ replace (suc o - tile_size t) new ts
+
+-- the object of a header with p pointers and d data words, the rest of its words first in ws
+abbrev pub stored_of : ℕ → ℕ → List ℕ → Stored
+stored_of p d ws = record { name = slice_index ws 0; pointers = map pointer_of (take p (drop 1 ws)); values = take d (drop (suc p) ws) }
+
+-- sizes: the size of the object at an address, for what was moved there
+abbrev pub tile_by : (ℕ → ℕ) → List ℕ → Option Header → Tile
+tile_by sizes ws None = Gap 1
+tile_by sizes ws (Some (Object p d)) = Live (stored_of p d ws)
+tile_by sizes ws (Some (Filler n)) = Gap n
+tile_by sizes ws (Some (Forwarded to)) = Moved to (sizes to)
+
+abbrev pub size_by : (ℕ → ℕ) → Option Header → ℕ
+size_by sizes None = 1
+size_by sizes (Some (Object p d)) = 2 + p + d
+size_by sizes (Some (Filler n)) = n
+size_by sizes (Some (Forwarded to)) = sizes to
+
+-- the tiles of words, the first k of which belong to a tile that began before them
+abbrev pub tiles : (ℕ → ℕ) → ℕ → List ℕ → List Tile
+tiles sizes k [] = []
+tiles sizes zero (w ∷ ws) = tile_by sizes ws (header_of w) ∷ tiles sizes (size_by sizes (header_of w) - 1) ws
+tiles sizes (suc k) (w ∷ ws) = tiles sizes k ws
+
+-- tiles follow one another exactly to the end
+abbrev pub IsTiled : (ℕ → ℕ) → ℕ → List ℕ → Type 0
+IsTiled sizes k [] = k ≡ 0
+IsTiled sizes zero (w ∷ ws) = IsSome (header_of w) × (0 < size_by sizes (header_of w)) × IsTiled sizes (size_by sizes (header_of w) - 1) ws
+IsTiled sizes (suc k) (w ∷ ws) = IsTiled sizes k ws

@@ -1,0 +1,120 @@
+//! Reads and writes of objects: each is one access to a word or two, and no walk.
+ghost use Rattle.std.specs.Prelude.{◌≡◌, ◌+◌, ◌<◌, length, slice_get, Some, IsSome, IfSome};
+ghost use Rattle.heap_words.specs.Contents.{header_at, pointer_count_at};
+ghost use Rattle.regions.specs.Table.{object_at, object_words, pointers_at, values_at, set_pointer, set_value, tile_in, moved_to};
+ghost use Rattle.regions.specs.Rows.{header_target, value_count};
+
+use crate::table::{RegionTable, size_at};
+use heap_words::addr::{Addr, Ptr};
+use heap_words::header::Header;
+use heap_words::words::Words;
+
+/// How many pointers the object at an address has, 0 where there is none.
+fn pointers_in(words: &Words, at: Addr) -> u32
+    requires { at < length words.now }
+    ensures { result ≡ pointer_count_at words.now at }
+{
+    match words.object_at(at) {
+        Some(counts) => counts.pointers.get(),
+        None => 0,
+    }
+}
+
+/// How many data words the object at an address has, 0 where there is none.
+fn values_in(words: &Words, at: Addr) -> u32
+    requires { at < length words.now }
+    ensures { result ≡ value_count (header_at words.now at) }
+{
+    match words.object_at(at) {
+        Some(counts) => counts.values.get(),
+        None => 0,
+    }
+}
+
+/// Where the object at an address went, if it is forwarded.
+fn target_in(words: &Words, at: Addr) -> Option<Addr>
+    requires { at < length words.now }
+    ensures { result ≡ header_target (header_at words.now at) }
+{
+    match words.header(at) {
+        Some(header) => match header {
+            Header::Forwarded { to } => Some(to),
+            Header::Object { .. } | Header::Filler { .. } => None,
+        },
+        None => None,
+    }
+}
+
+impl RegionTable {
+    /// The name of the object at an address.
+    pub fn name(&self, object: Addr) -> u64
+        requires { IsSome (object_at self.now object) }
+        ensures { IfSome (object_at self.now object) (λ s. result ≡ s.name) }
+    {
+        self.words.name(object)
+    }
+
+    /// How many pointers the object at an address has.
+    pub fn pointer_count(&self, object: Addr) -> u32
+        requires { IsSome (object_at self.now object) }
+        ensures { result ≡ length (pointers_at self.now object) }
+    {
+        pointers_in(&self.words, object)
+    }
+
+    /// How many data words the object at an address has.
+    pub fn value_count(&self, object: Addr) -> u32
+        requires { IsSome (object_at self.now object) }
+        ensures { result ≡ length (values_at self.now object) }
+    {
+        values_in(&self.words, object)
+    }
+
+    /// How many words the object at an address has, with its header and its name.
+    pub fn object_size(&self, object: Addr) -> u32
+        requires { IsSome (object_at self.now object) }
+        ensures { result ≡ object_words self.now object }
+    {
+        size_at(&self.words, object)
+    }
+
+    /// A pointer of the object at an address.
+    pub fn get_ptr(&self, object: Addr, field: u32) -> Ptr
+        requires { field < length (pointers_at self.now object) }
+        ensures { slice_get (pointers_at self.now object) field ≡ Some result }
+    {
+        self.words.get_ptr(object, field)
+    }
+
+    /// Stores a pointer in the object at an address.
+    pub fn set_ptr(&mut self, object: Addr, field: u32, target: Ptr)
+        requires { field < length (pointers_at self.old object) }
+        ensures { self.new ≡ set_pointer self.old object field target }
+    {
+        self.words.set_ptr(object, field, target);
+    }
+
+    /// A data word of the object at an address.
+    pub fn get_data(&self, object: Addr, field: u32) -> u64
+        requires { field < length (values_at self.now object) }
+        ensures { slice_get (values_at self.now object) field ≡ Some result }
+    {
+        self.words.get_data(object, field)
+    }
+
+    /// Stores a data word in the object at an address.
+    pub fn set_data(&mut self, object: Addr, field: u32, value: u64)
+        requires { field < length (values_at self.old object) }
+        ensures { self.new ≡ set_value self.old object field value }
+    {
+        self.words.set_data(object, field, value);
+    }
+
+    /// Where the tile at an address went, if it is an object that was forwarded.
+    pub fn target(&self, at: Addr) -> Option<Addr>
+        requires { IsSome (tile_in self.now at) }
+        ensures { result ≡ moved_to (tile_in self.now at) }
+    {
+        target_in(&self.words, at)
+    }
+}

@@ -1,0 +1,85 @@
+//! Runs: adjacent regions that hold one humongous object.
+ghost use Rattle.std.specs.Prelude.{◌≡◌, ◌+◌, ◌*◌, ◌<◌, ◌≤◌, ◌^◌, length, Some};
+ghost use lib.Seq.{paste};
+ghost use Rattle.regions.specs.Table.{first_run, is_free as region_is_free, new_object, run_regions, with_regions, with_run};
+ghost use Rattle.regions.specs.Rows.{kind_is_free, run_rows};
+
+use crate::row::{Kind, Row, is_free};
+use crate::table::RegionTable;
+use heap_words::addr::{Addr, RegionNo};
+use heap_words::header::Counts;
+
+/// The lowest place from which `count` rows are free.
+fn lowest_run(rows: &[Row], count: usize) -> Option<usize>
+    requires { 0 < count }
+    ensures { result ≡ first_run (λ row. kind_is_free row.kind) count rows.now }
+{
+    let mut start = 0;
+    for i in 0..rows.len() {
+        if is_free(&rows[i]) {
+            if i + 1 - start == count {
+                return Some(start);
+            }
+        } else {
+            start = i + 1;
+        }
+    }
+    None
+}
+
+/// Writes the rows of a humongous object of `words` words, in regions of `size` words.
+fn write_run(rows: &mut [Row], at: usize, count: u32, size: u32, words: u32)
+    requires within { at + count ≤ length rows.old }
+    requires small { count * size ≤ 2 ^ 20 }
+    ensures { rows.new ≡ paste rows.old at (run_rows size words 0 count) count }
+{
+    for i in 0..count {
+        let kind = if i == 0 { Kind::First } else { Kind::Rest };
+        let before = i * size;
+        rows[at + i as usize] = Row {
+            kind,
+            used: size.min(words.saturating_sub(before)),
+        };
+    }
+}
+
+impl RegionTable {
+    /// The lowest run of `count` free regions, by its first region.
+    pub fn free_run(&self, count: u32) -> Option<RegionNo>
+        requires { 0 < count }
+        ensures { result ≡ first_run region_is_free count self.now.regions }
+    {
+        let at = lowest_run(&self.rows, count as usize)?;
+        Some(RegionNo::new(at as u32))
+    }
+
+    /// Makes a humongous object at the bottom of the run of `count` free regions that `free_run` found.
+    /// Its pointers are nil and its data words 0, and it ends in the last of the regions.
+    pub fn make_run(&mut self, first: RegionNo, count: u32, name: u64, counts: Counts)
+        requires positive { 0 < count }
+        requires lowest { first_run region_is_free count self.old.regions ≡ Some first }
+        requires covers { 2 + counts.pointers + counts.values ≤ count * self.old.words_per_region }
+        requires tight { count * self.old.words_per_region < 2 + counts.pointers + counts.values + self.old.words_per_region }
+        ensures { self.new ≡ with_regions self.old first count (run_regions self.old.words_per_region (new_object name counts.pointers counts.values) count) }
+    {
+        let size = 2 + counts.pointers.get() + counts.values.get();
+        let bottom = first.number() * self.words_per_region;
+        self.words.write_object(Addr::new(bottom), name, counts);
+        let at = first.number() as usize;
+        write_run(&mut self.rows, at, count, self.words_per_region, size);
+    }
+
+    /// Makes a humongous object in the lowest run of `count` free regions, and answers its first region;
+    /// none where there is no such run, and then nothing changed.
+    pub fn take_run(&mut self, count: u32, name: u64, counts: Counts) -> Option<RegionNo>
+        requires positive { 0 < count }
+        requires covers { 2 + counts.pointers + counts.values ≤ count * self.old.words_per_region }
+        requires tight { count * self.old.words_per_region < 2 + counts.pointers + counts.values + self.old.words_per_region }
+        ensures lowest { result ≡ first_run region_is_free count self.old.regions }
+        ensures taken { self.new ≡ with_run self.old count (new_object name counts.pointers counts.values) (first_run region_is_free count self.old.regions) }
+    {
+        let first = self.free_run(count)?;
+        self.make_run(first, count, name, counts);
+        Some(first)
+    }
+}

@@ -1,0 +1,152 @@
+//! The table: making it, and what is asked of its regions.
+ghost use Rattle.std.specs.Prelude.{◌≡◌, ◌+◌, ◌<◌, ◌^◌, length, nat_le, slice_index, IsOk, IfOk, IfErr, IsSome, IfSome};
+ghost use Rattle.heap_words.specs.Configs.{Suits, IsNewFault};
+ghost use Rattle.heap_words.specs.Contents.{header_at};
+ghost use Rattle.regions.specs.Table.{free_table, kind_of, used_of, top_of, tile_in, HasNoMoved};
+ghost use Rattle.regions.specs.Rows.{sizes_in, IsBelow, object_size, header_target};
+ghost use Rattle.regions.specs.Shapes.{tile_shape, shape_by};
+ghost use Rattle.regions.specs.Shaped.{IsShaped};
+ghost use Rattle.regions.specs.declared.row.Kind.TheVariants as kinds;
+
+use crate::row::{Kind, Row, Shape, free_rows};
+use heap_words::addr::{Addr, RegionNo};
+use heap_words::config::{Config, NewFault};
+use heap_words::header::{Counts, Header};
+use heap_words::words::Words;
+use std::alloc::Global;
+use std::marker::Model;
+
+/// The regions of a heap with their words. Clauses see a table of tiles, and no word.
+#[derive(Drop)]
+pub struct RegionTable {
+    pub(crate) words: Words,
+    pub(crate) rows: Vec<Row>,
+    pub(crate) words_per_region: u32,
+}
+
+impl Model for RegionTable {
+    ghost use Rattle.regions.specs.Table.{Table};
+
+    ghost Value = { Table };
+
+    ghost use Rattle.regions.specs.Rows.{table_of, IsTable};
+
+    ghost view = { λ a. table_of a.words_per_region a.words a.rows.items };
+
+    ghost invariant = { λ a. IsTable a.words_per_region a.words a.rows.items };
+}
+
+/// The size of the object at an address, 1 where there is none.
+#[tactic(auto, unfolding(heap_words::specs::Headers::header_of))]
+pub(crate) fn size_at(words: &Words, at: Addr) -> u32
+    requires { at < length words.now }
+    ensures { result ≡ sizes_in words.now at }
+{
+    match words.object_at(at) {
+        Some(counts) => 2 + counts.pointers.get() + counts.values.get(),
+        None => 1,
+    }
+}
+
+/// What the tile at an address is.
+pub(crate) fn shape_at(words: &Words, at: Addr) -> Shape
+    requires known { at < length words.now }
+    requires target { IsBelow (header_target (header_at words.now at)) (length words.now) }
+    ensures { result ≡ shape_by (sizes_in words.now) (header_at words.now at) }
+{
+    match words.header(at) {
+        Some(header) => match header {
+            Header::Object { pointers, data } => Shape::Object {
+                pointers,
+                values: data,
+            },
+            Header::Filler { size } => Shape::Filler { size: size.get() },
+            Header::Forwarded { to } => Shape::Moved {
+                to,
+                size: size_at(words, to),
+            },
+        },
+        None => Shape::Filler { size: 1 },
+    }
+}
+
+impl RegionTable {
+    /// A table of free regions, as many and as large as the configuration says.
+    /// The fault is the configuration's first, or that memory was refused.
+    pub fn new(alloc: Global, config: &Config) -> Result<RegionTable, NewFault>
+        ensures suits { IsOk result → Suits config.now }
+        ensures made { IfOk result (λ t. t ≡ free_table config.now.regions config.now.words) }
+        ensures fault { IfErr result (IsNewFault config.now) }
+        ensures unmoved { IfOk result HasNoMoved }
+    {
+        config.check()?;
+        let count = config.regions as usize * config.words as usize;
+        let Ok(words) = Words::new(alloc, count) else {
+            return Err(NewFault::NoMemory);
+        };
+        let Ok(rows) = free_rows(alloc, config.regions as usize) else {
+            return Err(NewFault::NoMemory);
+        };
+        Ok(RegionTable {
+            words,
+            rows,
+            words_per_region: config.words,
+        })
+    }
+
+    /// What is known of every table. It costs nothing.
+    pub fn law(&self)
+        ensures { IsShaped self.now }
+    {
+        let _ = &self.words_per_region;
+    }
+
+    /// How many words a region has.
+    pub fn words_per_region(&self) -> u32
+        ensures { result ≡ self.now.words_per_region }
+    {
+        self.words_per_region
+    }
+
+    /// How many regions there are.
+    pub fn region_count(&self) -> u32
+        ensures { result ≡ length self.now.regions }
+    {
+        self.rows.len() as u32
+    }
+
+    pub fn kind(&self, region: RegionNo) -> Kind
+        requires { region < length self.now.regions }
+        ensures { result ≡ kind_of self.now region }
+    {
+        self.rows[region.number() as usize].kind
+    }
+
+    /// The address behind the words of a region that are handed out: a free region's bottom, an ordinary one's
+    /// end of its tiles. In a run it is the end of the object or of the region, whichever comes first.
+    pub fn top(&self, region: RegionNo) -> Addr
+        requires { region < length self.now.regions }
+        ensures { result ≡ top_of self.now region }
+    {
+        let number = region.number();
+        Addr::new(number * self.words_per_region + self.rows[number as usize].used)
+    }
+
+    /// Whether so many words are left above the top of an ordinary region.
+    pub fn has_room(&self, region: RegionNo, size: u32) -> bool
+        requires known { region < length self.now.regions }
+        requires ordinary { kind_of self.now region ≡ kinds.Ordinary }
+        ensures { result ≡ nat_le (used_of self.now region + size) self.now.words_per_region }
+    {
+        let used = self.rows[region.number() as usize].used;
+        u64::from(used) + u64::from(size) <= u64::from(self.words_per_region)
+    }
+
+    /// The tile that starts at an address.
+    pub fn tile(&self, at: Addr) -> Shape
+        requires { IsSome (tile_in self.now at) }
+        ensures { IfSome (tile_in self.now at) (λ t. result ≡ tile_shape t) }
+    {
+        shape_at(&self.words, at)
+    }
+}

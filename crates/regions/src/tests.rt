@@ -1,0 +1,165 @@
+ghost use Rattle.std.specs.Prelude.{◌≡◌, ◌<◌, ◌^◌, length, IfOk, IsSome};
+ghost use Rattle.regions.specs.Table.{free_table, object_at, pointers_at, values_at};
+
+use crate::row::{Kind, Shape};
+use crate::table::RegionTable;
+use heap_words::addr::{Addr, Ptr, RegionNo};
+use heap_words::config::{Config, NewFault};
+use heap_words::header::{Count, Counts, FillerSize};
+use std::alloc::Global;
+use std::test::Fail;
+
+fn counts(pointers: u32, values: u32) -> Counts
+    requires pointers { pointers < 2 ^ 24 }
+    requires values { values < 2 ^ 24 }
+    ensures pointers_are { result.pointers ≡ pointers }
+    ensures values_are { result.values ≡ values }
+{
+    Counts {
+        pointers: Count::new(pointers),
+        values: Count::new(values),
+    }
+}
+
+/// Four free regions of 16 words.
+fn small_table(alloc: Global) -> Result<RegionTable, NewFault>
+    ensures { IfOk result (λ t. t ≡ free_table 4 16) }
+{
+    let config = Config {
+        regions: 4,
+        words: 16,
+        buffer: 8,
+        mutators: 1,
+        first_name: 0,
+    };
+    RegionTable::new(alloc, &config)
+}
+
+/// An object's name, its counts and its size.
+fn about(table: &RegionTable, object: Addr) -> (u64, u32, u32, u32)
+    requires { IsSome (object_at table.now object) }
+{
+    (
+        table.name(object),
+        table.pointer_count(object),
+        table.value_count(object),
+        table.object_size(object),
+    )
+}
+
+/// An object's first pointer and its first data word.
+fn fields(table: &RegionTable, object: Addr) -> (Ptr, u64)
+    requires pointers { 0 < length (pointers_at table.now object) }
+    requires values { 0 < length (values_at table.now object) }
+{
+    (table.get_ptr(object, 0), table.get_data(object, 0))
+}
+
+#[test]
+fn makes_what_suits(rt: HostRuntime) {
+    for (sizes, fault) in [
+        ((2, 16, 4, 1), None),
+        ((1024, 1024, 8, 16), None),
+        ((1, 16, 4, 1), Some(NewFault::BadRegions)),
+        ((2, 24, 4, 1), Some(NewFault::BadWords)),
+        ((512, 4096, 4, 1), Some(NewFault::BadWords)),
+        ((2, 16, 9, 1), Some(NewFault::BadBuffer)),
+        ((2, 16, 4, 0), Some(NewFault::BadMutators)),
+    ] {
+        let (regions, words, buffer, mutators) = sizes;
+        let config = Config {
+            regions,
+            words,
+            buffer,
+            mutators,
+            first_name: 0,
+        };
+        match RegionTable::new(rt.alloc(), &config) {
+            Ok(table) => {
+                assert_eq!(rt; fault, None);
+                assert_eq!(rt; table.region_count(), regions);
+                assert_eq!(rt; table.words_per_region(), words);
+            }
+            Err(found) => assert_eq!(rt; Some(found), fault),
+        }
+    }
+}
+
+/// A region is taken, a filler cut and split, and an object made in it.
+#[test]
+fn fills_a_region(rt: HostRuntime) -> Result<(), Fail> {
+    let Ok(mut table) = small_table(rt.alloc()) else {
+        return Err(Fail::from("a table is made"));
+    };
+    let region = RegionNo::new(0);
+    let object = Addr::new(0);
+    let rest = Addr::new(5);
+    assert_eq!(rt; table.take_free(), Some(region));
+    assert_eq!(rt; table.push_filler(region, FillerSize::new(10)), object);
+    assert_eq!(rt; table.split_filler(object, FillerSize::new(10), FillerSize::new(5)), rest);
+    table.make_object(object, FillerSize::new(5), 7, counts(1, 1));
+    table.set_ptr(object, 0, Some(rest));
+    table.set_data(object, 0, 9);
+    assert_eq!(rt; about(&table, object), (7, 1, 1, 4));
+    assert_eq!(rt; fields(&table, object), (Some(rest), 9));
+    assert!(rt; table.has_room(region, 6));
+    assert!(rt; !table.has_room(region, 7));
+    let mut end = 0;
+    for (at, shape) in table.walk(region) {
+        assert_eq!(rt; at.word(), end);
+        end = at.word().saturating_add(shape.size());
+    }
+    assert_eq!(rt; end, 10);
+    assert_eq!(rt; table.walk_from(rest).next(), Some((rest, Shape::Filler { size: 5 })));
+    assert_eq!(rt; table.first_tile(Addr::new(4)), Some(Addr::new(4)));
+    assert_eq!(rt; table.first_tile(Addr::new(9)), Some(rest));
+    assert_eq!(rt; table.first_tile(Addr::new(10)), None);
+    Ok(())
+}
+
+/// An object is copied to another region and forwarded, and its old region released.
+#[test]
+fn moves_an_object(rt: HostRuntime) -> Result<(), Fail> {
+    let Ok(mut table) = small_table(rt.alloc()) else {
+        return Err(Fail::from("a table is made"));
+    };
+    let from = RegionNo::new(0);
+    let to = RegionNo::new(1);
+    let object = Addr::new(0);
+    let copy = Addr::new(16);
+    assert_eq!(rt; table.take_free(), Some(from));
+    assert_eq!(rt; table.take_free(), Some(to));
+    assert_eq!(rt; table.push_filler(from, FillerSize::new(4)), object);
+    table.make_object(object, FillerSize::new(4), 7, counts(0, 2));
+    assert_eq!(rt; table.copy_object(object, to), copy);
+    table.forward(object, copy);
+    assert_eq!(rt; table.target(object), Some(copy));
+    assert_eq!(rt; table.tile(object), Shape::Moved { to: copy, size: 4 });
+    table.release(from);
+    assert_eq!(rt; table.kind(from), Kind::Free);
+    assert_eq!(rt; table.top(to), Addr::new(20));
+    Ok(())
+}
+
+/// A humongous object takes two adjacent regions, and both are released with it.
+#[test]
+fn holds_a_run(rt: HostRuntime) -> Result<(), Fail> {
+    let Ok(mut table) = small_table(rt.alloc()) else {
+        return Err(Fail::from("a table is made"));
+    };
+    let first = RegionNo::new(1);
+    let later = RegionNo::new(2);
+    assert_eq!(rt; table.take_free(), Some(RegionNo::new(0)));
+    assert_eq!(rt; table.free_run(4), None);
+    assert_eq!(rt; table.take_run(2, 8, counts(3, 20)), Some(first));
+    assert_eq!(rt; table.kind(first), Kind::First);
+    assert_eq!(rt; table.kind(later), Kind::Rest);
+    assert_eq!(rt; table.top(first), Addr::new(32));
+    assert_eq!(rt; table.top(later), Addr::new(41));
+    assert_eq!(rt; table.first_tile(Addr::new(40)), Some(Addr::new(16)));
+    assert_eq!(rt; table.first_tile(Addr::new(41)), None);
+    table.release(first);
+    assert_eq!(rt; table.kind(first), Kind::Free);
+    assert_eq!(rt; table.kind(later), Kind::Free);
+    Ok(())
+}

@@ -1,0 +1,164 @@
+//! Changes of regions and tiles.
+ghost use Rattle.std.specs.Prelude.{◌≡◌, ◌≢◌, ◌+◌, ◌-◌, ◌/◌, ◌<◌, ◌≤◌, ◌^◌, ◌∷◌, [], length, drop, position, replicate, Some, IsSome};
+ghost use lib.Seq.{paste};
+ghost use Rattle.heap_model.specs.Heap.{Stored};
+ghost use Rattle.regions.specs.Tiles.{Live, Gap, Moved};
+ghost use Rattle.regions.specs.Table.{first_free, taken, kind_of, used_of, top_of, region_at, region_number, IsOrdinary, IsReleasable, released, EachMovedIn, tile_in, object_at, object_words, push_tile, replace_tile, new_object, front_count, gap};
+ghost use Rattle.regions.specs.Rows.{kind_is_free, kind_is_rest, free_row, put_gap};
+ghost use Rattle.regions.specs.declared.row.Kind.TheVariants as kinds;
+
+use crate::row::{Kind, Row, is_free, is_rest};
+use crate::table::RegionTable;
+use heap_words::addr::{Addr, RegionNo};
+use heap_words::header::{Counts, FillerSize};
+use heap_words::words::Words;
+
+fn lowest_free(rows: &[Row]) -> Option<usize>
+    ensures { result ≡ position (λ row. kind_is_free row.kind) rows.now }
+{
+    rows.iter().position(is_free)
+}
+
+/// How many rows from one on are of a run's later regions.
+fn rests_from(rows: &[Row], from: usize) -> usize
+    requires { from ≤ length rows.now }
+    ensures { result ≡ front_count (λ row. kind_is_rest row.kind) (drop from rows.now) }
+{
+    for i in from..rows.len() {
+        if !is_rest(&rows[i]) {
+            return i - from;
+        }
+    }
+    rows.len() - from
+}
+
+/// Makes rows free.
+fn write_free(rows: &mut [Row], at: usize, count: usize)
+    requires { at + count ≤ length rows.old }
+    ensures { rows.new ≡ paste rows.old at (replicate count free_row) count }
+{
+    for i in 0..count {
+        rows[at + i] = Row {
+            kind: Kind::Free,
+            used: 0,
+        };
+    }
+}
+
+/// Writes a filler's header, unless the filler has no words.
+fn write_gap(words: &mut Words, at: u32, size: u32)
+    requires within { at + size ≤ length words.old }
+    requires small { size < 2 ^ 24 }
+    ensures { words.new ≡ put_gap words.old at size }
+{
+    if size > 0 {
+        words.write_filler(Addr::new(at), FillerSize::new(size));
+    }
+}
+
+impl RegionTable {
+    /// Takes the lowest free region, which is ordinary then and has no tiles.
+    pub fn take_free(&mut self) -> Option<RegionNo>
+        ensures lowest { result ≡ first_free self.old }
+        ensures taken { self.new ≡ taken self.old (first_free self.old) }
+    {
+        let at = lowest_free(&self.rows)?;
+        self.rows[at] = Row {
+            kind: Kind::Ordinary,
+            used: 0,
+        };
+        Some(RegionNo::new(at as u32))
+    }
+
+    /// Releases a region, and with the first of a run all its regions.
+    pub fn release(&mut self, region: RegionNo)
+        requires known { region < length self.old.regions }
+        requires releasable { IsReleasable (region_number self.old region) }
+        requires untargeted { EachMovedIn (λ to. region ≢ to / self.old.words_per_region) self.old.regions }
+        ensures { self.new ≡ released self.old region }
+    {
+        let at = region.number() as usize;
+        let rests = rests_from(&self.rows, at + 1);
+        write_free(&mut self.rows, at, rests + 1);
+    }
+
+    /// Puts a filler at the top of an ordinary region, and says where it starts.
+    pub fn push_filler(&mut self, region: RegionNo, size: FillerSize) -> Addr
+        requires known { region < length self.old.regions }
+        requires ordinary { kind_of self.old region ≡ kinds.Ordinary }
+        requires room { used_of self.old region + size ≤ self.old.words_per_region }
+        ensures at { result ≡ top_of self.old region }
+        ensures pushed { self.new ≡ push_tile self.old region (Gap size) }
+    {
+        let more = size.get();
+        let at = self.top(region);
+        self.words.write_filler(at, size);
+        let number = region.number() as usize;
+        let used = self.rows[number].used;
+        self.rows[number] = Row {
+            kind: Kind::Ordinary,
+            used: used + more,
+        };
+        at
+    }
+
+    /// Splits a filler of `filler` words: `size` of them stay at its start, and the rest is a filler of its own
+    /// or nothing. The result is the address of the rest.
+    pub fn split_filler(&mut self, at: Addr, filler: FillerSize, size: FillerSize) -> Addr
+        requires there { tile_in self.old at ≡ Some (Gap filler) }
+        requires room { size ≤ filler }
+        ensures rest { result ≡ at + size }
+        ensures split { self.new ≡ replace_tile self.old at (Gap size ∷ gap (filler - size)) }
+    {
+        let kept = size.get();
+        self.words.write_filler(at, size);
+        let behind = at.word() + kept;
+        write_gap(&mut self.words, behind, filler.get() - kept);
+        Addr::new(behind)
+    }
+
+    /// Makes an object at the start of a filler of `filler` words: its pointers are nil and its data words 0.
+    /// The rest is a filler again or nothing.
+    pub fn make_object(&mut self, at: Addr, filler: FillerSize, name: u64, counts: Counts)
+        requires there { tile_in self.old at ≡ Some (Gap filler) }
+        requires room { 2 + counts.pointers + counts.values ≤ filler }
+        ensures { self.new ≡ replace_tile self.old at (Live (new_object name counts.pointers counts.values) ∷ gap (filler - (2 + counts.pointers + counts.values))) }
+    {
+        let size = 2 + counts.pointers.get() + counts.values.get();
+        self.words.write_object(at, name, counts);
+        write_gap(&mut self.words, at.word() + size, filler.get() - size);
+    }
+
+    /// The object at `from` becomes forwarded to its copy at `to`.
+    pub fn forward(&mut self, from: Addr, to: Addr)
+        requires object { IsSome (object_at self.old from) }
+        requires ordinary { IsOrdinary (region_at self.old from) }
+        requires copy { object_words self.old to ≡ object_words self.old from }
+        requires apart { to ≢ from }
+        requires untargeted { EachMovedIn (λ x. x ≢ from) self.old.regions }
+        ensures { self.new ≡ replace_tile self.old from (Moved to (object_words self.old from) ∷ []) }
+    {
+        self.words.write_forwarded(from, to);
+    }
+
+    /// Puts a copy of the object at `from` at the top of an ordinary region, and says where it starts.
+    pub fn copy_object(&mut self, from: Addr, region: RegionNo) -> Addr
+        requires object { IsSome (object_at self.old from) }
+        requires known { region < length self.old.regions }
+        requires ordinary { kind_of self.old region ≡ kinds.Ordinary }
+        requires room { used_of self.old region + object_words self.old from ≤ self.old.words_per_region }
+        ensures at { result ≡ top_of self.old region }
+        ensures pushed { (s : Stored) → object_at self.old from ≡ Some s → self.new ≡ push_tile self.old region (Live s) }
+    {
+        let at = self.top(region);
+        let size = self.object_size(from);
+        self.words.copy(from, at, size);
+        let number = region.number() as usize;
+        let used = self.rows[number].used;
+        self.rows[number] = Row {
+            kind: Kind::Ordinary,
+            used: used + size,
+        };
+        at
+    }
+}

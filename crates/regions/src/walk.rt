@@ -1,0 +1,154 @@
+//! Walks over a region's tiles, and the tile that holds a word.
+ghost use Rattle.std.specs.Prelude.{◌≡◌, ◌↔◌, ◌+◌, ◌*◌, ◌/◌, ◌%◌, ◌<◌, ◌≤◌, length, IsSome, IsTrue, IfSome};
+ghost use Rattle.std.specs.Iterator.{YieldsFirst, item_count};
+ghost use Rattle.regions.specs.Tiles.{total_size};
+ghost use Rattle.regions.specs.Table.{kind_of, tile_in, top_of};
+ghost use Rattle.regions.specs.declared.row.Kind.TheVariants as kinds;
+ghost use Rattle.regions.specs.Walks.{tiles_of, placed, walk_rest, IsCut, IsWalk, IsTileBehind, IsHolder, IsRunStart};
+
+use crate::row::{Kind, Shape};
+use crate::table::{RegionTable, shape_at, size_at};
+use heap_words::addr::{Addr, RegionNo};
+use std::marker::Model;
+
+/// The tiles of a region in order, each with its address. Clauses see the list of those that are left.
+#[derive(Drop)]
+pub struct Walk<'a> {
+    table: &'a RegionTable,
+    region: RegionNo,
+    offset: u32,
+    end: u32,
+}
+
+impl<'a> Model for Walk<'a> {
+    ghost use Rattle.std.specs.Prelude.{List};
+    ghost use Rattle.heap_words.specs.declared.addr.Addr.{Addr};
+    ghost use Rattle.regions.specs.declared.row.Shape.{Shape};
+    ghost use Rattle.regions.specs.Walks.{walk_rest, IsWalk};
+
+    ghost Value = { List (Addr × Shape) };
+
+    ghost view = { λ w. walk_rest w.table.now w.region w.offset };
+
+    ghost invariant = { λ w. IsWalk w.table.now w.region w.offset w.end };
+}
+
+impl<'a> Iterator for Walk<'a> {
+    type Item = (Addr, Shape);
+
+    ghost next_gives = { YieldsFirst (λ w. w) };
+
+    ghost remaining = { item_count (λ w. w) };
+
+    fn next(&mut self) -> Option<(Addr, Shape)> {
+        if self.offset >= self.end {
+            return None;
+        }
+        let (at, shape, size) = self.table.tile_behind(self.region, self.offset);
+        self.offset += size;
+        Some((at, shape))
+    }
+}
+
+impl RegionTable {
+    /// The tiles that start in a region, from its bottom to its top. The first region of a run has its one object.
+    pub fn walk(&self, region: RegionNo) -> Walk<'_>
+        requires { region < length self.now.regions }
+        ensures { result ≡ placed (region * self.now.words_per_region) (tiles_of self.now region) }
+    {
+        let end = self.tile_words(region);
+        Walk {
+            table: self,
+            region,
+            offset: 0,
+            end,
+        }
+    }
+
+    /// The tiles of a region from the one at an address on, up to the region's top.
+    pub fn walk_from(&self, at: Addr) -> Walk<'_>
+        requires { IsSome (tile_in self.now at) }
+        ensures { result ≡ walk_rest self.now (at / self.now.words_per_region) (at % self.now.words_per_region) }
+    {
+        self.law();
+        let words = self.words_per_region();
+        let region = RegionNo::new(at.word() / words);
+        let end = self.tile_words(region);
+        Walk {
+            table: self,
+            region,
+            offset: at.word() % words,
+            end,
+        }
+    }
+
+    /// Where the tile that holds a word starts: in a run its object. None where the word is at or above its
+    /// region's top.
+    pub fn first_tile(&self, word: Addr) -> Option<Addr>
+        requires { word < length self.now.regions * self.now.words_per_region }
+        ensures found { IsSome result ↔ (word < top_of self.now (word / self.now.words_per_region)) }
+        ensures holder { IfSome result (λ a. IsHolder self.now a word) }
+    {
+        self.law();
+        let region = self.run_start(word.word() / self.words_per_region());
+        for (at, shape) in self.walk(RegionNo::new(region)) {
+            if word.word() < at.word() + shape.size() {
+                return Some(at);
+            }
+        }
+        None
+    }
+
+    /// The region at or below this one where a run that reaches it begins.
+    fn run_start(&self, region: u32) -> u32
+        requires { region < length self.now.regions }
+        ensures { IsRunStart self.now region result }
+    {
+        for back in 0..region {
+            if !self.is_later(region - back) {
+                return region - back;
+            }
+        }
+        0
+    }
+
+    /// Whether a region is a later one of a run.
+    fn is_later(&self, region: u32) -> bool
+        requires { region < length self.now.regions }
+        ensures { IsTrue result ↔ (kind_of self.now region ≡ kinds.Rest) }
+    {
+        match self.kind(RegionNo::new(region)) {
+            Kind::Rest => true,
+            Kind::Free | Kind::Ordinary | Kind::First => false,
+        }
+    }
+
+    /// The tile at an offset of a region, with its address and its size.
+    pub(crate) fn tile_behind(&self, region: RegionNo, offset: u32) -> (Addr, Shape, u32)
+        requires known { region < length self.now.regions }
+        requires cut { IsCut offset (tiles_of self.now region) }
+        requires within { offset < total_size (tiles_of self.now region) }
+        ensures { IsTileBehind self.now region offset result }
+    {
+        let at = Addr::new(region.number() * self.words_per_region + offset);
+        let shape = shape_at(&self.words, at);
+        let size = shape.size();
+        (at, shape, size)
+    }
+
+    /// How many words the tiles have that start in a region.
+    pub(crate) fn tile_words(&self, region: RegionNo) -> u32
+        requires { region < length self.now.regions }
+        ensures { IsWalk self.now region 0 result }
+    {
+        let row = self.rows[region.number() as usize];
+        match row.kind {
+            Kind::Ordinary => row.used,
+            Kind::First => size_at(
+                &self.words,
+                Addr::new(region.number() * self.words_per_region),
+            ),
+            Kind::Free | Kind::Rest => 0,
+        }
+    }
+}

@@ -1,0 +1,118 @@
+-- The collector's steps and heap lines, read from their words.
+use Rattle.std.proofs.Common.{◌≡◌, ℕ, ◌≤◌, true, cond, List, [], ◌∷◌, Some, None, refl, sym, ap, subst, ◌∙◌, inl, inr}
+use Rattle.std.specs.Prelude.{codes}
+use Rattle.std.specs.Fmt.{decimal}
+use Rattle.std.specs.Str.{bytes_eq}
+use Rattle.std.proofs.lemmas.Slice.Eq.{bytes_eq-Decides}
+use Rattle.heap_words.specs.declared.config.Config.{Config}
+use Rattle.object_graph.specs.declared.step.CollectorStep.{CollectorStep}
+use Rattle.object_graph.specs.declared.step.CollectorStep.TheVariants as collector
+use Rattle.script_text.specs.Reading.{◌>>=◌, number_of, small, large, collection_of, heap_of}
+use Rattle.script_text.specs.Fits.{CollectionFits, ConfigFits}
+use Rattle.script_text.specs.Spelling.{collection_words, heap_words}
+use Rattle.script_text.proofs.Numbers.{number_of_is}
+use Rattle.script_text.proofs.Actions.{option_bind, chosen}
+
+collection_some : (k j : CollectorStep) → Some k ≡ Some j → k ≡ j
+collection_some k j e = cc
+
+-- a step of the collector, and the words after its verb
+pub record IsCollection (words : List (List ℕ)) (k : CollectorStep) : Type 0 where
+  pub spelled : words ≡ collection_words k
+  pub fits : CollectionFits k
+
+same_collection : (ws : List (List ℕ)) (j k : CollectorStep) → ws ≡ collection_words j → CollectionFits j → Some j ≡ Some k → IsCollection ws k
+same_collection ws j k spelled fits e = subst (IsCollection ws) (collection_some j k e) (record { spelled = spelled; fits = fits })
+
+one_word : (verb w : List ℕ) → bytes_eq verb w ≡ true → verb ∷ [] ≡ w ∷ []
+one_word verb w e = ap (λ (v : List ℕ). v ∷ []) ((bytes_eq-Decides verb w).0 e)
+
+two_words : (verb w a b : List ℕ) → bytes_eq verb w ≡ true → a ≡ b → verb ∷ a ∷ [] ≡ w ∷ b ∷ []
+two_words verb w a b e f = let same : verb ≡ w = (bytes_eq-Decides verb w).0 e in cc
+
+-- a step with a number behind its verb
+numbered : (verb w a : List ℕ) (make : ℕ → CollectorStep) (k : CollectorStep) → bytes_eq verb w ≡ true → ((n : ℕ) → collection_words (make n) ≡ w ∷ decimal n ∷ []) → ((n : ℕ) → n ≤ small → CollectionFits (make n)) → (number_of small a >>= λ n. Some (make n)) ≡ Some k → IsCollection (verb ∷ a ∷ []) k
+numbered verb w a make k same words fits e =
+    let read = option_bind (number_of small a) (λ n. Some (make n)) k e in
+    let number = number_of_is small a read.0 read.1 in
+    same_collection (verb ∷ a ∷ []) (make read.0) k (two_words verb w a (decimal read.0) same number.0 ∙ sym (words read.0)) (fits read.0 number.1) read.2
+
+no_collection : (k : CollectorStep) → None ≡ Some k → ⊥
+no_collection k e = cc
+
+pub collection_is : (ws : List (List ℕ)) (k : CollectorStep) → collection_of ws ≡ Some k → IsCollection ws k
+unfolding collection_of
+collection_is [] k e = absurd cc
+collection_is (verb ∷ []) k e =
+    elim (chosen (bytes_eq verb (codes "begin")) (Some collector.Begin) (cond (bytes_eq verb (codes "remark")) (Some collector.Remark) (cond (bytes_eq verb (codes "cleanup")) (Some collector.Cleanup) None)) k e) [
+      | inl h ↦ same_collection (verb ∷ []) collector.Begin k (one_word verb (codes "begin") h.0) tt h.1
+      | inr h ↦ (elim (chosen (bytes_eq verb (codes "remark")) (Some collector.Remark) (cond (bytes_eq verb (codes "cleanup")) (Some collector.Cleanup) None) k h.1) [
+        | inl i ↦ same_collection (verb ∷ []) collector.Remark k (one_word verb (codes "remark") i.0) tt i.1
+        | inr i ↦ (elim (chosen (bytes_eq verb (codes "cleanup")) (Some collector.Cleanup) None k i.1) [
+          | inl j ↦ same_collection (verb ∷ []) collector.Cleanup k (one_word verb (codes "cleanup") j.0) tt j.1
+          | inr j ↦ absurd (no_collection k j.1)
+        ])
+      ])
+    ]
+collection_is (verb ∷ a ∷ []) k e =
+    elim (chosen (bytes_eq verb (codes "mark")) (number_of small a >>= λ n. Some (collector.Mark n)) (cond (bytes_eq verb (codes "refine")) (number_of small a >>= λ n. Some (collector.Refine n)) (cond (bytes_eq verb (codes "pause")) (number_of small a >>= λ n. Some (collector.Pause n)) None)) k e) [
+      | inl h ↦ numbered verb (codes "mark") a (λ n. collector.Mark n) k h.0 (λ n. refl) (λ n le. le) h.1
+      | inr h ↦ (elim (chosen (bytes_eq verb (codes "refine")) (number_of small a >>= λ n. Some (collector.Refine n)) (cond (bytes_eq verb (codes "pause")) (number_of small a >>= λ n. Some (collector.Pause n)) None) k h.1) [
+        | inl i ↦ numbered verb (codes "refine") a (λ n. collector.Refine n) k i.0 (λ n. refl) (λ n le. le) i.1
+        | inr i ↦ (elim (chosen (bytes_eq verb (codes "pause")) (number_of small a >>= λ n. Some (collector.Pause n)) None k i.1) [
+          | inl j ↦ numbered verb (codes "pause") a (λ n. collector.Pause n) k j.0 (λ n. refl) (λ n le. le) j.1
+          | inr j ↦ absurd (no_collection k j.1)
+        ])
+      ])
+    ]
+collection_is (verb ∷ a ∷ b ∷ ws) k e = absurd cc
+
+-- the sizes of a heap, and the words of its line
+pub record AreSizes (words : List (List ℕ)) (c : Config) : Type 0 where
+  pub spelled : words ≡ heap_words c
+  pub fits : ConfigFits c
+
+sizes : ℕ → ℕ → ℕ → ℕ → ℕ → Config
+sizes n r b m f = record { regions = n; words = r; buffer = b; mutators = m; first_name = f }
+
+config_some : (c d : Config) → Some c ≡ Some d → c ≡ d
+config_some c d e = cc
+
+words6 : (a b c d e f w x y z u v : List ℕ) → a ≡ w → b ≡ x → c ≡ y → d ≡ z → e ≡ u → f ≡ v → a ∷ b ∷ c ∷ d ∷ e ∷ f ∷ [] ≡ w ∷ x ∷ y ∷ z ∷ u ∷ v ∷ []
+words6 a b c d e f w x y z u v p q r s t o = cc
+
+five : (verb n r b m f : List ℕ) (c : Config) → verb ≡ codes "heap" → (number_of small n >>= λ vn. number_of small r >>= λ vr. number_of small b >>= λ vb. number_of small m >>= λ vm. number_of large f >>= λ vf. Some (sizes vn vr vb vm vf)) ≡ Some c → AreSizes (verb ∷ n ∷ r ∷ b ∷ m ∷ f ∷ []) c
+unfolding sizes
+five verb n r b m f c v e =
+    let p0 = option_bind (number_of small n) (λ vn. number_of small r >>= λ vr. number_of small b >>= λ vb. number_of small m >>= λ vm. number_of large f >>= λ vf. Some (sizes vn vr vb vm vf)) c e in
+    let p1 = option_bind (number_of small r) (λ vr. number_of small b >>= λ vb. number_of small m >>= λ vm. number_of large f >>= λ vf. Some (sizes p0.0 vr vb vm vf)) c p0.2 in
+    let p2 = option_bind (number_of small b) (λ vb. number_of small m >>= λ vm. number_of large f >>= λ vf. Some (sizes p0.0 p1.0 vb vm vf)) c p1.2 in
+    let p3 = option_bind (number_of small m) (λ vm. number_of large f >>= λ vf. Some (sizes p0.0 p1.0 p2.0 vm vf)) c p2.2 in
+    let p4 = option_bind (number_of large f) (λ vf. Some (sizes p0.0 p1.0 p2.0 p3.0 vf)) c p3.2 in
+    let q0 = number_of_is small n p0.0 p0.1 in
+    let q1 = number_of_is small r p1.0 p1.1 in
+    let q2 = number_of_is small b p2.0 p2.1 in
+    let q3 = number_of_is small m p3.0 p3.1 in
+    let q4 = number_of_is large f p4.0 p4.1 in
+    subst (AreSizes (verb ∷ n ∷ r ∷ b ∷ m ∷ f ∷ [])) (config_some (sizes p0.0 p1.0 p2.0 p3.0 p4.0) c p4.2) (record {
+      spelled = words6 verb n r b m f _ _ _ _ _ _ v q0.0 q1.0 q2.0 q3.0 q4.0;
+      fits = record { regions = q0.1; words = q1.1; buffer = q2.1; mutators = q3.1; first_name = q4.1 };
+    })
+
+no_config : (c : Config) → None ≡ Some c → ⊥
+no_config c e = cc
+
+pub heap_is : (ws : List (List ℕ)) (c : Config) → heap_of ws ≡ Some c → AreSizes ws c
+unfolding heap_of sizes
+heap_is [] c e = absurd cc
+heap_is (verb ∷ []) c e = absurd cc
+heap_is (verb ∷ n ∷ []) c e = absurd cc
+heap_is (verb ∷ n ∷ r ∷ []) c e = absurd cc
+heap_is (verb ∷ n ∷ r ∷ b ∷ []) c e = absurd cc
+heap_is (verb ∷ n ∷ r ∷ b ∷ m ∷ []) c e = absurd cc
+heap_is (verb ∷ n ∷ r ∷ b ∷ m ∷ f ∷ []) c e =
+    elim (chosen (bytes_eq verb (codes "heap")) (number_of small n >>= λ vn. number_of small r >>= λ vr. number_of small b >>= λ vb. number_of small m >>= λ vm. number_of large f >>= λ vf. Some (sizes vn vr vb vm vf)) None c e) [
+      | inl h ↦ five verb n r b m f c ((bytes_eq-Decides verb (codes "heap")).0 h.0) h.1
+      | inr h ↦ absurd (no_config c h.1)
+    ]
+heap_is (verb ∷ n ∷ r ∷ b ∷ m ∷ f ∷ g ∷ ws) c e = absurd cc

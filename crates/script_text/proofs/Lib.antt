@@ -1,0 +1,14 @@
+pub mod Numbers
+pub mod Digits
+pub mod StepsRead
+pub mod Collections
+pub mod Texts
+pub mod Spelled
+pub mod StepsSpelled
+pub mod Seven
+pub mod Splitting
+pub mod Pieces
+pub mod ReadOn
+pub mod RecordLaws
+pub mod Actions
+pub mod WriteLaws

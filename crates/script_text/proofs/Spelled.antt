@@ -1,0 +1,113 @@
+-- The words of a line: no space or line feed stands in them, and they are short.
+use Rattle.std.proofs.Common.{◌≡◌, ℕ, ◌+◌, ◌*◌, ◌^◌, ◌<◌, ◌≤◌, Bool, true, false, eqb, List, [], ◌∷◌, length, Option, Some, None, refl, sym, ap, subst, ◌∙◌, arith}
+use Rattle.std.specs.Prelude.{◌&&◌, nat_lt, nat_le, codes}
+use Rattle.std.specs.List.{All}
+use Rattle.std.specs.Fmt.{decimal}
+use Rattle.std.specs.Str.Parse.{AllDigits}
+use Rattle.std.proofs.lemmas.Bool.{ltb-true, leb-true, ne_eqb}
+use Rattle.std.proofs.lemmas.Fmt.{decimal_is_IsNumeral, length-decimal-le}
+use Rattle.std.proofs.lemmas.List.{length-append}
+use Rattle.std.proofs.lemmas.List.Elements.{All-nil, All-cons, All-head, All-tail, All-append, All-weaker}
+use Rattle.std.proofs.lemmas.List.Splits.{slice_split_at, slice_split_none}
+use Rattle.std.proofs.lemmas.Str.Parse.{digit_from_value}
+use Rattle.object_graph.specs.declared.step.Register.{Register}
+use Rattle.object_graph.specs.declared.step.GlobalRoot.{GlobalRoot}
+use Rattle.script_text.specs.Reading.{small, large}
+use Rattle.script_text.specs.Spelling.{register_word, global_word, value_word, spaced}
+use Rattle.script_text.specs.Lines.{words_of}
+use Rattle.script_text.proofs.Numbers.{register_word_is}
+
+-- a word has no space and no line feed, and at most 20 bytes
+pub record IsWord (w : List ℕ) : Type 0 where
+  pub clear : All (λ b. 32 < b) w
+  pub short : length w ≤ 20
+
+abbrev pub AreWords : List (List ℕ) → Type 0
+AreWords ws = All IsWord ws
+
+abbrev pub is_clear : List ℕ → Bool
+is_clear [] = true
+is_clear (b ∷ w) = nat_lt 32 b && is_clear w
+
+both_true : (b d : Bool) → (b && d) ≡ true → (b ≡ true) × (d ≡ true)
+both_true true d e = (refl, e)
+both_true false d e = absurd cc
+
+clear_by : (w : List ℕ) → is_clear w ≡ true → All (λ b. 32 < b) w
+clear_by [] e = All-nil (λ b. 32 < b)
+clear_by (b ∷ w) e = let parts = both_true (nat_lt 32 b) (is_clear w) e in All-cons (λ b. 32 < b) b w (ltb-true 32 b parts.0) (clear_by w parts.1)
+
+-- a verb
+pub literal : (w : List ℕ) → is_clear w ≡ true → nat_le (length w) 20 ≡ true → IsWord w
+literal w clear short = record { clear = clear_by w clear; short = leb-true (length w) 20 short }
+
+digits_clear : (w : List ℕ) → AllDigits 10 w → All (λ b. 32 < b) w
+digits_clear [] digits = All-nil (λ b. 32 < b)
+digits_clear (b ∷ w) digits = let range = digit_from_value b digits.0 in All-cons (λ b. 32 < b) b w (omega arith) (digits_clear w digits.1)
+
+decimal_clear : (n : ℕ) → n < 2 ^ 64 → All (λ b. 32 < b) (decimal n)
+decimal_clear n fits = digits_clear (decimal n) (decimal_is_IsNumeral n fits).0.1
+
+pub number_word : (n : ℕ) → n ≤ large → IsWord (decimal n)
+number_word n fits = record { clear = decimal_clear n (omega arith); short = length-decimal-le 20 n (omega arith) (omega arith) (omega arith) }
+
+pub small_word : (n : ℕ) → n ≤ small → IsWord (decimal n)
+small_word n fits = number_word n (omega arith)
+
+pub register_is_word : (r : Register) → IsWord (register_word r)
+register_is_word r =
+    let within : r.number < 8 = r.in_range in
+    subst IsWord (sym (register_word_is r)) (record { clear = All-cons (λ b. 32 < b) 114 ((48 + r.number) ∷ []) (omega arith) (All-cons (λ b. 32 < b) (48 + r.number) [] (omega arith) (All-nil (λ b. 32 < b))); short = omega arith })
+
+pub global_is_word : (g : GlobalRoot) → IsWord (global_word g)
+global_is_word g =
+    let within : g.number < 16 = g.in_range in
+    let two : length (decimal g.number) ≤ 2 = length-decimal-le 2 g.number (omega arith) (omega arith) (omega arith) in
+    record { clear = All-cons (λ b. 32 < b) 103 (decimal g.number) (omega arith) (decimal_clear g.number (omega arith)); short = omega arith }
+
+pub value_is_word : (v : Option Register) → IsWord (value_word v)
+value_is_word None = literal (codes "nil") refl refl
+value_is_word (Some r) = register_is_word r
+
+pub word1 : (a : List ℕ) → IsWord a → AreWords (a ∷ [])
+word1 a p = All-cons IsWord a [] p (All-nil IsWord)
+
+pub word2 : (a b : List ℕ) → IsWord a → IsWord b → AreWords (a ∷ b ∷ [])
+word2 a b p q = All-cons IsWord a (b ∷ []) p (word1 b q)
+
+pub word3 : (a b c : List ℕ) → IsWord a → IsWord b → IsWord c → AreWords (a ∷ b ∷ c ∷ [])
+word3 a b c p q r = All-cons IsWord a (b ∷ c ∷ []) p (word2 b c q r)
+
+pub word4 : (a b c d : List ℕ) → IsWord a → IsWord b → IsWord c → IsWord d → AreWords (a ∷ b ∷ c ∷ d ∷ [])
+word4 a b c d p q r s = All-cons IsWord a (b ∷ c ∷ d ∷ []) p (word3 b c d q r s)
+
+no_byte : (n c : ℕ) (w : List ℕ) → c ≤ n → All (λ b. n < b) w → All (λ b. eqb b c ≡ false) w
+no_byte n c w le above = All-weaker (λ b. n < b) (λ b. eqb b c ≡ false) (λ b more. ne_eqb b c (λ e. absurd (omega arith))) w above
+
+-- words parted by spaces are found again
+pub words_again : (w : List ℕ) (ws : List (List ℕ)) → AreWords (w ∷ ws) → words_of (spaced (w ∷ ws)) ≡ w ∷ ws
+words_again w [] words = slice_split_none (λ b. eqb b 32) w (no_byte 32 32 w (omega arith) (All-head IsWord w [] words).clear)
+words_again w (x ∷ ws) words =
+    slice_split_at (λ b. eqb b 32) w 32 (spaced (x ∷ ws)) (no_byte 32 32 w (omega arith) (All-head IsWord w (x ∷ ws) words).clear) refl
+    ∙ ap (λ (vs : List (List ℕ)). w ∷ vs) (words_again x ws (All-tail IsWord w (x ∷ ws) words))
+
+above_space : (w : List ℕ) → All (λ b. 32 < b) w → All (λ b. 31 < b) w
+above_space w above = All-weaker (λ b. 32 < b) (λ b. 31 < b) (λ b more. omega arith) w above
+
+line_above : (w : List ℕ) (ws : List (List ℕ)) → AreWords (w ∷ ws) → All (λ b. 31 < b) (spaced (w ∷ ws))
+line_above w [] words = above_space w (All-head IsWord w [] words).clear
+line_above w (x ∷ ws) words =
+    All-append (λ b. 31 < b) w (32 ∷ spaced (x ∷ ws)) (above_space w (All-head IsWord w (x ∷ ws) words).clear)
+    (All-cons (λ b. 31 < b) 32 (spaced (x ∷ ws)) (omega arith) (line_above x ws (All-tail IsWord w (x ∷ ws) words)))
+
+-- no line feed stands among the words of a line
+pub no_feed : (w : List ℕ) (ws : List (List ℕ)) → AreWords (w ∷ ws) → All (λ b. eqb b 10 ≡ false) (spaced (w ∷ ws))
+no_feed w ws words = no_byte 31 10 (spaced (w ∷ ws)) (omega arith) (line_above w ws words)
+
+-- a line of n words behind the first
+pub spaced_short : (w : List ℕ) (ws : List (List ℕ)) → AreWords ws → length (spaced (w ∷ ws)) ≤ length w + 21 * length ws
+spaced_short w [] words = omega arith
+spaced_short w (x ∷ ws) words =
+    let first : length x ≤ 20 = (All-head IsWord x ws words).short in
+    let rest : length (spaced (x ∷ ws)) ≤ length x + 21 * length ws = spaced_short x ws (All-tail IsWord x ws words) in
+    omega (arith, length-append w (32 ∷ spaced (x ∷ ws)))

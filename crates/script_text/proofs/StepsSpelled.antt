@@ -1,0 +1,165 @@
+-- The words of a step, and that the step is read from them.
+use Rattle.std.proofs.Common.{◌≡◌, ℕ, ◌^◌, ◌<◌, ◌≤◌, Bool, true, false, eqb, List, [], ◌∷◌, length, get_or, Option, Some, Ok, refl, ap, ◌∙◌, arith}
+use Rattle.std.specs.Prelude.{codes}
+use Rattle.std.specs.Fmt.{decimal}
+use Rattle.std.specs.Str.{bytes_eq}
+use Rattle.std.proofs.lemmas.Bool.{lt-ltb, le-ltb}
+use Rattle.std.proofs.lemmas.Slice.Eq.{bytes_eq-Decides}
+use Rattle.std.specs.List.{All}
+use Rattle.std.proofs.lemmas.List.Elements.{All-cons}
+use Rattle.heap_words.specs.declared.config.Config.{Config}
+use Rattle.object_graph.specs.Actors.{IsStep}
+use Rattle.object_graph.specs.declared.step.Action.{Action}
+use Rattle.object_graph.specs.declared.step.Action.TheVariants as actions
+use Rattle.object_graph.specs.declared.step.CollectorStep.{CollectorStep}
+use Rattle.object_graph.specs.declared.step.CollectorStep.TheVariants as collector
+use Rattle.object_graph.specs.declared.step.Step.{Step}
+use Rattle.object_graph.specs.declared.step.Step.TheVariants as steps
+use Rattle.script_text.specs.declared.fault.Kind.TheVariants as kinds
+use Rattle.script_text.specs.Reading.{small, large, collection_of, heap_of}
+use Rattle.script_text.specs.Fits.{Fits, CollectionFits, StepFits, ConfigFits, is_step_yet}
+use Rattle.script_text.specs.Spelling.{action_words, collection_words, step_words, heap_words, spaced}
+use Rattle.script_text.specs.Lines.{or_fault, words_of, mutator_of, any_step_of, step_of, step_line_of, heap_line_of}
+use Rattle.script_text.proofs.Numbers.{number_of_some, first_is_digit}
+use Rattle.script_text.proofs.Actions.{action_again}
+use Rattle.script_text.proofs.Spelled.{IsWord, AreWords, literal, number_word, small_word, register_is_word, global_is_word, value_is_word, word1, word2, word3, word4, words_again, spaced_short, no_feed}
+
+action_is_words : (a : Action) → Fits a → AreWords (action_words a)
+action_is_words (actions.New to p d) fits = word4 _ _ _ _ (literal (codes "new") refl refl) (register_is_word to) (small_word p fits.0) (small_word d fits.1)
+action_is_words (actions.Get to object i) fits = word4 _ _ _ _ (literal (codes "get") refl refl) (register_is_word to) (register_is_word object) (small_word i fits)
+action_is_words (actions.Put object i value) fits = word4 _ _ _ _ (literal (codes "put") refl refl) (register_is_word object) (small_word i fits) (value_is_word value)
+action_is_words (actions.Read object j) fits = word3 _ _ _ (literal (codes "read") refl refl) (register_is_word object) (small_word j fits)
+action_is_words (actions.Write object j value) fits = word4 _ _ _ _ (literal (codes "write") refl refl) (register_is_word object) (small_word j fits.0) (number_word value fits.1)
+action_is_words (actions.Move to from) fits = word3 _ _ _ (literal (codes "move") refl refl) (register_is_word to) (register_is_word from)
+action_is_words (actions.Drop register) fits = word2 _ _ (literal (codes "drop") refl refl) (register_is_word register)
+action_is_words (actions.Load to from) fits = word3 _ _ _ (literal (codes "load") refl refl) (register_is_word to) (global_is_word from)
+action_is_words (actions.Save to from) fits = word3 _ _ _ (literal (codes "save") refl refl) (global_is_word to) (register_is_word from)
+action_is_words (actions.Shape object) fits = word2 _ _ (literal (codes "shape") refl refl) (register_is_word object)
+
+few_action_words : (a : Action) → length (action_words a) ≤ 4
+few_action_words (actions.New to p d) = omega arith
+few_action_words (actions.Get to object i) = omega arith
+few_action_words (actions.Put object i value) = omega arith
+few_action_words (actions.Read object j) = omega arith
+few_action_words (actions.Write object j value) = omega arith
+few_action_words (actions.Move to from) = omega arith
+few_action_words (actions.Drop register) = omega arith
+few_action_words (actions.Load to from) = omega arith
+few_action_words (actions.Save to from) = omega arith
+few_action_words (actions.Shape object) = omega arith
+
+collection_is_words : (k : CollectorStep) → CollectionFits k → AreWords (collection_words k)
+collection_is_words collector.Begin fits = word1 _ (literal (codes "begin") refl refl)
+collection_is_words (collector.Mark k) fits = word2 _ _ (literal (codes "mark") refl refl) (small_word k fits)
+collection_is_words collector.Remark fits = word1 _ (literal (codes "remark") refl refl)
+collection_is_words collector.Cleanup fits = word1 _ (literal (codes "cleanup") refl refl)
+collection_is_words (collector.Refine k) fits = word2 _ _ (literal (codes "refine") refl refl) (small_word k fits)
+collection_is_words (collector.Pause b) fits = word2 _ _ (literal (codes "pause") refl refl) (small_word b fits)
+
+few_collection_words : (k : CollectorStep) → length (collection_words k) ≤ 4
+few_collection_words collector.Begin = omega arith
+few_collection_words (collector.Mark k) = omega arith
+few_collection_words collector.Remark = omega arith
+few_collection_words collector.Cleanup = omega arith
+few_collection_words (collector.Refine k) = omega arith
+few_collection_words (collector.Pause b) = omega arith
+
+collection_again : (k : CollectorStep) → CollectionFits k → collection_of (collection_words k) ≡ Some k
+unfolding collection_of
+collection_again collector.Begin fits = refl
+collection_again (collector.Mark k) fits = rw (number_of_some small (decimal k) k (omega arith) refl fits) refl
+collection_again collector.Remark fits = refl
+collection_again collector.Cleanup fits = refl
+collection_again (collector.Refine k) fits = rw (number_of_some small (decimal k) k (omega arith) refl fits) refl
+collection_again (collector.Pause b) fits = rw (number_of_some small (decimal b) b (omega arith) refl fits) refl
+
+false_by : (b : Bool) → (b ≡ true → ⊥) → b ≡ false
+false_by true never = absurd (never refl)
+false_by false never = refl
+
+-- a number is no collector
+not_gc : (m : ℕ) → m < 2 ^ 64 → bytes_eq (decimal m) (codes "gc") ≡ false
+not_gc m fits = false_by (bytes_eq (decimal m) (codes "gc")) (λ e.
+    let same : decimal m ≡ codes "gc" = (bytes_eq-Decides (decimal m) (codes "gc")).0 e in
+    let digit = first_is_digit (decimal m) m fits refl in
+    let first : get_or (decimal m) 0 0 ≡ 103 = ap (λ (w : List ℕ). get_or w 0 0) same in
+    omega arith)
+
+mutator_again : (c : Config) (m : ℕ) → m < c.mutators → c.mutators ≤ small → mutator_of c (decimal m) ≡ Ok m
+unfolding mutator_of
+mutator_again c m known fits = rw (number_of_some small (decimal m) m (omega arith) refl (omega arith), lt-ltb m c.mutators known) refl
+
+any_step_again : (c : Config) (s : Step) → c.mutators ≤ small → IsStep c s → StepFits s → any_step_of c (step_words s) ≡ Ok s
+unfolding any_step_of
+any_step_again c (steps.Mutator o) few known fits = rw (not_gc o.mutator (omega arith), mutator_again c o.mutator known few, action_again o.action fits) refl
+any_step_again c (steps.Collector k) few known fits = rw (collection_again k fits) refl
+
+step_again : (c : Config) (s : Step) → c.mutators ≤ small → IsStep c s → StepFits s → is_step_yet s ≡ true → step_of c (step_words s) ≡ Ok s
+unfolding step_of
+step_again c s few known fits yet = rw (any_step_again c s few known fits, yet) refl
+
+step_is_words : (c : Config) (s : Step) → c.mutators ≤ small → IsStep c s → StepFits s → AreWords (step_words s)
+step_is_words c (steps.Mutator o) few known fits = All-cons IsWord (decimal o.mutator) (action_words o.action) (small_word o.mutator (omega arith)) (action_is_words o.action fits)
+step_is_words c (steps.Collector k) few known fits = All-cons IsWord (codes "gc") (collection_words k) (literal (codes "gc") refl refl) (collection_is_words k fits)
+
+step_short : (c : Config) (s : Step) → c.mutators ≤ small → IsStep c s → StepFits s → length (spaced (step_words s)) ≤ 120
+step_short c (steps.Mutator o) few known fits =
+    let first : length (decimal o.mutator) ≤ 20 = (small_word o.mutator (omega arith)).short in
+    let all = spaced_short (decimal o.mutator) (action_words o.action) (action_is_words o.action fits) in
+    let count = few_action_words o.action in
+    omega arith
+step_short c (steps.Collector k) few known fits =
+    let all = spaced_short (codes "gc") (collection_words k) (collection_is_words k fits) in
+    let count = few_collection_words k in
+    omega arith
+
+step_words_again : (c : Config) (s : Step) → c.mutators ≤ small → IsStep c s → StepFits s → words_of (spaced (step_words s)) ≡ step_words s
+step_words_again c (steps.Mutator o) few known fits = words_again (decimal o.mutator) (action_words o.action) (step_is_words c (steps.Mutator o) few known fits)
+step_words_again c (steps.Collector k) few known fits = words_again (codes "gc") (collection_words k) (step_is_words c (steps.Collector k) few known fits)
+
+-- the line of a step is read as that step
+pub step_line_again : (c : Config) (s : Step) → c.mutators ≤ small → IsStep c s → StepFits s → is_step_yet s ≡ true → step_line_of c (spaced (step_words s)) ≡ Ok s
+unfolding step_line_of
+step_line_again c s few known fits yet =
+    rw (le-ltb 120 (length (spaced (step_words s))) (step_short c s few known fits)) (ap (step_of c) (step_words_again c s few known fits) ∙ step_again c s few known fits yet)
+
+-- no line feed stands in the line of a step
+pub step_no_feed : (c : Config) (s : Step) → c.mutators ≤ small → IsStep c s → StepFits s → All (λ b. eqb b 10 ≡ false) (spaced (step_words s))
+step_no_feed c (steps.Mutator o) few known fits = no_feed (decimal o.mutator) (action_words o.action) (step_is_words c (steps.Mutator o) few known fits)
+step_no_feed c (steps.Collector k) few known fits = no_feed (codes "gc") (collection_words k) (step_is_words c (steps.Collector k) few known fits)
+
+heap_sizes : Config → List (List ℕ)
+heap_sizes c = decimal c.regions ∷ decimal c.words ∷ decimal c.buffer ∷ decimal c.mutators ∷ decimal c.first_name ∷ []
+
+sizes_are_words : (c : Config) → ConfigFits c → AreWords (heap_sizes c)
+unfolding heap_sizes
+sizes_are_words c fits = All-cons IsWord (decimal c.regions) (decimal c.words ∷ decimal c.buffer ∷ decimal c.mutators ∷ decimal c.first_name ∷ []) (small_word c.regions fits.regions) (word4 _ _ _ _ (small_word c.words fits.words) (small_word c.buffer fits.buffer) (small_word c.mutators fits.mutators) (number_word c.first_name fits.first_name))
+
+heap_is_words : (c : Config) → ConfigFits c → AreWords (heap_words c)
+unfolding heap_sizes
+heap_is_words c fits = All-cons IsWord (codes "heap") (heap_sizes c) (literal (codes "heap") refl refl) (sizes_are_words c fits)
+
+pub heap_no_feed : (c : Config) → ConfigFits c → All (λ b. eqb b 10 ≡ false) (spaced (heap_words c))
+unfolding heap_sizes
+heap_no_feed c fits = no_feed (codes "heap") (heap_sizes c) (heap_is_words c fits)
+
+heap_short : (c : Config) → ConfigFits c → length (spaced (heap_words c)) ≤ 120
+unfolding heap_sizes
+heap_short c fits = let all = spaced_short (codes "heap") (heap_sizes c) (sizes_are_words c fits) in omega arith
+
+heap_again : (c : Config) → ConfigFits c → heap_of (heap_words c) ≡ Some c
+unfolding heap_of
+heap_again c fits =
+    let r = number_of_some small (decimal c.regions) c.regions (let f = fits.regions in omega arith) refl fits.regions in
+    let w = number_of_some small (decimal c.words) c.words (let f = fits.words in omega arith) refl fits.words in
+    let b = number_of_some small (decimal c.buffer) c.buffer (let f = fits.buffer in omega arith) refl fits.buffer in
+    let m = number_of_some small (decimal c.mutators) c.mutators (let f = fits.mutators in omega arith) refl fits.mutators in
+    let n = number_of_some large (decimal c.first_name) c.first_name (let f = fits.first_name in omega arith) refl fits.first_name in
+    rw (r, w, b, m, n) refl
+
+-- the heap line is read as its sizes
+pub heap_line_again : (c : Config) → ConfigFits c → heap_line_of (spaced (heap_words c)) ≡ Ok c
+unfolding heap_line_of heap_sizes
+heap_line_again c fits =
+    let words : words_of (spaced (heap_words c)) ≡ heap_words c = words_again (codes "heap") (heap_sizes c) (heap_is_words c fits) in
+    rw (le-ltb 120 (length (spaced (heap_words c))) (heap_short c fits)) (ap (λ (ws : List (List ℕ)). or_fault (heap_of ws) kinds.BadHeap) words ∙ ap (λ (o : Option Config). or_fault o kinds.BadHeap) (heap_again c fits))

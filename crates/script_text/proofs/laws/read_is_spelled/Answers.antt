@@ -1,0 +1,5 @@
+use Rattle.script_text.proofs.Texts.{text_read}
+use Rattle.script_text.proofs.laws.read_is_spelled.Goals as goal
+
+pub returns : goal.returns
+returns c = text_read

@@ -1,0 +1,14 @@
+use Rattle.std.proofs.Common.{◌≡◌, ◌+◌, ◌≤◌, length}
+use Rattle.script_text.specs.Lines.{pieces_of, steps_of, script_of}
+use Rattle.script_text.proofs.ReadOn.{read_on}
+use Rattle.script_text.proofs.script.parse.Given as goal
+
+abbrev pub invariant-loop-line : goal.invariant-loop-line
+invariant-loop-line l = record {
+  so_far : read_on l.plan (steps_of l.number l.config (pieces_of l.rest)) ≡ script_of l.text;
+  config : l.plan.config ≡ l.config;
+  number : l.number + length l.rest ≤ 2 + length l.text;
+}
+
+abbrev pub decreases-loop-line : goal.decreases-loop-line
+decreases-loop-line l = length l.rest

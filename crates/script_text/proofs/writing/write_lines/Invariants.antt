@@ -1,0 +1,11 @@
+use Rattle.std.proofs.Common.{◌≡◌, ◌≤◌, length, take}
+use Rattle.script_text.proofs.RecordLaws.{text_so_far}
+use Rattle.script_text.proofs.WriteLaws.{IsWriting}
+use Rattle.script_text.proofs.writing.write_lines.Given as goal
+
+abbrev pub invariant-loop-index : goal.invariant-loop-index
+invariant-loop-index g l = record {
+  room : length l.buffer ≡ 8192;
+  within : l.at ≤ 8192;
+  so_far : IsWriting (text_so_far l.history l.index) (g.W.Write.contents l.fn.writer) (g.W.Write.contents l.writer) (take l.at l.buffer);
+}

@@ -1,0 +1,61 @@
+-- The scripts that have a text.
+use Rattle.std.specs.Prelude.{◌≤◌, Bool, true, false, All, IsTrue}
+use Rattle.heap_words.specs.declared.config.Config.{Config}
+use Rattle.object_graph.specs.Actors.{StepList, AreSteps}
+use Rattle.object_graph.specs.declared.step.Action.{Action}
+use Rattle.object_graph.specs.declared.step.Action.TheVariants as actions
+use Rattle.object_graph.specs.declared.step.CollectorStep.{CollectorStep}
+use Rattle.object_graph.specs.declared.step.CollectorStep.TheVariants as collector
+use Rattle.object_graph.specs.declared.step.Step.{Step}
+use Rattle.object_graph.specs.declared.step.Step.TheVariants as steps
+use Rattle.script_text.specs.Reading.{small, large}
+
+-- the numbers of an action are those of its type
+abbrev pub Fits : Action → Type 0
+Fits (actions.New to p d) = (p ≤ small) × (d ≤ small)
+Fits (actions.Get to object i) = i ≤ small
+Fits (actions.Put object i value) = i ≤ small
+Fits (actions.Read object j) = j ≤ small
+Fits (actions.Write object j value) = (j ≤ small) × (value ≤ large)
+Fits (actions.Move to from) = Unit {0}
+Fits (actions.Drop register) = Unit {0}
+Fits (actions.Load to from) = Unit {0}
+Fits (actions.Save to from) = Unit {0}
+Fits (actions.Shape object) = Unit {0}
+
+abbrev pub CollectionFits : CollectorStep → Type 0
+CollectionFits collector.Begin = Unit {0}
+CollectionFits (collector.Mark k) = k ≤ small
+CollectionFits collector.Remark = Unit {0}
+CollectionFits collector.Cleanup = Unit {0}
+CollectionFits (collector.Refine k) = k ≤ small
+CollectionFits (collector.Pause b) = b ≤ small
+
+abbrev pub StepFits : Step → Type 0
+StepFits (steps.Mutator o) = Fits o.action
+StepFits (steps.Collector k) = CollectionFits k
+
+pub record ConfigFits (c : Config) : Type 0 where
+  pub regions : c.regions ≤ small
+  pub words : c.words ≤ small
+  pub buffer : c.buffer ≤ small
+  pub mutators : c.mutators ≤ small
+  pub first_name : c.first_name ≤ large
+
+abbrev pub is_action_yet : Action → Bool
+is_action_yet (actions.New to p d) = true
+is_action_yet (actions.Get to object i) = true
+is_action_yet (actions.Read object j) = true
+is_action_yet _ = false
+
+-- the steps that a script may have yet
+abbrev pub is_step_yet : Step → Bool
+is_step_yet (steps.Mutator o) = is_action_yet o.action
+is_step_yet (steps.Collector k) = false
+
+-- a script that has a text
+pub record IsScript (p : StepList) : Type 0 where
+  pub config : ConfigFits p.config
+  pub owned : AreSteps p.config p.steps
+  pub fits : All StepFits p.steps
+  pub yet : All (λ s. IsTrue (is_step_yet s)) p.steps

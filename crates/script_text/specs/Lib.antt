@@ -1,0 +1,6 @@
+pub mod Spelling
+pub mod Reading
+pub mod Fits
+pub mod Lines
+pub mod Records
+pub mod Faults

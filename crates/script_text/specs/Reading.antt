@@ -1,0 +1,174 @@
+-- How the words of a line are read.
+use Rattle.std.specs.Prelude.{ℕ, ◌-◌, ◌^◌, List, [], ◌∷◌, Option, Some, None, nat_le, ◌==◌, ◌&&◌, if◌then◌else◌, codes}
+use Rattle.std.specs.Fmt.{decimal}
+use Rattle.std.specs.Str.{bytes_eq}
+use Rattle.std.specs.Str.Parse.{digits_value}
+use Rattle.std.proofs.lemmas.Bool.{cases_lt}
+use Rattle.std.proofs.Common.{inl, inr}
+use Rattle.heap_words.specs.declared.config.Config.{Config}
+use Rattle.object_graph.specs.declared.step.Register.{Register}
+use Rattle.object_graph.specs.declared.step.GlobalRoot.{GlobalRoot}
+use Rattle.object_graph.specs.declared.step.Action.{Action}
+use Rattle.object_graph.specs.declared.step.Action.TheVariants as actions
+use Rattle.object_graph.specs.declared.step.CollectorStep.{CollectorStep}
+use Rattle.object_graph.specs.declared.step.CollectorStep.TheVariants as collector
+
+infixl 10 ◌>>=◌
+abbrev pub ◌>>=◌ : {A B : Type 0} → Option A → (A → Option B) → Option B
+None >>= f = None
+(Some x) >>= f = f x
+
+-- a word is a number if it is the decimal spelling of its own value
+unfoldable pub number_of : ℕ → List ℕ → Option ℕ
+number_of limit word =
+    if bytes_eq word (decimal (digits_value 10 word)) && nat_le (digits_value 10 word) limit then Some (digits_value 10 word) else None
+
+abbrev pub large : ℕ
+large = 2 ^ 64 - 1
+
+abbrev pub small : ℕ
+small = 2 ^ 32 - 1
+
+abbrev pub register_numbered : ℕ → Option Register
+register_numbered n = elim (cases_lt n 8) [ inl lt ↦ Some (record { number = n; in_range = lt }) | inr le ↦ None ]
+
+unfoldable pub register_of : List ℕ → Option Register
+register_of (b ∷ d ∷ []) = if b == 114 && nat_le 48 d then register_numbered (d - 48) else None
+register_of _ = None
+
+abbrev pub global_numbered : ℕ → Option GlobalRoot
+global_numbered n = elim (cases_lt n 16) [ inl lt ↦ Some (record { number = n; in_range = lt }) | inr le ↦ None ]
+
+unfoldable pub global_of : List ℕ → Option GlobalRoot
+global_of (b ∷ digits) = if b == 103 then (number_of 15 digits >>= global_numbered) else None
+global_of [] = None
+
+-- nil or a register
+unfoldable pub value_of : List ℕ → Option (Option Register)
+value_of word = if bytes_eq word (codes "nil") then Some None else (do
+  r ← register_of word
+  Some (Some r))
+
+unfoldable pub new_of : List ℕ → List ℕ → List ℕ → Option Action
+new_of a b c = do
+  to ← register_of a
+  p ← number_of small b
+  d ← number_of small c
+  Some (actions.New to p d)
+
+unfoldable pub get_of : List ℕ → List ℕ → List ℕ → Option Action
+get_of a b c = do
+  to ← register_of a
+  object ← register_of b
+  i ← number_of small c
+  Some (actions.Get to object i)
+
+unfoldable pub put_of : List ℕ → List ℕ → List ℕ → Option Action
+put_of a b c = do
+  object ← register_of a
+  i ← number_of small b
+  value ← value_of c
+  Some (actions.Put object i value)
+
+unfoldable pub write_of : List ℕ → List ℕ → List ℕ → Option Action
+write_of a b c = do
+  object ← register_of a
+  j ← number_of small b
+  value ← number_of large c
+  Some (actions.Write object j value)
+
+unfoldable pub read_of : List ℕ → List ℕ → Option Action
+read_of a b = do
+  object ← register_of a
+  j ← number_of small b
+  Some (actions.Read object j)
+
+unfoldable pub move_of : List ℕ → List ℕ → Option Action
+move_of a b = do
+  to ← register_of a
+  from ← register_of b
+  Some (actions.Move to from)
+
+unfoldable pub drop_of : List ℕ → Option Action
+drop_of a = do
+  register ← register_of a
+  Some (actions.Drop register)
+
+unfoldable pub load_of : List ℕ → List ℕ → Option Action
+load_of a b = do
+  to ← register_of a
+  from ← global_of b
+  Some (actions.Load to from)
+
+unfoldable pub save_of : List ℕ → List ℕ → Option Action
+save_of a b = do
+  to ← global_of a
+  from ← register_of b
+  Some (actions.Save to from)
+
+unfoldable pub shape_of : List ℕ → Option Action
+shape_of a = do
+  object ← register_of a
+  Some (actions.Shape object)
+
+-- a verb and three words
+unfoldable pub long_action_of : List ℕ → List ℕ → List ℕ → List ℕ → Option Action
+long_action_of verb a b c =
+    if bytes_eq verb (codes "new") then new_of a b c
+    else if bytes_eq verb (codes "get") then get_of a b c
+    else if bytes_eq verb (codes "put") then put_of a b c
+    else if bytes_eq verb (codes "write") then write_of a b c
+    else None
+
+-- a verb and two words
+unfoldable pub pair_action_of : List ℕ → List ℕ → List ℕ → Option Action
+pair_action_of verb a b =
+    if bytes_eq verb (codes "read") then read_of a b
+    else if bytes_eq verb (codes "move") then move_of a b
+    else if bytes_eq verb (codes "load") then load_of a b
+    else if bytes_eq verb (codes "save") then save_of a b
+    else None
+
+-- a verb and a word
+unfoldable pub lone_action_of : List ℕ → List ℕ → Option Action
+lone_action_of verb a =
+    if bytes_eq verb (codes "drop") then drop_of a
+    else if bytes_eq verb (codes "shape") then shape_of a
+    else None
+
+unfoldable pub action_of : List (List ℕ) → Option Action
+action_of (verb ∷ a ∷ b ∷ c ∷ []) = long_action_of verb a b c
+action_of (verb ∷ a ∷ b ∷ []) = pair_action_of verb a b
+action_of (verb ∷ a ∷ []) = lone_action_of verb a
+action_of _ = None
+
+unfoldable pub collection_of : List (List ℕ) → Option CollectorStep
+collection_of (verb ∷ []) =
+    if bytes_eq verb (codes "begin") then Some collector.Begin
+    else if bytes_eq verb (codes "remark") then Some collector.Remark
+    else if bytes_eq verb (codes "cleanup") then Some collector.Cleanup
+    else None
+collection_of (verb ∷ a ∷ []) =
+    if bytes_eq verb (codes "mark") then (do
+      k ← number_of small a
+      Some (collector.Mark k))
+    else if bytes_eq verb (codes "refine") then (do
+      k ← number_of small a
+      Some (collector.Refine k))
+    else if bytes_eq verb (codes "pause") then (do
+      b ← number_of small a
+      Some (collector.Pause b))
+    else None
+collection_of _ = None
+
+unfoldable pub heap_of : List (List ℕ) → Option Config
+heap_of (verb ∷ regions ∷ size ∷ buffer ∷ mutators ∷ first_name ∷ []) =
+    if bytes_eq verb (codes "heap") then (do
+      n ← number_of small regions
+      r ← number_of small size
+      b ← number_of small buffer
+      m ← number_of small mutators
+      f ← number_of large first_name
+      Some (record { regions = n; words = r; buffer = b; mutators = m; first_name = f }))
+    else None
+heap_of _ = None

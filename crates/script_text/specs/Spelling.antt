@@ -1,0 +1,63 @@
+-- How steps are spelled.
+use Rattle.std.specs.Prelude.{ℕ, List, [], ◌∷◌, ◌++◌, Option, Some, None, codes}
+use Rattle.std.specs.List.{join_with_byte, flat_map}
+use Rattle.std.specs.Fmt.{decimal}
+use Rattle.heap_words.specs.declared.config.Config.{Config}
+use Rattle.object_graph.specs.Actors.{StepList}
+use Rattle.object_graph.specs.declared.step.Register.{Register}
+use Rattle.object_graph.specs.declared.step.GlobalRoot.{GlobalRoot}
+use Rattle.object_graph.specs.declared.step.Action.{Action}
+use Rattle.object_graph.specs.declared.step.Action.TheVariants as actions
+use Rattle.object_graph.specs.declared.step.CollectorStep.{CollectorStep}
+use Rattle.object_graph.specs.declared.step.CollectorStep.TheVariants as collector
+use Rattle.object_graph.specs.declared.step.Step.{Step}
+use Rattle.object_graph.specs.declared.step.Step.TheVariants as steps
+
+abbrev pub register_word : Register → List ℕ
+register_word r = codes "r" ++ decimal r.number
+
+abbrev pub global_word : GlobalRoot → List ℕ
+global_word g = codes "g" ++ decimal g.number
+
+abbrev pub value_word : Option Register → List ℕ
+value_word None = codes "nil"
+value_word (Some r) = register_word r
+
+abbrev pub action_words : Action → List (List ℕ)
+action_words (actions.New to p d) = codes "new" ∷ register_word to ∷ decimal p ∷ decimal d ∷ []
+action_words (actions.Get to object i) = codes "get" ∷ register_word to ∷ register_word object ∷ decimal i ∷ []
+action_words (actions.Put object i value) = codes "put" ∷ register_word object ∷ decimal i ∷ value_word value ∷ []
+action_words (actions.Read object j) = codes "read" ∷ register_word object ∷ decimal j ∷ []
+action_words (actions.Write object j value) = codes "write" ∷ register_word object ∷ decimal j ∷ decimal value ∷ []
+action_words (actions.Move to from) = codes "move" ∷ register_word to ∷ register_word from ∷ []
+action_words (actions.Drop register) = codes "drop" ∷ register_word register ∷ []
+action_words (actions.Load to from) = codes "load" ∷ register_word to ∷ global_word from ∷ []
+action_words (actions.Save to from) = codes "save" ∷ global_word to ∷ register_word from ∷ []
+action_words (actions.Shape object) = codes "shape" ∷ register_word object ∷ []
+
+abbrev pub collection_words : CollectorStep → List (List ℕ)
+collection_words collector.Begin = codes "begin" ∷ []
+collection_words (collector.Mark k) = codes "mark" ∷ decimal k ∷ []
+collection_words collector.Remark = codes "remark" ∷ []
+collection_words collector.Cleanup = codes "cleanup" ∷ []
+collection_words (collector.Refine k) = codes "refine" ∷ decimal k ∷ []
+collection_words (collector.Pause b) = codes "pause" ∷ decimal b ∷ []
+
+abbrev pub step_words : Step → List (List ℕ)
+step_words (steps.Mutator o) = decimal o.mutator ∷ action_words o.action
+step_words (steps.Collector k) = codes "gc" ∷ collection_words k
+
+abbrev pub heap_words : Config → List (List ℕ)
+heap_words c = codes "heap" ∷ decimal c.regions ∷ decimal c.words ∷ decimal c.buffer ∷ decimal c.mutators ∷ decimal c.first_name ∷ []
+
+-- the words, parted by single spaces
+abbrev pub spaced : List (List ℕ) → List ℕ
+spaced words = join_with_byte 32 words
+
+-- the words of a line, and its line feed
+abbrev pub line : List (List ℕ) → List ℕ
+line words = spaced words ++ 10 ∷ []
+
+-- the text of a script
+abbrev pub script_text : StepList → List ℕ
+script_text p = line (heap_words p.config) ++ flat_map (λ s. line (step_words s)) p.steps

@@ -1,0 +1,65 @@
+//! Bytes, texts and numbers, put one after another into a buffer with room for them.
+
+ghost use Rattle.std.specs.Prelude.{◌≡◌, ◌≤◌, ◌<◌, ◌+◌, ◌++◌, ◌∷◌, [], length, take};
+ghost use Rattle.std.specs.Fmt.{decimal};
+
+use itoa::write_digits;
+
+/// Puts a byte behind the first `at` bytes, and answers where it ends.
+pub(crate) fn put_byte(buffer: &mut [u8], at: usize, byte: u8) -> usize
+    requires { at < length buffer.old }
+    ensures put { take result buffer.new ≡ take at buffer.old ++ byte ∷ [] }
+    ensures end { result ≡ at + 1 }
+{
+    buffer[at] = byte;
+    at + 1
+}
+
+/// Puts a text behind the first `at` bytes, and answers where it ends.
+pub(crate) fn put_text(buffer: &mut [u8], at: usize, text: &[u8]) -> usize
+    requires { at + length text.now ≤ length buffer.old }
+    ensures put { take result buffer.new ≡ take at buffer.old ++ text.now }
+    ensures end { result ≡ at + length text.now }
+{
+    let end = at + text.len();
+    buffer[at..end].copy_from_slice(text);
+    end
+}
+
+/// How many digits a number has.
+fn digit_count(number: u64) -> usize
+    ensures { result ≡ length (decimal number) }
+{
+    let mut count = 1;
+    let mut bound = 10u64;
+    while count < 19 && number >= bound {
+        count += 1;
+        bound *= 10;
+    }
+    if number >= bound { count + 1 } else { count }
+}
+
+/// Puts a number behind the first `at` bytes, and answers where it ends. A number has at most 20 digits.
+pub(crate) fn put_number(buffer: &mut [u8], at: usize, number: u64) -> usize
+    requires { at + 20 ≤ length buffer.old }
+    ensures put { take result buffer.new ≡ take at buffer.old ++ decimal number }
+    ensures end { result ≤ at + 20 }
+{
+    let end = at + digit_count(number);
+    write_digits(number, buffer, end);
+    end
+}
+
+/// Puts a number of 32 bits behind the first `at` bytes, and answers where it ends. It has at most 10 digits.
+pub(crate) fn put_small(buffer: &mut [u8], at: usize, number: u32) -> usize
+    requires { at + 10 ≤ length buffer.old }
+    ensures put { take result buffer.new ≡ take at buffer.old ++ decimal number }
+    ensures end { result ≤ at + 10 }
+{
+    if number < 10 {
+        return put_byte(buffer, at, b'0' + number as u8);
+    }
+    let end = at + digit_count(number as u64);
+    write_digits(number as u64, buffer, end);
+    end
+}

@@ -1,0 +1,249 @@
+//! Lines of a record, put into a buffer with room for them. Each call puts its text behind the first `at`
+//! bytes and answers where it ends.
+
+ghost use Rattle.std.specs.Prelude.{◌≡◌, ◌≤◌, ◌<◌, ◌+◌, ◌++◌, length, take, codes};
+ghost use Rattle.std.specs.Fmt.{decimal};
+ghost use Rattle.script_text.specs.Spelling.{register_word, global_word, action_words, collection_words, heap_words, spaced, line};
+ghost use Rattle.script_text.specs.Records.{actor_word, reply_words, event_line};
+
+use crate::bytes::{put_byte, put_number, put_small, put_text};
+use heap_words::config::Config;
+use object_graph::{
+    Action, Actor, CollectorStep, Event, GlobalRoot, Refusal, Register, Reply, Step,
+};
+
+/// The room that a line needs: no line of a record is longer.
+pub(crate) const LINE_ROOM: usize = 128;
+
+/// A text that ends in a space, and a number.
+fn put_count(buffer: &mut [u8], at: usize, word: &[u8], count: u32) -> usize
+    requires { at + length word.now + 10 ≤ length buffer.old }
+    ensures put { take result buffer.new ≡ take at buffer.old ++ word.now ++ decimal count }
+    ensures end { result ≤ at + length word.now + 10 }
+{
+    let at = put_text(buffer, at, word);
+    put_small(buffer, at, count)
+}
+
+/// The heap line.
+pub(crate) fn put_heap(buffer: &mut [u8], at: usize, config: &Config) -> usize
+    requires { at + LINE_ROOM ≤ length buffer.old }
+    ensures put { take result buffer.new ≡ take at buffer.old ++ line (heap_words config.now) }
+    ensures end { result ≤ at + LINE_ROOM }
+{
+    let at = put_count(buffer, at, b"heap ", config.regions);
+    let at = put_count(buffer, at, b" ", config.words);
+    let at = put_count(buffer, at, b" ", config.buffer);
+    let at = put_count(buffer, at, b" ", config.mutators);
+    let at = put_byte(buffer, at, b' ');
+    let at = put_number(buffer, at, config.first_name);
+    put_byte(buffer, at, b'\n')
+}
+
+fn put_actor(buffer: &mut [u8], at: usize, actor: Actor) -> usize
+    requires { at + 11 ≤ length buffer.old }
+    ensures put { take result buffer.new ≡ take at buffer.old ++ actor_word actor }
+    ensures end { result ≤ at + 11 }
+{
+    match actor {
+        Actor::Mutator(mutator) => put_small(buffer, at, mutator),
+        Actor::Collector => put_text(buffer, at, b"gc"),
+        Actor::Marker(number) => {
+            let at = put_byte(buffer, at, b'm');
+            put_small(buffer, at, number as u32)
+        }
+        Actor::Refiner(number) => {
+            let at = put_byte(buffer, at, b'f');
+            put_small(buffer, at, number as u32)
+        }
+    }
+}
+
+fn put_register(buffer: &mut [u8], at: usize, register: Register) -> usize
+    requires { at + 2 ≤ length buffer.old }
+    ensures put { take result buffer.new ≡ take at buffer.old ++ register_word register }
+    ensures end { result ≡ at + 2 }
+{
+    let at = put_byte(buffer, at, b'r');
+    put_byte(buffer, at, b'0' + register.number)
+}
+
+fn put_global(buffer: &mut [u8], at: usize, root: GlobalRoot) -> usize
+    requires { at + 11 ≤ length buffer.old }
+    ensures put { take result buffer.new ≡ take at buffer.old ++ global_word root }
+    ensures end { result ≤ at + 11 }
+{
+    let at = put_byte(buffer, at, b'g');
+    put_small(buffer, at, root.number as u32)
+}
+
+/// A verb that ends in a space, a register and a number.
+fn put_field(buffer: &mut [u8], at: usize, verb: &[u8], object: Register, field: u32) -> usize
+    requires { at + length verb.now + 13 ≤ length buffer.old }
+    ensures put { take result buffer.new ≡ take at buffer.old ++ verb.now ++ register_word object ++ codes " " ++ decimal field }
+    ensures end { result ≤ at + length verb.now + 13 }
+{
+    let at = put_text(buffer, at, verb);
+    let at = put_register(buffer, at, object);
+    let at = put_byte(buffer, at, b' ');
+    put_small(buffer, at, field)
+}
+
+fn put_action(buffer: &mut [u8], at: usize, action: Action) -> usize
+    requires { at + 48 ≤ length buffer.old }
+    ensures put { take result buffer.new ≡ take at buffer.old ++ spaced (action_words action) }
+    ensures end { result ≤ at + 48 }
+{
+    match action {
+        Action::New {
+            to,
+            pointers,
+            values,
+        } => {
+            let at = put_field(buffer, at, b"new ", to, pointers);
+            let at = put_byte(buffer, at, b' ');
+            put_small(buffer, at, values)
+        }
+        Action::Get { to, object, field } => {
+            let at = put_text(buffer, at, b"get ");
+            let at = put_register(buffer, at, to);
+            put_field(buffer, at, b" ", object, field)
+        }
+        Action::Read { object, field } => put_field(buffer, at, b"read ", object, field),
+        Action::Put {
+            object,
+            field,
+            value,
+        } => {
+            let at = put_field(buffer, at, b"put ", object, field);
+            match value {
+                None => put_text(buffer, at, b" nil"),
+                Some(value) => {
+                    let at = put_byte(buffer, at, b' ');
+                    put_register(buffer, at, value)
+                }
+            }
+        }
+        Action::Write {
+            object,
+            field,
+            value,
+        } => {
+            let at = put_field(buffer, at, b"write ", object, field);
+            let at = put_byte(buffer, at, b' ');
+            put_number(buffer, at, value)
+        }
+        Action::Move { to, from } => {
+            let at = put_text(buffer, at, b"move ");
+            let at = put_register(buffer, at, to);
+            let at = put_byte(buffer, at, b' ');
+            put_register(buffer, at, from)
+        }
+        Action::Drop { register } => {
+            let at = put_text(buffer, at, b"drop ");
+            put_register(buffer, at, register)
+        }
+        Action::Load { to, from } => {
+            let at = put_text(buffer, at, b"load ");
+            let at = put_register(buffer, at, to);
+            let at = put_byte(buffer, at, b' ');
+            put_global(buffer, at, from)
+        }
+        Action::Save { to, from } => {
+            let at = put_text(buffer, at, b"save ");
+            let at = put_global(buffer, at, to);
+            let at = put_byte(buffer, at, b' ');
+            put_register(buffer, at, from)
+        }
+        Action::Shape { object } => {
+            let at = put_text(buffer, at, b"shape ");
+            put_register(buffer, at, object)
+        }
+    }
+}
+
+fn put_collection(buffer: &mut [u8], at: usize, collection: CollectorStep) -> usize
+    requires { at + 48 ≤ length buffer.old }
+    ensures put { take result buffer.new ≡ take at buffer.old ++ spaced (collection_words collection) }
+    ensures end { result ≤ at + 48 }
+{
+    match collection {
+        CollectorStep::Begin => put_text(buffer, at, b"begin"),
+        CollectorStep::Mark(units) => {
+            let at = put_text(buffer, at, b"mark ");
+            put_small(buffer, at, units)
+        }
+        CollectorStep::Remark => put_text(buffer, at, b"remark"),
+        CollectorStep::Cleanup => put_text(buffer, at, b"cleanup"),
+        CollectorStep::Refine(cards) => {
+            let at = put_text(buffer, at, b"refine ");
+            put_small(buffer, at, cards)
+        }
+        CollectorStep::Pause(budget) => {
+            let at = put_text(buffer, at, b"pause ");
+            put_small(buffer, at, budget)
+        }
+    }
+}
+
+fn refusal_text(refusal: Refusal) -> &'static [u8]
+    ensures text { result.now ≡ spaced (reply_words (Reply.Refused refusal)) }
+    ensures short { length result.now ≤ 32 }
+{
+    match refusal {
+        Refusal::Nil => b"refused 1 Nil",
+        Refusal::NoField => b"refused 2 NoField",
+        Refusal::Full => b"refused 3 Full",
+        Refusal::TooBig => b"refused 4 TooBig",
+        Refusal::NamesSpent => b"refused 5 NamesSpent",
+        Refusal::MarkRunning => b"refused 6 MarkRunning",
+        Refusal::NotMarking => b"refused 7 NotMarking",
+    }
+}
+
+fn put_reply(buffer: &mut [u8], at: usize, reply: Reply) -> usize
+    requires { at + 32 ≤ length buffer.old }
+    ensures put { take result buffer.new ≡ take at buffer.old ++ spaced (reply_words reply) }
+    ensures end { result ≤ at + 32 }
+{
+    match reply {
+        Reply::Done => put_text(buffer, at, b"ok"),
+        Reply::Named(None) => put_text(buffer, at, b"nil"),
+        Reply::Named(Some(name)) => {
+            let at = put_byte(buffer, at, b'#');
+            put_number(buffer, at, name)
+        }
+        Reply::Word(word) => put_number(buffer, at, word),
+        Reply::Shape { pointers, values } => {
+            let at = put_small(buffer, at, pointers);
+            put_count(buffer, at, b" ", values)
+        }
+        Reply::Marked(count) => put_count(buffer, at, b"marked ", count),
+        Reply::Reclaimed(count) => put_count(buffer, at, b"reclaimed ", count),
+        Reply::Refined(count) => put_count(buffer, at, b"refined ", count),
+        Reply::Moved { regions, words } => {
+            let at = put_count(buffer, at, b"moved ", regions);
+            put_count(buffer, at, b" ", words)
+        }
+        Reply::Refused(refusal) => put_text(buffer, at, refusal_text(refusal)),
+    }
+}
+
+/// The line of an event.
+pub(crate) fn put_event(buffer: &mut [u8], at: usize, count: u64, event: &Event) -> usize
+    requires { at + LINE_ROOM ≤ length buffer.old }
+    ensures put { take result buffer.new ≡ take at buffer.old ++ event_line count event.now }
+    ensures end { result ≤ at + LINE_ROOM }
+{
+    let at = put_number(buffer, at, count);
+    let at = put_byte(buffer, at, b' ');
+    let at = put_actor(buffer, at, event.actor);
+    let at = put_byte(buffer, at, b' ');
+    let at = match event.step {
+        Step::Mutator(op) => put_action(buffer, at, op.action),
+        Step::Collector(collection) => put_collection(buffer, at, collection),
+    };
+    let at = put_text(buffer, at, b" = ");
+    let at = put_reply(buffer, at, event.reply);
+    put_byte(buffer, at, b'\n')
+}

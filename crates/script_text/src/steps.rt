@@ -1,0 +1,279 @@
+//! Steps, read from the words of their lines.
+
+ghost use Rattle.std.specs.Prelude.{◌≡◌, ◌<◌, map, IfOk};
+ghost use Rattle.script_text.specs.Reading.{number_of, small, register_of, global_of, value_of, new_of, get_of, put_of, write_of, read_of, move_of, drop_of, load_of, save_of, shape_of, long_action_of, pair_action_of, lone_action_of, action_of, collection_of};
+ghost use Rattle.script_text.specs.Lines.{mutator_of, any_step_of, step_of};
+ghost use Rattle.script_text.specs.Fits.{is_step_yet};
+ghost use Rattle.object_graph.specs.Actors.{IsStep};
+
+use crate::fault::Kind;
+use crate::words::{global, number, register, small_number, value};
+use heap_words::config::Config;
+use object_graph::{Action, CollectorStep, Op, Step};
+
+#[tactic(auto, unfolding(crate::specs::Reading::new_of))]
+fn new_action(to: &[u8], pointers: &[u8], values: &[u8]) -> Option<Action>
+    ensures { result ≡ new_of to.now pointers.now values.now }
+{
+    let to = register(to)?;
+    let pointers = small_number(pointers)?;
+    let values = small_number(values)?;
+    Some(Action::New {
+        to,
+        pointers,
+        values,
+    })
+}
+
+#[tactic(auto, unfolding(crate::specs::Reading::get_of))]
+fn get_action(to: &[u8], object: &[u8], field: &[u8]) -> Option<Action>
+    ensures { result ≡ get_of to.now object.now field.now }
+{
+    let to = register(to)?;
+    let object = register(object)?;
+    let field = small_number(field)?;
+    Some(Action::Get { to, object, field })
+}
+
+#[tactic(auto, unfolding(crate::specs::Reading::put_of))]
+fn put_action(object: &[u8], field: &[u8], stored: &[u8]) -> Option<Action>
+    ensures { result ≡ put_of object.now field.now stored.now }
+{
+    let object = register(object)?;
+    let field = small_number(field)?;
+    let value = value(stored)?;
+    Some(Action::Put {
+        object,
+        field,
+        value,
+    })
+}
+
+#[tactic(auto, unfolding(crate::specs::Reading::write_of))]
+fn write_action(object: &[u8], field: &[u8], word: &[u8]) -> Option<Action>
+    ensures { result ≡ write_of object.now field.now word.now }
+{
+    let object = register(object)?;
+    let field = small_number(field)?;
+    let value = number(word, u64::MAX)?;
+    Some(Action::Write {
+        object,
+        field,
+        value,
+    })
+}
+
+#[tactic(auto, unfolding(crate::specs::Reading::read_of))]
+fn read_action(object: &[u8], field: &[u8]) -> Option<Action>
+    ensures { result ≡ read_of object.now field.now }
+{
+    let object = register(object)?;
+    let field = small_number(field)?;
+    Some(Action::Read { object, field })
+}
+
+#[tactic(auto, unfolding(crate::specs::Reading::move_of))]
+fn move_action(to: &[u8], from: &[u8]) -> Option<Action>
+    ensures { result ≡ move_of to.now from.now }
+{
+    let to = register(to)?;
+    let from = register(from)?;
+    Some(Action::Move { to, from })
+}
+
+#[tactic(auto, unfolding(crate::specs::Reading::drop_of))]
+fn drop_action(word: &[u8]) -> Option<Action>
+    ensures { result ≡ drop_of word.now }
+{
+    let register = register(word)?;
+    Some(Action::Drop { register })
+}
+
+#[tactic(auto, unfolding(crate::specs::Reading::load_of))]
+fn load_action(to: &[u8], from: &[u8]) -> Option<Action>
+    ensures { result ≡ load_of to.now from.now }
+{
+    let to = register(to)?;
+    let from = global(from)?;
+    Some(Action::Load { to, from })
+}
+
+#[tactic(auto, unfolding(crate::specs::Reading::save_of))]
+fn save_action(to: &[u8], from: &[u8]) -> Option<Action>
+    ensures { result ≡ save_of to.now from.now }
+{
+    let to = global(to)?;
+    let from = register(from)?;
+    Some(Action::Save { to, from })
+}
+
+#[tactic(auto, unfolding(crate::specs::Reading::shape_of))]
+fn shape_action(word: &[u8]) -> Option<Action>
+    ensures { result ≡ shape_of word.now }
+{
+    let object = register(word)?;
+    Some(Action::Shape { object })
+}
+
+/// A verb and three words.
+#[tactic(auto, unfolding(crate::specs::Reading::long_action_of))]
+fn long_action(verb: &[u8], a: &[u8], b: &[u8], c: &[u8]) -> Option<Action>
+    ensures { result ≡ long_action_of verb.now a.now b.now c.now }
+{
+    if verb == b"new".as_slice() {
+        new_action(a, b, c)
+    } else if verb == b"get".as_slice() {
+        get_action(a, b, c)
+    } else if verb == b"put".as_slice() {
+        put_action(a, b, c)
+    } else if verb == b"write".as_slice() {
+        write_action(a, b, c)
+    } else {
+        None
+    }
+}
+
+/// A verb and two words.
+#[tactic(auto, unfolding(crate::specs::Reading::pair_action_of))]
+fn pair_action(verb: &[u8], a: &[u8], b: &[u8]) -> Option<Action>
+    ensures { result ≡ pair_action_of verb.now a.now b.now }
+{
+    if verb == b"read".as_slice() {
+        read_action(a, b)
+    } else if verb == b"move".as_slice() {
+        move_action(a, b)
+    } else if verb == b"load".as_slice() {
+        load_action(a, b)
+    } else if verb == b"save".as_slice() {
+        save_action(a, b)
+    } else {
+        None
+    }
+}
+
+/// A verb and a word.
+#[tactic(auto, unfolding(crate::specs::Reading::lone_action_of))]
+fn lone_action(verb: &[u8], a: &[u8]) -> Option<Action>
+    ensures { result ≡ lone_action_of verb.now a.now }
+{
+    if verb == b"drop".as_slice() {
+        drop_action(a)
+    } else if verb == b"shape".as_slice() {
+        shape_action(a)
+    } else {
+        None
+    }
+}
+
+/// A mutator's step.
+#[tactic(auto, unfolding(crate::specs::Reading::action_of))]
+fn action(words: &[&[u8]]) -> Option<Action>
+    ensures { result ≡ action_of (map (λ w. w.now) words.now) }
+{
+    match words {
+        [verb, a, b, c] => long_action(verb, a, b, c),
+        [verb, a, b] => pair_action(verb, a, b),
+        [verb, a] => lone_action(verb, a),
+        _ => None,
+    }
+}
+
+/// A step of the collector.
+#[tactic(auto, unfolding(crate::specs::Reading::collection_of))]
+fn collection(words: &[&[u8]]) -> Option<CollectorStep>
+    ensures { result ≡ collection_of (map (λ w. w.now) words.now) }
+{
+    match words {
+        [verb] => {
+            if *verb == b"begin".as_slice() {
+                Some(CollectorStep::Begin)
+            } else if *verb == b"remark".as_slice() {
+                Some(CollectorStep::Remark)
+            } else if *verb == b"cleanup".as_slice() {
+                Some(CollectorStep::Cleanup)
+            } else {
+                None
+            }
+        }
+        [verb, a] => {
+            if *verb == b"mark".as_slice() {
+                let units = small_number(a)?;
+                Some(CollectorStep::Mark(units))
+            } else if *verb == b"refine".as_slice() {
+                let cards = small_number(a)?;
+                Some(CollectorStep::Refine(cards))
+            } else if *verb == b"pause".as_slice() {
+                let budget = small_number(a)?;
+                Some(CollectorStep::Pause(budget))
+            } else {
+                None
+            }
+        }
+        _ => None,
+    }
+}
+
+/// The mutator that a word names.
+#[tactic(auto, unfolding(crate::specs::Lines::mutator_of))]
+fn mutator(config: &Config, word: &[u8]) -> Result<u32, Kind>
+    ensures exact { result ≡ mutator_of config.now word.now }
+    ensures known { IfOk result (λ m. m < config.now.mutators) }
+{
+    let Some(mutator) = small_number(word) else {
+        return Err(Kind::BadActor);
+    };
+    if mutator < config.mutators {
+        Ok(mutator)
+    } else {
+        Err(Kind::BadActor)
+    }
+}
+
+/// A step of its actor.
+#[tactic(auto, unfolding(crate::specs::Lines::any_step_of))]
+fn any_step(config: &Config, words: &[&[u8]]) -> Result<Step, Kind>
+    ensures exact { result ≡ any_step_of config.now (map (λ w. w.now) words.now) }
+    ensures known { IfOk result (IsStep config.now) }
+{
+    let [actor, rest @ ..] = words else {
+        return Err(Kind::BadActor);
+    };
+    if *actor == b"gc".as_slice() {
+        let Some(collection) = collection(rest) else {
+            return Err(Kind::BadStep);
+        };
+        return Ok(Step::Collector(collection));
+    }
+    let mutator = mutator(config, actor)?;
+    let Some(action) = action(rest) else {
+        return Err(Kind::BadStep);
+    };
+    Ok(Step::Mutator(Op { mutator, action }))
+}
+
+/// Whether a script may have this step yet.
+fn is_yet(step: &Step) -> bool
+    ensures { result ≡ is_step_yet step.now }
+{
+    match step {
+        Step::Mutator(op) => match op.action {
+            Action::New { .. } | Action::Get { .. } | Action::Read { .. } => true,
+            _ => false,
+        },
+        Step::Collector(_) => false,
+    }
+}
+
+/// A step of its actor that a script may have.
+#[tactic(auto, unfolding(crate::specs::Lines::step_of))]
+pub(crate) fn step(config: &Config, words: &[&[u8]]) -> Result<Step, Kind>
+    ensures exact { result ≡ step_of config.now (map (λ w. w.now) words.now) }
+    ensures known { IfOk result (IsStep config.now) }
+{
+    let step = any_step(config, words)?;
+    if is_yet(&step) {
+        Ok(step)
+    } else {
+        Err(Kind::BadStep)
+    }
+}

@@ -1,0 +1,472 @@
+//! What no clause says: the worked examples, the printed forms, and readers and writers that fail.
+
+use crate::{Kind, LineFault, ReadFault, WriteFault, parse, read_text, write_record};
+use heap_words::config::Config;
+use object_graph::{
+    Action, Actor, CollectorStep, Event, GlobalRoot, Op, Record, Refusal, Register, Reply, Step,
+};
+use std::alloc::Global;
+use std::io;
+use std::io::{ErrorKind, Read, Write};
+use std::test::Fail;
+
+const CONFIG: Config = Config {
+    regions: 4,
+    words: 16,
+    buffer: 8,
+    mutators: 2,
+    first_name: 0,
+};
+
+#[test]
+fn good_script(rt: HostRuntime) -> Result<(), Fail> {
+    let text = b"heap 4 16 8 2 0\n0 new r0 1 4294967295\n1 get r7 r0 0\n0 read r1 10\n";
+    let Ok(plan) = parse(rt.alloc(), text) else {
+        return Err(Fail::from("this is a script"));
+    };
+    assert_eq!(rt; plan.config(), CONFIG);
+    let steps = [
+        Step::Mutator(Op {
+            mutator: 0,
+            action: Action::New {
+                to: Register { number: 0 },
+                pointers: 1,
+                values: 4_294_967_295,
+            },
+        }),
+        Step::Mutator(Op {
+            mutator: 1,
+            action: Action::Get {
+                to: Register { number: 7 },
+                object: Register { number: 0 },
+                field: 0,
+            },
+        }),
+        Step::Mutator(Op {
+            mutator: 0,
+            action: Action::Read {
+                object: Register { number: 1 },
+                field: 10,
+            },
+        }),
+    ];
+    assert_eq!(rt; plan.steps(), steps.as_slice());
+    Ok(())
+}
+
+/// The fault of a text; none where it is a script.
+fn fault_of(alloc: Global, text: &[u8]) -> Option<LineFault> {
+    match parse(alloc, text) {
+        Ok(_) => None,
+        Err(fault) => Some(fault),
+    }
+}
+
+#[test]
+fn faults(rt: HostRuntime) -> Result<(), Fail> {
+    let alloc = rt.alloc();
+    let rows: [(&str, u64, Kind); 22] = [
+        ("", 1, Kind::BadHeap),
+        ("\n", 1, Kind::BadHeap),
+        ("heap 4 16 8 1 0", 1, Kind::Cut),
+        ("heap 4 16 8 1\n", 1, Kind::BadHeap),
+        ("heap 4 16 8 1 0 0\n", 1, Kind::BadHeap),
+        ("heap 4 16 8 1 0 \n", 1, Kind::BadHeap),
+        ("heap 4294967296 16 8 1 0\n", 1, Kind::BadHeap),
+        ("heap 4 16 8 1 18446744073709551616\n", 1, Kind::BadHeap),
+        ("heap 4 16 8 1 0\n0 new r8 1 1\n", 2, Kind::BadStep),
+        ("heap 4 16 8 1 0\n0 new r0 01 1\n", 2, Kind::BadStep),
+        ("heap 4 16 8 1 0\n0 new r0 +1 1\n", 2, Kind::BadStep),
+        ("heap 4 16 8 1 0\n0 new r0 1 4294967296\n", 2, Kind::BadStep),
+        ("heap 4 16 8 1 0\n0 new r0 1 1 1 1 1 1\n", 2, Kind::BadStep),
+        ("heap 4 16 8 1 0\n0  new r0 1 1\n", 2, Kind::BadStep),
+        ("heap 4 16 8 1 0\n0 new r0 1 1 \n", 2, Kind::BadStep),
+        ("heap 4 16 8 1 0\n1 drop r0\n", 2, Kind::BadActor),
+        ("heap 4 16 8 1 0\n00 drop r0\n", 2, Kind::BadActor),
+        ("heap 4 16 8 1 0\nm0 mark 4\n", 2, Kind::BadActor),
+        ("heap 4 16 8 1 0\n0 begin\n", 2, Kind::BadStep),
+        ("heap 4 16 8 1 0\n\n", 2, Kind::BadActor),
+        ("heap 4 16 8 1 0\n0 read r0 0\nx\ny\n", 3, Kind::BadActor),
+        ("heap 4 16 8 1 0\nx\n0 read r0 0", 2, Kind::BadActor),
+    ];
+    for (text, line, kind) in rows {
+        let fault = fault_of(alloc, text.as_bytes());
+        assert_eq!(rt; fault, Some(LineFault { line, kind }), "{text}");
+    }
+    Ok(())
+}
+
+#[test]
+fn long_lines(rt: HostRuntime) -> Result<(), Fail> {
+    let alloc = rt.alloc();
+    for (count, kind) in [(118u64, Kind::BadStep), (119u64, Kind::LongLine)] {
+        let mut text = Vec::from_slice(alloc, b"heap 4 16 8 1 0\n0 ")?;
+        for _ in 0..count {
+            text.push(b'a')?;
+        }
+        text.push(b'\n')?;
+        let fault = fault_of(alloc, text.as_slice());
+        assert_eq!(rt; fault, Some(LineFault { line: 2, kind }), "{count}");
+    }
+    Ok(())
+}
+
+#[test]
+fn beginnings(rt: HostRuntime) -> Result<(), Fail> {
+    let alloc = rt.alloc();
+    let text = b"heap 4 16 8 2 0\n0 new r0 1 1\n1 read r0 0\n".as_slice();
+    let mut line = 1u64;
+    for (end, byte) in text.iter().enumerate() {
+        let fault = fault_of(alloc, &text[..end]);
+        if end == 0 {
+            assert_eq!(rt;
+                fault,
+                Some(LineFault {
+                    line: 1,
+                    kind: Kind::BadHeap
+                })
+            );
+        } else if text[end - 1] == b'\n' {
+            assert_eq!(rt; fault, None, "{end}");
+        } else {
+            assert_eq!(rt;
+                fault,
+                Some(LineFault {
+                    line,
+                    kind: Kind::Cut
+                }),
+                "{end}"
+            );
+        }
+        if *byte == b'\n' {
+            line = line.wrapping_add(1);
+        }
+    }
+    assert_eq!(rt; line, 4);
+    assert_eq!(rt; fault_of(alloc, text), None);
+    Ok(())
+}
+
+#[test]
+fn printed_faults(rt: HostRuntime) -> Result<(), Fail> {
+    let alloc = rt.alloc();
+    let kinds = [
+        (Kind::Cut, "line 12: 1 Cut"),
+        (Kind::LongLine, "line 12: 2 LongLine"),
+        (Kind::BadHeap, "line 12: 3 BadHeap"),
+        (Kind::BadActor, "line 12: 4 BadActor"),
+        (Kind::BadStep, "line 12: 5 BadStep"),
+        (Kind::BadCount, "line 12: 6 BadCount"),
+        (Kind::BadReply, "line 12: 7 BadReply"),
+        (Kind::NoMemory, "line 12: 8 NoMemory"),
+    ];
+    for (kind, text) in kinds {
+        let fault = LineFault { line: 12, kind };
+        assert_eq!(rt; format!(in alloc; "{fault}")?.as_str(), text);
+    }
+    let read = ReadFault::CannotRead;
+    let write = WriteFault::NoMemory;
+    assert_eq!(rt;
+        format!(in alloc; "{read}, {write}")?.as_str(),
+        "1 CannotRead, 2 NoMemory"
+    );
+    Ok(())
+}
+
+/// Notes an event of a mutator.
+fn push_op(record: &mut Record, mutator: u32, action: Action, reply: Reply) -> Result<(), Fail> {
+    let config = record.config();
+    if mutator >= config.mutators {
+        return Err(Fail::from("there is no such mutator"));
+    }
+    record.push(Event {
+        actor: Actor::Mutator(mutator),
+        step: Step::Mutator(Op { mutator, action }),
+        reply,
+    })?;
+    Ok(())
+}
+
+/// Notes an event of the collector.
+fn push_collector(record: &mut Record, step: CollectorStep, reply: Reply) -> Result<(), Fail> {
+    record.push(Event {
+        actor: Actor::Collector,
+        step: Step::Collector(step),
+        reply,
+    })?;
+    Ok(())
+}
+
+/// A record with each form of step, reply and actor.
+fn many_forms(alloc: Global) -> Result<Record, Fail> {
+    let a = Register { number: 0 };
+    let b = Register { number: 7 };
+    let first = GlobalRoot { number: 0 };
+    let last = GlobalRoot { number: 15 };
+    let mut record = Record::new(alloc, CONFIG);
+    let ops = [
+        (
+            Action::New {
+                to: a,
+                pointers: 4,
+                values: 4_294_967_295,
+            },
+            Reply::Named(Some(18_446_744_073_709_551_615)),
+        ),
+        (
+            Action::Get {
+                to: b,
+                object: a,
+                field: 10,
+            },
+            Reply::Named(None),
+        ),
+        (
+            Action::Put {
+                object: a,
+                field: 3,
+                value: None,
+            },
+            Reply::Done,
+        ),
+        (
+            Action::Put {
+                object: a,
+                field: 3,
+                value: Some(b),
+            },
+            Reply::Refused(Refusal::Nil),
+        ),
+        (
+            Action::Read {
+                object: b,
+                field: 0,
+            },
+            Reply::Word(0),
+        ),
+        (
+            Action::Write {
+                object: b,
+                field: 1,
+                value: 18_446_744_073_709_551_615,
+            },
+            Reply::Refused(Refusal::NoField),
+        ),
+        (
+            Action::Move { to: a, from: b },
+            Reply::Refused(Refusal::Full),
+        ),
+        (
+            Action::Drop { register: b },
+            Reply::Refused(Refusal::TooBig),
+        ),
+        (
+            Action::Load { to: a, from: first },
+            Reply::Refused(Refusal::NamesSpent),
+        ),
+        (
+            Action::Save { to: last, from: b },
+            Reply::Word(10_000_000_000_000_000_000),
+        ),
+        (
+            Action::Shape { object: b },
+            Reply::Shape {
+                pointers: 5,
+                values: 60,
+            },
+        ),
+    ];
+    for (action, reply) in ops {
+        push_op(&mut record, 1, action, reply)?;
+    }
+    let collections = [
+        (CollectorStep::Begin, Reply::Refused(Refusal::MarkRunning)),
+        (CollectorStep::Mark(9), Reply::Refused(Refusal::NotMarking)),
+        (CollectorStep::Remark, Reply::Marked(7)),
+        (CollectorStep::Cleanup, Reply::Reclaimed(99)),
+        (CollectorStep::Refine(100), Reply::Refined(1000)),
+        (
+            CollectorStep::Pause(0),
+            Reply::Moved {
+                regions: 2,
+                words: 31,
+            },
+        ),
+    ];
+    for (step, reply) in collections {
+        push_collector(&mut record, step, reply)?;
+    }
+    record.push(Event {
+        actor: Actor::Marker(0),
+        step: Step::Collector(CollectorStep::Mark(4)),
+        reply: Reply::Done,
+    })?;
+    record.push(Event {
+        actor: Actor::Refiner(7),
+        step: Step::Collector(CollectorStep::Refine(1)),
+        reply: Reply::Refined(0),
+    })?;
+    Ok(record)
+}
+
+const MANY_FORMS: &str = "heap 4 16 8 2 0
+1 1 new r0 4 4294967295 = #18446744073709551615
+2 1 get r7 r0 10 = nil
+3 1 put r0 3 nil = ok
+4 1 put r0 3 r7 = refused 1 Nil
+5 1 read r7 0 = 0
+6 1 write r7 1 18446744073709551615 = refused 2 NoField
+7 1 move r0 r7 = refused 3 Full
+8 1 drop r7 = refused 4 TooBig
+9 1 load r0 g0 = refused 5 NamesSpent
+10 1 save g15 r7 = 10000000000000000000
+11 1 shape r7 = 5 60
+12 gc begin = refused 6 MarkRunning
+13 gc mark 9 = refused 7 NotMarking
+14 gc remark = marked 7
+15 gc cleanup = reclaimed 99
+16 gc refine 100 = refined 1000
+17 gc pause 0 = moved 2 31
+18 m0 mark 4 = ok
+19 f7 refine 1 = refined 0
+";
+
+/// What a writer does with its last byte taken.
+#[derive(Clone, Copy, Debug, PartialEq, Eq)]
+enum Then {
+    Fails,
+    TakesNone,
+}
+
+/// A writer that takes a byte at a time, and so many in all.
+#[derive(Drop)]
+struct Slow {
+    taken: Vec<u8>,
+    room: usize,
+    then: Then,
+}
+
+impl Write for Slow {
+    fn write(&mut self, buf: &[u8]) -> io::Result<usize> {
+        if buf.is_empty() {
+            return Ok(0);
+        }
+        if self.taken.len() < self.room {
+            self.taken.push(buf[0])?;
+            return Ok(1);
+        }
+        match self.then {
+            Then::Fails => Err(io::Error::from(ErrorKind::Other)),
+            Then::TakesNone => Ok(0),
+        }
+    }
+
+    fn flush(&mut self) -> io::Result<()> {
+        Ok(())
+    }
+}
+
+#[test]
+fn printed_forms(rt: HostRuntime) -> Result<(), Fail> {
+    let alloc = rt.alloc();
+    let record = many_forms(alloc)?;
+    let mut written = Vec::new(alloc);
+    assert_eq!(rt; write_record(alloc, &record, &mut written), Ok(()));
+    assert_eq!(rt; written.as_slice(), MANY_FORMS.as_bytes());
+    Ok(())
+}
+
+#[test]
+fn slow_writers(rt: HostRuntime) -> Result<(), Fail> {
+    let alloc = rt.alloc();
+    let record = many_forms(alloc)?;
+    let text = MANY_FORMS.as_bytes();
+    for then in [Then::Fails, Then::TakesNone] {
+        for room in [0, 1, 15, 16, 17, text.len() - 1, text.len()] {
+            let mut writer = Slow {
+                taken: Vec::new(alloc),
+                room,
+                then,
+            };
+            let result = write_record(alloc, &record, &mut writer);
+            if room < text.len() {
+                assert_eq!(rt; result, Err(WriteFault::CannotWrite), "{room}");
+            } else {
+                assert_eq!(rt; result, Ok(()));
+            }
+            assert_eq!(rt; writer.taken.as_slice(), &text[..room]);
+        }
+    }
+    Ok(())
+}
+
+#[test]
+fn long_record(rt: HostRuntime) -> Result<(), Fail> {
+    let alloc = rt.alloc();
+    let mut record = Record::new(alloc, CONFIG);
+    let mut text = String::from_str(alloc, "heap 4 16 8 2 0\n")?;
+    for count in 1..2001u64 {
+        let action = Action::Read {
+            object: Register { number: 3 },
+            field: 5,
+        };
+        push_op(&mut record, 0, action, Reply::Word(count))?;
+        write!(text, "{count} 0 read r3 5 = {count}\n")?;
+    }
+    let mut written = Vec::new(alloc);
+    assert_eq!(rt; write_record(alloc, &record, &mut written), Ok(()));
+    assert!(rt; written.as_slice() == text.as_bytes());
+    Ok(())
+}
+
+/// A reader that gives a byte at a time, so many in all, and then an error or the end.
+#[derive(Drop)]
+struct Drip {
+    left: usize,
+    then: Option<ErrorKind>,
+}
+
+impl Read for Drip {
+    fn read(&mut self, buf: &mut [u8]) -> io::Result<usize> {
+        if buf.is_empty() {
+            return Ok(0);
+        }
+        if self.left > 0 {
+            self.left -= 1;
+            buf[0] = b'a';
+            return Ok(1);
+        }
+        match self.then {
+            Some(kind) => Err(io::Error::from(kind)),
+            None => Ok(0),
+        }
+    }
+}
+
+#[test]
+fn readers(rt: HostRuntime) -> Result<(), Fail> {
+    let alloc = rt.alloc();
+    let mut whole = Drip {
+        left: 5,
+        then: None,
+    };
+    let text = read_text(alloc, &mut whole);
+    let Ok(bytes) = text else {
+        return Err(Fail::from("all bytes are read"));
+    };
+    assert_eq!(rt; bytes.as_slice(), b"aaaaa".as_slice());
+    for (kind, fault) in [
+        (ErrorKind::Other, ReadFault::CannotRead),
+        (ErrorKind::OutOfMemory, ReadFault::NoMemory),
+    ] {
+        let mut broken = Drip {
+            left: 3,
+            then: Some(kind),
+        };
+        match read_text(alloc, &mut broken) {
+            Ok(_) => return Err(Fail::from("the read fails")),
+            Err(got) => assert_eq!(rt; got, fault),
+        }
+    }
+    Ok(())
+}

@@ -1,0 +1,168 @@
+//! Words of a line: numbers, registers, globals.
+
+ghost use Rattle.std.specs.Prelude.{◌≡◌, ◌≤◌, ◌<◌, ◌+◌, ◌∷◌, [], ℕ, IfSome, IfNone, length, map, take, drop};
+ghost use Rattle.std.specs.Fmt.{decimal};
+ghost use Rattle.script_text.specs.Spelling.{register_word};
+ghost use Rattle.script_text.specs.Reading.{number_of, small, register_of, global_of, value_of};
+ghost use Rattle.script_text.specs.Lines.{pieces_of, words_of};
+ghost use Rattle.object_graph.specs.declared.step.Register.{Register};
+
+use object_graph::{GlobalRoot, Register};
+
+/// A line without its line feed, and its words. Only the first seven are kept: no good line has more.
+#[derive(Clone, Copy)]
+pub(crate) struct Line<'a> {
+    pub(crate) bytes: &'a [u8],
+    words: [&'a [u8]; 7],
+    count: usize,
+    ghost within: { count ≤ 7 },
+    ghost split: { map (λ w. w.now) (take count words) ≡ take 7 (words_of bytes.now) },
+}
+
+impl<'a> Line<'a> {
+    /// The first seven words.
+    pub(crate) fn words(&self) -> &[&'a [u8]]
+        ensures { map (λ w. w.now) result.now ≡ take 7 (words_of self.now.bytes.now) }
+    {
+        &self.words[..self.count]
+    }
+}
+
+/// The line at the front of a text, where a line feed ends it.
+pub(crate) fn first_line(text: &[u8]) -> Option<Line<'_>>
+    ensures some { IfSome result (λ l. pieces_of text.now ≡ l.bytes.now ∷ pieces_of (drop (length l.bytes.now + 1) text.now)) }
+    ensures within { IfSome result (λ l. length l.bytes.now < length text.now) }
+    ensures none { IfNone result (pieces_of text.now ≡ text.now ∷ []) }
+{
+    let mut words: [&[u8]; 7] = [&text[..0]; 7];
+    let mut count = 0;
+    let mut start = 0;
+    let mut at = 0;
+    while at < text.len() {
+        let byte = text[at];
+        if byte > b' ' {
+            at += 1;
+            continue;
+        }
+        if byte == b'\n' {
+            if count < 7 {
+                words[count] = &text[start..at];
+                count += 1;
+            }
+            return Some(Line {
+                bytes: &text[..at],
+                words,
+                count,
+            });
+        }
+        if byte == b' ' && count < 7 {
+            words[count] = &text[start..at];
+            count += 1;
+            start = at + 1;
+        }
+        at += 1;
+    }
+    None
+}
+
+/// The number of which a word is the decimal spelling, where it is at most the limit.
+fn spelled_number(word: &[u8], limit: u64) -> Option<u64>
+    ensures some { IfSome result (λ n. (word.now ≡ decimal n) × (n ≤ limit)) }
+    ensures none { IfNone result ((n : ℕ) → n ≤ limit → word.now ≡ decimal n → ⊥) }
+{
+    if word.is_empty() {
+        return None;
+    }
+    if word.len() > 1 && word[0] == b'0' {
+        return None;
+    }
+    let mut value = 0u64;
+    let mut at = 0;
+    while at < word.len() {
+        let byte = word[at];
+        if byte < b'0' || byte > b'9' {
+            return None;
+        }
+        let Some(tens) = value.checked_mul(10) else {
+            return None;
+        };
+        let Some(next) = tens.checked_add((byte - b'0') as u64) else {
+            return None;
+        };
+        value = next;
+        at += 1;
+    }
+    if value > limit {
+        return None;
+    }
+    Some(value)
+}
+
+/// The number that a word spells, where it is at most the limit.
+pub(crate) fn number(word: &[u8], limit: u64) -> Option<u64>
+    ensures exact { result ≡ number_of limit word.now }
+    ensures fits { IfSome result (λ n. n ≤ limit) }
+{
+    spelled_number(word, limit)
+}
+
+/// The number that a word spells, where it fits 32 bits.
+pub(crate) fn small_number(word: &[u8]) -> Option<u32>
+    ensures { result ≡ number_of small word.now }
+{
+    let value = number(word, 0xffff_ffff)?;
+    Some(value as u32)
+}
+
+/// The register that a word spells.
+fn spelled_register(word: &[u8]) -> Option<Register>
+    ensures some { IfSome result (λ r. word.now ≡ register_word r) }
+    ensures none { IfNone result ((r : Register) → word.now ≡ register_word r → ⊥) }
+{
+    if word.len() != 2 || word[0] != b'r' {
+        return None;
+    }
+    let digit = word[1];
+    if digit < b'0' || digit > b'7' {
+        return None;
+    }
+    Some(Register {
+        number: digit - b'0',
+    })
+}
+
+/// The register that a word spells, `r0` to `r7`.
+pub(crate) fn register(word: &[u8]) -> Option<Register>
+    ensures { result ≡ register_of word.now }
+{
+    spelled_register(word)
+}
+
+/// The global that a word spells, `g0` to `g15`.
+#[tactic(auto, using(crate::proofs::Numbers::global_numbered_is), unfolding(crate::specs::Reading::global_of))]
+pub(crate) fn global(word: &[u8]) -> Option<GlobalRoot>
+    ensures { result ≡ global_of word.now }
+{
+    let [first, digits @ ..] = word else {
+        return None;
+    };
+    if *first != b'g' {
+        return None;
+    }
+    let number = number(digits, 15)?;
+    Some(GlobalRoot {
+        number: number as u8,
+    })
+}
+
+/// Nil, or the register that a word spells.
+#[tactic(auto, unfolding(crate::specs::Reading::value_of))]
+pub(crate) fn value(word: &[u8]) -> Option<Option<Register>>
+    ensures { result ≡ value_of word.now }
+{
+    if word == b"nil".as_slice() {
+        return Some(None);
+    }
+    let register = register(word)?;
+    Some(Some(register))
+}

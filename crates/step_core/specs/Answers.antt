@@ -1,0 +1,40 @@
+-- What a step answers, in the words of the graph.
+use Rattle.std.specs.Prelude.{◌≡◌, ℕ, ◌+◌, ◌*◌, ◌<◌, ◌⊎◌, Option, Some, None}
+use Rattle.heap_model.specs.Graph.{Graph, next_name}
+use Rattle.object_graph.specs.Machine.{act}
+use Rattle.object_graph.specs.Run.{Happens}
+use Rattle.object_graph.specs.declared.step.Action.{Action}
+use Rattle.object_graph.specs.declared.step.Action.TheVariants as actions
+use Rattle.object_graph.specs.declared.step.Op.{Op}
+use Rattle.object_graph.specs.declared.step.Step.{Step}
+use Rattle.object_graph.specs.declared.step.Reply.{Reply}
+use Rattle.object_graph.specs.declared.step.Reply.TheVariants as replies
+use Rattle.object_graph.specs.declared.step.Refusal.TheVariants as refusals
+use Rattle.alloc_buffers.specs.Placement.{place_of}
+use Rattle.step_core.specs.Stands.{CoreState, Stands}
+
+-- the reply is the graph's, and the core stands for the graph after it
+pub record Acts (g : Graph) (m : ℕ) (a : Action) (reply : Reply) (c : CoreState) : Type 0 where
+  pub reply_is : reply ≡ (act g m a).0
+  pub stands : Stands (act g m a).1 c
+
+-- no place for so many words: they are more than half a region, or placement finds none
+abbrev pub HasNoPlace : CoreState → ℕ → ℕ → Type 0
+HasNoPlace c m size = (c.table.words_per_region < 2 * size) ⊎ (place_of c.table c.buffers m size ≡ None)
+
+-- the graph creates an object, and the heap has no place for it
+abbrev pub IsFull : Graph → ℕ → Action → CoreState → Type 0
+IsFull g m (actions.New to p d) c = ((act g m (actions.New to p d)).0 ≡ replies.Named (Some (next_name g))) × HasNoPlace c m (2 + p + d)
+IsFull g m _ c = ⊥
+
+-- the core as it was, and the reply Full, where the graph creates an object that has no place
+pub record RepliesFull (g : Graph) (m : ℕ) (a : Action) (c : CoreState) (reply : Reply) (c' : CoreState) : Type 0 where
+  pub reply_is : reply ≡ replies.Refused refusals.Full
+  pub full : IsFull g m a c
+  pub same : c' ≡ c
+
+-- the step takes the graph to another one, for which the core stands then
+pub record Follows (g : Graph) (step : Step) (reply : Reply) (c : CoreState) : Type 0 where
+  pub after : Graph
+  pub happens : Happens g step reply after
+  pub stands : Stands after c

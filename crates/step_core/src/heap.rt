@@ -1,0 +1,137 @@
+//! The core: the heap's layers in one value, and its root places.
+
+ghost use Rattle.std.specs.Prelude.{◌≡◌, ℕ, ◌<◌, ◌≤◌, ◌+◌, ◌*◌, length, Option, Some, None, slice_index_or, IfOk, IfErr, OnOk, replicate};
+ghost use Rattle.heap_words.specs.Configs.{Suits, IsNewFault};
+ghost use Rattle.heap_model.specs.Graph.{Graph};
+ghost use Rattle.heap_model.specs.Heap.{IsShown};
+ghost use Rattle.object_graph.specs.State.{first_state, register_place, with_root, root_at};
+ghost use Rattle.step_core.specs.Stands.{Stands, heap_of, IsWordOf, Leads, name_in};
+
+use alloc_buffers::AllocBuffers;
+use heap_words::addr::{Addr, Ptr};
+use heap_words::config::{Config, NewFault};
+use object_graph::Register;
+use regions::RegionTable;
+use std::alloc::{AllocError, Global};
+use std::marker::Model;
+
+/// A heap: its table of regions, its allocation buffers, its roots and the name of its next object.
+#[derive(Drop)]
+pub struct Core {
+    pub(crate) config: Config,
+    pub(crate) table: RegionTable,
+    pub(crate) buffers: AllocBuffers,
+    pub(crate) roots: Vec<Ptr>,
+    pub(crate) next: u64,
+}
+
+impl Model for Core {
+    ghost use Rattle.step_core.specs.Stands.{CoreState, IsCore};
+
+    ghost Value = { CoreState };
+
+    ghost view = { λ c. record { config = c.config; table = c.table; buffers = c.buffers; roots = c.roots.items; next = c.next } };
+
+    ghost invariant = { λ c. IsCore (record { config = c.config; table = c.table; buffers = c.buffers; roots = c.roots.items; next = c.next }) };
+}
+
+/// Where a mutator's register stands among the roots, behind the 16 globals.
+pub(crate) fn register_index(mutator: u32, register: Register) -> usize
+    ensures { result ≡ register_place mutator register.number }
+{
+    16 + 8 * mutator as usize + register.number as usize
+}
+
+fn nil_roots(alloc: Global, count: usize) -> Result<Vec<Ptr>, AllocError>
+    ensures { IfOk result (λ v. v.items ≡ replicate count None) }
+{
+    vec![in alloc; None; count]
+}
+
+
+impl Core {
+    /// A heap with no objects, whose roots are nil.
+    pub fn new(alloc: Global, config: &Config) -> Result<Core, NewFault>
+        ensures stands { IfOk result (Stands (first_state config.now)) }
+        ensures config { IfOk result (λ c. c.config ≡ config.now) }
+        ensures suits { OnOk result (Suits config.now) }
+        ensures fault { IfErr result (IsNewFault config.now) }
+    {
+        let table = match RegionTable::new(alloc, config) {
+            Ok(table) => table,
+            Err(fault) => return Err(fault),
+        };
+        let Ok(buffers) = AllocBuffers::new(alloc, config) else {
+            return Err(NewFault::NoMemory);
+        };
+        let Ok(roots) = nil_roots(alloc, 16 + 8 * config.mutators as usize) else {
+            return Err(NewFault::NoMemory);
+        };
+        Ok(Core {
+            config: *config,
+            table,
+            buffers,
+            roots,
+            next: config.first_name,
+        })
+    }
+
+    /// The heap's sizes.
+    pub fn config(&self) -> Config
+        ensures config { result ≡ self.now.config }
+        ensures suits { Suits result }
+    {
+        self.config
+    }
+
+    /// What a root place holds.
+    pub(crate) fn root(&self, place: usize) -> Ptr
+        requires { place < 16 + 8 * self.now.config.mutators }
+        ensures value { result ≡ slice_index_or self.now.roots place None }
+        ensures word { IsWordOf (heap_of self.now) result }
+        ensures leads { Leads self.now place result }
+        ensures shows { (g : Graph) → Stands g self.now → IsShown (heap_of self.now) result (root_at g place) }
+    {
+        self.roots[place]
+    }
+
+    pub(crate) fn set_root(&mut self, place: usize, value: Ptr)
+        requires place { place < 16 + 8 * self.old.config.mutators }
+        requires word { IsWordOf (heap_of self.old) value }
+        ensures config { self.new.config ≡ self.old.config }
+        ensures stands { (g : Graph) (v : Option ℕ) → Stands g self.old → IsShown (heap_of self.old) value v → Stands (with_root g place v) self.new }
+    {
+        self.roots[place] = value;
+    }
+
+    /// What a mutator's register holds.
+    pub(crate) fn register(&self, mutator: u32, register: Register) -> Ptr
+        requires { mutator < self.now.config.mutators }
+        ensures word { IsWordOf (heap_of self.now) result }
+        ensures leads { Leads self.now (register_place mutator register.number) result }
+        ensures shows { (g : Graph) → Stands g self.now → IsShown (heap_of self.now) result (root_at g (register_place mutator register.number)) }
+    {
+        self.root(register_index(mutator, register))
+    }
+
+    pub(crate) fn set_register(&mut self, mutator: u32, register: Register, value: Ptr)
+        requires mutator { mutator < self.old.config.mutators }
+        requires word { IsWordOf (heap_of self.old) value }
+        ensures config { self.new.config ≡ self.old.config }
+        ensures stands { (g : Graph) (v : Option ℕ) → Stands g self.old → IsShown (heap_of self.old) value v → Stands (with_root g (register_place mutator register.number) v) self.new }
+    {
+        let place = register_index(mutator, register);
+        self.set_root(place, value);
+    }
+
+    /// The name of the object that a word names.
+    pub(crate) fn name_of(&self, target: &Ptr) -> Option<u64>
+        requires { IsWordOf (heap_of self.now) target.now }
+        ensures { result ≡ name_in self.now.table target.now }
+    {
+        match target {
+            None => None,
+            Some(at) => Some(self.table.name(*at)),
+        }
+    }
+}

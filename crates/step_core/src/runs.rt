@@ -1,0 +1,102 @@
+//! A list of steps, one after another, in a new heap.
+
+ghost use Rattle.std.specs.Prelude.{◌≡◌, ◌<◌, All, IfOk, IfErr, OnOk, map};
+ghost use Rattle.heap_words.specs.Configs.{Suits, IsNewFault};
+ghost use Rattle.heap_model.specs.Graph.{Graph};
+ghost use Rattle.object_graph.specs.State.{first_state};
+ghost use Rattle.object_graph.specs.Run.{IsRun};
+ghost use Rattle.object_graph.specs.declared.step.Step.TheVariants as steps;
+ghost use Rattle.heap_words.specs.declared.config.Config.{Config};
+ghost use Rattle.step_core.specs.Stands.{Stands};
+ghost use Rattle.step_core.specs.Histories.{Runs, RunsFromNew, step_of, IsMutatorStep, IsRunFault};
+
+use crate::heap::Core;
+use heap_words::config::{Config, NewFault};
+use object_graph::{Actor, Event, Op, Record, Step};
+use std::alloc::{AllocError, Global};
+use thiserror::Error;
+
+/// Why a run gave no record.
+#[derive(Clone, Copy, Debug, PartialEq, Eq, Error)]
+pub enum RunFault {
+    /// A count of workers or of background actors is out of range.
+    #[error("1 BadWorkers")]
+    BadWorkers,
+    /// Memory was refused.
+    #[error("2 NoMemory")]
+    NoMemory,
+    /// No thread could be started.
+    #[error("3 NoWorker")]
+    NoWorker,
+    /// A script isn't at its end.
+    #[error("4 Unfinished")]
+    Unfinished,
+    /// The heap's sizes don't suit.
+    #[error("5 Heap")]
+    Heap(NewFault),
+}
+
+/// The step as a mutator's.
+fn op_of(config: &Config, step: &Step) -> Op
+    requires { IsMutatorStep config.now step.now }
+    ensures step { step.now ≡ steps.Mutator result }
+    ensures known { result.mutator < config.now.mutators }
+{
+    match step {
+        Step::Mutator(op) => *op,
+        Step::Collector(_) => unreachable!(),
+    }
+}
+
+/// Does the steps in order, in a core.
+fn run_on(alloc: Global, core: &mut Core, steps: &[Step]) -> Result<Record, AllocError>
+    requires { All (IsMutatorStep core.old.config) steps.now }
+    ensures config { IfOk result (λ r. r.config ≡ core.old.config) }
+    ensures steps { IfOk result (λ r. map step_of r.events ≡ steps.now) }
+    ensures runs { IfOk result (λ r. (g : Graph) → Stands g core.old → Runs g core.old r.events core.new) }
+{
+    let config = core.config();
+    let mut done = Record::with_room(alloc, config, steps.len())?;
+    for step in steps {
+        let op = op_of(&config, step);
+        let reply = core.step(op);
+        done.push(Event {
+            actor: Actor::Mutator(op.mutator),
+            step: *step,
+            reply,
+        })?;
+    }
+    Ok(done)
+}
+
+/// Does the steps in order, in a new heap. The record's events are the steps in their order, each with
+/// its reply; between them stand cores and graphs, each core standing for its graph.
+pub fn run(alloc: Global, config: &Config, steps: &[Step]) -> Result<Record, RunFault>
+    requires { All (IsMutatorStep config.now) steps.now }
+    ensures config { IfOk result (λ r. r.config ≡ config.now) }
+    ensures steps { IfOk result (λ r. map step_of r.events ≡ steps.now) }
+    ensures history { IfOk result (λ r. RunsFromNew config.now r.events) }
+    // The replies are those of the graph.
+    ensures run { IfOk result (λ r. (last : Graph) × IsRun (first_state config.now) r.events last) }
+    ensures suits { OnOk result (Suits config.now) }
+    ensures fault { IfErr result (IsRunFault config.now) }
+{
+    let mut core = match Core::new(alloc, config) {
+        Ok(core) => core,
+        Err(fault) => return Err(run_fault(fault)),
+    };
+    let Ok(done) = run_on(alloc, &mut core, steps) else {
+        return Err(RunFault::NoMemory);
+    };
+    Ok(done)
+}
+
+/// The run's fault where no heap was made.
+fn run_fault(fault: NewFault) -> RunFault
+    ensures { (config : Config) → IsNewFault config fault → IsRunFault config result }
+{
+    match fault {
+        NewFault::NoMemory => RunFault::NoMemory,
+        other => RunFault::Heap(other),
+    }
+}

@@ -1,0 +1,205 @@
+//! The mutator's steps.
+
+ghost use Rattle.std.specs.Prelude.{◌≡◌, ℕ, ◌<◌, ◌≤◌, ◌+◌, ◌*◌, ◌↔◌, ◌≢◌, ◌⊎◌, Option, Some, None};
+ghost use Rattle.heap_model.specs.Graph.{Graph, next_name};
+ghost use Rattle.heap_model.specs.Heap.{IsShown};
+ghost use Rattle.object_graph.specs.Machine.{stored};
+ghost use Rattle.object_graph.specs.declared.step.Reply.TheVariants as replies;
+ghost use Rattle.object_graph.specs.declared.step.Refusal.TheVariants as refusals;
+ghost use Rattle.step_core.specs.Stands.{Stands, heap_of, IsWordOf};
+ghost use Rattle.step_core.specs.Answers.{Acts, HasNoPlace, IsFull, RepliesFull, Follows};
+
+use crate::heap::{Core, register_index};
+use heap_words::addr::Ptr;
+use heap_words::config::Config;
+use heap_words::header::{Count, Counts, FillerSize};
+use object_graph::{Action, GlobalRoot, Op, Refusal, Register, Reply};
+
+impl Core {
+    ghost use Rattle.object_graph.specs.declared.step.Action.TheVariants as actions;
+    ghost use Rattle.object_graph.specs.declared.step.Step.TheVariants as steps;
+
+    fn get(&mut self, mutator: u32, to: Register, object: Register, field: u32) -> Reply
+        requires { mutator < self.old.config.mutators }
+        ensures acts { (g : Graph) → Stands g self.old → Acts g mutator (actions.Get to object field) result self.new }
+        ensures config { self.new.config ≡ self.old.config }
+    {
+        let Some(at) = self.register(mutator, object) else {
+            return Reply::Refused(Refusal::Nil);
+        };
+        if field >= self.table.pointer_count(at) {
+            return Reply::Refused(Refusal::NoField);
+        }
+        let value = self.table.get_ptr(at, field);
+        let name = self.name_of(&value);
+        self.set_register(mutator, to, value);
+        Reply::Named(name)
+    }
+
+    fn read(&self, mutator: u32, object: Register, field: u32) -> Reply
+        requires { mutator < self.now.config.mutators }
+        ensures { (g : Graph) → Stands g self.now → Acts g mutator (actions.Read object field) result self.now }
+    {
+        let Some(at) = self.register(mutator, object) else {
+            return Reply::Refused(Refusal::Nil);
+        };
+        if field >= self.table.value_count(at) {
+            return Reply::Refused(Refusal::NoField);
+        }
+        Reply::Word(self.table.get_data(at, field))
+    }
+
+    /// What `put` stores: nil, or what a register holds.
+    fn stored(&self, mutator: u32, value: Option<Register>) -> Ptr
+        requires { mutator < self.now.config.mutators }
+        ensures word { IsWordOf (heap_of self.now) result }
+        ensures shows { (g : Graph) → Stands g self.now → IsShown (heap_of self.now) result (stored g mutator value) }
+    {
+        match value {
+            None => None,
+            Some(register) => self.register(mutator, register),
+        }
+    }
+
+    fn put(&mut self, mutator: u32, object: Register, field: u32, value: Option<Register>) -> Reply
+        requires { mutator < self.old.config.mutators }
+        ensures acts { (g : Graph) → Stands g self.old → Acts g mutator (actions.Put object field value) result self.new }
+        ensures config { self.new.config ≡ self.old.config }
+    {
+        let Some(at) = self.register(mutator, object) else {
+            return Reply::Refused(Refusal::Nil);
+        };
+        let target = self.stored(mutator, value);
+        if field >= self.table.pointer_count(at) {
+            return Reply::Refused(Refusal::NoField);
+        }
+        self.table.set_ptr(at, field, target);
+        Reply::Done
+    }
+
+    fn write(&mut self, mutator: u32, object: Register, field: u32, value: u64) -> Reply
+        requires { mutator < self.old.config.mutators }
+        ensures acts { (g : Graph) → Stands g self.old → Acts g mutator (actions.Write object field value) result self.new }
+        ensures config { self.new.config ≡ self.old.config }
+    {
+        let Some(at) = self.register(mutator, object) else {
+            return Reply::Refused(Refusal::Nil);
+        };
+        if field >= self.table.value_count(at) {
+            return Reply::Refused(Refusal::NoField);
+        }
+        self.table.set_data(at, field, value);
+        Reply::Done
+    }
+
+    fn move_register(&mut self, mutator: u32, to: Register, from: Register) -> Reply
+        requires { mutator < self.old.config.mutators }
+        ensures acts { (g : Graph) → Stands g self.old → Acts g mutator (actions.Move to from) result self.new }
+        ensures config { self.new.config ≡ self.old.config }
+    {
+        let value = self.register(mutator, from);
+        self.set_register(mutator, to, value);
+        Reply::Done
+    }
+
+    fn drop_register(&mut self, mutator: u32, register: Register) -> Reply
+        requires { mutator < self.old.config.mutators }
+        ensures acts { (g : Graph) → Stands g self.old → Acts g mutator (actions.Drop register) result self.new }
+        ensures config { self.new.config ≡ self.old.config }
+    {
+        self.set_register(mutator, register, None);
+        Reply::Done
+    }
+
+    fn load(&mut self, mutator: u32, to: Register, from: GlobalRoot) -> Reply
+        requires { mutator < self.old.config.mutators }
+        ensures acts { (g : Graph) → Stands g self.old → Acts g mutator (actions.Load to from) result self.new }
+        ensures config { self.new.config ≡ self.old.config }
+    {
+        let value = self.root(from.number as usize);
+        let name = self.name_of(&value);
+        self.set_register(mutator, to, value);
+        Reply::Named(name)
+    }
+
+    fn save(&mut self, mutator: u32, to: GlobalRoot, from: Register) -> Reply
+        requires { mutator < self.old.config.mutators }
+        ensures acts { (g : Graph) → Stands g self.old → Acts g mutator (actions.Save to from) result self.new }
+        ensures config { self.new.config ≡ self.old.config }
+    {
+        let value = self.register(mutator, from);
+        self.set_root(to.number as usize, value);
+        Reply::Done
+    }
+
+    fn shape(&self, mutator: u32, object: Register) -> Reply
+        requires { mutator < self.now.config.mutators }
+        ensures { (g : Graph) → Stands g self.now → Acts g mutator (actions.Shape object) result self.now }
+    {
+        let Some(at) = self.register(mutator, object) else {
+            return Reply::Refused(Refusal::Nil);
+        };
+        Reply::Shape {
+            pointers: self.table.pointer_count(at),
+            values: self.table.value_count(at),
+        }
+    }
+
+    fn new_object(&mut self, mutator: u32, to: Register, pointers: u32, values: u32) -> Reply
+        requires { mutator < self.old.config.mutators }
+        ensures acts { (g : Graph) → Stands g self.old → Acts g mutator (actions.New to pointers values) result self.new
+            ⊎ RepliesFull g mutator (actions.New to pointers values) self.old result self.new }
+        ensures config { self.new.config ≡ self.old.config }
+        ensures full { HasNoPlace self.old mutator (2 + pointers + values) → (name : Option ℕ) → result ≢ replies.Named name }
+    {
+        let size = 2 + u64::from(pointers) + u64::from(values);
+        let Config { regions, words, .. } = self.config;
+        if u64::from(regions) * u64::from(words) < size {
+            return Reply::Refused(Refusal::TooBig);
+        }
+        if self.next == u64::MAX {
+            return Reply::Refused(Refusal::NamesSpent);
+        }
+        self.table.law();
+        // A larger object has no place yet.
+        if u64::from(words) < 2 * size {
+            return Reply::Refused(Refusal::Full);
+        }
+        let Ok(at) = self.buffers.place(&mut self.table, mutator, size as u32) else {
+            return Reply::Refused(Refusal::Full);
+        };
+        let name = self.next;
+        self.table.law();
+        let counts = Counts {
+            pointers: Count::new(pointers),
+            values: Count::new(values),
+        };
+        self.table.make_object(at, FillerSize::new(size as u32), name, counts);
+        self.roots[register_index(mutator, to)] = Some(at);
+        self.next += 1;
+        Reply::Named(Some(name))
+    }
+
+    /// Does a mutator's step. The reply is Full exactly where the graph would create an object and the
+    /// heap has no place for it. No step takes memory.
+    pub fn step(&mut self, op: Op) -> Reply
+        requires { op.mutator < self.old.config.mutators }
+        ensures follows { (g : Graph) → Stands g self.old → Follows g (steps.Mutator op) result self.new }
+        ensures full { (g : Graph) → Stands g self.old → (result ≡ replies.Refused refusals.Full) ↔ IsFull g op.mutator op.action self.old }
+        ensures config { self.new.config ≡ self.old.config }
+    {
+        let mutator = op.mutator;
+        match op.action {
+            Action::New { to, pointers, values } => self.new_object(mutator, to, pointers, values),
+            Action::Get { to, object, field } => self.get(mutator, to, object, field),
+            Action::Put { object, field, value } => self.put(mutator, object, field, value),
+            Action::Read { object, field } => self.read(mutator, object, field),
+            Action::Write { object, field, value } => self.write(mutator, object, field, value),
+            Action::Move { to, from } => self.move_register(mutator, to, from),
+            Action::Drop { register } => self.drop_register(mutator, register),
+            Action::Load { to, from } => self.load(mutator, to, from),
+            Action::Save { to, from } => self.save(mutator, to, from),
+            Action::Shape { object } => self.shape(mutator, object),
+        }
+    }
+}
