@@ -1,21 +1,20 @@
 -- What a placement changes.
-use Rattle.std.proofs.Common.{◌≡◌, ◌≢◌, ℕ, zero, suc, ◌+◌, ◌-◌, ◌*◌, ◌/◌, ◌<◌, ◌≤◌, ◌⊎◌, Option, Some, None, List, [], ◌∷◌, length, refl, sym, ◌∙◌, ap, subst, arith, inl, inr}
-use Rattle.std.specs.Prelude.{slice_get, slice_set, Bool, true, false, nat_le, IfSome}
+use Rattle.std.proofs.Common.{◌≡◌, ◌≢◌, ℕ, zero, suc, ◌+◌, ◌-◌, ◌*◌, ◌<◌, ◌≤◌, ◌⊎◌, Option, Some, None, List, ◌∷◌, length, refl, sym, ◌∙◌, ap, subst, arith, inl, inr}
+use Rattle.std.specs.Prelude.{slice_get, slice_set}
 use Rattle.std.proofs.lemmas.Bool.Decides.{leb_tells}
 use Rattle.std.proofs.lemmas.List.{length-set}
 use Rattle.std.proofs.lemmas.Option.{slice_get-get_or}
 use Rattle.std.proofs.Common.{get_or, replicate}
 use Rattle.std.proofs.lemmas.Bool.{cases_lt, cases_eq}
 use Rattle.heap_model.proofs.Lists.{get-set_cases, get-set_same, get-set_other}
-use Rattle.regions.specs.Tiles.{Tile, Gap, Live, tile_at, tile_size, total_size}
-use Rattle.heap_model.specs.Heap.{Stored}
+use Rattle.regions.specs.Tiles.{Tile, Gap, tile_at, total_size}
 use Rattle.regions.specs.declared.row.Kind.TheVariants as kinds
 use Rattle.regions.specs.Walks.{AllPositive, AreFitting}
 use Rattle.regions.specs.Table.{Table, used_of, kind_of, first_free, taken, push_tile, replace_tile, gap, tile_in, object_at, HasNoMoved, EachMoved, tile_object}
-use Rattle.regions.proofs.Placing.{Replaces, gap_replaced, Pushed, gap_push, Takes, region_taken}
+use Rattle.regions.proofs.Placing.{Replaces, gap_replaced, Pushed, gap_push, region_taken}
 use Rattle.regions.proofs.Changes.{object_same}
 use Rattle.alloc_buffers.specs.declared.Buffer.{Buffer}
-use Rattle.alloc_buffers.specs.Placement.{Buffers, Placement, Room, BuffersStand, HasFiller, IsPlaced, HasRoom, buffer_of, with_buffer, top_of, alone, room_for, in_new_buffer, with_gap, closed}
+use Rattle.alloc_buffers.specs.Placement.{Buffers, BuffersStand, HasFiller, IsPlaced, HasRoom, buffer_of, with_buffer, top_of, alone, room_for, in_new_buffer, with_gap, closed}
 
 -- an open buffer is at its address
 buffer_at : (next rest : ℕ) (x : Buffer) → buffer_of next rest ≡ Some x → (x.next ≡ next) × (x.rest ≡ rest) × (0 < rest)
@@ -42,7 +41,6 @@ gap_unmoved : (r : ℕ) → EachMoved (λ _. ⊥) (gap r)
 gap_unmoved zero = tt
 gap_unmoved (suc r) = tt
 
-
 alone_void : (n j : ℕ) → tile_object (tile_at j (gap n)) ≡ None
 alone_void zero j = refl
 alone_void (suc n) zero = refl
@@ -66,12 +64,12 @@ second_part (suc s) (suc r) p q =
 
 set_cases : {A : Type 0} (xs : List A) (i j : ℕ) (v w : A) → slice_get (slice_set xs i v) j ≡ Some w → ((j ≡ i) × (w ≡ v)) ⊎ ((j ≢ i) × (slice_get xs j ≡ Some w))
 set_cases xs i j v w e = elim (cases_eq j i) [
-    inl q ↦ elim (get-set_cases xs i j v w e) [
-        inl is ↦ inl (q, is)
-      | inr was ↦ let same : slice_get (slice_set xs i v) j ≡ Some v = subst (λ (k : ℕ). slice_get (slice_set xs k v) j ≡ Some v) q (get-set_same xs j v w was) in inl (q, cc)
-    ]
-  | inr n ↦ inr (n, sym (get-set_other xs i j v (λ h. n (sym h))) ∙ e)
+  | inl q ↦ elim (get-set_cases xs i j v w e) [
+    | inl is ↦ inl (q, is)
+    | inr was ↦ let same : slice_get (slice_set xs i v) j ≡ Some v = subst (λ (k : ℕ). slice_get (slice_set xs k v) j ≡ Some v) q (get-set_same xs j v w was) in inl (q, cc)
   ]
+  | inr n ↦ inr (n, sym (get-set_other xs i j v (λ h. n (sym h))) ∙ e)
+]
 
 -- an object's filler at a region's top
 pub top_placed : (t t1 t2 : Table) (b : Buffers) (opens : List (Option Buffer)) (k w size a : ℕ) → BuffersStand t b → HasNoMoved t → HasRoom t t1 k w → Pushed t1 t2 k a (Gap size)
@@ -79,14 +77,14 @@ pub top_placed : (t t1 t2 : Table) (b : Buffers) (opens : List (Option Buffer)) 
     → IsPlaced t t2 b (record { words = b.words; current = Some k; open_buffers = opens }) size a
 top_placed t t1 t2 b opens k w size a s none r p old count =
     let apart : (m : ℕ) (x : Buffer) → slice_get opens m ≡ Some (Some x) → x.next ≢ a = λ m x e h.
-        let f = s.fillers m x (old m x e) in
-        let here : tile_in t a ≡ Some (Gap x.rest) = subst (λ (y : ℕ). tile_in t y ≡ Some (Gap x.rest)) h f.filler in
-        let void : tile_in t a ≡ None = sym (r.tiles a) ∙ p.was in cc in
+    let f = s.fillers m x (old m x e) in
+    let here : tile_in t a ≡ Some (Gap x.rest) = subst (λ (y : ℕ). tile_in t y ≡ Some (Gap x.rest)) h f.filler in
+    let void : tile_in t a ≡ None = sym (r.tiles a) ∙ p.was in cc in
     record {
       filler = p.is;
       spare = apart;
       objects = λ y. elim (cases_eq y a) [
-          inl q ↦ rw q (object_none t2 a size p.is ∙ sym (object_void t a (sym (r.tiles a) ∙ p.was)))
+        | inl q ↦ rw q (object_none t2 a size p.is ∙ sym (object_void t a (sym (r.tiles a) ∙ p.was)))
         | inr n ↦ object_same t t2 y (p.others y n ∙ r.tiles y)
       ];
       unmoved = p.unmoved (r.unmoved none);
@@ -107,21 +105,21 @@ pub rest_placed : (t t2 t3 : Table) (b b2 : Buffers) (m k size rest a a2 : ℕ) 
 rest_placed t t2 t3 b b2 m k size rest a a2 s p z =
     let buffer : Buffer = record { next = a2; rest = rest } in
     let away : a ≢ a2 = λ h.
-        let here : tile_in t2 a2 ≡ Some (Gap size) = subst (λ (y : ℕ). tile_in t2 y ≡ Some (Gap size)) h s.filler in
-        let void = p.was in cc in
+    let here : tile_in t2 a2 ≡ Some (Gap size) = subst (λ (y : ℕ). tile_in t2 y ≡ Some (Gap size)) h s.filler in
+    let void = p.was in cc in
     let next_is : (x : Buffer) → Some x ≡ Some buffer → x.next ≡ a2 = λ x e. let same : x ≡ buffer = cc in ap (λ (y : Buffer). y.next) same in
     let other : (n : ℕ) (x : Buffer) → slice_get b2.open_buffers n ≡ Some (Some x) → x.next ≢ a2 = λ n x e h.
-        let f = s.stand.fillers n x e in
-        let here : tile_in t2 a2 ≡ Some (Gap x.rest) = subst (λ (y : ℕ). tile_in t2 y ≡ Some (Gap x.rest)) h f.filler in
-        let void = p.was in cc in
+    let f = s.stand.fillers n x e in
+    let here : tile_in t2 a2 ≡ Some (Gap x.rest) = subst (λ (y : ℕ). tile_in t2 y ≡ Some (Gap x.rest)) h f.filler in
+    let void = p.was in cc in
     record {
       filler = p.others a away ∙ s.filler;
       spare = λ n x e. elim (set_cases b2.open_buffers m n (Some buffer) (Some x) e) [
-          inl q ↦ λ h. away (sym h ∙ next_is x q.1)
+        | inl q ↦ λ h. away (sym h ∙ next_is x q.1)
         | inr q ↦ s.spare n x q.1
       ];
       objects = λ y. elim (cases_eq y a2) [
-          inl q ↦ rw q (object_none t3 a2 rest p.is ∙ sym (sym (s.objects a2) ∙ object_void t2 a2 p.was))
+        | inl q ↦ rw q (object_none t3 a2 rest p.is ∙ sym (sym (s.objects a2) ∙ object_void t2 a2 p.was))
         | inr n ↦ object_same t2 t3 y (p.others y n) ∙ s.objects y
       ];
       unmoved = p.unmoved s.unmoved;
@@ -130,18 +128,18 @@ rest_placed t t2 t3 b b2 m k size rest a a2 s p z =
         known = λ j e. rw p.count (s.stand.known j e);
         ordinary = λ j e. p.kinds_same j ∙ s.stand.ordinary j e;
         fillers = λ n x e. elim (set_cases b2.open_buffers m n (Some buffer) (Some x) e) [
-            inl q ↦ let same : buffer ≡ x = (let h = q.1 in cc) in subst (HasFiller t3) same (record { positive = z; filler = p.is })
+          | inl q ↦ let same : buffer ≡ x = (let h = q.1 in cc) in subst (HasFiller t3) same (record { positive = z; filler = p.is })
           | inr q ↦ let f = s.stand.fillers n x q.1 in record { positive = f.positive; filler = p.others x.next (other n x q.1) ∙ f.filler }
         ];
         apart = λ i j x y ex ey h. elim (set_cases b2.open_buffers m i (Some buffer) (Some x) ex) [
-            inl q ↦ elim (set_cases b2.open_buffers m j (Some buffer) (Some y) ey) [
-                inl u ↦ q.0 ∙ sym u.0
-              | inr u ↦ absurd (other j y u.1 (sym h ∙ next_is x q.1))
-            ]
+          | inl q ↦ elim (set_cases b2.open_buffers m j (Some buffer) (Some y) ey) [
+            | inl u ↦ q.0 ∙ sym u.0
+            | inr u ↦ absurd (other j y u.1 (sym h ∙ next_is x q.1))
+          ]
           | inr q ↦ elim (set_cases b2.open_buffers m j (Some buffer) (Some y) ey) [
-                inl u ↦ absurd (other i x q.1 (h ∙ next_is y u.1))
-              | inr u ↦ s.stand.apart i j x y q.1 u.1 h
-            ]
+            | inl u ↦ absurd (other i x q.1 (h ∙ next_is y u.1))
+            | inr u ↦ s.stand.apart i j x y q.1 u.1 h
+          ]
         ];
       };
       open_count = length-set b2.open_buffers m (Some buffer) ∙ s.open_count;
@@ -153,8 +151,15 @@ fresh_is t t' k n w first is small same =
     let is' : t' ≡ taken t (Some k) = is ∙ ap (taken t) (sym first) in
     let u = region_taken t k (sym first) in
     let facts : HasRoom t (taken t (Some k)) k w = record {
-      region_size = u.size; known = u.known; ordinary = u.ordinary; room = omega (arith, u.empty, u.size);
-      unmoved = u.unmoved; kinds_same = u.kinds_same; count = u.count; tiles = u.others } in
+      region_size = u.size;
+      known = u.known;
+      ordinary = u.ordinary;
+      room = omega (arith, u.empty, u.size);
+      unmoved = u.unmoved;
+      kinds_same = u.kinds_same;
+      count = u.count;
+      tiles = u.others;
+    } in
     subst (λ (j : ℕ). HasRoom t t' j w) (sym same) (subst (λ (v : Table). HasRoom t v k w) (sym is') facts)
 
 -- an object's filler at the start of a buffer
@@ -171,46 +176,46 @@ split_placed t t' b m size x s none z fitting here p le is =
     let start : x.next + 0 ≡ x.next = omega arith in
     let first : tile_in t' x.next ≡ Some (Gap size) = ap (tile_in t') (sym start) ∙ w.within 0 f.positive in
     let fresh : (y : Buffer) → buffer_of (x.next + size) r ≡ Some y → HasFiller t' y = λ y e.
-        let at = buffer_at (x.next + size) r y e in
-        let lt : size < n = omega (arith, at.2) in
-        record {
-          positive = omega (arith, at.1, at.2);
-          filler = ap (tile_in t') at.0 ∙ w.within size lt ∙ second_part size r p at.2 ∙ ap (λ (j : ℕ). Some (Gap j)) (sym at.1)
-        } in
+    let at = buffer_at (x.next + size) r y e in
+    let lt : size < n = omega (arith, at.2) in
+    record {
+      positive = omega (arith, at.1, at.2);
+      filler = ap (tile_in t') at.0 ∙ w.within size lt ∙ second_part size r p at.2 ∙ ap (λ (j : ℕ). Some (Gap j)) (sym at.1);
+    } in
     let off : (j : ℕ) (y : Buffer) → j ≢ m → slice_get b.open_buffers j ≡ Some (Some y) → (y.next < x.next) ⊎ (x.next + n ≤ y.next) = λ j y ne e.
-        let g = s.fillers j y e in
-        elim (cases_lt y.next x.next) [
-            inl lt ↦ inl lt
-          | inr ge ↦ elim (cases_lt y.next (x.next + n)) [
-              inl lt ↦ absurd (elim (cases_eq y.next x.next) [
-                  inl same ↦ ne (s.apart j m y x e here same)
-                | inr differ ↦
-                    let at : x.next + (y.next - x.next) ≡ y.next = omega arith in
-                    let void : tile_in t y.next ≡ None = ap (tile_in t) (sym at) ∙ w.inside (y.next - x.next) (omega arith) (omega arith) in
-                    let filler = g.filler in cc
-                ])
-            | inr past ↦ inr past
-            ]
-        ] in
+    let g = s.fillers j y e in
+    elim (cases_lt y.next x.next) [
+      | inl lt ↦ inl lt
+      | inr ge ↦ elim (cases_lt y.next (x.next + n)) [
+        | inl lt ↦ absurd (elim (cases_eq y.next x.next) [
+          | inl same ↦ ne (s.apart j m y x e here same)
+          | inr differ ↦
+              let at : x.next + (y.next - x.next) ≡ y.next = omega arith in
+              let void : tile_in t y.next ≡ None = ap (tile_in t) (sym at) ∙ w.inside (y.next - x.next) (omega arith) (omega arith) in
+              let filler = g.filler in cc
+        ])
+        | inr past ↦ inr past
+      ]
+    ] in
     record {
       filler = first;
       spare = λ j y e. elim (set_cases b.open_buffers m j (buffer_of (x.next + size) r) (Some y) e) [
-          inl q ↦ λ h. let at = buffer_at (x.next + size) r y (sym q.1) in omega (arith, at.0)
+        | inl q ↦ λ h. let at = buffer_at (x.next + size) r y (sym q.1) in omega (arith, at.0)
         | inr q ↦ λ h. q.0 (s.apart j m y x q.1 here h)
       ];
       objects = λ y. elim (cases_lt y x.next) [
-          inl lt ↦ object_same t t' y (w.others y (inl lt))
+        | inl lt ↦ object_same t t' y (w.others y (inl lt))
         | inr ge ↦ elim (cases_lt y (x.next + n)) [
-            inl lt ↦
+          | inl lt ↦
               let at : x.next + (y - x.next) ≡ y = omega arith in
               let after : object_at t' y ≡ None = object_by t' y _ (ap (tile_in t') (sym at) ∙ w.within (y - x.next) (omega arith)) (parts_void size r (y - x.next)) in
               let before : object_at t y ≡ None = elim (cases_eq y x.next) [
-                  inl same ↦ object_none t y n (ap (tile_in t) same ∙ f.filler)
+                | inl same ↦ object_none t y n (ap (tile_in t) same ∙ f.filler)
                 | inr differ ↦ object_void t y (ap (tile_in t) (sym at) ∙ w.inside (y - x.next) (omega arith) (omega arith))
               ] in
               after ∙ sym before
           | inr past ↦ object_same t t' y (w.others y (inr past))
-          ]
+        ]
       ];
       unmoved = w.unmoved none;
       region_size = w.size;
@@ -218,18 +223,18 @@ split_placed t t' b m size x s none z fitting here p le is =
         known = λ k e. rw w.count (s.known k e);
         ordinary = λ k e. w.kinds_same k ∙ s.ordinary k e;
         fillers = λ j y e. elim (set_cases b.open_buffers m j (buffer_of (x.next + size) r) (Some y) e) [
-            inl q ↦ fresh y (sym q.1)
+          | inl q ↦ fresh y (sym q.1)
           | inr q ↦ let g = s.fillers j y q.1 in record { positive = g.positive; filler = w.others y.next (off j y q.0 q.1) ∙ g.filler }
         ];
         apart = λ i j y u ey eu h. elim (set_cases b.open_buffers m i (buffer_of (x.next + size) r) (Some y) ey) [
-            inl q ↦ elim (set_cases b.open_buffers m j (buffer_of (x.next + size) r) (Some u) eu) [
-                inl v ↦ q.0 ∙ sym v.0
-              | inr v ↦ absurd (between y u j (sym q.1) h v.0 v.1)
-            ]
+          | inl q ↦ elim (set_cases b.open_buffers m j (buffer_of (x.next + size) r) (Some u) eu) [
+            | inl v ↦ q.0 ∙ sym v.0
+            | inr v ↦ absurd (between y u j (sym q.1) h v.0 v.1)
+          ]
           | inr q ↦ elim (set_cases b.open_buffers m j (buffer_of (x.next + size) r) (Some u) eu) [
-                inl v ↦ absurd (between u y i (sym v.1) (sym h) q.0 q.1)
-              | inr v ↦ s.apart i j y u q.1 v.1 h
-            ]
+            | inl v ↦ absurd (between u y i (sym v.1) (sym h) q.0 q.1)
+            | inr v ↦ s.apart i j y u q.1 v.1 h
+          ]
         ];
       };
       open_count = length-set b.open_buffers m _;
@@ -306,7 +311,7 @@ pub whole_placed : (t t1 t2 : Table) (c b : Buffers) (m k w size a : ℕ) → c 
     → IsPlaced t t2 b (record { words = c.words; current = Some k; open_buffers = slice_set c.open_buffers m None }) size a
 whole_placed t t1 t2 c b m k w size a e s none r p =
     subst (λ (d : Buffers). IsPlaced t t2 b (record { words = d.words; current = Some k; open_buffers = slice_set d.open_buffers m None }) size a) (sym e)
-      (top_placed t t1 t2 b (slice_set b.open_buffers m None) k w size a s none r p (less b m) (length-set b.open_buffers m None))
+    (top_placed t t1 t2 b (slice_set b.open_buffers m None) k w size a s none r p (less b m) (length-set b.open_buffers m None))
 
 some_buffer : (next rest : ℕ) → 0 < rest → buffer_of next rest ≡ Some (record { next = next; rest = rest })
 some_buffer next zero z = absurd (omega arith)
@@ -323,7 +328,7 @@ part_placed t t1 t2 t3 c b m k n w size rest a a2 next v e s none r le p same re
     let done = rest_placed t t2 t3 b _ m n size rest a a2 base pushed z in
     let v' : v ≡ Some (record { next = a2; rest = rest }) = v_is ∙ ap (λ (j : ℕ). buffer_of j rest) next_is ∙ some_buffer a2 rest z in
     subst (λ (d : Buffers). IsPlaced t t3 b (record { words = d.words; current = Some k; open_buffers = slice_set d.open_buffers m v }) size a) (sym e)
-      (subst (λ (u : Option Buffer). IsPlaced t t3 b (record { words = b.words; current = Some k; open_buffers = slice_set b.open_buffers m u }) size a) (sym v') done)
+    (subst (λ (u : Option Buffer). IsPlaced t t3 b (record { words = b.words; current = Some k; open_buffers = slice_set b.open_buffers m u }) size a) (sym v') done)
 
 pub in_new_is : (t t1 t2 t3 : Table) (c b : Buffers) (m n k size a : ℕ) (v : Option Buffer) → c ≡ b → n ≡ k → room_for t c.current c.words ≡ Some (record { region = k; table = t1 }) → a ≡ n * t1.words_per_region + used_of t1 n → t2 ≡ push_tile t1 n (Gap size)
     → t3 ≡ with_gap t2 k (c.words - size) → v ≡ buffer_of (a + size) (c.words - size)

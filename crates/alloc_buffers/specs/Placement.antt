@@ -1,7 +1,6 @@
 -- Where an object goes.
-use Rattle.std.specs.Prelude.{◌≡◌, ◌≢◌, ◌∷◌, [], ℕ, zero, suc, ◌+◌, ◌-◌, ◌*◌, ◌<◌, ◌≤◌, Option, Some, None, List, replicate, slice_get, slice_set, slice_index_or, length, if◌then◌else◌, nat_le}
-use Rattle.regions.specs.Tiles.{Tile, Gap}
-use Rattle.heap_model.specs.Heap.{Stored}
+use Rattle.std.specs.Prelude.{◌≡◌, ◌≢◌, ◌∷◌, ℕ, zero, suc, ◌+◌, ◌-◌, ◌*◌, ◌<◌, ◌≤◌, Option, Some, None, List, replicate, slice_get, slice_set, slice_index_or, length, if◌then◌else◌, nat_le}
+use Rattle.regions.specs.Tiles.{Gap}
 use Rattle.regions.specs.declared.row.Kind.TheVariants as kinds
 use Rattle.regions.specs.Table.{Table, used_of, kind_of, first_free, taken, push_tile, replace_tile, gap, tile_in, object_at, HasNoMoved}
 use Rattle.alloc_buffers.specs.declared.Buffer.{Buffer}
@@ -53,7 +52,7 @@ in_new_buffer b m size None = None
 in_new_buffer b m size (Some r) = Some (record {
   at = top_of r.table r.region;
   table = with_gap (push_tile r.table r.region (Gap size)) r.region (b.words - size);
-  buffers = with_buffer b (Some r.region) m (buffer_of (top_of r.table r.region + size) (b.words - size))
+  buffers = with_buffer b (Some r.region) m (buffer_of (top_of r.table r.region + size) (b.words - size));
 })
 
 abbrev pub alone : Buffers → ℕ → Option Room → Option Placement
@@ -61,7 +60,7 @@ alone b size None = None
 alone b size (Some r) = Some (record {
   at = top_of r.table r.region;
   table = push_tile r.table r.region (Gap size);
-  buffers = record { words = b.words; current = Some r.region; open_buffers = b.open_buffers }
+  buffers = record { words = b.words; current = Some r.region; open_buffers = b.open_buffers };
 })
 
 abbrev pub outside : Table → Buffers → ℕ → ℕ → Option Placement
@@ -71,7 +70,7 @@ abbrev pub in_buffer : Table → Buffers → ℕ → ℕ → Buffer → Placemen
 in_buffer t b m size x = record {
   at = x.next;
   table = replace_tile t x.next (Gap size ∷ gap (x.rest - size));
-  buffers = with_buffer b b.current m (buffer_of (x.next + size) (x.rest - size))
+  buffers = with_buffer b b.current m (buffer_of (x.next + size) (x.rest - size));
 }
 
 abbrev pub place_by : Table → Buffers → ℕ → ℕ → Option Buffer → Option Placement

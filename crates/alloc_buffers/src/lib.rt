@@ -203,7 +203,13 @@ impl AllocBuffers {
     }
 
     /// At the start of the mutator's buffer.
-    fn place_inside(&mut self, table: &mut RegionTable, mutator: u32, size: u32, buffer: Buffer) -> Addr
+    fn place_inside(
+        &mut self,
+        table: &mut RegionTable,
+        mutator: u32,
+        size: u32,
+        buffer: Buffer,
+    ) -> Addr
         requires mutator { mutator < length self.old.open_buffers }
         requires positive { 0 < size }
         requires small { size ≤ table.old.words_per_region }
@@ -272,3 +278,5 @@ impl AllocBuffers {
     }
 }
 
+#[cfg(test)]
+mod tests;

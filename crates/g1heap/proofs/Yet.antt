@@ -1,6 +1,5 @@
 -- A script's steps are steps that a run does.
-use Rattle.std.specs.Prelude.{All, IsTrue, List, ◌≡◌}
-use Rattle.std.proofs.Common.{ℕ}
+use Rattle.std.specs.Prelude.{All, IsTrue, List}
 use Rattle.heap_words.specs.declared.config.Config.{Config}
 use Rattle.object_graph.specs.Actors.{IsStep}
 use Rattle.object_graph.specs.declared.step.Step.{Step}

@@ -1,12 +1,10 @@
 -- A script that is read, and the record that is written.
-use Rattle.std.specs.Prelude.{◌≡◌, ℕ, ◌<◌, List, Option, Result, Ok, Err, length, take, map, IfSome}
+use Rattle.std.specs.Prelude.{◌≡◌, ℕ, ◌<◌, List, Option, Ok, length, take, map}
 use Rattle.std.specs.Io.KnownBytes.{Appends, Keeps}
 use Rattle.heap_model.specs.Graph.{Graph}
 use Rattle.object_graph.specs.Actors.{StepList, EventList}
 use Rattle.object_graph.specs.State.{first_state}
 use Rattle.object_graph.specs.Run.{IsRun}
-use Rattle.script_text.specs.declared.fault.LineFault.{LineFault}
-use Rattle.script_text.specs.declared.fault.Kind.TheVariants as kinds
 use Rattle.script_text.specs.Lines.{script_of, FailsBy}
 use Rattle.script_text.specs.Records.{record_text}
 use Rattle.step_core.specs.Histories.{step_of, IsRunFault}

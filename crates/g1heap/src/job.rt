@@ -37,11 +37,17 @@ fn with_file<'a>(alloc: Global, name: &'a str, about: &'a str) -> Result<Command
 }
 
 fn command<'a>(alloc: Global) -> Result<Command<'a>, Error> {
-    let run = with_file(alloc, "run", "Does the steps of a script, and prints the record")?;
-    Ok(Command::new(alloc, "g1heap")
-        .about("A Garbage-First heap by steps")
-        .subcommand_required(true)
-        .subcommand(run)?)
+    let run = with_file(
+        alloc,
+        "run",
+        "Does the steps of a script, and prints the record",
+    )?;
+    Ok(
+        Command::new(alloc, "g1heap")
+            .about("A Garbage-First heap by steps")
+            .subcommand_required(true)
+            .subcommand(run)?,
+    )
 }
 
 /// What the words of a command line ask for, or the text for the user.

@@ -41,7 +41,14 @@ fn run(alloc: Global, script: &str) -> Result<Outcome, Fail> {
     Ok(Outcome { status, out, err })
 }
 
-fn assert_outcome(rt: &impl Abort, name: &str, outcome: &Outcome, status: u8, out: &str, err: &str) {
+fn assert_outcome(
+    rt: &impl Abort,
+    name: &str,
+    outcome: &Outcome,
+    status: u8,
+    out: &str,
+    err: &str,
+) {
     assert_eq!(rt; outcome.out.as_slice(), out.as_bytes(), "{name}");
     assert_eq!(rt; outcome.err.as_slice(), err.as_bytes(), "{name}");
     assert_eq!(rt; outcome.status, status, "{name}");
@@ -123,7 +130,14 @@ fn beginnings(rt: HostRuntime) -> Result<(), Fail> {
         };
         let outcome = run(rt.alloc(), beginning)?;
         if count == 0 {
-            assert_outcome(&rt, beginning, &outcome, 1, "", "g1heap: line 1: 3 BadHeap\n");
+            assert_outcome(
+                &rt,
+                beginning,
+                &outcome,
+                1,
+                "",
+                "g1heap: line 1: 3 BadHeap\n",
+            );
         } else if beginning.ends_with("\n") {
             let Some(record) = records.get(lines) else {
                 return Err(Fail::from("a record for each line"));
@@ -195,7 +209,14 @@ fn broken_reader(rt: HostRuntime) -> Result<(), Fail> {
     let mut err = Vec::new(alloc);
     let status = perform(alloc, &job, &mut reader, &mut out, &mut err);
     let outcome = Outcome { status, out, err };
-    assert_outcome(&rt, "broken reader", &outcome, 1, "", "g1heap: cannot read\n");
+    assert_outcome(
+        &rt,
+        "broken reader",
+        &outcome,
+        1,
+        "",
+        "g1heap: cannot read\n",
+    );
     Ok(())
 }
 
@@ -224,7 +245,14 @@ fn broken_writer(rt: HostRuntime) -> Result<(), Fail> {
             out: out.taken,
             err,
         };
-        assert_outcome(&rt, "broken writer", &outcome, 1, beginning, "g1heap: cannot write\n");
+        assert_outcome(
+            &rt,
+            "broken writer",
+            &outcome,
+            1,
+            beginning,
+            "g1heap: cannot write\n",
+        );
     }
     Ok(())
 }

@@ -17,6 +17,7 @@ use Rattle.regions.proofs.Targets.{IsWrittenTable}
 use Rattle.regions.proofs.Written.{write_ordinary}
 use Rattle.regions.proofs.RunWritten.{write_first}
 use Rattle.regions.proofs.Fields.{with_pointer, turns_pointer}
+
 pub record HasPointer (t : Table) (x i : ℕ) : Type 0 where
   pub object : Stored
   pub object_is : object_at t x ≡ Some object

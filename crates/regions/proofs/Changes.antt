@@ -1,15 +1,16 @@
 -- What a write to an object changes, with no word in it.
-use Rattle.std.proofs.Common.{◌≡◌, ◌≢◌, ℕ, zero, suc, ◌+◌, ◌-◌, ◌*◌, ◌/◌, ◌%◌, ◌<◌, ◌≤◌, ◌⊎◌, Option, Some, None, List, [], ◌∷◌, ◌++◌, length, get_or, set, refl, sym, ◌∙◌, ap, subst, arith, rules, cond, leb, true, false, inl, inr}
+use Rattle.std.proofs.Common.{◌≡◌, ◌≢◌, ℕ, ◌+◌, ◌/◌, ◌%◌, ◌<◌, Option, Some, length, get_or, refl, sym, ◌∙◌, ap, subst, inl, inr}
 use Rattle.std.proofs.lemmas.List.{get_or-set_same, get_or-set_other, length-set}
-use Rattle.std.proofs.lemmas.Bool.{cases_lt, cases_eq, le-leb, lt-leb}
-use Rattle.regions.specs.Tiles.{Tile, Live, Gap, Moved, tile_size, tile_at, replace}
+use Rattle.std.proofs.lemmas.Bool.{cases_eq}
+use Rattle.regions.specs.Tiles.{Live, tile_size}
 use Rattle.heap_model.specs.Heap.{Stored}
-use Rattle.regions.specs.Table.{Region, Free, Ordinary, First, Rest, Table, region_tile, region_at, region_number, tile_in, tile_object, object_at, with_object, put_object, set_pointer, set_value, kind_of, region_kind, HasNoMoved, EachMovedIn}
+use Rattle.regions.specs.Table.{Region, Free, Ordinary, First, Rest, Table, region_at, region_number, tile_in, tile_object, object_at, with_object, put_object, set_pointer, set_value, kind_of, region_kind, HasNoMoved}
 use Rattle.regions.proofs.Laws.{object_tile, known_region, object_at-put_same, tile_in-put_other}
 use Rattle.regions.proofs.Fields.{with_pointer}
 use Rattle.regions.proofs.Values.{with_value, set_value-is}
 use Rattle.regions.proofs.Access.{set_pointer-is}
 use Rattle.regions.proofs.Kept.{put_object-moved}
+
 -- one object is written, and no other tile changed
 pub record WritesObject (t t' : Table) (x : ℕ) (s s' : Stored) : Type 0 where
   pub size : t'.words_per_region ≡ t.words_per_region
@@ -33,7 +34,7 @@ kind_put t x s s' k h =
     let j : ℕ = x / t.words_per_region in
     let r : Region = with_object (get_or t.regions j Free) (x % t.words_per_region) s' in
     elim (cases_eq k j) [
-        inl q ↦ rw q (ap region_kind (get_or-set_same t.regions j r Free (known_region t.regions j _ _ tile)) ∙ kind_with (get_or t.regions j Free) (x % t.words_per_region) s')
+      | inl q ↦ rw q (ap region_kind (get_or-set_same t.regions j r Free (known_region t.regions j _ _ tile)) ∙ kind_with (get_or t.regions j Free) (x % t.words_per_region) s')
       | inr q ↦ ap region_kind (get_or-set_other t.regions j k r Free q)
     ]
 

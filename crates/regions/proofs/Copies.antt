@@ -1,8 +1,7 @@
 -- Tiles put at a top: an object's copy, a filler.
 -- one tile's words, put at a region's top
-use Rattle.std.proofs.Common.{◌≡◌, ℕ, zero, suc, ◌+◌, ◌*◌, ◌<◌, ◌≤◌, Some, List, [], ◌∷◌, ◌++◌, length, take, drop, get_or, set, refl, sym, ◌∙◌, ap, arith, zero-add}
-use Rattle.std.proofs.lemmas.List.{length-take, length-drop, append_assoc}
-use lib.Seq.{paste}
+use Rattle.std.proofs.Common.{◌≡◌, ℕ, zero, suc, ◌+◌, ◌*◌, ◌<◌, ◌≤◌, Some, List, [], ◌∷◌, length, take, drop, get_or, set, ◌∙◌, ap, arith}
+use Rattle.std.proofs.lemmas.List.{length-take, length-drop}
 use Rattle.heap_words.specs.declared.header.Header.TheVariants.{Filler}
 use Rattle.heap_words.specs.Headers.{header_of}
 use Rattle.heap_model.specs.Heap.{Stored}
@@ -20,6 +19,7 @@ use Rattle.regions.proofs.Targets.{IsWrittenTable}
 use Rattle.regions.proofs.Forwards.{header_put}
 use Rattle.regions.proofs.ObjectWords.{there, one_copy}
 use Rattle.regions.specs.declared.row.Kind.TheVariants as kinds
+
 pub block_pushed : (size : ℕ) (words : List ℕ) (rows : List Row) (t : Table) (k m : ℕ) (block : List ℕ) (tile : Tile) → IsTable size words rows → table_of size words rows ≡ t → k < length t.regions → kind_of t k ≡ kinds.Ordinary → used_of t k + m ≤ size → length block ≡ m → IsOne (sizes_in words) block tile → EachMoved (HasObject t) (tile ∷ []) → IsWrittenTable size (put words (k * size + used_of t k) block) (set rows k (record { kind = kinds.Ordinary; used = used_of t k + m })) (push_tile t k tile)
 block_pushed size words rows t k m block tile g e h o room len one fresh =
     let top = top_is size words rows t k g e h o in

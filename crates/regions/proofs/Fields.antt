@@ -9,6 +9,7 @@ use Rattle.regions.specs.Tiles.{Tile, Live, tile_at, replace, stored_of, size_by
 use Rattle.heap_words.specs.Contents.{put}
 use Rattle.regions.proofs.Parse.{skip_le, stored_of-append, first_tile, tile_at-tiles, tiles-put, IsTiled-put}
 use Rattle.regions.proofs.Places.{live_by}
+
 pub tiles_none : (sizes : ℕ → ℕ) (k : ℕ) (ws : List ℕ) → length ws ≡ k → tiles sizes k ws ≡ []
 tiles_none sizes k [] e = refl
 tiles_none sizes zero (w ∷ ws) e = absurd (omega arith)

@@ -1,17 +1,16 @@
 -- The search for the tile that holds a word.
-use Rattle.std.proofs.Common.{◌≡◌, ◌≢◌, ℕ, zero, suc, ◌+◌, ◌-◌, ◌*◌, ◌/◌, ◌%◌, ◌^◌, ◌<◌, ◌≤◌, ◌⊎◌, min, Option, Some, None, List, [], ◌∷◌, length, inl, inr, refl, sym, ap, subst, ◌∙◌, arith}
+use Rattle.std.proofs.Common.{◌≡◌, ℕ, ◌+◌, ◌-◌, ◌*◌, ◌/◌, ◌^◌, ◌<◌, ◌≤◌, min, Some, List, [], ◌∷◌, inl, inr, refl, sym, ap, subst, ◌∙◌, arith}
 use Rattle.std.proofs.lemmas.Bool.{cases_lt}
 use Rattle.std.proofs.lemmas.Nat.{mul-le}
-use Rattle.heap_model.specs.Heap.{Stored}
 use Rattle.heap_words.specs.declared.addr.Addr.{Addr}
-use Rattle.regions.specs.Tiles.{Tile, Live, tile_size, tile_at, total_size}
+use Rattle.regions.specs.Tiles.{Tile, Live, tile_size, total_size}
 use Rattle.regions.specs.Table.{Table, Region, Free, Ordinary, First, Rest, region_number, region_kind, region_used, kind_of, used_of, top_of, tile_in}
 use Rattle.regions.specs.Shapes.{tile_shape, size_of_shape}
-use Rattle.regions.specs.Walks.{tiles_of, region_tiles, placed, walk_rest, IsCut, IsWalk, IsHolder, IsRunStart}
+use Rattle.regions.specs.Walks.{tiles_of, placed, walk_rest, IsCut, IsHolder, IsRunStart}
 use Rattle.regions.specs.Shaped.{IsShaped, IsLater}
 use Rattle.regions.specs.declared.row.Shape.{Shape}
 use Rattle.regions.specs.declared.row.Kind.TheVariants as kinds
-use Rattle.regions.proofs.WalkLaws.{cut_none, cut_step, IsStep}
+use Rattle.regions.proofs.WalkLaws.{cut_none, cut_step}
 use Rattle.regions.proofs.WalkMade.{cut_tile, shape_size_is, positive_at}
 use Rattle.regions.proofs.WalkFrom.{listed_tile}
 use Rattle.regions.proofs.ShapedMade.{kind_at, tiles_at}

@@ -6,9 +6,9 @@ use Rattle.std.specs.Prelude.{IsSome}
 use Rattle.heap_words.proofs.Codec.{header_of-word}
 use Rattle.heap_words.specs.Headers.{header_of, header_word}
 use Rattle.heap_model.specs.Heap.{Stored}
-use Rattle.regions.specs.Tiles.{Tile, Live, Gap, Moved, tile_size}
+use Rattle.regions.specs.Tiles.{Live, Moved, tile_size}
 use Rattle.heap_words.specs.Contents.{put}
-use Rattle.regions.specs.Table.{Table, object_at, tile_in, tile_object, region_at, IsOrdinary, HasObject, object_words, stored_size, replace_tile, EachMoved, EachMovedIn}
+use Rattle.regions.specs.Table.{Table, object_at, tile_in, region_at, IsOrdinary, HasObject, object_words, stored_size, replace_tile, EachMoved, EachMovedIn}
 use Rattle.regions.specs.Rows.{sizes_in, table_of, IsTable}
 use Rattle.regions.specs.declared.row.Row.{Row}
 use Rattle.regions.proofs.Places.{object_place}
@@ -20,6 +20,7 @@ use Rattle.regions.proofs.Targets.{IsWrittenTable}
 use Rattle.regions.proofs.Access.{not_first}
 use Rattle.regions.proofs.ObjectWords.{there, some_object}
 use Rattle.regions.proofs.Laws.{object_tile}
+
 one_moved : (sizes : ℕ → ℕ) (w to m : ℕ) (body : List ℕ) → header_of w ≡ Some (Forwarded to) → sizes to ≡ m → 0 < m → m ≡ suc (length body) → IsOne sizes (w ∷ body) (Moved to m)
 one_moved sizes w to m body e f z l =
     let n : length body ≡ sizes to - 1 = omega arith in

@@ -16,7 +16,7 @@ use Rattle.regions.specs.Table.{Table, tile_in, kind_of, used_of, top_of, push_t
 use Rattle.regions.specs.Tiles.{Tile, Live, Gap, tiles}
 use Rattle.regions.specs.declared.row.Kind.TheVariants as kinds
 use Rattle.regions.specs.declared.row.Row.{Row}
-use Rattle.std.proofs.Common.{◌≡◌, ℕ, zero, suc, ◌+◌, ◌-◌, ◌*◌, ◌/◌, ◌^◌, ◌<◌, ◌≤◌, Some, List, [], ◌∷◌, ◌++◌, length, take, drop, get_or, set, refl, sym, ◌∙◌, ap, subst, arith, inl, inr, add-zero}
+use Rattle.std.proofs.Common.{◌≡◌, ℕ, zero, suc, ◌+◌, ◌*◌, ◌/◌, ◌^◌, ◌<◌, ◌≤◌, Some, List, [], ◌∷◌, ◌++◌, length, take, drop, get_or, set, refl, sym, ◌∙◌, ap, subst, arith, inl, inr, add-zero}
 use Rattle.std.proofs.lemmas.List.{length-append, length-take, length-drop, append_assoc}
 
 -- a filler's header is its words
@@ -30,9 +30,9 @@ filler_set sizes words x n l small =
     let len : length stale ≡ n = simp (length-take, length-drop) (omega arith) in
     let f = one_filler sizes header n stale (header_of-word (Filler (suc n)) (omega arith, small)) len in
     record {
-        block = header ∷ stale;
-        is_block = record { length_is = ap suc len; tiled = f.tiled; tiles_are = f.tiles_are };
-        words_are = one ∙ extend
+      block = header ∷ stale;
+      is_block = record { length_is = ap suc len; tiled = f.tiled; tiles_are = f.tiles_are };
+      words_are = one ∙ extend;
     }
 
 -- a filler is split
@@ -42,7 +42,7 @@ filler_split sizes words x n zero l small small' =
     record {
       block = f.block;
       is_block = record { length_is = f.is_block.length_is ∙ omega arith; tiled = f.is_block.tiled; tiles_are = f.is_block.tiles_are };
-      words_are = f.words_are
+      words_are = f.words_are;
     }
 filler_split sizes words x n (suc r) l small small' =
     let f = filler_set sizes words x n (omega arith) small in
@@ -55,13 +55,13 @@ filler_split sizes words x n (suc r) l small small' =
     let two = one_filler sizes header r stale (header_of-word (Filler (suc r)) (omega arith, small')) len'' in
     let whole : (f.block ++ header ∷ []) ++ stale ≡ f.block ++ (header ∷ stale) = append_assoc f.block (header ∷ []) stale in
     record {
-        block = f.block ++ (header ∷ stale);
-        is_block = record {
-            length_is = length-append f.block (header ∷ stale) ∙ omega (arith, f.is_block.length_is);
-            tiled = IsTiled-append sizes 0 f.block (header ∷ stale) f.is_block.tiled two.tiled;
-            tiles_are = tiles-append sizes 0 f.block (header ∷ stale) f.is_block.tiled ∙ ap (λ (ts : List Tile). ts ++ tiles sizes 0 (header ∷ stale)) f.is_block.tiles_are ∙ ap (λ (ts : List Tile). Gap (suc n) ∷ ts) two.tiles_are
-        };
-        words_are = ap (λ (ws : List ℕ). set ws (x + suc n) header) f.words_are ∙ more ∙ extend ∙ ap (put words x) whole
+      block = f.block ++ (header ∷ stale);
+      is_block = record {
+        length_is = length-append f.block (header ∷ stale) ∙ omega (arith, f.is_block.length_is);
+        tiled = IsTiled-append sizes 0 f.block (header ∷ stale) f.is_block.tiled two.tiled;
+        tiles_are = tiles-append sizes 0 f.block (header ∷ stale) f.is_block.tiled ∙ ap (λ (ts : List Tile). ts ++ tiles sizes 0 (header ∷ stale)) f.is_block.tiles_are ∙ ap (λ (ts : List Tile). Gap (suc n) ∷ ts) two.tiles_are;
+      };
+      words_are = ap (λ (ws : List ℕ). set ws (x + suc n) header) f.words_are ∙ more ∙ extend ∙ ap (put words x) whole;
     }
 
 pub gap_split : (size : ℕ) (words : List ℕ) (rows : List Row) (t : Table) (x s n at rest more : ℕ) (made new : List ℕ) → IsTable size words rows → table_of size words rows ≡ t → tile_in t x ≡ Some (Gap n) → n ≡ s + rest → 0 < s → made ≡ set words x (header_word (Filler s)) → new ≡ put_gap made at more → at ≡ x + s → more ≡ rest → IsWrittenTable size new rows (replace_tile t x (Gap s ∷ gap rest))

@@ -1,15 +1,16 @@
 -- Which objects stay where they are when the table changes. No word is in it.
 -- an object stands at the address before and after, of one size
-use Rattle.std.proofs.Common.{◌≡◌, ◌≢◌, ℕ, zero, suc, ◌+◌, ◌-◌, ◌/◌, ◌%◌, ◌<◌, Option, Some, None, List, [], ◌∷◌, ◌++◌, get_or, refl, sym, ◌∙◌, ap, arith, inl, inr}
+use Rattle.std.proofs.Common.{◌≡◌, ◌≢◌, ℕ, zero, suc, ◌+◌, ◌-◌, ◌/◌, ◌%◌, ◌<◌, Some, None, List, [], ◌∷◌, ◌++◌, get_or, refl, sym, ◌∙◌, ap, arith, inl, inr}
 use Rattle.std.proofs.lemmas.List.{get_or-set_same, get_or-set_other}
 use Rattle.std.proofs.lemmas.Bool.{cases_eq, le-leb}
 use Rattle.heap_model.specs.Heap.{Stored}
 use Rattle.regions.specs.Tiles.{Tile, Live, Gap, Moved, tile_size, tile_at, replace, total_size}
-use Rattle.regions.specs.Table.{Region, Free, Ordinary, First, Rest, Table, region_tile, region_at, tile_in, tile_object, object_at, with_object, put_object, with_region, region_with_tile, region_number, push_tile, region_replaced, replace_tile, EachMoved, EachMovedIn, HasObject, HasTargets}
+use Rattle.regions.specs.Table.{Region, Free, Ordinary, First, Rest, Table, region_tile, region_at, tile_in, object_at, with_object, put_object, with_region, region_with_tile, region_number, push_tile, region_replaced, replace_tile, EachMoved, EachMovedIn, HasObject, HasTargets}
 use Rattle.regions.specs.Walks.{AllPositive}
 use Rattle.regions.proofs.Parse.{past}
 use Rattle.regions.proofs.Laws.{object_tile, object_at-put_same, tile_in-put_other, same_place, known_region}
 use Rattle.regions.proofs.Sizes.{EachMovedIn-imp, EachMovedIn-set, EachMovedIn-at, EachMoved-append, EachMoved-replace}
+
 pub record IsKept (t u : Table) (x : ℕ) : Type 0 where
   pub before : Stored
   pub before_is : object_at t x ≡ Some before

@@ -7,6 +7,7 @@ use Rattle.heap_model.specs.Heap.{Stored}
 use Rattle.regions.specs.Tiles.{Tile, Live, Gap, Moved, tile_size, tile_at, replace}
 use Rattle.regions.specs.Table.{Region, Free, Ordinary, First, Rest, Table, region_tile, region_at, tile_in, tile_object, object_at, with_object, put_object}
 use Rattle.regions.proofs.Parse.{past}
+
 pub tile_at-replace_same : (ts : List Tile) (o : ℕ) (t t' : Tile) → tile_at o ts ≡ Some t → tile_at o (replace o (t' ∷ []) ts) ≡ Some t'
 tile_at-replace_same [] o t t' f = cc
 tile_at-replace_same (u ∷ ts) zero t t' f = refl

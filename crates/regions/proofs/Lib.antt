@@ -37,3 +37,7 @@ pub mod WalkFrom
 pub mod FirstTile
 pub mod Tops
 pub mod Samples
+pub mod RunLaws
+pub mod Fronts
+pub mod WalkTiles
+pub mod InUse

@@ -1,6 +1,6 @@
 -- Regions as a whole: made, taken, released, asked for.
-use Rattle.std.proofs.Common.{◌≡◌, ◌≢◌, ℕ, zero, suc, ◌+◌, ◌-◌, ◌*◌, ◌/◌, ◌^◌, ◌<◌, ◌≤◌, Some, None, List, [], ◌∷◌, length, take, drop, get_or, set, refl, sym, ◌∙◌, ap, subst, arith, true, replicate, position}
-use Rattle.regions.specs.Table.{Region, Free, Ordinary, First, Rest, Table, with_region, is_free, first_free, taken, region_used, region_number, used_of, region_kind, kind_of, free_table, EachMoved, EachMovedIn, HasObject, HasTargets, HasNoMoved}
+use Rattle.std.proofs.Common.{◌≡◌, ℕ, zero, suc, ◌+◌, ◌-◌, ◌*◌, ◌^◌, ◌<◌, ◌≤◌, Some, None, List, [], ◌∷◌, length, take, drop, get_or, set, refl, sym, ◌∙◌, ap, subst, arith, true, replicate, position}
+use Rattle.regions.specs.Table.{Region, Free, Ordinary, First, Rest, Table, with_region, is_free, first_free, taken, region_used, region_number, used_of, region_kind, kind_of, free_table, HasNoMoved, EachMoved, EachMovedIn, HasTargets}
 use Rattle.std.proofs.lemmas.List.{length-take, length-drop, length-replicate}
 use Rattle.heap_words.specs.Headers.{header_of}
 use Rattle.regions.specs.Tiles.{Tile, Live, Gap, Moved, total_size, size_by, tiles, IsTiled}
@@ -11,12 +11,13 @@ use Rattle.regions.proofs.Parse.{skip_le, tile_size-by}
 use Rattle.regions.proofs.RowLemmas.{regions-at, start_at}
 use Rattle.regions.proofs.RowWrites.{IsPlain}
 use Rattle.regions.proofs.Targets.{IsWrittenTable}
-use Rattle.regions.proofs.Kept.{IsKept, EachMovedIn-both, was_free_kept, region_kept}
+use Rattle.regions.proofs.Kept.{IsKept, was_free_kept}
 use Rattle.std.proofs.lemmas.Nat.{row_fits}
 use Rattle.std.specs.List.{position_or_len}
 use Rattle.std.proofs.lemmas.List.Quantifiers.{position-Some}
 use Rattle.regions.proofs.Written.{region_changed}
 use Rattle.regions.specs.declared.row.Kind.TheVariants as kinds
+
 pub length-regions_of : (sizes : ℕ → ℕ) (size : ℕ) (rows : List Row) (ws : List ℕ) → length (regions_of sizes size ws rows) ≡ length rows
 length-regions_of sizes size [] ws = refl
 length-regions_of sizes size (row ∷ rows) ws = ap suc (length-regions_of sizes size rows (drop size ws))

@@ -1,5 +1,5 @@
 -- What a moved tile tells of its new place.
-use Rattle.std.proofs.Common.{arith, ◌+◌, ◌≤◌, ◌≡◌, ℕ, zero, suc, ◌-◌, ◌/◌, ◌%◌, ◌<◌, Option, Some, None, List, [], ◌∷◌, length, get_or, refl, sym, ◌∙◌, ap, subst}
+use Rattle.std.proofs.Common.{arith, ◌≡◌, ℕ, zero, suc, ◌-◌, ◌/◌, ◌%◌, ◌<◌, Option, Some, None, List, [], ◌∷◌, length, get_or, refl, sym, ◌∙◌, ap, subst}
 use Rattle.std.specs.Prelude.{IsSome}
 use Rattle.heap_words.specs.declared.header.Header.{Header}
 use Rattle.heap_words.specs.declared.header.Header.TheVariants.{Object, Filler, Forwarded}
@@ -15,6 +15,7 @@ use Rattle.regions.proofs.Making.{targets_of}
 use Rattle.regions.proofs.ObjectWords.{there}
 use Rattle.regions.proofs.Shown.{tile_shown, some_tile}
 use Rattle.regions.specs.declared.row.Shape.TheVariants as shapes
+
 moved_at : (P : ℕ → Type 0) (ts : List Tile) (o to n : ℕ) → tile_at o ts ≡ Some (Moved to n) → EachMoved P ts → P to
 moved_at P [] o to n h a = cc
 moved_at P (Live s ∷ ts) zero to n h a = cc

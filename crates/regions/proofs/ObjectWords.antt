@@ -12,6 +12,7 @@ use Rattle.regions.specs.declared.row.Row.{Row}
 use Rattle.regions.proofs.Parse.{stored_of-append}
 use Rattle.regions.proofs.Places.{table_right, IsIn, object_is_in}
 use Rattle.regions.proofs.Fields.{IsOne, one_object}
+
 pub words_of : (t : Table) (x : ℕ) (s : Stored) → object_at t x ≡ Some s → object_words t x ≡ tile_size (Live s)
 unfolding object_words
 words_of t x s e = ap stored_size e

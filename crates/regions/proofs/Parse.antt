@@ -8,6 +8,7 @@ use Rattle.heap_words.specs.declared.header.Header.TheVariants.{Object, Filler, 
 use Rattle.heap_words.specs.Headers.{header_of}
 use Rattle.regions.specs.Tiles.{Tile, Live, Gap, tile_size, tile_at, replace, stored_of, tile_by, size_by, tiles, IsTiled}
 use Rattle.heap_words.specs.Contents.{put}
+
 pub skip_le : (sizes : ℕ → ℕ) (k : ℕ) (ws : List ℕ) → IsTiled sizes k ws → k ≤ length ws
 skip_le sizes k [] h = omega arith
 skip_le sizes zero (w ∷ ws) h = omega arith

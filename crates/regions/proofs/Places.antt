@@ -6,8 +6,8 @@ use Rattle.heap_words.specs.declared.header.Header.{Header}
 use Rattle.heap_words.specs.declared.header.Header.TheVariants.{Object, Filler, Forwarded}
 use Rattle.heap_words.specs.Headers.{header_of}
 use Rattle.heap_model.specs.Heap.{Stored}
-use Rattle.regions.specs.Tiles.{Tile, Live, Gap, Moved, tile_at, stored_of, tile_by, size_by, tiles, IsTiled}
-use Rattle.regions.specs.Table.{region_tile, region_at, tile_in, tile_object, object_at}
+use Rattle.regions.specs.Tiles.{Tile, Live, tile_at, stored_of, tile_by, size_by, tiles, IsTiled}
+use Rattle.regions.specs.Table.{region_tile, region_at, tile_in, object_at}
 use Rattle.regions.specs.Rows.{object_size, stored_by, first_stored, region_by, IsObject, IsRow, left_by, AreRows, free_row, table_by, IsTableBy, IsTable, sizes_in}
 use Rattle.regions.specs.declared.row.Row.{Row}
 use Rattle.regions.specs.declared.row.Kind.{Kind}
@@ -15,6 +15,7 @@ use Rattle.regions.proofs.Laws.{object_tile}
 use Rattle.regions.proofs.Parse.{skip_le, first_tile, tile_at-tiles, stored_of-append}
 use Rattle.regions.proofs.RowLemmas.{regions-at, regions-past, start_at, left_le}
 use Rattle.regions.specs.declared.row.Kind.TheVariants as kinds
+
 pub table_right : {size : ℕ} {words : List ℕ} {rows : List Row} → IsTable size words rows → IsTableBy (sizes_in words) size words rows
 table_right g = record { region_size = g.region_size; covers = g.covers; small = g.small; rows_right = g.rows_right }
 

@@ -1,20 +1,19 @@
 -- Where tiles stand once fillers are made, split and filled, with no word in it.
-use Rattle.std.proofs.Common.{◌≡◌, ◌≢◌, ℕ, zero, suc, ◌+◌, ◌-◌, ◌*◌, ◌/◌, ◌%◌, ◌<◌, ◌≤◌, ◌⊎◌, Option, Some, None, List, [], ◌∷◌, ◌++◌, length, get_or, set, refl, sym, ◌∙◌, ap, subst, arith, rules, cond, leb, true, false, inl, inr, position}
+use Rattle.std.proofs.Common.{◌≡◌, ◌≢◌, ℕ, zero, suc, ◌+◌, ◌-◌, ◌*◌, ◌/◌, ◌%◌, ◌<◌, ◌≤◌, ◌⊎◌, Some, None, List, [], ◌∷◌, ◌++◌, length, get_or, set, refl, sym, ◌∙◌, ap, subst, arith, true, inl, inr}
 use Rattle.std.proofs.lemmas.List.{get_or-set_same, get_or-set_other, length-set}
 use Rattle.std.proofs.lemmas.List.Quantifiers.{position-Some}
 use Rattle.std.proofs.lemmas.Bool.{cases_lt, cases_eq, le-leb, lt-leb}
 use Rattle.std.proofs.lemmas.Bool.Decides.{leb_tells}
 use Rattle.std.proofs.lemmas.Nat.{div-mul-add}
-use Rattle.regions.specs.Tiles.{Tile, Live, Gap, Moved, tile_size, tile_at, replace, total_size}
-use Rattle.heap_model.specs.Heap.{Stored}
-use Rattle.regions.specs.Table.{Region, Free, Ordinary, First, Rest, Table, region_tile, region_at, region_number, tile_in, tile_object, object_at, kind_of, region_kind, HasNoMoved, EachMoved, EachMovedIn, replace_tile, region_replaced, with_region, push_tile, region_with_tile, used_of, region_used, gap, taken, first_free, is_free}
-use Rattle.regions.specs.Walks.{AllPositive, IsFitting, AreFitting, tiles_of, region_tiles}
-use Rattle.regions.specs.declared.row.Kind.{Kind}
-use Rattle.regions.proofs.Laws.{known_region, same_place}
+use Rattle.regions.specs.Tiles.{Tile, Gap, tile_size, tile_at, replace, total_size}
+use Rattle.regions.specs.Table.{Region, Free, Ordinary, First, Rest, Table, region_tile, region_at, region_number, tile_in, kind_of, region_kind, HasNoMoved, EachMoved, replace_tile, region_replaced, push_tile, region_with_tile, used_of, region_used, taken, first_free, is_free}
+use Rattle.regions.specs.Walks.{AllPositive, AreFitting, tiles_of, region_tiles}
+use Rattle.regions.proofs.Laws.{known_region}
 use Rattle.regions.proofs.Parse.{past}
 use Rattle.regions.proofs.Kept.{replaced-moved, with_tile-moved}
 use Rattle.regions.proofs.Sizes.{EachMovedIn-set, EachMovedIn-at}
 use Rattle.regions.specs.declared.row.Kind.TheVariants as kinds
+
 -- the tiles of a list once one of them gives way to others of the same size
 pub tile_at-before : (ts new : List Tile) (o y : ℕ) (u : Tile) → tile_at o ts ≡ Some u → y < o → tile_at y (replace o new ts) ≡ tile_at y ts
 tile_at-before [] new o y u f h = refl
@@ -23,7 +22,7 @@ tile_at-before (t ∷ ts) new (suc o) zero u f h = refl
 tile_at-before (t ∷ ts) new (suc o) (suc y) u f h =
     let p = past (tile_size t) (suc o) _ u f in
     elim (leb_tells (tile_size t) (suc y)) [
-        inl q ↦ rw q.0 (tile_at-before ts new (suc o - tile_size t) (suc y - tile_size t) u p.1 (omega (arith, q.1, p.0)))
+      | inl q ↦ rw q.0 (tile_at-before ts new (suc o - tile_size t) (suc y - tile_size t) u p.1 (omega (arith, q.1, p.0)))
       | inr q ↦ rw q.0 refl
     ]
 
@@ -32,7 +31,7 @@ tile_at-front [] ts j h = absurd (omega arith)
 tile_at-front (t ∷ new) ts zero h = refl
 tile_at-front (t ∷ new) ts (suc j) h =
     elim (leb_tells (tile_size t) (suc j)) [
-        inl q ↦ rw q.0 (tile_at-front new ts (suc j - tile_size t) (omega (arith, q.1)))
+      | inl q ↦ rw q.0 (tile_at-front new ts (suc j - tile_size t) (omega (arith, q.1)))
       | inr q ↦ rw q.0 refl
     ]
 
@@ -141,14 +140,14 @@ gap_replaced t x n new z fitting h p positive total moved =
     let ris : r ≡ Ordinary (replace o new q.tiles) = ap (λ (g : Region). region_replaced g o new) is in
     let here : get_or (set t.regions k r) k Free ≡ Ordinary (replace o new q.tiles) = get_or-set_same t.regions k r Free known ∙ ris in
     let after_is : (y : ℕ) → y / size ≡ k → region_tile (get_or (set t.regions k r) (y / size) Free) (y % size) ≡ tile_at (y % size) (replace o new q.tiles) =
-        λ y e. ap (λ (j : ℕ). region_tile (get_or (set t.regions k r) j Free) (y % size)) e ∙ ap (λ (g : Region). region_tile g (y % size)) here in
+    λ y e. ap (λ (j : ℕ). region_tile (get_or (set t.regions k r) j Free) (y % size)) e ∙ ap (λ (g : Region). region_tile g (y % size)) here in
     let before_is : (y : ℕ) → y / size ≡ k → region_tile (get_or t.regions (y / size) Free) (y % size) ≡ tile_at (y % size) q.tiles =
-        λ y e. ap (λ (j : ℕ). region_tile (get_or t.regions j Free) (y % size)) e ∙ ap (λ (g : Region). region_tile g (y % size)) is in
+    λ y e. ap (λ (j : ℕ). region_tile (get_or t.regions j Free) (y % size)) e ∙ ap (λ (g : Region). region_tile g (y % size)) is in
     record {
       size = refl;
       count = length-set t.regions k r;
       kinds_same = λ j. elim (cases_eq j k) [
-          inl e ↦ rw e (ap region_kind (get_or-set_same t.regions k r Free known) ∙ kind_replaced (get_or t.regions k Free) o new)
+        | inl e ↦ rw e (ap region_kind (get_or-set_same t.regions k r Free known) ∙ kind_replaced (get_or t.regions k Free) o new)
         | inr e ↦ ap region_kind (get_or-set_other t.regions k j r Free e)
       ];
       unmoved = λ m. EachMovedIn-set (λ _. ⊥) t.regions k r (replaced-moved (λ _. ⊥) (get_or t.regions k Free) o new moved (EachMovedIn-at (λ _. ⊥) t.regions k m)) m;
@@ -167,12 +166,12 @@ gap_replaced t x n new z fitting h p positive total moved =
           let column : (x + j) % size ≡ o + j = omega (arith, whole') in
           rw (row, is) (tile_at-inside q.tiles o _ (Gap n) there (omega arith) (omega arith));
       others = λ y apart. elim (cases_eq (y / size) k) [
-          inl e ↦
+        | inl e ↦
             let whole : y / size * size + y % size ≡ y = omega arith in
             let whole' = rw e at whole in
             elim apart [
-              inl lt ↦ after_is y e ∙ tile_at-before q.tiles new o (y % size) (Gap n) there (omega (arith, whole', at)) ∙ sym (before_is y e)
-            | inr le ↦ after_is y e ∙ tile_at-after q.tiles new o (y % size) (Gap n) there positive total p (omega (arith, whole', at)) ∙ sym (before_is y e)
+              | inl lt ↦ after_is y e ∙ tile_at-before q.tiles new o (y % size) (Gap n) there (omega (arith, whole', at)) ∙ sym (before_is y e)
+              | inr le ↦ after_is y e ∙ tile_at-after q.tiles new o (y % size) (Gap n) there positive total p (omega (arith, whole', at)) ∙ sym (before_is y e)
             ]
         | inr e ↦ ap (λ (g : Region). region_tile g (y % size)) (get_or-set_other t.regions k (y / size) r Free e)
       ];
@@ -207,9 +206,9 @@ tile_at-alone t (suc j) h = elim (leb_tells (tile_size t) (suc j)) [ inl q ↦ r
 
 tile_at-push_other : (ts : List Tile) (t : Tile) (y : ℕ) → AllPositive ts → y ≢ total_size ts → tile_at y (ts ++ t ∷ []) ≡ tile_at y ts
 tile_at-push_other ts t y z n = elim (cases_lt y (total_size ts)) [
-    inl lt ↦ tile_at-front ts (t ∷ []) y lt
+  | inl lt ↦ tile_at-front ts (t ∷ []) y lt
   | inr le ↦ tile_at-back ts (t ∷ []) y z le ∙ tile_at-alone t (y - total_size ts) (omega arith) ∙ sym (tile_at-past ts y z le)
-  ]
+]
 
 record IsOrdinaryAt (r : Region) : Type 0 where
   tiles : List Tile
@@ -242,7 +241,7 @@ gap_push t k tile z fitting known ordinary p room moved =
       size = refl;
       count = length-set t.regions k r;
       kinds_same = λ j. elim (cases_eq j k) [
-          inl e ↦ rw e (ap region_kind here ∙ sym ordinary)
+        | inl e ↦ rw e (ap region_kind here ∙ sym ordinary)
         | inr e ↦ ap region_kind (get_or-set_other t.regions k j r Free e)
       ];
       unmoved = λ m. EachMovedIn-set (λ _. ⊥) t.regions k r (with_tile-moved (λ _. ⊥) (get_or t.regions k Free) tile moved (EachMovedIn-at (λ _. ⊥) t.regions k m)) m;
@@ -251,12 +250,12 @@ gap_push t k tile z fitting known ordinary p room moved =
           ∙ tile_at-back q.tiles (tile ∷ []) (total_size q.tiles) positive (omega arith) ∙ ap (λ (j : ℕ). tile_at j (tile ∷ [])) zero_at;
       was = ap (λ (j : ℕ). region_tile (get_or t.regions j Free) (a % size)) row ∙ ap (λ (g : Region). region_tile g (a % size)) is ∙ ap (λ (j : ℕ). tile_at j q.tiles) column ∙ tile_at-past q.tiles (total_size q.tiles) positive (omega arith);
       others = λ y apart. elim (cases_eq (y / size) k) [
-          inl e ↦
+        | inl e ↦
             let whole : y / size * size + y % size ≡ y = omega arith in
             let whole' : k * size + y % size ≡ y = rw e at whole in
             let ne : y % size ≢ total_size q.tiles = λ h. apart (omega (arith, h, used, whole')) in
             ap (λ (j : ℕ). region_tile (get_or (set t.regions k r) j Free) (y % size)) e ∙ ap (λ (g : Region). region_tile g (y % size)) here ∙ tile_at-push_other q.tiles tile (y % size) positive ne
-              ∙ sym (ap (λ (j : ℕ). region_tile (get_or t.regions j Free) (y % size)) e ∙ ap (λ (g : Region). region_tile g (y % size)) is)
+            ∙ sym (ap (λ (j : ℕ). region_tile (get_or t.regions j Free) (y % size)) e ∙ ap (λ (g : Region). region_tile g (y % size)) is)
         | inr e ↦ ap (λ (g : Region). region_tile g (y % size)) (get_or-set_other t.regions k (y / size) r Free e)
       ];
     }
@@ -297,8 +296,8 @@ region_taken t k h =
       unmoved = λ m. EachMovedIn-set (λ _. ⊥) t.regions k (Ordinary []) (tt, tt) m;
       empty = ap (region_used size) here;
       others = λ y. elim (cases_eq (y / size) k) [
-          inl e ↦ ap (λ (j : ℕ). region_tile (get_or (set t.regions k (Ordinary [])) j Free) (y % size)) e ∙ ap (λ (g : Region). region_tile g (y % size)) here
-              ∙ sym (ap (λ (j : ℕ). region_tile (get_or t.regions j Free) (y % size)) e ∙ ap (λ (g : Region). region_tile g (y % size)) is)
+        | inl e ↦ ap (λ (j : ℕ). region_tile (get_or (set t.regions k (Ordinary [])) j Free) (y % size)) e ∙ ap (λ (g : Region). region_tile g (y % size)) here
+            ∙ sym (ap (λ (j : ℕ). region_tile (get_or t.regions j Free) (y % size)) e ∙ ap (λ (g : Region). region_tile g (y % size)) is)
         | inr e ↦ ap (λ (g : Region). region_tile g (y % size)) (get_or-set_other t.regions k (y / size) (Ordinary []) Free e)
       ];
     }

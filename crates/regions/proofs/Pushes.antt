@@ -1,25 +1,23 @@
 -- One more tile at a region's top.
 -- the change of words that a push makes
-use Rattle.heap_words.specs.Headers.{header_of, pointer_of}
-use Rattle.heap_words.specs.declared.header.Header.TheVariants.{Object}
+use Rattle.heap_words.specs.Headers.{pointer_of}
 use Rattle.regions.proofs.RowLemmas.{start_at}
 use Rattle.regions.proofs.Targets.{IsWrittenTable}
 use Rattle.regions.proofs.Kept.{push_kept}
 use Rattle.regions.specs.Table.{HasObject, Ordinary, Table, region_number, used_of, kind_of, EachMoved, push_tile, region_with_tile, new_object}
 use Rattle.regions.proofs.Written.{region_changed, IsChange}
 use Rattle.regions.specs.Rows.{sizes_in, region_of, IsRow, table_of, IsTable, free_row}
-use Rattle.heap_model.specs.Heap.{Stored}
-use Rattle.regions.specs.Tiles.{Tile, Live, stored_of, tiles}
-use Rattle.heap_words.specs.Contents.{put}
+use Rattle.regions.specs.Tiles.{Tile, stored_of, tiles}
 use Rattle.regions.specs.declared.row.Kind.{Kind}
 use Rattle.regions.specs.declared.row.Row.{Row}
-use Rattle.std.proofs.Common.{◌≡◌, ℕ, zero, suc, ◌+◌, ◌-◌, ◌*◌, ◌<◌, ◌≤◌, Some, None, List, [], ◌∷◌, ◌++◌, length, take, drop, map, get_or, set, refl, sym, ◌∙◌, ap, subst, arith, replicate}
-use Rattle.std.proofs.lemmas.List.{take_all, drop_all, append-nil, take-take, drop-drop, drop-take, length-replicate, take-replicate, drop-replicate}
-use Rattle.regions.proofs.Fields.{IsOne, one_object}
+use Rattle.std.proofs.Common.{◌≡◌, ℕ, zero, suc, ◌+◌, ◌-◌, ◌*◌, ◌<◌, ◌≤◌, None, List, [], ◌∷◌, ◌++◌, length, take, drop, map, get_or, set, refl, sym, ◌∙◌, ap, subst, arith, replicate}
+use Rattle.std.proofs.lemmas.List.{take-take, drop-drop, drop-take, take-replicate, drop-replicate}
+use Rattle.regions.proofs.Fields.{IsOne}
 use Rattle.regions.proofs.Parse.{tiles-append, IsTiled-append}
 use Rattle.regions.proofs.Making.{targets_of, known, kind_is, top_is, plain_from}
-use Rattle.regions.proofs.Puts.{take_add, put_is}
+use Rattle.regions.proofs.Puts.{take_add}
 use Rattle.regions.specs.declared.row.Kind.TheVariants as kinds
+
 pub record IsPush (words words' : List ℕ) (at m : ℕ) : Type 0 where
   pub length_is : length words' ≡ length words
   pub before : take at words' ≡ take at words

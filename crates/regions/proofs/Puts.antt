@@ -1,7 +1,8 @@
 -- Words written in the place of others.
-use Rattle.std.proofs.Common.{◌≡◌, ℕ, zero, suc, ◌+◌, ◌-◌, ◌<◌, ◌≤◌, List, [], ◌∷◌, ◌++◌, length, take, drop, get_or, set, refl, sym, ◌∙◌, ap, arith, add-zero, zero-add, replicate, drop-cons}
-use Rattle.std.proofs.lemmas.List.{length-append, length-take, length-drop, append_assoc, drop-drop, take-append-drop, take_at, drop_at, set_at, replicate_more, length-replicate, drop-take}
+use Rattle.std.proofs.Common.{◌≡◌, ℕ, zero, suc, ◌+◌, ◌-◌, ◌≤◌, List, [], ◌∷◌, ◌++◌, length, take, drop, refl, sym, ◌∙◌, ap, arith, zero-add, replicate}
+use Rattle.std.proofs.lemmas.List.{length-append, length-take, length-drop, append_assoc, drop-drop, take-append-drop, take_at, drop_at, length-replicate, drop-take}
 use Rattle.heap_words.specs.Contents.{put}
+
 pub record IsPut (ws : List ℕ) (n : ℕ) (block : List ℕ) : Type 0 where
   pub length_is : length (put ws n block) ≡ length ws
   pub before : take n (put ws n block) ≡ take n ws

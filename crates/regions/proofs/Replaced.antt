@@ -27,6 +27,7 @@ use Rattle.regions.proofs.Puts.{put_is, put_drop, put_take, put_extend}
 use Rattle.heap_words.proofs.Blocks.{put_more}
 use Rattle.regions.proofs.Pushes.{stored_of-new, change_of, IsPush}
 use Rattle.regions.specs.declared.row.Kind.TheVariants as kinds
+
 pub record IsBlock (sizes : ℕ → ℕ) (block : List ℕ) (m : ℕ) (new : List Tile) : Type 0 where
   pub length_is : length block ≡ m
   pub tiled : IsTiled sizes 0 block

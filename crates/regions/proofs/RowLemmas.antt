@@ -7,6 +7,7 @@ use Rattle.regions.specs.Rows.{region_of, regions_of, IsRow, IsRestRow, left_by,
 use Rattle.regions.specs.declared.row.Row.{Row}
 use Rattle.regions.specs.declared.row.Kind.{Kind}
 use Rattle.regions.specs.declared.row.Kind.TheVariants as kinds
+
 pub regions-at : (sizes : ℕ → ℕ) (size : ℕ) (rows : List Row) (k n : ℕ) (ws : List ℕ) (d : Row) → n ≡ k * size → k < length rows → get_or (regions_of sizes size ws rows) k Free ≡ region_of sizes (drop n ws) (get_or rows k d)
 regions-at sizes size [] k n ws d e h = absurd (omega arith)
 regions-at sizes size (row ∷ rows) zero n ws d e h =

@@ -13,6 +13,7 @@ use Rattle.regions.specs.declared.row.Kind.{Kind}
 use Rattle.regions.proofs.Parse.{stored_of-append}
 use Rattle.regions.proofs.RowLemmas.{start_at, rest_is}
 use Rattle.regions.specs.declared.row.Kind.TheVariants as kinds
+
 abbrev pub IsPlain : Kind → Type 0
 IsPlain kinds.Free = Unit {0}
 IsPlain kinds.Ordinary = Unit {0}

@@ -1,10 +1,11 @@
 -- A run's regions become free.
-use Rattle.std.proofs.Common.{◌≡◌, ◌≢◌, ℕ, zero, suc, ◌+◌, ◌-◌, ◌*◌, ◌/◌, ◌%◌, ◌^◌, ◌<◌, ◌≤◌, Bool, true, false, Some, None, List, [], ◌∷◌, ◌++◌, length, take, drop, get_or, set, refl, sym, ◌∙◌, ap, subst, arith, cond, inl, inr, replicate, drop-cons}
-use Rattle.std.proofs.lemmas.List.{length-append, length-take, length-drop, append_assoc, drop-drop, get_or-drop, length-replicate, take_all, drop_all, append-nil}
+use Rattle.std.proofs.Common.{◌≡◌, ◌≢◌, ℕ, zero, suc, ◌+◌, ◌-◌, ◌*◌, ◌/◌, ◌%◌, ◌^◌, ◌<◌, ◌≤◌, Bool, true, false, Some, None, List, [], ◌∷◌, ◌++◌, length, take, drop, get_or, set, refl, sym, ◌∙◌, ap, subst, arith, inl, inr, replicate, drop-cons}
+use Rattle.std.proofs.lemmas.List.{length-append, length-take, length-drop, append_assoc, drop-drop, get_or-drop, length-replicate, take_all, drop_all}
 use Rattle.std.proofs.lemmas.List.Edits.{paste_more}
 use Rattle.std.proofs.lemmas.Bool.{cases_lt, cases_eq}
 use Rattle.std.proofs.lemmas.Nat.{row_fits}
 use lib.Seq.{paste}
+use Rattle.regions.proofs.Fronts.{front_passes}
 use Rattle.regions.proofs.RunMade.{with_rows}
 use Rattle.regions.specs.Table.{region_number, region_kind, with_region, released, released_as, IsReleasable, Region, Free, Ordinary, First, Rest, Table, region_tile, region_at, tile_in, object_at, kind_of, EachMovedIn, HasObject, with_regions, front_count, is_rest, run_length, without_run}
 use Rattle.regions.specs.Rows.{left_by, region_by, regions_of, IsRow, IsRestRow, AreRows, free_row, kind_is_rest, sizes_in, table_of, table_by, IsTable}
@@ -17,6 +18,7 @@ use Rattle.regions.proofs.Kept.{EachMovedIn-both}
 use Rattle.regions.proofs.Targets.{IsWrittenTable, written_table}
 use Rattle.regions.proofs.Making.{targets_of, length-regions_of, known, kind_is}
 use Rattle.regions.specs.declared.row.Kind.TheVariants as kinds
+
 abbrev pub rest : Row → Bool
 rest row = kind_is_rest row.kind
 
@@ -87,15 +89,6 @@ frees-moved : (P : ℕ → Type 0) (m : ℕ) → EachMovedIn P (replicate m Free
 frees-moved P zero = tt
 frees-moved P (suc m) = frees-moved P m
 
-rest_at : (rs : List Region) (j : ℕ) → j < front_count is_rest rs → is_rest (get_or rs j Free) ≡ true
-rest_at [] j h = absurd (omega arith)
-rest_at (r ∷ rs) j h = go (is_rest r) refl j h (λ i l. rest_at rs i l)
-  where
-    go : (b : Bool) → is_rest r ≡ b → (j : ℕ) → j < cond b (suc (front_count is_rest rs)) 0 → ((i : ℕ) → i < front_count is_rest rs → is_rest (get_or rs i Free) ≡ true) → is_rest (get_or (r ∷ rs) j Free) ≡ true
-    go false e j l k = absurd (omega arith)
-    go true e zero l k = e
-    go true e (suc j) l k = k j (omega arith)
-
 rest_no_tile : (r : Region) (o : ℕ) → is_rest r ≡ true → region_tile r o ≡ None
 rest_no_tile Free o h = cc
 rest_no_tile (Ordinary ts) o h = cc
@@ -120,7 +113,7 @@ outside t k x o n = go (x / t.words_per_region) refl
               | inl c ↦ absurd (n (c ∙ is))
               | inr c ↦
                   let at : suc k + (q - suc k) ≡ q = omega arith in
-                  let r = rest_at (drop (suc k) t.regions) (q - suc k) (omega arith) in
+                  let r = front_passes is_rest (drop (suc k) t.regions) Free (q - suc k) (omega arith) in
                   let r' : is_rest (get_or t.regions q Free) ≡ true = ap is_rest (sym (get_or-drop (suc k) t.regions (q - suc k) Free ∙ ap (λ j. get_or t.regions j Free) at)) ∙ r in
                   absurd (no_object t x q is r' o)
             ]
@@ -191,7 +184,7 @@ run_released size words rows t k at n number rows' g e h begins apart at_is n_is
     let whole = with_rows rows rows' number number_is count in
     subst (λ (rs : List Row). IsWrittenTable size words rs (without_run t k)) (sym (whole ∙ rows_are ∙ same)) w.written
 
-splice_one : (rs : List Region) (k : ℕ) (r : Region) → k < length rs → take k rs ++ (r ∷ drop (suc k) rs) ≡ set rs k r
+pub splice_one : (rs : List Region) (k : ℕ) (r : Region) → k < length rs → take k rs ++ (r ∷ drop (suc k) rs) ≡ set rs k r
 splice_one [] k r h = absurd (omega arith)
 splice_one (q ∷ rs) zero r h = refl
 splice_one (q ∷ rs) (suc k) r h = ap (λ (xs : List Region). q ∷ xs) (splice_one rs k r (omega arith))
@@ -210,11 +203,11 @@ ordinary_alone size words rows t k g e h o =
     none_in_front f size ws [] r = refl
     none_in_front f size ws (row ∷ rows) r = rw (no_rest f size ws row.used row.kind r.0) refl
 
-released_is : (size : ℕ) (words : List ℕ) (rows : List Row) (t : Table) (k : ℕ) → IsTable size words rows → table_of size words rows ≡ t → k < length t.regions → IsReleasable (region_number t k) → (without_run t k ≡ released t k) × (kind_of t k ≡ kinds.Rest → ⊥)
+released_is : (size : ℕ) (words : List ℕ) (rows : List Row) (t : Table) (k : ℕ) → IsTable size words rows → table_of size words rows ≡ t → k < length t.regions → IsReleasable (kind_of t k) → (without_run t k ≡ released t k) × (kind_of t k ≡ kinds.Rest → ⊥)
 unfolding released kind_of
 released_is size words rows t k g e h can = go (region_number t k) refl can
   where
-    go : (r : Region) → region_number t k ≡ r → IsReleasable r → (without_run t k ≡ released_as (region_number t k) t k) × (region_kind (region_number t k) ≡ kinds.Rest → ⊥)
+    go : (r : Region) → region_number t k ≡ r → IsReleasable (region_kind r) → (without_run t k ≡ released_as (region_number t k) t k) × (region_kind (region_number t k) ≡ kinds.Rest → ⊥)
     go Free f c = absurd c
     go (Ordinary ts) f c =
         let one = ordinary_alone size words rows t k g e h (ap region_kind f) in
@@ -224,12 +217,12 @@ released_is size words rows t k g e h can = go (region_number t k) refl can
     go (First s) f c = (rw f refl, λ q. let z : kinds.First ≡ kinds.Rest = sym (ap region_kind f) ∙ q in cc)
     go (Rest n) f c = absurd c
 
-pub release_by : (size : ℕ) (words : List ℕ) (rows : List Row) (t : Table) (k at n number : ℕ) (rows' : List Row) → IsTable size words rows → table_of size words rows ≡ t → k < length t.regions → IsReleasable (region_number t k) → EachMovedIn (λ to. k ≢ to / t.words_per_region) t.regions → at ≡ k → n ≡ suc (front_count rest (drop (suc k) rows)) → number ≡ length rows → rows' ≡ paste rows at (replicate n free_row) n → IsWrittenTable size words (take number (rows' ++ drop (length rows') rows)) (released t k)
+pub release_by : (size : ℕ) (words : List ℕ) (rows : List Row) (t : Table) (k at n number : ℕ) (rows' : List Row) → IsTable size words rows → table_of size words rows ≡ t → k < length t.regions → IsReleasable (kind_of t k) → EachMovedIn (λ to. k ≢ to / t.words_per_region) t.regions → at ≡ k → n ≡ suc (front_count rest (drop (suc k) rows)) → number ≡ length rows → rows' ≡ paste rows at (replicate n free_row) n → IsWrittenTable size words (take number (rows' ++ drop (length rows') rows)) (released t k)
 release_by size words rows t k at n number rows' g e h can apart at_is n_is number_is rows_is =
     let i = released_is size words rows t k g e h can in
     subst (λ (u : Table). IsWrittenTable size words (take number (rows' ++ drop (length rows') rows)) u) i.0 (run_released size words rows t k at n number rows' g e h i.1 apart at_is n_is number_is rows_is)
 
-pub release_room : (size : ℕ) (words : List ℕ) (rows : List Row) (t : Table) (k : ℕ) → IsTable size words rows → table_of size words rows ≡ t → k < length t.regions → IsReleasable (region_number t k) → EachMovedIn (λ to. k ≢ to / t.words_per_region) t.regions → k + suc (front_count rest (drop (suc k) rows)) ≤ length rows
+pub release_room : (size : ℕ) (words : List ℕ) (rows : List Row) (t : Table) (k : ℕ) → IsTable size words rows → table_of size words rows ≡ t → k < length t.regions → IsReleasable (kind_of t k) → EachMovedIn (λ to. k ≢ to / t.words_per_region) t.regions → k + suc (front_count rest (drop (suc k) rows)) ≤ length rows
 release_room size words rows t k g e h can apart =
     let i = released_is size words rows t k g e h can in
     let w = run_gone size words rows t k g e h i.1 apart in

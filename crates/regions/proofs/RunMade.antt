@@ -8,8 +8,8 @@ use Rattle.heap_words.proofs.Codec.{header_of-word}
 use Rattle.heap_model.specs.Heap.{Stored}
 use Rattle.regions.specs.Tiles.{Live, tile_size, stored_of}
 use Rattle.heap_words.specs.Contents.{put}
-use Rattle.regions.specs.Table.{Region, Free, Table, region_at, tile_in, object_at, EachMovedIn, HasObject, rests, run_regions, with_regions, new_object, first_run, is_free}
-use Rattle.regions.proofs.Search.{free, run_found, first_run-is}
+use Rattle.regions.specs.Table.{Region, Free, Table, region_at, tile_in, object_at, EachMovedIn, HasObject, rests, run_regions, with_regions, new_object, first_run}
+use Rattle.regions.proofs.Search.{free, run_found}
 use Rattle.regions.proofs.Parse.{stored_of-append}
 use Rattle.regions.specs.Rows.{object_size, sizes_in, first_stored, region_by, regions_of, IsObject, AreRows, free_row, kind_is_free, run_kind, run_row, run_rows, table_of, table_by, IsTable}
 use Rattle.regions.specs.declared.row.Row.{Row}
@@ -24,6 +24,7 @@ use Rattle.regions.proofs.Pushes.{stored_of-new}
 use lib.Seq.{paste}
 use Rattle.std.proofs.lemmas.List.Edits.{paste_more}
 use Rattle.regions.specs.declared.row.Kind.TheVariants as kinds
+
 length-rests : (size s i m : ℕ) → length (rests size s i m) ≡ m
 length-rests size s i zero = refl
 length-rests size s i (suc m) = ap suc (length-rests size s (suc i) m)

@@ -11,6 +11,7 @@ use Rattle.regions.specs.declared.row.Kind.{Kind}
 use Rattle.regions.proofs.RowLemmas.{start_at, rest_is}
 use Rattle.regions.proofs.RowWrites.{same_row, same_rest}
 use Rattle.regions.specs.declared.row.Kind.TheVariants as kinds
+
 pub record IsFront (f : ℕ → ℕ) (size left k n : ℕ) (ws ws' : List ℕ) (rows tail : List Row) : Type 0 where
   pub regions_are : regions_of f size ws' (take k rows ++ tail) ≡ take k (regions_of f size ws rows) ++ regions_of f size (drop n ws') tail
   pub rows_are : AreRows f size left ws' (take k rows ++ tail)

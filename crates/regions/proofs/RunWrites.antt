@@ -9,6 +9,7 @@ use Rattle.regions.specs.declared.row.Kind.{Kind}
 use Rattle.regions.proofs.RowLemmas.{start_at, rest_is}
 use Rattle.regions.proofs.RowWrites.{same_row, same_rest}
 use Rattle.regions.specs.declared.row.Kind.TheVariants as kinds
+
 drop_more_same : (s m : ℕ) (xs ys : List ℕ) → s ≤ m → drop s xs ≡ drop s ys → drop m xs ≡ drop m ys
 drop_more_same s m xs ys h e =
     let at : s + (m - s) ≡ m = omega arith in

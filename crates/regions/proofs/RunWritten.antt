@@ -15,6 +15,7 @@ use Rattle.std.proofs.Common.{◌≡◌, ℕ, suc, ◌+◌, ◌*◌, ◌/◌, �
 use Rattle.std.proofs.lemmas.List.{length-drop, length-set, drop-drop, drop-set-add, drop-set-lt, take-set-le, get_or-drop, get_or-set_other}
 use Rattle.std.proofs.lemmas.Nat.{row_fits}
 use Rattle.regions.proofs.RunWrites.{run_written}
+
 run_stored : (ws : List ℕ) (j v : ℕ) (s s' : Stored) → header_of (get_or ws 0 0) ≡ Some (Object (length s.pointers) (length s.values)) → s ≡ stored_of (length s.pointers) (length s.values) (drop 1 ws) → 2 + length s.pointers + length s.values ≤ length ws → Turns s j v s' → first_stored (set ws (suc j) v) ≡ s'
 run_stored [] j v s s' h e l t = absurd (omega arith)
 run_stored (w ∷ ws) j v s s' h e l t = rw h (t ws (omega arith) e)

@@ -1,9 +1,9 @@
 -- The tables that the tests go through.
-use Rattle.std.proofs.Common.{◌≡◌, ◌≢◌, ℕ, ◌+◌, ◌-◌, ◌*◌, ◌/◌, ◌<◌, ◌≤◌, Option, Some, None, List, [], ◌∷◌, length, refl, ap, subst, ◌∙◌, arith}
+use Rattle.std.proofs.Common.{◌≡◌, ◌≢◌, ℕ, ◌+◌, ◌-◌, ◌*◌, ◌/◌, ◌<◌, ◌≤◌, Option, Some, None, List, [], ◌∷◌, length, refl, ap, ◌∙◌, arith}
 use Rattle.std.specs.Prelude.{IsSome}
 use Rattle.heap_model.specs.Heap.{Stored}
-use Rattle.regions.specs.Tiles.{Tile, Live, Gap, Moved}
-use Rattle.regions.specs.Table.{Table, Region, Free, Ordinary, First, Rest, region_at, tile_in, object_at, pointers_at, values_at, put_object, set_pointer, set_value, EachMovedIn, object_words, IsOrdinary, is_free, first_free, taken, with_region, region_number, used_of, push_tile, new_object, kind_of, free_table, replace_tile, gap, first_run, with_run, IsReleasable, released}
+use Rattle.regions.specs.Tiles.{Live, Gap, Moved}
+use Rattle.regions.specs.Table.{Table, Region, Free, Ordinary, First, Rest, region_at, tile_in, object_at, pointers_at, values_at, put_object, set_pointer, set_value, EachMovedIn, object_words, IsOrdinary, is_free, first_free, taken, region_number, used_of, push_tile, new_object, kind_of, free_table, replace_tile, gap, first_run, with_run, IsReleasable, released}
 use Rattle.regions.specs.declared.row.Kind.TheVariants as kinds
 
 abbrev pub sample : List Region → Table
@@ -165,11 +165,11 @@ tile5 t a e p = rw (e, p) refl
 
 pub record CanRelease (t : Table) (k : ℕ) : Type 0 where
   pub known : k < length t.regions
-  pub releasable : IsReleasable (region_number t k)
+  pub releasable : IsReleasable (kind_of t k)
   pub untargeted : EachMovedIn (λ to. k ≢ to / t.words_per_region) t.regions
 
 pub releasable5 : (t : Table) (k : ℕ) → t ≡ moved5 → k ≡ 0 → CanRelease t k
-unfolding region_number
+unfolding region_number kind_of
 releasable5 t k e p = rw (e, p) (record { known = omega arith; releasable = tt; untargeted = ((λ z. omega arith, tt), (tt, tt)) })
 
 pub known6 : (t : Table) (k n : ℕ) → t ≡ moved6 → k ≡ n → n < 4 → k < length t.regions
@@ -190,7 +190,7 @@ unfolding released region_number
 run_release t t' k e f p = rw (f, e, p) refl
 
 pub releasable_run : (t : Table) (k : ℕ) → t ≡ run1 → k ≡ 1 → CanRelease t k
-unfolding region_number
+unfolding region_number kind_of
 releasable_run t k e p = rw (e, p) (record { known = omega arith; releasable = tt; untargeted = (tt, tt) })
 
 pub run_fits : (t : Table) (p d : ℕ) → t ≡ filled1 → p ≡ 3 → d ≡ 20 → (2 + p + d ≤ 2 * t.words_per_region) × (2 * t.words_per_region < 2 + p + d + t.words_per_region)

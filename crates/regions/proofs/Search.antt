@@ -1,13 +1,14 @@
 -- The search for a run of free regions.
-use Rattle.std.proofs.Common.{◌≡◌, ◌≢◌, ℕ, zero, suc, ◌+◌, ◌-◌, ◌<◌, ◌≤◌, Bool, true, false, Option, Some, None, List, [], ◌∷◌, length, drop, get_or, refl, sym, ◌∙◌, ap, subst, arith, cond, leb, inl, inr, add-zero, zero-add}
+use Rattle.std.proofs.Common.{◌≡◌, ◌≢◌, ℕ, zero, suc, ◌+◌, ◌-◌, ◌<◌, ◌≤◌, Bool, true, false, Option, Some, None, List, [], ◌∷◌, length, drop, get_or, refl, sym, ◌∙◌, ap, subst, arith, cond, leb, add-zero, zero-add}
 use Rattle.std.proofs.lemmas.Bool.{le-leb, lt-leb}
 use Rattle.std.proofs.lemmas.List.{get_or-drop, drop-drop, length-drop}
-use Rattle.std.proofs.lemmas.Bool.Decides.{leb_tells}
 use Rattle.regions.specs.Table.{Table, is_free, front_count, behind_one, first_run}
 use Rattle.regions.specs.Rows.{regions_of, free_row, kind_is_free, table_of}
 use Rattle.regions.specs.declared.row.Row.{Row}
+use Rattle.regions.proofs.Fronts.{front_le, run_passes}
 use Rattle.regions.proofs.Making.{free_by}
 use Rattle.regions.proofs.RunRows.{FreeFront}
+
 abbrev pub free : Row → Bool
 free row = kind_is_free row.kind
 
@@ -30,14 +31,6 @@ shifted-suc n (Some k) = ap Some (omega arith)
 shifted-one : (o : Option ℕ) → behind_one o ≡ shifted 1 o
 shifted-one None = refl
 shifted-one (Some k) = ap Some (omega arith)
-
-front_length : (rows : List Row) → front_count free rows ≤ length rows
-front_length [] = omega arith
-front_length (row ∷ rows) = go (free row) (front_length rows)
-  where
-    go : (b : Bool) → front_count free rows ≤ length rows → cond b (suc (front_count free rows)) 0 ≤ suc (length rows)
-    go true h = omega arith
-    go false h = omega arith
 
 front_has : (m : ℕ) (rows : List Row) → FreeFront m rows → m ≤ front_count free rows
 front_has zero rows h = omega arith
@@ -67,7 +60,7 @@ run_past count (suc m) (row ∷ rows) h l f c =
 pub run_none : (count : ℕ) (rows : List Row) → length rows < count → first_run free count rows ≡ None
 run_none count [] h = refl
 run_none count (row ∷ rows) h =
-    let none : leb count (front_count free (row ∷ rows)) ≡ false = lt-leb count (front_count free (row ∷ rows)) (let i = front_length (row ∷ rows) in omega arith) in
+    let none : leb count (front_count free (row ∷ rows)) ≡ false = lt-leb count (front_count free (row ∷ rows)) (let i = front_le free (row ∷ rows) in omega arith) in
     rw (none, run_none count rows (omega arith)) refl
 
 pub front_more : (m : ℕ) (rows : List Row) → FreeFront m rows → m < length rows → kind_is_free (get_or rows m free_row).kind ≡ true → FreeFront (suc m) rows
@@ -86,23 +79,7 @@ has_front (suc m) (row ∷ rows) h = go (free row) refl h (λ l. has_front m row
     go false e l i = absurd (omega arith)
 
 pub run_found : (m k : ℕ) (rows : List Row) → first_run free m rows ≡ Some k → (k < length rows) × FreeFront m (drop k rows)
-run_found m k [] h = cc
-run_found m k (row ∷ rows) h =
-    elim (leb_tells m (front_count free (row ∷ rows))) [
-      | inl q ↦
-          let e : Some 0 ≡ Some k = rw q.0 at h in
-          let z : 0 ≡ k = cc in
-          rw (← z) (omega arith, has_front m (row ∷ rows) q.1)
-      | inr q ↦ next k (first_run free m rows) refl (rw q.0 at h) (λ j e. run_found m j rows e)
-    ]
-  where
-    next : (k : ℕ) (o : Option ℕ) → first_run free m rows ≡ o → behind_one o ≡ Some k → ((j : ℕ) → first_run free m rows ≡ Some j → (j < length rows) × FreeFront m (drop j rows)) → (k < length (row ∷ rows)) × FreeFront m (drop k (row ∷ rows))
-    next k None e f g = cc
-    next zero (Some j) e f g = cc
-    next (suc k) (Some j) e f g =
-        let z : j ≡ k = cc in
-        let i = g j e in
-        rw (← z) (omega (arith, i.0), i.1)
+run_found m k rows h = let i = run_passes free m k rows h in (i.0, has_front m (drop k rows) i.1)
 
 front-regions : (f : ℕ → ℕ) (size : ℕ) (rows : List Row) (ws : List ℕ) → front_count is_free (regions_of f size ws rows) ≡ front_count free rows
 front-regions f size [] ws = refl

@@ -1,21 +1,20 @@
 -- The shape of every table, from its words and rows.
-use Rattle.std.proofs.Common.{◌≡◌, ℕ, zero, suc, ◌+◌, ◌-◌, ◌*◌, ◌/◌, ◌%◌, ◌^◌, ◌<◌, ◌≤◌, ◌⊎◌, min, Option, Some, None, List, [], ◌∷◌, length, take, drop, get_or, refl, sym, ◌∙◌, ap, subst, arith, inl, inr}
-use Rattle.std.proofs.lemmas.Bool.{cases_lt}
+use Rattle.std.proofs.Common.{◌≡◌, ℕ, zero, suc, ◌+◌, ◌-◌, ◌*◌, ◌/◌, ◌%◌, ◌<◌, ◌≤◌, ◌⊎◌, min, Some, List, [], ◌∷◌, length, take, drop, get_or, refl, sym, ◌∙◌, ap, subst, arith, inl, inr}
 use Rattle.std.proofs.lemmas.List.{length-take, length-drop, get_or-drop}
 use Rattle.std.proofs.lemmas.Nat.{row_fits, div-mul-add, mod-mul-add}
 use Rattle.heap_model.specs.Heap.{Stored}
 use Rattle.heap_words.specs.Headers.{header_of}
-use Rattle.regions.specs.Tiles.{Tile, Live, tile_size, tile_at, total_size, tiles}
+use Rattle.regions.specs.Tiles.{Tile, Live, tile_size}
 use Rattle.regions.specs.Table.{Region, Free, Ordinary, First, Rest, Table, region_at, region_number, region_kind, kind_of, tile_in, object_at}
-use Rattle.regions.specs.Walks.{AllPositive, tiles_of, region_tiles, IsFitting}
+use Rattle.regions.specs.Walks.{tiles_of, region_tiles, IsFitting}
 use Rattle.regions.specs.Shaped.{IsShaped, IsLater}
-use Rattle.regions.specs.Rows.{object_size, sizes_in, region_by, region_of, regions_of, IsRow, IsRestRow, left_by, AreRows, table_of, IsTable, free_row, first_stored}
+use Rattle.regions.specs.Rows.{object_size, sizes_in, region_by, IsRow, IsRestRow, left_by, AreRows, table_of, IsTable, free_row, first_stored}
 use Rattle.regions.specs.declared.row.Row.{Row}
 use Rattle.regions.specs.declared.row.Kind.{Kind}
 use Rattle.regions.specs.declared.row.Kind.TheVariants as kinds
 use Rattle.regions.proofs.Parse.{tile_at-tiles}
-use Rattle.regions.proofs.RowLemmas.{regions-past, start_at, rest_is}
-use Rattle.regions.proofs.Places.{table_right, place_of, InOrdinary, InFirst, in_first}
+use Rattle.regions.proofs.RowLemmas.{start_at, rest_is}
+use Rattle.regions.proofs.Places.{table_right, place_of, InFirst, in_first}
 use Rattle.regions.proofs.Making.{length-regions_of, known, kind_is, top_is}
 use Rattle.regions.proofs.WalkMade.{walk_ordinary}
 use Rattle.regions.proofs.ObjectWords.{there}
@@ -211,21 +210,21 @@ later_is size words rows t k n g e f =
 
 tile_within : (size : ℕ) (words : List ℕ) (rows : List Row) (a : ℕ) (u : Tile) → IsTable size words rows → tile_in (table_of size words rows) a ≡ Some u → a + tile_size u ≤ length words
 tile_within size words rows a u g h = elim (place_of (sizes_in words) size words rows a u h) [
-    | inl q ↦
-        let row : Row = get_or rows (a / size) free_row in
-        let n : ℕ = a / size * size in
-        let at : n + a % size ≡ a = omega (arith, g.region_size.0) in
-        let st = start_at (sizes_in words) size rows (a / size) n 0 words free_row refl q.known g.rows_right (λ e. let f : kinds.Ordinary ≡ kinds.Rest = sym q.kind_is ∙ e in cc) in
-        let right : IsRow (sizes_in words) size (drop n words) row.used kinds.Ordinary = subst (λ (kind : Kind). IsRow (sizes_in words) size (drop n words) row.used kind) q.kind_is st.0.row_is in
-        let t = tile_at-tiles (sizes_in words) 0 (a % size) (a % size) (take row.used (drop n words)) u right.1 (omega arith) q.tile_is in
-        let room : n + size ≤ length words = rw g.covers (row_fits (a / size) size (length rows) size q.known (omega arith)) in
-        omega (arith, t.1, length-take row.used (drop n words), right.0)
-    | inr q ↦
-        let s : Stored = first_stored (drop (a / size * size) words) in
-        let i = in_first (sizes_in words) size words rows a s (table_right g) (subst (λ (v : Tile). InFirst (sizes_in words) size words rows a v) q.tile_is q) in
-        let e : tile_size u ≡ tile_size (Live s) = ap tile_size q.tile_is in
-        omega (arith, i.fits, e)
-  ]
+  | inl q ↦
+      let row : Row = get_or rows (a / size) free_row in
+      let n : ℕ = a / size * size in
+      let at : n + a % size ≡ a = omega (arith, g.region_size.0) in
+      let st = start_at (sizes_in words) size rows (a / size) n 0 words free_row refl q.known g.rows_right (λ e. let f : kinds.Ordinary ≡ kinds.Rest = sym q.kind_is ∙ e in cc) in
+      let right : IsRow (sizes_in words) size (drop n words) row.used kinds.Ordinary = subst (λ (kind : Kind). IsRow (sizes_in words) size (drop n words) row.used kind) q.kind_is st.0.row_is in
+      let t = tile_at-tiles (sizes_in words) 0 (a % size) (a % size) (take row.used (drop n words)) u right.1 (omega arith) q.tile_is in
+      let room : n + size ≤ length words = rw g.covers (row_fits (a / size) size (length rows) size q.known (omega arith)) in
+      omega (arith, t.1, length-take row.used (drop n words), right.0)
+  | inr q ↦
+      let s : Stored = first_stored (drop (a / size * size) words) in
+      let i = in_first (sizes_in words) size words rows a s (table_right g) (subst (λ (v : Tile). InFirst (sizes_in words) size words rows a v) q.tile_is q) in
+      let e : tile_size u ≡ tile_size (Live s) = ap tile_size q.tile_is in
+      omega (arith, i.fits, e)
+]
 
 pub shaped_of : (size : ℕ) (words : List ℕ) (rows : List Row) (t : Table) → IsTable size words rows → table_of size words rows ≡ t → IsShaped t
 shaped_of size words rows t g e =

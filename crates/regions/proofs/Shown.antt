@@ -15,6 +15,7 @@ use Rattle.std.proofs.lemmas.List.{length-append, length-take, length-drop, leng
 use Rattle.std.specs.Prelude.{IsSome, IfSome}
 use Rattle.regions.specs.Shapes.{tile_shape, shape_by}
 use Rattle.regions.specs.declared.row.Kind.TheVariants as kinds
+
 shape_tile : (f : ℕ → ℕ) (o : Option Header) (ws : List ℕ) → size_by f o - 1 ≤ length ws → tile_shape (tile_by f ws o) ≡ shape_by f o
 shape_tile f None ws h = refl
 shape_tile f (Some (Object p d)) ws h =

@@ -10,6 +10,7 @@ use Rattle.regions.specs.Rows.{region_by, regions_of, IsRow, AreRows}
 use Rattle.regions.specs.declared.row.Row.{Row}
 use Rattle.regions.specs.declared.row.Kind.{Kind}
 use Rattle.regions.specs.declared.row.Kind.TheVariants as kinds
+
 abbrev pub AgreeOn : (ℕ → ℕ) → (ℕ → ℕ) → List Tile → Type 0
 AgreeOn f g ts = EachMoved (λ to. g to ≡ f to) ts
 

@@ -3,6 +3,7 @@ use Rattle.std.proofs.Common.{◌≡◌, ℕ, zero, suc, ◌+◌, ◌/◌, ◌<�
 use Rattle.heap_model.specs.Heap.{Stored}
 use Rattle.regions.specs.Table.{Region, Free, Ordinary, First, Rest, Table, region_at, tile_in, object_at, with_regions, EachMovedIn, HasObject}
 use Rattle.regions.proofs.Kept.{IsKept, same_object, each_kept}
+
 pub EachMovedIn-append : (P : ℕ → Type 0) (rs qs : List Region) → EachMovedIn P rs → EachMovedIn P qs → EachMovedIn P (rs ++ qs)
 EachMovedIn-append P [] qs a b = b
 EachMovedIn-append P (Free ∷ rs) qs a b = EachMovedIn-append P rs qs a b

@@ -6,6 +6,7 @@ use Rattle.regions.specs.declared.row.Row.{Row}
 use Rattle.regions.proofs.Places.{table_right, object_is_in}
 use Rattle.regions.proofs.Sizes.{AgreeIn, EachMovedIn-imp, regions-agree, AreRows-agree}
 use Rattle.regions.proofs.Kept.{IsKept}
+
 pub record IsWrittenTable (size : ℕ) (words' : List ℕ) (rows : List Row) (t : Table) : Type 0 where
   pub is_table : IsTable size words' rows
   pub table_is : table_of size words' rows ≡ t

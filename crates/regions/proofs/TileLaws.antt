@@ -1,15 +1,12 @@
--- Which tiles a table has once one is put at a top or takes another's place. No word is in it.
-use Rattle.std.proofs.Common.{◌≡◌, ◌≢◌, ℕ, zero, suc, ◌+◌, ◌-◌, ◌*◌, ◌/◌, ◌%◌, ◌<◌, Some, List, [], ◌∷◌, ◌++◌, length, get_or, refl, sym, ◌∙◌, ap, arith, inl, inr}
-use Rattle.std.proofs.lemmas.List.{get_or-set_same, get_or-set_other}
+-- Which tiles a table has once an object is forwarded. No word is in it.
+use Rattle.std.proofs.Common.{◌≡◌, ◌≢◌, ℕ, ◌/◌, ◌%◌, ◌<◌, Some, List, [], ◌∷◌, length, get_or, refl, ◌∙◌, ap, inl, inr}
+use Rattle.std.proofs.lemmas.List.{get_or-set_same, get_or-set_other, length-set}
 use Rattle.std.proofs.lemmas.Bool.{cases_eq}
-use Rattle.std.proofs.lemmas.Bool.Decides.{leb_tells}
-use Rattle.regions.specs.Tiles.{Tile, tile_size, tile_at, total_size}
-use Rattle.regions.specs.Table.{Region, Free, Ordinary, First, Rest, Table, region_tile, region_at, tile_in, region_with_tile, region_number, push_tile, region_replaced, replace_tile, IsOrdinary, region_used, used_of, region_kind, kind_of}
-use Rattle.std.proofs.lemmas.Nat.{div-mul-add}
-use Rattle.regions.specs.Walks.{AllPositive, region_tiles, tiles_of}
+use Rattle.heap_model.specs.Heap.{Stored}
+use Rattle.regions.specs.Tiles.{Live, Moved, Tile, tile_size}
+use Rattle.regions.specs.Table.{Region, Free, Ordinary, First, Rest, Table, region_tile, region_at, tile_in, region_number, region_replaced, replace_tile, IsOrdinary, region_kind, kind_of}
 use Rattle.regions.proofs.Laws.{tile_at-replace_same, tile_at-replace_other, same_place, known_region}
-use Rattle.regions.proofs.Kept.{tile_at-behind}
-use Rattle.regions.specs.declared.row.Kind.TheVariants as kinds
+
 replaced_same : (r : Region) (o : ℕ) (old new : Tile) → IsOrdinary r → region_tile r o ≡ Some old → region_tile (region_replaced r o (new ∷ [])) o ≡ Some new
 replaced_same Free o old new i h = absurd i
 replaced_same (Ordinary ts) o old new i h = tile_at-replace_same ts o old new h
@@ -45,61 +42,47 @@ tile_in-replace_other t a y old new z h e n =
       | inr q ↦ rw (get_or-set_other t.regions (a / size) (y / size) r Free q) refl
     ]
 
-tile_at-top : (ts : List Tile) (t : Tile) → AllPositive ts → tile_at (total_size ts) (ts ++ t ∷ []) ≡ Some t
-tile_at-top ts t p = tile_at-behind ts (t ∷ []) (total_size ts) 0 p (omega arith)
+kind_replaced : (r : Region) (o : ℕ) (new : List Tile) → region_kind (region_replaced r o new) ≡ region_kind r
+kind_replaced Free o new = refl
+kind_replaced (Ordinary ts) o new = refl
+kind_replaced (First s) o new = refl
+kind_replaced (Rest n) o new = refl
 
-tile_at-below : (ts : List Tile) (t : Tile) (y : ℕ) → y ≢ total_size ts → tile_at y (ts ++ t ∷ []) ≡ tile_at y ts
-tile_at-below [] t zero n = absurd (n refl)
-tile_at-below [] t (suc y) n = elim (leb_tells (tile_size t) (suc y)) [ inl q ↦ rw q.0 refl | inr q ↦ rw q.0 refl ]
-tile_at-below (u ∷ ts) t zero n = refl
-tile_at-below (u ∷ ts) t (suc y) n =
-    elim (leb_tells (tile_size u) (suc y)) [
-      | inl q ↦ rw q.0 (tile_at-below ts t (suc y - tile_size u) (λ k. n (omega (arith, k, q.1))))
-      | inr q ↦ rw q.0 refl
+-- no region becomes one of another kind
+kind_of-replace : (t : Table) (a : ℕ) (new : List Tile) (k : ℕ) → a / t.words_per_region < length t.regions → kind_of (replace_tile t a new) k ≡ kind_of t k
+unfolding kind_of region_number replace_tile region_at
+kind_of-replace t a new k h =
+    let j : ℕ = a / t.words_per_region in
+    let r : Region = region_replaced (get_or t.regions j Free) (a % t.words_per_region) new in
+    elim (cases_eq k j) [
+      | inl q ↦ rw q (ap region_kind (get_or-set_same t.regions j r Free h) ∙ kind_replaced (get_or t.regions j Free) (a % t.words_per_region) new)
+      | inr q ↦ ap region_kind (get_or-set_other t.regions j k r Free q)
     ]
 
--- where an offset lies
-pub place_is : (k o size : ℕ) → o < size → ((k * size + o) / size ≡ k) × ((k * size + o) % size ≡ o)
-place_is k o size h =
-    let x : ℕ = k * size + o in
-    let e : x / size ≡ k = div-mul-add k size o h in
-    let f : x / size * size + x % size ≡ x = omega arith in
-    let g : k * size + x % size ≡ x = rw e at f in
-    (e, omega (arith, g))
+replace_size : (t : Table) (a : ℕ) (new : List Tile) → ((replace_tile t a new).words_per_region ≡ t.words_per_region) × (length (replace_tile t a new).regions ≡ length t.regions)
+unfolding replace_tile
+replace_size t a new = (refl, length-set t.regions _ _)
 
-push_top : (r : Region) (tile : Tile) (size : ℕ) → region_kind r ≡ kinds.Ordinary → AllPositive (region_tiles r) → region_tile (region_with_tile r tile) (region_used size r) ≡ Some tile
-push_top Free tile size o p = cc
-push_top (Ordinary ts) tile size o p = tile_at-top ts tile p
-push_top (First s) tile size o p = cc
-push_top (Rest n) tile size o p = cc
+tile_known : (t : Table) (a : ℕ) (tile : Tile) → tile_in t a ≡ Some tile → a / t.words_per_region < length t.regions
+unfolding tile_in region_at
+tile_known t a tile h = known_region t.regions _ _ _ h
 
-push_below : (r : Region) (tile : Tile) (size y : ℕ) → region_kind r ≡ kinds.Ordinary → y ≢ region_used size r → region_tile (region_with_tile r tile) y ≡ region_tile r y
-push_below Free tile size y o n = refl
-push_below (Ordinary ts) tile size y o n = tile_at-below ts tile y n
-push_below (First s) tile size y o n = refl
-push_below (Rest m) tile size y o n = refl
+-- an object of an ordinary region is forwarded
+pub record Forwards (t t' : Table) (a to n : ℕ) : Type 0 where
+  pub size : t'.words_per_region ≡ t.words_per_region
+  pub count : length t'.regions ≡ length t.regions
+  pub kinds_same : (k : ℕ) → kind_of t' k ≡ kind_of t k
+  pub is : tile_in t' a ≡ Some (Moved to n)
+  pub others : (y : ℕ) → y ≢ a → tile_in t' y ≡ tile_in t y
 
--- the tile put at a top stands there
-pub tile_in-push_top : (t : Table) (k : ℕ) (tile : Tile) → k < length t.regions → kind_of t k ≡ kinds.Ordinary → AllPositive (tiles_of t k) → used_of t k < t.words_per_region → tile_in (push_tile t k tile) (k * t.words_per_region + used_of t k) ≡ Some tile
-unfolding tile_in region_at push_tile region_number used_of kind_of tiles_of
-tile_in-push_top t k tile h o p u =
-    let r : Region = get_or t.regions k Free in
-    let at = place_is k (region_used t.words_per_region r) t.words_per_region u in
-    let e = get_or-set_same t.regions k (region_with_tile r tile) Free h in
-    rw (at.0, at.1, e) (push_top r tile t.words_per_region o p)
-
--- every other tile is as it was
-pub tile_in-push_other : (t : Table) (k y : ℕ) (tile : Tile) → 0 < t.words_per_region → k < length t.regions → kind_of t k ≡ kinds.Ordinary → y ≢ k * t.words_per_region + used_of t k → tile_in (push_tile t k tile) y ≡ tile_in t y
-unfolding tile_in region_at push_tile region_number used_of kind_of
-tile_in-push_other t k y tile z h o n =
-    let size : ℕ = t.words_per_region in
-    let r : Region = get_or t.regions k Free in
-    elim (cases_eq (y / size) k) [
-      | inl q ↦
-          let e = get_or-set_same t.regions k (region_with_tile r tile) Free h in
-          let whole : y / size * size + y % size ≡ y = omega arith in
-          let whole' : k * size + y % size ≡ y = rw q at whole in
-          let apart : y % size ≢ region_used size r = λ c. n (sym whole' ∙ ap (λ j. k * size + j) c) in
-          rw (q, e) (push_below r tile size (y % size) o apart)
-      | inr q ↦ rw (get_or-set_other t.regions k (y / size) (region_with_tile r tile) Free q) refl
-    ]
+pub object_forwarded : (t : Table) (a to : ℕ) (s : Stored) → 0 < t.words_per_region → IsOrdinary (region_at t a) → tile_in t a ≡ Some (Live s) → Forwards t (replace_tile t a (Moved to (tile_size (Live s)) ∷ [])) a to (tile_size (Live s))
+object_forwarded t a to s z ordinary h =
+    let n : ℕ = tile_size (Live s) in
+    let whole = replace_size t a (Moved to n ∷ []) in
+    record {
+      size = whole.0;
+      count = whole.1;
+      kinds_same = λ k. kind_of-replace t a (Moved to n ∷ []) k (tile_known t a (Live s) h);
+      is = tile_in-replace_same t a (Live s) (Moved to n) ordinary h;
+      others = λ y apart. tile_in-replace_other t a y (Live s) (Moved to n) z h refl apart;
+    }

@@ -1,11 +1,11 @@
 -- How many words of a region are handed out, whatever its kind.
-use Rattle.std.proofs.Common.{◌≡◌, ℕ, ◌+◌, ◌*◌, ◌<◌, ◌≤◌, min, List, length, drop, get_or, refl, sym, ◌∙◌, ap, subst, arith}
+use Rattle.std.proofs.Common.{◌≡◌, ℕ, ◌*◌, ◌<◌, ◌≤◌, min, List, length, drop, get_or, refl, sym, ◌∙◌, ap, subst, arith}
 use Rattle.std.proofs.lemmas.Nat.{row_fits}
 use Rattle.heap_model.specs.Heap.{Stored}
 use Rattle.heap_words.specs.Headers.{header_of}
 use Rattle.std.proofs.lemmas.List.{get_or-drop}
 use Rattle.regions.specs.Tiles.{Live, tile_size}
-use Rattle.regions.specs.Table.{Region, Free, First, Rest, Table, region_used, region_number, used_of, kind_of}
+use Rattle.regions.specs.Table.{Region, Free, First, Rest, Table, region_used, region_number, used_of}
 use Rattle.regions.specs.Rows.{object_size, sizes_in, first_stored, IsRow, table_of, IsTable, free_row}
 use Rattle.regions.specs.declared.row.Row.{Row}
 use Rattle.regions.specs.declared.row.Kind.{Kind}

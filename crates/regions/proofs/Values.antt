@@ -17,6 +17,7 @@ use Rattle.regions.proofs.RunWritten.{write_first}
 use Rattle.regions.proofs.Targets.{IsWrittenTable}
 use Rattle.regions.proofs.Kept.{put_kept}
 use Rattle.regions.proofs.ObjectWords.{there}
+
 pub record HasValue (t : Table) (x i : ℕ) : Type 0 where
   pub object : Stored
   pub object_is : object_at t x ≡ Some object
@@ -63,9 +64,6 @@ value_read size words rows t x i g e h =
 
 abbrev pub with_value : Stored → ℕ → ℕ → Stored
 with_value s i v = record { name = s.name; pointers = s.pointers; values = set s.values i v }
-
-
-
 
 stored_of-set_value : (p d : ℕ) (body : List ℕ) (i v : ℕ) → 1 + p + d ≤ length body → stored_of p d (set body (suc p + i) v) ≡ with_value (stored_of p d body) i v
 stored_of-set_value p d [] i v l = absurd (omega arith)

@@ -1,5 +1,5 @@
 -- Walks of any region, and those that begin at a tile.
-use Rattle.std.proofs.Common.{◌≡◌, ℕ, zero, suc, ◌+◌, ◌-◌, ◌*◌, ◌/◌, ◌%◌, ◌<◌, ◌≤◌, Option, Some, None, List, [], ◌∷◌, length, get_or, refl, sym, ap, ◌∙◌, arith}
+use Rattle.std.proofs.Common.{◌≡◌, ℕ, zero, suc, ◌+◌, ◌-◌, ◌*◌, ◌/◌, ◌%◌, ◌<◌, ◌≤◌, Option, Some, None, List, [], ◌∷◌, length, get_or, refl, ap, ◌∙◌, arith}
 use Rattle.std.specs.Prelude.{IsSome}
 use Rattle.std.proofs.lemmas.Nat.{div-mul-add, mod-mul-add}
 use Rattle.heap_model.specs.Heap.{Stored}
@@ -7,7 +7,7 @@ use Rattle.regions.specs.Tiles.{Tile, Live, tile_size, tile_at, total_size}
 use Rattle.regions.specs.Table.{Table, Region, Free, Ordinary, First, Rest, region_at, region_tile, region_number, region_kind, kind_of, tile_in}
 use Rattle.regions.specs.Walks.{AllPositive, IsCut, IsWalk, tiles_of, region_tiles}
 use Rattle.regions.specs.Shaped.{IsShaped}
-use Rattle.regions.specs.Rows.{sizes_in, table_of, IsTable, free_row}
+use Rattle.regions.specs.Rows.{sizes_in, table_of, IsTable}
 use Rattle.regions.specs.declared.row.Row.{Row}
 use Rattle.regions.specs.declared.row.Kind.TheVariants as kinds
 use Rattle.regions.proofs.Parse.{past}
@@ -15,7 +15,7 @@ use Rattle.regions.proofs.Laws.{known_region}
 use Rattle.regions.proofs.Making.{size_is_of}
 use Rattle.regions.proofs.Shown.{tile_shown, IsShown}
 use Rattle.regions.proofs.WalkMade.{cut_tile, positive_at}
-use Rattle.regions.proofs.ShapedMade.{tiles_at, kind_at, first_words, shaped_of}
+use Rattle.regions.proofs.ShapedMade.{tiles_at, first_words, shaped_of}
 
 pub cut_at : (ts : List Tile) (o : ℕ) (u : Tile) → tile_at o ts ≡ Some u → IsCut o ts × (o + tile_size u ≤ total_size ts)
 cut_at [] o u f = cc

@@ -4,6 +4,7 @@ use Rattle.regions.specs.Tiles.{Tile, tile_size, tile_at, total_size}
 use Rattle.regions.specs.Table.{Table}
 use Rattle.regions.specs.Walks.{tiles_from, IsCut, IsWalk, AllPositive, IsTileBehind, tiles_of, walk_rest, placed}
 use Rattle.regions.proofs.Parse.{past}
+
 pub cut_none : (o : ℕ) (ts : List Tile) → IsCut o ts → total_size ts ≤ o → AllPositive ts → tiles_from o ts ≡ []
 cut_none zero [] c h p = refl
 cut_none zero (u ∷ ts) c h p = absurd (omega (arith, p.0))

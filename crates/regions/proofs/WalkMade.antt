@@ -1,8 +1,7 @@
 -- A walk over the words of a region.
 use Rattle.heap_words.specs.Headers.{header_of}
 use Rattle.regions.proofs.Making.{known, kind_is, top_is, tiles_total}
-use Rattle.regions.proofs.Parse.{skip_le, tile_at-tiles, tile_size-by, past}
-use Rattle.regions.proofs.Places.{split_at}
+use Rattle.regions.proofs.Parse.{skip_le, tile_size-by, past}
 use Rattle.regions.proofs.RowLemmas.{start_at}
 use Rattle.regions.specs.Rows.{sizes_in, IsRow, table_of, IsTable, free_row}
 use Rattle.regions.specs.Shapes.{tile_shape, size_of_shape}
@@ -14,8 +13,8 @@ use Rattle.std.proofs.Common.{◌≡◌, ℕ, zero, suc, ◌+◌, ◌-◌, ◌*�
 use Rattle.std.proofs.lemmas.List.{length-take, length-drop}
 use Rattle.regions.specs.Walks.{IsCut, IsWalk, AllPositive, tiles_of, region_tiles}
 use Rattle.std.proofs.lemmas.Bool.{le-leb}
-use Rattle.regions.proofs.Shown.{shown_front, IsShown}
 use Rattle.regions.specs.declared.row.Kind.TheVariants as kinds
+
 pub tiles_positive : (f : ℕ → ℕ) (k : ℕ) (ws : List ℕ) → IsTiled f k ws → AllPositive (tiles f k ws)
 tiles_positive f k [] h = tt
 tiles_positive f zero (w ∷ ws) h =

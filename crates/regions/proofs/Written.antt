@@ -17,6 +17,7 @@ use Rattle.regions.proofs.Targets.{IsWrittenTable, written_table}
 use Rattle.regions.proofs.Kept.{IsKept}
 use Rattle.std.proofs.lemmas.Nat.{row_fits}
 use Rattle.regions.specs.declared.row.Kind.TheVariants as kinds
+
 pub record IsChange (size : ℕ) (words words' : List ℕ) (n : ℕ) : Type 0 where
   pub length_is : length words' ≡ length words
   pub before : take n words' ≡ take n words

@@ -10,6 +10,7 @@ use Rattle.regions.specs.declared.row.Row.{Row}
 use Rattle.regions.specs.declared.row.Kind.{Kind}
 use Rattle.regions.specs.declared.row.Kind.TheVariants as kinds
 
+-- how many words the object of a header has, 1 where it is no object's
 abbrev pub object_size : Option Header → ℕ
 object_size None = 1
 object_size (Some (Object p d)) = 2 + p + d
@@ -27,12 +28,14 @@ header_target (Some (Object p d)) = None
 header_target (Some (Filler n)) = None
 header_target (Some (Forwarded to)) = Some to
 
+-- the object of a header
 abbrev pub stored_by : List ℕ → Option Header → Stored
 stored_by ws None = stored_of 0 0 ws
 stored_by ws (Some (Object p d)) = stored_of p d ws
 stored_by ws (Some (Filler n)) = stored_of 0 0 ws
 stored_by ws (Some (Forwarded to)) = stored_of 0 0 ws
 
+-- the object that words begin with
 abbrev pub first_stored : List ℕ → Stored
 first_stored [] = stored_of 0 0 []
 first_stored (w ∷ ws) = stored_by ws (header_of w)
@@ -44,26 +47,30 @@ region_by sizes ws used kinds.Ordinary = Ordinary (tiles sizes 0 (take used ws))
 region_by sizes ws used kinds.First = First (first_stored ws)
 region_by sizes ws used kinds.Rest = Rest used
 
+-- the region of a row
 abbrev pub region_of : (ℕ → ℕ) → List ℕ → Row → Region
 region_of sizes ws row = region_by sizes ws row.used row.kind
 
+-- the regions of rows, `size` words each
 abbrev pub regions_of : (ℕ → ℕ) → ℕ → List ℕ → List Row → List Region
 regions_of sizes size ws [] = []
 regions_of sizes size ws (row ∷ rows) = region_of sizes ws row ∷ regions_of sizes size (drop size ws) rows
 
+-- the header is an object's
 abbrev pub IsObject : Option Header → Type 0
 IsObject None = ⊥
 IsObject (Some (Object p d)) = Unit {0}
 IsObject (Some (Filler n)) = ⊥
 IsObject (Some (Forwarded to)) = ⊥
 
--- a row that begins no later than its region, and how many words of its object lie in the next ones
+-- a row that is no later one of a run says what the words of its region are
 abbrev pub IsRow : (ℕ → ℕ) → ℕ → List ℕ → ℕ → Kind → Type 0
 IsRow sizes size ws used kinds.Free = used ≡ 0
 IsRow sizes size ws used kinds.Ordinary = (used ≤ size) × IsTiled sizes 0 (take used ws)
 IsRow sizes size ws used kinds.First = IsObject (header_of (slice_index ws 0)) × (used ≡ min size (object_size (header_of (slice_index ws 0))))
 IsRow sizes size ws used kinds.Rest = ⊥
 
+-- the row of a later region of a run, from whose start on `left` words are the object's
 abbrev pub IsRestRow : ℕ → ℕ → ℕ → Kind → Type 0
 IsRestRow size left used kinds.Free = ⊥
 IsRestRow size left used kinds.Ordinary = ⊥
@@ -83,18 +90,22 @@ AreRows sizes size left ws [] = left ≡ 0
 AreRows sizes size zero ws (row ∷ rows) = IsRow sizes size ws row.used row.kind × AreRows sizes size (left_by size ws row.kind) (drop size ws) rows
 AreRows sizes size (suc left) ws (row ∷ rows) = IsRestRow size (suc left) row.used row.kind × AreRows sizes size (suc left - size) (drop size ws) rows
 
+-- the table that callers see
 abbrev pub table_of : ℕ → List ℕ → List Row → Table
 table_of size words rows = record { words_per_region = size; regions = regions_of (sizes_in words) size words rows }
 
+-- the same, with other sizes of what moved
 abbrev pub table_by : (ℕ → ℕ) → ℕ → List ℕ → List Row → Table
 table_by f size words rows = record { words_per_region = size; regions = regions_of f size words rows }
 
+-- words and rows are a table's, with these sizes of what moved
 pub record IsTableBy (f : ℕ → ℕ) (size : ℕ) (words : List ℕ) (rows : List Row) : Type 0 where
   pub region_size : (0 < size) × (size ≤ 2 ^ 12)
   pub covers : length words ≡ length rows * size
   pub small : length words ≤ 2 ^ 20
   pub rows_right : AreRows f size 0 words rows
 
+-- words and rows are a table's
 pub record IsTable (size : ℕ) (words : List ℕ) (rows : List Row) : Type 0 where
   pub region_size : (0 < size) × (size ≤ 2 ^ 12)
   pub covers : length words ≡ length rows * size
@@ -102,6 +113,7 @@ pub record IsTable (size : ℕ) (words : List ℕ) (rows : List Row) : Type 0 wh
   pub rows_right : AreRows (sizes_in words) size 0 words rows
   pub targets : HasTargets (table_of size words rows)
 
+-- whether a row is free
 abbrev pub kind_is_free : Kind → Bool
 kind_is_free kinds.Free = true
 kind_is_free kinds.Ordinary = false
@@ -112,6 +124,7 @@ kind_is_free kinds.Rest = false
 abbrev pub free_row : Row
 free_row = record { kind = kinds.Free; used = 0 }
 
+-- the kind of a run's i-th region
 abbrev pub run_kind : ℕ → Kind
 run_kind zero = kinds.First
 run_kind (suc i) = kinds.Rest
@@ -125,6 +138,7 @@ abbrev pub run_rows : ℕ → ℕ → ℕ → ℕ → List Row
 run_rows size s i zero = []
 run_rows size s i (suc m) = run_row size s i ∷ run_rows size s (suc i) m
 
+-- whether a row is a later one of a run
 abbrev pub kind_is_rest : Kind → Bool
 kind_is_rest kinds.Free = false
 kind_is_rest kinds.Ordinary = false

@@ -1,12 +1,12 @@
 -- What the value of every table meets beside what its type says.
-use Rattle.std.specs.Prelude.{◌≡◌, ℕ, ◌+◌, ◌-◌, ◌*◌, ◌^◌, ◌<◌, ◌≤◌, Some, length, min}
+use Rattle.std.specs.Prelude.{◌≡◌, ℕ, ◌+◌, ◌-◌, ◌*◌, ◌^◌, ◌<◌, ◌≤◌, false, Some, length, min}
 use Rattle.heap_model.specs.Heap.{Stored}
 use Rattle.regions.specs.Tiles.{Tile, Live, tile_size}
-use Rattle.regions.specs.Table.{Table, First, Rest, region_number, kind_of, tile_in, AreTargetsRight}
+use Rattle.regions.specs.Table.{Table, First, Rest, region_number, region_at, is_free, kind_of, tile_in, AreTargetsRight}
 use Rattle.regions.specs.Walks.{AreFitting}
 use Rattle.regions.specs.declared.row.Kind.TheVariants as kinds
 
--- region k is the later region of a run, j regions behind its first, and n of its words are the object's
+-- region k is a later one of a run, and n of its words are the run's object's
 pub record IsLater (t : Table) (k n : ℕ) : Type 0 where
   pub first : ℕ
   pub later : ℕ
@@ -29,3 +29,7 @@ pub record IsShaped (t : Table) : Type 0 where
   pub run : (k j : ℕ) (object : Stored) → region_number t k ≡ First object → 0 < j → j * t.words_per_region < tile_size (Live object) → kind_of t (k + j) ≡ kinds.Rest
   pub later : (k n : ℕ) → region_number t k ≡ Rest n → IsLater t k n
   pub targets : AreTargetsRight t
+
+-- so many words from an address on lie in regions that aren't free
+abbrev pub AreInUse : Table → ℕ → ℕ → Type 0
+AreInUse t a n = (i : ℕ) → i < n → is_free (region_at t (a + i)) ≡ false

@@ -5,12 +5,15 @@ use Rattle.regions.specs.Tiles.{Tile, Live, Gap, Moved, tile_size, tile_at, repl
 use Rattle.regions.specs.declared.row.Kind.{Kind}
 use Rattle.regions.specs.declared.row.Kind.TheVariants as kinds
 
+-- a free region; an ordinary one by its tiles; the first of a run by the run's object; a later one of a run by
+-- how many of its words are the object's
 pub data Region : Type 0 where
   Free : Region
   Ordinary : List Tile → Region
   First : Stored → Region
   Rest : ℕ → Region
 
+-- equally large regions, in address order
 pub record Table : Type 0 where
   pub words_per_region : ℕ
   pub regions : List Region
@@ -23,6 +26,7 @@ region_tile (First s) zero = Some (Live s)
 region_tile (First s) (suc o) = None
 region_tile (Rest n) o = None
 
+-- the region of an address
 unfoldable pub region_at : Table → ℕ → Region
 region_at t a = slice_index_or t.regions (a / t.words_per_region) Free
 
@@ -30,6 +34,7 @@ region_at t a = slice_index_or t.regions (a / t.words_per_region) Free
 unfoldable pub tile_in : Table → ℕ → Option Tile
 tile_in t a = region_tile (region_at t a) (a % t.words_per_region)
 
+-- the object that a tile is
 abbrev pub tile_object : Option Tile → Option Stored
 tile_object (Some (Live s)) = Some s
 tile_object (Some (Gap n)) = None
@@ -40,6 +45,7 @@ tile_object None = None
 unfoldable pub object_at : Table → ℕ → Option Stored
 object_at t a = tile_object (tile_in t a)
 
+-- an object's pointers
 abbrev pub object_pointers : Option Stored → List (Option ℕ)
 object_pointers None = []
 object_pointers (Some s) = s.pointers
@@ -77,6 +83,7 @@ EachMoved P (Live s ∷ ts) = EachMoved P ts
 EachMoved P (Gap n ∷ ts) = EachMoved P ts
 EachMoved P (Moved to n ∷ ts) = P to × EachMoved P ts
 
+-- the same in all regions
 abbrev pub EachMovedIn : (ℕ → Type 0) → List Region → Type 0
 EachMovedIn P [] = Unit {0}
 EachMovedIn P (Free ∷ rs) = EachMovedIn P rs
@@ -97,6 +104,7 @@ pub record HasObject (t : Table) (x : ℕ) : Type 0 where
 abbrev pub HasTargets : Table → Type 0
 HasTargets t = EachMovedIn (HasObject t) t.regions
 
+-- an object's words
 abbrev pub stored_size : Option Stored → ℕ
 stored_size None = 0
 stored_size (Some s) = tile_size (Live s)
@@ -105,6 +113,7 @@ stored_size (Some s) = tile_size (Live s)
 unfoldable pub object_words : Table → ℕ → ℕ
 object_words t a = stored_size (object_at t a)
 
+-- an object's data
 abbrev pub object_values : Option Stored → List ℕ
 object_values None = []
 object_values (Some s) = s.values
@@ -121,12 +130,14 @@ set_value_of t a i v (Some s) = put_object t a (record { name = s.name; pointers
 unfoldable pub set_value : Table → ℕ → ℕ → ℕ → Table
 set_value t a i v = set_value_of t a i v (object_at t a)
 
+-- the region is ordinary
 abbrev pub IsOrdinary : Region → Type 0
 IsOrdinary Free = ⊥
 IsOrdinary (Ordinary ts) = Unit {0}
 IsOrdinary (First s) = ⊥
 IsOrdinary (Rest n) = ⊥
 
+-- whether a region is free
 abbrev pub is_free : Region → Bool
 is_free Free = true
 is_free (Ordinary ts) = false
@@ -137,6 +148,7 @@ is_free (Rest n) = false
 abbrev pub first_free : Table → Option ℕ
 first_free t = position is_free t.regions
 
+-- the table with another region in place of region k
 abbrev pub with_region : Table → ℕ → Region → Table
 with_region t k r = record { words_per_region = t.words_per_region; regions = slice_set t.regions k r }
 
@@ -152,9 +164,11 @@ region_used size (Ordinary ts) = total_size ts
 region_used size (First s) = min size (2 + length s.pointers + length s.values)
 region_used size (Rest n) = n
 
+-- region k, free past the end
 unfoldable pub region_number : Table → ℕ → Region
 region_number t k = slice_index_or t.regions k Free
 
+-- how many words of region k are handed out
 unfoldable pub used_of : Table → ℕ → ℕ
 used_of t k = region_used t.words_per_region (region_number t k)
 
@@ -165,22 +179,26 @@ region_with_tile (Ordinary ts) t = Ordinary (ts ++ t ∷ [])
 region_with_tile (First s) t = First s
 region_with_tile (Rest n) t = Rest n
 
+-- the table with one more tile at the top of region k
 unfoldable pub push_tile : Table → ℕ → Tile → Table
 push_tile t k tile = with_region t k (region_with_tile (region_number t k) tile)
 
--- an object just made
+-- an object just made, with p nil pointers and d zeros
 abbrev pub new_object : ℕ → ℕ → ℕ → Stored
 new_object name p d = record { name = name; pointers = replicate p None; values = replicate d 0 }
 
+-- what a region is
 abbrev pub region_kind : Region → Kind
 region_kind Free = kinds.Free
 region_kind (Ordinary ts) = kinds.Ordinary
 region_kind (First s) = kinds.First
 region_kind (Rest n) = kinds.Rest
 
+-- what region k is
 unfoldable pub kind_of : Table → ℕ → Kind
 kind_of t k = region_kind (region_number t k)
 
+-- so many free regions of so many words
 unfoldable pub free_table : ℕ → ℕ → Table
 free_table count size = record { words_per_region = size; regions = replicate count Free }
 
@@ -191,6 +209,7 @@ region_replaced (Ordinary ts) o new = Ordinary (replace o new ts)
 region_replaced (First s) o new = First s
 region_replaced (Rest n) o new = Rest n
 
+-- the table in which the tile at an address gives way to others
 unfoldable pub replace_tile : Table → ℕ → List Tile → Table
 replace_tile t a new = with_region t (a / t.words_per_region) (region_replaced (region_at t a) (a % t.words_per_region) new)
 
@@ -204,6 +223,7 @@ abbrev pub front_count : {A : Type 0} → (A → Bool) → List A → ℕ
 front_count passes [] = 0
 front_count passes (x ∷ xs) = if passes x then suc (front_count passes xs) else 0
 
+-- the same place, seen from one element before
 abbrev pub behind_one : Option ℕ → Option ℕ
 behind_one None = None
 behind_one (Some k) = Some (suc k)
@@ -232,6 +252,7 @@ abbrev pub with_run : Table → ℕ → Stored → Option ℕ → Table
 with_run t m s None = t
 with_run t m s (Some k) = with_regions t k m (run_regions t.words_per_region s m)
 
+-- whether a region is a later one of a run
 abbrev pub is_rest : Region → Bool
 is_rest Free = false
 is_rest (Ordinary ts) = false
@@ -246,12 +267,12 @@ run_length t k = suc (front_count is_rest (drop (suc k) t.regions))
 abbrev pub without_run : Table → ℕ → Table
 without_run t k = with_regions t k (run_length t k) (replicate (run_length t k) Free)
 
--- a region that can be released: an ordinary one, or the first of a run
-abbrev pub IsReleasable : Region → Type 0
-IsReleasable Free = ⊥
-IsReleasable (Ordinary ts) = Unit {0}
-IsReleasable (First s) = Unit {0}
-IsReleasable (Rest n) = ⊥
+-- what can be released: an ordinary region, or the first of a run
+abbrev pub IsReleasable : Kind → Type 0
+IsReleasable kinds.Free = ⊥
+IsReleasable kinds.Ordinary = Unit {0}
+IsReleasable kinds.First = Unit {0}
+IsReleasable kinds.Rest = ⊥
 
 abbrev pub released_as : Region → Table → ℕ → Table
 released_as Free t k = t

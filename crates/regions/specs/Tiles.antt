@@ -11,6 +11,7 @@ pub data Tile : Type 0 where
   Gap : ℕ → Tile
   Moved : ℕ → ℕ → Tile
 
+-- the words of a tile
 abbrev pub tile_size : Tile → ℕ
 tile_size (Live s) = 2 + length s.pointers + length s.values
 tile_size (Gap n) = n
@@ -37,13 +38,14 @@ replace (suc o) new (t ∷ ts) = t ∷ replace (suc o - tile_size t) new ts
 abbrev pub stored_of : ℕ → ℕ → List ℕ → Stored
 stored_of p d ws = record { name = slice_index ws 0; pointers = map pointer_of (take p (drop 1 ws)); values = take d (drop (suc p) ws) }
 
--- sizes: the size of the object at an address, for what was moved there
+-- the tile of a header, the rest of whose words are first in ws; sizes tells the size of the object at an address, for one that moved there
 abbrev pub tile_by : (ℕ → ℕ) → List ℕ → Option Header → Tile
 tile_by sizes ws None = Gap 1
 tile_by sizes ws (Some (Object p d)) = Live (stored_of p d ws)
 tile_by sizes ws (Some (Filler n)) = Gap n
 tile_by sizes ws (Some (Forwarded to)) = Moved to (sizes to)
 
+-- how many words the tile of a header has
 abbrev pub size_by : (ℕ → ℕ) → Option Header → ℕ
 size_by sizes None = 1
 size_by sizes (Some (Object p d)) = 2 + p + d

@@ -1,5 +1,5 @@
 -- A walk over a region's tiles.
-use Rattle.std.specs.Prelude.{◌≡◌, ℕ, zero, suc, ◌+◌, ◌-◌, ◌*◌, ◌<◌, ◌≤◌, List, [], ◌∷◌, Some, length}
+use Rattle.std.specs.Prelude.{◌≡◌, ℕ, zero, suc, ◌+◌, ◌-◌, ◌*◌, ◌<◌, ◌≤◌, ◌⊎◌, List, [], ◌∷◌, Some, length}
 use Rattle.regions.specs.declared.row.Shape.{Shape}
 use Rattle.regions.specs.Shapes.{tile_shape}
 use Rattle.regions.specs.Tiles.{Tile, Live, tile_size, total_size, tile_at}
@@ -14,6 +14,7 @@ region_tiles (Ordinary ts) = ts
 region_tiles (First s) = Live s ∷ []
 region_tiles (Rest n) = []
 
+-- the tiles of region k
 unfoldable pub tiles_of : Table → ℕ → List Tile
 tiles_of t k = region_tiles (region_number t k)
 
@@ -38,6 +39,7 @@ IsCut zero ts = Unit {0}
 IsCut (suc o) [] = ⊥
 IsCut (suc o) (t ∷ ts) = (tile_size t ≤ suc o) × IsCut (suc o - tile_size t) ts
 
+-- no tile is empty
 abbrev pub AllPositive : List Tile → Type 0
 AllPositive [] = Unit {0}
 AllPositive (t ∷ ts) = (0 < tile_size t) × AllPositive ts
@@ -59,6 +61,22 @@ pub record IsTileBehind (t : Table) (k o : ℕ) (r : Addr × Shape × ℕ) : Typ
   pub size_is : r.2 ≡ tile_size tile
   pub positive : 0 < r.2
 
+-- a tile of this shape starts at the address
+pub record IsPlacedTile (t : Table) (a : ℕ) (shape : Shape) : Type 0 where
+  pub tile : Tile
+  pub tile_is : tile_in t a ≡ Some tile
+  pub shape_is : shape ≡ tile_shape tile
+
+-- the address is among those of a walk
+abbrev pub IsAmong : ℕ → List (Addr × Shape) → Type 0
+IsAmong a [] = ⊥
+IsAmong a (x ∷ xs) = (x.0 ≡ a) ⊎ IsAmong a xs
+
+-- each item of a walk is a tile of the table, and their addresses rise
+abbrev pub ArePlaced : Table → List (Addr × Shape) → Type 0
+ArePlaced t [] = Unit {0}
+ArePlaced t (x ∷ xs) = IsPlacedTile t x.0 x.1 × ((a : ℕ) → IsAmong a xs → x.0 ≤ a) × ArePlaced t xs
+
 -- word w is one of the tile that starts at a
 pub record IsHolder (t : Table) (a w : ℕ) : Type 0 where
   pub tile : Tile
@@ -71,6 +89,7 @@ pub record IsFitting (t : Table) (k : ℕ) : Type 0 where
   pub positive : AllPositive (tiles_of t k)
   pub fits : kind_of t k ≡ kinds.Ordinary → total_size (tiles_of t k) ≤ t.words_per_region
 
+-- the same of every region
 abbrev pub AreFitting : Table → Type 0
 AreFitting t = (k : ℕ) → IsFitting t k
 

@@ -2,29 +2,30 @@
 //!
 //! Callers see no words. To them an ordinary region is a list of tiles, from its bottom up to its top: objects,
 //! fillers, and objects that were forwarded. A humongous object has a run of adjacent regions to itself. So
-//! objects and fillers cover what is handed out at every moment, without a gap.
+//! objects and fillers cover what is handed out, word for word, at every moment.
 //!
-//! What a region goes through, from when it is taken until it is released:
+//! What a region goes through, from when it is taken until it is released (dots lie above its top):
 //!
 //! ```text
-//!   free       |                              |
-//!   taken      |.............................. |   no tiles: the top is at the bottom
-//!   cut        | filler       |............... |   `push_filler` at the top
-//!   filled     | object | fil |............... |   `make_object` at a filler's start, the rest stays a filler
-//!   forwarded  | moved  | fil |............... |   `copy_object` to another region, then `forward`
-//!   released   |                              |
+//!   free       |                            |
+//!   taken      |............................|  `take_free`
+//!   cut        | filler       |.............|  `push_filler`, at the top
+//!   filled     | object | rest|.............|  `make_object`, at a filler's start
+//!   forwarded  | moved  | rest|.............|  `copy_object` into another region, then `forward`
+//!   released   |                            |  `release`
 //! ```
+//!
+//! A run is found by `free_run`, written with its object by `make_run`, and goes whole by `release`.
 //!
 //! A field is read or written by its address in constant time. Nothing but `RegionTable::new` takes memory.
 #![tactic(auto)]
 
-pub mod row;
-pub mod table;
-pub mod walk;
-
 mod objects;
+pub mod row;
 mod runs;
+pub mod table;
 mod updates;
+pub mod walk;
 
 pub use row::{Kind, Shape};
 pub use table::RegionTable;

@@ -1,5 +1,5 @@
 //! Reads and writes of objects: each is one access to a word or two, and no walk.
-ghost use Rattle.std.specs.Prelude.{◌≡◌, ◌+◌, ◌<◌, length, slice_get, Some, IsSome, IfSome};
+ghost use Rattle.std.specs.Prelude.{◌≡◌, ◌<◌, length, slice_get, Some, IsSome, IfSome};
 ghost use Rattle.heap_words.specs.Contents.{header_at, pointer_count_at};
 ghost use Rattle.regions.specs.Table.{object_at, object_words, pointers_at, values_at, set_pointer, set_value, tile_in, moved_to};
 ghost use Rattle.regions.specs.Rows.{header_target, value_count};

@@ -1,5 +1,5 @@
 //! What is known of a region beside its words, and of a tile.
-ghost use Rattle.std.specs.Prelude.{◌≡◌, ◌<◌, ◌^◌, IfOk, replicate};
+ghost use Rattle.std.specs.Prelude.{◌≡◌, IfOk, replicate};
 ghost use Rattle.regions.specs.Rows.{kind_is_free, kind_is_rest, free_row};
 ghost use Rattle.regions.specs.Shapes.{size_of_shape};
 

@@ -1,9 +1,9 @@
 //! The table: making it, and what is asked of its regions.
-ghost use Rattle.std.specs.Prelude.{◌≡◌, ◌+◌, ◌<◌, ◌^◌, length, nat_le, slice_index, IsOk, IfOk, IfErr, IsSome, IfSome};
+ghost use Rattle.std.specs.Prelude.{◌≡◌, ◌+◌, ◌<◌, length, nat_le, IsOk, IfOk, IfErr, IsSome, IfSome};
 ghost use Rattle.heap_words.specs.Configs.{Suits, IsNewFault};
 ghost use Rattle.heap_words.specs.Contents.{header_at};
-ghost use Rattle.regions.specs.Table.{free_table, kind_of, used_of, top_of, tile_in, HasNoMoved};
-ghost use Rattle.regions.specs.Rows.{sizes_in, IsBelow, object_size, header_target};
+ghost use Rattle.regions.specs.Table.{free_table, HasNoMoved, kind_of, used_of, top_of, tile_in};
+ghost use Rattle.regions.specs.Rows.{sizes_in, IsBelow, header_target};
 ghost use Rattle.regions.specs.Shapes.{tile_shape, shape_by};
 ghost use Rattle.regions.specs.Shaped.{IsShaped};
 ghost use Rattle.regions.specs.declared.row.Kind.TheVariants as kinds;
@@ -11,12 +11,12 @@ ghost use Rattle.regions.specs.declared.row.Kind.TheVariants as kinds;
 use crate::row::{Kind, Row, Shape, free_rows};
 use heap_words::addr::{Addr, RegionNo};
 use heap_words::config::{Config, NewFault};
-use heap_words::header::{Counts, Header};
+use heap_words::header::Header;
 use heap_words::words::Words;
 use std::alloc::Global;
 use std::marker::Model;
 
-/// The regions of a heap with their words. Clauses see a table of tiles, and no word.
+/// The regions of a heap with their words. Clauses see a `Table` of regions and tiles, and no word.
 #[derive(Drop)]
 pub struct RegionTable {
     pub(crate) words: Words,
@@ -71,8 +71,8 @@ pub(crate) fn shape_at(words: &Words, at: Addr) -> Shape
 }
 
 impl RegionTable {
-    /// A table of free regions, as many and as large as the configuration says.
-    /// The fault is the configuration's first, or that memory was refused.
+    /// A table of free regions, as many and as large as the configuration says. A fault is the first that the
+    /// configuration has, or that memory was refused.
     pub fn new(alloc: Global, config: &Config) -> Result<RegionTable, NewFault>
         ensures suits { IsOk result → Suits config.now }
         ensures made { IfOk result (λ t. t ≡ free_table config.now.regions config.now.words) }
@@ -94,7 +94,7 @@ impl RegionTable {
         })
     }
 
-    /// What is known of every table. It costs nothing.
+    /// Tells a proof what is known of every table. It does nothing.
     pub fn law(&self)
         ensures { IsShaped self.now }
     {
@@ -115,6 +115,7 @@ impl RegionTable {
         self.rows.len() as u32
     }
 
+    /// What a region is.
     pub fn kind(&self, region: RegionNo) -> Kind
         requires { region < length self.now.regions }
         ensures { result ≡ kind_of self.now region }
@@ -142,7 +143,7 @@ impl RegionTable {
         u64::from(used) + u64::from(size) <= u64::from(self.words_per_region)
     }
 
-    /// The tile that starts at an address.
+    /// What the tile at an address is. One must start there.
     pub fn tile(&self, at: Addr) -> Shape
         requires { IsSome (tile_in self.now at) }
         ensures { IfSome (tile_in self.now at) (λ t. result ≡ tile_shape t) }

@@ -96,7 +96,10 @@ fn fills_a_region(rt: HostRuntime) -> Result<(), Fail> {
     let rest = Addr::new(5);
     assert_eq!(rt; table.take_free(), Some(region));
     assert_eq!(rt; table.push_filler(region, FillerSize::new(10)), object);
-    assert_eq!(rt; table.split_filler(object, FillerSize::new(10), FillerSize::new(5)), rest);
+    assert_eq!(rt;
+        table.split_filler(object, FillerSize::new(10), FillerSize::new(5)),
+        rest
+    );
     table.make_object(object, FillerSize::new(5), 7, counts(1, 1));
     table.set_ptr(object, 0, Some(rest));
     table.set_data(object, 0, 9);
@@ -110,7 +113,10 @@ fn fills_a_region(rt: HostRuntime) -> Result<(), Fail> {
         end = at.word().saturating_add(shape.size());
     }
     assert_eq!(rt; end, 10);
-    assert_eq!(rt; table.walk_from(rest).next(), Some((rest, Shape::Filler { size: 5 })));
+    assert_eq!(rt;
+        table.walk_from(rest).next(),
+        Some((rest, Shape::Filler { size: 5 }))
+    );
     assert_eq!(rt; table.first_tile(Addr::new(4)), Some(Addr::new(4)));
     assert_eq!(rt; table.first_tile(Addr::new(9)), Some(rest));
     assert_eq!(rt; table.first_tile(Addr::new(10)), None);

@@ -3,7 +3,7 @@ ghost use Rattle.std.specs.Prelude.{◌≡◌, ◌≢◌, ◌+◌, ◌-◌, ◌/
 ghost use lib.Seq.{paste};
 ghost use Rattle.heap_model.specs.Heap.{Stored};
 ghost use Rattle.regions.specs.Tiles.{Live, Gap, Moved};
-ghost use Rattle.regions.specs.Table.{first_free, taken, kind_of, used_of, top_of, region_at, region_number, IsOrdinary, IsReleasable, released, EachMovedIn, tile_in, object_at, object_words, push_tile, replace_tile, new_object, front_count, gap};
+ghost use Rattle.regions.specs.Table.{first_free, taken, kind_of, used_of, top_of, region_at, IsOrdinary, IsReleasable, released, EachMovedIn, tile_in, object_at, object_words, push_tile, replace_tile, new_object, front_count, gap};
 ghost use Rattle.regions.specs.Rows.{kind_is_free, kind_is_rest, free_row, put_gap};
 ghost use Rattle.regions.specs.declared.row.Kind.TheVariants as kinds;
 
@@ -73,7 +73,7 @@ impl RegionTable {
     /// Releases a region, and with the first of a run all its regions.
     pub fn release(&mut self, region: RegionNo)
         requires known { region < length self.old.regions }
-        requires releasable { IsReleasable (region_number self.old region) }
+        requires releasable { IsReleasable (kind_of self.old region) }
         requires untargeted { EachMovedIn (λ to. region ≢ to / self.old.words_per_region) self.old.regions }
         ensures { self.new ≡ released self.old region }
     {

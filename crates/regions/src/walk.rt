@@ -1,5 +1,5 @@
 //! Walks over a region's tiles, and the tile that holds a word.
-ghost use Rattle.std.specs.Prelude.{◌≡◌, ◌↔◌, ◌+◌, ◌*◌, ◌/◌, ◌%◌, ◌<◌, ◌≤◌, length, IsSome, IsTrue, IfSome};
+ghost use Rattle.std.specs.Prelude.{◌≡◌, ◌↔◌, ◌+◌, ◌*◌, ◌/◌, ◌%◌, ◌<◌, length, IsSome, IsTrue, IfSome};
 ghost use Rattle.std.specs.Iterator.{YieldsFirst, item_count};
 ghost use Rattle.regions.specs.Tiles.{total_size};
 ghost use Rattle.regions.specs.Table.{kind_of, tile_in, top_of};

@@ -81,6 +81,14 @@ config_some c d e = cc
 words6 : (a b c d e f w x y z u v : List ℕ) → a ≡ w → b ≡ x → c ≡ y → d ≡ z → e ≡ u → f ≡ v → a ∷ b ∷ c ∷ d ∷ e ∷ f ∷ [] ≡ w ∷ x ∷ y ∷ z ∷ u ∷ v ∷ []
 words6 a b c d e f w x y z u v p q r s t o = cc
 
+sized : (verb n r b m f : List ℕ) (vn vr vb vm vf : ℕ) (c : Config) → verb ≡ codes "heap" → (n ≡ decimal vn) × (vn ≤ small) → (r ≡ decimal vr) × (vr ≤ small) → (b ≡ decimal vb) × (vb ≤ small) → (m ≡ decimal vm) × (vm ≤ small) → (f ≡ decimal vf) × (vf ≤ large) → Some (sizes vn vr vb vm vf) ≡ Some c → AreSizes (verb ∷ n ∷ r ∷ b ∷ m ∷ f ∷ []) c
+unfolding sizes
+sized verb n r b m f vn vr vb vm vf c v q0 q1 q2 q3 q4 e =
+    subst (AreSizes (verb ∷ n ∷ r ∷ b ∷ m ∷ f ∷ [])) (config_some (sizes vn vr vb vm vf) c e) (record {
+      spelled = words6 verb n r b m f _ _ _ _ _ _ v q0.0 q1.0 q2.0 q3.0 q4.0;
+      fits = record { regions = q0.1; words = q1.1; buffer = q2.1; mutators = q3.1; first_name = q4.1 };
+    })
+
 five : (verb n r b m f : List ℕ) (c : Config) → verb ≡ codes "heap" → (number_of small n >>= λ vn. number_of small r >>= λ vr. number_of small b >>= λ vb. number_of small m >>= λ vm. number_of large f >>= λ vf. Some (sizes vn vr vb vm vf)) ≡ Some c → AreSizes (verb ∷ n ∷ r ∷ b ∷ m ∷ f ∷ []) c
 unfolding sizes
 five verb n r b m f c v e =
@@ -94,10 +102,7 @@ five verb n r b m f c v e =
     let q2 = number_of_is small b p2.0 p2.1 in
     let q3 = number_of_is small m p3.0 p3.1 in
     let q4 = number_of_is large f p4.0 p4.1 in
-    subst (AreSizes (verb ∷ n ∷ r ∷ b ∷ m ∷ f ∷ [])) (config_some (sizes p0.0 p1.0 p2.0 p3.0 p4.0) c p4.2) (record {
-      spelled = words6 verb n r b m f _ _ _ _ _ _ v q0.0 q1.0 q2.0 q3.0 q4.0;
-      fits = record { regions = q0.1; words = q1.1; buffer = q2.1; mutators = q3.1; first_name = q4.1 };
-    })
+    sized verb n r b m f p0.0 p1.0 p2.0 p3.0 p4.0 c v q0 q1 q2 q3 q4 p4.2
 
 no_config : (c : Config) → None ≡ Some c → ⊥
 no_config c e = cc

@@ -1,4 +1,18 @@
 //! Texts of scripts and records.
+//!
+//! A script is a heap line and a line for each step. A record is a heap line and a line for each event: its
+//! count, its actor, its step, `=` and its reply. The words of a line are parted by single spaces, and a line
+//! feed ends each line, the last one too.
+//!
+//! ```text
+//! reader --read_text--> bytes --parse--> Plan        Record --write_record--> writer
+//! ```
+//!
+//! - `read_text` gives all bytes to the end of input, or says that a read failed.
+//! - `parse` gives the plan that a text spells, or the first line with a fault and the first fault of that line.
+//!   What is read of a text is spelled so in the whole of it, and each script's text is read as that script.
+//! - `write_record` appends the text of a record and no more, or a beginning of it and a fault. It holds one
+//!   buffer, however long the record is.
 #![tactic(auto)]
 
 mod bytes;

@@ -3,7 +3,7 @@
 
 ghost use Rattle.std.specs.Prelude.{◌≡◌, ◌≤◌, ◌<◌, ◌+◌, ◌++◌, length, take, codes};
 ghost use Rattle.std.specs.Fmt.{decimal};
-ghost use Rattle.script_text.specs.Spelling.{register_word, global_word, action_words, collection_words, heap_words, spaced, line};
+ghost use Rattle.script_text.specs.Spelling.{register_word, global_word, value_word, action_words, collection_words, heap_words, spaced, line};
 ghost use Rattle.script_text.specs.Records.{actor_word, reply_words, event_line};
 
 use crate::bytes::{put_byte, put_number, put_small, put_text};
@@ -77,16 +77,36 @@ fn put_global(buffer: &mut [u8], at: usize, root: GlobalRoot) -> usize
     put_small(buffer, at, root.number as u32)
 }
 
-/// A verb that ends in a space, a register and a number.
-fn put_field(buffer: &mut [u8], at: usize, verb: &[u8], object: Register, field: u32) -> usize
-    requires { at + length verb.now + 13 ≤ length buffer.old }
-    ensures put { take result buffer.new ≡ take at buffer.old ++ verb.now ++ register_word object ++ codes " " ++ decimal field }
-    ensures end { result ≤ at + length verb.now + 13 }
+/// A text that ends in a space, and a register.
+fn put_named(buffer: &mut [u8], at: usize, word: &[u8], register: Register) -> usize
+    requires { at + length word.now + 2 ≤ length buffer.old }
+    ensures put { take result buffer.new ≡ take at buffer.old ++ word.now ++ register_word register }
+    ensures end { result ≡ at + length word.now + 2 }
 {
-    let at = put_text(buffer, at, verb);
-    let at = put_register(buffer, at, object);
-    let at = put_byte(buffer, at, b' ');
-    put_small(buffer, at, field)
+    let at = put_text(buffer, at, word);
+    put_register(buffer, at, register)
+}
+
+/// A text that ends in a space, a register and a number.
+fn put_field(buffer: &mut [u8], at: usize, word: &[u8], object: Register, field: u32) -> usize
+    requires { at + length word.now + 13 ≤ length buffer.old }
+    ensures put { take result buffer.new ≡ take at buffer.old ++ word.now ++ register_word object ++ codes " " ++ decimal field }
+    ensures end { result ≤ at + length word.now + 13 }
+{
+    let at = put_named(buffer, at, word, object);
+    put_count(buffer, at, b" ", field)
+}
+
+/// A space, and nil or a register.
+fn put_value(buffer: &mut [u8], at: usize, value: Option<Register>) -> usize
+    requires { at + 4 ≤ length buffer.old }
+    ensures put { take result buffer.new ≡ take at buffer.old ++ codes " " ++ value_word value }
+    ensures end { result ≤ at + 4 }
+{
+    match value {
+        None => put_text(buffer, at, b" nil"),
+        Some(register) => put_named(buffer, at, b" ", register),
+    }
 }
 
 fn put_action(buffer: &mut [u8], at: usize, action: Action) -> usize
@@ -101,29 +121,21 @@ fn put_action(buffer: &mut [u8], at: usize, action: Action) -> usize
             values,
         } => {
             let at = put_field(buffer, at, b"new ", to, pointers);
-            let at = put_byte(buffer, at, b' ');
-            put_small(buffer, at, values)
+            put_count(buffer, at, b" ", values)
         }
         Action::Get { to, object, field } => {
-            let at = put_text(buffer, at, b"get ");
-            let at = put_register(buffer, at, to);
+            let at = put_named(buffer, at, b"get ", to);
             put_field(buffer, at, b" ", object, field)
         }
-        Action::Read { object, field } => put_field(buffer, at, b"read ", object, field),
         Action::Put {
             object,
             field,
             value,
         } => {
             let at = put_field(buffer, at, b"put ", object, field);
-            match value {
-                None => put_text(buffer, at, b" nil"),
-                Some(value) => {
-                    let at = put_byte(buffer, at, b' ');
-                    put_register(buffer, at, value)
-                }
-            }
+            put_value(buffer, at, value)
         }
+        Action::Read { object, field } => put_field(buffer, at, b"read ", object, field),
         Action::Write {
             object,
             field,
@@ -134,31 +146,21 @@ fn put_action(buffer: &mut [u8], at: usize, action: Action) -> usize
             put_number(buffer, at, value)
         }
         Action::Move { to, from } => {
-            let at = put_text(buffer, at, b"move ");
-            let at = put_register(buffer, at, to);
-            let at = put_byte(buffer, at, b' ');
-            put_register(buffer, at, from)
+            let at = put_named(buffer, at, b"move ", to);
+            put_named(buffer, at, b" ", from)
         }
-        Action::Drop { register } => {
-            let at = put_text(buffer, at, b"drop ");
-            put_register(buffer, at, register)
-        }
+        Action::Drop { register } => put_named(buffer, at, b"drop ", register),
         Action::Load { to, from } => {
-            let at = put_text(buffer, at, b"load ");
-            let at = put_register(buffer, at, to);
+            let at = put_named(buffer, at, b"load ", to);
             let at = put_byte(buffer, at, b' ');
             put_global(buffer, at, from)
         }
         Action::Save { to, from } => {
             let at = put_text(buffer, at, b"save ");
             let at = put_global(buffer, at, to);
-            let at = put_byte(buffer, at, b' ');
-            put_register(buffer, at, from)
+            put_named(buffer, at, b" ", from)
         }
-        Action::Shape { object } => {
-            let at = put_text(buffer, at, b"shape ");
-            put_register(buffer, at, object)
-        }
+        Action::Shape { object } => put_named(buffer, at, b"shape ", object),
     }
 }
 

@@ -1,28 +1,28 @@
 -- A step's reply, and what the core shows after it.
-use Rattle.std.proofs.Common.{◌≡◌, ℕ, zero, suc, ◌+◌, ◌-◌, ◌*◌, ◌<◌, ◌≤◌, ◌⊎◌, Option, Some, None, List, [], ◌∷◌, length, get_or, refl, sym, ◌∙◌, ap, subst, arith, inl, inr}
-use Rattle.std.specs.Prelude.{slice_get, slice_set, IsSome, slice_index_or}
+use Rattle.std.proofs.Common.{◌≡◌, ℕ, ◌+◌, ◌-◌, ◌<◌, ◌≤◌, Option, Some, None, List, length, get_or, refl, sym, ◌∙◌, ap, subst}
+use Rattle.std.specs.Prelude.{slice_get, slice_set}
 use Rattle.std.specs.List.{AllZip}
-use Rattle.heap_model.specs.Graph.{Graph, Object, next_name, object_named, with_changed}
-use Rattle.heap_model.specs.Heap.{Heap, Stored, Shows, IsShown, RootSet, ObjectSet}
+use Rattle.heap_model.specs.Graph.{Graph, Object, object_named, with_changed}
+use Rattle.heap_model.specs.Heap.{Stored, IsShown}
 use Rattle.heap_model.proofs.Lists.{AllZip-set}
 use Rattle.std.proofs.lemmas.List.{length-set}
 use Rattle.std.proofs.lemmas.Option.{slice_get-get_or}
 use Rattle.heap_model.proofs.Changed.{root_set_shows, object_set_shows}
-use Rattle.regions.specs.Table.{Table, object_at, pointers_at, values_at, object_pointers, object_values, set_pointer, set_value, HasNoMoved}
+use Rattle.regions.specs.Table.{Table, pointers_at, values_at, object_pointers, object_values, set_pointer, set_value}
 use Rattle.regions.proofs.Changes.{WritesObject, pointer_put, value_put, object_same}
 use Rattle.regions.proofs.Fields.{with_pointer}
 use Rattle.regions.proofs.Values.{with_value}
 use Rattle.object_graph.specs.State.{root_at, with_root, register_place}
-use Rattle.object_graph.specs.Machine.{Outcome, act, on_object, on_name, on_contents, on_field, refused, stored}
+use Rattle.object_graph.specs.Machine.{Outcome, act, on_object, on_name, on_contents, refused, stored}
 use Rattle.object_graph.specs.declared.step.Action.{Action}
 use Rattle.object_graph.specs.declared.step.Action.TheVariants as actions
 use Rattle.object_graph.specs.declared.step.Reply.{Reply}
 use Rattle.object_graph.specs.declared.step.Reply.TheVariants as replies
 use Rattle.object_graph.specs.declared.step.Refusal.TheVariants as refusals
 use Rattle.object_graph.specs.declared.step.Register.{Register}
-use Rattle.step_core.specs.Stands.{CoreState, kept_of, heap_of, Stands, IsCore, IsWordOf, HasObject, Leads, name_in, name_of}
+use Rattle.step_core.specs.Stands.{CoreState, kept_of, heap_of, Stands, IsCore, IsWordOf, HasObject, Leads, name_in}
 use Rattle.step_core.specs.Answers.{Acts}
-use Rattle.step_core.proofs.Reading.{FieldRead, field_shown, no_field, no_value, shown_name, led_object, kept_object, AllZip-length}
+use Rattle.step_core.proofs.Reading.{field_shown, no_field, no_value, shown_name, kept_object, AllZip-length}
 
 pub acts_by : (g : Graph) (m : ℕ) (a : Action) (reply : Reply) (c : CoreState) (out : Outcome) → act g m a ≡ out → reply ≡ out.0 → Stands out.1 c → Acts g m a reply c
 acts_by g m a reply c out e r s = record { reply_is = r ∙ sym (ap (λ (o : Outcome). o.0) e); stands = subst (λ (o : Outcome). Stands o.1 c) (sym e) s }
@@ -123,7 +123,7 @@ module _ (g : Graph) (c : CoreState) (s : Stands g c) (m : ℕ) (object : Regist
         let f = field_shown g c _ a i w h (ap (λ (ps : List (Option ℕ)). slice_get ps i) (sym (pointers_there c a h.stored h.at)) ∙ e) in
         let there = f.there in
         acts_by g m (actions.Get to object i) (replies.Named n) c' (replies.Named f.name, with_root g (register_place m to.number) f.name)
-            (on_found g c m a object _ h ∙ rw there refl) (ap replies.Named (name ∙ shown_name c w f.name f.shown)) (after g f.name s f.shown)
+        (on_found g c m a object _ h ∙ rw there refl) (ap replies.Named (name ∙ shown_name c w f.name f.shown)) (after g f.name s f.shown)
 
     pub read_done : (i w : ℕ) → slice_get (values_at c.table a) i ≡ Some w → Acts g m (actions.Read object i) (replies.Word w) c
     read_done i w e =
@@ -150,9 +150,9 @@ module _ (g : Graph) (c : CoreState) (s : Stands g c) (m : ℕ) (object : Regist
         let p : Object = record { pointers = slice_set h.object.pointers i v; values = h.object.values } in
         let writes = pointer_put c.table a i w h.stored z (sym (kept_object c a) ∙ h.at) in
         acts_by g m (actions.Put object i value) replies.Done (record c { table = t }) (replies.Done, with_changed g h.stored.name p)
-            (on_found g c m a object _ h ∙ rw there refl) refl
-            (rw e (object_stands g c (set_pointer c.table a i w) a h.stored (with_pointer h.stored i w) h.object p s writes refl h.named
-              (AllZip-set (IsShown (heap_of c)) h.stored.pointers h.object.pointers h.pointers i w v shown) h.values))
+        (on_found g c m a object _ h ∙ rw there refl) refl
+        (rw e (object_stands g c (set_pointer c.table a i w) a h.stored (with_pointer h.stored i w) h.object p s writes refl h.named
+        (AllZip-set (IsShown (heap_of c)) h.stored.pointers h.object.pointers h.pointers i w v shown) h.values))
 
     pub write_done : (i v : ℕ) (t : Table) → i < length (values_at c.table a) → 0 < c.table.words_per_region → t ≡ set_value c.table a i v
         → Acts g m (actions.Write object i v) replies.Done (record c { table = t })
@@ -163,5 +163,5 @@ module _ (g : Graph) (c : CoreState) (s : Stands g c) (m : ℕ) (object : Regist
         let p : Object = record { pointers = h.object.pointers; values = slice_set h.object.values i v } in
         let writes = value_put c.table a i v h.stored z (sym (kept_object c a) ∙ h.at) in
         acts_by g m (actions.Write object i v) replies.Done (record c { table = t }) (replies.Done, with_changed g h.stored.name p)
-            (on_found g c m a object _ h ∙ rw there refl) refl
-            (rw e (object_stands g c (set_value c.table a i v) a h.stored (with_value h.stored i v) h.object p s writes refl h.named h.pointers (ap (λ (ps : List ℕ). slice_set ps i v) h.values)))
+        (on_found g c m a object _ h ∙ rw there refl) refl
+        (rw e (object_stands g c (set_value c.table a i v) a h.stored (with_value h.stored i v) h.object p s writes refl h.named h.pointers (ap (λ (ps : List ℕ). slice_set ps i v) h.values)))

@@ -1,15 +1,15 @@
 -- Objects and buffers in one table.
-use Rattle.std.proofs.Common.{◌≡◌, ◌≢◌, ℕ, zero, suc, ◌+◌, ◌-◌, ◌*◌, ◌<◌, ◌≤◌, ◌⊎◌, Option, Some, None, List, [], ◌∷◌, length, replicate, refl, sym, ◌∙◌, ap, subst, arith, inl, inr}
-use Rattle.std.specs.Prelude.{slice_get, slice_set}
-use Rattle.std.proofs.lemmas.Bool.{cases_lt, cases_eq}
-use Rattle.regions.specs.Tiles.{Tile, Gap, Live, tile_at, tile_size, total_size}
+use Rattle.std.proofs.Common.{◌≡◌, ◌≢◌, ℕ, ◌+◌, ◌-◌, ◌<◌, ◌≤◌, ◌⊎◌, Option, Some, None, [], ◌∷◌, length, refl, sym, ◌∙◌, ap, subst, arith, inl, inr}
+use Rattle.std.specs.Prelude.{slice_get}
+use Rattle.std.proofs.lemmas.Bool.{cases_lt}
+use Rattle.regions.specs.Tiles.{Gap, Live, tile_size}
 use Rattle.heap_model.specs.Heap.{Stored}
 use Rattle.regions.specs.Walks.{AreFitting}
 use Rattle.regions.specs.Table.{Table, replace_tile, gap, tile_in, object_at, HasNoMoved, new_object, kind_of}
 use Rattle.regions.proofs.Placing.{Replaces, gap_replaced, tile_at-inside}
 use Rattle.regions.proofs.Changes.{WritesObject, object_same}
 use Rattle.alloc_buffers.specs.declared.Buffer.{Buffer}
-use Rattle.alloc_buffers.specs.Placement.{Buffers, BuffersStand, HasFiller, IsPlaced}
+use Rattle.alloc_buffers.specs.Placement.{Buffers, BuffersStand, IsPlaced}
 use Rattle.std.proofs.lemmas.List.{length-replicate}
 
 object_none : (t : Table) (y n : ℕ) → tile_in t y ≡ Some (Gap n) → object_at t y ≡ None
@@ -59,20 +59,20 @@ fills t t' b a n name p d z fitting none h size is spare s =
     let w : Replaces t t' a n (Live x ∷ []) = subst (λ (u : Table). Replaces t u a n (Live x ∷ [])) is' w' in
     let start : a + 0 ≡ a = omega arith in
     let off : (y : ℕ) → y ≢ a → ((y < a) ⊎ (a + n ≤ y)) ⊎ ((j : ℕ) × (a + j ≡ y) × (0 < j) × (j < n)) = λ y ne.
-        elim (cases_lt y a) [ inl lt ↦ inl (inl lt) | inr ge ↦ elim (cases_lt y (a + n)) [ inl lt ↦ inr (y - a, omega arith, omega arith, omega arith) | inr past ↦ inl (inr past) ] ] in
+    elim (cases_lt y a) [ inl lt ↦ inl (inl lt) | inr ge ↦ elim (cases_lt y (a + n)) [ inl lt ↦ inr (y - a, omega arith, omega arith, omega arith) | inr past ↦ inl (inr past) ] ] in
     record {
       is = object_live t' a x (ap (tile_in t') (sym start) ∙ w.within 0 (omega arith));
       others = λ y ne. elim (off y ne) [
-          inl out ↦ object_same t t' y (w.others y out)
+        | inl out ↦ object_same t t' y (w.others y out)
         | inr q ↦
             let (j, at, lo, hi) = q in
             object_void t' y (ap (tile_in t') (sym at) ∙ w.within j hi ∙ tile_at-inside (Live x ∷ []) 0 j (Live x) refl lo (omega (arith, long)))
-              ∙ sym (object_void t y (ap (tile_in t) (sym at) ∙ w.inside j lo hi))
+            ∙ sym (object_void t y (ap (tile_in t) (sym at) ∙ w.inside j lo hi))
       ];
       unmoved = w.unmoved none;
       region_size = w.size;
       stand = stand_same t t' b w.count w.kinds_same (λ m u e. elim (off u.next (spare m u e)) [
-          inl out ↦ w.others u.next out
+        | inl out ↦ w.others u.next out
         | inr q ↦ let (j, at, lo, hi) = q in absurd (
             let f = s.fillers m u e in
             let filler = f.filler in

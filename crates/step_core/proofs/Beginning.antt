@@ -1,16 +1,14 @@
 -- A new heap shows the first graph.
-use Rattle.std.proofs.Common.{◌≡◌, ℕ, zero, suc, ◌+◌, ◌*◌, ◌^◌, ◌/◌, ◌<◌, ◌≤◌, Option, Some, None, List, [], ◌∷◌, length, get_or, replicate, refl, sym, ◌∙◌, ap, subst, arith}
-use Rattle.std.specs.Prelude.{slice_get}
+use Rattle.std.proofs.Common.{◌≡◌, ℕ, zero, suc, ◌+◌, ◌*◌, ◌^◌, ◌/◌, ◌<◌, None, get_or, replicate, refl, arith}
 use Rattle.std.specs.List.{AllZip}
 use Rattle.std.proofs.lemmas.List.{length-replicate}
-use Rattle.heap_model.specs.Graph.{Graph}
-use Rattle.heap_model.specs.Heap.{Heap, Stored, Shows, IsShown}
+use Rattle.heap_model.specs.Heap.{Heap, IsShown}
 use Rattle.heap_words.specs.declared.config.Config.{Config}
-use Rattle.regions.specs.Table.{Table, Region, Free, free_table, object_at, tile_in, region_at}
+use Rattle.regions.specs.Table.{Table, Free, free_table, object_at, tile_in, region_at}
 use Rattle.regions.proofs.Making.{free_table-unmoved}
 use Rattle.object_graph.specs.State.{first_state}
 use Rattle.heap_words.specs.Configs.{Suits}
-use Rattle.alloc_buffers.specs.Placement.{Buffers, BuffersStand, closed}
+use Rattle.alloc_buffers.specs.Placement.{BuffersStand, closed}
 use Rattle.step_core.specs.Stands.{CoreState, kept_of, heap_of, Stands, IsCore}
 
 all_free : (n k : ℕ) → get_or (replicate n Free) k Free ≡ Free

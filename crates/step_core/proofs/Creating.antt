@@ -1,22 +1,22 @@
 -- A new object.
-use Rattle.std.proofs.Common.{◌≡◌, ◌≢◌, ℕ, zero, suc, ◌+◌, ◌-◌, ◌*◌, ◌^◌, ◌<◌, ◌≤◌, ◌⊎◌, Bool, true, false, cond, Option, Some, None, List, [], ◌∷◌, ◌++◌, length, replicate, refl, sym, ◌∙◌, ap, subst, arith, inl, inr}
-use Rattle.std.specs.Prelude.{slice_get, slice_set, nat_lt, nat_eq, ◌==◌}
+use Rattle.std.proofs.Common.{◌≡◌, ◌≢◌, ℕ, zero, suc, ◌+◌, ◌-◌, ◌*◌, ◌^◌, ◌<◌, ◌≤◌, Option, Some, None, [], ◌∷◌, replicate, refl, sym, ◌∙◌, ap, subst, arith, inl, inr}
+use Rattle.std.specs.Prelude.{slice_get, slice_set}
 use Rattle.std.specs.List.{AllZip}
 use Rattle.std.proofs.lemmas.Grind.{common_steps}
 use Rattle.std.proofs.lemmas.Bool.Decides.{nat_tests}
 use Rattle.std.proofs.lemmas.List.{length-set, length-append}
 use Rattle.heap_model.specs.Graph.{Graph, Object, next_name, with_object}
-use Rattle.heap_model.specs.Heap.{Heap, Stored, Shows, IsShown, ObjectAdded}
+use Rattle.heap_model.specs.Heap.{Heap, IsShown, ObjectAdded}
 use Rattle.heap_model.proofs.Changed.{object_added_shows}
 use Rattle.regions.specs.Walks.{AreFitting}
-use Rattle.regions.specs.Table.{Table, object_at, HasNoMoved, new_object, replace_tile, gap}
+use Rattle.regions.specs.Table.{Table, new_object, replace_tile, gap}
 use Rattle.regions.specs.Tiles.{Live}
 use Rattle.object_graph.specs.State.{register_place}
-use Rattle.object_graph.specs.Machine.{Outcome, act}
+use Rattle.object_graph.specs.Machine.{act}
 use Rattle.object_graph.specs.declared.step.Action.TheVariants as actions
 use Rattle.object_graph.specs.declared.step.Reply.TheVariants as replies
 use Rattle.object_graph.specs.declared.step.Register.{Register}
-use Rattle.alloc_buffers.specs.Placement.{Buffers, BuffersStand, IsPlaced, Placement, place_of}
+use Rattle.alloc_buffers.specs.Placement.{Buffers, IsPlaced, Placement, place_of}
 use Rattle.step_core.specs.Stands.{CoreState, kept_of, heap_of, Stands, IsCore}
 use Rattle.step_core.specs.Answers.{Acts, HasNoPlace}
 use Rattle.step_core.proofs.Acting.{acts_by}
@@ -63,12 +63,12 @@ module _ (k : CoreState) (m : ℕ) (to : Register) (t1 t2 : Table) (b1 : Buffers
       let fits : 2 + p + d ≤ g.room = rw s.room room in
       let there : next_name g ≢ 2 ^ 64 - 1 = λ h. names (sym next ∙ h) in
       acts_by g m (actions.New to p d) (replies.Named (Some k.next)) (with_new k t2 b1 (register_place m to.number) a) (replies.Named (Some (next_name g)), with_object g (fresh p d) (register_place m to.number))
-        (act_new g m p d to fits there) (ap (λ (j : ℕ). replies.Named (Some j)) (sym next)) (record {
-          room = s.room;
-          mutators = s.mutators;
-          next = (let len = length-append g.objects (fresh p d ∷ []) in omega arith);
-          shows = object_added_shows g (heap_of k) (heap_of (with_new k t2 b1 (register_place m to.number) a)) s.shows a (new_object k.next p d) (fresh p d) (register_place m to.number) (added (register_place m to.number)) (sym next) (nil_shown (heap_of k) p) refl;
-        })
+      (act_new g m p d to fits there) (ap (λ (j : ℕ). replies.Named (Some j)) (sym next)) (record {
+        room = s.room;
+        mutators = s.mutators;
+        next = (let len = length-append g.objects (fresh p d ∷ []) in omega arith);
+        shows = object_added_shows g (heap_of k) (heap_of (with_new k t2 b1 (register_place m to.number) a)) s.shows a (new_object k.next p d) (fresh p d) (register_place m to.number) (added (register_place m to.number)) (sym next) (nil_shown (heap_of k) p) refl;
+      })
 
   pub new_kept : IsCore (with_new k t2 b1 (register_place m to.number) a)
   new_kept = record {

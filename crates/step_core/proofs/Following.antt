@@ -16,7 +16,7 @@ use Rattle.object_graph.specs.declared.step.Register.{Register}
 use Rattle.object_graph.specs.declared.step.Reply.{Reply}
 use Rattle.object_graph.specs.declared.step.Reply.TheVariants as replies
 use Rattle.object_graph.specs.declared.step.Refusal.TheVariants as refusals
-use Rattle.step_core.specs.Stands.{IsCore, CoreState, Stands}
+use Rattle.step_core.specs.Stands.{CoreState, Stands, IsWhole}
 use Rattle.step_core.specs.Answers.{Acts, Follows, HasNoPlace, IsFull, RepliesFull}
 use Rattle.step_core.specs.Histories.{IsHistory, Runs, step_of}
 
@@ -34,14 +34,14 @@ created g o m p d to reply c c' em ea s (inr h) =
     record { after = g; happens = inr ((new, sym (ap (λ (x : Outcome). x.0) same) ∙ h.full.0), h.reply_is, refl); stands = subst (λ (d : CoreState). Stands g d) (sym h.same) s }
 
 -- a history goes on by one event
-pub goes_on : (g : Graph) (c : CoreState) (es : List Event) (e : Event) (mid c' : CoreState) → Runs g c es mid → ((h : Graph) → Stands h mid → Follows h e.step e.reply c') → Runs g c (es ++ e ∷ []) c'
-goes_on g c es e mid c' r f =
+pub goes_on : (g : Graph) (c : CoreState) (es : List Event) (e : Event) (mid c' : CoreState) → Runs g c es mid → ((h : Graph) → Stands h mid → Follows h e.step e.reply c') → ((h : Graph) → Stands h c' → IsWhole h c') → Runs g c (es ++ e ∷ []) c'
+goes_on g c es e mid c' r f whole =
     let n = f r.last r.stands in
     record { last = n.after; stands = n.stands; history = more g c es r.last r.history n }
   where
     more : (g : Graph) (c : CoreState) (es : List Event) (last : Graph) → IsHistory g c es last mid → (n : Follows last e.step e.reply c') → IsHistory g c (es ++ e ∷ []) n.after c'
-    more g c [] last h n = (c', record { after = n.after; happens = subst (λ (u : Graph). Happens u e.step e.reply n.after) h.0 n.happens; stands = n.stands }, (refl, refl))
-    more g c (x ∷ es) last h n = (h.0, h.1, more h.1.after h.0 es last h.2 n)
+    more g c [] last h n = (c', record { after = n.after; happens = subst (λ (u : Graph). Happens u e.step e.reply n.after) h.0 n.happens; stands = n.stands }, whole n.after n.stands, (refl, refl))
+    more g c (x ∷ es) last h n = (h.0, h.1, h.2, more h.1.after h.0 es last h.3 n)
 
 pub none_yet : (g : Graph) (c : CoreState) → Stands g c → Runs g c [] c
 none_yet g c s = record { last = g; stands = s; history = (refl, refl) }
@@ -69,4 +69,4 @@ steps_more es e ss i h lt is =
 -- the events of a history are a run of the graph
 pub history_is_run : (g : Graph) (c : CoreState) (es : List Event) (last : Graph) (c' : CoreState) → IsHistory g c es last c' → IsRun g es last
 history_is_run g c [] last c' h = h.0
-history_is_run g c (e ∷ es) last c' h = (h.1.after, h.1.happens, history_is_run h.1.after h.0 es last c' h.2)
+history_is_run g c (e ∷ es) last c' h = (h.1.after, h.1.happens, history_is_run h.1.after h.0 es last c' h.3)

@@ -1,10 +1,10 @@
 -- What each part of a step keeps: k is the core by its fields, c the same by its value.
-use Rattle.std.proofs.Common.{◌≡◌, ℕ, zero, suc, ◌+◌, ◌-◌, ◌*◌, ◌<◌, ◌≤◌, ◌⊎◌, Option, Some, None, List, [], ◌∷◌, length, get_or, refl, sym, ◌∙◌, ap, subst, arith, inl, inr}
-use Rattle.std.specs.Prelude.{slice_get, slice_set, IsSome, IfSome, slice_index_or}
+use Rattle.std.proofs.Common.{◌≡◌, ℕ, ◌+◌, ◌*◌, ◌<◌, Option, Some, None, List, length, get_or, sym, ◌∙◌, ap, subst, arith}
+use Rattle.std.specs.Prelude.{slice_get, IsSome, IfSome}
 use Rattle.std.proofs.lemmas.List.{get_or_read, length-set}
-use Rattle.heap_model.specs.Graph.{Graph, Object, next_name, object_named}
-use Rattle.heap_model.specs.Heap.{Heap, Stored, Shows, IsShown}
-use Rattle.regions.specs.Table.{Table, object_at, pointers_at, values_at, set_pointer, set_value, HasNoMoved}
+use Rattle.heap_model.specs.Graph.{Graph}
+use Rattle.heap_model.specs.Heap.{Stored, IsShown}
+use Rattle.regions.specs.Table.{Table, object_at, pointers_at, values_at, set_pointer, set_value}
 use Rattle.regions.proofs.Changes.{WritesObject, pointer_put, value_put}
 use Rattle.regions.proofs.Fields.{with_pointer}
 use Rattle.regions.proofs.Values.{with_value}
@@ -13,11 +13,11 @@ use Rattle.object_graph.specs.Machine.{act, stored}
 use Rattle.object_graph.specs.declared.step.Action.TheVariants as actions
 use Rattle.object_graph.specs.declared.step.Reply.TheVariants as replies
 use Rattle.object_graph.specs.declared.step.Register.{Register}
-use Rattle.step_core.specs.Stands.{CoreState, kept_of, heap_of, Stands, IsCore, IsWordOf, HasObject, Leads, name_in, name_of}
+use Rattle.step_core.specs.Stands.{CoreState, heap_of, Stands, IsCore, IsWordOf, Leads, name_in, name_of}
 use Rattle.step_core.specs.Answers.{Acts}
 use Rattle.step_core.proofs.Sizes.{some_words}
 use Rattle.step_core.proofs.Added.{stand_writes}
-use Rattle.step_core.proofs.Reading.{RootRead, root_shown, leads, root_word, kept_object, led_object, word_object}
+use Rattle.step_core.proofs.Reading.{root_shown, leads, root_word, kept_object, led_object, word_object}
 use Rattle.step_core.proofs.Acting.{root_stands, with_root_word, put_done, write_done, field_word}
 
 pub core_of : (k c : CoreState) → k ≡ c → IsCore k → IsCore c
@@ -44,7 +44,10 @@ root_kept k c place w e core word =
       region_size = core.region_size;
       unmoved = core.unmoved;
       places = length-set k.roots place w ∙ core.places;
-      buffers = core.buffers; open_buffers = core.open_buffers; buffer_size = core.buffer_size; names = core.names;
+      buffers = core.buffers;
+      open_buffers = core.open_buffers;
+      buffer_size = core.buffer_size;
+      names = core.names;
       graph = with_root core.graph place word'.name;
       stands = root_stands core.graph k place w word'.name core.stands word'.shown;
     }
@@ -75,7 +78,7 @@ module _ (k c : CoreState) (e : k ≡ c) (core : IsCore k) (m : ℕ) (object : R
   put_by : (g : Graph) → Stands g k → Acts g m (actions.Put object i value) replies.Done (record k { table = t })
   put_by g s =
       put_done g k s m object a (subst (λ (d : CoreState). Leads d (register_place m object.number) (Some a)) (sym e) l) i value w t within (some_words k core)
-        (subst (λ (d : CoreState). IsShown (heap_of d) w (stored g m value)) (sym e) (shown g (subst (λ (d : CoreState). Stands g d) e s))) is
+      (subst (λ (d : CoreState). IsShown (heap_of d) w (stored g m value)) (sym e) (shown g (subst (λ (d : CoreState). Stands g d) e s))) is
 
   pub put_after : (g : Graph) → Stands g c → Acts g m (actions.Put object i value) replies.Done (record k { table = t })
   put_after g s = put_by g (subst (λ (d : CoreState). Stands g d) (sym e) s)
@@ -89,7 +92,10 @@ module _ (k c : CoreState) (e : k ≡ c) (core : IsCore k) (m : ℕ) (object : R
         region_size = writes.size ∙ core.region_size;
         unmoved = writes.unmoved core.unmoved;
         places = core.places;
-        buffers = stand_writes writes core.buffers; open_buffers = core.open_buffers; buffer_size = core.buffer_size; names = core.names;
+        buffers = stand_writes writes core.buffers;
+        open_buffers = core.open_buffers;
+        buffer_size = core.buffer_size;
+        names = core.names;
         graph = (act core.graph m (actions.Put object i value)).1;
         stands = (put_by core.graph core.stands).stands;
       }
@@ -111,7 +117,10 @@ module _ (k c : CoreState) (e : k ≡ c) (core : IsCore k) (m : ℕ) (object : R
         region_size = writes.size ∙ core.region_size;
         unmoved = writes.unmoved core.unmoved;
         places = core.places;
-        buffers = stand_writes writes core.buffers; open_buffers = core.open_buffers; buffer_size = core.buffer_size; names = core.names;
+        buffers = stand_writes writes core.buffers;
+        open_buffers = core.open_buffers;
+        buffer_size = core.buffer_size;
+        names = core.names;
         graph = (act core.graph m (actions.Write object i v)).1;
         stands = (write_by core.graph core.stands).stands;
       }

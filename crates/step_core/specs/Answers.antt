@@ -1,11 +1,10 @@
 -- What a step answers, in the words of the graph.
-use Rattle.std.specs.Prelude.{◌≡◌, ℕ, ◌+◌, ◌*◌, ◌<◌, ◌⊎◌, Option, Some, None}
+use Rattle.std.specs.Prelude.{◌≡◌, ℕ, ◌+◌, ◌*◌, ◌<◌, ◌⊎◌, Some, None}
 use Rattle.heap_model.specs.Graph.{Graph, next_name}
 use Rattle.object_graph.specs.Machine.{act}
 use Rattle.object_graph.specs.Run.{Happens}
 use Rattle.object_graph.specs.declared.step.Action.{Action}
 use Rattle.object_graph.specs.declared.step.Action.TheVariants as actions
-use Rattle.object_graph.specs.declared.step.Op.{Op}
 use Rattle.object_graph.specs.declared.step.Step.{Step}
 use Rattle.object_graph.specs.declared.step.Reply.{Reply}
 use Rattle.object_graph.specs.declared.step.Reply.TheVariants as replies

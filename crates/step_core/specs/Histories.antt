@@ -1,7 +1,6 @@
 -- The cores and graphs of a run.
-use Rattle.std.specs.Prelude.{◌≡◌, ℕ, ◌<◌, List, [], ◌∷◌}
+use Rattle.std.specs.Prelude.{◌≡◌, ◌<◌, List, [], ◌∷◌}
 use Rattle.heap_words.specs.declared.config.Config.{Config}
-use Rattle.heap_words.specs.declared.config.NewFault.{NewFault}
 use Rattle.heap_words.specs.Configs.{Suits, IsFirstFault}
 use Rattle.heap_model.specs.Graph.{Graph}
 use Rattle.object_graph.specs.declared.step.Event.{Event}
@@ -10,13 +9,14 @@ use Rattle.object_graph.specs.declared.step.Step.TheVariants as steps
 use Rattle.object_graph.specs.State.{first_state}
 use Rattle.step_core.specs.declared.runs.RunFault.{RunFault}
 use Rattle.step_core.specs.declared.runs.RunFault.TheVariants as faults
-use Rattle.step_core.specs.Stands.{CoreState, Stands}
+use Rattle.step_core.specs.Stands.{CoreState, Stands, IsWhole}
 use Rattle.step_core.specs.Answers.{Follows}
 
--- graphs and cores between the events, each core standing for its graph
+-- graphs and cores between the events, each core standing for its graph. After each event every object that a
+-- root reaches stands, whole and once, in regions in use
 abbrev pub IsHistory : Graph → CoreState → List Event → Graph → CoreState → Type 0
 IsHistory g c [] g' c' = (g' ≡ g) × (c' ≡ c)
-IsHistory g c (e ∷ es) g' c' = (mid : CoreState) × (f : Follows g e.step e.reply mid) × IsHistory f.after mid es g' c'
+IsHistory g c (e ∷ es) g' c' = (mid : CoreState) × (f : Follows g e.step e.reply mid) × IsWhole f.after mid × IsHistory f.after mid es g' c'
 
 -- a history from a graph and a core on, to some graph for which the last core stands
 pub record Runs (g : Graph) (c : CoreState) (es : List Event) (c' : CoreState) : Type 0 where

@@ -1,12 +1,14 @@
 -- A core, and the graph that it stands for.
-use Rattle.std.specs.Prelude.{◌≡◌, ℕ, ◌+◌, ◌-◌, ◌*◌, ◌^◌, ◌<◌, ◌≤◌, ◌⊎◌, List, Option, Some, None, length, slice_get, false}
+use Rattle.std.specs.Prelude.{◌≡◌, ℕ, ◌+◌, ◌-◌, ◌*◌, ◌^◌, ◌<◌, List, Option, Some, None, length, slice_get, false}
 use Rattle.std.specs.List.{AllZip}
 use Rattle.heap_words.specs.declared.config.Config.{Config}
 use Rattle.heap_words.specs.Configs.{Suits}
-use Rattle.heap_model.specs.Graph.{Graph, Object, next_name, object_named}
-use Rattle.heap_model.specs.Heap.{Heap, Stored, Shows, IsShown}
+use Rattle.heap_model.specs.Graph.{Graph, Object, next_name, object_named, IsReachable}
+use Rattle.heap_model.specs.Heap.{Heap, Stored, Shows, IsShown, StandsOnce}
 use Rattle.heap_model.specs.Kept.{kept_by}
+use Rattle.regions.specs.Tiles.{Live, tile_size}
 use Rattle.regions.specs.Table.{Table, object_at, HasNoMoved}
+use Rattle.regions.specs.Shaped.{AreInUse}
 use Rattle.alloc_buffers.specs.Placement.{Buffers, BuffersStand}
 use Rattle.object_graph.specs.State.{root_at}
 
@@ -33,6 +35,12 @@ pub record Stands (g : Graph) (c : CoreState) : Type 0 where
   pub mutators : g.mutators ≡ c.config.mutators
   pub next : next_name g ≡ c.next
   pub shows : Shows g (heap_of c)
+
+-- each name that a root reaches is borne by one kept object, which has the graph's contents; and every word of
+-- a kept object lies in a region that isn't free
+pub record IsWhole (g : Graph) (c : CoreState) : Type 0 where
+  pub once : (n : ℕ) → IsReachable g n → StandsOnce g (heap_of c) n
+  pub in_use : (a : ℕ) (s : Stored) → kept_of c a ≡ Some s → AreInUse c.table a (tile_size (Live s))
 
 -- what every core keeps. There is a graph that it stands for: so each root is the start of an object
 pub record IsCore (c : CoreState) : Type 0 where

@@ -5,7 +5,7 @@ ghost use Rattle.heap_words.specs.Configs.{Suits, IsNewFault};
 ghost use Rattle.heap_model.specs.Graph.{Graph};
 ghost use Rattle.heap_model.specs.Heap.{IsShown};
 ghost use Rattle.object_graph.specs.State.{first_state, register_place, with_root, root_at};
-ghost use Rattle.step_core.specs.Stands.{Stands, heap_of, IsWordOf, Leads, name_in};
+ghost use Rattle.step_core.specs.Stands.{Stands, IsWhole, heap_of, IsWordOf, Leads, name_in};
 
 use alloc_buffers::AllocBuffers;
 use heap_words::addr::{Addr, Ptr};
@@ -48,7 +48,6 @@ fn nil_roots(alloc: Global, count: usize) -> Result<Vec<Ptr>, AllocError>
     vec![in alloc; None; count]
 }
 
-
 impl Core {
     /// A heap with no objects, whose roots are nil.
     pub fn new(alloc: Global, config: &Config) -> Result<Core, NewFault>
@@ -82,6 +81,14 @@ impl Core {
         ensures suits { Suits result }
     {
         self.config
+    }
+
+    /// Tells a proof that each object that a root reaches stands, whole and once, in regions in use. It
+    /// does nothing.
+    pub fn whole(&self)
+        ensures { (g : Graph) → Stands g self.now → IsWhole g self.now }
+    {
+        self.table.law();
     }
 
     /// What a root place holds.

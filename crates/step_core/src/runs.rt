@@ -60,6 +60,7 @@ fn run_on(alloc: Global, core: &mut Core, steps: &[Step]) -> Result<Record, Allo
     for step in steps {
         let op = op_of(&config, step);
         let reply = core.step(op);
+        core.whole();
         done.push(Event {
             actor: Actor::Mutator(op.mutator),
             step: *step,
@@ -70,7 +71,8 @@ fn run_on(alloc: Global, core: &mut Core, steps: &[Step]) -> Result<Record, Allo
 }
 
 /// Does the steps in order, in a new heap. The record's events are the steps in their order, each with
-/// its reply; between them stand cores and graphs, each core standing for its graph.
+/// its reply; between them stand cores and graphs, each core standing for its graph, with every object that
+/// a root reaches whole and once in the heap.
 pub fn run(alloc: Global, config: &Config, steps: &[Step]) -> Result<Record, RunFault>
     requires { All (IsMutatorStep config.now) steps.now }
     ensures config { IfOk result (λ r. r.config ≡ config.now) }

@@ -174,7 +174,8 @@ impl Core {
             pointers: Count::new(pointers),
             values: Count::new(values),
         };
-        self.table.make_object(at, FillerSize::new(size as u32), name, counts);
+        self.table
+            .make_object(at, FillerSize::new(size as u32), name, counts);
         self.roots[register_index(mutator, to)] = Some(at);
         self.next += 1;
         Reply::Named(Some(name))
@@ -190,11 +191,23 @@ impl Core {
     {
         let mutator = op.mutator;
         match op.action {
-            Action::New { to, pointers, values } => self.new_object(mutator, to, pointers, values),
+            Action::New {
+                to,
+                pointers,
+                values,
+            } => self.new_object(mutator, to, pointers, values),
             Action::Get { to, object, field } => self.get(mutator, to, object, field),
-            Action::Put { object, field, value } => self.put(mutator, object, field, value),
+            Action::Put {
+                object,
+                field,
+                value,
+            } => self.put(mutator, object, field, value),
             Action::Read { object, field } => self.read(mutator, object, field),
-            Action::Write { object, field, value } => self.write(mutator, object, field, value),
+            Action::Write {
+                object,
+                field,
+                value,
+            } => self.write(mutator, object, field, value),
             Action::Move { to, from } => self.move_register(mutator, to, from),
             Action::Drop { register } => self.drop_register(mutator, register),
             Action::Load { to, from } => self.load(mutator, to, from),

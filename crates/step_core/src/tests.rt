@@ -29,20 +29,97 @@ fn every_action(rt: HostRuntime) -> Result<(), Fail> {
     let r1 = register(1);
     let g3 = GlobalRoot { number: 3 };
     let rows: [(u32, Action, Reply); 14] = [
-        (0, Action::New { to: r0, pointers: 2, values: 1 }, Reply::Named(Some(7))),
-        (0, Action::New { to: r1, pointers: 0, values: 1 }, Reply::Named(Some(8))),
-        (0, Action::Put { object: r0, field: 1, value: Some(r1) }, Reply::Done),
-        (0, Action::Write { object: r1, field: 0, value: 77 }, Reply::Done),
+        (
+            0,
+            Action::New {
+                to: r0,
+                pointers: 2,
+                values: 1,
+            },
+            Reply::Named(Some(7)),
+        ),
+        (
+            0,
+            Action::New {
+                to: r1,
+                pointers: 0,
+                values: 1,
+            },
+            Reply::Named(Some(8)),
+        ),
+        (
+            0,
+            Action::Put {
+                object: r0,
+                field: 1,
+                value: Some(r1),
+            },
+            Reply::Done,
+        ),
+        (
+            0,
+            Action::Write {
+                object: r1,
+                field: 0,
+                value: 77,
+            },
+            Reply::Done,
+        ),
         (0, Action::Drop { register: r1 }, Reply::Done),
-        (0, Action::Get { to: r1, object: r0, field: 1 }, Reply::Named(Some(8))),
-        (0, Action::Read { object: r1, field: 0 }, Reply::Word(77)),
+        (
+            0,
+            Action::Get {
+                to: r1,
+                object: r0,
+                field: 1,
+            },
+            Reply::Named(Some(8)),
+        ),
+        (
+            0,
+            Action::Read {
+                object: r1,
+                field: 0,
+            },
+            Reply::Word(77),
+        ),
         (0, Action::Save { to: g3, from: r0 }, Reply::Done),
         (1, Action::Load { to: r1, from: g3 }, Reply::Named(Some(7))),
         (1, Action::Move { to: r0, from: r1 }, Reply::Done),
-        (1, Action::Shape { object: r0 }, Reply::Shape { pointers: 2, values: 1 }),
-        (1, Action::Put { object: r0, field: 0, value: None }, Reply::Done),
-        (1, Action::Read { object: r0, field: 1 }, Reply::Refused(Refusal::NoField)),
-        (1, Action::New { to: r0, pointers: 9, values: 0 }, Reply::Refused(Refusal::Full)),
+        (
+            1,
+            Action::Shape { object: r0 },
+            Reply::Shape {
+                pointers: 2,
+                values: 1,
+            },
+        ),
+        (
+            1,
+            Action::Put {
+                object: r0,
+                field: 0,
+                value: None,
+            },
+            Reply::Done,
+        ),
+        (
+            1,
+            Action::Read {
+                object: r0,
+                field: 1,
+            },
+            Reply::Refused(Refusal::NoField),
+        ),
+        (
+            1,
+            Action::New {
+                to: r0,
+                pointers: 9,
+                values: 0,
+            },
+            Reply::Refused(Refusal::Full),
+        ),
     ];
     let Ok(mut core) = Core::new(rt.alloc(), &CONFIG) else {
         return Err(Fail::from("a core"));
@@ -69,7 +146,10 @@ fn faults(rt: HostRuntime) -> Result<(), Fail> {
         let printed = format!(in rt.alloc(); "{fault}")?;
         assert_eq!(rt; printed.as_str(), text);
     }
-    let small = Config { regions: 1, ..CONFIG };
+    let small = Config {
+        regions: 1,
+        ..CONFIG
+    };
     match run(rt.alloc(), &small, &[]) {
         Err(fault) => assert_eq!(rt; fault, RunFault::Heap(NewFault::BadRegions)),
         Ok(_) => return Err(Fail::from("a heap of one region")),

@@ -1,8 +1,8 @@
-use Rattle.std.proofs.Common.{◌≡◌, sym, ◌∙◌, ap, ◌+◌, ◌≤◌, arith, subst, ℕ}
+use Rattle.std.proofs.Common.{◌∙◌, arith}
 use Rattle.regions.specs.Tiles.{Gap}
-use Rattle.alloc_buffers.specs.Placement.{BuffersStand, IsPlaced, Buffers}
 use Rattle.alloc_buffers.proofs.Placed.{inside_placed}
 use Rattle.alloc_buffers.proofs.AllocBuffers.place_inside.Goals as goal
+
 pub returns-clause-placed : goal.returns-clause-placed
 returns-clause-placed c = inside_placed _ _ _ _ _ _ _ _ _ _ _ c.self.view_is c.requires.stand c.requires.unmoved c.law.ensures.positive c.law.ensures.fitting c.requires.opened c.requires.positive c.requires.room c.new.ensures c.split_filler-next.ensures.split (c.word.ensures ∙ c.split_filler-next.ensures.rest) c.open_buffer.ensures c.new-2.ensures
 

@@ -1,6 +1,5 @@
-use Rattle.std.proofs.Common.{arith, refl, ap, ◌∙◌, ◌≡◌}
-use Rattle.regions.specs.Table.{Table}
-use Rattle.regions.proofs.Samples.{filled1, filled2, filled3, with_sample, sample_object, fill_take, fill_push, fill_split, fill_make, fill_pointer, fill_value, usable1, usable_filled, filler2, filler3, sample_is, rest_is_tile, word_inside}
+use Rattle.std.proofs.Common.{arith, refl}
+use Rattle.regions.proofs.Samples.{fill_take, fill_push, fill_split, fill_make, fill_pointer, fill_value, usable1, usable_filled, filler2, filler3, sample_is, rest_is_tile, word_inside}
 use Rattle.regions.proofs.tests.fills_a_region.Goals as goal
 
 pub push_filler-requires-clause-ordinary : goal.push_filler-requires-clause-ordinary

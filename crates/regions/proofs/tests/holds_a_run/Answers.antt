@@ -1,4 +1,4 @@
-use Rattle.std.proofs.Common.{arith, refl, ap, ◌∙◌, ◌≡◌}
+use Rattle.std.proofs.Common.{arith, refl}
 use Rattle.regions.proofs.Samples.{fill_take, run_take, run_release, releasable_run, run_fits, known_region, word_inside}
 use Rattle.regions.proofs.tests.holds_a_run.Goals as goal
 

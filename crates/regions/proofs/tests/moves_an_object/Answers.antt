@@ -1,4 +1,4 @@
-use Rattle.std.proofs.Common.{arith, refl, ap, ◌∙◌, ◌≡◌}
+use Rattle.std.proofs.Common.{arith}
 use Rattle.regions.proofs.Samples.{fill_take, move_take, move_push, move_make, move_copy, move_forward, move_release, usable_moved1, filler_moved2, copyable3, forwardable4, tile5, releasable5, known6}
 use Rattle.regions.proofs.tests.moves_an_object.Goals as goal
 

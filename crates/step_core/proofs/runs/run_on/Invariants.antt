@@ -1,8 +1,7 @@
 use Rattle.std.proofs.Common.{◌≡◌, take, map}
-use Rattle.std.specs.Prelude.{All}
 use Rattle.heap_model.specs.Graph.{Graph}
 use Rattle.step_core.specs.Stands.{Stands}
-use Rattle.step_core.specs.Histories.{Runs, step_of, IsMutatorStep}
+use Rattle.step_core.specs.Histories.{Runs, step_of}
 use Rattle.step_core.proofs.runs.run_on.Given as goal
 
 abbrev pub invariant-loop-step : goal.invariant-loop-step

@@ -1,5 +1,4 @@
-use Rattle.std.proofs.Common.{arith, ◌≡◌, ◌<◌, ◌≤◌, ◌+◌, ◌*◌, ◌/◌, ℕ, refl, ap, sym, subst, ◌∙◌}
-use Rattle.regions.specs.Walks.{IsRunStart, IsHolder, placed, tiles_of}
+use Rattle.std.proofs.Common.{arith, refl, ◌∙◌}
 use Rattle.regions.proofs.FirstTile.{search_first, search_fits, search_next, found_below, found_holder, search_last, start_low, start_of}
 use Rattle.regions.proofs.table.RegionTable.first_tile.Goals as goal
 

@@ -1,4 +1,4 @@
-use Rattle.std.proofs.Common.{arith, ◌≡◌, ◌+◌, ◌-◌, length}
+use Rattle.std.proofs.Common.{arith, ◌≡◌, ◌+◌, ◌-◌}
 use Rattle.heap_words.specs.Headers.{header_word}
 use Rattle.heap_words.specs.declared.header.Header.TheVariants.{Object}
 use Rattle.regions.proofs.Puts.{put_object_length}

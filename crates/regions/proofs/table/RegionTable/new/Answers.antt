@@ -1,7 +1,7 @@
-use Rattle.std.proofs.Common.{arith, sym, subst, ◌≡◌, ◌*◌, length, replicate, ℕ, List, refl, ap, ◌∙◌}
+use Rattle.std.proofs.Common.{arith, sym, subst, ◌≡◌, ◌*◌, length, ℕ, List, refl, ap, ◌∙◌}
 use Rattle.std.proofs.lemmas.List.{length-replicate}
-use Rattle.regions.proofs.Making.{new_table, free_table-unmoved}
 use Rattle.regions.specs.Table.{HasNoMoved}
+use Rattle.regions.proofs.Making.{new_table, free_table-unmoved}
 use Rattle.regions.proofs.table.RegionTable.new.Goals as goal
 
 pub invariant_of-result : goal.invariant_of-result

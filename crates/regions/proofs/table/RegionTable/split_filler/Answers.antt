@@ -1,4 +1,4 @@
-use Rattle.std.proofs.Common.{arith, ◌≡◌, ◌+◌, ◌-◌, length}
+use Rattle.std.proofs.Common.{arith, ◌≡◌, ◌+◌, ◌-◌}
 use Rattle.std.proofs.lemmas.List.{length-set}
 use Rattle.regions.proofs.Replaced.{gap_fits}
 use Rattle.regions.proofs.Gaps.{gap_split}

@@ -1,4 +1,3 @@
-use Rattle.std.proofs.Common.{◌∙◌}
 use Rattle.regions.proofs.Shown.{shown_there, some_tile}
 use Rattle.regions.proofs.MovedLaws.{target_within}
 use Rattle.regions.proofs.table.RegionTable.tile.Goals as goal

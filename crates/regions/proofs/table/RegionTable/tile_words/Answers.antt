@@ -1,4 +1,4 @@
-use Rattle.std.proofs.Common.{arith, ◌≡◌, ◌*◌, sym, ap, ◌∙◌, get_or, inl, inr}
+use Rattle.std.proofs.Common.{arith, ◌≡◌, sym, ap, ◌∙◌, get_or, inl, inr}
 use Rattle.std.proofs.lemmas.List.{get_or_read}
 use Rattle.regions.specs.declared.row.Row.{Row}
 use Rattle.regions.specs.declared.row.Kind.TheVariants as kinds

@@ -1,4 +1,4 @@
-use Rattle.std.proofs.Common.{◌≡◌, ◌<◌, ◌/◌, ◌%◌, ℕ, refl, ◌∙◌, arith}
+use Rattle.std.proofs.Common.{◌≡◌, ◌/◌, ◌%◌, ℕ, refl, ◌∙◌, arith}
 use Rattle.regions.proofs.WalkFrom.{begins, tile_region}
 use Rattle.regions.proofs.table.RegionTable.walk_from.Goals as goal
 

@@ -1,20 +1,23 @@
-use Rattle.std.proofs.Common.{◌≡◌, ◌≤◌, ◌<◌, length, ap, sym, ◌∙◌, subst, Option, Some, ℕ, List, arith}
+use Rattle.std.proofs.Common.{length, ap, sym, ◌∙◌, Option, ℕ, List, arith}
 use Rattle.std.specs.Prelude.{slice_get}
-use Rattle.regions.specs.Table.{Table, pointers_at}
-use Rattle.step_core.specs.Stands.{CoreState, Leads}
 use Rattle.step_core.proofs.Acting.{get_past, get_done}
 use Rattle.step_core.proofs.Keeping.{object_led, pointers_of, field_of}
 use Rattle.step_core.proofs.heap.Core.get.Goals as goal
+
 pub pointer_count-requires : goal.pointer_count-requires
 pointer_count-requires c = let l = c.in-Some.ensures.leads in object_led _ _ _ _ c.self.view_is c.self.invariant l
+
 pub returns-then-field-pointer_count-clause-acts : goal.returns-then-field-pointer_count-clause-acts
 returns-then-field-pointer_count-clause-acts c = let l = c.in-Some.ensures.leads in
-  λ g s. get_past g _ s c.args.mutator c.args.object _ l c.args.to c.args.field (let count = c.pointer_count.ensures ∙ ap (λ (ps : List (Option ℕ)). length ps) (pointers_of _ _ c.in-Some.at c.self.view_is) in omega arith)
+    λ g s. get_past g _ s c.args.mutator c.args.object _ l c.args.to c.args.field (let count = c.pointer_count.ensures ∙ ap (λ (ps : List (Option ℕ)). length ps) (pointers_of _ _ c.in-Some.at c.self.view_is) in omega arith)
+
 pub name_of-name-requires : goal.name_of-name-requires
 name_of-name-requires c = let l = c.in-Some.ensures.leads in field_of _ _ _ _ _ _ c.self.view_is c.self.invariant l c.get_ptr-value.ensures
+
 pub set_register-requires-clause-word : goal.set_register-requires-clause-word
 set_register-requires-clause-word c = let l = c.in-Some.ensures.leads in field_of _ _ _ _ _ _ c.self.view_is c.self.invariant l c.get_ptr-value.ensures
+
 pub returns-clause-acts : goal.returns-clause-acts
 returns-clause-acts c = let l = c.in-Some.ensures.leads in
-  λ g s. get_done g _ s c.args.mutator c.args.object _ l c.args.to c.args.field c.get_ptr-value.result c.name_of-name.result _ (ap (λ (ps : List (Option ℕ)). slice_get ps c.args.field) (sym (pointers_of _ _ c.in-Some.at c.self.view_is)) ∙ c.get_ptr-value.ensures) c.name_of-name.ensures
-     c.set_register.ensures.stands
+    λ g s. get_done g _ s c.args.mutator c.args.object _ l c.args.to c.args.field c.get_ptr-value.result c.name_of-name.result _ (ap (λ (ps : List (Option ℕ)). slice_get ps c.args.field) (sym (pointers_of _ _ c.in-Some.at c.self.view_is)) ∙ c.get_ptr-value.ensures) c.name_of-name.ensures
+    c.set_register.ensures.stands

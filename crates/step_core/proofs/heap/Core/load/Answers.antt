@@ -2,6 +2,7 @@ use Rattle.std.proofs.Common.{◌∙◌, ap}
 use Rattle.object_graph.specs.declared.step.Reply.TheVariants as replies
 use Rattle.step_core.proofs.Reading.{shown_name}
 use Rattle.step_core.proofs.heap.Core.load.Goals as goal
+
 pub returns-clause-acts : goal.returns-clause-acts
 returns-clause-acts c = λ g s. let shown = c.root-value.ensures.shows g s in
-  record { reply_is = ap replies.Named (c.name_of-name.ensures ∙ shown_name _ _ _ shown); stands = c.set_register.ensures.stands g _ s shown }
+    record { reply_is = ap replies.Named (c.name_of-name.ensures ∙ shown_name _ _ _ shown); stands = c.set_register.ensures.stands g _ s shown }

@@ -1,7 +1,5 @@
-use Rattle.std.proofs.Common.{◌≡◌, ◌+◌, ◌*◌, ℕ, ◌≤◌, ◌<◌, arith, subst, sym, ap, ◌∙◌, Option, Some, None, inl, inr, ◌⊎◌}
-use Rattle.alloc_buffers.specs.Placement.{place_of}
-use Rattle.step_core.specs.Stands.{CoreState, Stands, IsCore}
-use Rattle.step_core.specs.Answers.{HasNoPlace}
+use Rattle.std.proofs.Common.{◌≡◌, ◌*◌, ℕ, arith, subst, sym, ap, ◌∙◌, inl}
+use Rattle.step_core.specs.Stands.{CoreState, Stands}
 use Rattle.step_core.proofs.Creating.{new_acts, new_kept, has_place}
 use Rattle.step_core.proofs.heap.Core.new_object.Goals as goal
 

@@ -1,16 +1,20 @@
-use Rattle.std.proofs.Common.{◌≡◌, ◌≤◌, ◌<◌, length, ap, sym, ◌∙◌, subst, Option, Some, ℕ, arith}
-use Rattle.step_core.proofs.Acting.{put_past, put_nil}
+use Rattle.std.proofs.Common.{length, ap, ◌∙◌, arith}
+use Rattle.step_core.proofs.Acting.{put_past}
 use Rattle.regions.specs.Table.{Table, pointers_at}
 use Rattle.step_core.proofs.Keeping.{object_led, table_of, put_after, put_kept}
 use Rattle.step_core.proofs.heap.Core.put.Goals as goal
+
 pub pointer_count-requires : goal.pointer_count-requires
 pointer_count-requires c = let l = c.in-Some.ensures.leads in object_led _ _ _ _ c.self.view_is c.self.invariant l
+
 pub returns-then-field-pointer_count-clause-acts : goal.returns-then-field-pointer_count-clause-acts
 returns-then-field-pointer_count-clause-acts c = let l = c.in-Some.ensures.leads in
-  λ g s. put_past g _ s c.args.mutator c.args.object _ l c.args.field c.args.value (let count = c.pointer_count.ensures ∙ ap (λ (t : Table). length (pointers_at t c.in-Some.at)) (table_of _ _ c.self.view_is) in omega arith)
+    λ g s. put_past g _ s c.args.mutator c.args.object _ l c.args.field c.args.value (let count = c.pointer_count.ensures ∙ ap (λ (t : Table). length (pointers_at t c.in-Some.at)) (table_of _ _ c.self.view_is) in omega arith)
+
 pub invariant_of-self : goal.invariant_of-self
 invariant_of-self c = let l = c.in-Some.ensures.leads in
-  put_kept _ _ c.self.view_is c.self.invariant c.args.mutator c.args.object _ c.args.field c.args.value _ _ l (omega (arith, c.pointer_count.ensures)) c.stored-target.ensures.shows c.set_ptr.ensures
+    put_kept _ _ c.self.view_is c.self.invariant c.args.mutator c.args.object _ c.args.field c.args.value _ _ l (omega (arith, c.pointer_count.ensures)) c.stored-target.ensures.shows c.set_ptr.ensures
+
 pub returns-clause-acts : goal.returns-clause-acts
 returns-clause-acts c = let l = c.in-Some.ensures.leads in
-  put_after _ _ c.self.view_is c.self.invariant c.args.mutator c.args.object _ c.args.field c.args.value _ _ l (omega (arith, c.pointer_count.ensures)) c.stored-target.ensures.shows c.set_ptr.ensures
+    put_after _ _ c.self.view_is c.self.invariant c.args.mutator c.args.object _ c.args.field c.args.value _ _ l (omega (arith, c.pointer_count.ensures)) c.stored-target.ensures.shows c.set_ptr.ensures

@@ -1,15 +1,19 @@
-use Rattle.std.proofs.Common.{◌≡◌, ◌≤◌, ◌<◌, length, ap, sym, ◌∙◌, subst, Option, Some, ℕ, List, arith}
+use Rattle.std.proofs.Common.{length, ap, ◌∙◌, ℕ, List, arith}
 use Rattle.step_core.proofs.Acting.{write_past}
 use Rattle.step_core.proofs.Keeping.{object_led, values_of, write_after, write_kept}
 use Rattle.step_core.proofs.heap.Core.write.Goals as goal
+
 pub value_count-requires : goal.value_count-requires
 value_count-requires c = let l = c.in-Some.ensures.leads in object_led _ _ _ _ c.self.view_is c.self.invariant l
+
 pub returns-then-field-value_count-clause-acts : goal.returns-then-field-value_count-clause-acts
 returns-then-field-value_count-clause-acts c = let l = c.in-Some.ensures.leads in
-  λ g s. write_past g _ s c.args.mutator c.args.object _ l c.args.field c.args.value (let count = c.value_count.ensures ∙ ap (λ (ps : List ℕ). length ps) (values_of _ _ c.in-Some.at c.self.view_is) in omega arith)
+    λ g s. write_past g _ s c.args.mutator c.args.object _ l c.args.field c.args.value (let count = c.value_count.ensures ∙ ap (λ (ps : List ℕ). length ps) (values_of _ _ c.in-Some.at c.self.view_is) in omega arith)
+
 pub invariant_of-self : goal.invariant_of-self
 invariant_of-self c = let l = c.in-Some.ensures.leads in
-  write_kept _ _ c.self.view_is c.self.invariant c.args.mutator c.args.object _ c.args.field c.args.value _ l (omega (arith, c.value_count.ensures)) c.set_data.ensures
+    write_kept _ _ c.self.view_is c.self.invariant c.args.mutator c.args.object _ c.args.field c.args.value _ l (omega (arith, c.value_count.ensures)) c.set_data.ensures
+
 pub returns-clause-acts : goal.returns-clause-acts
 returns-clause-acts c = let l = c.in-Some.ensures.leads in
-  write_after _ _ c.self.view_is c.self.invariant c.args.mutator c.args.object _ c.args.field c.args.value _ l (omega (arith, c.value_count.ensures)) c.set_data.ensures
+    write_after _ _ c.self.view_is c.self.invariant c.args.mutator c.args.object _ c.args.field c.args.value _ l (omega (arith, c.value_count.ensures)) c.set_data.ensures

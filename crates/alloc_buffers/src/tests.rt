@@ -1,0 +1,42 @@
+//! Placements in a small heap.
+
+use crate::{AllocBuffers, Full};
+use heap_words::config::Config;
+use regions::RegionTable;
+use std::test::Fail;
+
+/// Two regions of 16 words, buffers of 4 words, two mutators: each placement's address, None for Full.
+#[test]
+fn places(rt: HostRuntime) -> Result<(), Fail> {
+    let config = Config {
+        regions: 2,
+        words: 16,
+        buffer: 4,
+        mutators: 2,
+        first_name: 0,
+    };
+    // Mutator, size, address.
+    let rows: [(u32, u32, Option<u32>); 8] = [
+        (0, 4, Some(0)), // a whole buffer
+        (1, 2, Some(4)), // the front of a buffer
+        (1, 3, Some(8)), // the rest of 2 is too small: a new buffer
+        (0, 8, Some(16)), // words of its own, in the next region
+        (0, 5, Some(24)), // the same
+        (0, 4, None), // 3 words are left there, and no region is free
+        (0, 8, None),
+        (1, 2, None), // a rest of 1
+    ];
+    let Ok(mut table) = RegionTable::new(rt.alloc(), &config) else {
+        return Err(Fail::from("a table"));
+    };
+    let mut buffers = AllocBuffers::new(rt.alloc(), &config)?;
+    for (mutator, size, address) in rows {
+        assert!(rt; mutator < 2 && size > 0 && size <= 8);
+        match buffers.place(&mut table, mutator, size) {
+            Ok(at) => assert_eq!(rt; Some(at.word()), address),
+            Err(Full) => assert_eq!(rt; None, address),
+        }
+    }
+    buffers.retire_all();
+    Ok(())
+}
