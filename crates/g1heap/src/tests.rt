@@ -79,7 +79,7 @@ fn script_of(alloc: Global, record: &str) -> Result<String, Fail> {
     Ok(script)
 }
 
-static RECORDS: [(&str, &str); 4] = [
+static RECORDS: [(&str, &str); 5] = [
     (
         "first read",
         "heap 4 16 8 1 0\n1 0 new r0 1 1 = #0\n2 0 read r0 0 = 0\n3 0 get r1 r0 0 = nil\n",
@@ -88,6 +88,10 @@ static RECORDS: [(&str, &str); 4] = [
     (
         "names spent",
         "heap 4 16 8 1 18446744073709551614\n1 0 new r0 0 0 = #18446744073709551614\n2 0 new r1 40 40 = refused 4 TooBig\n3 0 new r1 0 0 = refused 5 NamesSpent\n",
+    ),
+    (
+        "nil and no field",
+        "heap 4 16 8 1 0\n1 0 get r1 r0 9 = refused 1 Nil\n2 0 new r0 1 0 = #0\n3 0 put r0 1 r0 = refused 2 NoField\n4 0 read r0 0 = refused 2 NoField\n5 0 get r1 r0 0 = nil\n",
     ),
     (
         "fills a heap",

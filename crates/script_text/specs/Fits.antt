@@ -42,15 +42,9 @@ pub record ConfigFits (c : Config) : Type 0 where
   pub mutators : c.mutators ≤ small
   pub first_name : c.first_name ≤ large
 
-abbrev pub is_action_yet : Action → Bool
-is_action_yet (actions.New to p d) = true
-is_action_yet (actions.Get to object i) = true
-is_action_yet (actions.Read object j) = true
-is_action_yet _ = false
-
--- the steps that a script may have yet
+-- the steps that a script may have yet: those of mutators
 abbrev pub is_step_yet : Step → Bool
-is_step_yet (steps.Mutator o) = is_action_yet o.action
+is_step_yet (steps.Mutator o) = true
 is_step_yet (steps.Collector k) = false
 
 -- a script that has a text

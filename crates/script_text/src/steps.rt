@@ -256,10 +256,7 @@ fn is_yet(step: &Step) -> bool
     ensures { result ≡ is_step_yet step.now }
 {
     match step {
-        Step::Mutator(op) => match op.action {
-            Action::New { .. } | Action::Get { .. } | Action::Read { .. } => true,
-            _ => false,
-        },
+        Step::Mutator(_) => true,
         Step::Collector(_) => false,
     }
 }

@@ -9,7 +9,7 @@ pub(super) struct Case {
     pub err: &'static str,
 }
 
-pub(super) static CASES: [Case; 64] = [
+pub(super) static CASES: [Case; 66] = [
     Case {
         name: "words-not-a-power-of-two",
         script: "heap 4 24 8 1 0\n",
@@ -118,6 +118,13 @@ pub(super) static CASES: [Case; 64] = [
     Case {
         name: "too-many-mutators",
         script: "heap 4 16 8 17 0\n",
+        status: 1,
+        out: "",
+        err: "g1heap: heap: 4 BadMutators\n",
+    },
+    Case {
+        name: "mutator-16-reads-where-the-heap-does-not-suit",
+        script: "heap 4 16 8 17 0\n16 drop r0\n",
         status: 1,
         out: "",
         err: "g1heap: heap: 4 BadMutators\n",
@@ -261,6 +268,13 @@ pub(super) static CASES: [Case; 64] = [
         status: 1,
         out: "",
         err: "g1heap: line 2: 4 BadActor\n",
+    },
+    Case {
+        name: "empty-line-at-the-end",
+        script: "heap 4 16 8 1 0\n0 drop r0\n\n",
+        status: 1,
+        out: "",
+        err: "g1heap: line 3: 4 BadActor\n",
     },
     Case {
         name: "actor-alone",

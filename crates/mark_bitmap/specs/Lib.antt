@@ -1,0 +1,5 @@
+pub mod Marks
+pub mod Words
+pub mod Tops
+pub mod Grey
+pub mod Kept

@@ -1,0 +1,66 @@
+//! The two sets of marks of a heap, and their roles.
+//!
+//! ```text
+//!                 begin                 remark                     begin
+//!   previous  ----- A: what is kept ------|------ B: what is kept -----
+//!   next      stale | B: cleared, grows --|-- A: stale, not read ----| A: cleared, grows
+//! ```
+//!
+//! `remark` exchanges the roles. From then on what is kept is told by the marks just made.
+
+ghost use Rattle.std.specs.Prelude.{◌≡◌, false, IfOk, replicate};
+
+use crate::marks::Marks;
+use std::alloc::{AllocError, Global};
+
+/// The marks of the marking that is over, and of the one that runs or comes.
+#[derive(Drop)]
+pub struct Bitmaps {
+    pub previous: Marks,
+    pub next: Marks,
+}
+
+impl Bitmaps {
+    /// Both empty, for the addresses below `count`. No call takes memory afterwards.
+    pub fn new(alloc: Global, count: u32) -> Result<Bitmaps, AllocError>
+        ensures previous { IfOk result (λ both. both.previous ≡ replicate count false) }
+        ensures next { IfOk result (λ both. both.next ≡ replicate count false) }
+    {
+        Ok(Bitmaps {
+            previous: Marks::new(alloc, count)?,
+            next: Marks::new(alloc, count)?,
+        })
+    }
+
+    /// The two exchange their roles.
+    pub fn swap_roles(&mut self)
+        ensures previous { self.new.previous ≡ self.old.next }
+        ensures next { self.new.next ≡ self.old.previous }
+    {
+        std::mem::swap(&mut self.previous, &mut self.next);
+    }
+}
+
+#[cfg(test)]
+mod tests {
+    use super::*;
+    use heap_words::addr::Addr;
+    use std::test::Fail;
+
+    /// What was marked as next is previous after the exchange, and the other way round.
+    #[test]
+    fn exchanges_roles(rt: HostRuntime) -> Result<(), Fail> {
+        let mut both = Bitmaps::new(rt.alloc(), 128)?;
+        for (at, next) in [(5, true), (70, false)] {
+            if next && at < both.next.len() {
+                both.next.set(Addr::new(at));
+            } else if at < both.previous.len() {
+                both.previous.set(Addr::new(at));
+            }
+        }
+        both.swap_roles();
+        assert_eq!(rt; both.previous.next(Addr::new(0)), Some(Addr::new(5)));
+        assert_eq!(rt; both.next.next(Addr::new(0)), Some(Addr::new(70)));
+        Ok(())
+    }
+}

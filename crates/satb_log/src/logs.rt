@@ -1,0 +1,148 @@
+//! The deletion logs of all mutators.
+//!
+//! Over a marking cycle: all logs are empty when marking begins; each mutator's stores fill its own; a full one is
+//! drained within the store that filled it; at the end all are drained.
+
+ghost use Rattle.std.specs.Prelude.{◌≡◌, ◌⊎◌, ℕ, ◌<◌, ◌≤◌, List, [], ◌∷◌, ◌++◌, ◌==◌, Contains, IfOk, length, replicate, slice_set};
+ghost use Rattle.satb_log.specs.Logs.{log_of, logged};
+
+use crate::log::DeletionLog;
+use heap_words::addr::Addr;
+use std::alloc::{AllocError, Global};
+use std::marker::Model;
+
+/// A deletion log for each mutator. Clauses see the list of the logs.
+#[derive(Drop)]
+pub struct DeletionLogs {
+    logs: Vec<DeletionLog>,
+}
+
+impl Model for DeletionLogs {
+    ghost use Rattle.std.specs.Prelude.{List, ℕ, ◌<◌, ◌^◌, vec_len};
+
+    ghost Value = { List (List ℕ) };
+
+    ghost view = { λ all. all.logs.items };
+
+    ghost invariant = { λ all. vec_len all.logs < 2 ^ 32 };
+}
+
+impl DeletionLogs {
+    /// An empty log for each mutator. No call takes memory afterwards.
+    pub fn new(alloc: Global, mutators: u32) -> Result<DeletionLogs, AllocError>
+        ensures { IfOk result (λ logs. logs ≡ replicate mutators []) }
+    {
+        let mut logs = Vec::with_capacity(alloc, mutators as usize)?;
+        for _ in 0..mutators {
+            logs.push(DeletionLog::new(alloc))?;
+        }
+        Ok(DeletionLogs { logs })
+    }
+
+    /// How many mutators there are.
+    pub fn mutators(&self) -> u32
+        ensures { result ≡ length self.now }
+    {
+        self.logs.len() as u32
+    }
+
+    /// How many addresses are in the mutator's log.
+    pub fn len(&self, mutator: u32) -> usize
+        requires { mutator < length self.now }
+        ensures value { result ≡ length (log_of self.now mutator) }
+        ensures at_most { result ≤ 8 }
+    {
+        let log = &self.logs[mutator as usize];
+        log.len()
+    }
+
+    /// Whether the mutator's log has no room for another address.
+    pub fn is_full(&self, mutator: u32) -> bool
+        requires { mutator < length self.now }
+        ensures full { result ≡ (length (log_of self.now mutator) == 8) }
+        ensures at_most { length (log_of self.now mutator) ≤ 8 }
+    {
+        let log = &self.logs[mutator as usize];
+        log.is_full()
+    }
+
+    /// An address enters the mutator's log at its end. Whether the log is full now.
+    pub fn log(&mut self, mutator: u32, address: Addr) -> bool
+        requires known { mutator < length self.old }
+        requires room { length (log_of self.old mutator) < 8 }
+        ensures logged { self.new ≡ slice_set self.old mutator (log_of self.old mutator ++ address ∷ []) }
+        ensures full { result ≡ (length (log_of self.new mutator) == 8) }
+    {
+        let own = &mut self.logs[mutator as usize];
+        own.push(address);
+        own.is_full()
+    }
+
+    /// The addresses of the mutator's log, which is empty afterwards.
+    pub fn drain(&mut self, mutator: u32) -> DeletionLog
+        requires { mutator < length self.old }
+        ensures all { result ≡ log_of self.old mutator }
+        ensures emptied { self.new ≡ slice_set self.old mutator [] }
+    {
+        let taken = &mut self.logs[mutator as usize];
+        let empty = taken.another();
+        std::mem::replace(taken, empty)
+    }
+}
+
+/// What stands in all logs together: `log` adds the address and nothing else; what `drain` hands out and what is left
+/// in the logs was in them, and nothing else; where each log is empty, nothing is logged.
+pub fn logged_law()
+    ensures stays { (logs : List (List ℕ)) (mutator a b : ℕ) → mutator < length logs → Contains (logged logs) b → Contains (logged (slice_set logs mutator (log_of logs mutator ++ a ∷ []))) b }
+    ensures new { (logs : List (List ℕ)) (mutator a : ℕ) → mutator < length logs → Contains (logged (slice_set logs mutator (log_of logs mutator ++ a ∷ []))) a }
+    ensures only { (logs : List (List ℕ)) (mutator a b : ℕ) → Contains (logged (slice_set logs mutator (log_of logs mutator ++ a ∷ []))) b → Contains (logged logs) b ⊎ (b ≡ a) }
+    ensures drained { (logs : List (List ℕ)) (mutator b : ℕ) → Contains (logged logs) b → Contains (logged (slice_set logs mutator [])) b ⊎ Contains (log_of logs mutator) b }
+    ensures rest { (logs : List (List ℕ)) (mutator b : ℕ) → Contains (logged (slice_set logs mutator [])) b → Contains (logged logs) b }
+    ensures one { (logs : List (List ℕ)) (mutator b : ℕ) → Contains (log_of logs mutator) b → Contains (logged logs) b }
+    ensures empty { (logs : List (List ℕ)) → ((mutator : ℕ) → mutator < length logs → log_of logs mutator ≡ []) → logged logs ≡ [] }
+{}
+
+#[cfg(test)]
+mod tests {
+    use super::*;
+    use crate::log::LOG_LEN;
+    use std::test::Fail;
+
+    /// Eight addresses fill a log, which `log` answers with the eighth; they come out in order, and once.
+    #[test]
+    fn fills_and_drains(rt: HostRuntime) -> Result<(), Fail> {
+        let mut logs = DeletionLogs::new(rt.alloc(), 2)?;
+        let mut full = false;
+        for place in 0..8 {
+            if 1 < logs.mutators() && !logs.is_full(1) {
+                assert!(rt; logs.len(1) == place as usize && !full, "at {place}");
+                full = logs.log(1, Addr::new(100 - place));
+            }
+        }
+        assert!(rt; logs.mutators() == 2 && full);
+        if 1 < logs.mutators() {
+            assert!(rt; logs.is_full(1) && logs.len(1) == LOG_LEN && logs.len(0) == 0);
+            let drained = logs.drain(1);
+            assert!(rt; drained.len() == LOG_LEN && drained.is_full() && logs.len(1) == 0);
+            for place in 0..drained.len() {
+                assert_eq!(rt; drained.get(place).word() as usize + place, 100);
+            }
+        }
+        Ok(())
+    }
+
+    /// A mutator's log is its own.
+    #[test]
+    fn keeps_logs_apart(rt: HostRuntime) -> Result<(), Fail> {
+        let mut logs = DeletionLogs::new(rt.alloc(), 3)?;
+        assert!(rt; !logs.log(0, Addr::new(16)));
+        assert!(rt; !logs.log(2, Addr::new(40)));
+        assert!(rt; !logs.log(2, Addr::new(16)));
+        assert_eq!(rt; logs.drain(1).len(), 0);
+        assert_eq!(rt; logs.drain(2).len(), 2);
+        assert_eq!(rt; logs.drain(2).len(), 0);
+        let first = logs.drain(0);
+        assert!(rt; first.len() == 1 && first.get(0) == Addr::new(16));
+        Ok(())
+    }
+}
