@@ -1,0 +1,124 @@
+-- Marking has ended: it is exact, and what is kept from then on shows the same graph.
+use Rattle.std.proofs.Common.{◌≡◌, ℕ, ◌+◌, ◌-◌, ◌^◌, ◌<◌, Bool, true, false, not, List, [], Option, length, refl, sym, ap, ◌∙◌, subst, arith}
+use Rattle.std.specs.Prelude.{◌&&◌}
+use Rattle.std.proofs.lemmas.List.Sums.{count_by-le-length}
+use Rattle.heap_model.specs.Graph.{Graph}
+use Rattle.heap_model.specs.Heap.{Heap, Shows}
+use Rattle.heap_model.specs.Marking.{Marking, KeepsSnapshot, IsDone, MarksExactly, kept_after}
+use Rattle.heap_model.specs.Count.{IsReachableCount}
+use Rattle.heap_model.proofs.Finish.{exact, shows_after, reachable_kept, kept_or_new, quiet_kept}
+use Rattle.heap_model.proofs.Counted.{counted}
+use Rattle.heap_model.proofs.Changed.{same_shows}
+use Rattle.regions.specs.Table.{Table}
+use Rattle.regions.specs.Shaped.{IsShaped}
+use Rattle.mark_bitmap.specs.Marks.{is_marked, marked_count, HasNone}
+use Rattle.mark_bitmap.specs.Tops.{Tops, exchanged}
+use Rattle.mark_bitmap.specs.Grey.{Scans, is_grey}
+use Rattle.mark_bitmap.specs.Kept.{MarksObjects, kept_in}
+use Rattle.mark_bitmap.proofs.KeptLaws.{swap_kept}
+use Rattle.mark_bitmap.proofs.Listed.{marked_from, listed, length-marked_from}
+use Rattle.satb_log.specs.Logs.{logged, log_of}
+use Rattle.satb_log.proofs.Logged.{none_logged}
+use Rattle.marker.specs.Views.{heap_of, marking_of, with_roles_exchanged}
+use Rattle.marker.specs.Stands.{MarkerStands}
+use Rattle.marker.specs.Steps.{KeepsSnapshots, SameRoles}
+use Rattle.marker.specs.Ends.{EndsMarking, EndsExactly}
+use Rattle.marker.specs.declared.marker.Marker.{Marker}
+use Rattle.marker.proofs.Views.{same_heap}
+use Rattle.marker.proofs.Reached.{same_trans}
+use Rattle.marker.proofs.Marking.{snapshots_trans}
+
+-- no more objects are scanned than there are addresses
+pub few_scans : (t : Table) (m m' : Marker) (n : ℕ) → IsShaped t → MarkerStands t m' → marked_count m'.grey.scanned ≡ marked_count m.grey.scanned + n → n < 2 ^ 32 - 1
+few_scans t m m' n shape st count =
+    omega (arith, count, count_by-le-length (λ b. b) m'.grey.scanned, st.scanned, st.next.each_word, shape.in_all)
+
+all_scanned : (marked scanned : Bool) → (marked && not scanned) ≡ false → marked ≡ true → scanned ≡ true
+all_scanned true true e k = refl
+all_scanned true false e k = cc
+all_scanned false scanned e k = cc
+
+-- nothing is left to mark
+pub is_done : (t : Table) (m : Marker) → HasNone (is_grey m.bitmaps.next m.grey) 0 → ((k : ℕ) → k < length m.logs → log_of m.logs k ≡ []) → IsDone (marking_of t m)
+is_done t m none empty = record {
+  grey = λ a k. all_scanned (is_marked m.bitmaps.next a) (is_marked m.grey.scanned a) (none a (omega arith)) k;
+  logged = none_logged m.logs empty;
+}
+
+-- all logs were taken, and all grey objects scanned
+pub record IsOver (t : Table) (m m' : Marker) : Type 0 where
+  pub stands : MarkerStands t m'
+  pub running : m'.running ≡ true
+  pub same : SameRoles m m'
+  pub snapshots : KeepsSnapshots t m m'
+  pub done : IsDone (marking_of t m')
+
+pub over : (t : Table) (m m' m'' : Marker) (n : ℕ) → IsShaped t → m.running ≡ true → SameRoles m m' → KeepsSnapshots t m m' → ((k : ℕ) → k < length m'.logs → log_of m'.logs k ≡ [])
+    → MarkerStands t m'' → SameRoles m' m'' → KeepsSnapshots t m' m'' → m''.logs ≡ m'.logs → marked_count m''.grey.scanned ≡ marked_count m'.grey.scanned + n
+    → (n < 2 ^ 32 - 1 → HasNone (is_grey m''.bitmaps.next m''.grey) 0) → IsOver t m m''
+over t m m' m'' n shape run same keeps empty st same' keeps' logs count none = record {
+  stands = st;
+  running = same'.running ∙ same.running ∙ run;
+  same = same_trans m m' m'' same same';
+  snapshots = snapshots_trans t m m' m'' same keeps keeps';
+  done = is_done t m'' (none (few_scans t m' m'' n shape st count)) (subst (λ (x : List (List ℕ)). (k : ℕ) → k < length x → log_of x k ≡ []) (sym logs) empty);
+}
+
+-- the roles were exchanged
+pub record IsExchanged (m m' : Marker) : Type 0 where
+  pub previous : m'.bitmaps.previous ≡ m.bitmaps.next
+  pub next : m'.bitmaps.next ≡ m.bitmaps.previous
+  pub tams : m'.tams ≡ exchanged m.tams
+  pub grey : m'.grey ≡ m.grey
+  pub logs : m'.logs ≡ m.logs
+  pub off : m'.running ≡ false
+
+exchanged_marking : (t : Table) (m m' : Marker) → IsExchanged m m' → marking_of t (with_roles_exchanged m') ≡ marking_of t m
+exchanged_marking t m m' e = rw (e.tams, e.previous, e.grey, e.logs) refl
+
+exchanged_kept : (t : Table) (roots : List (Option ℕ)) (m m' : Marker) (a : ℕ) → IsExchanged m m' → (heap_of t roots m').kept a ≡ kept_in t (exchanged m.tams) m.bitmaps.next a
+exchanged_kept t roots m m' a e = rw (e.tams, e.previous) refl
+
+pub exchanged_stands : (t : Table) (m m' : Marker) → MarkerStands t m → IsDone (marking_of t m) → IsExchanged m m' → MarkerStands t m'
+exchanged_stands t m m' st done e = record {
+  previous = subst (λ (x : Tops). MarksObjects t x.previous m'.bitmaps.previous) (sym e.tams) (subst (λ (b : List Bool). MarksObjects t m.tams.next b) (sym e.previous) st.next);
+  next = subst (λ (x : Tops). MarksObjects t x.next m'.bitmaps.next) (sym e.tams) (subst (λ (b : List Bool). MarksObjects t m.tams.previous b) (sym e.next) st.previous);
+  scanned = ap (λ (g : Scans). length g.scanned) e.grey ∙ st.scanned ∙ st.next.each_word ∙ sym st.previous.each_word ∙ sym (ap length e.next);
+  finger = λ on. absurd (let f = e.off in cc);
+  newer = λ on. absurd (let f = e.off in cc);
+  follows = λ on. absurd (let f = e.off in cc);
+  idle = λ _. ap logged e.logs ∙ done.logged;
+}
+
+module _ (t : Table) (m m' m'' : Marker) (count : ℕ) (p : IsOver t m m') (e : IsExchanged m' m'') (counts : count ≡ marked_count m'.bitmaps.next) where
+  same_kept_after : (s g : Graph) (roots : List (Option ℕ)) → Shows g (heap_of t roots m) → KeepsSnapshot s (heap_of t roots m) (marking_of t m) → (a : ℕ)
+      → (heap_of t roots m'').kept a ≡ kept_after (heap_of t roots m) (marking_of t m') a
+  same_kept_after s g roots shows keeps a =
+      exchanged_kept t roots m' m'' a e
+      ∙ swap_kept s t m'.tams m'.bitmaps.previous m'.bitmaps.next m'.grey (logged m'.logs) roots (p.stands.newer p.running) (p.snapshots s g roots shows keeps) a
+      ∙ ap (λ (h : Heap). kept_after h (marking_of t m') a) (same_heap t roots m m' p.same)
+
+  module _ (s g : Graph) (roots : List (Option ℕ)) (shows : Shows g (heap_of t roots m)) (keeps : KeepsSnapshot s (heap_of t roots m) (marking_of t m)) where
+    abbrev h : Heap
+    h = heap_of t roots m
+
+    now : KeepsSnapshot s h (marking_of t m')
+    now = subst (λ (x : Heap). KeepsSnapshot s x (marking_of t m')) (same_heap t roots m m' p.same) (p.snapshots s g roots shows keeps)
+
+    kept_now : (a : ℕ) → (heap_of t roots m'').kept a ≡ kept_after h (marking_of t m') a
+    kept_now a = same_kept_after s g roots shows keeps a
+
+    ends : EndsMarking s g t roots m m'' count
+    ends = record {
+      exact = subst (λ (x : Marking). MarksExactly s h x) (sym (exchanged_marking t m' m'' e)) (exact s g h (marking_of t m') now p.done);
+      count = subst (λ (n : ℕ). IsReachableCount s n) (length-marked_from m'.bitmaps.next 0 ∙ sym counts) (counted s g h (marking_of t m') shows now p.done (marked_from 0 m'.bitmaps.next) (listed m'.bitmaps.next));
+      shows = same_shows g (record { kept = kept_after h (marking_of t m'); roots = roots }) (heap_of t roots m'') (shows_after s g h (marking_of t m') now p.done shows) (record { kept = kept_now; roots = refl });
+      all = λ n r. let (a, x, k, same) = reachable_kept s s h (marking_of t m') now p.done n r in (a, x, kept_now a ∙ k, same);
+      only = λ a x k. kept_or_new s g h (marking_of t m') now p.done a x (sym (kept_now a) ∙ k);
+    }
+
+  pub ends_exactly : EndsExactly t m m'' count
+  ends_exactly = record {
+    ends = λ s g roots shows keeps. ends s g roots shows keeps;
+    quiet = λ g roots shows keeps a x k. quiet_kept g (heap_of t roots m) (marking_of t m') (now g g roots shows keeps) p.done shows a x (sym (kept_now g g roots shows keeps a) ∙ k);
+  }

@@ -1,0 +1,9 @@
+pub mod Views
+pub mod Reached
+pub mod Scanned
+pub mod Marking
+pub mod Made
+pub mod Begun
+pub mod Logs
+pub mod Ended
+pub mod Samples

@@ -1,0 +1,146 @@
+-- Marks come, and marks still stand at kept objects.
+use Rattle.std.proofs.Common.{inl, inr, ◌≡◌, ◌⊎◌, ℕ, ◌+◌, ◌<◌, Bool, true, false, List, [], Option, Some, length, set, refl, sym, ap, ◌∙◌, subst, arith, get_or-set_same, get_or-set_other}
+use Rattle.std.specs.Prelude.{Contains, slice_get}
+use Rattle.std.proofs.lemmas.Bool.{cases_eq}
+use Rattle.heap_model.specs.Heap.{IsClosed}
+use Rattle.regions.specs.Table.{Table}
+use Rattle.mark_bitmap.specs.Marks.{is_marked}
+use Rattle.mark_bitmap.specs.Tops.{Tops, below_next, AreNewer}
+use Rattle.mark_bitmap.specs.Grey.{Scans, IsFinger}
+use Rattle.mark_bitmap.specs.Kept.{MarksObjects}
+use Rattle.mark_bitmap.proofs.ObjectLaws.{set_objects, within}
+use Rattle.satb_log.specs.Logs.{logged}
+use Rattle.marker.specs.Stands.{MarkerStands, IsKept}
+use Rattle.marker.specs.Steps.{SameRoles, IsAmong, MarksWanted}
+use Rattle.marker.specs.declared.marker.Marker.{Marker}
+use Rattle.marker.proofs.Views.{same_heap, kept_object, same_kept}
+
+-- more is marked and logs may lose addresses: marks stand, if what came is kept
+pub stands_step : (t : Table) (m m' : Marker) → MarkerStands t m → m.running ≡ true → SameRoles m m'
+    → length m'.grey.scanned ≡ length m.grey.scanned → length m'.logs ≡ length m.logs
+    → ((a : ℕ) → Contains (logged m'.logs) a → Contains (logged m.logs) a)
+    → MarksObjects t m.tams.next m'.bitmaps.next → IsFinger m'.bitmaps.next m'.grey
+    → ((a : ℕ) → is_marked m'.bitmaps.next a ≡ true → (is_marked m.bitmaps.next a ≡ true) ⊎ IsKept t m a)
+    → MarkerStands t m'
+stands_step t m m' st run same scanned len logs next finger came =
+    let f = st.follows run in
+    let tams : m.tams ≡ m'.tams = sym same.tams in
+    let kept : (a : ℕ) → IsKept t m a → IsKept t m' a = λ a. same_kept t m m' a same in
+    record {
+      previous = subst (λ (b : List Bool). MarksObjects t m'.tams.previous b) (sym same.previous) (subst (λ (x : Tops). MarksObjects t x.previous m.bitmaps.previous) tams st.previous);
+      next = subst (λ (x : Tops). MarksObjects t x.next m'.bitmaps.next) tams next;
+      scanned = scanned ∙ st.scanned ∙ st.next.each_word ∙ sym next.each_word;
+      finger = λ _. finger;
+      newer = λ _. subst AreNewer tams (st.newer run);
+      follows = λ _. record {
+        closed = subst IsClosed (sym (same_heap t [] m m' same)) f.closed;
+        marked = λ a k. kept a (elim (came a k) [ inl old ↦ f.marked a old | inr new ↦ new ]);
+        logged_kept = λ a l. kept a (f.logged_kept a (logs a l));
+        logged_below = λ a l. subst (λ (x : Tops). below_next t x a ≡ true) tams (f.logged_below a (logs a l));
+      };
+      idle = λ off. absurd (let e = same.running in cc);
+    }
+
+pub marked_set : (marks : List Bool) (a b : ℕ) → is_marked (set marks a true) b ≡ true → (is_marked marks b ≡ true) ⊎ (b ≡ a)
+marked_set marks a b k = elim (cases_eq b a) [ inl e ↦ inr e | inr e ↦ inl (sym (get_or-set_other marks a b true false e) ∙ k) ]
+
+pub set_stays : (marks : List Bool) (a b : ℕ) → a < length marks → is_marked marks b ≡ true → is_marked (set marks a true) b ≡ true
+set_stays marks a b h k = elim (cases_eq b a) [
+  | inl e ↦ rw e (get_or-set_same marks a true false h)
+  | inr e ↦ get_or-set_other marks a b true false e ∙ k
+]
+
+pub old_within : (t : Table) (m : Marker) (a : ℕ) → 0 < t.words_per_region → MarkerStands t m → below_next t m.tams a ≡ true → a < length m.bitmaps.next
+old_within t m a z st h = within t m.tams.next m.bitmaps.next a z st.next h
+
+-- the marker with other marks and another grey set
+abbrev pub with_next : Marker → List Bool → Scans → Marker
+with_next m n g = record { bitmaps = record { previous = m.bitmaps.previous; next = n }; tams = m.tams; grey = g; logs = m.logs; running = m.running }
+
+pub set_stands : (t : Table) (m : Marker) (a : ℕ) (n : List Bool) (g : Scans) → MarkerStands t m → m.running ≡ true
+    → below_next t m.tams a ≡ true → IsKept t m a → n ≡ set m.bitmaps.next a true → g.scanned ≡ m.grey.scanned
+    → IsFinger n g → MarkerStands t (with_next m n g)
+set_stands t m a n g st run below k e scanned finger =
+    let object = kept_object t m.tams m.bitmaps.previous a k.object k.is in
+    stands_step t m (with_next m n g) st run (record { previous = refl; tams = refl; running = refl }) (ap length scanned) refl (λ b l. l)
+    (subst (λ (b : List Bool). MarksObjects t m.tams.next b) (sym e) (set_objects t m.tams.next m.bitmaps.next a k.object st.next object below))
+    finger
+    (λ b h. elim (marked_set m.bitmaps.next a b (ap (λ (l : List Bool). is_marked l b) (sym e) ∙ h)) [ inl old ↦ inl old | inr same ↦ inr (subst (λ (x : ℕ). IsKept t m x) (sym same) k) ])
+
+pub set_marks : (t : Table) (m : Marker) (a : ℕ) (target : Option ℕ) (n : List Bool) (g : Scans) → target ≡ Some a → a < length m.bitmaps.next
+    → n ≡ set m.bitmaps.next a true → MarksWanted t (λ b. target ≡ Some b) m (with_next m n g)
+set_marks t m a target n g is h e =
+    let now : (b : ℕ) → is_marked n b ≡ is_marked (set m.bitmaps.next a true) b = λ b. ap (λ (l : List Bool). is_marked l b) e in
+    record {
+      stays = λ b k. now b ∙ set_stays m.bitmaps.next a b h k;
+      only = λ b k. elim (marked_set m.bitmaps.next a b (sym (now b) ∙ k)) [ inl old ↦ inl old | inr same ↦ inr (is ∙ ap Some (sym same)) ];
+      each = λ b w _. let same : b ≡ a = cc in now b ∙ rw same (get_or-set_same m.bitmaps.next a true false h);
+    }
+
+-- the wanted addresses that are old are marked, and nothing else has changed but the finger
+pub record Reached (t : Table) (wanted : ℕ → Type 0) (m m' : Marker) : Type 0 where
+  pub stands : MarkerStands t m'
+  pub marks : MarksWanted t wanted m m'
+  pub same : SameRoles m m'
+  pub scanned : m'.grey.scanned ≡ m.grey.scanned
+  pub logs : m'.logs ≡ m.logs
+
+pub none_reached : (t : Table) (wanted : ℕ → Type 0) (m : Marker) → MarkerStands t m → ((a : ℕ) → wanted a → ⊥) → Reached t wanted m m
+none_reached t wanted m st none = record {
+  stands = st;
+  marks = record { stays = λ a k. k; only = λ a k. inl k; each = λ a w. absurd (none a w) };
+  same = record { previous = refl; tams = refl; running = refl };
+  scanned = refl;
+  logs = refl;
+}
+
+pub same_trans : (m m' m'' : Marker) → SameRoles m m' → SameRoles m' m'' → SameRoles m m''
+same_trans m m' m'' p q = record {
+  previous = q.previous ∙ p.previous;
+  tams = q.tams ∙ p.tams;
+  running = q.running ∙ p.running;
+}
+
+pub more_reached : (t : Table) (first then both : ℕ → Type 0) (m m' m'' : Marker)
+    → ((a : ℕ) → both a → first a ⊎ then a) → ((a : ℕ) → first a → both a) → ((a : ℕ) → then a → both a)
+    → Reached t first m m' → Reached t then m' m'' → Reached t both m m''
+more_reached t first then both m m' m'' split left right p q = record {
+  stands = q.stands;
+  marks = record {
+    stays = λ a k. q.marks.stays a (p.marks.stays a k);
+    only = λ a k. elim (q.marks.only a k) [
+      | inr w ↦ inr (right a w)
+      | inl k' ↦ elim (p.marks.only a k') [ inl old ↦ inl old | inr w ↦ inr (left a w) ]
+    ];
+    each = λ a w below. elim (split a w) [
+      | inl w' ↦ q.marks.stays a (p.marks.each a w' below)
+      | inr w' ↦ q.marks.each a w' (subst (λ (x : Tops). below_next t x a ≡ true) (sym p.same.tams) below)
+    ];
+  };
+  same = same_trans m m' m'' p.same q.same;
+  scanned = q.scanned ∙ p.scanned;
+  logs = q.logs ∙ p.logs;
+}
+
+-- one word more
+pub among_split : (words : List (Option ℕ)) (n a : ℕ) (w : Option ℕ) → slice_get words n ≡ Some w → IsAmong words (n + 1) a → IsAmong words n a ⊎ (w ≡ Some a)
+among_split words n a w e i =
+    elim (cases_eq i.place n) [
+      | inl same ↦ inr (let f : slice_get words n ≡ Some (Some a) = ap (slice_get words) (sym same) ∙ i.is in cc)
+      | inr other ↦ inl (record { place = i.place; front = omega (arith, i.front, other); is = i.is })
+    ]
+
+pub among_left : (words : List (Option ℕ)) (n a : ℕ) → IsAmong words n a → IsAmong words (n + 1) a
+among_left words n a i = record { place = i.place; front = omega (arith, i.front); is = i.is }
+
+pub among_right : (words : List (Option ℕ)) (n a : ℕ) (w : Option ℕ) → slice_get words n ≡ Some w → w ≡ Some a → IsAmong words (n + 1) a
+among_right words n a w e f = record { place = n; front = omega arith; is = e ∙ ap Some f }
+
+pub among_none : (words : List (Option ℕ)) (a : ℕ) → IsAmong words 0 a → ⊥
+among_none words a i = omega (arith, i.front)
+
+pub among_more : (t : Table) (words : List (Option ℕ)) (n : ℕ) (w : Option ℕ) (m m' m'' : Marker) → slice_get words n ≡ Some w
+    → Reached t (IsAmong words n) m m' → Reached t (λ a. w ≡ Some a) m' m'' → Reached t (IsAmong words (n + 1)) m m''
+among_more t words n w m m' m'' e p q =
+    more_reached t (IsAmong words n) (λ a. w ≡ Some a) (IsAmong words (n + 1)) m m' m''
+    (λ a i. among_split words n a w e i) (λ a i. among_left words n a i) (λ a f. among_right words n a w e f) p q

@@ -1,0 +1,223 @@
+-- Tables that tests build: each pointer leads to an object.
+use Rattle.std.proofs.Common.{inl, inr, ◌≡◌, ◌≢◌, ℕ, zero, suc, ◌+◌, ◌-◌, ◌/◌, ◌%◌, ◌<◌, ◌≤◌, false, List, [], ◌∷◌, ◌++◌, Option, Some, None, length, get_or, set, replicate, refl, sym, ap, ◌∙◌, subst, arith, get_or-set_same, get_or-set_other, length-set}
+use Rattle.std.specs.Prelude.{slice_get}
+use Rattle.std.proofs.lemmas.Bool.{cases_lt, cases_eq}
+use Rattle.std.proofs.lemmas.Bool.Decides.{leb_tells}
+use Rattle.std.proofs.lemmas.List.{get_or-replicate, length-replicate, get_or_past}
+use Rattle.std.proofs.lemmas.Option.{slice_get_within, slice_get_read, get_or_from_slice_get}
+use Rattle.heap_model.specs.Heap.{Stored, IsClosed}
+use Rattle.regions.specs.Tiles.{Tile, Live, Gap, tile_size, tile_at}
+use Rattle.regions.specs.Table.{Region, Free, Table, region_tile, region_at, tile_in, tile_object, object_at, free_table, taken, first_free, set_pointer, push_tile, replace_tile, new_object, gap, used_of, top_of, kind_of, HasObject}
+use Rattle.regions.specs.declared.row.Kind.TheVariants as kinds
+use Rattle.regions.specs.Shaped.{IsShaped}
+use Rattle.regions.proofs.Fields.{with_pointer}
+use Rattle.regions.proofs.Changes.{WritesObject, pointer_put, object_same}
+use Rattle.regions.proofs.Placing.{region_taken, Pushed, gap_push, Replaces, gap_replaced}
+use Rattle.mark_bitmap.specs.Tops.{is_below, below_previous}
+use Rattle.marker.specs.Views.{heap_of}
+use Rattle.marker.specs.Stands.{IsKept}
+use Rattle.marker.specs.Samples.{IsLinked, LeadToObjects, Keeps}
+use Rattle.marker.specs.declared.marker.Marker.{Marker}
+
+free_region : (n k : ℕ) → get_or (replicate n Free) k Free ≡ Free
+free_region n k = elim (cases_lt k n) [ inl h ↦ get_or-replicate n k Free Free h | inr h ↦ get_or_past (replicate n Free) k Free (omega (arith, h, length-replicate {A = Region} n Free)) ]
+
+pub free_linked : (t : Table) (count size : ℕ) → t ≡ free_table count size → IsLinked t
+unfolding object_at tile_in region_at free_table
+free_linked t count size e a i b x o f =
+    let none : object_at t a ≡ None = ap (λ (u : Table). object_at u a) e ∙ ap (λ (r : Region). tile_object (region_tile r (a % size))) (free_region count (a / size)) in
+    absurd (cc)
+
+pub free_size : (t : Table) (count size : ℕ) → t ≡ free_table count size → (length t.regions ≡ count) × (t.words_per_region ≡ size)
+unfolding free_table
+free_size t count size e = (ap (λ (u : Table). length u.regions) e ∙ length-replicate count Free, ap (λ (u : Table). u.words_per_region) e)
+
+pub keeps_refl : (t : Table) → Keeps t t
+keeps_refl t = record { count = refl; size = refl; linked = λ l. l; stays = λ a o. o }
+
+pub keeps_trans : (t t' t'' : Table) → Keeps t t' → Keeps t' t'' → Keeps t t''
+keeps_trans t t' t'' p q = record { count = q.count ∙ p.count; size = q.size ∙ p.size; linked = λ l. q.linked (p.linked l); stays = λ a o. q.stays a (p.stays a o) }
+
+same_objects : (t t' : Table) → length t'.regions ≡ length t.regions → t'.words_per_region ≡ t.words_per_region → ((a : ℕ) → object_at t' a ≡ object_at t a) → Keeps t t'
+same_objects t t' count size same = record {
+  count = count;
+  size = size;
+  linked = λ l a i b x o f. let h = l a i b x (sym (same a) ∙ o) f in record { object = h.object; is = same b ∙ h.is };
+  stays = λ a h. record { object = h.object; is = same a ∙ h.is };
+}
+
+pub take_keeps : (t t' : Table) (o : Option ℕ) → first_free t ≡ o → t' ≡ taken t o → Keeps t t'
+take_keeps t t' None f e = subst (λ (u : Table). Keeps t u) (sym e) (keeps_refl t)
+take_keeps t t' (Some k) f e =
+    let p = region_taken t k f in
+    subst (λ (u : Table). Keeps t u) (sym e) (same_objects t (taken t (Some k)) p.count p.size (λ a. object_same t (taken t (Some k)) a (p.others a)))
+
+module _ (t : Table) (x i b : ℕ) (z : 0 < t.words_per_region) (from : HasObject t x) (to : HasObject t b) where
+  abbrev s : Stored
+  s = from.object
+
+  abbrev u : Table
+  u = set_pointer t x i (Some b)
+
+  w : WritesObject t u x s (with_pointer s i (Some b))
+  w = pointer_put t x i (Some b) s z from.is
+
+  link_stays : (a : ℕ) → HasObject t a → HasObject u a
+  link_stays a h = elim (cases_eq a x) [
+    | inl same ↦ record { object = with_pointer s i (Some b); is = ap (object_at u) same ∙ w.is }
+    | inr other ↦ record { object = h.object; is = object_same t u a (w.others a other) ∙ h.is }
+  ]
+
+  linked : IsLinked t → IsLinked u
+  linked l a j c y o f = elim (cases_eq a x) [
+    | inl same ↦
+        let y_is : y ≡ with_pointer s i (Some b) = let e1 = w.is in let e2 = sym (ap (object_at u) same) ∙ o in cc in
+        elim (cases_eq j i) [
+          | inl at ↦
+              let inside : j < length y.pointers = slice_get_within y.pointers j (Some c) f in
+              let inside' : i < length s.pointers = omega (arith, inside, at, ap (λ (q : Stored). length q.pointers) y_is, length-set s.pointers i (Some b)) in
+              let read : get_or y.pointers j None ≡ Some c = get_or_from_slice_get y.pointers j (Some c) None f in
+              let wrote : get_or (set s.pointers i (Some b)) j None ≡ Some b = ap (λ (k : ℕ). get_or (set s.pointers i (Some b)) k None) at ∙ get_or-set_same s.pointers i (Some b) None inside' in
+              let both : Some c ≡ Some b = sym read ∙ ap (λ (q : Stored). get_or q.pointers j None) y_is ∙ wrote in
+              let end : c ≡ b = cc in
+              subst (λ (k : ℕ). HasObject u k) (sym end) (link_stays b to)
+          | inr apart ↦
+              let inside : j < length y.pointers = slice_get_within y.pointers j (Some c) f in
+              let inside' : j < length s.pointers = omega (arith, inside, ap (λ (q : Stored). length q.pointers) y_is, length-set s.pointers i (Some b)) in
+              let read : get_or y.pointers j (Some c) ≡ Some c = get_or_from_slice_get y.pointers j (Some c) (Some c) f in
+              let was : get_or s.pointers j (Some c) ≡ Some c = sym (get_or-set_other s.pointers i j (Some b) (Some c) apart) ∙ sym (ap (λ (q : Stored). get_or q.pointers j (Some c)) y_is) ∙ read in
+              link_stays c (l x j c s from.is (slice_get_read s.pointers (length s.pointers) j (Some c) refl inside' (sym was)))
+        ]
+    | inr other ↦ link_stays c (l a j c y (sym (object_same t u a (w.others a other)) ∙ o) f)
+  ]
+
+  pub link_keeps : (t' : Table) → t' ≡ set_pointer t x i (Some b) → Keeps t t'
+  link_keeps t' e = subst (λ (v : Table). Keeps t v) (sym e) (record { count = w.count; size = w.size; linked = linked; stays = link_stays })
+
+nil_alone : (n i b : ℕ) → slice_get (replicate n None) i ≡ Some (Some b) → ⊥
+nil_alone n i b e =
+    let inside : i < n = let h = slice_get_within (replicate n None) i (Some b) e in omega (arith, h, length-replicate {A = Option ℕ} n None) in
+    let read : get_or (replicate n None) i None ≡ Some b = get_or_from_slice_get (replicate n None) i (Some b) None e in
+    let none : get_or (replicate n None) i None ≡ None = get_or-replicate {A = Option ℕ} n i None None inside in
+    cc
+
+pub nil_leads : (t : Table) (n : ℕ) → LeadToObjects t (replicate n None)
+nil_leads t n i a e = absurd (nil_alone n i a e)
+
+pub set_leads : (t : Table) (words : List (Option ℕ)) (k a : ℕ) → LeadToObjects t words → HasObject t a → LeadToObjects t (set words k (Some a))
+set_leads t words k a l h i b e =
+    let inside : i < length words = let p = slice_get_within (set words k (Some a)) i (Some b) e in omega (arith, p, length-set words k (Some a)) in
+    let read : get_or (set words k (Some a)) i (Some b) ≡ Some b = get_or_from_slice_get (set words k (Some a)) i (Some b) (Some b) e in
+    elim (cases_eq i k) [
+      | inl same ↦
+          let wrote : get_or (set words k (Some a)) i (Some b) ≡ Some a = ap (λ (j : ℕ). get_or (set words k (Some a)) j (Some b)) same ∙ get_or-set_same words k (Some a) (Some b) (omega (arith, inside, same)) in
+          let end : b ≡ a = cc in subst (λ (x : ℕ). HasObject t x) (sym end) h
+      | inr other ↦ l i b (slice_get_read words (length words) i (Some b) refl inside (sym (sym (get_or-set_other words k i (Some a) (Some b) other) ∙ read)))
+    ]
+
+-- a marker just made keeps every object
+pub linked_closed : (t : Table) (roots : List (Option ℕ)) (m : Marker) → IsLinked t → LeadToObjects t roots → ((a : ℕ) → below_previous t m.tams a ≡ false) → IsClosed (heap_of t roots m)
+linked_closed t roots m linked leads none =
+    let kept : (a : ℕ) → (heap_of t roots m).kept a ≡ object_at t a = λ a. rw (none a) refl in
+    record {
+      root = λ j a e. let h = leads j a e in (h.object, kept a ∙ h.is);
+      field = λ b i a y e f. let h = linked b i a y (sym (kept b) ∙ e) f in (h.object, kept a ∙ h.is);
+    }
+
+alone : (t : Tile) (j : ℕ) → 0 < j → tile_at j (t ∷ []) ≡ None
+alone t zero h = absurd (omega arith)
+alone t (suc j) h = elim (leb_tells (tile_size t) (suc j)) [ inl q ↦ rw q.0 refl | inr q ↦ rw q.0 refl ]
+
+-- an object with nil pointers is made where a filler was pushed
+module _ (t t' t'' : Table) (k a n p name : ℕ) (shape : IsShaped t) (shape' : IsShaped t') (known : k < length t.regions) (ordinary : kind_of t k ≡ kinds.Ordinary)
+    (room : used_of t k + n ≤ t.words_per_region) (size : n ≡ 2 + p) (at : a ≡ top_of t k) (e : t' ≡ push_tile t k (Gap n))
+    (e' : t'' ≡ replace_tile t' a (Live (new_object name p 0) ∷ gap (n - (2 + p + 0)))) where
+  abbrev new : Stored
+  new = new_object name p 0
+
+  push : Pushed t t' k a (Gap n)
+  push = rw (e, at) (gap_push t k (Gap n) shape.positive shape.fitting known ordinary (omega (arith, size)) room tt)
+
+  whole : n - (2 + p + 0) ≡ 0
+  whole = omega (arith, size)
+
+  words : tile_size (Live new) ≡ n
+  words = omega (arith, size, length-replicate {A = Option ℕ} p None)
+
+  replaced : Replaces t' t'' a n (Live new ∷ [])
+  replaced =
+      let e2 : t'' ≡ replace_tile t' a (Live new ∷ []) = e' ∙ ap (λ (m : ℕ). replace_tile t' a (Live new ∷ gap m)) whole in
+      subst (λ (u : Table). Replaces t' u a n (Live new ∷ [])) (sym e2)
+      (gap_replaced t' a n (Live new ∷ []) shape'.positive shape'.fitting push.is (omega (arith, size)) (omega (arith, words), tt) (omega (arith, words)) tt)
+
+  here : tile_in t'' a ≡ Some (Live new)
+  here = let z : a + 0 ≡ a = omega arith in ap (tile_in t'') (sym z) ∙ replaced.within 0 (omega (arith, size))
+
+  new_is : object_at t'' a ≡ Some new
+  unfolding object_at
+  new_is = ap tile_object here
+
+  middle : (y : ℕ) → y ≢ a → tile_in t'' y ≡ tile_in t' y
+  middle y apart = elim (cases_lt y a) [
+    | inl low ↦ replaced.others y (inl low)
+    | inr high ↦ elim (cases_lt y (a + n)) [
+      | inl inside ↦
+          let j : ℕ = y - a in
+          let y_is : a + j ≡ y = omega (arith, high) in
+          ap (tile_in t'') (sym y_is) ∙ replaced.within j (omega (arith, high, inside)) ∙ alone (Live new) j (omega (arith, high, apart))
+          ∙ sym (replaced.inside j (omega (arith, high, apart)) (omega (arith, high, inside))) ∙ ap (tile_in t') y_is
+      | inr past ↦ replaced.others y (inr past)
+    ]
+  ]
+
+  -- another object was there before, or there is none
+  other : (y : ℕ) → y ≢ a → object_at t'' y ≡ object_at t y
+  unfolding object_at
+  other y apart = ap tile_object (middle y apart ∙ push.others y apart)
+
+  was : object_at t a ≡ None
+  unfolding object_at
+  was = ap tile_object push.was
+
+  add_stays : (y : ℕ) → HasObject t y → HasObject t'' y
+  add_stays y h = elim (cases_eq y a) [
+    | inl same ↦ absurd (let o = sym (ap (object_at t) same) ∙ h.is in let w = was in cc)
+    | inr apart ↦ record { object = h.object; is = other y apart ∙ h.is }
+  ]
+
+  pub add_keeps : Keeps t t''
+  add_keeps = record {
+    count = replaced.count ∙ push.count;
+    size = replaced.size ∙ push.size;
+    linked = λ l y i b x o f. elim (cases_eq y a) [
+      | inl same ↦
+          let x_is : x ≡ new = let m = new_is in let o' = sym (ap (object_at t'') same) ∙ o in cc in
+          absurd (nil_alone p i b (ap (λ (q : Stored). slice_get q.pointers i) (sym x_is) ∙ f))
+      | inr apart ↦ add_stays b (l y i b x (sym (other y apart) ∙ o) f)
+    ];
+    stays = add_stays;
+  }
+
+  pub add_made : HasObject t'' a
+  add_made = record { object = new; is = new_is }
+
+pub add_there : (t t' : Table) (k a n : ℕ) → IsShaped t → k < length t.regions → kind_of t k ≡ kinds.Ordinary → used_of t k + n ≤ t.words_per_region → 0 < n → a ≡ top_of t k
+    → t' ≡ push_tile t k (Gap n) → tile_in t' a ≡ Some (Gap n)
+add_there t t' k a n shape known ordinary room z at e = rw (e, at) (gap_push t k (Gap n) shape.positive shape.fitting known ordinary z room tt).is
+
+pub each_push : (P : ℕ → Type 0) (items : List ℕ) (b : ℕ) → ((i a : ℕ) → slice_get items i ≡ Some a → P a) → P b → (i a : ℕ) → slice_get (items ++ b ∷ []) i ≡ Some a → P a
+each_push P [] b all p zero a e = let same : b ≡ a = cc in subst P same p
+each_push P [] b all p (suc i) a e = cc
+each_push P (x ∷ xs) b all p zero a e = all zero a e
+each_push P (x ∷ xs) b all p (suc i) a e = each_push P xs b (λ j c. all (suc j) c) p i a e
+
+pub objects_push : (t t' : Table) (items now : List ℕ) (b : ℕ) → Keeps t t' → HasObject t' b → now ≡ items ++ b ∷ [] → ((i a : ℕ) → slice_get items i ≡ Some a → HasObject t a) → (i a : ℕ) → slice_get now i ≡ Some a → HasObject t' a
+objects_push t t' items now b k h e all i a f = each_push (HasObject t') items b (λ j c g. k.stays c (all j c g)) h i a (ap (λ (l : List ℕ). slice_get l i) (sym e) ∙ f)
+
+pub object_read : (t : Table) (items : List ℕ) (n i a : ℕ) → n ≡ length items → i < n → a ≡ get_or items i a → ((i a : ℕ) → slice_get items i ≡ Some a → HasObject t a) → HasObject t a
+object_read t items n i a len inside e all = all i a (slice_get_read items n i a len inside e)
+
+pub object_kept : (t : Table) (m m' : Marker) (a : ℕ) → ((b : ℕ) → below_previous t m.tams b ≡ false) → m'.tams.previous ≡ m.tams.previous → HasObject t a → IsKept t m' a
+object_kept t m m' a none tops h =
+    let below : below_previous t m'.tams a ≡ false = ap (λ (l : List ℕ). is_below t.words_per_region l a) tops ∙ none a in
+    record { object = h.object; is = rw below h.is }

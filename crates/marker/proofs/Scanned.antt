@@ -1,0 +1,92 @@
+-- A scan is a part of marking that keeps the snapshot invariant.
+use Rattle.std.proofs.Common.{inl, inr, ◌≡◌, ℕ, Bool, true, false, not, List, Option, Some, length, set, refl, sym, ap, ◌∙◌, subst, length-set}
+use Rattle.std.specs.Prelude.{Contains, slice_get, ◌&&◌}
+use Rattle.std.proofs.lemmas.Option.{slice_get_within}
+use Rattle.heap_model.specs.Graph.{IsReachable, next_name}
+use Rattle.heap_model.specs.Heap.{Heap}
+use Rattle.heap_model.specs.Marking.{KeepsSnapshot, MarksMore}
+use Rattle.heap_model.proofs.Marks.{marks_more}
+use Rattle.regions.specs.Table.{Table, pointers_at}
+use Rattle.mark_bitmap.specs.Marks.{is_marked}
+use Rattle.mark_bitmap.specs.Tops.{Tops, below_next}
+use Rattle.mark_bitmap.specs.Grey.{Scans, IsFinger, is_grey}
+use Rattle.satb_log.specs.Logs.{logged}
+use Rattle.marker.specs.Views.{heap_of, marking_of}
+use Rattle.marker.specs.Stands.{MarkerStands, CanFollow, IsKept}
+use Rattle.marker.specs.Steps.{KeepsSnapshots, SameRoles, IsAmong}
+use Rattle.marker.specs.declared.marker.Marker.{Marker}
+use Rattle.marker.proofs.Views.{same_heap, kept_object, object_pointers_at}
+use Rattle.marker.proofs.Reached.{Reached, stands_step, marked_set}
+
+pub same_snapshots : (t : Table) (m m' : Marker) → SameRoles m m'
+    → ((roots : List (Option ℕ)) → MarksMore (heap_of t roots m) (marking_of t m) (marking_of t m')) → KeepsSnapshots t m m'
+same_snapshots t m m' same more = λ s g roots shows keeps.
+    subst (λ (h : Heap). KeepsSnapshot s h (marking_of t m')) (sym (same_heap t roots m m' same))
+    (marks_more (IsReachable s) (next_name s) g (heap_of t roots m) (marking_of t m) (marking_of t m') shows keeps (more roots))
+
+both_true : (a b : Bool) → (a && not b) ≡ true → (a ≡ true) × (b ≡ false)
+both_true true false e = (refl, refl)
+both_true true true e = cc
+both_true false b e = cc
+
+pub grey_is : (marks : List Bool) (g : Scans) (a : ℕ) → is_grey marks g a ≡ true → (is_marked marks a ≡ true) × (is_marked g.scanned a ≡ false)
+grey_is marks g a e = both_true (is_marked marks a) (is_marked g.scanned a) e
+
+abbrev pub with_grey : Marker → Scans → Marker
+with_grey m g = record { bitmaps = m.bitmaps; tams = m.tams; grey = g; logs = m.logs; running = m.running }
+
+-- where a pointer of a marked object leads is kept
+pub target_kept : (t : Table) (m : Marker) (object place a : ℕ) → CanFollow t m → is_marked m.bitmaps.next object ≡ true
+    → slice_get (pointers_at t object) place ≡ Some (Some a) → IsKept t m a
+target_kept t m object place a f marked e =
+    let k = f.marked object marked in
+    let pointers = object_pointers_at t object k.object (kept_object t m.tams m.bitmaps.previous object k.object k.is) in
+    let found = f.closed.field object place a k.object k.is (rw pointers at e) in
+    record { object = found.0; is = found.1 }
+
+abbrev pub all_pointers : Table → ℕ → ℕ → Type 0
+all_pointers t object = IsAmong (pointers_at t object) (length (pointers_at t object))
+
+pub scan_stands : (t : Table) (m m' : Marker) (object : ℕ) (g : Scans) → m.running ≡ true → Reached t (all_pointers t object) m m'
+    → g.scanned ≡ set m'.grey.scanned object true → IsFinger m'.bitmaps.next g → MarkerStands t (with_grey m' g)
+scan_stands t m m' object g run p scanned finger =
+    stands_step t m' (with_grey m' g) p.stands (p.same.running ∙ run) (record { previous = refl; tams = refl; running = refl })
+    (ap length scanned ∙ length-set m'.grey.scanned object true) refl (λ a l. l) p.stands.next finger (λ a k. inl k)
+
+scan_more : (t : Table) (m m' : Marker) (object : ℕ) (g : Scans) (roots : List (Option ℕ)) → MarkerStands t m → m.running ≡ true
+    → is_grey m.bitmaps.next m.grey object ≡ true → Reached t (all_pointers t object) m m'
+    → g.scanned ≡ set m'.grey.scanned object true → MarksMore (heap_of t roots m) (marking_of t m) (marking_of t (with_grey m' g))
+scan_more t m m' object g roots st run grey p scanned =
+    let is = grey_is m.bitmaps.next m.grey object grey in
+    let k = (st.follows run).marked object is.0 in
+    let pointers = object_pointers_at t object k.object (kept_object t m.tams m.bitmaps.previous object k.object k.is) in
+    let old_same : (a : ℕ) → below_next t m'.tams a ≡ below_next t m.tams a = λ a. ap (λ (x : Tops). below_next t x a) p.same.tams in
+    record {
+      old = old_same;
+      marked = p.marks.stays;
+      newly_marked = λ a marked. elim (p.marks.only a marked) [
+        | inl was ↦ inl was
+        | inr w ↦ inr (inr (record {
+          from = object;
+          marked = is.0;
+          grey = is.1;
+          points = record { object = k.object; at = k.is; field = w.place; is = rw pointers at w.is };
+          old = sym (old_same a) ∙ p.stands.next.below a marked;
+        }))
+      ];
+      newly_scanned = λ a now. elim (marked_set m'.grey.scanned object a (ap (λ (l : List Bool). is_marked l a) (sym scanned) ∙ now)) [
+        | inl was ↦ inl (ap (λ (l : List Bool). is_marked l a) (sym p.scanned) ∙ was)
+        | inr same ↦ inr (λ b q old.
+            let object_is : q.object ≡ k.object = let e = q.at in let f = k.is in let h : heap_of t roots m ≡ heap_of t roots m = refl in let e' : Some q.object ≡ Some k.object = sym e ∙ ap (λ (x : ℕ). (heap_of t roots m).kept x) same ∙ f in cc in
+            let place : slice_get (pointers_at t object) q.field ≡ Some (Some b) = rw pointers (ap (λ (x : _). slice_get x.pointers q.field) (sym object_is) ∙ q.is) in
+            p.marks.each b (record { place = q.field; front = slice_get_within (pointers_at t object) q.field (Some b) place; is = place }) old)
+      ];
+      taken = λ a l. inr (subst (λ (ls : List (List ℕ)). Contains (logged ls) a) (sym p.logs) l);
+      logged = λ a l. subst (λ (ls : List (List ℕ)). Contains (logged ls) a) p.logs l;
+    }
+
+pub scan_keeps : (t : Table) (m m' : Marker) (object : ℕ) (g : Scans) → MarkerStands t m → m.running ≡ true
+    → is_grey m.bitmaps.next m.grey object ≡ true → Reached t (all_pointers t object) m m'
+    → g.scanned ≡ set m'.grey.scanned object true → KeepsSnapshots t m (with_grey m' g)
+scan_keeps t m m' object g st run grey p scanned =
+    same_snapshots t m (with_grey m' g) (record { previous = p.same.previous; tams = p.same.tams; running = p.same.running }) (λ roots. scan_more t m m' object g roots st run grey p scanned)

@@ -1,0 +1,9 @@
+use Rattle.std.proofs.Common.{arith}
+use Rattle.marker.proofs.Logs.{one_taken}
+use Rattle.marker.proofs.marker.Marker.take_logs.Goals as goal
+
+pub loop-mutator-preserved : goal.loop-mutator-preserved
+loop-mutator-preserved c =
+    let q = c.take_log.ensures in
+    one_taken c.args.table.now c.args.self.now c.loop-mutator.self c.take_log.new.self c.loop-mutator.mutator c.loop-mutator.invariant
+    (omega (arith, c.loop-mutator-test.true, c.mutators-mutator-end.ensures, c.loop-mutator.invariant.len)) q.stands q.snapshots q.emptied q.same

@@ -1,0 +1,5 @@
+use Rattle.marker.specs.Samples.{LeadToObjects}
+use Rattle.marker.proofs.tests.roots_of.Given as goal
+
+abbrev pub invariant-loop-place : goal.invariant-loop-place
+invariant-loop-place l = LeadToObjects l.made.table l.roots.items

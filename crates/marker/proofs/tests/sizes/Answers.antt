@@ -1,0 +1,11 @@
+use Rattle.std.proofs.Common.{refl, arith}
+use Rattle.marker.proofs.tests.sizes.Goals as goal
+
+pub returns-clause-suits : goal.returns-clause-suits
+unfolding lib.Count.ones
+returns-clause-suits c = record {
+  regions = record { at_least = omega arith; at_most = omega arith };
+  words = record { power = refl; at_least = omega arith; at_most = omega arith; in_all = omega arith };
+  buffer = record { at_least = omega arith; at_most = omega arith };
+  mutators = record { at_least = omega arith; at_most = omega arith };
+}

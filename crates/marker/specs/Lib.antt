@@ -1,0 +1,5 @@
+pub mod Views
+pub mod Stands
+pub mod Steps
+pub mod Ends
+pub mod Samples

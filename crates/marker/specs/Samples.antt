@@ -1,0 +1,19 @@
+-- What the tests keep of the tables that they build.
+use Rattle.std.specs.Prelude.{◌≡◌, ℕ, List, length, Option, Some, slice_get}
+use Rattle.heap_model.specs.Heap.{Stored}
+use Rattle.regions.specs.Table.{Table, object_at, HasObject}
+
+-- each pointer of an object is nil or leads to an object
+abbrev pub IsLinked : Table → Type 0
+IsLinked t = (a i b : ℕ) (x : Stored) → object_at t a ≡ Some x → slice_get x.pointers i ≡ Some (Some b) → HasObject t b
+
+-- each word is nil or leads to an object
+abbrev pub LeadToObjects : Table → List (Option ℕ) → Type 0
+LeadToObjects t words = (i a : ℕ) → slice_get words i ≡ Some (Some a) → HasObject t a
+
+-- the table is as large as before, still linked, and its objects stay
+pub record Keeps (t t' : Table) : Type 0 where
+  pub count : length t'.regions ≡ length t.regions
+  pub size : t'.words_per_region ≡ t.words_per_region
+  pub linked : IsLinked t → IsLinked t'
+  pub stays : (a : ℕ) → HasObject t a → HasObject t' a

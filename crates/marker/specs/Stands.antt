@@ -1,0 +1,35 @@
+-- What a marker has to do with the table that it marks.
+use Rattle.std.specs.Prelude.{◌≡◌, ℕ, true, false, [], length, Some, Contains}
+use Rattle.heap_model.specs.Heap.{Stored, IsClosed}
+use Rattle.regions.specs.Table.{Table}
+use Rattle.mark_bitmap.specs.Marks.{is_marked}
+use Rattle.mark_bitmap.specs.Tops.{below_next, AreNewer}
+use Rattle.mark_bitmap.specs.Grey.{IsFinger}
+use Rattle.mark_bitmap.specs.Kept.{MarksObjects, kept_in}
+use Rattle.satb_log.specs.Logs.{logged}
+use Rattle.marker.specs.Views.{heap_of}
+use Rattle.marker.specs.declared.marker.Marker.{Marker}
+
+-- a kept object starts at the address
+pub record IsKept (t : Table) (m : Marker) (a : ℕ) : Type 0 where
+  pub object : Stored
+  pub is : kept_in t m.tams m.bitmaps.previous a ≡ Some object
+
+-- marking can follow every pointer: those of kept objects lead to kept objects, what is marked is kept, and what is
+-- logged is kept and lies below the next tops. This holds wherever the heap shows a graph and marking keeps a snapshot
+pub record CanFollow (t : Table) (m : Marker) : Type 0 where
+  pub closed : IsClosed (heap_of t [] m)
+  pub marked : (a : ℕ) → is_marked m.bitmaps.next a ≡ true → IsKept t m a
+  pub logged_kept : (a : ℕ) → Contains (logged m.logs) a → IsKept t m a
+  pub logged_below : (a : ℕ) → Contains (logged m.logs) a → below_next t m.tams a ≡ true
+
+-- marks of both roles stand at objects below their tops, no grey object starts below the finger, and while marking
+-- runs no next top lies below the previous one and it can follow every pointer; while it doesn't, nothing is logged
+pub record MarkerStands (t : Table) (m : Marker) : Type 0 where
+  pub previous : MarksObjects t m.tams.previous m.bitmaps.previous
+  pub next : MarksObjects t m.tams.next m.bitmaps.next
+  pub scanned : length m.grey.scanned ≡ length m.bitmaps.next
+  pub finger : m.running ≡ true → IsFinger m.bitmaps.next m.grey
+  pub newer : m.running ≡ true → AreNewer m.tams
+  pub follows : m.running ≡ true → CanFollow t m
+  pub idle : m.running ≡ false → logged m.logs ≡ []

@@ -1,0 +1,172 @@
+//! The beginning of marking, deletion logs, and its end.
+
+ghost use Rattle.std.specs.Prelude.{◌≡◌, ◌≢◌, ℕ, ◌<◌, ◌==◌, List, [], Bool, true, false, Option, Some, Contains, length, replicate, slice_index, slice_set};
+ghost use Rattle.heap_model.specs.Graph.{Graph};
+ghost use Rattle.heap_model.specs.Heap.{Shows, IsClosed};
+ghost use Rattle.heap_model.specs.Marking.{KeepsSnapshot, Begins, IsSaved};
+ghost use Rattle.regions.specs.Table.{Table, top_of};
+ghost use Rattle.mark_bitmap.specs.Marks.{is_marked, marked_count};
+ghost use Rattle.mark_bitmap.specs.Tops.{exchanged};
+ghost use Rattle.satb_log.specs.Logs.{log_of};
+ghost use Rattle.marker.specs.Views.{heap_of, marking_of};
+ghost use Rattle.marker.specs.Stands.{MarkerStands, IsKept};
+ghost use Rattle.marker.specs.Ends.{EndsExactly};
+ghost use Rattle.marker.specs.Steps.{KeepsSnapshots, SameRoles, MarksWanted};
+
+use crate::marker::Marker;
+use heap_words::addr::{Ptr, RegionNo};
+use mark_bitmap::marks::count_marked;
+use mark_bitmap::tams::Tams;
+use regions::RegionTable;
+use satb_log::log::DeletionLog;
+
+/// The next top of each region becomes its present top.
+fn set_tops(tams: &mut Tams, table: &RegionTable)
+    requires { length tams.old.next ≡ length table.now.regions }
+    ensures tops { (k : ℕ) → k < length table.now.regions → slice_index tams.new.next k ≡ top_of table.now k }
+    ensures len { length tams.new.next ≡ length tams.old.next }
+    ensures previous { tams.new.previous ≡ tams.old.previous }
+{
+    for number in 0..table.region_count() {
+        let region = RegionNo::new(number);
+        tams.set_next(region, table.top(region));
+    }
+}
+
+impl Marker {
+    /// Marking begins with nothing marked: all that is there is old.
+    fn start(&mut self, table: &RegionTable)
+        requires stands { MarkerStands table.now self.old }
+        requires idle { self.old.running ≡ false }
+        requires closed { IsClosed (heap_of table.now [] self.old) }
+        ensures stands { MarkerStands table.now self.new }
+        ensures running { self.new.running ≡ true }
+        ensures unmarked { (a : ℕ) → is_marked self.new.bitmaps.next a ≡ false }
+        ensures unscanned { (a : ℕ) → is_marked self.new.grey.scanned a ≡ false }
+        ensures tops { (k : ℕ) → k < length table.now.regions → slice_index self.new.tams.next k ≡ top_of table.now k }
+        ensures previous_tops { self.new.tams.previous ≡ self.old.tams.previous }
+        ensures previous_marks { self.new.bitmaps.previous ≡ self.old.bitmaps.previous }
+        ensures logs { self.new.logs ≡ self.old.logs }
+    {
+        self.bitmaps.next.clear();
+        self.grey.clear();
+        set_tops(&mut self.tams, table);
+        self.running = true;
+    }
+
+    /// Marking begins: what is there is old, and each object that a root names is marked and grey.
+    pub fn begin(&mut self, table: &RegionTable, roots: &[Ptr])
+        requires stands { MarkerStands table.now self.old }
+        requires idle { self.old.running ≡ false }
+        requires closed { IsClosed (heap_of table.now roots.now self.old) }
+        ensures stands { MarkerStands table.now self.new }
+        ensures running { self.new.running ≡ true }
+        ensures begins { Begins (heap_of table.now roots.now self.new) (marking_of table.now self.new) }
+        ensures snapshot { (g : Graph) → Shows g (heap_of table.now roots.now self.old) → KeepsSnapshot g (heap_of table.now roots.now self.new) (marking_of table.now self.new) }
+        ensures tops { (k : ℕ) → k < length table.now.regions → slice_index self.new.tams.next k ≡ top_of table.now k }
+        ensures previous_tops { self.new.tams.previous ≡ self.old.tams.previous }
+        ensures previous_marks { self.new.bitmaps.previous ≡ self.old.bitmaps.previous }
+        ensures logs { self.new.logs ≡ self.old.logs }
+    {
+        table.law();
+        self.start(table);
+        for root in roots {
+            self.reach(table, *root);
+        }
+    }
+
+    /// Marks what a log names.
+    fn reach_all(&mut self, table: &RegionTable, log: &DeletionLog)
+        requires stands { MarkerStands table.now self.old }
+        requires running { self.old.running ≡ true }
+        requires kept { (a : ℕ) → Contains log.now a → IsKept table.now self.old a }
+        ensures stands { MarkerStands table.now self.new }
+        ensures marks { MarksWanted table.now (Contains log.now) self.old self.new }
+        ensures same { SameRoles self.old self.new }
+        ensures scanned { self.new.grey.scanned ≡ self.old.grey.scanned }
+        ensures logs { self.new.logs ≡ self.old.logs }
+    {
+        for place in 0..log.len() {
+            self.reach(table, Some(log.get(place)));
+        }
+    }
+
+    /// Saves what a pointer held before it is overwritten: its address enters the mutator's log, if it was there when
+    /// marking began. Whether the log is full now, so that it has to be taken before the next one is saved.
+    pub fn save(&mut self, table: &RegionTable, mutator: u32, overwritten: Ptr) -> bool
+        requires stands { MarkerStands table.now self.old }
+        requires running { self.old.running ≡ true }
+        requires known { mutator < length self.old.logs }
+        requires room { length (log_of self.old.logs mutator) < 8 }
+        requires kept { (a : ℕ) → overwritten ≡ Some a → IsKept table.now self.old a }
+        ensures stands { MarkerStands table.now self.new }
+        ensures saved { IsSaved (marking_of table.now self.old) (marking_of table.now self.new) overwritten }
+        ensures full { result ≡ (length (log_of self.new.logs mutator) == 8) }
+        ensures others { (other : ℕ) → other ≢ mutator → log_of self.new.logs other ≡ log_of self.old.logs other }
+        ensures same { SameRoles self.old self.new }
+        ensures mutators { length self.new.logs ≡ length self.old.logs }
+    {
+        let Some(at) = overwritten else {
+            return false;
+        };
+        table.law();
+        if !self.tams.is_below_next(table.words_per_region(), at) {
+            return false;
+        }
+        self.logs.log(mutator, at)
+    }
+
+    /// Takes a mutator's log, which is empty afterwards: what was logged is marked.
+    pub fn take_log(&mut self, table: &RegionTable, mutator: u32)
+        requires stands { MarkerStands table.now self.old }
+        requires running { self.old.running ≡ true }
+        requires known { mutator < length self.old.logs }
+        ensures stands { MarkerStands table.now self.new }
+        ensures snapshots { KeepsSnapshots table.now self.old self.new }
+        ensures marks { MarksWanted table.now (Contains (log_of self.old.logs mutator)) self.old self.new }
+        ensures emptied { self.new.logs ≡ slice_set self.old.logs mutator [] }
+        ensures scanned { self.new.grey.scanned ≡ self.old.grey.scanned }
+        ensures same { SameRoles self.old self.new }
+    {
+        let log = self.logs.drain(mutator);
+        self.reach_all(table, &log);
+    }
+
+    /// Takes the logs of all mutators.
+    fn take_logs(&mut self, table: &RegionTable)
+        requires stands { MarkerStands table.now self.old }
+        requires running { self.old.running ≡ true }
+        ensures stands { MarkerStands table.now self.new }
+        ensures snapshots { KeepsSnapshots table.now self.old self.new }
+        ensures emptied { (mutator : ℕ) → mutator < length self.new.logs → log_of self.new.logs mutator ≡ [] }
+        ensures len { length self.new.logs ≡ length self.old.logs }
+        ensures same { SameRoles self.old self.new }
+    {
+        for mutator in 0..self.logs.mutators() {
+            self.take_log(table, mutator);
+        }
+    }
+
+    /// Marking ends: all logs are taken, all grey objects scanned, and the next marks and tops become the previous
+    /// ones. The result is how many objects are marked.
+    pub fn finish(&mut self, table: &RegionTable) -> u32
+        requires stands { MarkerStands table.now self.old }
+        requires running { self.old.running ≡ true }
+        ensures stands { MarkerStands table.now self.new }
+        ensures over { self.new.running ≡ false }
+        ensures exact { EndsExactly table.now self.old self.new result }
+        ensures count { result ≡ marked_count self.new.bitmaps.previous }
+        ensures tops { self.new.tams ≡ exchanged self.old.tams }
+        ensures marks { self.new.bitmaps.next ≡ self.old.bitmaps.previous }
+        ensures mutators { length self.new.logs ≡ length self.old.logs }
+    {
+        table.law();
+        self.take_logs(table);
+        self.mark(table, u32::MAX);
+        let count = count_marked(&self.bitmaps.next);
+        self.bitmaps.swap_roles();
+        self.tams.swap_roles();
+        self.running = false;
+        count
+    }
+}

@@ -1,0 +1,35 @@
+//! Marking from a snapshot: which objects were reachable when marking began.
+//!
+//! A `Marker` holds what marking knows beside the table of regions and the root words, which its calls are passed:
+//! the marks and the tops at mark start of both roles, the grey objects, and the mutators' deletion logs. What is old
+//! was there when marking began: it lies below its region's next top. Only old objects are marked.
+//!
+//! ```text
+//!             begin                     mark, scan               finish
+//!   idle ---------------> running ---------------------+ ------------------> idle, and the next marks and tops
+//!             next marks cleared;       a grey object's |      all logs are     are the previous ones
+//!             what roots name is        old targets are |      taken, all
+//!             marked and grey           marked and grey |      grey scanned
+//!                              ^-----------------------+
+//!                              | save     a store's overwritten pointer enters its mutator's log
+//!                              | take_log what a log names is marked
+//! ```
+//!
+//! What is promised, for every graph that the heap shows and every snapshot: `begin` makes the present graph the
+//! snapshot; each further call keeps the snapshot invariant; and after `finish` the marked names are exactly those that
+//! were reachable in the snapshot, the answer is their number, and what is kept from then on still shows the graph. Each
+//! object is scanned once in a cycle: a scan takes a grey object, and leaves it scanned.
+//!
+//! A scan costs the object's pointers, `begin` the bitmap, the regions and the roots, and no call walks a region. No
+//! call takes memory but `Marker::new`.
+#![tactic(auto)]
+
+mod cycle;
+pub mod laws;
+pub mod marker;
+mod scan;
+
+pub use marker::Marker;
+
+#[cfg(test)]
+mod tests;

@@ -1,0 +1,50 @@
+//! The marker: what marking knows, and how it is made.
+
+ghost use Rattle.std.specs.Prelude.{◌≡◌, ℕ, [], false, IfOk, length, replicate};
+ghost use Rattle.heap_words.specs.Configs.{Suits};
+ghost use Rattle.regions.specs.Table.{Table};
+ghost use Rattle.mark_bitmap.specs.Tops.{below_previous};
+ghost use Rattle.marker.specs.Stands.{MarkerStands};
+
+use heap_words::config::Config;
+use mark_bitmap::bitmaps::Bitmaps;
+use mark_bitmap::grey::Grey;
+use mark_bitmap::tams::Tams;
+use satb_log::logs::DeletionLogs;
+use std::alloc::{AllocError, Global};
+
+/// What marking knows beside the table and the root words. `MarkerStands` says what it has to do with the table.
+#[derive(Drop)]
+pub struct Marker {
+    /// The marks of the marking that is over, and of the one that runs or comes.
+    pub bitmaps: Bitmaps,
+    /// The tops at mark start that belong to them.
+    pub tams: Tams,
+    /// Which objects are scanned, while marking runs.
+    pub grey: Grey,
+    /// A deletion log for each mutator. Nothing is logged while marking doesn't run.
+    pub logs: DeletionLogs,
+    /// Whether marking runs.
+    pub running: bool,
+}
+
+impl Marker {
+    /// A marker for a heap of these sizes: it doesn't run, nothing is marked, and every object is kept. No call takes
+    /// memory afterwards.
+    pub fn new(alloc: Global, config: &Config) -> Result<Marker, AllocError>
+        requires { Suits config.now }
+        ensures stands { IfOk result (λ marker. (t : Table) → length t.regions ≡ config.now.regions → t.words_per_region ≡ config.now.words → MarkerStands t marker) }
+        ensures all_kept { IfOk result (λ marker. (t : Table) (a : ℕ) → t.words_per_region ≡ config.now.words → below_previous t marker.tams a ≡ false) }
+        ensures idle { IfOk result (λ marker. marker.running ≡ false) }
+        ensures logs { IfOk result (λ marker. marker.logs ≡ replicate config.now.mutators []) }
+    {
+        let count = config.regions * config.words;
+        Ok(Marker {
+            bitmaps: Bitmaps::new(alloc, count)?,
+            tams: Tams::new(alloc, config.regions, config.words)?,
+            grey: Grey::new(alloc, count)?,
+            logs: DeletionLogs::new(alloc, config.mutators)?,
+            running: false,
+        })
+    }
+}

@@ -1,0 +1,83 @@
+//! Scans: the old targets of grey objects are marked.
+//!
+//! ```text
+//!   grey     marked, and not scanned: its targets are still to be marked
+//!   scanned  marked, and so are its old targets as they were at the scan
+//! ```
+
+ghost use Rattle.std.specs.Prelude.{◌≡◌, ℕ, ◌+◌, ◌<◌, ◌≤◌, List, Bool, true, Option, Some, length, slice_set};
+ghost use Rattle.regions.specs.Table.{Table, pointers_at};
+ghost use Rattle.mark_bitmap.specs.Marks.{marked_count, HasNone};
+ghost use Rattle.mark_bitmap.specs.Tops.{below_next};
+ghost use Rattle.mark_bitmap.specs.Grey.{is_grey};
+ghost use Rattle.marker.specs.Stands.{MarkerStands, IsKept};
+ghost use Rattle.marker.specs.Steps.{KeepsSnapshots, SameRoles, IsAmong, MarksWanted};
+
+use crate::marker::Marker;
+use heap_words::addr::{Addr, Ptr};
+use regions::RegionTable;
+
+impl Marker {
+    /// Marks what a pointer leads to, unless it is marked or was made since marking began. What is newly marked is grey.
+    pub(crate) fn reach(&mut self, table: &RegionTable, target: Ptr)
+        requires stands { MarkerStands table.now self.old }
+        requires running { self.old.running ≡ true }
+        requires kept { (a : ℕ) → target ≡ Some a → below_next table.now self.old.tams a ≡ true → IsKept table.now self.old a }
+        ensures stands { MarkerStands table.now self.new }
+        ensures marks { MarksWanted table.now (λ a. target ≡ Some a) self.old self.new }
+        ensures same { SameRoles self.old self.new }
+        ensures scanned { self.new.grey.scanned ≡ self.old.grey.scanned }
+        ensures logs { self.new.logs ≡ self.old.logs }
+    {
+        let Some(at) = target else {
+            return;
+        };
+        table.law();
+        if !self.tams.is_below_next(table.words_per_region(), at) || self.bitmaps.next.get(at) {
+            return;
+        }
+        self.bitmaps.next.set(at);
+        self.grey.add(at);
+    }
+
+    /// Scans a grey object: each of its targets that was there when marking began is marked.
+    pub fn scan(&mut self, table: &RegionTable, object: Addr)
+        requires stands { MarkerStands table.now self.old }
+        requires running { self.old.running ≡ true }
+        requires grey { is_grey self.old.bitmaps.next self.old.grey object ≡ true }
+        ensures stands { MarkerStands table.now self.new }
+        ensures snapshots { KeepsSnapshots table.now self.old self.new }
+        ensures marks { MarksWanted table.now (IsAmong (pointers_at table.now object) (length (pointers_at table.now object))) self.old self.new }
+        ensures scanned { self.new.grey.scanned ≡ slice_set self.old.grey.scanned object true }
+        ensures same { SameRoles self.old self.new }
+        ensures logs { self.new.logs ≡ self.old.logs }
+    {
+        let count = table.pointer_count(object);
+        for field in 0..count {
+            let target = table.get_ptr(object, field);
+            self.reach(table, target);
+        }
+        self.grey.remove(object);
+    }
+
+    /// Scans up to `units` grey objects, the lowest first, and says how many: fewer only if none is left.
+    pub fn mark(&mut self, table: &RegionTable, units: u32) -> u32
+        requires stands { MarkerStands table.now self.old }
+        requires running { self.old.running ≡ true }
+        ensures most { result ≤ units }
+        ensures none_left { result < units → HasNone (is_grey self.new.bitmaps.next self.new.grey) 0 }
+        ensures count { marked_count self.new.grey.scanned ≡ marked_count self.old.grey.scanned + result }
+        ensures stands { MarkerStands table.now self.new }
+        ensures snapshots { KeepsSnapshots table.now self.old self.new }
+        ensures same { SameRoles self.old self.new }
+        ensures logs { self.new.logs ≡ self.old.logs }
+    {
+        for done in 0..units {
+            let Some(object) = self.grey.any(&self.bitmaps.next) else {
+                return done;
+            };
+            self.scan(table, object);
+        }
+        units
+    }
+}

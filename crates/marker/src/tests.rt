@@ -1,0 +1,239 @@
+//! Marking over tables made by hand.
+
+ghost use Rattle.std.specs.Prelude.{◌≡◌, ℕ, ◌<◌, ◌^◌, true, Some, length, slice_get, IfOk, IfSome};
+ghost use Rattle.heap_words.specs.Configs.{Suits};
+ghost use Rattle.regions.specs.Table.{HasObject};
+ghost use Rattle.marker.specs.Stands.{MarkerStands, IsKept};
+ghost use Rattle.marker.specs.Samples.{IsLinked, LeadToObjects, Keeps};
+
+use crate::marker::Marker;
+use heap_words::addr::{Addr, Ptr, RegionNo};
+use heap_words::config::Config;
+use heap_words::header::{Count, Counts, FillerSize};
+use regions::{Kind, RegionTable};
+use std::alloc::Global;
+use std::test::Fail;
+
+/// Puts an object with nil pointers and no data at the top of an ordinary region, if there is room.
+fn add(table: &mut RegionTable, region: RegionNo, name: u64, pointers: u32) -> Option<Addr>
+    requires { pointers < 2 ^ 16 }
+    ensures keeps { Keeps table.old table.new }
+    ensures object { IfSome result (HasObject table.new) }
+{
+    table.law();
+    if region.number() >= table.region_count() {
+        return None;
+    }
+    if table.kind(region) != Kind::Ordinary {
+        return None;
+    }
+    if !table.has_room(region, 2 + pointers) {
+        return None;
+    }
+    let size = FillerSize::new(2 + pointers);
+    let counts = Counts {
+        pointers: Count::new(pointers),
+        values: Count::new(0),
+    };
+    let at = table.push_filler(region, size);
+    table.law();
+    table.make_object(at, size, name, counts);
+    Some(at)
+}
+
+/// Stores a pointer between objects, if the field is there.
+fn link(table: &mut RegionTable, from: Addr, field: u32, to: Addr)
+    requires from { HasObject table.old from }
+    requires to { HasObject table.old to }
+    ensures keeps { Keeps table.old table.new }
+{
+    table.law();
+    if field < table.pointer_count(from) {
+        table.set_ptr(from, field, Some(to));
+    }
+}
+
+/// Takes the lowest free region.
+fn take(table: &mut RegionTable) -> Option<RegionNo>
+    ensures keeps { Keeps table.old table.new }
+{
+    table.take_free()
+}
+
+/// A table of four regions of 16 words, and its objects.
+#[derive(Drop)]
+struct Made {
+    table: RegionTable,
+    objects: Vec<Addr>,
+}
+
+/// Four regions of 16 words, and two mutators.
+fn sizes() -> Config
+    ensures suits { Suits result }
+    ensures regions { result.regions ≡ 4 }
+    ensures words { result.words ≡ 16 }
+{
+    Config {
+        regions: 4,
+        words: 16,
+        buffer: 8,
+        mutators: 2,
+        first_name: 0,
+    }
+}
+
+/// Objects of so many pointers, the i-th in region i % 3, with links from a field of one to another.
+fn build(alloc: Global, shapes: &[u8], links: &[(usize, u32, usize)]) -> Result<Made, Fail>
+    ensures count { IfOk result (λ made. length made.table.regions ≡ 4) }
+    ensures words { IfOk result (λ made. made.table.words_per_region ≡ 16) }
+    ensures linked { IfOk result (λ made. IsLinked made.table) }
+    ensures objects { IfOk result (λ made. (i a : ℕ) → slice_get made.objects.items i ≡ Some a → HasObject made.table a) }
+{
+    let Ok(mut table) = RegionTable::new(alloc, &sizes()) else {
+        return Err(Fail::from("a table is made"));
+    };
+    for _ in 0..3 {
+        take(&mut table);
+    }
+    let mut objects = Vec::new(alloc);
+    for i in 0..shapes.len() {
+        let region = RegionNo::new((i % 3) as u32);
+        let Some(at) = add(&mut table, region, i as u64, u32::from(shapes[i])) else {
+            return Err(Fail::from("an object is made"));
+        };
+        objects.push(at)?;
+    }
+    for (from, field, to) in links {
+        if *from < objects.len() && *to < objects.len() {
+            link(&mut table, objects[*from], *field, objects[*to]);
+        }
+    }
+    Ok(Made { table, objects })
+}
+
+/// The 32 root words of two mutators: 16 globals, then 8 registers each. A pair says which object a place holds.
+fn roots_of(alloc: Global, made: &Made, held: &[(usize, usize)]) -> Result<Vec<Ptr>, Fail>
+    requires { (i a : ℕ) → slice_get made.now.objects.items i ≡ Some a → HasObject made.now.table a }
+    ensures { IfOk result (λ roots. LeadToObjects made.now.table roots.items) }
+{
+    let mut roots = vec![in alloc; None; 32]?;
+    for (place, object) in held {
+        if *place < roots.len() && *object < made.objects.len() {
+            roots[*place] = Some(made.objects[*object]);
+        }
+    }
+    Ok(roots)
+}
+
+/// A marker that has begun.
+fn begun(alloc: Global, table: &RegionTable, roots: &[Ptr]) -> Result<Marker, Fail>
+    requires count { length table.now.regions ≡ 4 }
+    requires words { table.now.words_per_region ≡ 16 }
+    requires linked { IsLinked table.now }
+    requires roots { LeadToObjects table.now roots.now }
+    ensures stands { IfOk result (MarkerStands table.now) }
+    ensures running { IfOk result (λ marker. marker.running ≡ true) }
+    ensures kept { IfOk result (λ marker. (a : ℕ) → HasObject table.now a → IsKept table.now marker a) }
+{
+    let mut marker = Marker::new(alloc, &sizes())?;
+    marker.begin(table, roots);
+    Ok(marker)
+}
+
+/// Saves an object in a mutator's log.
+fn save(marker: &mut Marker, made: &Made, mutator: u32, object: usize)
+    requires stands { MarkerStands made.now.table marker.old }
+    requires running { marker.old.running ≡ true }
+    requires objects { (i a : ℕ) → slice_get made.now.objects.items i ≡ Some a → HasObject made.now.table a }
+    requires kept { (a : ℕ) → HasObject made.now.table a → IsKept made.now.table marker.old a }
+    ensures stands { MarkerStands made.now.table marker.new }
+    ensures running { marker.new.running ≡ true }
+{
+    if object >= made.objects.len() {
+        return;
+    }
+    let at = made.objects[object];
+    if mutator < marker.logs.mutators() && !marker.logs.is_full(mutator) {
+        marker.save(&made.table, mutator, Some(at));
+    }
+}
+
+/// How many objects are marked in all, where the roots hold some of them.
+fn count_from(alloc: Global, made: &Made, held: &[(usize, usize)]) -> Result<u32, Fail>
+    requires count { length made.now.table.regions ≡ 4 }
+    requires words { made.now.table.words_per_region ≡ 16 }
+    requires linked { IsLinked made.now.table }
+    requires objects { (i a : ℕ) → slice_get made.now.objects.items i ≡ Some a → HasObject made.now.table a }
+{
+    let roots = roots_of(alloc, made, held)?;
+    let mut marker = begun(alloc, &made.table, &roots)?;
+    Ok(marker.finish(&made.table))
+}
+
+/// Two objects that name each other, the first in a register: two scans, and no third. With nil roots there is none.
+#[test]
+fn marks_a_ring(rt: HostRuntime) -> Result<(), Fail> {
+    let made = build(rt.alloc(), &[1, 1], &[(0, 0, 1), (1, 0, 0)])?;
+    let roots = roots_of(rt.alloc(), &made, &[(16, 0)])?;
+    let mut marker = begun(rt.alloc(), &made.table, &roots)?;
+    assert_eq!(rt; marker.mark(&made.table, 0), 0);
+    assert_eq!(rt; marker.mark(&made.table, 1), 1);
+    assert_eq!(rt; marker.mark(&made.table, 9), 1);
+    assert_eq!(rt; marker.mark(&made.table, 9), 0);
+    assert_eq!(rt; marker.finish(&made.table), 2);
+    let nil = roots_of(rt.alloc(), &made, &[])?;
+    let mut idle = begun(rt.alloc(), &made.table, &nil)?;
+    assert_eq!(rt; idle.mark(&made.table, 9), 0);
+    assert_eq!(rt; idle.finish(&made.table), 0);
+    Ok(())
+}
+
+/// A chain of five from a global; a shared child and an object that names itself, from the last register of the second
+/// mutator; a ring that nothing reaches; an object of nil pointers.
+#[test]
+fn counts_what_roots_reach(rt: HostRuntime) -> Result<(), Fail> {
+    let chain = [(0, 0, 1), (1, 0, 2), (2, 0, 3), (3, 0, 4)];
+    let made = build(rt.alloc(), &[1, 1, 1, 1, 1, 2], &chain)?;
+    for (held, count) in [
+        (&[(0, 0)][..], 5),
+        (&[(15, 2)][..], 3),
+        (&[(16, 4), (31, 3)][..], 2),
+        (&[(23, 5), (24, 5)][..], 1),
+        (&[(0, 4), (24, 0), (31, 5)][..], 6),
+        (&[][..], 0),
+    ] {
+        assert_eq!(rt; count_from(rt.alloc(), &made, held)?, count);
+    }
+    let links = [
+        (0, 0, 2),
+        (0, 1, 1),
+        (1, 0, 2),
+        (2, 0, 2),
+        (3, 0, 4),
+        (4, 0, 3),
+    ];
+    let made = build(rt.alloc(), &[2, 1, 1, 1, 1], &links)?;
+    for (held, count) in [
+        (&[(31, 0)][..], 3),
+        (&[(31, 2)][..], 1),
+        (&[(15, 1), (16, 3)][..], 4),
+    ] {
+        assert_eq!(rt; count_from(rt.alloc(), &made, held)?, count);
+    }
+    Ok(())
+}
+
+/// What only a log names is marked in the end, and what it leads to.
+#[test]
+fn takes_what_was_logged(rt: HostRuntime) -> Result<(), Fail> {
+    let made = build(rt.alloc(), &[1, 1, 0], &[(0, 0, 1), (1, 0, 0)])?;
+    let roots = roots_of(rt.alloc(), &made, &[(3, 2)])?;
+    let mut marker = begun(rt.alloc(), &made.table, &roots)?;
+    assert_eq!(rt; marker.mark(&made.table, 9), 1);
+    let mut other = begun(rt.alloc(), &made.table, &roots)?;
+    save(&mut other, &made, 1, 1);
+    assert_eq!(rt; other.mark(&made.table, 9), 1);
+    assert_eq!(rt; other.finish(&made.table), 3);
+    assert_eq!(rt; marker.finish(&made.table), 1);
+    Ok(())
+}
