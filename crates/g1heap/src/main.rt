@@ -1,4 +1,13 @@
 //! A Garbage-First heap by steps: a script goes in, the record of every step with its reply comes out.
+//!
+//! ```text
+//!   words -- read_words --> Job;  FILE -- read_text, parse --> Plan -- run --> Record -- write_record --> output
+//! ```
+//!
+//! `main` reads the command line, opens the file and calls `perform`, which calls `run_script`. That is where the
+//! theorem of the whole path stands: at Ok the input was a script, read to its end, and the text of a record was
+//! written, and no more, which has the script's heap line and steps and is a run of the graph of objects. Nothing is
+//! written before the run has ended well.
 #![tactic(auto)]
 
 mod job;
