@@ -4,12 +4,13 @@ use Rattle.std.proofs.lemmas.List.{get_or-set_same, get_or-set_other, length-set
 use Rattle.std.proofs.lemmas.Bool.{cases_eq}
 use Rattle.regions.specs.Tiles.{Live, tile_size}
 use Rattle.heap_model.specs.Heap.{Stored}
-use Rattle.regions.specs.Table.{Region, Free, Ordinary, First, Rest, Table, region_at, region_number, tile_in, tile_object, object_at, with_object, put_object, set_pointer, set_value, kind_of, region_kind, HasNoMoved}
+use Rattle.regions.specs.Table.{Region, Free, Ordinary, First, Rest, Table, region_at, region_number, tile_in, tile_object, object_at, with_object, put_object, set_pointer, set_value, kind_of, region_kind, used_of, HasNoMoved}
 use Rattle.regions.proofs.Laws.{object_tile, known_region, object_at-put_same, tile_in-put_other}
 use Rattle.regions.proofs.Fields.{with_pointer}
 use Rattle.regions.proofs.Values.{with_value, set_value-is}
 use Rattle.regions.proofs.Access.{set_pointer-is}
 use Rattle.regions.proofs.Kept.{put_object-moved}
+use Rattle.regions.proofs.Totals.{used_put}
 
 -- one object is written, and no other tile changed
 pub record WritesObject (t t' : Table) (x : ℕ) (s s' : Stored) : Type 0 where
@@ -20,6 +21,7 @@ pub record WritesObject (t t' : Table) (x : ℕ) (s s' : Stored) : Type 0 where
   pub others : (y : ℕ) → y ≢ x → tile_in t' y ≡ tile_in t y
   pub kinds : (k : ℕ) → kind_of t' k ≡ kind_of t k
   pub unmoved : HasNoMoved t → HasNoMoved t'
+  pub used : (k : ℕ) → used_of t' k ≡ used_of t k
 
 kind_with : (r : Region) (o : ℕ) (s : Stored) → region_kind (with_object r o s) ≡ region_kind r
 kind_with Free o s = refl
@@ -55,6 +57,7 @@ object_put t x s s' z h e = record {
   others = λ y n. tile_in-put_other t x y s s' z h e n;
   kinds = λ k. kind_put t x s s' k h;
   unmoved = λ m. put_object-moved (λ _. ⊥) t x s' m;
+  used = λ k. used_put t x s s' k h e;
 }
 
 pub pointer_put : (t : Table) (x i : ℕ) (v : Option ℕ) (s : Stored) → 0 < t.words_per_region → object_at t x ≡ Some s → WritesObject t (set_pointer t x i v) x s (with_pointer s i v)

@@ -29,6 +29,7 @@ pub mod Search
 pub mod RunGone
 pub mod MovedLaws
 pub mod TileLaws
+pub mod Totals
 pub mod Changes
 pub mod Placing
 pub mod Gaps
@@ -41,3 +42,4 @@ pub mod RunLaws
 pub mod Fronts
 pub mod WalkTiles
 pub mod InUse
+pub mod Released

@@ -6,10 +6,11 @@ use Rattle.std.proofs.lemmas.Bool.{cases_lt, cases_eq, le-leb, lt-leb}
 use Rattle.std.proofs.lemmas.Bool.Decides.{leb_tells}
 use Rattle.std.proofs.lemmas.Nat.{div-mul-add}
 use Rattle.regions.specs.Tiles.{Tile, Gap, tile_size, tile_at, replace, total_size}
-use Rattle.regions.specs.Table.{Region, Free, Ordinary, First, Rest, Table, region_tile, region_at, region_number, tile_in, kind_of, region_kind, HasNoMoved, EachMoved, replace_tile, region_replaced, push_tile, region_with_tile, used_of, region_used, taken, first_free, is_free}
+use Rattle.regions.specs.Table.{Region, Free, Ordinary, First, Rest, Table, region_tile, region_at, region_number, tile_in, kind_of, region_kind, HasNoMoved, EachMoved, replace_tile, region_replaced, push_tile, region_with_tile, used_of, region_used, top_of, taken, first_free, is_free}
 use Rattle.regions.specs.Walks.{AllPositive, AreFitting, tiles_of, region_tiles}
 use Rattle.regions.proofs.Laws.{known_region}
 use Rattle.regions.proofs.Parse.{past}
+use Rattle.regions.proofs.Totals.{total-append, total-replace}
 use Rattle.regions.proofs.Kept.{replaced-moved, with_tile-moved}
 use Rattle.regions.proofs.Sizes.{EachMovedIn-set, EachMovedIn-at}
 use Rattle.regions.specs.declared.row.Kind.TheVariants as kinds
@@ -96,6 +97,7 @@ pub record Replaces (t t' : Table) (x n : ℕ) (new : List Tile) : Type 0 where
   pub within : (j : ℕ) → j < n → tile_in t' (x + j) ≡ tile_at j new
   pub inside : (j : ℕ) → 0 < j → j < n → tile_in t (x + j) ≡ None
   pub others : (y : ℕ) → (y < x) ⊎ (x + n ≤ y) → tile_in t' y ≡ tile_in t y
+  pub used : (k : ℕ) → used_of t' k ≡ used_of t k
 
 -- the ordinary region of a filler
 record HasTiles (r : Region) (o n : ℕ) : Type 0 where
@@ -123,7 +125,7 @@ gap_region t x n h =
     (known_region t.regions _ _ _ h, ap region_kind q.is)
 
 pub gap_replaced : (t : Table) (x n : ℕ) (new : List Tile) → 0 < t.words_per_region → AreFitting t → tile_in t x ≡ Some (Gap n) → 0 < n → AllPositive new → total_size new ≡ n → EachMoved (λ _. ⊥) new → Replaces t (replace_tile t x new) x n new
-unfolding tile_in region_at kind_of region_number replace_tile tiles_of
+unfolding tile_in region_at kind_of region_number replace_tile tiles_of used_of
 gap_replaced t x n new z fitting h p positive total moved =
     let size : ℕ = t.words_per_region in
     let k : ℕ = x / size in
@@ -175,6 +177,10 @@ gap_replaced t x n new z fitting h p positive total moved =
             ]
         | inr e ↦ ap (λ (g : Region). region_tile g (y % size)) (get_or-set_other t.regions k (y / size) r Free e)
       ];
+      used = λ j. elim (cases_eq j k) [
+        | inl e ↦ rw e (ap (region_used size) here ∙ total-replace q.tiles new o (Gap n) there total ∙ sym (ap (region_used size) is))
+        | inr e ↦ ap (region_used size) (get_or-set_other t.regions k j r Free e)
+      ];
     }
 
 -- a tile is pushed at a region's top
@@ -183,14 +189,14 @@ pub record Pushed (t t' : Table) (k a : ℕ) (tile : Tile) : Type 0 where
   pub count : length t'.regions ≡ length t.regions
   pub kinds_same : (j : ℕ) → kind_of t' j ≡ kind_of t j
   pub unmoved : HasNoMoved t → HasNoMoved t'
+  pub known : k < length t.regions
+  pub at : a ≡ top_of t k
+  pub room : used_of t k + tile_size tile ≤ t.words_per_region
   pub used : used_of t' k ≡ used_of t k + tile_size tile
+  pub used_others : (j : ℕ) → j ≢ k → used_of t' j ≡ used_of t j
   pub is : tile_in t' a ≡ Some tile
   pub was : tile_in t a ≡ None
   pub others : (y : ℕ) → y ≢ a → tile_in t' y ≡ tile_in t y
-
-total-append : (ts us : List Tile) → total_size (ts ++ us) ≡ total_size ts + total_size us
-total-append [] us = omega arith
-total-append (t ∷ ts) us = let i = total-append ts us in omega (arith, i)
 
 -- past the end is no tile
 tile_at-past : (ts : List Tile) (y : ℕ) → AllPositive ts → total_size ts ≤ y → tile_at y ts ≡ None
@@ -210,11 +216,12 @@ tile_at-push_other ts t y z n = elim (cases_lt y (total_size ts)) [
   | inr le ↦ tile_at-back ts (t ∷ []) y z le ∙ tile_at-alone t (y - total_size ts) (omega arith) ∙ sym (tile_at-past ts y z le)
 ]
 
-record IsOrdinaryAt (r : Region) : Type 0 where
-  tiles : List Tile
-  is : r ≡ Ordinary tiles
+-- an ordinary region has tiles
+pub record IsOrdinaryAt (r : Region) : Type 0 where
+  pub tiles : List Tile
+  pub is : r ≡ Ordinary tiles
 
-ordinary_at : (r : Region) → region_kind r ≡ kinds.Ordinary → IsOrdinaryAt r
+pub ordinary_at : (r : Region) → region_kind r ≡ kinds.Ordinary → IsOrdinaryAt r
 ordinary_at Free h = cc
 ordinary_at (Ordinary ts) h = record { tiles = ts; is = refl }
 ordinary_at (First s) h = cc
@@ -245,7 +252,11 @@ gap_push t k tile z fitting known ordinary p room moved =
         | inr e ↦ ap region_kind (get_or-set_other t.regions k j r Free e)
       ];
       unmoved = λ m. EachMovedIn-set (λ _. ⊥) t.regions k r (with_tile-moved (λ _. ⊥) (get_or t.regions k Free) tile moved (EachMovedIn-at (λ _. ⊥) t.regions k m)) m;
+      known = known;
+      at = refl;
+      room = room;
       used = ap (region_used size) here ∙ total-append q.tiles (tile ∷ []) ∙ (let zero_more : tile_size tile + 0 ≡ tile_size tile = omega arith in rw (zero_more, used) refl);
+      used_others = λ j n. ap (region_used size) (get_or-set_other t.regions k j r Free n);
       is = ap (λ (j : ℕ). region_tile (get_or (set t.regions k r) j Free) (a % size)) row ∙ ap (λ (g : Region). region_tile g (a % size)) here ∙ ap (λ (j : ℕ). tile_at j (q.tiles ++ tile ∷ [])) column
           ∙ tile_at-back q.tiles (tile ∷ []) (total_size q.tiles) positive (omega arith) ∙ ap (λ (j : ℕ). tile_at j (tile ∷ [])) zero_at;
       was = ap (λ (j : ℕ). region_tile (get_or t.regions j Free) (a % size)) row ∙ ap (λ (g : Region). region_tile g (a % size)) is ∙ ap (λ (j : ℕ). tile_at j q.tiles) column ∙ tile_at-past q.tiles (total_size q.tiles) positive (omega arith);
@@ -276,6 +287,7 @@ pub record Takes (t t' : Table) (k : ℕ) : Type 0 where
   pub count : length t'.regions ≡ length t.regions
   pub unmoved : HasNoMoved t → HasNoMoved t'
   pub empty : used_of t' k ≡ 0
+  pub used : (j : ℕ) → used_of t' j ≡ used_of t j
   pub others : (y : ℕ) → tile_in t' y ≡ tile_in t y
 
 pub region_taken : (t : Table) (k : ℕ) → first_free t ≡ Some k → Takes t (taken t (Some k)) k
@@ -295,6 +307,7 @@ region_taken t k h =
       count = length-set t.regions k (Ordinary []);
       unmoved = λ m. EachMovedIn-set (λ _. ⊥) t.regions k (Ordinary []) (tt, tt) m;
       empty = ap (region_used size) here;
+      used = λ j. elim (cases_eq j k) [ inl e ↦ rw e (ap (region_used size) here ∙ sym (ap (region_used size) is)) | inr e ↦ ap (region_used size) (get_or-set_other t.regions k j (Ordinary []) Free e) ];
       others = λ y. elim (cases_eq (y / size) k) [
         | inl e ↦ ap (λ (j : ℕ). region_tile (get_or (set t.regions k (Ordinary [])) j Free) (y % size)) e ∙ ap (λ (g : Region). region_tile g (y % size)) here
             ∙ sym (ap (λ (j : ℕ). region_tile (get_or t.regions j Free) (y % size)) e ∙ ap (λ (g : Region). region_tile g (y % size)) is)
