@@ -10,11 +10,12 @@ use Rattle.heap_model.proofs.Lists.{get-set_cases, get-set_same, get-set_other}
 use Rattle.regions.specs.Tiles.{Tile, Gap, tile_at, total_size}
 use Rattle.regions.specs.declared.row.Kind.TheVariants as kinds
 use Rattle.regions.specs.Walks.{AllPositive, AreFitting}
-use Rattle.regions.specs.Table.{Table, used_of, kind_of, first_free, taken, push_tile, replace_tile, gap, tile_in, object_at, HasNoMoved, EachMoved, tile_object}
+use Rattle.regions.specs.Table.{Table, used_of, top_of, kind_of, first_free, taken, push_tile, replace_tile, gap, tile_in, object_at, HasNoMoved, EachMoved, tile_object}
 use Rattle.regions.proofs.Placing.{Replaces, gap_replaced, Pushed, gap_push, region_taken}
 use Rattle.regions.proofs.Changes.{object_same}
+use Rattle.alloc_buffers.proofs.Above.{above_same, above_buffers, above_pushed, above_filler}
 use Rattle.alloc_buffers.specs.declared.Buffer.{Buffer}
-use Rattle.alloc_buffers.specs.Placement.{Buffers, BuffersStand, HasFiller, IsPlaced, HasRoom, buffer_of, with_buffer, top_of, alone, room_for, in_new_buffer, with_gap, closed}
+use Rattle.alloc_buffers.specs.Placement.{Buffers, BuffersStand, HasFiller, IsPlaced, HasRoom, buffer_of, with_buffer, IsAbove, AreAbove, alone, room_for, in_new_buffer, with_gap, closed}
 
 -- an open buffer is at its address
 buffer_at : (next rest : ℕ) (x : Buffer) → buffer_of next rest ≡ Some x → (x.next ≡ next) × (x.rest ≡ rest) × (0 < rest)
@@ -97,6 +98,11 @@ top_placed t t1 t2 b opens k w size a s none r p old count =
       };
       open_count = count;
       words = refl;
+      count = p.count ∙ r.count;
+      above = λ limit h.
+          let same = above_same t t1 b limit r.region_size r.count r.used h in
+          let more = above_pushed t1 t2 b k a (Gap size) limit p same in
+          (subst (λ (n : ℕ). IsAbove n limit a) r.region_size more.0, above_buffers t2 b _ limit (λ m x e. more.1.buffers m x (old m x e)) more.1);
     }
 
 -- the rest of a new buffer behind it
@@ -144,6 +150,17 @@ rest_placed t t2 t3 b b2 m k size rest a a2 s p z =
       };
       open_count = length-set b2.open_buffers m (Some buffer) ∙ s.open_count;
       words = s.words;
+      count = p.count ∙ s.count;
+      above = λ limit h.
+          let first = s.above limit h in
+          let more = above_pushed t2 t3 b2 k a2 (Gap rest) limit p first.1 in
+          let fresh : IsAbove t3.words_per_region limit a2 = subst (λ (n : ℕ). IsAbove n limit a2) (sym p.size) more.0 in (
+            first.0,
+            above_buffers t3 b2 _ limit (λ n x e. elim (set_cases b2.open_buffers m n (Some buffer) (Some x) e) [
+              | inl q ↦ subst (λ (j : ℕ). IsAbove t3.words_per_region limit j) (sym (next_is x q.1)) fresh
+              | inr q ↦ more.1.buffers n x q.1
+            ]) more.1,
+          );
     }
 
 pub fresh_is : (t t' : Table) (k n w : ℕ) → Some k ≡ first_free t → t' ≡ taken t (first_free t) → w ≤ t.words_per_region → n ≡ k → HasRoom t t' n w
@@ -159,6 +176,7 @@ fresh_is t t' k n w first is small same =
       kinds_same = u.kinds_same;
       count = u.count;
       tiles = u.others;
+      used = u.used;
     } in
     subst (λ (j : ℕ). HasRoom t t' j w) (sym same) (subst (λ (v : Table). HasRoom t v k w) (sym is') facts)
 
@@ -239,6 +257,20 @@ split_placed t t' b m size x s none z fitting here p le is =
       };
       open_count = length-set b.open_buffers m _;
       words = refl;
+      count = w.count;
+      above = λ limit h.
+          let old : IsAbove t.words_per_region limit x.next = h.buffers m x here in
+          let same = above_same t t' b limit w.size w.count w.used h in (
+            old,
+            above_buffers t' b (with_buffer b b.current m (buffer_of (x.next + size) r)) limit (λ j y e. elim (set_cases b.open_buffers m j (buffer_of (x.next + size) r) (Some y) e) [
+              | inl q ↦
+                  let at = buffer_at (x.next + size) r y (sym q.1) in
+                  let lt : size < n = omega (arith, at.1, at.2) in
+                  let behind = above_filler t limit x.next n size z fitting f.filler lt old in
+                  subst (λ (i : ℕ). IsAbove t'.words_per_region limit i) (sym at.0) (subst (λ (i : ℕ). IsAbove i limit (x.next + size)) (sym w.size) behind)
+              | inr q ↦ same.buffers j y q.1
+            ]) same,
+          );
     }
   where
     between : (y u : Buffer) (j : ℕ) → buffer_of (x.next + size) (x.rest - size) ≡ Some y → y.next ≡ u.next → j ≢ m → slice_get b.open_buffers j ≡ Some (Some u) → ⊥
@@ -267,7 +299,6 @@ alone_placed t t1 t2 c b n k size a e s none r same z fitting p at is =
 
 pub alone_is : (t t1 t2 : Table) (c b : Buffers) (n k size a : ℕ) → c ≡ b → n ≡ k → room_for t c.current size ≡ Some (record { region = k; table = t1 }) → a ≡ n * t1.words_per_region + used_of t1 n → t2 ≡ push_tile t1 n (Gap size)
     → alone b size (room_for t b.current size) ≡ Some (record { at = a; table = t2; buffers = record { words = c.words; current = Some k; open_buffers = c.open_buffers } })
-unfolding top_of
 alone_is t t1 t2 c b n k size a e same is at push =
     ap (λ (d : Buffers). alone d size (room_for t d.current size)) (sym e) ∙ ap (alone c size) is ∙ rw (at, push, same) refl
 
@@ -333,7 +364,6 @@ part_placed t t1 t2 t3 c b m k n w size rest a a2 next v e s none r le p same re
 pub in_new_is : (t t1 t2 t3 : Table) (c b : Buffers) (m n k size a : ℕ) (v : Option Buffer) → c ≡ b → n ≡ k → room_for t c.current c.words ≡ Some (record { region = k; table = t1 }) → a ≡ n * t1.words_per_region + used_of t1 n → t2 ≡ push_tile t1 n (Gap size)
     → t3 ≡ with_gap t2 k (c.words - size) → v ≡ buffer_of (a + size) (c.words - size)
     → in_new_buffer b m size (room_for t b.current b.words) ≡ Some (record { at = a; table = t3; buffers = record { words = c.words; current = Some k; open_buffers = slice_set c.open_buffers m v } })
-unfolding top_of
 in_new_is t t1 t2 t3 c b m n k size a v e same is at push more v_is =
     ap (λ (d : Buffers). in_new_buffer d m size (room_for t d.current d.words)) (sym e) ∙ ap (in_new_buffer c m size) is ∙ rw (v_is, more, push, at, same) refl
 
@@ -366,4 +396,11 @@ closed_stand t words mutators = record {
   ordinary = λ k h. absurd (cc);
   fillers = λ m x h. absurd (none_open mutators m x h);
   apart = λ m n x y h k q. absurd (none_open mutators m x h);
+}
+
+-- where no buffer is open, the tops are all that is to be handed out
+pub retired_above : (t : Table) (b : Buffers) (n : ℕ) (limit : ℕ → ℕ) → b.open_buffers ≡ replicate n None → ((k : ℕ) → k < length t.regions → limit k ≤ top_of t k) → AreAbove t b limit
+retired_above t b n limit is tops = record {
+  tops = tops;
+  buffers = λ m x e. absurd (none_open n m x (subst (λ (opens : List (Option Buffer)). slice_get opens m ≡ Some (Some x)) is e));
 }

@@ -2,7 +2,7 @@
 use Rattle.std.specs.Prelude.{◌≡◌, ◌≢◌, ◌∷◌, ℕ, zero, suc, ◌+◌, ◌-◌, ◌*◌, ◌<◌, ◌≤◌, Option, Some, None, List, replicate, slice_get, slice_set, slice_index_or, length, if◌then◌else◌, nat_le}
 use Rattle.regions.specs.Tiles.{Gap}
 use Rattle.regions.specs.declared.row.Kind.TheVariants as kinds
-use Rattle.regions.specs.Table.{Table, used_of, kind_of, first_free, taken, push_tile, replace_tile, gap, tile_in, object_at, HasNoMoved}
+use Rattle.regions.specs.Table.{Table, used_of, top_of, kind_of, first_free, taken, push_tile, replace_tile, gap, tile_in, object_at, HasNoMoved}
 use Rattle.alloc_buffers.specs.declared.Buffer.{Buffer}
 
 pub record Buffers : Type 0 where
@@ -23,9 +23,6 @@ pub record Placement : Type 0 where
 pub record Room : Type 0 where
   pub region : ℕ
   pub table : Table
-
-unfoldable pub top_of : Table → ℕ → ℕ
-top_of t k = k * t.words_per_region + used_of t k
 
 abbrev pub fresh_room : Table → Option ℕ → Option Room
 fresh_room t None = None
@@ -92,6 +89,15 @@ pub record BuffersStand (t : Table) (b : Buffers) : Type 0 where
   pub fillers : (m : ℕ) (x : Buffer) → slice_get b.open_buffers m ≡ Some (Some x) → HasFiller t x
   pub apart : (m n : ℕ) (x y : Buffer) → slice_get b.open_buffers m ≡ Some (Some x) → slice_get b.open_buffers n ≡ Some (Some y) → x.next ≡ y.next → m ≡ n
 
+-- the address lies at or above the limit of its region. Limits are an address for each region
+abbrev pub IsAbove : ℕ → (ℕ → ℕ) → ℕ → Type 0
+IsAbove words limit a = (k : ℕ) → k * words ≤ a → a < k * words + words → limit k ≤ a
+
+-- all that is still to be handed out lies at or above the limits: the tops of regions, and the open buffers
+pub record AreAbove (t : Table) (b : Buffers) (limit : ℕ → ℕ) : Type 0 where
+  pub tops : (k : ℕ) → k < length t.regions → limit k ≤ top_of t k
+  pub buffers : (m : ℕ) (x : Buffer) → slice_get b.open_buffers m ≡ Some (Some x) → IsAbove t.words_per_region limit x.next
+
 -- a filler of the size is at the place, which belongs to no buffer, and no object changed
 pub record IsPlaced (t t' : Table) (b b' : Buffers) (size a : ℕ) : Type 0 where
   pub filler : tile_in t' a ≡ Some (Gap size)
@@ -102,6 +108,9 @@ pub record IsPlaced (t t' : Table) (b b' : Buffers) (size a : ℕ) : Type 0 wher
   pub stand : BuffersStand t' b'
   pub open_count : length b'.open_buffers ≡ length b.open_buffers
   pub words : b'.words ≡ b.words
+  pub count : length t'.regions ≡ length t.regions
+  -- whatever limits all that was to be handed out lay above: so does the place, and all that is still to be handed out
+  pub above : (limit : ℕ → ℕ) → AreAbove t b limit → IsAbove t.words_per_region limit a × AreAbove t' b' limit
 
 -- region k of t' has room for w words; t' is t, but that k may have been free
 pub record HasRoom (t t' : Table) (k w : ℕ) : Type 0 where
@@ -113,6 +122,7 @@ pub record HasRoom (t t' : Table) (k w : ℕ) : Type 0 where
   pub kinds_same : (j : ℕ) → kind_of t j ≡ kinds.Ordinary → kind_of t' j ≡ kinds.Ordinary
   pub count : length t'.regions ≡ length t.regions
   pub tiles : (y : ℕ) → tile_in t' y ≡ tile_in t y
+  pub used : (j : ℕ) → used_of t' j ≡ used_of t j
 
 -- no buffer is open, and no region is current
 abbrev pub closed : ℕ → ℕ → Buffers

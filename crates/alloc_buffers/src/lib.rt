@@ -22,11 +22,12 @@
 //! ```
 #![tactic(auto)]
 
-ghost use Rattle.std.specs.Prelude.{◌≡◌, ℕ, ◌<◌, ◌≤◌, ◌+◌, ◌-◌, ◌*◌, ◌^◌, ◌↔◌, ◌∷◌, length, Option, Some, None, replicate, IfOk, OnErr, IsErr, IfSome, IfNone, slice_get};
-ghost use Rattle.regions.specs.Table.{Table, HasNoMoved, used_of, kind_of, tile_in, push_tile, replace_tile, gap};
+ghost use Rattle.std.specs.Prelude.{◌≡◌, ◌≢◌, ℕ, ◌<◌, ◌≤◌, ◌+◌, ◌-◌, ◌*◌, ◌^◌, ◌↔◌, ◌∷◌, length, Option, Some, None, replicate, IsTrue, IfOk, OnErr, IsErr, IfSome, IfNone, slice_get};
+ghost use Rattle.regions.specs.Table.{Table, HasNoMoved, used_of, top_of, kind_of, tile_in, push_tile, replace_tile, released, gap};
 ghost use Rattle.regions.specs.Tiles.{Gap};
+ghost use Rattle.regions.specs.Shaped.{IsShaped};
 ghost use Rattle.regions.specs.declared.row.Kind.TheVariants as kinds;
-ghost use Rattle.alloc_buffers.specs.Placement.{room_for, place_of, outside, BuffersStand, IsPlaced, buffer_of, HasRoom, in_buffer, alone, in_new_buffer};
+ghost use Rattle.alloc_buffers.specs.Placement.{room_for, place_of, outside, Buffers, BuffersStand, AreAbove, IsPlaced, buffer_of, HasRoom, in_buffer, alone, in_new_buffer};
 
 use heap_words::addr::{Addr, RegionNo};
 use heap_words::config::Config;
@@ -173,8 +174,19 @@ impl AllocBuffers {
     pub fn retire_all(&mut self)
         ensures retired { self.new ≡ retired self.old }
         ensures stand { (t : Table) → BuffersStand t self.old → BuffersStand t self.new }
+        ensures above { (t : Table) (limit : ℕ → ℕ) → ((k : ℕ) → k < length t.regions → limit k ≤ top_of t k) → AreAbove t self.new limit }
     {
         forget(&mut self.open_buffers);
+    }
+
+    /// Whether a region is the one that buffers are cut from.
+    pub fn is_current(&self, region: RegionNo) -> bool
+        ensures { IsTrue result ↔ (self.now.current ≡ Some region) }
+    {
+        match self.current {
+            Some(number) => number == region.number(),
+            None => false,
+        }
     }
 
     fn find(&mut self, table: &mut RegionTable, mutator: u32, size: u32) -> Option<Addr>
@@ -277,6 +289,14 @@ impl AllocBuffers {
         Some(at)
     }
 }
+
+/// A region is released of which nothing is above its limit, and which isn't the current one: no open buffer is in it.
+pub fn release_law()
+    ensures stand { (t : Table) (b : Buffers) (limit : ℕ → ℕ) (k : ℕ) → IsShaped t → BuffersStand t b → AreAbove t b limit → k < length t.regions
+        → kind_of t k ≡ kinds.Ordinary → limit k ≡ top_of t k → b.current ≢ Some k → BuffersStand (released t k) b }
+    ensures above { (t : Table) (b : Buffers) (limit limit' : ℕ → ℕ) (k : ℕ) → IsShaped t → BuffersStand t b → AreAbove t b limit → k < length t.regions
+        → kind_of t k ≡ kinds.Ordinary → limit k ≡ top_of t k → ((j : ℕ) → j ≢ k → limit' j ≡ limit j) → limit' k ≡ k * t.words_per_region → AreAbove (released t k) b limit' }
+{}
 
 #[cfg(test)]
 mod tests;

@@ -1,6 +1,7 @@
 //! Placements in a small heap.
 
 use crate::{AllocBuffers, Full};
+use heap_words::addr::RegionNo;
 use heap_words::config::Config;
 use regions::RegionTable;
 use std::test::Fail;
@@ -30,6 +31,7 @@ fn places(rt: HostRuntime) -> Result<(), Fail> {
         return Err(Fail::from("a table"));
     };
     let mut buffers = AllocBuffers::new(rt.alloc(), &config)?;
+    assert!(rt; !buffers.is_current(RegionNo::new(0)));
     for (mutator, size, address) in rows {
         assert!(rt; mutator < 2 && size > 0 && size <= 8);
         match buffers.place(&mut table, mutator, size) {
@@ -37,6 +39,8 @@ fn places(rt: HostRuntime) -> Result<(), Fail> {
             Err(Full) => assert_eq!(rt; None, address),
         }
     }
+    assert!(rt; buffers.is_current(RegionNo::new(1)));
+    assert!(rt; !buffers.is_current(RegionNo::new(0)));
     buffers.retire_all();
     Ok(())
 }

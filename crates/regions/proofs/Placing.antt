@@ -190,6 +190,7 @@ pub record Pushed (t t' : Table) (k a : ℕ) (tile : Tile) : Type 0 where
   pub kinds_same : (j : ℕ) → kind_of t' j ≡ kind_of t j
   pub unmoved : HasNoMoved t → HasNoMoved t'
   pub known : k < length t.regions
+  pub positive : 0 < tile_size tile
   pub at : a ≡ top_of t k
   pub room : used_of t k + tile_size tile ≤ t.words_per_region
   pub used : used_of t' k ≡ used_of t k + tile_size tile
@@ -253,6 +254,7 @@ gap_push t k tile z fitting known ordinary p room moved =
       ];
       unmoved = λ m. EachMovedIn-set (λ _. ⊥) t.regions k r (with_tile-moved (λ _. ⊥) (get_or t.regions k Free) tile moved (EachMovedIn-at (λ _. ⊥) t.regions k m)) m;
       known = known;
+      positive = p;
       at = refl;
       room = room;
       used = ap (region_used size) here ∙ total-append q.tiles (tile ∷ []) ∙ (let zero_more : tile_size tile + 0 ≡ tile_size tile = omega arith in rw (zero_more, used) refl);
