@@ -1,5 +1,5 @@
 -- Marking has ended: it is exact, and what is kept from then on shows the same graph.
-use Rattle.std.proofs.Common.{◌≡◌, ℕ, ◌+◌, ◌-◌, ◌^◌, ◌<◌, Bool, true, false, not, List, [], Option, length, refl, sym, ap, ◌∙◌, subst, arith}
+use Rattle.std.proofs.Common.{◌≡◌, ℕ, suc, ◌+◌, ◌-◌, ◌^◌, ◌<◌, Bool, true, false, not, List, [], ◌∷◌, Option, length, refl, sym, ap, ◌∙◌, subst, arith}
 use Rattle.std.specs.Prelude.{◌&&◌}
 use Rattle.std.proofs.lemmas.List.Sums.{count_by-le-length}
 use Rattle.heap_model.specs.Graph.{Graph}
@@ -45,6 +45,25 @@ is_done t m none empty = record {
   logged = none_logged m.logs empty;
 }
 
+same_marks : (xs ys : List Bool) → length xs ≡ length ys → ((a : ℕ) → is_marked xs a ≡ is_marked ys a) → xs ≡ ys
+same_marks [] [] e same = refl
+same_marks [] (y ∷ ys) e same = absurd (omega (arith, e))
+same_marks (x ∷ xs) [] e same = absurd (omega (arith, e))
+same_marks (x ∷ xs) (y ∷ ys) e same =
+    let first : x ≡ y = same 0 in
+    let rest : xs ≡ ys = same_marks xs ys (omega (arith, e)) (λ a. same (suc a)) in
+    cc
+
+agree : (a b : Bool) → (a ≡ true → b ≡ true) → (b ≡ true → a ≡ true) → a ≡ b
+agree true b f g = sym (f refl)
+agree false true f g = g refl
+agree false false f g = refl
+
+-- where nothing is left to mark, as many objects were scanned as are marked
+pub done_count : (t : Table) (m : Marker) → MarkerStands t m → m.running ≡ true → IsDone (marking_of t m) → m.scans ≡ marked_count m.bitmaps.next
+done_count t m st run done =
+    st.counted run ∙ ap marked_count (same_marks m.grey.scanned m.bitmaps.next st.scanned (λ a. agree (is_marked m.grey.scanned a) (is_marked m.bitmaps.next a) (st.scanned_marked run a) (done.grey a)))
+
 -- all logs were taken, and all grey objects scanned
 pub record IsOver (t : Table) (m m' : Marker) : Type 0 where
   pub stands : MarkerStands t m'
@@ -88,6 +107,8 @@ exchanged_stands t m m' st done e = record {
   newer = λ on. absurd (let f = e.off in cc);
   follows = λ on. absurd (let f = e.off in cc);
   idle = λ _. ap logged e.logs ∙ done.logged;
+  scanned_marked = λ on. absurd (let f = e.off in cc);
+  counted = λ on. absurd (let f = e.off in cc);
 }
 
 module _ (t : Table) (m m' m'' : Marker) (count : ℕ) (p : IsOver t m m') (e : IsExchanged m' m'') (counts : count ≡ marked_count m'.bitmaps.next) where

@@ -6,4 +6,5 @@ pub mod Made
 pub mod Begun
 pub mod Logs
 pub mod Ended
+pub mod Forgotten
 pub mod Samples

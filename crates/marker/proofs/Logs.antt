@@ -31,6 +31,7 @@ pub record HasTaken (t : Table) (m m' : Marker) (n : ℕ) : Type 0 where
   pub snapshots : KeepsSnapshots t m m'
   pub emptied : (k : ℕ) → k < n → log_of m'.logs k ≡ []
   pub len : length m'.logs ≡ length m.logs
+  pub scans : m'.scans ≡ m.scans
   pub same : SameRoles m m'
 
 pub early_split : (log : List ℕ) (n a b : ℕ) → slice_get log n ≡ Some b → IsEarly log (n + 1) a → IsEarly log n a ⊎ (Some b ≡ Some a)
@@ -65,13 +66,13 @@ all_marks t log n m m' all p = record {
 }
 
 abbrev pub with_logs : Marker → List (List ℕ) → Marker
-with_logs m ls = record { bitmaps = m.bitmaps; tams = m.tams; grey = m.grey; logs = ls; running = m.running }
+with_logs m ls = record { bitmaps = m.bitmaps; tams = m.tams; grey = m.grey; logs = ls; running = m.running; scans = m.scans }
 
 -- a log is drained
 pub drained_stands : (t : Table) (m : Marker) (k : ℕ) (ls : List (List ℕ)) → MarkerStands t m → m.running ≡ true → ls ≡ set m.logs k [] → MarkerStands t (with_logs m ls)
 drained_stands t m k ls st run e =
     stands_step t m (with_logs m ls) st run (record { previous = refl; tams = refl; running = refl }) refl (ap length e ∙ length-set m.logs k [])
-    (λ a l. only_rest m.logs k a (subst (λ (x : List (List ℕ)). Contains (logged x) a) e l)) st.next (st.finger run) (λ a marked. inl marked)
+    (λ a l. only_rest m.logs k a (subst (λ (x : List (List ℕ)). Contains (logged x) a) e l)) st.next (st.finger run) (λ a marked. inl marked) (st.scanned_marked run) (st.counted run)
 
 pub drained_kept : (t : Table) (m : Marker) (k : ℕ) (ls : List (List ℕ)) (log : List ℕ) (a : ℕ) → MarkerStands t m → m.running ≡ true → log ≡ log_of m.logs k → Contains log a → IsKept t (with_logs m ls) a
 drained_kept t m k ls log a st run e l =
@@ -100,8 +101,8 @@ pub taken_keeps : (t : Table) (m m' : Marker) (k : ℕ) → MarkerStands t m →
 taken_keeps t m m' k st run same scanned logs marks = same_snapshots t m m' same (λ roots. taken_more t m m' k roots st run same scanned logs marks)
 
 pub one_taken : (t : Table) (m m' m'' : Marker) (n : ℕ) → HasTaken t m m' n → n < length m'.logs → MarkerStands t m'' → KeepsSnapshots t m' m''
-    → m''.logs ≡ set m'.logs n [] → SameRoles m' m'' → HasTaken t m m'' (n + 1)
-one_taken t m m' m'' n p known st keeps logs same = record {
+    → m''.logs ≡ set m'.logs n [] → m''.scans ≡ m'.scans → SameRoles m' m'' → HasTaken t m m'' (n + 1)
+one_taken t m m' m'' n p known st keeps logs scans same = record {
   stands = st;
   running = same.running ∙ p.running;
   snapshots = snapshots_trans t m m' m'' p.same p.snapshots keeps;
@@ -110,6 +111,7 @@ one_taken t m m' m'' n p known st keeps logs same = record {
     | inr e ↦ get_or-set_other m'.logs n k [] [] e ∙ p.emptied k (omega (arith, h, e))
   ];
   len = ap length logs ∙ length-set m'.logs n [] ∙ p.len;
+  scans = scans ∙ p.scans;
   same = same_trans m m' m'' p.same same;
 }
 
@@ -140,6 +142,8 @@ saved_stands t m k at ls st run below kept e =
         logged_below = λ a l. elim (came a l) [ inl was ↦ f.logged_below a was | inr new ↦ ap (λ (x : ℕ). below_next t m.tams x) new ∙ below ];
       };
       idle = λ off. absurd (let g = run in cc);
+      scanned_marked = st.scanned_marked;
+      counted = st.counted;
     }
 
 pub is_saved : (t : Table) (m : Marker) (k at : ℕ) (w : Option ℕ) (ls : List (List ℕ)) → k < length m.logs → w ≡ Some at → below_next t m.tams at ≡ true

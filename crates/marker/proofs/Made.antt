@@ -50,6 +50,8 @@ new_stands regions words mutators m off previous next low high scanned logs t co
       newer = λ on. absurd (let e = off in cc);
       follows = λ on. absurd (let e = off in cc);
       idle = λ _. ap logged logs ∙ none_in mutators;
+      scanned_marked = λ on. absurd (let e = off in cc);
+      counted = λ on. absurd (let e = off in cc);
     }
 
 -- nothing lies below a bottom

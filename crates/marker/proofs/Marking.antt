@@ -22,6 +22,7 @@ pub record HasScanned (t : Table) (m m' : Marker) (n : ℕ) : Type 0 where
   pub running : m'.running ≡ true
   pub snapshots : KeepsSnapshots t m m'
   pub count : marked_count m'.grey.scanned ≡ marked_count m.grey.scanned + n
+  pub scans : m'.scans ≡ m.scans + n
   pub same : SameRoles m m'
   pub logs : m'.logs ≡ m.logs
 
@@ -35,7 +36,7 @@ pub snapshots_trans : (t : Table) (m m' m'' : Marker) → SameRoles m m' → Kee
 snapshots_trans t m m' m'' same p q = λ s g roots shows keeps. q s g roots (subst (λ (h : Heap). Shows g h) (sym (same_heap t roots m m' same)) shows) (p s g roots shows keeps)
 
 pub none_scanned : (t : Table) (m : Marker) → MarkerStands t m → m.running ≡ true → HasScanned t m m 0
-none_scanned t m st run = record { stands = st; running = run; snapshots = snapshots_refl t m; count = omega arith; same = same_refl m; logs = refl }
+none_scanned t m st run = record { stands = st; running = run; snapshots = snapshots_refl t m; count = omega arith; scans = omega arith; same = same_refl m; logs = refl }
 
 finger_snapshots : (t : Table) (m : Marker) (g : Scans) → g.scanned ≡ m.grey.scanned → KeepsSnapshots t m (with_grey m g)
 finger_snapshots t m g e = λ s graph roots shows keeps.
@@ -44,24 +45,27 @@ finger_snapshots t m g e = λ s graph roots shows keeps.
 -- the finger moves
 pub finger_moved : (t : Table) (m m' : Marker) (n : ℕ) (g : Scans) → HasScanned t m m' n → g.scanned ≡ m'.grey.scanned → IsFinger m'.bitmaps.next g → HasScanned t m (with_grey m' g) n
 finger_moved t m m' n g p e finger = record {
-  stands = stands_step t m' (with_grey m' g) p.stands p.running (record { previous = refl; tams = refl; running = refl }) (ap length e) refl (λ a l. l) p.stands.next finger (λ a k. inl k);
+  stands = stands_step t m' (with_grey m' g) p.stands p.running (record { previous = refl; tams = refl; running = refl }) (ap length e) refl (λ a l. l) p.stands.next finger (λ a k. inl k)
+      (λ a k. p.stands.scanned_marked p.running a (ap (λ (b : List Bool). is_marked b a) (sym e) ∙ k)) (p.stands.counted p.running ∙ ap marked_count (sym e));
   running = p.running;
   snapshots = snapshots_trans t m m' (with_grey m' g) p.same p.snapshots (finger_snapshots t m' g e);
   count = ap marked_count e ∙ p.count;
+  scans = p.scans;
   same = record { previous = p.same.previous; tams = p.same.tams; running = p.same.running };
   logs = p.logs;
 }
 
 -- one object more
 pub one_scanned : (t : Table) (m m' m'' : Marker) (n object : ℕ) → HasScanned t m m' n → is_grey m'.bitmaps.next m'.grey object ≡ true → object < length m'.bitmaps.next
-    → MarkerStands t m'' → KeepsSnapshots t m' m'' → m''.grey.scanned ≡ set m'.grey.scanned object true → SameRoles m' m'' → m''.logs ≡ m'.logs → HasScanned t m m'' (n + 1)
-one_scanned t m m' m'' n object p grey inside st keeps scanned same logs =
+    → MarkerStands t m'' → KeepsSnapshots t m' m'' → m''.grey.scanned ≡ set m'.grey.scanned object true → m''.scans ≡ m'.scans + 1 → SameRoles m' m'' → m''.logs ≡ m'.logs → HasScanned t m m'' (n + 1)
+one_scanned t m m' m'' n object p grey inside st keeps scanned counted same logs =
     let is = grey_is m'.bitmaps.next m'.grey object grey in
     record {
       stands = st;
       running = same.running ∙ p.running;
       snapshots = snapshots_trans t m m' m'' p.same p.snapshots keeps;
       count = omega (arith, ap marked_count scanned, marked_count-set m'.grey.scanned object (omega (arith, inside, p.stands.scanned)) is.1, p.count);
+      scans = omega (arith, counted, p.scans);
       same = same_trans m m' m'' p.same same;
       logs = logs ∙ p.logs;
     }

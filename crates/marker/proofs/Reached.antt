@@ -1,10 +1,11 @@
 -- Marks come, and marks still stand at kept objects.
-use Rattle.std.proofs.Common.{inl, inr, ◌≡◌, ◌⊎◌, ℕ, ◌+◌, ◌<◌, Bool, true, false, List, [], Option, Some, length, set, refl, sym, ap, ◌∙◌, subst, arith, get_or-set_same, get_or-set_other}
+use Rattle.std.proofs.Common.{inl, inr, ◌≡◌, ◌⊎◌, ℕ, ◌+◌, ◌<◌, Bool, true, false, List, [], Option, Some, length, get_or, set, refl, sym, ap, ◌∙◌, subst, arith, get_or-set_same, get_or-set_other}
 use Rattle.std.specs.Prelude.{Contains, slice_get}
-use Rattle.std.proofs.lemmas.Bool.{cases_eq}
+use Rattle.std.proofs.lemmas.Bool.{cases_eq, cases_lt}
+use Rattle.std.proofs.lemmas.List.{get_or_past}
 use Rattle.heap_model.specs.Heap.{IsClosed}
 use Rattle.regions.specs.Table.{Table}
-use Rattle.mark_bitmap.specs.Marks.{is_marked}
+use Rattle.mark_bitmap.specs.Marks.{is_marked, marked_count}
 use Rattle.mark_bitmap.specs.Tops.{Tops, below_next, AreNewer}
 use Rattle.mark_bitmap.specs.Grey.{Scans, IsFinger}
 use Rattle.mark_bitmap.specs.Kept.{MarksObjects}
@@ -21,8 +22,9 @@ pub stands_step : (t : Table) (m m' : Marker) → MarkerStands t m → m.running
     → ((a : ℕ) → Contains (logged m'.logs) a → Contains (logged m.logs) a)
     → MarksObjects t m.tams.next m'.bitmaps.next → IsFinger m'.bitmaps.next m'.grey
     → ((a : ℕ) → is_marked m'.bitmaps.next a ≡ true → (is_marked m.bitmaps.next a ≡ true) ⊎ IsKept t m a)
+    → ((a : ℕ) → is_marked m'.grey.scanned a ≡ true → is_marked m'.bitmaps.next a ≡ true) → m'.scans ≡ marked_count m'.grey.scanned
     → MarkerStands t m'
-stands_step t m m' st run same scanned len logs next finger came =
+stands_step t m m' st run same scanned len logs next finger came scanned_marked counted =
     let f = st.follows run in
     let tams : m.tams ≡ m'.tams = sym same.tams in
     let kept : (a : ℕ) → IsKept t m a → IsKept t m' a = λ a. same_kept t m m' a same in
@@ -39,6 +41,8 @@ stands_step t m m' st run same scanned len logs next finger came =
         logged_below = λ a l. subst (λ (x : Tops). below_next t x a ≡ true) tams (f.logged_below a (logs a l));
       };
       idle = λ off. absurd (let e = same.running in cc);
+      scanned_marked = λ _. scanned_marked;
+      counted = λ _. counted;
     }
 
 pub marked_set : (marks : List Bool) (a b : ℕ) → is_marked (set marks a true) b ≡ true → (is_marked marks b ≡ true) ⊎ (b ≡ a)
@@ -50,12 +54,22 @@ set_stays marks a b h k = elim (cases_eq b a) [
   | inr e ↦ get_or-set_other marks a b true false e ∙ k
 ]
 
+-- a mark more takes none away
+set_more : (marks : List Bool) (a b : ℕ) → is_marked marks b ≡ true → is_marked (set marks a true) b ≡ true
+set_more marks a b k = elim (cases_lt a (length marks)) [
+  | inl inside ↦ set_stays marks a b inside k
+  | inr past ↦ elim (cases_eq b a) [
+    | inl e ↦ absurd (let f : get_or marks b false ≡ false = get_or_past marks b false (omega (arith, past, e)) in let g = k in cc)
+    | inr e ↦ get_or-set_other marks a b true false e ∙ k
+  ]
+]
+
 pub old_within : (t : Table) (m : Marker) (a : ℕ) → 0 < t.words_per_region → MarkerStands t m → below_next t m.tams a ≡ true → a < length m.bitmaps.next
 old_within t m a z st h = within t m.tams.next m.bitmaps.next a z st.next h
 
 -- the marker with other marks and another grey set
 abbrev pub with_next : Marker → List Bool → Scans → Marker
-with_next m n g = record { bitmaps = record { previous = m.bitmaps.previous; next = n }; tams = m.tams; grey = g; logs = m.logs; running = m.running }
+with_next m n g = record { bitmaps = record { previous = m.bitmaps.previous; next = n }; tams = m.tams; grey = g; logs = m.logs; running = m.running; scans = m.scans }
 
 pub set_stands : (t : Table) (m : Marker) (a : ℕ) (n : List Bool) (g : Scans) → MarkerStands t m → m.running ≡ true
     → below_next t m.tams a ≡ true → IsKept t m a → n ≡ set m.bitmaps.next a true → g.scanned ≡ m.grey.scanned
@@ -66,6 +80,8 @@ set_stands t m a n g st run below k e scanned finger =
     (subst (λ (b : List Bool). MarksObjects t m.tams.next b) (sym e) (set_objects t m.tams.next m.bitmaps.next a k.object st.next object below))
     finger
     (λ b h. elim (marked_set m.bitmaps.next a b (ap (λ (l : List Bool). is_marked l b) (sym e) ∙ h)) [ inl old ↦ inl old | inr same ↦ inr (subst (λ (x : ℕ). IsKept t m x) (sym same) k) ])
+    (λ b h. ap (λ (l : List Bool). is_marked l b) e ∙ set_more m.bitmaps.next a b (st.scanned_marked run b (ap (λ (l : List Bool). is_marked l b) (sym scanned) ∙ h)))
+    (st.counted run ∙ ap marked_count (sym scanned))
 
 pub set_marks : (t : Table) (m : Marker) (a : ℕ) (target : Option ℕ) (n : List Bool) (g : Scans) → target ≡ Some a → a < length m.bitmaps.next
     → n ≡ set m.bitmaps.next a true → MarksWanted t (λ b. target ≡ Some b) m (with_next m n g)
@@ -83,6 +99,7 @@ pub record Reached (t : Table) (wanted : ℕ → Type 0) (m m' : Marker) : Type 
   pub marks : MarksWanted t wanted m m'
   pub same : SameRoles m m'
   pub scanned : m'.grey.scanned ≡ m.grey.scanned
+  pub scans : m'.scans ≡ m.scans
   pub logs : m'.logs ≡ m.logs
 
 pub none_reached : (t : Table) (wanted : ℕ → Type 0) (m : Marker) → MarkerStands t m → ((a : ℕ) → wanted a → ⊥) → Reached t wanted m m
@@ -91,6 +108,7 @@ none_reached t wanted m st none = record {
   marks = record { stays = λ a k. k; only = λ a k. inl k; each = λ a w. absurd (none a w) };
   same = record { previous = refl; tams = refl; running = refl };
   scanned = refl;
+  scans = refl;
   logs = refl;
 }
 
@@ -119,6 +137,7 @@ more_reached t first then both m m' m'' split left right p q = record {
   };
   same = same_trans m m' m'' p.same q.same;
   scanned = q.scanned ∙ p.scanned;
+  scans = q.scans ∙ p.scans;
   logs = q.logs ∙ p.logs;
 }
 

@@ -1,15 +1,20 @@
 -- A scan is a part of marking that keeps the snapshot invariant.
-use Rattle.std.proofs.Common.{inl, inr, ◌≡◌, ℕ, Bool, true, false, not, List, Option, Some, length, set, refl, sym, ap, ◌∙◌, subst, length-set}
+use Rattle.std.proofs.Common.{inl, inr, ◌≡◌, ℕ, ◌+◌, ◌-◌, ◌^◌, ◌<◌, Bool, true, false, not, List, Option, Some, length, set, refl, sym, ap, ◌∙◌, subst, arith, length-set}
 use Rattle.std.specs.Prelude.{Contains, slice_get, ◌&&◌}
+use Rattle.std.proofs.lemmas.Bool.{cases_lt}
+use Rattle.std.proofs.lemmas.List.{get_or_past}
+use Rattle.std.proofs.lemmas.List.Sums.{count_by-le-length}
 use Rattle.std.proofs.lemmas.Option.{slice_get_within}
 use Rattle.heap_model.specs.Graph.{IsReachable, next_name}
 use Rattle.heap_model.specs.Heap.{Heap}
 use Rattle.heap_model.specs.Marking.{KeepsSnapshot, MarksMore}
 use Rattle.heap_model.proofs.Marks.{marks_more}
 use Rattle.regions.specs.Table.{Table, pointers_at}
-use Rattle.mark_bitmap.specs.Marks.{is_marked}
+use Rattle.regions.specs.Shaped.{IsShaped}
+use Rattle.mark_bitmap.specs.Marks.{is_marked, marked_count}
 use Rattle.mark_bitmap.specs.Tops.{Tops, below_next}
 use Rattle.mark_bitmap.specs.Grey.{Scans, IsFinger, is_grey}
+use Rattle.mark_bitmap.proofs.Counts.{marked_count-set}
 use Rattle.satb_log.specs.Logs.{logged}
 use Rattle.marker.specs.Views.{heap_of, marking_of}
 use Rattle.marker.specs.Stands.{MarkerStands, CanFollow, IsKept}
@@ -33,7 +38,11 @@ pub grey_is : (marks : List Bool) (g : Scans) (a : ℕ) → is_grey marks g a �
 grey_is marks g a e = both_true (is_marked marks a) (is_marked g.scanned a) e
 
 abbrev pub with_grey : Marker → Scans → Marker
-with_grey m g = record { bitmaps = m.bitmaps; tams = m.tams; grey = g; logs = m.logs; running = m.running }
+with_grey m g = record { bitmaps = m.bitmaps; tams = m.tams; grey = g; logs = m.logs; running = m.running; scans = m.scans }
+
+-- and one scan more
+abbrev pub with_scan : Marker → Scans → Marker
+with_scan m g = record { bitmaps = m.bitmaps; tams = m.tams; grey = g; logs = m.logs; running = m.running; scans = m.scans + 1 }
 
 -- where a pointer of a marked object leads is kept
 pub target_kept : (t : Table) (m : Marker) (object place a : ℕ) → CanFollow t m → is_marked m.bitmaps.next object ≡ true
@@ -47,15 +56,39 @@ target_kept t m object place a f marked e =
 abbrev pub all_pointers : Table → ℕ → ℕ → Type 0
 all_pointers t object = IsAmong (pointers_at t object) (length (pointers_at t object))
 
-pub scan_stands : (t : Table) (m m' : Marker) (object : ℕ) (g : Scans) → m.running ≡ true → Reached t (all_pointers t object) m m'
-    → g.scanned ≡ set m'.grey.scanned object true → IsFinger m'.bitmaps.next g → MarkerStands t (with_grey m' g)
-scan_stands t m m' object g run p scanned finger =
-    stands_step t m' (with_grey m' g) p.stands (p.same.running ∙ run) (record { previous = refl; tams = refl; running = refl })
+-- what is grey was not scanned, and lies in the heap
+pub grey_within : (t : Table) (m : Marker) (object : ℕ) → MarkerStands t m → is_grey m.bitmaps.next m.grey object ≡ true → object < length m.grey.scanned
+grey_within t m object st grey =
+    let marked = (grey_is m.bitmaps.next m.grey object grey).0 in
+    elim (cases_lt object (length m.bitmaps.next)) [
+      | inl inside ↦ omega (arith, inside, st.scanned)
+      | inr past ↦ absurd (let f : is_marked m.bitmaps.next object ≡ false = get_or_past m.bitmaps.next object false past in let g = marked in cc)
+    ]
+
+-- no more objects are scanned than there are addresses
+pub scans_fit : (t : Table) (m : Marker) → IsShaped t → MarkerStands t m → m.running ≡ true → m.scans < 2 ^ 32 - 1
+scans_fit t m shape st run =
+    omega (arith, st.counted run, count_by-le-length (λ b. b) m.grey.scanned, st.scanned, st.next.each_word, shape.in_all)
+
+pub scan_stands : (t : Table) (m m' : Marker) (object : ℕ) (g : Scans) → MarkerStands t m → m.running ≡ true
+    → is_grey m.bitmaps.next m.grey object ≡ true → Reached t (all_pointers t object) m m'
+    → g.scanned ≡ set m'.grey.scanned object true → IsFinger m'.bitmaps.next g → MarkerStands t (with_scan m' g)
+scan_stands t m m' object g st run grey p scanned finger =
+    let is = grey_is m.bitmaps.next m.grey object grey in
+    let on = p.same.running ∙ run in
+    let unscanned : is_marked m'.grey.scanned object ≡ false = ap (λ (l : List Bool). is_marked l object) p.scanned ∙ is.1 in
+    let inside : object < length m'.grey.scanned = omega (arith, grey_within t m object st grey, ap length p.scanned) in
+    stands_step t m' (with_scan m' g) p.stands on (record { previous = refl; tams = refl; running = refl })
     (ap length scanned ∙ length-set m'.grey.scanned object true) refl (λ a l. l) p.stands.next finger (λ a k. inl k)
+    (λ a k. elim (marked_set m'.grey.scanned object a (ap (λ (l : List Bool). is_marked l a) (sym scanned) ∙ k)) [
+      | inl was ↦ p.stands.scanned_marked on a was
+      | inr same ↦ ap (is_marked m'.bitmaps.next) same ∙ p.marks.stays object is.0
+    ])
+    (omega (arith, p.stands.counted on, marked_count-set m'.grey.scanned object inside unscanned, ap marked_count scanned))
 
 scan_more : (t : Table) (m m' : Marker) (object : ℕ) (g : Scans) (roots : List (Option ℕ)) → MarkerStands t m → m.running ≡ true
     → is_grey m.bitmaps.next m.grey object ≡ true → Reached t (all_pointers t object) m m'
-    → g.scanned ≡ set m'.grey.scanned object true → MarksMore (heap_of t roots m) (marking_of t m) (marking_of t (with_grey m' g))
+    → g.scanned ≡ set m'.grey.scanned object true → MarksMore (heap_of t roots m) (marking_of t m) (marking_of t (with_scan m' g))
 scan_more t m m' object g roots st run grey p scanned =
     let is = grey_is m.bitmaps.next m.grey object grey in
     let k = (st.follows run).marked object is.0 in
@@ -87,6 +120,6 @@ scan_more t m m' object g roots st run grey p scanned =
 
 pub scan_keeps : (t : Table) (m m' : Marker) (object : ℕ) (g : Scans) → MarkerStands t m → m.running ≡ true
     → is_grey m.bitmaps.next m.grey object ≡ true → Reached t (all_pointers t object) m m'
-    → g.scanned ≡ set m'.grey.scanned object true → KeepsSnapshots t m (with_grey m' g)
+    → g.scanned ≡ set m'.grey.scanned object true → KeepsSnapshots t m (with_scan m' g)
 scan_keeps t m m' object g st run grey p scanned =
-    same_snapshots t m (with_grey m' g) (record { previous = p.same.previous; tams = p.same.tams; running = p.same.running }) (λ roots. scan_more t m m' object g roots st run grey p scanned)
+    same_snapshots t m (with_scan m' g) (record { previous = p.same.previous; tams = p.same.tams; running = p.same.running }) (λ roots. scan_more t m m' object g roots st run grey p scanned)

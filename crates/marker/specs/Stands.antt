@@ -2,7 +2,7 @@
 use Rattle.std.specs.Prelude.{◌≡◌, ℕ, true, false, [], length, Some, Contains}
 use Rattle.heap_model.specs.Heap.{Stored, IsClosed}
 use Rattle.regions.specs.Table.{Table}
-use Rattle.mark_bitmap.specs.Marks.{is_marked}
+use Rattle.mark_bitmap.specs.Marks.{is_marked, marked_count}
 use Rattle.mark_bitmap.specs.Tops.{below_next, AreNewer}
 use Rattle.mark_bitmap.specs.Grey.{IsFinger}
 use Rattle.mark_bitmap.specs.Kept.{MarksObjects, kept_in}
@@ -33,3 +33,6 @@ pub record MarkerStands (t : Table) (m : Marker) : Type 0 where
   pub newer : m.running ≡ true → AreNewer m.tams
   pub follows : m.running ≡ true → CanFollow t m
   pub idle : m.running ≡ false → logged m.logs ≡ []
+  -- scanned objects are marked, and counted
+  pub scanned_marked : m.running ≡ true → (a : ℕ) → is_marked m.grey.scanned a ≡ true → is_marked m.bitmaps.next a ≡ true
+  pub counted : m.running ≡ true → m.scans ≡ marked_count m.grey.scanned

@@ -1,12 +1,12 @@
 //! The beginning of marking, deletion logs, and its end.
 
-ghost use Rattle.std.specs.Prelude.{◌≡◌, ◌≢◌, ℕ, ◌<◌, ◌==◌, List, [], Bool, true, false, Option, Some, Contains, length, replicate, slice_index, slice_set};
+ghost use Rattle.std.specs.Prelude.{◌≡◌, ◌≢◌, ℕ, ◌<◌, ◌==◌, List, [], Bool, true, false, Option, Some, Contains, if◌then◌else◌, ◌+◌, ◌*◌, length, slice_index, slice_set};
 ghost use Rattle.heap_model.specs.Graph.{Graph};
 ghost use Rattle.heap_model.specs.Heap.{Shows, IsClosed};
 ghost use Rattle.heap_model.specs.Marking.{KeepsSnapshot, Begins, IsSaved};
 ghost use Rattle.regions.specs.Table.{Table, top_of};
 ghost use Rattle.mark_bitmap.specs.Marks.{is_marked, marked_count};
-ghost use Rattle.mark_bitmap.specs.Tops.{exchanged};
+ghost use Rattle.mark_bitmap.specs.Tops.{exchanged, is_in_region, with_bottom};
 ghost use Rattle.satb_log.specs.Logs.{log_of};
 ghost use Rattle.marker.specs.Views.{heap_of, marking_of};
 ghost use Rattle.marker.specs.Stands.{MarkerStands, IsKept};
@@ -14,8 +14,7 @@ ghost use Rattle.marker.specs.Ends.{EndsExactly};
 ghost use Rattle.marker.specs.Steps.{KeepsSnapshots, SameRoles, MarksWanted};
 
 use crate::marker::Marker;
-use heap_words::addr::{Ptr, RegionNo};
-use mark_bitmap::marks::count_marked;
+use heap_words::addr::{Addr, Ptr, RegionNo};
 use mark_bitmap::tams::Tams;
 use regions::RegionTable;
 use satb_log::log::DeletionLog;
@@ -47,10 +46,12 @@ impl Marker {
         ensures previous_tops { self.new.tams.previous ≡ self.old.tams.previous }
         ensures previous_marks { self.new.bitmaps.previous ≡ self.old.bitmaps.previous }
         ensures logs { self.new.logs ≡ self.old.logs }
+        ensures scans { self.new.scans ≡ 0 }
     {
         self.bitmaps.next.clear();
         self.grey.clear();
         set_tops(&mut self.tams, table);
+        self.scans = 0;
         self.running = true;
     }
 
@@ -67,6 +68,7 @@ impl Marker {
         ensures previous_tops { self.new.tams.previous ≡ self.old.tams.previous }
         ensures previous_marks { self.new.bitmaps.previous ≡ self.old.bitmaps.previous }
         ensures logs { self.new.logs ≡ self.old.logs }
+        ensures scans { self.new.scans ≡ 0 }
     {
         table.law();
         self.start(table);
@@ -84,6 +86,7 @@ impl Marker {
         ensures marks { MarksWanted table.now (Contains log.now) self.old self.new }
         ensures same { SameRoles self.old self.new }
         ensures scanned { self.new.grey.scanned ≡ self.old.grey.scanned }
+        ensures scans { self.new.scans ≡ self.old.scans }
         ensures logs { self.new.logs ≡ self.old.logs }
     {
         for place in 0..log.len() {
@@ -104,6 +107,7 @@ impl Marker {
         ensures full { result ≡ (length (log_of self.new.logs mutator) == 8) }
         ensures others { (other : ℕ) → other ≢ mutator → log_of self.new.logs other ≡ log_of self.old.logs other }
         ensures same { SameRoles self.old self.new }
+        ensures scans { self.new.scans ≡ self.old.scans }
         ensures mutators { length self.new.logs ≡ length self.old.logs }
     {
         let Some(at) = overwritten else {
@@ -126,6 +130,7 @@ impl Marker {
         ensures marks { MarksWanted table.now (Contains (log_of self.old.logs mutator)) self.old self.new }
         ensures emptied { self.new.logs ≡ slice_set self.old.logs mutator [] }
         ensures scanned { self.new.grey.scanned ≡ self.old.grey.scanned }
+        ensures scans { self.new.scans ≡ self.old.scans }
         ensures same { SameRoles self.old self.new }
     {
         let log = self.logs.drain(mutator);
@@ -140,6 +145,7 @@ impl Marker {
         ensures snapshots { KeepsSnapshots table.now self.old self.new }
         ensures emptied { (mutator : ℕ) → mutator < length self.new.logs → log_of self.new.logs mutator ≡ [] }
         ensures len { length self.new.logs ≡ length self.old.logs }
+        ensures scans { self.new.scans ≡ self.old.scans }
         ensures same { SameRoles self.old self.new }
     {
         for mutator in 0..self.logs.mutators() {
@@ -148,7 +154,7 @@ impl Marker {
     }
 
     /// Marking ends: all logs are taken, all grey objects scanned, and the next marks and tops become the previous
-    /// ones. The result is how many objects are marked.
+    /// ones. The result is how many objects are marked, and as many were scanned.
     pub fn finish(&mut self, table: &RegionTable) -> u32
         requires stands { MarkerStands table.now self.old }
         requires running { self.old.running ≡ true }
@@ -156,6 +162,7 @@ impl Marker {
         ensures over { self.new.running ≡ false }
         ensures exact { EndsExactly table.now self.old self.new result }
         ensures count { result ≡ marked_count self.new.bitmaps.previous }
+        ensures scans { self.new.scans ≡ result }
         ensures tops { self.new.tams ≡ exchanged self.old.tams }
         ensures marks { self.new.bitmaps.next ≡ self.old.bitmaps.previous }
         ensures mutators { length self.new.logs ≡ length self.old.logs }
@@ -163,10 +170,36 @@ impl Marker {
         table.law();
         self.take_logs(table);
         self.mark(table, u32::MAX);
-        let count = count_marked(&self.bitmaps.next);
         self.bitmaps.swap_roles();
         self.tams.swap_roles();
         self.running = false;
-        count
+        self.scans
+    }
+
+    /// A region whose objects all are dead is about to be released, or just taken: its marks of both roles go, and both
+    /// its tops fall to its bottom.
+    pub fn forget(&mut self, table: &RegionTable, region: RegionNo)
+        requires stands { MarkerStands table.now self.old }
+        requires idle { self.old.running ≡ false }
+        requires known { region < length table.now.regions }
+        ensures stands { MarkerStands table.now self.new }
+        ensures previous { (a : ℕ) → is_marked self.new.bitmaps.previous a
+            ≡ (if is_in_region table.now.words_per_region region a then false else is_marked self.old.bitmaps.previous a) }
+        ensures next { (a : ℕ) → is_marked self.new.bitmaps.next a
+            ≡ (if is_in_region table.now.words_per_region region a then false else is_marked self.old.bitmaps.next a) }
+        ensures tops { self.new.tams ≡ with_bottom self.old.tams region (region * table.now.words_per_region) }
+        ensures logs { self.new.logs ≡ self.old.logs }
+        ensures running { self.new.running ≡ false }
+        ensures grey { self.new.grey ≡ self.old.grey }
+        ensures scans { self.new.scans ≡ self.old.scans }
+    {
+        table.law();
+        let words = table.words_per_region();
+        let bottom = region.number() * words;
+        let from = Addr::new(bottom);
+        let to = Addr::new(bottom + words);
+        self.bitmaps.previous.clear_range(from, to);
+        self.bitmaps.next.clear_range(from, to);
+        self.tams.reset(region, from);
     }
 }

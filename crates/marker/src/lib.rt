@@ -13,12 +13,16 @@
 //!                              ^-----------------------+
 //!                              | save     a store's overwritten pointer enters its mutator's log
 //!                              | take_log what a log names is marked
+//!
+//!   while idle: forget   a region's marks go and its tops fall to its bottom, before it is released or once it is taken
 //! ```
 //!
 //! What is promised, for every graph that the heap shows and every snapshot: `begin` makes the present graph the
 //! snapshot; each further call keeps the snapshot invariant; and after `finish` the marked names are exactly those that
-//! were reachable in the snapshot, the answer is their number, and what is kept from then on still shows the graph. Each
-//! object is scanned once in a cycle: a scan takes a grey object, and leaves it scanned.
+//! were reachable in the snapshot, the answer is their number, and what is kept from then on still shows the graph.
+//!
+//! Each object is scanned once in a cycle: a scan takes a grey object, and leaves it scanned. The scans are counted from
+//! `begin` on, only marked objects are scanned, and at the end the count is the number of marked objects.
 //!
 //! A scan costs the object's pointers, `begin` the bitmap, the regions and the roots, and no call walks a region. No
 //! call takes memory but `Marker::new`.

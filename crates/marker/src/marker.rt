@@ -26,6 +26,8 @@ pub struct Marker {
     pub logs: DeletionLogs,
     /// Whether marking runs.
     pub running: bool,
+    /// How many objects were scanned since marking began.
+    pub scans: u32,
 }
 
 impl Marker {
@@ -45,6 +47,14 @@ impl Marker {
             grey: Grey::new(alloc, count)?,
             logs: DeletionLogs::new(alloc, config.mutators)?,
             running: false,
+            scans: 0,
         })
+    }
+
+    /// How many objects were scanned since marking began.
+    pub fn scans(&self) -> u32
+        ensures { result ≡ self.now.scans }
+    {
+        self.scans
     }
 }

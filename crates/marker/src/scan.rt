@@ -27,6 +27,7 @@ impl Marker {
         ensures marks { MarksWanted table.now (λ a. target ≡ Some a) self.old self.new }
         ensures same { SameRoles self.old self.new }
         ensures scanned { self.new.grey.scanned ≡ self.old.grey.scanned }
+        ensures scans { self.new.scans ≡ self.old.scans }
         ensures logs { self.new.logs ≡ self.old.logs }
     {
         let Some(at) = target else {
@@ -49,15 +50,18 @@ impl Marker {
         ensures snapshots { KeepsSnapshots table.now self.old self.new }
         ensures marks { MarksWanted table.now (IsAmong (pointers_at table.now object) (length (pointers_at table.now object))) self.old self.new }
         ensures scanned { self.new.grey.scanned ≡ slice_set self.old.grey.scanned object true }
+        ensures counted { self.new.scans ≡ self.old.scans + 1 }
         ensures same { SameRoles self.old self.new }
         ensures logs { self.new.logs ≡ self.old.logs }
     {
+        table.law();
         let count = table.pointer_count(object);
         for field in 0..count {
             let target = table.get_ptr(object, field);
             self.reach(table, target);
         }
         self.grey.remove(object);
+        self.scans += 1;
     }
 
     /// Scans up to `units` grey objects, the lowest first, and says how many: fewer only if none is left.
@@ -67,6 +71,7 @@ impl Marker {
         ensures most { result ≤ units }
         ensures none_left { result < units → HasNone (is_grey self.new.bitmaps.next self.new.grey) 0 }
         ensures count { marked_count self.new.grey.scanned ≡ marked_count self.old.grey.scanned + result }
+        ensures scans { self.new.scans ≡ self.old.scans + result }
         ensures stands { MarkerStands table.now self.new }
         ensures snapshots { KeepsSnapshots table.now self.old self.new }
         ensures same { SameRoles self.old self.new }

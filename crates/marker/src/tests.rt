@@ -1,6 +1,6 @@
 //! Marking over tables made by hand.
 
-ghost use Rattle.std.specs.Prelude.{◌≡◌, ℕ, ◌<◌, ◌^◌, true, Some, length, slice_get, IfOk, IfSome};
+ghost use Rattle.std.specs.Prelude.{◌≡◌, ℕ, ◌<◌, ◌^◌, true, false, Some, length, slice_get, IfOk, IfSome};
 ghost use Rattle.heap_words.specs.Configs.{Suits};
 ghost use Rattle.regions.specs.Table.{HasObject};
 ghost use Rattle.marker.specs.Stands.{MarkerStands, IsKept};
@@ -176,15 +176,15 @@ fn marks_a_ring(rt: HostRuntime) -> Result<(), Fail> {
     let made = build(rt.alloc(), &[1, 1], &[(0, 0, 1), (1, 0, 0)])?;
     let roots = roots_of(rt.alloc(), &made, &[(16, 0)])?;
     let mut marker = begun(rt.alloc(), &made.table, &roots)?;
-    assert_eq!(rt; marker.mark(&made.table, 0), 0);
-    assert_eq!(rt; marker.mark(&made.table, 1), 1);
-    assert_eq!(rt; marker.mark(&made.table, 9), 1);
-    assert_eq!(rt; marker.mark(&made.table, 9), 0);
-    assert_eq!(rt; marker.finish(&made.table), 2);
+    assert_eq!(rt; (marker.mark(&made.table, 0), marker.scans()), (0, 0));
+    assert_eq!(rt; (marker.mark(&made.table, 1), marker.scans()), (1, 1));
+    assert_eq!(rt; (marker.mark(&made.table, 9), marker.scans()), (1, 2));
+    assert_eq!(rt; (marker.mark(&made.table, 9), marker.scans()), (0, 2));
+    assert_eq!(rt; (marker.finish(&made.table), marker.scans()), (2, 2));
     let nil = roots_of(rt.alloc(), &made, &[])?;
     let mut idle = begun(rt.alloc(), &made.table, &nil)?;
     assert_eq!(rt; idle.mark(&made.table, 9), 0);
-    assert_eq!(rt; idle.finish(&made.table), 0);
+    assert_eq!(rt; (idle.finish(&made.table), idle.scans()), (0, 0));
     Ok(())
 }
 
@@ -233,7 +233,44 @@ fn takes_what_was_logged(rt: HostRuntime) -> Result<(), Fail> {
     let mut other = begun(rt.alloc(), &made.table, &roots)?;
     save(&mut other, &made, 1, 1);
     assert_eq!(rt; other.mark(&made.table, 9), 1);
-    assert_eq!(rt; other.finish(&made.table), 3);
+    assert_eq!(rt; (other.finish(&made.table), other.scans()), (3, 3));
     assert_eq!(rt; marker.finish(&made.table), 1);
+    Ok(())
+}
+
+/// The previous and the next in each other's place, while marking doesn't run.
+fn exchange(marker: &mut Marker, _table: &RegionTable)
+    requires stands { MarkerStands _table.now marker.old }
+    requires idle { marker.old.running ≡ false }
+    ensures stands { MarkerStands _table.now marker.new }
+    ensures idle { marker.new.running ≡ false }
+{
+    marker.bitmaps.swap_roles();
+    marker.tams.swap_roles();
+}
+
+/// Two marked objects in two regions. Once the first region is forgotten, its mark is gone from either role, and both
+/// its tops are at its bottom; the other region's mark stays.
+#[test]
+fn forgets_a_region(rt: HostRuntime) -> Result<(), Fail> {
+    let made = build(rt.alloc(), &[1, 1], &[(0, 0, 1)])?;
+    let roots = roots_of(rt.alloc(), &made, &[(16, 0)])?;
+    let region = RegionNo::new(0);
+    let bottom = Addr::new(0);
+    let mut marker = begun(rt.alloc(), &made.table, &roots)?;
+    assert_eq!(rt; marker.finish(&made.table), 2);
+    assert_eq!(rt; marker.bitmaps.previous.next(bottom), Some(bottom));
+    assert_eq!(rt; marker.tams.previous(region), Addr::new(3));
+    marker.forget(&made.table, region);
+    assert_eq!(rt; marker.bitmaps.previous.next(bottom), Some(Addr::new(16)));
+    assert_eq!(rt; marker.tams.previous(region), bottom);
+    let mut other = begun(rt.alloc(), &made.table, &roots)?;
+    assert_eq!(rt; other.finish(&made.table), 2);
+    exchange(&mut other, &made.table);
+    assert_eq!(rt; other.bitmaps.next.next(bottom), Some(bottom));
+    assert_eq!(rt; other.tams.next(region), Addr::new(3));
+    other.forget(&made.table, region);
+    assert_eq!(rt; other.bitmaps.next.next(bottom), Some(Addr::new(16)));
+    assert_eq!(rt; other.tams.next(region), bottom);
     Ok(())
 }

@@ -22,7 +22,7 @@ loop-root-preserved c =
     let q = c.reach.ensures in
     let word = slice_get_read c.args.roots.now _ c.loop-root.root-index c.root-item.result refl c.loop-root-test.true c.root-item.is in
     among_more c.args.table.now c.args.roots.now c.loop-root.root-index c.root-item.result c.start.new.self c.loop-root.self c.reach.new.self
-    word c.loop-root.invariant (record { stands = q.stands; marks = q.marks; same = q.same; scanned = q.scanned; logs = q.logs })
+    word c.loop-root.invariant (record { stands = q.stands; marks = q.marks; same = q.same; scanned = q.scanned; scans = q.scans; logs = q.logs })
 
 pub returns-clause-begins : goal.returns-clause-begins
 returns-clause-begins c =

@@ -19,7 +19,7 @@ pub loop-field-preserved : goal.loop-field-preserved
 loop-field-preserved c =
     let q = c.reach.ensures in
     among_more c.args.table.now (pointers_at c.args.table.now c.args.object) c.loop-field.field c.get_ptr-target.result c.args.self.now c.loop-field.self c.reach.new.self
-    c.get_ptr-target.ensures c.loop-field.invariant (record { stands = q.stands; marks = q.marks; same = q.same; scanned = q.scanned; logs = q.logs })
+    c.get_ptr-target.ensures c.loop-field.invariant (record { stands = q.stands; marks = q.marks; same = q.same; scanned = q.scanned; scans = q.scans; logs = q.logs })
 
 all_reached : (t : Table) (m m' : Marker) (object n count : ℕ) → count ≡ length (pointers_at t object) → count ≤ n → n ≤ count → Reached t (IsAmong (pointers_at t object) n) m m' → Reached t (all_pointers t object) m m'
 all_reached t m m' object n count e low high p = subst (λ (k : ℕ). Reached t (IsAmong (pointers_at t object) k) m m') (let same : n ≡ length (pointers_at t object) = omega (arith, e, low, high) in same) p
@@ -27,7 +27,7 @@ all_reached t m m' object n count e low high p = subst (λ (k : ℕ). Reached t 
 pub returns-clause-stands : goal.returns-clause-stands
 returns-clause-stands c =
     let p = all_reached c.args.table.now c.args.self.now c.loop-field.self c.args.object c.loop-field.field c.pointer_count-count.result c.pointer_count-count.ensures c.loop-field-test.false c.loop-field.auto.field-end c.loop-field.invariant in
-    scan_stands c.args.table.now c.args.self.now c.loop-field.self c.args.object c.remove.new.self c.requires.running p (ap (λ (g : Scans). g.scanned) c.remove.ensures.scanned)
+    scan_stands c.args.table.now c.args.self.now c.loop-field.self c.args.object c.remove.new.self c.requires.stands c.requires.running c.requires.grey p (ap (λ (g : Scans). g.scanned) c.remove.ensures.scanned)
     (c.remove.ensures.finger c.loop-field.self.bitmaps.next (p.stands.finger (p.same.running ∙ c.requires.running)))
 
 pub returns-clause-snapshots : goal.returns-clause-snapshots

@@ -1,0 +1,5 @@
+use Rattle.marker.proofs.Forgotten.{table_stands}
+use Rattle.marker.proofs.laws.table_law.Goals as goal
+
+pub returns : goal.returns
+returns c = λ t t' m st count size low high stays follows. table_stands t t' m st count size low high (λ a x _ o. stays a x o) (λ a x _ o. stays a x o) follows
