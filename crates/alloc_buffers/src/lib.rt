@@ -20,6 +20,9 @@
 //!   retired  | objects ..     | object | object | filler                | new buffer ..
 //!                                                                       ^ top of the current region
 //! ```
+//!
+//! Limits are an address for each region, as tops at mark start. If all tops and all open buffers lie at or
+//! above them, so does the place of a new object, and so do all tops and open buffers once it is placed.
 #![tactic(auto)]
 
 ghost use Rattle.std.specs.Prelude.{◌≡◌, ◌≢◌, ℕ, ◌<◌, ◌≤◌, ◌+◌, ◌-◌, ◌*◌, ◌^◌, ◌↔◌, ◌∷◌, length, Option, Some, None, replicate, IsTrue, IfOk, OnErr, IsErr, IfSome, IfNone, slice_get};
