@@ -5,3 +5,5 @@ pub mod Ranges
 pub mod KeptLaws
 pub mod ObjectLaws
 pub mod Listed
+pub mod Spans
+pub mod LiveWords
