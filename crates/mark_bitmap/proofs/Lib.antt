@@ -7,3 +7,4 @@ pub mod ObjectLaws
 pub mod Listed
 pub mod Spans
 pub mod LiveWords
+pub mod LiveBounds
