@@ -5,3 +5,6 @@ pub mod Ranges
 pub mod KeptLaws
 pub mod ObjectLaws
 pub mod Listed
+pub mod Spans
+pub mod LiveWords
+pub mod LiveBounds

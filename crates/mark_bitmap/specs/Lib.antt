@@ -3,3 +3,4 @@ pub mod Words
 pub mod Tops
 pub mod Grey
 pub mod Kept
+pub mod Live

@@ -22,6 +22,7 @@
 pub mod bitmaps;
 pub mod grey;
 pub mod kept;
+pub mod live;
 pub mod marks;
 pub mod objects;
 pub mod tams;
