@@ -109,6 +109,8 @@ pub record IsPlaced (t t' : Table) (b b' : Buffers) (size a : ℕ) : Type 0 wher
   pub open_count : length b'.open_buffers ≡ length b.open_buffers
   pub words : b'.words ≡ b.words
   pub count : length t'.regions ≡ length t.regions
+  -- each region in use stays in use
+  pub in_use : (j : ℕ) → kind_of t j ≢ kinds.Free → kind_of t' j ≢ kinds.Free
   -- whatever limits all that was to be handed out lay above: so does the place, and all that is still to be handed out
   pub above : (limit : ℕ → ℕ) → AreAbove t b limit → IsAbove t.words_per_region limit a × AreAbove t' b' limit
 
@@ -120,6 +122,7 @@ pub record HasRoom (t t' : Table) (k w : ℕ) : Type 0 where
   pub room : used_of t' k + w ≤ t'.words_per_region
   pub unmoved : HasNoMoved t → HasNoMoved t'
   pub kinds_same : (j : ℕ) → kind_of t j ≡ kinds.Ordinary → kind_of t' j ≡ kinds.Ordinary
+  pub in_use : (j : ℕ) → kind_of t j ≢ kinds.Free → kind_of t' j ≢ kinds.Free
   pub count : length t'.regions ≡ length t.regions
   pub tiles : (y : ℕ) → tile_in t' y ≡ tile_in t y
   pub used : (j : ℕ) → used_of t' j ≡ used_of t j

@@ -4,12 +4,18 @@ use Rattle.heap_words.specs.declared.config.Config.{Config}
 use Rattle.object_graph.specs.Actors.{IsStep}
 use Rattle.object_graph.specs.declared.step.Step.{Step}
 use Rattle.object_graph.specs.declared.step.Step.TheVariants as steps
+use Rattle.object_graph.specs.declared.step.CollectorStep.TheVariants as collector
 use Rattle.script_text.specs.Fits.{is_step_yet}
-use Rattle.step_core.specs.Histories.{IsMutatorStep}
+use Rattle.step_core.specs.Histories.{IsStepYet}
 
-mutator_step : (c : Config) (s : Step) → IsStep c s → IsTrue (is_step_yet s) → IsMutatorStep c s
-mutator_step c (steps.Mutator o) owned yet = owned
-mutator_step c (steps.Collector k) owned yet = absurd (cc)
+step_yet : (c : Config) (s : Step) → IsStep c s → IsTrue (is_step_yet s) → IsStepYet c s
+step_yet c (steps.Mutator o) owned yet = owned
+step_yet c (steps.Collector collector.Begin) owned yet = tt
+step_yet c (steps.Collector (collector.Mark k)) owned yet = tt
+step_yet c (steps.Collector collector.Remark) owned yet = tt
+step_yet c (steps.Collector collector.Cleanup) owned yet = tt
+step_yet c (steps.Collector (collector.Refine k)) owned yet = absurd (cc)
+step_yet c (steps.Collector (collector.Pause k)) owned yet = absurd (cc)
 
-pub mutator_steps : (c : Config) (ss : List Step) → All (IsStep c) ss → All (λ s. IsTrue (is_step_yet s)) ss → All (IsMutatorStep c) ss
-mutator_steps c ss owned yet = λ k d within. mutator_step c _ (owned k d within) (yet k d within)
+pub steps_yet : (c : Config) (ss : List Step) → All (IsStep c) ss → All (λ s. IsTrue (is_step_yet s)) ss → All (IsStepYet c) ss
+steps_yet c ss owned yet = λ k d within. step_yet c _ (owned k d within) (yet k d within)

@@ -1,10 +1,13 @@
 //! The program's job on scripts, faulty readers and writers, and command lines.
 
 mod cases;
+mod drawn;
+mod records;
 
 use crate::job::read_words;
 use crate::perform::perform;
 use cases::CASES;
+use records::RECORDS;
 use std::alloc::Global;
 use std::io;
 use std::io::{Read, Write};
@@ -79,29 +82,9 @@ fn script_of(alloc: Global, record: &str) -> Result<String, Fail> {
     Ok(script)
 }
 
-static RECORDS: [(&str, &str); 5] = [
-    (
-        "first read",
-        "heap 4 16 8 1 0\n1 0 new r0 1 1 = #0\n2 0 read r0 0 = 0\n3 0 get r1 r0 0 = nil\n",
-    ),
-    ("no steps", "heap 4 16 8 1 0\n"),
-    (
-        "names spent",
-        "heap 4 16 8 1 18446744073709551614\n1 0 new r0 0 0 = #18446744073709551614\n2 0 new r1 40 40 = refused 4 TooBig\n3 0 new r1 0 0 = refused 5 NamesSpent\n",
-    ),
-    (
-        "nil and no field",
-        "heap 4 16 8 1 0\n1 0 get r1 r0 9 = refused 1 Nil\n2 0 new r0 1 0 = #0\n3 0 put r0 1 r0 = refused 2 NoField\n4 0 read r0 0 = refused 2 NoField\n5 0 get r1 r0 0 = nil\n",
-    ),
-    (
-        "fills a heap",
-        "heap 2 16 8 1 0\n1 0 new r0 3 3 = #0\n2 0 new r0 3 3 = #1\n3 0 new r0 3 3 = #2\n4 0 new r0 3 3 = #3\n5 0 new r0 3 3 = refused 3 Full\n",
-    ),
-];
-
 #[test]
 fn records(rt: HostRuntime) -> Result<(), Fail> {
-    for (name, record) in RECORDS {
+    for (name, record) in &RECORDS {
         let script = script_of(rt.alloc(), record)?;
         let outcome = run(rt.alloc(), script.as_str())?;
         assert_outcome(&rt, name, &outcome, 0, record, "");

@@ -1,6 +1,6 @@
 //! The beginning of marking, deletion logs, and its end.
 
-ghost use Rattle.std.specs.Prelude.{◌≡◌, ◌≢◌, ℕ, ◌<◌, ◌==◌, List, [], Bool, true, false, Option, Some, Contains, if◌then◌else◌, ◌+◌, ◌*◌, length, slice_index, slice_set};
+ghost use Rattle.std.specs.Prelude.{◌≡◌, ◌≢◌, ℕ, ◌<◌, ◌≤◌, ◌==◌, List, [], Bool, true, false, Option, Some, Contains, if◌then◌else◌, ◌+◌, ◌*◌, length, slice_index, slice_set};
 ghost use Rattle.heap_model.specs.Graph.{Graph};
 ghost use Rattle.heap_model.specs.Heap.{Shows, IsClosed};
 ghost use Rattle.heap_model.specs.Marking.{KeepsSnapshot, Begins, IsSaved};
@@ -105,6 +105,7 @@ impl Marker {
         ensures stands { MarkerStands table.now self.new }
         ensures saved { IsSaved (marking_of table.now self.old) (marking_of table.now self.new) overwritten }
         ensures full { result ≡ (length (log_of self.new.logs mutator) == 8) }
+        ensures most { length (log_of self.new.logs mutator) ≤ 8 }
         ensures others { (other : ℕ) → other ≢ mutator → log_of self.new.logs other ≡ log_of self.old.logs other }
         ensures same { SameRoles self.old self.new }
         ensures scans { self.new.scans ≡ self.old.scans }

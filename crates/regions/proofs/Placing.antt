@@ -286,6 +286,7 @@ pub record Takes (t t' : Table) (k : ℕ) : Type 0 where
   pub ordinary : kind_of t' k ≡ kinds.Ordinary
   pub was : kind_of t k ≡ kinds.Free
   pub kinds_same : (j : ℕ) → kind_of t j ≡ kinds.Ordinary → kind_of t' j ≡ kinds.Ordinary
+  pub in_use : (j : ℕ) → kind_of t j ≢ kinds.Free → kind_of t' j ≢ kinds.Free
   pub count : length t'.regions ≡ length t.regions
   pub unmoved : HasNoMoved t → HasNoMoved t'
   pub empty : used_of t' k ≡ 0
@@ -306,6 +307,10 @@ region_taken t k h =
       ordinary = ap region_kind here;
       was = ap region_kind is;
       kinds_same = λ j o. elim (cases_eq j k) [ inl e ↦ rw e (ap region_kind here) | inr e ↦ ap region_kind (get_or-set_other t.regions k j (Ordinary []) Free e) ∙ o ];
+      in_use = λ j n h. elim (cases_eq j k) [
+        | inl e ↦ n (ap (λ (i : ℕ). region_kind (get_or t.regions i Free)) e ∙ ap region_kind is)
+        | inr e ↦ n (sym (ap region_kind (get_or-set_other t.regions k j (Ordinary []) Free e)) ∙ h)
+      ];
       count = length-set t.regions k (Ordinary []);
       unmoved = λ m. EachMovedIn-set (λ _. ⊥) t.regions k (Ordinary []) (tt, tt) m;
       empty = ap (region_used size) here;

@@ -72,6 +72,7 @@ impl DeletionLogs {
         requires room { length (log_of self.old mutator) < 8 }
         ensures logged { self.new ≡ slice_set self.old mutator (log_of self.old mutator ++ address ∷ []) }
         ensures full { result ≡ (length (log_of self.new mutator) == 8) }
+        ensures most { length (log_of self.new mutator) ≤ 8 }
     {
         let own = &mut self.logs[mutator as usize];
         own.push(address);

@@ -42,10 +42,15 @@ pub record ConfigFits (c : Config) : Type 0 where
   pub mutators : c.mutators ≤ small
   pub first_name : c.first_name ≤ large
 
--- the steps that a script may have yet: those of mutators
+-- the steps that a script may have yet: those of mutators, and of a marking cycle
 abbrev pub is_step_yet : Step → Bool
 is_step_yet (steps.Mutator o) = true
-is_step_yet (steps.Collector k) = false
+is_step_yet (steps.Collector collector.Begin) = true
+is_step_yet (steps.Collector (collector.Mark k)) = true
+is_step_yet (steps.Collector collector.Remark) = true
+is_step_yet (steps.Collector collector.Cleanup) = true
+is_step_yet (steps.Collector (collector.Refine k)) = false
+is_step_yet (steps.Collector (collector.Pause b)) = false
 
 -- a script that has a text
 pub record IsScript (p : StepList) : Type 0 where

@@ -1,16 +1,15 @@
 -- A step's reply, and what the core shows after it.
-use Rattle.std.proofs.Common.{◌≡◌, ℕ, ◌+◌, ◌-◌, ◌<◌, ◌≤◌, Option, Some, None, List, length, get_or, refl, sym, ◌∙◌, ap, subst}
+use Rattle.std.proofs.Common.{◌≡◌, ℕ, ◌+◌, ◌-◌, ◌*◌, ◌<◌, ◌≤◌, Option, Some, None, List, length, get_or, refl, sym, ◌∙◌, ap, subst}
 use Rattle.std.specs.Prelude.{slice_get, slice_set}
 use Rattle.std.specs.List.{AllZip}
 use Rattle.heap_model.specs.Graph.{Graph, Object, object_named, with_changed}
-use Rattle.heap_model.specs.Heap.{Stored, IsShown}
-use Rattle.heap_model.proofs.Lists.{AllZip-set}
+use Rattle.heap_model.specs.Heap.{Stored, IsShown, ObjectSet}
+use Rattle.heap_words.specs.declared.config.Config.{Config}
 use Rattle.std.proofs.lemmas.List.{length-set}
 use Rattle.std.proofs.lemmas.Option.{slice_get-get_or}
 use Rattle.heap_model.proofs.Changed.{root_set_shows, object_set_shows}
-use Rattle.regions.specs.Table.{Table, pointers_at, values_at, object_pointers, object_values, set_pointer, set_value}
-use Rattle.regions.proofs.Changes.{WritesObject, pointer_put, value_put, object_same}
-use Rattle.regions.proofs.Fields.{with_pointer}
+use Rattle.regions.specs.Table.{Table, pointers_at, values_at, object_values, set_value}
+use Rattle.regions.proofs.Changes.{WritesObject, value_put}
 use Rattle.regions.proofs.Values.{with_value}
 use Rattle.object_graph.specs.State.{root_at, with_root, register_place}
 use Rattle.object_graph.specs.Machine.{Outcome, act, on_object, on_name, on_contents, refused, stored}
@@ -20,12 +19,13 @@ use Rattle.object_graph.specs.declared.step.Reply.{Reply}
 use Rattle.object_graph.specs.declared.step.Reply.TheVariants as replies
 use Rattle.object_graph.specs.declared.step.Refusal.TheVariants as refusals
 use Rattle.object_graph.specs.declared.step.Register.{Register}
-use Rattle.step_core.specs.Stands.{CoreState, kept_of, heap_of, Stands, IsCore, IsWordOf, HasObject, Leads, name_in}
+use Rattle.step_core.specs.Stands.{CoreState, kept_of, heap_of, ShowsGraph, IsCore, IsWordOf, HasObject, Leads, name_in}
 use Rattle.step_core.specs.Answers.{Acts}
-use Rattle.step_core.proofs.Reading.{field_shown, no_field, no_value, shown_name, kept_object, AllZip-length}
+use Rattle.step_core.proofs.Reading.{field_shown, no_field, no_value, shown_name, object_kept, pointers_there, AllZip-length}
+use Rattle.step_core.proofs.Written.{SamePlaces, SameKeeping, object_written}
 
-pub acts_by : (g : Graph) (m : ℕ) (a : Action) (reply : Reply) (c : CoreState) (out : Outcome) → act g m a ≡ out → reply ≡ out.0 → Stands out.1 c → Acts g m a reply c
-acts_by g m a reply c out e r s = record { reply_is = r ∙ sym (ap (λ (o : Outcome). o.0) e); stands = subst (λ (o : Outcome). Stands o.1 c) (sym e) s }
+pub acts_by : (g : Graph) (m : ℕ) (a : Action) (reply : Reply) (c : CoreState) (out : Outcome) → act g m a ≡ out → reply ≡ out.0 → ShowsGraph out.1 c → Acts g m a reply c
+acts_by g m a reply c out e r s = record { reply_is = r ∙ sym (ap (λ (o : Outcome). o.0) e); shows = subst (λ (o : Outcome). ShowsGraph o.1 c) (sym e) s }
 
 on_nil : (g : Graph) (m : ℕ) (r : Register) (f : ℕ → Object → Outcome) → root_at g (register_place m r.number) ≡ None → on_object g m r f ≡ refused g refusals.Nil
 on_nil g m r f e = rw e refl
@@ -37,43 +37,37 @@ on_found g c m a r f h = ap (λ (o : Option ℕ). on_name g o f) h.root ∙ ap (
 abbrev pub with_root_word : CoreState → ℕ → Option ℕ → CoreState
 with_root_word c place w = record c { roots = slice_set c.roots place w }
 
-pub root_stands : (g : Graph) (c : CoreState) (place : ℕ) (w v : Option ℕ) → Stands g c → IsShown (heap_of c) w v → Stands (with_root g place v) (with_root_word c place w)
+pub root_shows : (g : Graph) (c : CoreState) (place : ℕ) (w v : Option ℕ) → ShowsGraph g c → IsShown (heap_of c) w v → ShowsGraph (with_root g place v) (with_root_word c place w)
 unfolding kept_of
-root_stands g c place w v s shown = record {
+root_shows g c place w v s shown = record {
   room = s.room;
   mutators = s.mutators;
   next = s.next;
   shows = root_set_shows g (heap_of c) (heap_of (with_root_word c place w)) s.shows place w v shown (record { kept = λ a. refl; roots = refl });
 }
 
-pub pointers_there : (c : CoreState) (a : ℕ) (x : Stored) → kept_of c a ≡ Some x → pointers_at c.table a ≡ x.pointers
-unfolding kept_of pointers_at
-pointers_there c a x e = ap object_pointers e
-
 pub values_there : (c : CoreState) (a : ℕ) (x : Stored) → kept_of c a ≡ Some x → values_at c.table a ≡ x.values
-unfolding kept_of values_at
-values_there c a x e = ap object_values e
+unfolding values_at
+values_there c a x e = ap object_values (object_kept c a x e)
 
 pub field_word : (c : CoreState) (place a i : ℕ) (w : Option ℕ) → IsCore c → Leads c place (Some a) → slice_get (pointers_at c.table a) i ≡ Some w → IsWordOf (heap_of c) w
 field_word c place a i w k l e =
-    let h = l k.graph k.stands in
+    let h = l k.graph k.stands.shows in
     let f = field_shown k.graph c place a i w h (ap (λ (ps : List (Option ℕ)). slice_get ps i) (sym (pointers_there c a h.stored h.at)) ∙ e) in
     record { name = f.name; shown = f.shown }
 
 -- the core with another object of the same name at an address
-pub object_stands : (g : Graph) (c : CoreState) (t : Table) (a : ℕ) (x y : Stored) (o p : Object) → Stands g c → WritesObject c.table t a x y → y.name ≡ x.name
+pub object_shows : (g : Graph) (c c' : CoreState) (a : ℕ) (x y : Stored) (o p : Object) → ShowsGraph g c → SamePlaces c c' → ObjectSet (heap_of c) (heap_of c') a x y
     → object_named g x.name ≡ Some o → AllZip (IsShown (heap_of c)) y.pointers p.pointers → y.values ≡ p.values
-    → Stands (with_changed g x.name p) (record c { table = t })
-unfolding kept_of
-object_stands g c t a x y o p s w name named pointers values = record {
-  room = s.room;
-  mutators = s.mutators;
-  next = ap (λ n. g.first_name + n) (length-set g.objects (x.name - g.first_name) p) ∙ s.next;
-  shows = object_set_shows g (heap_of c) (heap_of (record c { table = t })) s.shows a x y o p
-      (record { was = w.was; is = w.is; name = name; others = λ b n. object_same c.table t b (w.others b n); roots = refl }) named pointers values;
+    → ShowsGraph (with_changed g x.name p) c'
+object_shows g c c' a x y o p s same set named pointers values = record {
+  room = s.room ∙ sym (ap (λ (k : Config). k.regions * k.words) same.config);
+  mutators = s.mutators ∙ sym (ap (λ (k : Config). k.mutators) same.config);
+  next = ap (λ n. g.first_name + n) (length-set g.objects (x.name - g.first_name) p) ∙ s.next ∙ sym same.next;
+  shows = object_set_shows g (heap_of c) (heap_of c') s.shows a x y o p set named pointers values;
 }
 
-module _ (g : Graph) (c : CoreState) (s : Stands g c) (m : ℕ) (object : Register) where
+module _ (g : Graph) (c : CoreState) (s : ShowsGraph g c) (m : ℕ) (object : Register) where
   pub get_nil : (to : Register) (i : ℕ) → Leads c (register_place m object.number) None → Acts g m (actions.Get to object i) (replies.Refused refusals.Nil) c
   get_nil to i l = acts_by g m (actions.Get to object i) (replies.Refused refusals.Nil) c (refused g refusals.Nil) (on_nil g m object _ (l g s)) refl s
 
@@ -116,7 +110,7 @@ module _ (g : Graph) (c : CoreState) (s : Stands g c) (m : ℕ) (object : Regist
 
     -- get: the register that the field goes to
     pub get_done : (to : Register) (i : ℕ) (w : Option ℕ) (n : Option ℕ) (c' : CoreState) → slice_get (pointers_at c.table a) i ≡ Some w → n ≡ name_in c.table w
-        → ((g : Graph) (v : Option ℕ) → Stands g c → IsShown (heap_of c) w v → Stands (with_root g (register_place m to.number) v) c')
+        → ((g : Graph) (v : Option ℕ) → ShowsGraph g c → IsShown (heap_of c) w v → ShowsGraph (with_root g (register_place m to.number) v) c')
         → Acts g m (actions.Get to object i) (replies.Named n) c'
     get_done to i w n c' e name after =
         let h = l g s in
@@ -138,21 +132,20 @@ module _ (g : Graph) (c : CoreState) (s : Stands g c) (m : ℕ) (object : Regist
         let nd : d ≡ length h.object.values = ed ∙ ap (λ (ps : List ℕ). length ps) (values_there c a h.stored h.at ∙ h.values) in
         acts_by g m (actions.Shape object) (replies.Shape p d) c (replies.Shape (length h.object.pointers) (length h.object.values), g) (on_found g c m a object _ h) (ap (λ n. replies.Shape n d) np ∙ ap (λ n. replies.Shape (length h.object.pointers) n) nd) s
 
-    pub put_done : (i : ℕ) (value : Option Register) (w : Option ℕ) (t : Table) → i < length (pointers_at c.table a) → 0 < c.table.words_per_region
-        → IsShown (heap_of c) w (stored g m value) → t ≡ set_pointer c.table a i w
-        → Acts g m (actions.Put object i value) replies.Done (record c { table = t })
-    put_done i value w t k z shown e =
+    -- put: the store
+    pub put_done : (i : ℕ) (value : Option Register) (w : Option ℕ) (c' : CoreState) → i < length (pointers_at c.table a) → IsShown (heap_of c) w (stored g m value)
+        → ((g : Graph) (x : Stored) (o : Object) (v : Option ℕ) → ShowsGraph g c → kept_of c a ≡ Some x → object_named g x.name ≡ Some o → IsShown (heap_of c) w v
+        → ShowsGraph (with_changed g x.name (record { pointers = slice_set o.pointers i v; values = o.values })) c')
+        → Acts g m (actions.Put object i value) replies.Done c'
+    put_done i value w c' k shown after =
         let h = l g s in
         let k' : i < length h.stored.pointers = rw (pointers_there c a h.stored h.at) at k in
         let f = field_shown g c _ a i _ h (slice_get-get_or h.stored.pointers i None k') in
         let there = f.there in
         let v : Option ℕ = stored g m value in
         let p : Object = record { pointers = slice_set h.object.pointers i v; values = h.object.values } in
-        let writes = pointer_put c.table a i w h.stored z (sym (kept_object c a) ∙ h.at) in
-        acts_by g m (actions.Put object i value) replies.Done (record c { table = t }) (replies.Done, with_changed g h.stored.name p)
-        (on_found g c m a object _ h ∙ rw there refl) refl
-        (rw e (object_stands g c (set_pointer c.table a i w) a h.stored (with_pointer h.stored i w) h.object p s writes refl h.named
-        (AllZip-set (IsShown (heap_of c)) h.stored.pointers h.object.pointers h.pointers i w v shown) h.values))
+        acts_by g m (actions.Put object i value) replies.Done c' (replies.Done, with_changed g h.stored.name p)
+        (on_found g c m a object _ h ∙ rw there refl) refl (after g h.stored h.object v s h.at h.named shown)
 
     pub write_done : (i v : ℕ) (t : Table) → i < length (values_at c.table a) → 0 < c.table.words_per_region → t ≡ set_value c.table a i v
         → Acts g m (actions.Write object i v) replies.Done (record c { table = t })
@@ -161,7 +154,8 @@ module _ (g : Graph) (c : CoreState) (s : Stands g c) (m : ℕ) (object : Regist
         let k' : i < length h.stored.values = rw (values_there c a h.stored h.at) at k in
         let there : slice_get h.object.values i ≡ Some (get_or h.stored.values i 0) = ap (λ (ps : List ℕ). slice_get ps i) (sym h.values) ∙ slice_get-get_or h.stored.values i 0 k' in
         let p : Object = record { pointers = h.object.pointers; values = slice_set h.object.values i v } in
-        let writes = value_put c.table a i v h.stored z (sym (kept_object c a) ∙ h.at) in
+        let writes = subst (λ (u : Table). WritesObject c.table u a h.stored (with_value h.stored i v)) (sym e) (value_put c.table a i v h.stored z (object_kept c a h.stored h.at)) in
         acts_by g m (actions.Write object i v) replies.Done (record c { table = t }) (replies.Done, with_changed g h.stored.name p)
         (on_found g c m a object _ h ∙ rw there refl) refl
-        (rw e (object_stands g c (set_value c.table a i v) a h.stored (with_value h.stored i v) h.object p s writes refl h.named h.pointers (ap (λ (ps : List ℕ). slice_set ps i v) h.values)))
+        (object_shows g c (record c { table = t }) a h.stored (with_value h.stored i v) h.object p s (record { config = refl; next = refl })
+        (object_written c (record c { table = t }) a h.stored (with_value h.stored i v) writes refl h.at (record { tams = refl; previous = refl; roots = refl })) h.named h.pointers (ap (λ (ps : List ℕ). slice_set ps i v) h.values))

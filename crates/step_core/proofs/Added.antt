@@ -5,7 +5,7 @@ use Rattle.std.proofs.lemmas.Bool.{cases_lt}
 use Rattle.regions.specs.Tiles.{Gap, Live, tile_size}
 use Rattle.heap_model.specs.Heap.{Stored}
 use Rattle.regions.specs.Walks.{AreFitting}
-use Rattle.regions.specs.Table.{Table, replace_tile, gap, tile_in, object_at, HasNoMoved, new_object, kind_of}
+use Rattle.regions.specs.Table.{Table, replace_tile, gap, tile_in, object_at, HasNoMoved, new_object, kind_of, used_of}
 use Rattle.regions.proofs.Placing.{Replaces, gap_replaced, tile_at-inside}
 use Rattle.regions.proofs.Changes.{WritesObject, object_same}
 use Rattle.alloc_buffers.specs.declared.Buffer.{Buffer}
@@ -46,6 +46,9 @@ pub record Fills (t t' : Table) (b : Buffers) (a : ℕ) (x : Stored) : Type 0 wh
   pub others : (y : ℕ) → y ≢ a → object_at t' y ≡ object_at t y
   pub unmoved : HasNoMoved t'
   pub region_size : t'.words_per_region ≡ t.words_per_region
+  pub region_count : length t'.regions ≡ length t.regions
+  pub used : (k : ℕ) → used_of t' k ≡ used_of t k
+  pub kinds : (k : ℕ) → kind_of t' k ≡ kind_of t k
   pub stand : BuffersStand t' b
 
 pub fills : (t t' : Table) (b : Buffers) (a n name p d : ℕ) → 0 < t.words_per_region → AreFitting t → HasNoMoved t → tile_in t a ≡ Some (Gap n) → n ≡ 2 + p + d → t' ≡ replace_tile t a (Live (new_object name p d) ∷ gap (n - (2 + p + d)))
@@ -71,6 +74,9 @@ fills t t' b a n name p d z fitting none h size is spare s =
       ];
       unmoved = w.unmoved none;
       region_size = w.size;
+      region_count = w.count;
+      used = w.used;
+      kinds = w.kinds_same;
       stand = stand_same t t' b w.count w.kinds_same (λ m u e. elim (off u.next (spare m u e)) [
         | inl out ↦ w.others u.next out
         | inr q ↦ let (j, at, lo, hi) = q in absurd (

@@ -1,15 +1,21 @@
 -- A new heap shows the first graph.
-use Rattle.std.proofs.Common.{◌≡◌, ℕ, zero, suc, ◌+◌, ◌*◌, ◌^◌, ◌/◌, ◌<◌, None, get_or, replicate, refl, arith}
+use Rattle.std.proofs.Common.{◌≡◌, ℕ, zero, suc, ◌+◌, ◌*◌, ◌^◌, ◌/◌, ◌<◌, ◌≤◌, false, Option, Some, None, List, [], length, get_or, replicate, refl, ◌∙◌, ap, arith}
+use Rattle.std.specs.Prelude.{slice_get, slice_index}
 use Rattle.std.specs.List.{AllZip}
 use Rattle.std.proofs.lemmas.List.{length-replicate}
-use Rattle.heap_model.specs.Heap.{Heap, IsShown}
+use Rattle.heap_model.specs.Heap.{Heap, Stored, IsShown}
 use Rattle.heap_words.specs.declared.config.Config.{Config}
-use Rattle.regions.specs.Table.{Table, Free, free_table, object_at, tile_in, region_at}
+use Rattle.regions.specs.Table.{Table, Free, free_table, object_at, tile_in, region_at, top_of}
 use Rattle.regions.proofs.Making.{free_table-unmoved}
 use Rattle.object_graph.specs.State.{first_state}
 use Rattle.heap_words.specs.Configs.{Suits}
-use Rattle.alloc_buffers.specs.Placement.{BuffersStand, closed}
-use Rattle.step_core.specs.Stands.{CoreState, kept_of, heap_of, Stands, IsCore}
+use Rattle.alloc_buffers.specs.declared.Buffer.{Buffer}
+use Rattle.alloc_buffers.specs.Placement.{BuffersStand, AreAbove, closed}
+use Rattle.satb_log.specs.Logs.{log_of}
+use Rattle.marker.specs.Stands.{MarkerStands}
+use Rattle.marker.specs.declared.marker.Marker.{Marker}
+use Rattle.step_core.specs.Stands.{CoreState, kept_of, heap_of, ShowsGraph, Stands, IsCore}
+use Rattle.step_core.proofs.Reading.{object_kept}
 
 all_free : (n k : ℕ) → get_or (replicate n Free) k Free ≡ Free
 all_free zero k = refl
@@ -28,32 +34,68 @@ nil_shown : (h : Heap) (p : ℕ) → AllZip (IsShown h) (replicate p None) (repl
 nil_shown h zero = tt
 nil_shown h (suc p) = (tt, nil_shown h p)
 
-abbrev pub first_core : Config → CoreState
-first_core g = record { config = g; table = free_table g.regions g.words; buffers = closed g.buffer g.mutators; roots = replicate (16 + 8 * g.mutators) None; next = g.first_name }
+abbrev pub first_core : Config → Marker → CoreState
+first_core g m = record { config = g; table = free_table g.regions g.words; buffers = closed g.buffer g.mutators; marker = m; roots = replicate (16 + 8 * g.mutators) None; next = g.first_name }
 
-pub first_stands : (g : Config) → Stands (first_state g) (first_core g)
-unfolding kept_of
-first_stands g = record {
+none_kept : (g : Config) (m : Marker) (a : ℕ) (x : Stored) → kept_of (first_core g m) a ≡ Some x → ⊥
+none_kept g m a x e = let none = nothing_at g.regions g.words a in let is = object_kept (first_core g m) a x e in cc
+
+pub first_shows : (g : Config) (m : Marker) → ShowsGraph (first_state g) (first_core g m)
+first_shows g m = record {
   room = refl;
   mutators = refl;
   next = omega arith;
   shows = record {
-    roots = nil_shown (heap_of (first_core g)) (16 + 8 * g.mutators);
-    distinct = λ a b x y h k n. absurd (let z = nothing_at g.regions g.words a in cc);
-    objects = λ a x h. absurd (let z = nothing_at g.regions g.words a in cc);
+    roots = nil_shown (heap_of (first_core g m)) (16 + 8 * g.mutators);
+    distinct = λ a b x y h k n. absurd (none_kept g m a x h);
+    objects = λ a x h. absurd (none_kept g m a x h);
   };
 }
 
-pub first_is : (g : Config) → ((t : Table) → BuffersStand t (closed g.buffer g.mutators)) → Suits g → g.first_name < 2 ^ 64 → IsCore (first_core g)
-first_is g stand suits names = record {
-  suits = suits;
-  region_size = size_is g.regions g.words;
-  buffer_size = refl;
-  unmoved = free_table-unmoved g.regions g.words;
-  places = length-replicate (16 + 8 * g.mutators) None;
-  buffers = stand (free_table g.regions g.words);
-  open_buffers = length-replicate g.mutators None;
-  names = names;
-  graph = first_state g;
-  stands = first_stands g;
-}
+pub first_stands : (g : Config) (m : Marker) → m.running ≡ false → Stands (first_state g) (first_state g) (first_core g m)
+first_stands g m idle = record { shows = first_shows g m; keeps = record { earlier = omega arith; marking = λ run. absurd cc } }
+
+no_buffer : (n m : ℕ) (x : Buffer) → slice_get (replicate {A = Option Buffer} n None) m ≡ Some (Some x) → ⊥
+no_buffer zero m x e = cc
+no_buffer (suc n) zero x e = cc
+no_buffer (suc n) (suc m) x e = no_buffer n m x e
+
+-- all lies above limits that no top is below
+first_above : (t : Table) (words mutators : ℕ) (limit : ℕ → ℕ) → ((k : ℕ) → k < length t.regions → limit k ≤ top_of t k) → AreAbove t (closed words mutators) limit
+first_above t words mutators limit tops = record { tops = tops; buffers = λ m x e. absurd (no_buffer mutators m x e) }
+
+count_is : (n w : ℕ) → length (free_table n w).regions ≡ n
+unfolding free_table
+count_is n w = length-replicate n Free
+
+no_logs : (n k : ℕ) → log_of (replicate n []) k ≡ []
+no_logs zero k = refl
+no_logs (suc n) zero = refl
+no_logs (suc n) (suc k) = no_logs n k
+
+pub first_is : (g : Config) (m : Marker) → ((t : Table) → BuffersStand t (closed g.buffer g.mutators)) → Suits g → g.first_name < 2 ^ 64 → m.running ≡ false → m.logs ≡ replicate g.mutators []
+    → ((t : Table) → length t.regions ≡ g.regions → t.words_per_region ≡ g.words → MarkerStands t m) → IsCore (first_core g m)
+first_is g m stand suits names idle logs stands =
+    let t : Table = free_table g.regions g.words in
+    let st : MarkerStands t m = stands t (count_is g.regions g.words) (size_is g.regions g.words) in
+    record {
+      suits = suits;
+      layers = record {
+        region_size = size_is g.regions g.words;
+        region_count = count_is g.regions g.words;
+        buffer_size = refl;
+        open_buffers = length-replicate g.mutators None;
+        logs = ap (λ (ls : List (List ℕ)). length ls) logs ∙ length-replicate g.mutators [];
+        buffers = stand t;
+        unmoved = free_table-unmoved g.regions g.words;
+        marker = st;
+        above_previous = first_above t g.buffer g.mutators (slice_index m.tams.previous) st.previous.top;
+        above_next = first_above t g.buffer g.mutators (slice_index m.tams.next) st.next.top;
+        room = λ k. let none = ap (λ (ls : List (List ℕ)). length (log_of ls k)) logs ∙ ap (λ (l : List ℕ). length l) (no_logs g.mutators k) in omega arith;
+      };
+      places = length-replicate (16 + 8 * g.mutators) None;
+      names = names;
+      graph = first_state g;
+      snapshot = first_state g;
+      stands = first_stands g m idle;
+    }

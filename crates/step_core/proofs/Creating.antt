@@ -1,26 +1,36 @@
 -- A new object.
-use Rattle.std.proofs.Common.{◌≡◌, ◌≢◌, ℕ, zero, suc, ◌+◌, ◌-◌, ◌*◌, ◌^◌, ◌<◌, ◌≤◌, Option, Some, None, [], ◌∷◌, replicate, refl, sym, ◌∙◌, ap, subst, arith, inl, inr}
-use Rattle.std.specs.Prelude.{slice_get, slice_set}
+use Rattle.std.proofs.Common.{◌≡◌, ◌≢◌, ℕ, zero, suc, ◌+◌, ◌-◌, ◌*◌, ◌/◌, ◌^◌, ◌<◌, ◌≤◌, false, Option, Some, None, List, [], ◌∷◌, length, replicate, refl, sym, ◌∙◌, ap, subst, arith, inl, inr}
+use Rattle.std.proofs.lemmas.Bool.{cases_eq}
+use Rattle.std.specs.Prelude.{slice_get, slice_set, slice_index, nat_lt}
 use Rattle.std.specs.List.{AllZip}
 use Rattle.std.proofs.lemmas.Grind.{common_steps}
 use Rattle.std.proofs.lemmas.Bool.Decides.{nat_tests}
 use Rattle.std.proofs.lemmas.List.{length-set, length-append}
-use Rattle.heap_model.specs.Graph.{Graph, Object, next_name, with_object}
-use Rattle.heap_model.specs.Heap.{Heap, IsShown, ObjectAdded}
+use Rattle.heap_model.specs.Graph.{Graph, Object, IsReachable, next_name, with_object}
+use Rattle.heap_model.specs.Heap.{Heap, Stored, IsShown, ObjectAdded}
+use Rattle.heap_model.specs.Kept.{kept_by}
+use Rattle.heap_model.specs.Marking.{Marking, KeepsSnapshot}
+use Rattle.heap_model.proofs.Mutate.{object_added}
 use Rattle.heap_model.proofs.Changed.{object_added_shows}
 use Rattle.regions.specs.Walks.{AreFitting}
-use Rattle.regions.specs.Table.{Table, new_object, replace_tile, gap}
+use Rattle.regions.specs.Table.{Table, new_object, replace_tile, gap, object_at}
 use Rattle.regions.specs.Tiles.{Live}
 use Rattle.object_graph.specs.State.{register_place}
 use Rattle.object_graph.specs.Machine.{act}
 use Rattle.object_graph.specs.declared.step.Action.TheVariants as actions
 use Rattle.object_graph.specs.declared.step.Reply.TheVariants as replies
 use Rattle.object_graph.specs.declared.step.Register.{Register}
-use Rattle.alloc_buffers.specs.Placement.{Buffers, IsPlaced, Placement, place_of}
-use Rattle.step_core.specs.Stands.{CoreState, kept_of, heap_of, Stands, IsCore}
+use Rattle.alloc_buffers.specs.Placement.{Buffers, IsPlaced, Placement, IsAbove, AreAbove, place_of}
+use Rattle.mark_bitmap.specs.Marks.{is_marked}
+use Rattle.mark_bitmap.specs.Tops.{is_below}
+use Rattle.step_core.specs.Stands.{CoreState, kept_of, heap_of, marking_of, ShowsGraph, KeepsFrom, IsCore}
+use Rattle.step_core.specs.Cycle.{LeavesRegions}
 use Rattle.step_core.specs.Answers.{Acts, HasNoPlace}
 use Rattle.step_core.proofs.Acting.{acts_by}
 use Rattle.step_core.proofs.Added.{Fills, fills, was_none}
+use Rattle.step_core.proofs.Written.{kept_is, kept_above, kept_same, marking_same}
+use Rattle.step_core.proofs.Layers.{follows_of, stands_over}
+use Rattle.alloc_buffers.proofs.Above.{above_same}
 
 abbrev fresh : ℕ → ℕ → Object
 fresh p d = record { pointers = replicate p None; values = replicate d 0 }
@@ -39,7 +49,15 @@ nil_get (suc p) (suc i) b e = nil_get p i b e
 
 -- the core with a new object
 abbrev pub with_new : CoreState → Table → Buffers → ℕ → ℕ → CoreState
-with_new c t b place a = record { config = c.config; table = t; buffers = b; roots = slice_set c.roots place (Some a); next = c.next + 1 }
+with_new c t b place a = record { config = c.config; table = t; buffers = b; marker = c.marker; roots = slice_set c.roots place (Some a); next = c.next + 1 }
+
+-- what lies above the tops of a region isn't below them
+above_below : (words : ℕ) (tops : List ℕ) (a : ℕ) → 0 < words → IsAbove words (slice_index tops) a → is_below words tops a ≡ false
+unfolding is_below
+above_below words tops a z above = lt-not (above (a / words) (omega arith) (omega arith))
+  where
+    lt-not : slice_index tops (a / words) ≤ a → nat_lt a (slice_index tops (a / words)) ≡ false
+    lt-not le = grind (arith, common_steps, nat_tests)
 
 module _ (k : CoreState) (m : ℕ) (to : Register) (t1 t2 : Table) (b1 : Buffers) (a n p d : ℕ)
     (core : IsCore k) (placed : IsPlaced k.table t1 k.buffers b1 n a) (z : 0 < t1.words_per_region) (fitting : AreFitting t1) (size : n ≡ 2 + p + d)
@@ -47,17 +65,39 @@ module _ (k : CoreState) (m : ℕ) (to : Register) (t1 t2 : Table) (b1 : Buffers
   filled : Fills t1 t2 b1 a (new_object k.next p d)
   filled = fills t1 t2 b1 a n k.next p d z fitting placed.unmoved placed.filler size is placed.spare placed.stand
 
-  added : (place : ℕ) → ObjectAdded (heap_of k) (heap_of (with_new k t2 b1 place a)) a (new_object k.next p d) place
+  words : t2.words_per_region ≡ k.table.words_per_region
+  words = filled.region_size ∙ placed.region_size
+
+  positive : 0 < k.table.words_per_region
+  positive = rw placed.region_size at z
+
+  -- the place lies above both tops at mark start of its region
+  new_below : (tops : List ℕ) → AreAbove k.table k.buffers (slice_index tops) → is_below k.table.words_per_region tops a ≡ false
+  new_below tops above = above_below k.table.words_per_region tops a positive (placed.above (slice_index tops) above).0
+
+  above_after : (limit : ℕ → ℕ) → AreAbove k.table k.buffers limit → AreAbove t2 b1 limit
+  above_after limit above = above_same t1 t2 b1 limit filled.region_size filled.region_count filled.used (placed.above limit above).1
+
+  abbrev new : ℕ → CoreState
+  new place = with_new k t2 b1 place a
+
+  kept_new : (place y : ℕ) → kept_of (new place) y ≡ kept_by (object_at t2) (is_below k.table.words_per_region k.marker.tams.previous) (is_marked k.marker.bitmaps.previous) y
   unfolding kept_of
+  kept_new place y = rw words refl
+
+  added : (place : ℕ) → ObjectAdded (heap_of k) (heap_of (new place)) a (new_object k.next p d) place
   added place = record {
-    was = was_none k.table t1 k.buffers b1 n a placed;
-    is = filled.is;
+    was = kept_is k a ∙ kept_above (object_at k.table) (is_below k.table.words_per_region k.marker.tams.previous) (is_marked k.marker.bitmaps.previous) a below ∙ was_none k.table t1 k.buffers b1 n a placed;
+    is = kept_new place a ∙ kept_above (object_at t2) (is_below k.table.words_per_region k.marker.tams.previous) (is_marked k.marker.bitmaps.previous) a below ∙ filled.is;
     nil = nil_get p;
-    others = λ y ne. filled.others y ne ∙ placed.objects y;
+    others = λ y ne. kept_new place y ∙ kept_same (object_at k.table) (object_at t2) (is_below k.table.words_per_region k.marker.tams.previous) (is_marked k.marker.bitmaps.previous) y (filled.others y ne ∙ placed.objects y) ∙ sym (kept_is k y);
     roots = refl;
   }
+    where
+      below : is_below k.table.words_per_region k.marker.tams.previous a ≡ false
+      below = new_below k.marker.tams.previous core.layers.above_previous
 
-  pub new_acts : (g : Graph) → Stands g k → Acts g m (actions.New to p d) (replies.Named (Some k.next)) (with_new k t2 b1 (register_place m to.number) a)
+  pub new_acts : (g : Graph) → ShowsGraph g k → Acts g m (actions.New to p d) (replies.Named (Some k.next)) (with_new k t2 b1 (register_place m to.number) a)
   new_acts g s =
       let next = s.next in
       let fits : 2 + p + d ≤ g.room = rw s.room room in
@@ -70,24 +110,60 @@ module _ (k : CoreState) (m : ℕ) (to : Register) (t1 t2 : Table) (b1 : Buffers
         shows = object_added_shows g (heap_of k) (heap_of (with_new k t2 b1 (register_place m to.number) a)) s.shows a (new_object k.next p d) (fresh p d) (register_place m to.number) (added (register_place m to.number)) (sym next) (nil_shown (heap_of k) p) refl;
       })
 
-  pub new_kept : IsCore (with_new k t2 b1 (register_place m to.number) a)
-  new_kept = record {
-    suits = core.suits;
-    region_size = filled.region_size ∙ placed.region_size ∙ core.region_size;
-    unmoved = filled.unmoved;
-    places = length-set k.roots (register_place m to.number) (Some a) ∙ core.places;
-    buffers = filled.stand;
-    open_buffers = placed.open_count ∙ core.open_buffers;
-    buffer_size = placed.words ∙ core.buffer_size;
-    names = (let old = core.names in omega arith);
-    graph = (act core.graph m (actions.New to p d)).1;
-    stands = (new_acts core.graph core.stands).stands;
+  pub new_keeps : (s : Graph) → KeepsFrom s k → KeepsFrom s (with_new k t2 b1 (register_place m to.number) a)
+  new_keeps s f = record {
+    earlier = (let le = f.earlier in omega arith);
+    marking = λ run. subst (λ (marks : Marking). KeepsSnapshot s (heap_of (new (register_place m to.number))) marks) (sym (marking_same k.table t2 k.marker words))
+        (object_added (IsReachable s) (next_name s) (heap_of k) (marking_of k) (f.marking run) (heap_of (new (register_place m to.number))) a (new_object k.next p d) (register_place m to.number)
+        (new_below k.marker.tams.next core.layers.above_next) f.earlier (added (register_place m to.number)));
   }
+
+  new_leaves_by : LeavesRegions k (with_new k t2 b1 (register_place m to.number) a)
+  new_leaves_by = record { config = refl; running = refl; scans = refl; in_use = λ j n h. placed.in_use j n (sym (filled.kinds j) ∙ h) }
+
+  pub new_leaves : (c : CoreState) → k ≡ c → LeavesRegions c (with_new k t2 b1 (register_place m to.number) a)
+  new_leaves c e = subst (λ (d : CoreState). LeavesRegions d (with_new k t2 b1 (register_place m to.number) a)) e new_leaves_by
+
+  pub new_kept : IsCore (with_new k t2 b1 (register_place m to.number) a)
+  new_kept =
+      let shows = (new_acts core.graph core.stands.shows).shows in
+      let keeps = new_keeps core.snapshot core.stands.keeps in
+      let previous = above_after (slice_index k.marker.tams.previous) core.layers.above_previous in
+      let next = above_after (slice_index k.marker.tams.next) core.layers.above_next in
+      record {
+        suits = core.suits;
+        layers = record {
+          region_size = words ∙ core.layers.region_size;
+          region_count = filled.region_count ∙ placed.count ∙ core.layers.region_count;
+          buffer_size = placed.words ∙ core.layers.buffer_size;
+          open_buffers = placed.open_count ∙ core.layers.open_buffers;
+          logs = core.layers.logs;
+          buffers = filled.stand;
+          unmoved = filled.unmoved;
+          marker = stands_over k.table t2 k.marker core.layers.marker (filled.region_count ∙ placed.count) words
+              (λ j lt. previous.tops j (rw (filled.region_count, placed.count) lt)) (λ j lt. next.tops j (rw (filled.region_count, placed.count) lt)) still
+              (follows_of (new (register_place m to.number)) _ core.snapshot shows keeps);
+          above_previous = previous;
+          above_next = next;
+          room = core.layers.room;
+        };
+        places = length-set k.roots (register_place m to.number) (Some a) ∙ core.places;
+        names = (let old = core.names in omega arith);
+        graph = (act core.graph m (actions.New to p d)).1;
+        snapshot = core.snapshot;
+        stands = record { shows = shows; keeps = keeps };
+      }
+    where
+      still : (y : ℕ) (x : Stored) → object_at k.table y ≡ Some x → (u : Stored) × (object_at t2 y ≡ Some u)
+      still y x e = elim (cases_eq y a) [
+        | inl q ↦ (new_object k.next p d, ap (object_at t2) q ∙ filled.is)
+        | inr ne ↦ (x, filled.others y ne ∙ placed.objects y ∙ e)
+      ]
 
 -- what was placed has a place
 pub has_place : (k c : CoreState) (m size n : ℕ) → k ≡ c → IsCore k → size ≡ n → 2 * n ≤ k.config.words → (p : Placement) → place_of k.table k.buffers m size ≡ Some p → HasNoPlace c m n → ⊥
 has_place k c m size n e core same small p found none = go (subst (λ (d : CoreState). HasNoPlace d m n) (sym e) none)
   where
     go : HasNoPlace k m n → ⊥
-    go (inl large) = let is = core.region_size in omega arith
+    go (inl large) = let is = core.layers.region_size in omega arith
     go (inr missing) = let there : place_of k.table k.buffers m n ≡ Some p = subst (λ (j : ℕ). place_of k.table k.buffers m j ≡ Some p) same found in cc

@@ -16,35 +16,47 @@ use Rattle.object_graph.specs.declared.step.Register.{Register}
 use Rattle.object_graph.specs.declared.step.Reply.{Reply}
 use Rattle.object_graph.specs.declared.step.Reply.TheVariants as replies
 use Rattle.object_graph.specs.declared.step.Refusal.TheVariants as refusals
-use Rattle.step_core.specs.Stands.{CoreState, Stands, IsWhole}
-use Rattle.step_core.specs.Answers.{Acts, Follows, HasNoPlace, IsFull, RepliesFull}
+use Rattle.step_core.specs.Stands.{CoreState, ShowsGraph, KeepsFrom, Stands, IsWhole}
+use Rattle.step_core.specs.Cycle.{Does, Collects}
+use Rattle.object_graph.specs.declared.step.CollectorStep.{CollectorStep}
+use Rattle.object_graph.specs.declared.step.CollectorStep.TheVariants as collector
+use Rattle.step_core.specs.Answers.{Acts, Follows, HasNoPlace, IsFull, RepliesFull, snapshot_after}
 use Rattle.step_core.specs.Histories.{IsHistory, Runs, step_of}
 
-pub acted : (g : Graph) (o : Op) (m : ℕ) (a : Action) (reply : Reply) (c : CoreState) → o.mutator ≡ m → o.action ≡ a → Acts g m a reply c → Follows g (steps.Mutator o) reply c
-acted g o m a reply c em ea h =
+-- a mutator's step as the graph's own, and what is kept of the snapshot
+pub acted : (g s : Graph) (o : Op) (m : ℕ) (a : Action) (reply : Reply) (c : CoreState) → o.mutator ≡ m → o.action ≡ a → Acts g m a reply c → KeepsFrom s c → Follows g s (steps.Mutator o) reply c
+acted g s o m a reply c em ea h keeps =
     let same : act g m a ≡ act g o.mutator o.action = ap (λ (n : ℕ). act g n a) (sym em) ∙ ap (act g o.mutator) (sym ea) in
-    record { after = (act g m a).1; happens = inl (ap (λ (r : Reply). (r, (act g m a).1)) h.reply_is ∙ same); stands = h.stands }
+    record { after = (act g m a).1; happens = inl (ap (λ (r : Reply). (r, (act g m a).1)) h.reply_is ∙ same); stands = record { shows = h.shows; keeps = keeps } }
 
-pub created : (g : Graph) (o : Op) (m p d : ℕ) (to : Register) (reply : Reply) (c c' : CoreState) → o.mutator ≡ m → o.action ≡ actions.New to p d → Stands g c
-    → Acts g m (actions.New to p d) reply c' ⊎ RepliesFull g m (actions.New to p d) c reply c' → Follows g (steps.Mutator o) reply c'
-created g o m p d to reply c c' em ea s (inl h) = acted g o m (actions.New to p d) reply c' em ea h
-created g o m p d to reply c c' em ea s (inr h) =
+pub created : (g s : Graph) (o : Op) (m p d : ℕ) (to : Register) (reply : Reply) (c c' : CoreState) → o.mutator ≡ m → o.action ≡ actions.New to p d → Stands g s c
+    → Acts g m (actions.New to p d) reply c' ⊎ RepliesFull g m (actions.New to p d) c reply c' → KeepsFrom s c' → Follows g s (steps.Mutator o) reply c'
+created g s o m p d to reply c c' em ea st (inl h) keeps = acted g s o m (actions.New to p d) reply c' em ea h keeps
+created g s o m p d to reply c c' em ea st (inr h) keeps =
     let same : act g m (actions.New to p d) ≡ act g o.mutator o.action = ap (λ (n : ℕ). act g n (actions.New to p d)) (sym em) ∙ ap (act g o.mutator) (sym ea) in
     let new : IsNew o.action = subst IsNew (sym ea) tt in
-    record { after = g; happens = inr ((new, sym (ap (λ (x : Outcome). x.0) same) ∙ h.full.0), h.reply_is, refl); stands = subst (λ (d : CoreState). Stands g d) (sym h.same) s }
+    record { after = g; happens = inr ((new, sym (ap (λ (x : Outcome). x.0) same) ∙ h.full.0), h.reply_is, refl); stands = record { shows = subst (λ (d : CoreState). ShowsGraph g d) (sym h.same) st.shows; keeps = keeps } }
 
 -- a history goes on by one event
-pub goes_on : (g : Graph) (c : CoreState) (es : List Event) (e : Event) (mid c' : CoreState) → Runs g c es mid → ((h : Graph) → Stands h mid → Follows h e.step e.reply c') → ((h : Graph) → Stands h c' → IsWhole h c') → Runs g c (es ++ e ∷ []) c'
-goes_on g c es e mid c' r f whole =
-    let n = f r.last r.stands in
-    record { last = n.after; stands = n.stands; history = more g c es r.last r.history n }
+pub goes_on : (g s : Graph) (c : CoreState) (es : List Event) (e : Event) (mid c' : CoreState) → Runs g s c es mid → ((h r : Graph) → Stands h r mid → Follows h r e.step e.reply c')
+    → Does e.step e.reply mid c' → ((h r : Graph) → Stands h r c' → IsWhole h c') → Runs g s c (es ++ e ∷ []) c'
+goes_on g s c es e mid c' r f does whole =
+    let n = f r.last r.snapshot r.stands in
+    record { last = n.after; snapshot = snapshot_after r.snapshot r.last e.step e.reply; stands = n.stands; history = more g s c es r.last r.snapshot r.history n }
   where
-    more : (g : Graph) (c : CoreState) (es : List Event) (last : Graph) → IsHistory g c es last mid → (n : Follows last e.step e.reply c') → IsHistory g c (es ++ e ∷ []) n.after c'
-    more g c [] last h n = (c', record { after = n.after; happens = subst (λ (u : Graph). Happens u e.step e.reply n.after) h.0 n.happens; stands = n.stands }, whole n.after n.stands, (refl, refl))
-    more g c (x ∷ es) last h n = (h.0, h.1, h.2, more h.1.after h.0 es last h.3 n)
+    more : (g s : Graph) (c : CoreState) (es : List Event) (last snapshot : Graph) → IsHistory g s c es last snapshot mid → (n : Follows last snapshot e.step e.reply c')
+        → IsHistory g s c (es ++ e ∷ []) n.after (snapshot_after snapshot last e.step e.reply) c'
+    more g s c [] last snapshot h n = (c', first, subst (λ (d : CoreState). Does e.step e.reply d c') h.2 does, whole n.after (snapshot_after snapshot last e.step e.reply) n.stands, (refl, shots, refl))
+      where
+        shots : snapshot_after snapshot last e.step e.reply ≡ snapshot_after s g e.step e.reply
+        shots = rw (h.0, h.1) refl
 
-pub none_yet : (g : Graph) (c : CoreState) → Stands g c → Runs g c [] c
-none_yet g c s = record { last = g; stands = s; history = (refl, refl) }
+        first : Follows g s e.step e.reply c'
+        first = record { after = n.after; happens = subst (λ (u : Graph). Happens u e.step e.reply n.after) h.0 n.happens; stands = subst (λ (u : Graph). Stands n.after u c') shots n.stands }
+    more g s c (x ∷ es) last snapshot h n = (h.0, h.1, h.2, h.3, more h.1.after (snapshot_after s g x.step x.reply) h.0 es last snapshot h.4 n)
+
+pub none_yet : (g s : Graph) (c : CoreState) → Stands g s c → Runs g s c [] c
+none_yet g s c st = record { last = g; snapshot = s; stands = st; history = (refl, refl, refl) }
 
 pub one_more : (es : List Event) (e : Event) → map step_of (es ++ e ∷ []) ≡ map step_of es ++ e.step ∷ []
 one_more [] e = refl
@@ -67,6 +79,6 @@ steps_more es e ss i h lt is =
     one_more es e ∙ ap (λ (xs : List Step). xs ++ e.step ∷ []) h ∙ ap (λ (s : Step). take i ss ++ s ∷ []) is ∙ sym (take_more ss i e.step lt)
 
 -- the events of a history are a run of the graph
-pub history_is_run : (g : Graph) (c : CoreState) (es : List Event) (last : Graph) (c' : CoreState) → IsHistory g c es last c' → IsRun g es last
-history_is_run g c [] last c' h = h.0
-history_is_run g c (e ∷ es) last c' h = (h.1.after, h.1.happens, history_is_run h.1.after h.0 es last c' h.3)
+pub history_is_run : (g s : Graph) (c : CoreState) (es : List Event) (last snapshot : Graph) (c' : CoreState) → IsHistory g s c es last snapshot c' → IsRun g es last
+history_is_run g s c [] last snapshot c' h = h.0
+history_is_run g s c (e ∷ es) last snapshot c' h = (h.1.after, h.1.happens, history_is_run h.1.after (snapshot_after s g e.step e.reply) h.0 es last snapshot c' h.4)

@@ -1,8 +1,13 @@
+pub mod Sizes
 pub mod Reading
+pub mod Written
+pub mod Added
+pub mod Layers
 pub mod Acting
 pub mod Keeping
-pub mod Added
+pub mod Storing
+pub mod Stored
 pub mod Creating
+pub mod Cycling
 pub mod Following
 pub mod Beginning
-pub mod Sizes

@@ -6,16 +6,18 @@ use Rattle.object_graph.specs.Run.{Happens}
 use Rattle.object_graph.specs.declared.step.Action.{Action}
 use Rattle.object_graph.specs.declared.step.Action.TheVariants as actions
 use Rattle.object_graph.specs.declared.step.Step.{Step}
+use Rattle.object_graph.specs.declared.step.Step.TheVariants as steps
+use Rattle.object_graph.specs.declared.step.CollectorStep.TheVariants as collector
 use Rattle.object_graph.specs.declared.step.Reply.{Reply}
 use Rattle.object_graph.specs.declared.step.Reply.TheVariants as replies
 use Rattle.object_graph.specs.declared.step.Refusal.TheVariants as refusals
 use Rattle.alloc_buffers.specs.Placement.{place_of}
-use Rattle.step_core.specs.Stands.{CoreState, Stands}
+use Rattle.step_core.specs.Stands.{CoreState, ShowsGraph, Stands}
 
--- the reply is the graph's, and the core stands for the graph after it
+-- the reply is the graph's, and the core shows the graph after it
 pub record Acts (g : Graph) (m : ℕ) (a : Action) (reply : Reply) (c : CoreState) : Type 0 where
   pub reply_is : reply ≡ (act g m a).0
-  pub stands : Stands (act g m a).1 c
+  pub shows : ShowsGraph (act g m a).1 c
 
 -- no place for so many words: they are more than half a region, or placement finds none
 abbrev pub HasNoPlace : CoreState → ℕ → ℕ → Type 0
@@ -26,14 +28,24 @@ abbrev pub IsFull : Graph → ℕ → Action → CoreState → Type 0
 IsFull g m (actions.New to p d) c = ((act g m (actions.New to p d)).0 ≡ replies.Named (Some (next_name g))) × HasNoPlace c m (2 + p + d)
 IsFull g m _ c = ⊥
 
+-- the same of a step: the collector creates nothing
+abbrev pub IsFullStep : Graph → Step → CoreState → Type 0
+IsFullStep g (steps.Mutator o) c = IsFull g o.mutator o.action c
+IsFullStep g (steps.Collector k) c = ⊥
+
 -- the core as it was, and the reply Full, where the graph creates an object that has no place
 pub record RepliesFull (g : Graph) (m : ℕ) (a : Action) (c : CoreState) (reply : Reply) (c' : CoreState) : Type 0 where
   pub reply_is : reply ≡ replies.Refused refusals.Full
   pub full : IsFull g m a c
   pub same : c' ≡ c
 
--- the step takes the graph to another one, for which the core stands then
-pub record Follows (g : Graph) (step : Step) (reply : Reply) (c : CoreState) : Type 0 where
+-- the snapshot after a step: the present graph where marking begins
+abbrev pub snapshot_after : Graph → Graph → Step → Reply → Graph
+snapshot_after s g (steps.Collector collector.Begin) replies.Done = g
+snapshot_after s g _ _ = s
+
+-- the step takes the graph to another one, for which the core stands then, and for the snapshot after the step
+pub record Follows (g s : Graph) (step : Step) (reply : Reply) (c : CoreState) : Type 0 where
   pub after : Graph
   pub happens : Happens g step reply after
-  pub stands : Stands after c
+  pub stands : Stands after (snapshot_after s g step reply) c

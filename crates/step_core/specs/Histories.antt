@@ -10,34 +10,37 @@ use Rattle.object_graph.specs.State.{first_state}
 use Rattle.step_core.specs.declared.runs.RunFault.{RunFault}
 use Rattle.step_core.specs.declared.runs.RunFault.TheVariants as faults
 use Rattle.step_core.specs.Stands.{CoreState, Stands, IsWhole}
-use Rattle.step_core.specs.Answers.{Follows}
+use Rattle.step_core.specs.Answers.{Follows, snapshot_after}
+use Rattle.step_core.specs.Cycle.{Does, IsCycleStep}
 
--- graphs and cores between the events, each core standing for its graph. After each event every object that a
--- root reaches stands, whole and once, in regions in use
-abbrev pub IsHistory : Graph → CoreState → List Event → Graph → CoreState → Type 0
-IsHistory g c [] g' c' = (g' ≡ g) × (c' ≡ c)
-IsHistory g c (e ∷ es) g' c' = (mid : CoreState) × (f : Follows g e.step e.reply mid) × IsWhole f.after mid × IsHistory f.after mid es g' c'
+-- Graphs, snapshots and cores between the events: each core stands for its graph and its snapshot. After each event every
+-- object that a root reaches stands, whole and once, in regions in use
+abbrev pub IsHistory : Graph → Graph → CoreState → List Event → Graph → Graph → CoreState → Type 0
+IsHistory g s c [] g' s' c' = (g' ≡ g) × (s' ≡ s) × (c' ≡ c)
+IsHistory g s c (e ∷ es) g' s' c' = (mid : CoreState) × (f : Follows g s e.step e.reply mid) × Does e.step e.reply c mid × IsWhole f.after mid
+    × IsHistory f.after (snapshot_after s g e.step e.reply) mid es g' s' c'
 
--- a history from a graph and a core on, to some graph for which the last core stands
-pub record Runs (g : Graph) (c : CoreState) (es : List Event) (c' : CoreState) : Type 0 where
+-- a history from a graph, a snapshot and a core on, to some graph and snapshot for which the last core stands
+pub record Runs (g s : Graph) (c : CoreState) (es : List Event) (c' : CoreState) : Type 0 where
   pub last : Graph
-  pub stands : Stands last c'
-  pub history : IsHistory g c es last c'
+  pub snapshot : Graph
+  pub stands : Stands last snapshot c'
+  pub history : IsHistory g s c es last snapshot c'
 
--- the events of a new heap: a history from the first graph on
+-- the events of a new heap: a history from the first graph on, which is the first snapshot too
 pub record RunsFromNew (config : Config) (es : List Event) : Type 0 where
   pub first : CoreState
   pub last : CoreState
-  pub begins : Stands (first_state config) first
-  pub runs : Runs (first_state config) first es last
+  pub begins : Stands (first_state config) (first_state config) first
+  pub runs : Runs (first_state config) (first_state config) first es last
 
 abbrev pub step_of : Event → Step
 step_of e = e.step
 
--- a mutator's step, its number below the count
-abbrev pub IsMutatorStep : Config → Step → Type 0
-IsMutatorStep config (steps.Mutator o) = o.mutator < config.mutators
-IsMutatorStep config (steps.Collector k) = ⊥
+-- a step that the heap does: a mutator's, its number below the count, or a part of a marking cycle
+abbrev pub IsStepYet : Config → Step → Type 0
+IsStepYet config (steps.Mutator o) = o.mutator < config.mutators
+IsStepYet config (steps.Collector k) = IsCycleStep k
 
 -- the only faults of a run by itself: want of memory, where the heap's sizes suit, and their first fault
 abbrev pub IsRunFault : Config → RunFault → Type 0

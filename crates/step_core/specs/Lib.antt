@@ -1,3 +1,4 @@
 pub mod Stands
 pub mod Answers
+pub mod Cycle
 pub mod Histories

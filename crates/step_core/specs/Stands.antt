@@ -1,40 +1,60 @@
 -- A core, and the graph that it stands for.
-use Rattle.std.specs.Prelude.{◌≡◌, ℕ, ◌+◌, ◌-◌, ◌*◌, ◌^◌, ◌<◌, List, Option, Some, None, length, slice_get, false}
+use Rattle.std.specs.Prelude.{◌≡◌, ℕ, ◌+◌, ◌-◌, ◌*◌, ◌^◌, ◌<◌, ◌≤◌, ⊤, List, Option, Some, None, length, slice_get, slice_index, true}
 use Rattle.std.specs.List.{AllZip}
 use Rattle.heap_words.specs.declared.config.Config.{Config}
 use Rattle.heap_words.specs.Configs.{Suits}
 use Rattle.heap_model.specs.Graph.{Graph, Object, next_name, object_named, IsReachable}
-use Rattle.heap_model.specs.Heap.{Heap, Stored, Shows, IsShown, StandsOnce}
-use Rattle.heap_model.specs.Kept.{kept_by}
+use Rattle.heap_model.specs.Heap.{Heap, Stored, Shows, IsShown, IsRoot, StandsOnce}
+use Rattle.heap_model.specs.Marking.{Marking, KeepsSnapshot}
 use Rattle.regions.specs.Tiles.{Live, tile_size}
 use Rattle.regions.specs.Table.{Table, object_at, HasNoMoved}
 use Rattle.regions.specs.Shaped.{AreInUse}
-use Rattle.alloc_buffers.specs.Placement.{Buffers, BuffersStand}
+use Rattle.alloc_buffers.specs.Placement.{Buffers, BuffersStand, AreAbove}
+use Rattle.mark_bitmap.specs.Kept.{kept_in}
+use Rattle.satb_log.specs.Logs.{log_of}
+use Rattle.marker.specs.declared.marker.Marker.{Marker}
+use Rattle.marker.specs.Stands.{MarkerStands}
+use Rattle.marker.specs.Views as views
 use Rattle.object_graph.specs.State.{root_at}
 
 pub record CoreState : Type 0 where
   pub config : Config
   pub table : Table
   pub buffers : Buffers
+  pub marker : Marker
   -- the globals, and each mutator's registers
   pub roots : List (Option ℕ)
   -- the name of the next object
   pub next : ℕ
 
--- what is kept: each object, as long as nothing lies below a top at mark start
+-- what is kept: the objects that start at or above their region's previous top at mark start, or are marked
 unfoldable pub kept_of : CoreState → ℕ → Option Stored
-kept_of c a = kept_by (object_at c.table) (λ _. false) (λ _. false) a
+kept_of c a = kept_in c.table c.marker.tams c.marker.bitmaps.previous a
 
 -- the heap as the theory sees it
 abbrev pub heap_of : CoreState → Heap
 heap_of c = record { kept = kept_of c; roots = c.roots }
 
--- the core stands for the graph
-pub record Stands (g : Graph) (c : CoreState) : Type 0 where
+-- what the theory sees of marking
+abbrev pub marking_of : CoreState → Marking
+marking_of c = views.marking_of c.table c.marker
+
+-- the heap shows the graph, whose next name is the core's
+pub record ShowsGraph (g : Graph) (c : CoreState) : Type 0 where
   pub room : g.room ≡ c.config.regions * c.config.words
   pub mutators : g.mutators ≡ c.config.mutators
   pub next : next_name g ≡ c.next
   pub shows : Shows g (heap_of c)
+
+-- the snapshot is no later than the core, and while marking runs, what was reachable in it will be marked
+pub record KeepsFrom (s : Graph) (c : CoreState) : Type 0 where
+  pub earlier : next_name s ≤ c.next
+  pub marking : c.marker.running ≡ true → KeepsSnapshot s (heap_of c) (marking_of c)
+
+-- the core stands for the present graph g and the snapshot s, the graph when marking last began
+pub record Stands (g s : Graph) (c : CoreState) : Type 0 where
+  pub shows : ShowsGraph g c
+  pub keeps : KeepsFrom s c
 
 -- each name that a root reaches is borne by one kept object, which has the graph's contents; and every word of
 -- a kept object lies in a region that isn't free
@@ -42,23 +62,40 @@ pub record IsWhole (g : Graph) (c : CoreState) : Type 0 where
   pub once : (n : ℕ) → IsReachable g n → StandsOnce g (heap_of c) n
   pub in_use : (a : ℕ) (s : Stored) → kept_of c a ≡ Some s → AreInUse c.table a (tile_size (Live s))
 
--- what every core keeps. There is a graph that it stands for: so each root is the start of an object
+-- The layers below fit one another: they have the sizes of the configuration, open buffers are fillers of the table,
+-- nothing has moved, what is still to be handed out lies at or above both tops at mark start, and no deletion log is full
+pub record LayersFit (config : Config) (t : Table) (b : Buffers) (m : Marker) : Type 0 where
+  pub region_size : t.words_per_region ≡ config.words
+  pub region_count : length t.regions ≡ config.regions
+  pub buffer_size : b.words ≡ config.buffer
+  pub open_buffers : length b.open_buffers ≡ config.mutators
+  pub logs : length m.logs ≡ config.mutators
+  pub buffers : BuffersStand t b
+  pub unmoved : HasNoMoved t
+  pub marker : MarkerStands t m
+  pub above_previous : AreAbove t b (slice_index m.tams.previous)
+  pub above_next : AreAbove t b (slice_index m.tams.next)
+  pub room : (mutator : ℕ) → length (log_of m.logs mutator) < 8
+
+-- What every core keeps. There is a graph that it stands for, and a snapshot: so each root is the start of an object
 pub record IsCore (c : CoreState) : Type 0 where
   pub suits : Suits c.config
-  pub region_size : c.table.words_per_region ≡ c.config.words
-  pub buffer_size : c.buffers.words ≡ c.config.buffer
+  pub layers : LayersFit c.config c.table c.buffers c.marker
   pub places : length c.roots ≡ 16 + 8 * c.config.mutators
-  pub open_buffers : length c.buffers.open_buffers ≡ c.config.mutators
-  pub buffers : BuffersStand c.table c.buffers
-  pub unmoved : HasNoMoved c.table
   pub names : c.next < 2 ^ 64
   pub graph : Graph
-  pub stands : Stands graph c
+  pub snapshot : Graph
+  pub stands : Stands graph snapshot c
 
 -- a word that shows something: nil, or the start of a kept object
 pub record IsWordOf (h : Heap) (w : Option ℕ) : Type 0 where
   pub name : Option ℕ
   pub shown : IsShown h w name
+
+-- nil, or what a root place holds
+abbrev pub IsRootWord : Heap → Option ℕ → Type 0
+IsRootWord h None = ⊤
+IsRootWord h (Some a) = IsRoot h a
 
 -- the object that a root place names, in the heap and in the graph
 pub record HasObject (g : Graph) (c : CoreState) (place a : ℕ) : Type 0 where
@@ -73,8 +110,8 @@ pub record HasObject (g : Graph) (c : CoreState) (place a : ℕ) : Type 0 where
 
 -- where a register or global leads
 abbrev pub Leads : CoreState → ℕ → Option ℕ → Type 0
-Leads c place None = (g : Graph) → Stands g c → root_at g place ≡ None
-Leads c place (Some a) = (g : Graph) → Stands g c → HasObject g c place a
+Leads c place None = (g : Graph) → ShowsGraph g c → root_at g place ≡ None
+Leads c place (Some a) = (g : Graph) → ShowsGraph g c → HasObject g c place a
 
 -- what names the words of a heap have
 abbrev pub name_of : Option Stored → Option ℕ

@@ -1,26 +1,29 @@
 //! The core: the heap's layers in one value, and its root places.
 
-ghost use Rattle.std.specs.Prelude.{◌≡◌, ℕ, ◌<◌, ◌≤◌, ◌+◌, ◌*◌, length, Option, Some, None, slice_index_or, IfOk, IfErr, OnOk, replicate};
+ghost use Rattle.std.specs.Prelude.{◌≡◌, ℕ, ◌<◌, ◌≤◌, ◌+◌, ◌*◌, length, Option, Some, None, slice_index_or, IfOk, IfErr, OnOk, false, replicate};
 ghost use Rattle.heap_words.specs.Configs.{Suits, IsNewFault};
 ghost use Rattle.heap_model.specs.Graph.{Graph};
-ghost use Rattle.heap_model.specs.Heap.{IsShown};
+ghost use Rattle.heap_model.specs.Heap.{IsShown, IsHeld};
 ghost use Rattle.object_graph.specs.State.{first_state, register_place, with_root, root_at};
-ghost use Rattle.step_core.specs.Stands.{Stands, IsWhole, heap_of, IsWordOf, Leads, name_in};
+ghost use Rattle.step_core.specs.Stands.{ShowsGraph, KeepsFrom, Stands, IsWhole, heap_of, IsWordOf, IsRootWord, Leads, name_in};
+ghost use Rattle.step_core.specs.Cycle.{LeavesRegions};
 
 use alloc_buffers::AllocBuffers;
 use heap_words::addr::{Addr, Ptr};
 use heap_words::config::{Config, NewFault};
+use marker::Marker;
 use object_graph::Register;
 use regions::RegionTable;
 use std::alloc::{AllocError, Global};
 use std::marker::Model;
 
-/// A heap: its table of regions, its allocation buffers, its roots and the name of its next object.
+/// A heap: its table of regions, its allocation buffers, its marker, its roots and the name of its next object.
 #[derive(Drop)]
 pub struct Core {
     pub(crate) config: Config,
     pub(crate) table: RegionTable,
     pub(crate) buffers: AllocBuffers,
+    pub(crate) marker: Marker,
     pub(crate) roots: Vec<Ptr>,
     pub(crate) next: u64,
 }
@@ -30,9 +33,9 @@ impl Model for Core {
 
     ghost Value = { CoreState };
 
-    ghost view = { λ c. record { config = c.config; table = c.table; buffers = c.buffers; roots = c.roots.items; next = c.next } };
+    ghost view = { λ c. record { config = c.config; table = c.table; buffers = c.buffers; marker = c.marker; roots = c.roots.items; next = c.next } };
 
-    ghost invariant = { λ c. IsCore (record { config = c.config; table = c.table; buffers = c.buffers; roots = c.roots.items; next = c.next }) };
+    ghost invariant = { λ c. IsCore (record { config = c.config; table = c.table; buffers = c.buffers; marker = c.marker; roots = c.roots.items; next = c.next }) };
 }
 
 /// Where a mutator's register stands among the roots, behind the 16 globals.
@@ -51,7 +54,8 @@ fn nil_roots(alloc: Global, count: usize) -> Result<Vec<Ptr>, AllocError>
 impl Core {
     /// A heap with no objects, whose roots are nil.
     pub fn new(alloc: Global, config: &Config) -> Result<Core, NewFault>
-        ensures stands { IfOk result (Stands (first_state config.now)) }
+        ensures stands { IfOk result (Stands (first_state config.now) (first_state config.now)) }
+        ensures idle { IfOk result (λ c. c.marker.running ≡ false) }
         ensures config { IfOk result (λ c. c.config ≡ config.now) }
         ensures suits { OnOk result (Suits config.now) }
         ensures fault { IfErr result (IsNewFault config.now) }
@@ -63,6 +67,9 @@ impl Core {
         let Ok(buffers) = AllocBuffers::new(alloc, config) else {
             return Err(NewFault::NoMemory);
         };
+        let Ok(marker) = Marker::new(alloc, config) else {
+            return Err(NewFault::NoMemory);
+        };
         let Ok(roots) = nil_roots(alloc, 16 + 8 * config.mutators as usize) else {
             return Err(NewFault::NoMemory);
         };
@@ -70,6 +77,7 @@ impl Core {
             config: *config,
             table,
             buffers,
+            marker,
             roots,
             next: config.first_name,
         })
@@ -83,10 +91,24 @@ impl Core {
         self.config
     }
 
+    /// Whether marking runs.
+    pub fn marking(&self) -> bool
+        ensures { result ≡ self.now.marker.running }
+    {
+        self.marker.running
+    }
+
+    /// How many objects were scanned since marking began.
+    pub fn scans(&self) -> u32
+        ensures { result ≡ self.now.marker.scans }
+    {
+        self.marker.scans()
+    }
+
     /// Tells a proof that each object that a root reaches stands, whole and once, in regions in use. It
     /// does nothing.
     pub fn whole(&self)
-        ensures { (g : Graph) → Stands g self.now → IsWhole g self.now }
+        ensures { (g s : Graph) → Stands g s self.now → IsWhole g self.now }
     {
         self.table.law();
     }
@@ -96,8 +118,9 @@ impl Core {
         requires { place < 16 + 8 * self.now.config.mutators }
         ensures value { result ≡ slice_index_or self.now.roots place None }
         ensures word { IsWordOf (heap_of self.now) result }
+        ensures rooted { IsRootWord (heap_of self.now) result }
         ensures leads { Leads self.now place result }
-        ensures shows { (g : Graph) → Stands g self.now → IsShown (heap_of self.now) result (root_at g place) }
+        ensures shows { (g : Graph) → ShowsGraph g self.now → IsShown (heap_of self.now) result (root_at g place) }
     {
         self.roots[place]
     }
@@ -105,8 +128,10 @@ impl Core {
     pub(crate) fn set_root(&mut self, place: usize, value: Ptr)
         requires place { place < 16 + 8 * self.old.config.mutators }
         requires word { IsWordOf (heap_of self.old) value }
-        ensures config { self.new.config ≡ self.old.config }
-        ensures stands { (g : Graph) (v : Option ℕ) → Stands g self.old → IsShown (heap_of self.old) value v → Stands (with_root g place v) self.new }
+        requires held { IsHeld (heap_of self.old) value }
+        ensures shows { (g : Graph) (v : Option ℕ) → ShowsGraph g self.old → IsShown (heap_of self.old) value v → ShowsGraph (with_root g place v) self.new }
+        ensures keeps { (s : Graph) → KeepsFrom s self.old → KeepsFrom s self.new }
+        ensures leaves { LeavesRegions self.old self.new }
     {
         self.roots[place] = value;
     }
@@ -115,8 +140,9 @@ impl Core {
     pub(crate) fn register(&self, mutator: u32, register: Register) -> Ptr
         requires { mutator < self.now.config.mutators }
         ensures word { IsWordOf (heap_of self.now) result }
+        ensures rooted { IsRootWord (heap_of self.now) result }
         ensures leads { Leads self.now (register_place mutator register.number) result }
-        ensures shows { (g : Graph) → Stands g self.now → IsShown (heap_of self.now) result (root_at g (register_place mutator register.number)) }
+        ensures shows { (g : Graph) → ShowsGraph g self.now → IsShown (heap_of self.now) result (root_at g (register_place mutator register.number)) }
     {
         self.root(register_index(mutator, register))
     }
@@ -124,8 +150,10 @@ impl Core {
     pub(crate) fn set_register(&mut self, mutator: u32, register: Register, value: Ptr)
         requires mutator { mutator < self.old.config.mutators }
         requires word { IsWordOf (heap_of self.old) value }
-        ensures config { self.new.config ≡ self.old.config }
-        ensures stands { (g : Graph) (v : Option ℕ) → Stands g self.old → IsShown (heap_of self.old) value v → Stands (with_root g (register_place mutator register.number) v) self.new }
+        requires held { IsHeld (heap_of self.old) value }
+        ensures shows { (g : Graph) (v : Option ℕ) → ShowsGraph g self.old → IsShown (heap_of self.old) value v → ShowsGraph (with_root g (register_place mutator register.number) v) self.new }
+        ensures keeps { (s : Graph) → KeepsFrom s self.old → KeepsFrom s self.new }
+        ensures leaves { LeavesRegions self.old self.new }
     {
         let place = register_index(mutator, register);
         self.set_root(place, value);

@@ -18,8 +18,11 @@
 //! A field is read or written in constant time: no step tests or walks its region to see that an address is an object.
 #![tactic(auto)]
 
+mod barrier;
+mod cycle;
 mod heap;
 mod runs;
+mod step;
 mod steps;
 
 pub use heap::Core;

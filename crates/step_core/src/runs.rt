@@ -8,7 +8,7 @@ ghost use Rattle.object_graph.specs.Run.{IsRun};
 ghost use Rattle.object_graph.specs.declared.step.Step.TheVariants as steps;
 ghost use Rattle.heap_words.specs.declared.config.Config.{Config};
 ghost use Rattle.step_core.specs.Stands.{Stands};
-ghost use Rattle.step_core.specs.Histories.{Runs, RunsFromNew, step_of, IsMutatorStep, IsRunFault};
+ghost use Rattle.step_core.specs.Histories.{Runs, RunsFromNew, step_of, IsStepYet, IsRunFault};
 
 use crate::heap::Core;
 use heap_words::config::{Config, NewFault};
@@ -36,33 +36,28 @@ pub enum RunFault {
     Heap(NewFault),
 }
 
-/// The step as a mutator's.
-fn op_of(config: &Config, step: &Step) -> Op
-    requires { IsMutatorStep config.now step.now }
-    ensures step { step.now ≡ steps.Mutator result }
-    ensures known { result.mutator < config.now.mutators }
-{
+/// Who takes a step of a script.
+fn actor_of(step: &Step) -> Actor {
     match step {
-        Step::Mutator(op) => *op,
-        Step::Collector(_) => unreachable!(),
+        Step::Mutator(op) => Actor::Mutator(op.mutator),
+        Step::Collector(_) => Actor::Collector,
     }
 }
 
 /// Does the steps in order, in a core.
 fn run_on(alloc: Global, core: &mut Core, steps: &[Step]) -> Result<Record, AllocError>
-    requires { All (IsMutatorStep core.old.config) steps.now }
+    requires { All (IsStepYet core.old.config) steps.now }
     ensures config { IfOk result (λ r. r.config ≡ core.old.config) }
     ensures steps { IfOk result (λ r. map step_of r.events ≡ steps.now) }
-    ensures runs { IfOk result (λ r. (g : Graph) → Stands g core.old → Runs g core.old r.events core.new) }
+    ensures runs { IfOk result (λ r. (g s : Graph) → Stands g s core.old → Runs g s core.old r.events core.new) }
 {
     let config = core.config();
     let mut done = Record::with_room(alloc, config, steps.len())?;
     for step in steps {
-        let op = op_of(&config, step);
-        let reply = core.step(op);
+        let reply = core.step(*step);
         core.whole();
         done.push(Event {
-            actor: Actor::Mutator(op.mutator),
+            actor: actor_of(step),
             step: *step,
             reply,
         })?;
@@ -74,7 +69,7 @@ fn run_on(alloc: Global, core: &mut Core, steps: &[Step]) -> Result<Record, Allo
 /// its reply; between them stand cores and graphs, each core standing for its graph, with every object that
 /// a root reaches whole and once in the heap.
 pub fn run(alloc: Global, config: &Config, steps: &[Step]) -> Result<Record, RunFault>
-    requires { All (IsMutatorStep config.now) steps.now }
+    requires { All (IsStepYet config.now) steps.now }
     ensures config { IfOk result (λ r. r.config ≡ config.now) }
     ensures steps { IfOk result (λ r. map step_of r.events ≡ steps.now) }
     ensures history { IfOk result (λ r. RunsFromNew config.now r.events) }

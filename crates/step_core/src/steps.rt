@@ -6,8 +6,9 @@ ghost use Rattle.heap_model.specs.Heap.{IsShown};
 ghost use Rattle.object_graph.specs.Machine.{stored};
 ghost use Rattle.object_graph.specs.declared.step.Reply.TheVariants as replies;
 ghost use Rattle.object_graph.specs.declared.step.Refusal.TheVariants as refusals;
-ghost use Rattle.step_core.specs.Stands.{Stands, heap_of, IsWordOf};
+ghost use Rattle.step_core.specs.Stands.{ShowsGraph, KeepsFrom, Stands, heap_of, IsWordOf, IsRootWord};
 ghost use Rattle.step_core.specs.Answers.{Acts, HasNoPlace, IsFull, RepliesFull, Follows};
+ghost use Rattle.step_core.specs.Cycle.{LeavesRegions};
 
 use crate::heap::{Core, register_index};
 use heap_words::addr::Ptr;
@@ -21,8 +22,9 @@ impl Core {
 
     fn get(&mut self, mutator: u32, to: Register, object: Register, field: u32) -> Reply
         requires { mutator < self.old.config.mutators }
-        ensures acts { (g : Graph) → Stands g self.old → Acts g mutator (actions.Get to object field) result self.new }
-        ensures config { self.new.config ≡ self.old.config }
+        ensures acts { (g : Graph) → ShowsGraph g self.old → Acts g mutator (actions.Get to object field) result self.new }
+        ensures keeps { (s : Graph) → KeepsFrom s self.old → KeepsFrom s self.new }
+        ensures leaves { LeavesRegions self.old self.new }
     {
         let Some(at) = self.register(mutator, object) else {
             return Reply::Refused(Refusal::Nil);
@@ -38,7 +40,7 @@ impl Core {
 
     fn read(&self, mutator: u32, object: Register, field: u32) -> Reply
         requires { mutator < self.now.config.mutators }
-        ensures { (g : Graph) → Stands g self.now → Acts g mutator (actions.Read object field) result self.now }
+        ensures { (g : Graph) → ShowsGraph g self.now → Acts g mutator (actions.Read object field) result self.now }
     {
         let Some(at) = self.register(mutator, object) else {
             return Reply::Refused(Refusal::Nil);
@@ -53,7 +55,8 @@ impl Core {
     fn stored(&self, mutator: u32, value: Option<Register>) -> Ptr
         requires { mutator < self.now.config.mutators }
         ensures word { IsWordOf (heap_of self.now) result }
-        ensures shows { (g : Graph) → Stands g self.now → IsShown (heap_of self.now) result (stored g mutator value) }
+        ensures rooted { IsRootWord (heap_of self.now) result }
+        ensures shows { (g : Graph) → ShowsGraph g self.now → IsShown (heap_of self.now) result (stored g mutator value) }
     {
         match value {
             None => None,
@@ -63,8 +66,9 @@ impl Core {
 
     fn put(&mut self, mutator: u32, object: Register, field: u32, value: Option<Register>) -> Reply
         requires { mutator < self.old.config.mutators }
-        ensures acts { (g : Graph) → Stands g self.old → Acts g mutator (actions.Put object field value) result self.new }
-        ensures config { self.new.config ≡ self.old.config }
+        ensures acts { (g : Graph) → ShowsGraph g self.old → Acts g mutator (actions.Put object field value) result self.new }
+        ensures keeps { (s : Graph) → KeepsFrom s self.old → KeepsFrom s self.new }
+        ensures leaves { LeavesRegions self.old self.new }
     {
         let Some(at) = self.register(mutator, object) else {
             return Reply::Refused(Refusal::Nil);
@@ -73,14 +77,15 @@ impl Core {
         if field >= self.table.pointer_count(at) {
             return Reply::Refused(Refusal::NoField);
         }
-        self.table.set_ptr(at, field, target);
+        self.store(mutator, at, field, target);
         Reply::Done
     }
 
     fn write(&mut self, mutator: u32, object: Register, field: u32, value: u64) -> Reply
         requires { mutator < self.old.config.mutators }
-        ensures acts { (g : Graph) → Stands g self.old → Acts g mutator (actions.Write object field value) result self.new }
-        ensures config { self.new.config ≡ self.old.config }
+        ensures acts { (g : Graph) → ShowsGraph g self.old → Acts g mutator (actions.Write object field value) result self.new }
+        ensures keeps { (s : Graph) → KeepsFrom s self.old → KeepsFrom s self.new }
+        ensures leaves { LeavesRegions self.old self.new }
     {
         let Some(at) = self.register(mutator, object) else {
             return Reply::Refused(Refusal::Nil);
@@ -94,8 +99,9 @@ impl Core {
 
     fn move_register(&mut self, mutator: u32, to: Register, from: Register) -> Reply
         requires { mutator < self.old.config.mutators }
-        ensures acts { (g : Graph) → Stands g self.old → Acts g mutator (actions.Move to from) result self.new }
-        ensures config { self.new.config ≡ self.old.config }
+        ensures acts { (g : Graph) → ShowsGraph g self.old → Acts g mutator (actions.Move to from) result self.new }
+        ensures keeps { (s : Graph) → KeepsFrom s self.old → KeepsFrom s self.new }
+        ensures leaves { LeavesRegions self.old self.new }
     {
         let value = self.register(mutator, from);
         self.set_register(mutator, to, value);
@@ -104,8 +110,9 @@ impl Core {
 
     fn drop_register(&mut self, mutator: u32, register: Register) -> Reply
         requires { mutator < self.old.config.mutators }
-        ensures acts { (g : Graph) → Stands g self.old → Acts g mutator (actions.Drop register) result self.new }
-        ensures config { self.new.config ≡ self.old.config }
+        ensures acts { (g : Graph) → ShowsGraph g self.old → Acts g mutator (actions.Drop register) result self.new }
+        ensures keeps { (s : Graph) → KeepsFrom s self.old → KeepsFrom s self.new }
+        ensures leaves { LeavesRegions self.old self.new }
     {
         self.set_register(mutator, register, None);
         Reply::Done
@@ -113,8 +120,9 @@ impl Core {
 
     fn load(&mut self, mutator: u32, to: Register, from: GlobalRoot) -> Reply
         requires { mutator < self.old.config.mutators }
-        ensures acts { (g : Graph) → Stands g self.old → Acts g mutator (actions.Load to from) result self.new }
-        ensures config { self.new.config ≡ self.old.config }
+        ensures acts { (g : Graph) → ShowsGraph g self.old → Acts g mutator (actions.Load to from) result self.new }
+        ensures keeps { (s : Graph) → KeepsFrom s self.old → KeepsFrom s self.new }
+        ensures leaves { LeavesRegions self.old self.new }
     {
         let value = self.root(from.number as usize);
         let name = self.name_of(&value);
@@ -124,8 +132,9 @@ impl Core {
 
     fn save(&mut self, mutator: u32, to: GlobalRoot, from: Register) -> Reply
         requires { mutator < self.old.config.mutators }
-        ensures acts { (g : Graph) → Stands g self.old → Acts g mutator (actions.Save to from) result self.new }
-        ensures config { self.new.config ≡ self.old.config }
+        ensures acts { (g : Graph) → ShowsGraph g self.old → Acts g mutator (actions.Save to from) result self.new }
+        ensures keeps { (s : Graph) → KeepsFrom s self.old → KeepsFrom s self.new }
+        ensures leaves { LeavesRegions self.old self.new }
     {
         let value = self.register(mutator, from);
         self.set_root(to.number as usize, value);
@@ -134,7 +143,7 @@ impl Core {
 
     fn shape(&self, mutator: u32, object: Register) -> Reply
         requires { mutator < self.now.config.mutators }
-        ensures { (g : Graph) → Stands g self.now → Acts g mutator (actions.Shape object) result self.now }
+        ensures { (g : Graph) → ShowsGraph g self.now → Acts g mutator (actions.Shape object) result self.now }
     {
         let Some(at) = self.register(mutator, object) else {
             return Reply::Refused(Refusal::Nil);
@@ -147,9 +156,10 @@ impl Core {
 
     fn new_object(&mut self, mutator: u32, to: Register, pointers: u32, values: u32) -> Reply
         requires { mutator < self.old.config.mutators }
-        ensures acts { (g : Graph) → Stands g self.old → Acts g mutator (actions.New to pointers values) result self.new
+        ensures acts { (g : Graph) → ShowsGraph g self.old → Acts g mutator (actions.New to pointers values) result self.new
             ⊎ RepliesFull g mutator (actions.New to pointers values) self.old result self.new }
-        ensures config { self.new.config ≡ self.old.config }
+        ensures keeps { (s : Graph) → KeepsFrom s self.old → KeepsFrom s self.new }
+        ensures leaves { LeavesRegions self.old self.new }
         ensures full { HasNoPlace self.old mutator (2 + pointers + values) → (name : Option ℕ) → result ≢ replies.Named name }
     {
         let size = 2 + u64::from(pointers) + u64::from(values);
@@ -181,13 +191,12 @@ impl Core {
         Reply::Named(Some(name))
     }
 
-    /// Does a mutator's step. The reply is Full exactly where the graph would create an object and the
-    /// heap has no place for it. No step takes memory.
-    pub fn step(&mut self, op: Op) -> Reply
+    /// Does a mutator's step.
+    pub(crate) fn act(&mut self, op: Op) -> Reply
         requires { op.mutator < self.old.config.mutators }
-        ensures follows { (g : Graph) → Stands g self.old → Follows g (steps.Mutator op) result self.new }
-        ensures full { (g : Graph) → Stands g self.old → (result ≡ replies.Refused refusals.Full) ↔ IsFull g op.mutator op.action self.old }
-        ensures config { self.new.config ≡ self.old.config }
+        ensures follows { (g s : Graph) → Stands g s self.old → Follows g s (steps.Mutator op) result self.new }
+        ensures full { (g s : Graph) → Stands g s self.old → (result ≡ replies.Refused refusals.Full) ↔ IsFull g op.mutator op.action self.old }
+        ensures leaves { LeavesRegions self.old self.new }
     {
         let mutator = op.mutator;
         match op.action {

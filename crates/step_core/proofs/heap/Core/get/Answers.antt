@@ -1,7 +1,7 @@
 use Rattle.std.proofs.Common.{length, ap, sym, ◌∙◌, Option, ℕ, List, arith}
 use Rattle.std.specs.Prelude.{slice_get}
 use Rattle.step_core.proofs.Acting.{get_past, get_done}
-use Rattle.step_core.proofs.Keeping.{object_led, pointers_of, field_of}
+use Rattle.step_core.proofs.Keeping.{object_led, pointers_of, field_of, field_can_be_stored}
 use Rattle.step_core.proofs.heap.Core.get.Goals as goal
 
 pub pointer_count-requires : goal.pointer_count-requires
@@ -20,4 +20,7 @@ set_register-requires-clause-word c = let l = c.in-Some.ensures.leads in field_o
 pub returns-clause-acts : goal.returns-clause-acts
 returns-clause-acts c = let l = c.in-Some.ensures.leads in
     λ g s. get_done g _ s c.args.mutator c.args.object _ l c.args.to c.args.field c.get_ptr-value.result c.name_of-name.result _ (ap (λ (ps : List (Option ℕ)). slice_get ps c.args.field) (sym (pointers_of _ _ c.in-Some.at c.self.view_is)) ∙ c.get_ptr-value.ensures) c.name_of-name.ensures
-    c.set_register.ensures.stands
+    c.set_register.ensures.shows
+
+pub set_register-requires-clause-held : goal.set_register-requires-clause-held
+set_register-requires-clause-held c = let l = c.in-Some.ensures.leads in field_can_be_stored _ _ _ _ _ _ c.self.view_is c.self.invariant l c.in-Some.ensures.rooted c.get_ptr-value.ensures

@@ -1,7 +1,7 @@
 use Rattle.std.proofs.Common.{length, ap, ◌∙◌, arith}
-use Rattle.step_core.proofs.Acting.{put_past}
+use Rattle.step_core.proofs.Acting.{put_past, put_done}
 use Rattle.regions.specs.Table.{Table, pointers_at}
-use Rattle.step_core.proofs.Keeping.{object_led, table_of, put_after, put_kept}
+use Rattle.step_core.proofs.Keeping.{object_led, table_of}
 use Rattle.step_core.proofs.heap.Core.put.Goals as goal
 
 pub pointer_count-requires : goal.pointer_count-requires
@@ -11,10 +11,7 @@ pub returns-then-field-pointer_count-clause-acts : goal.returns-then-field-point
 returns-then-field-pointer_count-clause-acts c = let l = c.in-Some.ensures.leads in
     λ g s. put_past g _ s c.args.mutator c.args.object _ l c.args.field c.args.value (let count = c.pointer_count.ensures ∙ ap (λ (t : Table). length (pointers_at t c.in-Some.at)) (table_of _ _ c.self.view_is) in omega arith)
 
-pub invariant_of-self : goal.invariant_of-self
-invariant_of-self c = let l = c.in-Some.ensures.leads in
-    put_kept _ _ c.self.view_is c.self.invariant c.args.mutator c.args.object _ c.args.field c.args.value _ _ l (omega (arith, c.pointer_count.ensures)) c.stored-target.ensures.shows c.set_ptr.ensures
-
 pub returns-clause-acts : goal.returns-clause-acts
 returns-clause-acts c = let l = c.in-Some.ensures.leads in
-    put_after _ _ c.self.view_is c.self.invariant c.args.mutator c.args.object _ c.args.field c.args.value _ _ l (omega (arith, c.pointer_count.ensures)) c.stored-target.ensures.shows c.set_ptr.ensures
+    λ g s. put_done g _ s c.args.mutator c.args.object _ l c.args.field c.args.value _ _ (let count = c.pointer_count.ensures ∙ ap (λ (t : Table). length (pointers_at t c.in-Some.at)) (table_of _ _ c.self.view_is) in omega arith)
+    (c.stored-target.ensures.shows g s) c.store.ensures.shows

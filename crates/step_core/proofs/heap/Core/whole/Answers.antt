@@ -5,4 +5,4 @@ use Rattle.step_core.proofs.Reading.{whole_core}
 use Rattle.step_core.proofs.heap.Core.whole.Goals as goal
 
 pub returns : goal.returns
-returns c = subst (λ (d : CoreState). (g : Graph) → Stands g d → IsWhole g d) c.self.view_is (whole_core _ c.law.ensures)
+returns c = subst (λ (d : CoreState). (g s : Graph) → Stands g s d → IsWhole g d) c.self.view_is (whole_core _ c.law.ensures)

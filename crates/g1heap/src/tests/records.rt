@@ -1,0 +1,144 @@
+//! Whole records, each of which its own script gives.
+
+/// A name, and the record.
+pub(super) static RECORDS: [(&str, &str); 12] = [
+    (
+        "first read",
+        "heap 4 16 8 1 0\n1 0 new r0 1 1 = #0\n2 0 read r0 0 = 0\n3 0 get r1 r0 0 = nil\n",
+    ),
+    ("no steps", "heap 4 16 8 1 0\n"),
+    (
+        "names spent",
+        "heap 4 16 8 1 18446744073709551614\n1 0 new r0 0 0 = #18446744073709551614\n2 0 new r1 40 40 = refused 4 TooBig\n3 0 new r1 0 0 = refused 5 NamesSpent\n",
+    ),
+    (
+        "nil and no field",
+        "heap 4 16 8 1 0\n1 0 get r1 r0 9 = refused 1 Nil\n2 0 new r0 1 0 = #0\n3 0 put r0 1 r0 = refused 2 NoField\n4 0 read r0 0 = refused 2 NoField\n5 0 get r1 r0 0 = nil\n",
+    ),
+    (
+        "fills a heap",
+        "heap 2 16 8 1 0\n1 0 new r0 3 3 = #0\n2 0 new r0 3 3 = #1\n3 0 new r0 3 3 = #2\n4 0 new r0 3 3 = #3\n5 0 new r0 3 3 = refused 3 Full\n",
+    ),
+    (
+        "marking refusals",
+        "heap 4 16 8 1 0\n\
+1 gc remark = refused 7 NotMarking\n\
+2 gc begin = ok\n\
+3 gc begin = refused 6 MarkRunning\n\
+4 gc cleanup = refused 6 MarkRunning\n\
+5 gc remark = marked 0\n\
+6 gc mark 1 = refused 7 NotMarking\n",
+    ),
+    (
+        "fills a heap, and reclaims a region",
+        "heap 2 16 8 1 0\n\
+1 0 new r0 3 3 = #0\n\
+2 0 new r0 3 3 = #1\n\
+3 0 new r0 3 3 = #2\n\
+4 0 new r0 3 3 = #3\n\
+5 0 new r0 3 3 = refused 3 Full\n\
+6 gc begin = ok\n\
+7 gc mark 10 = ok\n\
+8 gc remark = marked 1\n\
+9 gc cleanup = reclaimed 1\n\
+10 0 new r0 3 3 = #4\n",
+    ),
+    (
+        "new object between begin and remark",
+        "heap 4 16 8 1 0\n\
+1 0 new r0 0 0 = #0\n\
+2 gc begin = ok\n\
+3 0 new r1 0 0 = #1\n\
+4 gc remark = marked 1\n\
+5 gc cleanup = reclaimed 0\n\
+6 gc begin = ok\n\
+7 gc remark = marked 2\n",
+    ),
+    (
+        "deleted after begin",
+        "heap 4 16 8 1 0\n\
+1 0 new r0 1 0 = #0\n\
+2 0 new r1 0 1 = #1\n\
+3 0 put r0 0 r1 = ok\n\
+4 0 drop r1 = ok\n\
+5 gc begin = ok\n\
+6 0 put r0 0 nil = ok\n\
+7 gc remark = marked 2\n\
+8 gc begin = ok\n\
+9 gc remark = marked 1\n",
+    ),
+    (
+        "shared child moved while marking",
+        "heap 4 16 8 1 0\n\
+1 0 new r0 1 0 = #0\n\
+2 0 new r1 0 1 = #1\n\
+3 0 write r1 0 77 = ok\n\
+4 0 put r0 0 r1 = ok\n\
+5 0 drop r1 = ok\n\
+6 gc begin = ok\n\
+7 0 get r1 r0 0 = #1\n\
+8 0 new r2 1 0 = #2\n\
+9 0 put r2 0 r1 = ok\n\
+10 0 put r0 0 nil = ok\n\
+11 0 drop r1 = ok\n\
+12 gc mark 10 = ok\n\
+13 gc remark = marked 2\n\
+14 gc cleanup = reclaimed 0\n\
+15 0 get r1 r2 0 = #1\n\
+16 0 read r1 0 = 77\n",
+    ),
+    (
+        "finger lowered",
+        "heap 4 16 8 1 0\n\
+1 0 new r0 1 0 = #0\n\
+2 0 new r1 1 0 = #1\n\
+3 0 new r2 0 0 = #2\n\
+4 0 put r0 0 r2 = ok\n\
+5 0 put r1 0 r0 = ok\n\
+6 0 drop r0 = ok\n\
+7 0 drop r2 = ok\n\
+8 gc begin = ok\n\
+9 gc mark 1 = ok\n\
+10 gc remark = marked 3\n\
+11 0 get r0 r1 0 = #0\n\
+12 0 get r2 r0 0 = #2\n",
+    ),
+    (
+        "starved marker",
+        "heap 4 32 8 1 0\n\
+1 0 new r0 9 0 = #0\n\
+2 0 new r1 0 0 = #1\n\
+3 0 put r0 0 r1 = ok\n\
+4 0 new r1 0 0 = #2\n\
+5 0 put r0 1 r1 = ok\n\
+6 0 new r1 0 0 = #3\n\
+7 0 put r0 2 r1 = ok\n\
+8 0 new r1 0 0 = #4\n\
+9 0 put r0 3 r1 = ok\n\
+10 0 new r1 0 0 = #5\n\
+11 0 put r0 4 r1 = ok\n\
+12 0 new r1 0 0 = #6\n\
+13 0 put r0 5 r1 = ok\n\
+14 0 new r1 0 0 = #7\n\
+15 0 put r0 6 r1 = ok\n\
+16 0 new r1 0 0 = #8\n\
+17 0 put r0 7 r1 = ok\n\
+18 0 new r1 0 0 = #9\n\
+19 0 put r0 8 r1 = ok\n\
+20 0 drop r1 = ok\n\
+21 gc begin = ok\n\
+22 0 put r0 0 nil = ok\n\
+23 0 put r0 1 nil = ok\n\
+24 0 put r0 2 nil = ok\n\
+25 0 put r0 3 nil = ok\n\
+26 0 put r0 4 nil = ok\n\
+27 0 put r0 5 nil = ok\n\
+28 0 put r0 6 nil = ok\n\
+29 0 put r0 7 nil = ok\n\
+30 0 put r0 8 nil = ok\n\
+31 gc remark = marked 10\n\
+32 gc begin = ok\n\
+33 gc remark = marked 1\n\
+34 gc cleanup = reclaimed 0\n",
+    ),
+];

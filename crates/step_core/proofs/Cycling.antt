@@ -1,0 +1,192 @@
+-- Marking begins, goes on and ends in a core: k is the core by its fields before the step.
+use Rattle.std.proofs.Common.{◌≡◌, ℕ, zero, suc, ◌+◌, ◌<◌, ◌≤◌, true, false, List, [], ◌∷◌, ◌++◌, Option, Some, None, length, replicate, refl, sym, ◌∙◌, ap, subst, arith}
+use Rattle.std.specs.Prelude.{slice_index}
+use Rattle.std.proofs.lemmas.List.{length-replicate}
+use Rattle.heap_model.specs.Graph.{Graph, IsReachable}
+use Rattle.heap_model.specs.Heap.{Heap, Stored, Shows, IsClosed}
+use Rattle.heap_model.proofs.Shown.{closed}
+use Rattle.heap_model.specs.Marking.{KeepsSnapshot, Begins}
+use Rattle.regions.specs.Table.{Table, top_of}
+use Rattle.alloc_buffers.specs.Placement.{Buffers, BuffersStand, AreAbove, retired}
+use Rattle.mark_bitmap.specs.Marks.{HasNone}
+use Rattle.mark_bitmap.specs.Tops.{exchanged}
+use Rattle.mark_bitmap.specs.Grey.{is_grey}
+use Rattle.satb_log.specs.Logs.{log_of, logged}
+use Rattle.marker.specs.Views as views
+use Rattle.marker.specs.Stands.{MarkerStands}
+use Rattle.marker.specs.Steps.{SameRoles, KeepsSnapshots}
+use Rattle.marker.specs.Ends.{EndsMarking, EndsExactly}
+use Rattle.marker.specs.declared.marker.Marker.{Marker}
+use Rattle.marker.proofs.Views.{same_heap, previous_heap}
+use Rattle.step_core.specs.Stands.{CoreState, kept_of, heap_of, marking_of, ShowsGraph, KeepsFrom, Stands, LayersFit, IsCore}
+use Rattle.step_core.specs.Cycle.{KeepsAll, HasBegun, HasMarked, HasRemarked}
+use Rattle.step_core.proofs.Layers.{layers_marked}
+
+abbrev pub with_marker : CoreState → Buffers → Marker → CoreState
+with_marker c b m = record { config = c.config; table = c.table; buffers = b; marker = m; roots = c.roots; next = c.next }
+
+-- a fact of the core's value is one of its fields
+pub to_fields : (k c : CoreState) → k ≡ c → (P : CoreState → Type 0) → P c → P k
+to_fields k c e P p = subst P (sym e) p
+
+-- marking can begin
+pub can_begin : (k : CoreState) → IsCore k → IsClosed (views.heap_of k.table k.roots k.marker)
+unfolding kept_of
+can_begin k core = closed core.graph (heap_of k) core.stands.shows.shows
+
+-- the same heap is shown
+shows_same : (c : CoreState) (b : Buffers) (m : Marker) → views.heap_of c.table c.roots m ≡ views.heap_of c.table c.roots c.marker → (g : Graph) → ShowsGraph g c → ShowsGraph g (with_marker c b m)
+unfolding kept_of
+shows_same c b m e g s = record { room = s.room; mutators = s.mutators; next = s.next; shows = subst (λ (h : Heap). Shows g h) (sym e) s.shows }
+
+all_same : (c : CoreState) (b : Buffers) (m : Marker) → views.heap_of c.table c.roots m ≡ views.heap_of c.table c.roots c.marker → KeepsAll c (with_marker c b m)
+unfolding kept_of
+all_same c b m e = record { config = refl; kept = λ a. ap (λ (h : Heap). h.kept a) e; roots = refl; next = refl }
+
+-- marking begins
+module _ (k : CoreState) (core : IsCore k) (b : Buffers) (m : Marker) (retires : b ≡ retired k.buffers)
+    (stand : (t : Table) → BuffersStand t k.buffers → BuffersStand t b)
+    (above : (t : Table) (limit : ℕ → ℕ) → ((n : ℕ) → n < length t.regions → limit n ≤ top_of t n) → AreAbove t b limit)
+    (st : MarkerStands k.table m) (running : m.running ≡ true) (logs : m.logs ≡ k.marker.logs)
+    (tops : m.tams.previous ≡ k.marker.tams.previous) (marks : m.bitmaps.previous ≡ k.marker.bitmaps.previous)
+    (snapshot : (g : Graph) → Shows g (views.heap_of k.table k.roots k.marker) → KeepsSnapshot g (views.heap_of k.table k.roots m) (views.marking_of k.table m)) where
+  heap_begun : views.heap_of k.table k.roots m ≡ views.heap_of k.table k.roots k.marker
+  heap_begun = previous_heap k.table k.roots k.marker m tops marks
+
+  pub begun_shows : (g : Graph) → ShowsGraph g k → ShowsGraph g (with_marker k b m)
+  begun_shows = shows_same k b m heap_begun
+
+  pub begun_keeps : (g : Graph) → ShowsGraph g k → KeepsFrom g (with_marker k b m)
+  unfolding kept_of
+  begun_keeps g s = record { earlier = (let next = s.next in omega arith); marking = λ run. snapshot g s.shows }
+
+  has_begun : Begins (views.heap_of k.table k.roots m) (views.marking_of k.table m) → m.scans ≡ 0 → HasBegun k (with_marker k b m)
+  unfolding kept_of
+  has_begun begins scans = record { all = all_same k b m heap_begun; table = refl; buffers = retires; running = running; begins = begins; scans = scans }
+
+  pub begun_from : (c : CoreState) → k ≡ c → Begins (views.heap_of k.table k.roots m) (views.marking_of k.table m) → m.scans ≡ 0 → HasBegun c (with_marker k b m)
+  begun_from c e begins scans = subst (λ (d : CoreState). HasBegun d (with_marker k b m)) e (has_begun begins scans)
+
+  pub begun_kept : IsCore (with_marker k b m)
+  begun_kept = record {
+    suits = core.suits;
+    layers = record {
+      region_size = core.layers.region_size;
+      region_count = core.layers.region_count;
+      buffer_size = ap (λ (x : Buffers). x.words) retires ∙ core.layers.buffer_size;
+      open_buffers = ap (λ (x : Buffers). length x.open_buffers) retires ∙ length-replicate (length k.buffers.open_buffers) None ∙ core.layers.open_buffers;
+      logs = ap (λ (ls : List (List ℕ)). length ls) logs ∙ core.layers.logs;
+      buffers = stand k.table core.layers.buffers;
+      unmoved = core.layers.unmoved;
+      marker = st;
+      above_previous = above k.table (slice_index m.tams.previous) st.previous.top;
+      above_next = above k.table (slice_index m.tams.next) st.next.top;
+      room = λ n. rw logs (core.layers.room n);
+    };
+    places = core.places;
+    names = core.names;
+    graph = core.graph;
+    snapshot = core.graph;
+    stands = record { shows = begun_shows core.graph core.stands.shows; keeps = begun_keeps core.graph core.stands.shows };
+  }
+
+-- marking goes on
+module _ (k : CoreState) (core : IsCore k) (run : k.marker.running ≡ true) (m : Marker) (st : MarkerStands k.table m) (same : SameRoles k.marker m)
+    (snapshots : KeepsSnapshots k.table k.marker m) (logs : m.logs ≡ k.marker.logs) where
+  heap_marked : views.heap_of k.table k.roots m ≡ views.heap_of k.table k.roots k.marker
+  heap_marked = same_heap k.table k.roots k.marker m same
+
+  pub marked_shows : (g : Graph) → ShowsGraph g k → ShowsGraph g (with_marker k k.buffers m)
+  marked_shows = shows_same k k.buffers m heap_marked
+
+  pub marked_keeps : (s : Graph) → KeepsFrom s k → KeepsFrom s (with_marker k k.buffers m)
+  unfolding kept_of
+  marked_keeps s f = record { earlier = f.earlier; marking = λ on. snapshots s core.graph k.roots core.stands.shows.shows (f.marking run) }
+
+  has_marked : (units n : ℕ) → n ≤ units → (n < units → HasNone (is_grey m.bitmaps.next m.grey) 0) → m.scans ≡ k.marker.scans + n → HasMarked units k (with_marker k k.buffers m)
+  has_marked units n most none scans = record {
+    all = all_same k k.buffers m heap_marked;
+    table = refl;
+    buffers = refl;
+    running = same.running ∙ run;
+    units = n;
+    most = most;
+    none_left = none;
+    scans = scans;
+  }
+
+  pub marked_from : (c : CoreState) → k ≡ c → (units n : ℕ) → n ≤ units → (n < units → HasNone (is_grey m.bitmaps.next m.grey) 0) → m.scans ≡ k.marker.scans + n → HasMarked units c (with_marker k k.buffers m)
+  marked_from c e units n most none scans = subst (λ (d : CoreState). HasMarked units d (with_marker k k.buffers m)) e (has_marked units n most none scans)
+
+  pub marked_kept : IsCore (with_marker k k.buffers m)
+  marked_kept = record {
+    suits = core.suits;
+    layers = layers_marked k.config k.table k.buffers k.marker m core.layers st same.tams (ap (λ (ls : List (List ℕ)). length ls) logs) (λ n. rw logs (core.layers.room n));
+    places = core.places;
+    names = core.names;
+    graph = core.graph;
+    snapshot = core.snapshot;
+    stands = record { shows = marked_shows core.graph core.stands.shows; keeps = marked_keeps core.snapshot core.stands.keeps };
+  }
+
+-- logs that hold nothing together are empty
+none_in : (ls : List (List ℕ)) (n : ℕ) → logged ls ≡ [] → length (log_of ls n) ≡ 0
+none_in [] n e = refl
+none_in ([] ∷ ls) zero e = refl
+none_in ([] ∷ ls) (suc n) e = none_in ls n e
+none_in ((x ∷ l) ∷ ls) n e = absurd cc
+
+-- marking ends
+module _ (k : CoreState) (core : IsCore k) (run : k.marker.running ≡ true) (m : Marker) (n : ℕ) (st : MarkerStands k.table m) (over : m.running ≡ false)
+    (exact : EndsExactly k.table k.marker m n) (tops : m.tams ≡ exchanged k.marker.tams) (logs : length m.logs ≡ length k.marker.logs) where
+  pub remarked_shows : (g : Graph) → ShowsGraph g k → ShowsGraph g (with_marker k k.buffers m)
+  unfolding kept_of
+  remarked_shows g s = record {
+    room = s.room;
+    mutators = s.mutators;
+    next = s.next;
+    shows = (exact.ends core.snapshot g k.roots s.shows (core.stands.keeps.marking run)).shows;
+  }
+
+  pub remarked_keeps : (s : Graph) → KeepsFrom s k → KeepsFrom s (with_marker k k.buffers m)
+  remarked_keeps s f = record { earlier = f.earlier; marking = λ on. absurd cc }
+
+  has_remarked : m.scans ≡ n → HasRemarked n k (with_marker k k.buffers m)
+  unfolding kept_of
+  has_remarked scans = record {
+    config = refl;
+    roots = refl;
+    next = refl;
+    table = refl;
+    buffers = refl;
+    over = over;
+    ends = λ g s stands. exact.ends s g k.roots stands.shows.shows (stands.keeps.marking run);
+    quiet = λ g stands. exact.quiet g k.roots stands.shows.shows (stands.keeps.marking run);
+    scans = scans;
+  }
+
+  pub remarked_from : (c : CoreState) → k ≡ c → m.scans ≡ n → HasRemarked n c (with_marker k k.buffers m)
+  remarked_from c e scans = subst (λ (d : CoreState). HasRemarked n d (with_marker k k.buffers m)) e (has_remarked scans)
+
+  pub remarked_kept : IsCore (with_marker k k.buffers m)
+  remarked_kept = record {
+    suits = core.suits;
+    layers = record {
+      region_size = core.layers.region_size;
+      region_count = core.layers.region_count;
+      buffer_size = core.layers.buffer_size;
+      open_buffers = core.layers.open_buffers;
+      logs = logs ∙ core.layers.logs;
+      buffers = core.layers.buffers;
+      unmoved = core.layers.unmoved;
+      marker = st;
+      above_previous = rw tops core.layers.above_next;
+      above_next = rw tops core.layers.above_previous;
+      room = λ i. let none = none_in m.logs i (st.idle over) in omega arith;
+    };
+    places = core.places;
+    names = core.names;
+    graph = core.graph;
+    snapshot = core.snapshot;
+    stands = record { shows = remarked_shows core.graph core.stands.shows; keeps = remarked_keeps core.snapshot core.stands.keeps };
+  }

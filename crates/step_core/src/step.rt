@@ -1,0 +1,71 @@
+//! A step: a mutator's, or the collector's.
+
+ghost use Rattle.std.specs.Prelude.{◌≡◌, ◌↔◌, ◌<◌};
+ghost use Rattle.heap_model.specs.Graph.{Graph};
+ghost use Rattle.object_graph.specs.declared.step.Step.TheVariants as steps;
+ghost use Rattle.object_graph.specs.declared.step.Reply.TheVariants as replies;
+ghost use Rattle.object_graph.specs.declared.step.Refusal.TheVariants as refusals;
+ghost use Rattle.step_core.specs.Stands.{Stands};
+ghost use Rattle.step_core.specs.Answers.{Follows, IsFullStep};
+ghost use Rattle.step_core.specs.Cycle.{Collects, Does, IsCycleStep};
+ghost use Rattle.step_core.specs.Histories.{IsStepYet};
+
+use crate::heap::Core;
+use object_graph::{CollectorStep, Refusal, Reply, Step};
+
+impl Core {
+    /// Does a step of the collector, or refuses it.
+    fn collect(&mut self, step: CollectorStep) -> Reply
+        requires { IsCycleStep step }
+        ensures follows { (g s : Graph) → Stands g s self.old → Follows g s (steps.Collector step) result self.new }
+        ensures collects { Collects step result self.old self.new }
+        ensures config { self.new.config ≡ self.old.config }
+    {
+        match step {
+            CollectorStep::Begin => {
+                if self.marker.running {
+                    return Reply::Refused(Refusal::MarkRunning);
+                }
+                self.begin();
+                Reply::Done
+            }
+            CollectorStep::Mark(units) => {
+                if !self.marker.running {
+                    return Reply::Refused(Refusal::NotMarking);
+                }
+                self.mark(units);
+                Reply::Done
+            }
+            CollectorStep::Remark => {
+                if !self.marker.running {
+                    return Reply::Refused(Refusal::NotMarking);
+                }
+                Reply::Marked(self.remark())
+            }
+            CollectorStep::Cleanup => {
+                if self.marker.running {
+                    return Reply::Refused(Refusal::MarkRunning);
+                }
+                Reply::Reclaimed(0)
+            }
+            CollectorStep::Refine(_) | CollectorStep::Pause(_) => unreachable!(),
+        }
+    }
+
+    /// Does a step. The reply is one that the graph gives, and the core stands for the graph after it. It is Full exactly
+    /// where the graph would create an object and the heap has no place for it; a step of the collector is refused exactly
+    /// where marking runs and it mustn't, or doesn't and it must. Regions are reclaimed by a cleanup alone, those that
+    /// hold nothing live. No step takes memory.
+    pub fn step(&mut self, step: Step) -> Reply
+        requires { IsStepYet self.old.config step }
+        ensures follows { (g s : Graph) → Stands g s self.old → Follows g s step result self.new }
+        ensures does { Does step result self.old self.new }
+        ensures full { (g s : Graph) → Stands g s self.old → (result ≡ replies.Refused refusals.Full) ↔ IsFullStep g step self.old }
+        ensures config { self.new.config ≡ self.old.config }
+    {
+        match step {
+            Step::Mutator(op) => self.act(op),
+            Step::Collector(step) => self.collect(step),
+        }
+    }
+}
