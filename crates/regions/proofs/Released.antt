@@ -48,7 +48,7 @@ freed t k z known =
       unmoved = λ m. EachMovedIn-set (λ _. ⊥) t.regions k Free tt m;
     }
 
-released_one : (t : Table) (k : ℕ) → kind_of t k ≡ kinds.Ordinary → released t k ≡ with_region t k Free
+pub released_one : (t : Table) (k : ℕ) → kind_of t k ≡ kinds.Ordinary → released t k ≡ with_region t k Free
 unfolding released kind_of
 released_one t k o = let q = ordinary_at (region_number t k) o in ap (λ (r : Region). released_as r t k) q.is
 

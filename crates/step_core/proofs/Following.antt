@@ -1,7 +1,7 @@
 -- A step's reply and graph, as the graph's own step.
-use Rattle.std.proofs.Common.{◌≡◌, ℕ, ◌+◌, ◌<◌, ◌⊎◌, List, [], ◌∷◌, ◌++◌, length, take, map, get_or, refl, sym, ◌∙◌, ap, subst, inl, inr}
+use Rattle.std.proofs.Common.{◌≡◌, ℕ, ◌+◌, ◌<◌, ◌⊎◌, List, [], ◌∷◌, ◌++◌, length, take, map, get_or, refl, sym, ◌∙◌, ap, subst, arith, inl, inr}
 use Rattle.std.specs.Prelude.{◌↔◌, Option}
-use Rattle.std.proofs.lemmas.List.{take_more}
+use Rattle.std.proofs.lemmas.List.{take_more, length-map, get_or-map}
 use Rattle.object_graph.specs.declared.step.Step.{Step}
 use Rattle.heap_model.specs.Graph.{Graph}
 use Rattle.object_graph.specs.Machine.{Outcome, act}
@@ -58,10 +58,6 @@ goes_on g s c es e mid c' r f does whole =
 pub none_yet : (g s : Graph) (c : CoreState) → Stands g s c → Runs g s c [] c
 none_yet g s c st = record { last = g; snapshot = s; stands = st; history = (refl, refl, refl) }
 
-pub one_more : (es : List Event) (e : Event) → map step_of (es ++ e ∷ []) ≡ map step_of es ++ e.step ∷ []
-one_more [] e = refl
-one_more (y ∷ es) e = ap (λ (ss : List Step). y.step ∷ ss) (one_more es e)
-
 -- a step that acts as the graph's doesn't reply Full
 pub acts_not_full : (g : Graph) (m : ℕ) (a : Action) (reply : Reply) (c : CoreState) → Acts g m a reply c → reply ≡ replies.Refused refusals.Full → ⊥
 acts_not_full g m a reply c h is = act-not_full g m a (sym h.reply_is ∙ is)
@@ -74,9 +70,18 @@ pub full_exactly : (g : Graph) (m p d : ℕ) (to : Register) (reply : Reply) (c 
 full_exactly g m p d to reply c c' (inl h) none = (λ is. absurd (acts_not_full g m (actions.New to p d) reply c' h is), λ full. absurd (none full.1 _ (h.reply_is ∙ full.0)))
 full_exactly g m p d to reply c c' (inr h) none = (λ is. h.full, λ full. h.reply_is)
 
-pub steps_more : (es : List Event) (e : Event) (ss : List Step) (i : ℕ) → map step_of es ≡ take i ss → i < length ss → e.step ≡ get_or ss i e.step → map step_of (es ++ e ∷ []) ≡ take (i + 1) ss
-steps_more es e ss i h lt is =
-    one_more es e ∙ ap (λ (xs : List Step). xs ++ e.step ∷ []) h ∙ ap (λ (s : Step). take i ss ++ s ∷ []) is ∙ sym (take_more ss i e.step lt)
+one_more : {A : Type 0} (f : Event → A) (es : List Event) (e : Event) → map f (es ++ e ∷ []) ≡ map f es ++ f e ∷ []
+one_more f [] e = refl
+one_more f (y ∷ es) e = ap (λ xs. f y ∷ xs) (one_more f es e)
+
+-- what the events have of the first i steps, and of one step more
+pub grown : {A : Type 0} (f : Event → A) (es : List Event) (e : Event) (xs : List A) (i : ℕ) (x : A) → map f es ≡ take i xs → i < length xs → f e ≡ get_or xs i x → map f (es ++ e ∷ []) ≡ take (i + 1) xs
+grown f es e xs i x h lt is =
+    one_more f es e ∙ ap (λ ys. ys ++ f e ∷ []) h ∙ ap (λ y. take i xs ++ y ∷ []) is ∙ sym (take_more xs i x lt)
+
+pub grown_by : {A : Type 0} (f : Event → A) (h : Step → A) (es : List Event) (e : Event) (ss : List Step) (i : ℕ) (s : Step) → map f es ≡ take i (map h ss) → i < length ss → f e ≡ h (get_or ss i s)
+    → map f (es ++ e ∷ []) ≡ take (i + 1) (map h ss)
+grown_by {A} f h es e ss i s same lt is = grown f es e (map h ss) i (h s) same (let same_length : length (map h ss) ≡ length ss = length-map ss h in omega arith) (is ∙ sym (get_or-map h ss i s (h s) lt))
 
 -- the events of a history are a run of the graph
 pub history_is_run : (g s : Graph) (c : CoreState) (es : List Event) (last snapshot : Graph) (c' : CoreState) → IsHistory g s c es last snapshot c' → IsRun g es last

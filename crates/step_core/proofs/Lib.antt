@@ -9,5 +9,6 @@ pub mod Storing
 pub mod Stored
 pub mod Creating
 pub mod Cycling
+pub mod Cleaning
 pub mod Following
 pub mod Beginning

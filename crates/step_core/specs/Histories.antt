@@ -3,6 +3,8 @@ use Rattle.std.specs.Prelude.{◌≡◌, ◌<◌, List, [], ◌∷◌}
 use Rattle.heap_words.specs.declared.config.Config.{Config}
 use Rattle.heap_words.specs.Configs.{Suits, IsFirstFault}
 use Rattle.heap_model.specs.Graph.{Graph}
+use Rattle.object_graph.specs.declared.step.Actor.{Actor}
+use Rattle.object_graph.specs.declared.step.Actor.TheVariants as actors
 use Rattle.object_graph.specs.declared.step.Event.{Event}
 use Rattle.object_graph.specs.declared.step.Step.{Step}
 use Rattle.object_graph.specs.declared.step.Step.TheVariants as steps
@@ -36,6 +38,14 @@ pub record RunsFromNew (config : Config) (es : List Event) : Type 0 where
 
 abbrev pub step_of : Event → Step
 step_of e = e.step
+
+abbrev pub actor_in : Event → Actor
+actor_in e = e.actor
+
+-- who takes a step of a script: the mutator itself, or the collector
+abbrev pub actor_of : Step → Actor
+actor_of (steps.Mutator o) = actors.Mutator o.mutator
+actor_of (steps.Collector k) = actors.Collector
 
 -- a step that the heap does: a mutator's, its number below the count, or a part of a marking cycle
 abbrev pub IsStepYet : Config → Step → Type 0

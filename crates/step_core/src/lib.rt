@@ -19,6 +19,7 @@
 #![tactic(auto)]
 
 mod barrier;
+mod cleanup;
 mod cycle;
 mod heap;
 mod runs;

@@ -5,10 +5,10 @@ ghost use Rattle.heap_words.specs.Configs.{Suits, IsNewFault};
 ghost use Rattle.heap_model.specs.Graph.{Graph};
 ghost use Rattle.object_graph.specs.State.{first_state};
 ghost use Rattle.object_graph.specs.Run.{IsRun};
-ghost use Rattle.object_graph.specs.declared.step.Step.TheVariants as steps;
+ghost use Rattle.object_graph.specs.Actors.{IsStepOf};
 ghost use Rattle.heap_words.specs.declared.config.Config.{Config};
 ghost use Rattle.step_core.specs.Stands.{Stands};
-ghost use Rattle.step_core.specs.Histories.{Runs, RunsFromNew, step_of, IsStepYet, IsRunFault};
+ghost use Rattle.step_core.specs.Histories.{Runs, RunsFromNew, step_of, actor_in, actor_of, IsStepYet, IsRunFault};
 
 use crate::heap::Core;
 use heap_words::config::{Config, NewFault};
@@ -36,8 +36,11 @@ pub enum RunFault {
     Heap(NewFault),
 }
 
-/// Who takes a step of a script.
-fn actor_of(step: &Step) -> Actor {
+/// Who takes a step of a script: the mutator itself, or the collector.
+fn actor_of(step: &Step) -> Actor
+    ensures actor { result ≡ actor_of step.now }
+    ensures own { (config : Config) → IsStepYet config step.now → IsStepOf config result step.now }
+{
     match step {
         Step::Mutator(op) => Actor::Mutator(op.mutator),
         Step::Collector(_) => Actor::Collector,
@@ -49,6 +52,7 @@ fn run_on(alloc: Global, core: &mut Core, steps: &[Step]) -> Result<Record, Allo
     requires { All (IsStepYet core.old.config) steps.now }
     ensures config { IfOk result (λ r. r.config ≡ core.old.config) }
     ensures steps { IfOk result (λ r. map step_of r.events ≡ steps.now) }
+    ensures actors { IfOk result (λ r. map actor_in r.events ≡ map actor_of steps.now) }
     ensures runs { IfOk result (λ r. (g s : Graph) → Stands g s core.old → Runs g s core.old r.events core.new) }
 {
     let config = core.config();
@@ -65,13 +69,14 @@ fn run_on(alloc: Global, core: &mut Core, steps: &[Step]) -> Result<Record, Allo
     Ok(done)
 }
 
-/// Does the steps in order, in a new heap. The record's events are the steps in their order, each with
+/// Does the steps in order, in a new heap. The record's events are the steps in their order, each with its actor and
 /// its reply; between them stand cores and graphs, each core standing for its graph, with every object that
 /// a root reaches whole and once in the heap.
 pub fn run(alloc: Global, config: &Config, steps: &[Step]) -> Result<Record, RunFault>
     requires { All (IsStepYet config.now) steps.now }
     ensures config { IfOk result (λ r. r.config ≡ config.now) }
     ensures steps { IfOk result (λ r. map step_of r.events ≡ steps.now) }
+    ensures actors { IfOk result (λ r. map actor_in r.events ≡ map actor_of steps.now) }
     ensures history { IfOk result (λ r. RunsFromNew config.now r.events) }
     // The replies are those of the graph.
     ensures run { IfOk result (λ r. (last : Graph) × IsRun (first_state config.now) r.events last) }

@@ -46,7 +46,7 @@ impl Core {
                 if self.marker.running {
                     return Reply::Refused(Refusal::MarkRunning);
                 }
-                Reply::Reclaimed(0)
+                Reply::Reclaimed(self.cleanup())
             }
             CollectorStep::Refine(_) | CollectorStep::Pause(_) => unreachable!(),
         }

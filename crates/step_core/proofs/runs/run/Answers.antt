@@ -9,10 +9,10 @@ returns-clause-history c = record {
   first = c.in-Ok.core;
   last = c.run_on.new.core;
   begins = c.in-Ok.ensures.stands;
-  runs = c.in-Ok-run_on.ensures.runs _ c.in-Ok.ensures.stands;
+  runs = c.in-Ok-run_on.ensures.runs _ _ c.in-Ok.ensures.stands;
 }
 
 pub returns-clause-run : goal.returns-clause-run
 returns-clause-run c =
-    let r = c.in-Ok-run_on.ensures.runs _ c.in-Ok.ensures.stands in
-    (r.last, history_is_run _ _ _ _ _ r.history)
+    let r = c.in-Ok-run_on.ensures.runs _ _ c.in-Ok.ensures.stands in
+    (r.last, history_is_run _ _ _ _ _ _ _ r.history)
