@@ -8,3 +8,4 @@ pub mod Listed
 pub mod Spans
 pub mod LiveWords
 pub mod LiveBounds
+pub mod Samples

@@ -1,19 +1,19 @@
 -- How large live bounds are, and how they are summed.
-use Rattle.std.proofs.Common.{inl, inr, ◌≡◌, ℕ, zero, suc, ◌+◌, ◌-◌, ◌*◌, ◌^◌, ◌<◌, ◌≤◌, Bool, true, false, List, Option, Some, None, length, get_or, refl, sym, ap, ◌∙◌, arith}
+use Rattle.std.proofs.Common.{◌≡◌, ℕ, zero, suc, ◌+◌, ◌-◌, ◌*◌, ◌^◌, ◌<◌, ◌≤◌, Bool, true, false, List, Option, Some, None, length, get_or, refl, sym, ap, ◌∙◌, arith}
 use Rattle.std.specs.Prelude.{if◌then◌else◌, IsSome}
-use Rattle.std.proofs.lemmas.Bool.{cases_lt, cases_Bool, lt-ltb}
+use Rattle.std.proofs.lemmas.Bool.{lt-ltb}
 use Rattle.heap_model.specs.Heap.{Stored}
 use Rattle.regions.specs.Tiles.{Live, tile_size}
-use Rattle.regions.specs.Table.{Table, kind_of, used_of, top_of, object_at, stored_size, object_words}
+use Rattle.regions.specs.Table.{Table, kind_of, top_of, object_at, stored_size, object_words}
 use Rattle.regions.specs.Shaped.{IsShaped}
 use Rattle.regions.specs.declared.row.Kind.TheVariants as kinds
-use Rattle.mark_bitmap.specs.Marks.{is_marked, HasNone, IsLowest}
-use Rattle.mark_bitmap.specs.Tops.{Tops, is_in_region, below_previous}
+use Rattle.mark_bitmap.specs.Marks.{is_marked, IsLowest}
+use Rattle.mark_bitmap.specs.Tops.{Tops, below_previous}
 use Rattle.mark_bitmap.specs.Kept.{MarksObjects, kept_in}
 use Rattle.mark_bitmap.specs.Live.{marked_words, kept_words, live_bound_of, MarksEndBelow}
 use Rattle.mark_bitmap.proofs.Ranges.{below_in}
 use Rattle.mark_bitmap.proofs.Spans.{Spans, spans, chosen_words, IsChoice, chosen_le}
-use Rattle.mark_bitmap.proofs.LiveWords.{in_region, used_le, tops_le, none_words}
+use Rattle.mark_bitmap.proofs.LiveWords.{in_region, tops_le, none_words}
 
 -- the marked objects
 abbrev pub marked_in : Table → List Bool → ℕ → Option Stored

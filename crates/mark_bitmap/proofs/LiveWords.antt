@@ -1,20 +1,19 @@
 -- The words of marked and of kept objects.
-use Rattle.std.proofs.Common.{inl, inr, ◌≡◌, ◌≢◌, ◌↔◌, ℕ, zero, suc, ◌+◌, ◌-◌, ◌*◌, ◌/◌, ◌%◌, ◌<◌, ◌≤◌, min, Bool, true, false, not, eqb, List, Option, Some, None, length, get_or, refl, sym, ap, ◌∙◌, arith}
+use Rattle.std.proofs.Common.{inl, inr, ◌≡◌, ◌≢◌, ◌↔◌, ℕ, zero, suc, ◌+◌, ◌-◌, ◌*◌, ◌/◌, ◌%◌, ◌<◌, ◌≤◌, Bool, true, false, not, eqb, List, None, length, get_or, refl, sym, ap, ◌∙◌, arith}
 use Rattle.std.specs.Prelude.{if◌then◌else◌}
 use Rattle.std.proofs.lemmas.Bool.{cases_lt, cases_eq, cases_Bool, eq-eqb, ne_eqb, le-leb, lt-ltb, le-ltb, and_parts, ltb-true, leb-true}
 use Rattle.std.proofs.lemmas.List.{get_or_past}
-use Rattle.heap_model.specs.Heap.{Stored}
-use Rattle.regions.specs.Tiles.{Tile, Live, tile_size, total_size}
+use Rattle.regions.specs.Tiles.{total_size}
 use Rattle.regions.specs.Table.{Table, Region, Free, Ordinary, First, Rest, region_tile, region_at, region_number, region_kind, kind_of, region_used, used_of, top_of, tile_in, tile_object, object_at, stored_size, object_words}
 use Rattle.regions.specs.Walks.{region_tiles, tiles_of}
 use Rattle.regions.specs.Shaped.{IsShaped}
 use Rattle.regions.specs.declared.row.Kind.TheVariants as kinds
 use Rattle.mark_bitmap.specs.Marks.{is_marked, HasNone, IsLowest}
-use Rattle.mark_bitmap.specs.Tops.{Tops, is_in_region, is_below, below_previous}
+use Rattle.mark_bitmap.specs.Tops.{Tops, is_in_region}
 use Rattle.mark_bitmap.specs.Kept.{MarksObjects, kept_in}
-use Rattle.mark_bitmap.specs.Live.{marked_words, kept_words, live_bound_of}
+use Rattle.mark_bitmap.specs.Live.{marked_words, live_bound_of}
 use Rattle.mark_bitmap.proofs.Ranges.{div_is, below_in}
-use Rattle.mark_bitmap.proofs.Spans.{Spans, spans, option_cases}
+use Rattle.mark_bitmap.proofs.Spans.{spans, option_cases}
 
 pub in_region : (words k a : ℕ) → k * words ≤ a → a < k * words + words → is_in_region words k a ≡ true
 in_region words k a low high = rw (le-leb (k * words) a low, lt-ltb a (k * words + words) high) refl

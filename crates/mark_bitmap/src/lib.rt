@@ -16,7 +16,8 @@
 //!
 //! `marks` is the set, `bitmaps` the two roles, `tams` the tops at mark start, `grey` the objects that are marked and
 //! not scanned. `kept` says what is kept, and `objects` that marks stand at objects, in words that a heap's invariant
-//! can carry, with the laws that each change keeps them.
+//! can carry, with the laws that each change keeps them. `live` bounds the words of a region's kept objects from above,
+//! and tells a region that has none.
 #![tactic(auto)]
 
 pub mod bitmaps;
@@ -26,3 +27,5 @@ pub mod live;
 pub mod marks;
 pub mod objects;
 pub mod tams;
+#[cfg(test)]
+mod tests;

@@ -83,8 +83,9 @@ pub fn live_bound(table: &RegionTable, tams: &Tams, marks: &Marks, region: Regio
     marked_below(table, tams, marks, region) + above
 }
 
-/// What the live bound says of a region. The region's kept objects have no more words. At zero nothing of it is kept, and its top is that at mark start. It is told by
-/// the region's tiles, its marks and its top at mark start, whatever happens to other regions.
+/// What the live bound says of a region. The region's kept objects have no more words. At zero nothing of it is kept, and
+/// its top is that at mark start. It is told by the region's tiles, its marks and its top at mark start, whatever happens
+/// to other regions.
 pub fn live_law()
     ensures at_least { (t : Table) (tops : Tops) (previous : List Bool) (k : ℕ)
         → IsShaped t → MarksObjects t tops.previous previous → k < length t.regions → kind_of t k ≡ kinds.Ordinary

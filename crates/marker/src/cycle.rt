@@ -171,10 +171,11 @@ impl Marker {
         table.law();
         self.take_logs(table);
         self.mark(table, u32::MAX);
+        let count = self.scans;
         self.bitmaps.swap_roles();
         self.tams.swap_roles();
         self.running = false;
-        self.scans
+        count
     }
 
     /// A region whose objects all are dead is about to be released, or just taken: its marks of both roles go, and both

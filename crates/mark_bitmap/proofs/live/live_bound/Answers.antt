@@ -1,4 +1,4 @@
-use Rattle.std.proofs.Common.{◌≡◌, ◌≤◌, ◌*◌, ◌∙◌, arith}
+use Rattle.std.proofs.Common.{◌≡◌, arith}
 use Rattle.std.specs.Prelude.{slice_index}
 use Rattle.regions.specs.Table.{top_of}
 use Rattle.mark_bitmap.proofs.LiveBounds.{bound_is, bound_le, bound_le_twice}

@@ -1,4 +1,4 @@
-use Rattle.std.proofs.Common.{◌≡◌, ◌+◌, ◌*◌, ◌<◌, ◌≤◌, ◌^◌, arith, ◌∙◌, subst, ℕ}
+use Rattle.std.proofs.Common.{◌≡◌, ◌+◌, ◌*◌, ◌<◌, arith, subst, ℕ}
 use Rattle.std.specs.Prelude.{slice_index}
 use Rattle.mark_bitmap.specs.Marks.{is_marked, HasNone, IsLowest}
 use Rattle.mark_bitmap.proofs.LiveWords.{tops_le}
