@@ -7,16 +7,17 @@ use Rattle.object_graph.specs.State.{first_state}
 use Rattle.object_graph.specs.Run.{IsRun}
 use Rattle.script_text.specs.Lines.{script_of, FailsBy}
 use Rattle.script_text.specs.Records.{record_text}
-use Rattle.step_core.specs.Histories.{step_of, IsRunFault}
+use Rattle.step_core.specs.Histories.{step_of, actor_in, actor_of, IsRunFault}
 use Rattle.g1heap.specs.declared.script.ScriptFault.{ScriptFault}
 use Rattle.g1heap.specs.declared.script.ScriptFault.TheVariants.{Read, Line, Run, Write}
 
--- the input is a script, and the record has its heap line and its steps and is a run of the graph
+-- the input is a script, and the record has its heap line and its steps, each with its actor, and is a run of the graph
 pub record IsScriptRun (input : List ℕ) (r : EventList) : Type 0 where
   pub plan : StepList
   pub read : script_of input ≡ Ok plan
   pub config : r.config ≡ plan.config
   pub steps : map step_of r.events ≡ plan.steps
+  pub actors : map actor_in r.events ≡ map actor_of plan.steps
   pub last : Graph
   pub run : IsRun (first_state r.config) r.events last
 

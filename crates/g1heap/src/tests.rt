@@ -83,7 +83,7 @@ fn script_of(alloc: Global, record: &str) -> Result<String, Fail> {
 }
 
 #[test]
-fn records(rt: HostRuntime) -> Result<(), Fail> {
+fn whole_records(rt: HostRuntime) -> Result<(), Fail> {
     for (name, record) in &RECORDS {
         let script = script_of(rt.alloc(), record)?;
         let outcome = run(rt.alloc(), script.as_str())?;

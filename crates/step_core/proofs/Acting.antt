@@ -22,7 +22,7 @@ use Rattle.object_graph.specs.declared.step.Register.{Register}
 use Rattle.step_core.specs.Stands.{CoreState, kept_of, heap_of, ShowsGraph, IsCore, IsWordOf, HasObject, Leads, name_in}
 use Rattle.step_core.specs.Answers.{Acts}
 use Rattle.step_core.proofs.Reading.{field_shown, no_field, no_value, shown_name, object_kept, pointers_there, AllZip-length}
-use Rattle.step_core.proofs.Written.{SamePlaces, SameKeeping, object_written}
+use Rattle.step_core.proofs.Written.{SamePlaces, object_written}
 
 pub acts_by : (g : Graph) (m : ℕ) (a : Action) (reply : Reply) (c : CoreState) (out : Outcome) → act g m a ≡ out → reply ≡ out.0 → ShowsGraph out.1 c → Acts g m a reply c
 acts_by g m a reply c out e r s = record { reply_is = r ∙ sym (ap (λ (o : Outcome). o.0) e); shows = subst (λ (o : Outcome). ShowsGraph o.1 c) (sym e) s }

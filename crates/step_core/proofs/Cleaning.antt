@@ -1,14 +1,13 @@
 -- A dead region is released, and all of them one after another.
-use Rattle.std.proofs.Common.{◌≡◌, ◌≢◌, ℕ, suc, ◌+◌, ◌*◌, ◌<◌, ◌≤◌, ◌⊎◌, Bool, true, false, cond, List, Option, Some, None, length, get_or, set, refl, sym, ◌∙◌, ap, subst, arith, inl, inr}
+use Rattle.std.proofs.Common.{◌≡◌, ◌≢◌, ℕ, suc, ◌+◌, ◌*◌, ◌<◌, ◌≤◌, ◌⊎◌, Bool, true, false, cond, List, Option, None, length, get_or, set, refl, sym, ◌∙◌, ap, subst, arith, inl, inr}
 use Rattle.std.specs.Prelude.{◌↔◌, slice_index, slice_set, count_by, if◌then◌else◌}
-use Rattle.std.proofs.lemmas.Bool.{cases_eq, cases_lt, cases_Bool}
+use Rattle.std.proofs.lemmas.Bool.{cases_lt, cases_Bool}
 use Rattle.std.proofs.lemmas.List.{get_or-set_same, get_or-set_other, get_or_past}
 use Rattle.std.proofs.lemmas.List.Sums.{sum_by-set}
 use Rattle.heap_model.specs.Graph.{Graph}
-use Rattle.heap_model.specs.Heap.{Heap, Stored}
+use Rattle.heap_model.specs.Heap.{Stored}
 use Rattle.heap_model.proofs.Changed.{same_shows}
-use Rattle.heap_words.specs.declared.config.Config.{Config}
-use Rattle.regions.specs.Table.{Table, Region, Free, Ordinary, First, Rest, region_number, region_kind, kind_of, is_free, object_at, tile_in, tile_object, top_of, released}
+use Rattle.regions.specs.Table.{Table, Region, Free, Ordinary, First, Rest, region_number, region_kind, kind_of, is_free, object_at, tile_in, tile_object, released}
 use Rattle.regions.specs.Shaped.{IsShaped}
 use Rattle.regions.specs.declared.row.Kind.TheVariants as kinds
 use Rattle.regions.proofs.Released.{Releases, region_released, released_one, kind_stays}
@@ -100,9 +99,9 @@ module _ (k : CoreState) (core : IsCore k) (shaped : IsShaped k.table) (n : ℕ)
       let gone = dead_of_zero k.table k.marker.tams.previous k.marker.bitmaps.previous n core.layers.marker.previous known dead.live_bound in
       ap (λ (ts : Tops). kept_in (released k.table n) ts m.bitmaps.previous a) tops
       ∙ region_kept k.table (released k.table n) k.marker.tams k.marker.bitmaps.previous m.bitmaps.previous n (n * k.table.words_per_region) shaped.positive releases.size
-        (objects_left k.table (released k.table n) n releases) previous a
+      (objects_left k.table (released k.table n) n releases) previous a
       ∙ none_kept (is_in_region k.table.words_per_region n a) (kept_in k.table k.marker.tams k.marker.bitmaps.previous a)
-        (λ inside. dead_kept k.table k.marker.tams k.marker.bitmaps.previous n a shaped dead.ordinary gone inside)
+      (λ inside. dead_kept k.table k.marker.tams k.marker.bitmaps.previous n a shaped dead.ordinary gone inside)
 
   keeps_all : KeepsAll k after
   keeps_all = record { config = refl; kept = kept_same; roots = refl; next = refl }
@@ -292,9 +291,9 @@ all_cleaned i n c0 c p le = record {
   reclaimed = λ k. elim (cases_lt k i) [
     | inl less ↦ p.done k less
     | inr past ↦ (
-        λ q. absurd (q.used (past_end c0.table k (omega arith))),
-        λ d. absurd (let free = past_end c0.table k (omega arith) in let ordinary = d.ordinary in let no : kinds.Ordinary ≡ kinds.Free = sym ordinary ∙ free in cc),
-      )
+      λ q. absurd (q.used (past_end c0.table k (omega arith))),
+      λ d. absurd (let free = past_end c0.table k (omega arith) in let ordinary = d.ordinary in let no : kinds.Ordinary ≡ kinds.Free = sym ordinary ∙ free in cc),
+    )
   ];
   count = p.count;
 }

@@ -1,9 +1,9 @@
 -- Marking begins, goes on and ends in a core: k is the core by its fields before the step.
-use Rattle.std.proofs.Common.{◌≡◌, ℕ, zero, suc, ◌+◌, ◌<◌, ◌≤◌, true, false, List, [], ◌∷◌, ◌++◌, Option, Some, None, length, replicate, refl, sym, ◌∙◌, ap, subst, arith}
+use Rattle.std.proofs.Common.{◌≡◌, ℕ, zero, suc, ◌+◌, ◌<◌, ◌≤◌, true, false, List, [], ◌∷◌, None, length, refl, sym, ◌∙◌, ap, subst, arith}
 use Rattle.std.specs.Prelude.{slice_index}
 use Rattle.std.proofs.lemmas.List.{length-replicate}
-use Rattle.heap_model.specs.Graph.{Graph, IsReachable}
-use Rattle.heap_model.specs.Heap.{Heap, Stored, Shows, IsClosed}
+use Rattle.heap_model.specs.Graph.{Graph}
+use Rattle.heap_model.specs.Heap.{Heap, Shows, IsClosed}
 use Rattle.heap_model.proofs.Shown.{closed}
 use Rattle.heap_model.specs.Marking.{KeepsSnapshot, Begins}
 use Rattle.regions.specs.Table.{Table, top_of}
@@ -15,10 +15,10 @@ use Rattle.satb_log.specs.Logs.{log_of, logged}
 use Rattle.marker.specs.Views as views
 use Rattle.marker.specs.Stands.{MarkerStands}
 use Rattle.marker.specs.Steps.{SameRoles, KeepsSnapshots}
-use Rattle.marker.specs.Ends.{EndsMarking, EndsExactly}
+use Rattle.marker.specs.Ends.{EndsExactly}
 use Rattle.marker.specs.declared.marker.Marker.{Marker}
 use Rattle.marker.proofs.Views.{same_heap, previous_heap}
-use Rattle.step_core.specs.Stands.{CoreState, kept_of, heap_of, marking_of, ShowsGraph, KeepsFrom, Stands, LayersFit, IsCore}
+use Rattle.step_core.specs.Stands.{CoreState, kept_of, heap_of, ShowsGraph, KeepsFrom, IsCore}
 use Rattle.step_core.specs.Cycle.{KeepsAll, HasBegun, HasMarked, HasRemarked}
 use Rattle.step_core.proofs.Layers.{layers_marked}
 

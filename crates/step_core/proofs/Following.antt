@@ -17,11 +17,9 @@ use Rattle.object_graph.specs.declared.step.Reply.{Reply}
 use Rattle.object_graph.specs.declared.step.Reply.TheVariants as replies
 use Rattle.object_graph.specs.declared.step.Refusal.TheVariants as refusals
 use Rattle.step_core.specs.Stands.{CoreState, ShowsGraph, KeepsFrom, Stands, IsWhole}
-use Rattle.step_core.specs.Cycle.{Does, Collects}
-use Rattle.object_graph.specs.declared.step.CollectorStep.{CollectorStep}
-use Rattle.object_graph.specs.declared.step.CollectorStep.TheVariants as collector
+use Rattle.step_core.specs.Cycle.{Does}
 use Rattle.step_core.specs.Answers.{Acts, Follows, HasNoPlace, IsFull, RepliesFull, snapshot_after}
-use Rattle.step_core.specs.Histories.{IsHistory, Runs, step_of}
+use Rattle.step_core.specs.Histories.{IsHistory, Runs}
 
 -- a mutator's step as the graph's own, and what is kept of the snapshot
 pub acted : (g s : Graph) (o : Op) (m : ℕ) (a : Action) (reply : Reply) (c : CoreState) → o.mutator ≡ m → o.action ≡ a → Acts g m a reply c → KeepsFrom s c → Follows g s (steps.Mutator o) reply c

@@ -8,18 +8,18 @@ use Rattle.regions.specs.Table.{Table, object_at, pointers_at, values_at, set_va
 use Rattle.regions.proofs.Changes.{WritesObject, value_put}
 use Rattle.regions.proofs.Values.{with_value}
 use Rattle.object_graph.specs.State.{root_at, with_root, register_place}
-use Rattle.object_graph.specs.Machine.{act, stored}
+use Rattle.object_graph.specs.Machine.{act}
 use Rattle.object_graph.specs.declared.step.Action.TheVariants as actions
 use Rattle.object_graph.specs.declared.step.Reply.TheVariants as replies
 use Rattle.object_graph.specs.declared.step.Register.{Register}
-use Rattle.step_core.specs.Stands.{CoreState, kept_of, heap_of, ShowsGraph, KeepsFrom, IsCore, IsWordOf, IsRootWord, HasObject, Leads, name_in, name_of}
+use Rattle.step_core.specs.Stands.{CoreState, heap_of, ShowsGraph, KeepsFrom, IsCore, IsWordOf, IsRootWord, HasObject, Leads, name_in, name_of}
 use Rattle.step_core.specs.Cycle.{LeavesRegions}
 use Rattle.step_core.specs.Answers.{Acts}
 use Rattle.step_core.proofs.Sizes.{some_words}
 use Rattle.step_core.proofs.Layers.{layers_writes, follows_of}
 use Rattle.step_core.proofs.Written.{write_keeps, root_keeps}
 use Rattle.step_core.proofs.Reading.{root_shown, leads, root_word, root_rooted, object_kept, pointers_there, field_held, led_object, word_object}
-use Rattle.step_core.proofs.Acting.{root_shows, with_root_word, put_done, write_done, field_word}
+use Rattle.step_core.proofs.Acting.{root_shows, with_root_word, write_done, field_word}
 
 pub core_of : (k c : CoreState) → k ≡ c → IsCore k → IsCore c
 core_of k c e core = subst (λ (d : CoreState). IsCore d) e core

@@ -1,6 +1,6 @@
 -- The layers below fit one another, after each kind of change.
-use Rattle.std.proofs.Common.{◌≡◌, ℕ, ◌+◌, ◌*◌, ◌<◌, ◌≤◌, List, Option, Some, length, true, refl, sym, ◌∙◌, ap, subst, arith, inl, inr}
-use Rattle.std.specs.Prelude.{slice_get, slice_index}
+use Rattle.std.proofs.Common.{◌≡◌, ℕ, ◌<◌, ◌≤◌, Some, length, true, refl, ◌∙◌, ap, inl, inr}
+use Rattle.std.specs.Prelude.{slice_index}
 use Rattle.heap_model.specs.Graph.{Graph}
 use Rattle.heap_model.specs.Heap.{Stored}
 use Rattle.heap_words.specs.declared.config.Config.{Config}
@@ -14,7 +14,7 @@ use Rattle.marker.specs.declared.marker.Marker.{Marker}
 use Rattle.marker.proofs.Follow.{can_follow}
 use Rattle.marker.proofs.Forgotten.{table_stands}
 use Rattle.std.proofs.lemmas.Bool.{cases_eq}
-use Rattle.step_core.specs.Stands.{CoreState, kept_of, heap_of, marking_of, ShowsGraph, KeepsFrom, LayersFit}
+use Rattle.step_core.specs.Stands.{CoreState, kept_of, ShowsGraph, KeepsFrom, LayersFit}
 use Rattle.step_core.proofs.Added.{stand_writes}
 
 -- marking can follow every pointer of a core that stands for a graph

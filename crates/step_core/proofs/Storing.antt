@@ -1,30 +1,27 @@
 -- The write barrier: a store into a pointer of an object that a root names.
-use Rattle.std.proofs.Common.{◌≡◌, ◌≢◌, ℕ, ◌<◌, ◌≤◌, Bool, true, false, List, [], Option, Some, None, length, refl, sym, ◌∙◌, ap, subst, arith, inl, inr}
-use Rattle.std.specs.Prelude.{slice_get, slice_set, ◌==◌}
+use Rattle.std.proofs.Common.{◌≡◌, ℕ, ◌<◌, true, false, List, Option, Some, None, length, refl, sym, ◌∙◌, ap, subst, inl, inr}
+use Rattle.std.specs.Prelude.{slice_get, slice_set}
 use Rattle.std.specs.List.{AllZip}
-use Rattle.std.proofs.lemmas.Option.{slice_get-get_or}
 use Rattle.heap_model.specs.Graph.{Graph, Object, IsReachable, next_name, object_named, with_changed}
-use Rattle.heap_model.specs.Heap.{Heap, Stored, Shows, IsRoot, IsHeld, IsShown, ObjectSet}
+use Rattle.heap_model.specs.Heap.{Stored, IsRoot, IsHeld, IsShown, ObjectSet}
 use Rattle.heap_model.specs.Marking.{Marking, KeepsSnapshot, IsSaved}
 use Rattle.heap_model.proofs.Lists.{AllZip-set}
 use Rattle.heap_model.proofs.Shown.{closed}
 use Rattle.heap_model.proofs.Mutate.{object_set}
-use Rattle.regions.specs.Table.{Table, object_at, pointers_at, set_pointer}
+use Rattle.regions.specs.Table.{Table, pointers_at, set_pointer}
 use Rattle.regions.proofs.Changes.{WritesObject, pointer_put}
 use Rattle.regions.proofs.Fields.{with_pointer}
 use Rattle.satb_log.specs.Logs.{log_of}
-use Rattle.mark_bitmap.specs.Kept.{kept_in}
 use Rattle.mark_bitmap.specs.Tops.{Tops}
 use Rattle.marker.specs.Views as views
 use Rattle.marker.specs.Stands.{MarkerStands, CanFollow, IsKept}
 use Rattle.marker.specs.Steps.{SameRoles, KeepsSnapshots}
 use Rattle.marker.specs.declared.marker.Marker.{Marker}
-use Rattle.marker.proofs.Views.{same_heap}
-use Rattle.step_core.specs.Stands.{CoreState, kept_of, heap_of, marking_of, ShowsGraph, KeepsFrom, Stands, IsCore}
+use Rattle.step_core.specs.Stands.{CoreState, kept_of, heap_of, marking_of, ShowsGraph, KeepsFrom, IsCore}
 use Rattle.step_core.specs.Cycle.{LeavesRegions}
 use Rattle.step_core.proofs.Sizes.{some_words}
 use Rattle.step_core.proofs.Reading.{object_kept, pointers_there}
-use Rattle.step_core.proofs.Written.{SamePlaces, SameKeeping, object_written, marking_same}
+use Rattle.step_core.proofs.Written.{SameKeeping, object_written, marking_same}
 use Rattle.step_core.proofs.Acting.{object_shows}
 use Rattle.step_core.proofs.Layers.{follows_of, layers_writes, layers_changed, marker_writes}
 

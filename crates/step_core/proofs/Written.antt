@@ -1,16 +1,15 @@
 -- What is kept once an object is written, where marks and tops at mark start stay.
-use Rattle.std.proofs.Common.{◌≡◌, ◌≢◌, ℕ, ◌≤◌, Bool, true, false, List, Option, Some, None, refl, sym, ◌∙◌, ap, subst}
-use Rattle.std.specs.Prelude.{if◌then◌else◌, slice_set, slice_get}
+use Rattle.std.proofs.Common.{◌≡◌, ℕ, Bool, true, false, List, Option, Some, None, refl, sym, ◌∙◌, subst}
+use Rattle.std.specs.Prelude.{if◌then◌else◌, slice_set}
 use Rattle.heap_model.specs.Graph.{Graph, IsReachable, next_name}
-use Rattle.heap_model.specs.Heap.{Heap, Stored, Shows, IsRoot, IsHeld, ObjectSet, RootSet}
+use Rattle.heap_model.specs.Heap.{Stored, IsHeld, ObjectSet}
 use Rattle.heap_model.specs.Kept.{kept_by}
-use Rattle.heap_model.specs.Marking.{Marking, KeepsSnapshot, IsSaved}
-use Rattle.heap_model.proofs.Mutate.{values_set, object_set, root_set}
-use Rattle.heap_words.specs.declared.config.Config.{Config}
+use Rattle.heap_model.specs.Marking.{Marking, KeepsSnapshot}
+use Rattle.heap_model.proofs.Mutate.{values_set, root_set}
 use Rattle.regions.specs.Table.{Table, object_at}
 use Rattle.regions.proofs.Changes.{WritesObject, object_same}
 use Rattle.mark_bitmap.specs.Marks.{is_marked}
-use Rattle.mark_bitmap.specs.Tops.{Tops, is_below}
+use Rattle.mark_bitmap.specs.Tops.{is_below}
 use Rattle.marker.specs.declared.marker.Marker.{Marker}
 use Rattle.marker.specs.Views as views
 use Rattle.step_core.specs.Stands.{CoreState, kept_of, heap_of, marking_of, ShowsGraph, KeepsFrom}

@@ -1,10 +1,10 @@
-//! Runs of every mutator's step.
+//! Runs of every step.
 
 ghost use Rattle.std.specs.Prelude.{◌≡◌, ◌<◌};
 
 use crate::{Core, RunFault, run};
 use heap_words::config::{Config, NewFault};
-use object_graph::{Action, GlobalRoot, Op, Refusal, Register, Reply, Step};
+use object_graph::{Action, CollectorStep, GlobalRoot, Op, Refusal, Register, Reply, Step};
 use std::test::Fail;
 
 const CONFIG: Config = Config {
@@ -127,7 +127,127 @@ fn every_action(rt: HostRuntime) -> Result<(), Fail> {
     assert_eq!(rt; core.config(), CONFIG);
     for (mutator, action, reply) in rows {
         assert!(rt; mutator < core.config().mutators);
-        assert_eq!(rt; core.step(Op { mutator, action }), reply);
+        assert_eq!(rt; core.step(Step::Mutator(Op { mutator, action })), reply);
+    }
+    Ok(())
+}
+
+/// A step of the collector that the heap does, None for another one.
+fn collect(core: &mut Core, step: CollectorStep) -> Option<Reply> {
+    match step {
+        CollectorStep::Begin => Some(core.step(Step::Collector(CollectorStep::Begin))),
+        CollectorStep::Mark(units) => Some(core.step(Step::Collector(CollectorStep::Mark(units)))),
+        CollectorStep::Remark => Some(core.step(Step::Collector(CollectorStep::Remark))),
+        CollectorStep::Cleanup => Some(core.step(Step::Collector(CollectorStep::Cleanup))),
+        CollectorStep::Refine(_) | CollectorStep::Pause(_) => None,
+    }
+}
+
+/// A mutator's action, None for a mutator that isn't there.
+fn act(core: &mut Core, mutator: u32, action: Action) -> Option<Reply> {
+    if mutator < core.config().mutators {
+        Some(core.step(Step::Mutator(Op { mutator, action })))
+    } else {
+        None
+    }
+}
+
+/// A cycle by steps: each reply, whether marking runs afterwards, and how many objects were scanned since it began. The
+/// object of r1 is found by the log alone, since its last pointer goes before it is scanned; once it is unreachable the
+/// next cycle doesn't mark it. Neither region is reclaimed: the one is current, and the other holds an object.
+#[test]
+fn a_marking_cycle(rt: HostRuntime) -> Result<(), Fail> {
+    let r0 = register(0);
+    let r1 = register(1);
+    let Ok(mut core) = Core::new(rt.alloc(), &CONFIG) else {
+        return Err(Fail::from("a core"));
+    };
+    let made = [
+        Action::New {
+            to: r0,
+            pointers: 1,
+            values: 0,
+        },
+        Action::New {
+            to: r1,
+            pointers: 0,
+            values: 1,
+        },
+        Action::Put {
+            object: r0,
+            field: 0,
+            value: Some(r1),
+        },
+        Action::Drop { register: r1 },
+    ];
+    for action in made {
+        assert!(rt; act(&mut core, 0, action).is_some());
+    }
+    let refused = Reply::Refused(Refusal::MarkRunning);
+    let idle = Reply::Refused(Refusal::NotMarking);
+    let before = [
+        (CollectorStep::Remark, idle, false, 0),
+        (CollectorStep::Mark(1), idle, false, 0),
+        (CollectorStep::Begin, Reply::Done, true, 0),
+        (CollectorStep::Begin, refused, true, 0),
+        (CollectorStep::Cleanup, refused, true, 0),
+        (CollectorStep::Mark(0), Reply::Done, true, 0),
+    ];
+    let after = [
+        (CollectorStep::Mark(1), Reply::Done, true, 1),
+        (CollectorStep::Mark(9), Reply::Done, true, 1),
+        (CollectorStep::Remark, Reply::Marked(2), false, 2),
+        (CollectorStep::Cleanup, Reply::Reclaimed(0), false, 2),
+        (CollectorStep::Begin, Reply::Done, true, 0),
+        (CollectorStep::Remark, Reply::Marked(1), false, 1),
+        (CollectorStep::Cleanup, Reply::Reclaimed(0), false, 1),
+    ];
+    for (step, reply, marking, scans) in before {
+        assert_eq!(rt; collect(&mut core, step), Some(reply));
+        assert!(rt; core.marking() == marking && core.scans() == scans);
+    }
+    let deleted = Action::Put {
+        object: r0,
+        field: 0,
+        value: None,
+    };
+    assert_eq!(rt; act(&mut core, 0, deleted), Some(Reply::Done));
+    for (step, reply, marking, scans) in after {
+        assert_eq!(rt; collect(&mut core, step), Some(reply));
+        assert!(rt; core.marking() == marking && core.scans() == scans);
+    }
+    Ok(())
+}
+
+/// Objects of a region each, of which a register holds the last: two cycles reclaim the others, and the regions are taken
+/// again.
+#[test]
+fn reclaims_regions(rt: HostRuntime) -> Result<(), Fail> {
+    let r0 = register(0);
+    let Ok(mut core) = Core::new(rt.alloc(), &CONFIG) else {
+        return Err(Fail::from("a core"));
+    };
+    let half = Action::New {
+        to: r0,
+        pointers: 3,
+        values: 3,
+    };
+    for round in 0..3u64 {
+        for place in 0..6u64 {
+            assert_eq!(rt;
+                act(&mut core, 0, half),
+                Some(Reply::Named(Some(7 + 6 * round + place)))
+            );
+        }
+        assert_eq!(rt; collect(&mut core, CollectorStep::Begin), Some(Reply::Done));
+        assert_eq!(rt;
+            collect(&mut core, CollectorStep::Remark),
+            Some(Reply::Marked(1))
+        );
+        assert_eq!(rt;
+            collect(&mut core, CollectorStep::Cleanup),
+            Some(Reply::Reclaimed(if round == 0 { 2 } else { 3 }))
+        );
     }
     Ok(())
 }

@@ -5,9 +5,7 @@ ghost use Rattle.step_core.specs.Histories.{IsStepYet};
 ghost use Rattle.step_core.specs.Cycle.{IsCycleStep};
 
 use heap_words::config::Config;
-use object_graph::{
-    Action, CollectorStep, GlobalRoot, Op, Register, Reply, Step, Verdict, check,
-};
+use object_graph::{Action, CollectorStep, GlobalRoot, Op, Register, Reply, Step, Verdict, check};
 use rand_core::utils::NextWord;
 use rand_pcg::Lcg64Xsh32;
 use std::alloc::{AllocError, Global};
@@ -44,35 +42,35 @@ fn stored(draw: &mut Lcg64Xsh32) -> Option<Register> {
 
 fn action(draw: &mut Lcg64Xsh32) -> Action {
     match below(draw, 16) {
-        0..=3 => Action::New {
+        0..=2 => Action::New {
             to: register(draw),
             pointers: below(draw, 4),
             values: below(draw, 4),
         },
-        4..=5 => Action::Get {
+        3 => Action::Get {
             to: register(draw),
             object: register(draw),
             field: below(draw, 3),
         },
-        6..=9 => Action::Put {
+        4..=7 => Action::Put {
             object: register(draw),
             field: below(draw, 3),
             value: stored(draw),
         },
-        10 => Action::Read {
+        8 => Action::Read {
             object: register(draw),
             field: below(draw, 3),
         },
-        11 => Action::Write {
+        9 => Action::Write {
             object: register(draw),
             field: below(draw, 3),
             value: u64::from(below(draw, 100)),
         },
-        12 => Action::Move {
+        10 => Action::Move {
             to: register(draw),
             from: register(draw),
         },
-        13 => Action::Drop {
+        11..=13 => Action::Drop {
             register: register(draw),
         },
         14 => Action::Load {
@@ -89,10 +87,10 @@ fn action(draw: &mut Lcg64Xsh32) -> Action {
 fn collection(draw: &mut Lcg64Xsh32) -> CollectorStep
     ensures { IsCycleStep result }
 {
-    match below(draw, 6) {
+    match below(draw, 5) {
         0 => CollectorStep::Begin,
-        1..=2 => CollectorStep::Mark(below(draw, 3)),
-        3 => CollectorStep::Remark,
+        1 => CollectorStep::Mark(below(draw, 3)),
+        2..=3 => CollectorStep::Remark,
         _ => CollectorStep::Cleanup,
     }
 }
@@ -101,7 +99,7 @@ fn step(config: &Config, draw: &mut Lcg64Xsh32) -> Step
     requires { 0 < config.now.mutators }
     ensures { IsStepYet config.now result }
 {
-    if below(draw, 6) == 0 {
+    if below(draw, 4) == 0 {
         return Step::Collector(collection(draw));
     }
     let mutator = below(draw, config.mutators);
@@ -141,6 +139,7 @@ fn sizes(draw: &mut Lcg64Xsh32) -> Config
 
 /// What happened in all records together: how many regions were reclaimed, objects marked, and steps refused for want of
 /// room.
+#[derive(Drop)]
 struct Tally {
     reclaimed: u64,
     marked: u64,
@@ -167,13 +166,19 @@ fn drawn_scripts(rt: HostRuntime) -> Result<(), Fail> {
         assert_eq!(rt; verdict, Verdict::Yes(80), "seed {seed}");
         for event in record.events() {
             match event.reply {
-                Reply::Reclaimed(count) => tally.reclaimed = tally.reclaimed.saturating_add(u64::from(count)),
-                Reply::Marked(count) => tally.marked = tally.marked.saturating_add(u64::from(count)),
-                Reply::Refused(object_graph::Refusal::Full) => tally.full = tally.full.saturating_add(1),
+                Reply::Reclaimed(count) => tally.reclaimed = tally
+                    .reclaimed
+                    .saturating_add(u64::from(count)),
+                Reply::Marked(count) => tally.marked = tally
+                    .marked
+                    .saturating_add(u64::from(count)),
+                Reply::Refused(object_graph::Refusal::Full) => tally.full = tally
+                    .full
+                    .saturating_add(1),
                 _ => {}
             }
         }
     }
-    assert!(rt; tally.reclaimed > 10_000 && tally.marked > 100_000 && tally.full > 10_000);
+    assert!(rt; tally.reclaimed > 4_000 && tally.marked > 90_000 && tally.full > 30_000);
     Ok(())
 }

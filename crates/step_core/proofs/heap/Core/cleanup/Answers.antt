@@ -1,5 +1,4 @@
-use Rattle.std.proofs.Common.{◌≡◌, ◌+◌, ◌≤◌, ◌∙◌, ℕ, Bool, true, subst, sym, ap, arith, length}
-use Rattle.heap_model.specs.Graph.{Graph}
+use Rattle.std.proofs.Common.{◌+◌, ℕ, subst, sym, ap, arith, length}
 use Rattle.step_core.specs.Stands.{CoreState, ShowsGraph, KeepsFrom}
 use Rattle.step_core.specs.Cycle.{IsDead, HasReleased}
 use Rattle.step_core.proofs.Cleaning.{Cleans, one_left, one_cleaned, all_cleaned}

@@ -1,5 +1,4 @@
-use Rattle.std.proofs.Common.{◌≡◌, ◌<◌, ◌∙◌, sym, ap, List, [], ℕ, arith, length, length-set}
-use Rattle.step_core.specs.Stands.{CoreState}
+use Rattle.std.proofs.Common.{◌∙◌, sym, ap, List, [], ℕ, length, length-set}
 use Rattle.step_core.proofs.Stored.{was_kept, store_shows, idle_shows, store_leaves, idle_leaves, idle_kept, saved_stands, saved_keeps, saved_kept, saved_room, taken_room, taken_kept, taken_keeps, roles_trans, known_log}
 use Rattle.step_core.proofs.heap.Core.store.Goals as goal
 
