@@ -1,11 +1,13 @@
 -- What one region's set covers as cards are added.
-use Rattle.std.proofs.Common.{inl, inr, ◌≡◌, ◌⊎◌, ℕ, ◌<◌, ◌≤◌, Bool, true, false, if◌then◌else◌, eqb, ltb, List, [], ◌∷◌, ◌++◌, length, get_or, set, replicate, ⊎_elim, refl, sym, subst, ◌∙◌, arith, get_or-set_same, get_or-set_other, length-set}
+use Rattle.std.proofs.Common.{inl, inr, ◌≡◌, ◌⊎◌, ℕ, ◌+◌, ◌<◌, ◌≤◌, Bool, true, false, cond, if◌then◌else◌, eqb, ltb, List, [], ◌∷◌, ◌++◌, length, get_or, set, replicate, ⊎_elim, refl, sym, ap, subst, ◌∙◌, arith, get_or-set_same, get_or-set_other, length-set, length-append}
 use Rattle.std.specs.Prelude.{◌||◌}
 use Rattle.std.specs.List.{list_any}
-use Rattle.std.proofs.lemmas.Bool.{cases_lt, cases_eq, or_cases, eq-eqb, eqb-true, false≢true, ltb-true, ltb-false}
+use Rattle.std.proofs.lemmas.Bool.{cases_lt, cases_eq, or_cases, eq-eqb, ne_eqb, eqb-true, false≢true, ltb-true, ltb-false}
 use Rattle.std.proofs.lemmas.List.{get_or_past, get_or-replicate, length-replicate}
+use Rattle.std.proofs.lemmas.List.Elements.{All-push, All-nil}
 use Rattle.std.proofs.lemmas.List.Folds.{list_any-append}
-use Rattle.remembered_sets.specs.Sets.{CardSet, set_covers, set_with, empty_set}
+use Rattle.std.proofs.lemmas.List.Sums.{sum_by-cons, sum_by_push}
+use Rattle.remembered_sets.specs.Sets.{CardSet, IsSet, set_covers, set_with, empty_set, times_in}
 
 or_left : (a b : Bool) → a ≡ true → (a || b) ≡ true
 or_left a b e = rw e refl
@@ -110,9 +112,47 @@ set_only_card s card source c k few =
     (λ missing short h. inline_only s card c k h)
     (λ missing full h. absurd (omega (arith, few, full)))
 
-pub length-set_with : (s : CardSet) (card source : ℕ) → length (set_with s card source).sources ≡ length s.sources
-length-set_with s card source =
-    with_cases (λ t. length t.sources ≡ length s.sources) s card source (λ was. refl) (λ missing short. refl) (λ missing full. length-set s.sources source true)
+-- ---- what every set is
+abbrev bit : Bool → ℕ
+bit b = cond b 1 0
+
+or_false : (a b : Bool) → (a || b) ≡ false → a ≡ false
+or_false true b e = e
+or_false false b e = refl
+
+or_false_right : (a b : Bool) → (a || b) ≡ false → b ≡ false
+or_false_right true b e = absurd (false≢true (sym e))
+or_false_right false b e = e
+
+none_counted : (xs : List ℕ) (c : ℕ) → list_any (λ x. eqb x c) xs ≡ false → times_in c xs ≡ 0
+none_counted [] c h = refl
+none_counted (x ∷ xs) c h =
+    let first : eqb x c ≡ false = or_false (eqb x c) (list_any (λ x. eqb x c) xs) h in
+    let rest = none_counted xs c (or_false_right (eqb x c) (list_any (λ x. eqb x c) xs) h) in
+    omega (arith, sum_by-cons (λ y. bit (eqb y c)) x xs, ap bit first, rest)
+
+times_after : (xs : List ℕ) (card x : ℕ) → times_in x (xs ++ card ∷ []) ≡ times_in x xs + bit (eqb card x)
+times_after xs card x = sum_by_push (λ y. bit (eqb y x)) xs card
+
+once_after : (xs : List ℕ) (card x : ℕ) → list_any (λ y. eqb y card) xs ≡ false → times_in x xs ≤ 1 → times_in x (xs ++ card ∷ []) ≤ 1
+once_after xs card x missing h = ⊎_elim
+    (λ (same : card ≡ x). omega (arith, times_after xs card x, ap (λ k. times_in k xs) same, none_counted xs card missing, ap bit (eq-eqb card x same)))
+    (λ differs. omega (arith, h, times_after xs card x, ap bit (ne_eqb card x differs)))
+    (cases_eq card x)
+
+pub IsSet-with : (n k : ℕ) (s : CardSet) (card source : ℕ) → IsSet n k s → card < k → IsSet n k (set_with s card source)
+IsSet-with n k s card source all h =
+    with_cases (IsSet n k) s card source (λ was. all)
+    (λ missing short. record {
+      few = omega (arith, short, length-append s.inline (card ∷ []));
+      once = λ x. once_after s.inline card x (or_false (list_any (λ y. eqb y card) s.inline) (get_or s.sources source false) missing) (all.once x);
+      known = All-push (λ c. c < k) s.inline card all.known h;
+      marks = all.marks;
+    })
+    (λ missing full. record { few = all.few; once = all.once; known = all.known; marks = length-set s.sources source true ∙ all.marks })
+
+pub IsSet-empty : (n k : ℕ) → IsSet n k (empty_set n)
+IsSet-empty n k = record { few = omega arith; once = λ x. omega arith; known = All-nil (λ c. c < k); marks = length-replicate n false }
 
 -- the empty set covers nothing
 pub empty_covers : (regions c k : ℕ) → set_covers (empty_set regions) c k ≡ false

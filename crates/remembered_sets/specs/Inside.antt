@@ -1,6 +1,6 @@
 -- How remembered sets are kept.
 use Rattle.std.specs.Prelude.{◌≡◌, ◌≤◌, length}
-use Rattle.remembered_sets.specs.Sets.{CardSet, Sets, HasMarks}
+use Rattle.remembered_sets.specs.Sets.{CardSet, Sets, AreSets}
 use Rattle.remembered_sets.specs.declared.set.RememberedSet.TheInside.{Inside as SetInside}
 use Rattle.remembered_sets.specs.declared.sets.RememberedSets.TheInside.{Inside}
 
@@ -17,4 +17,4 @@ pub record IsSoundSet (s : SetInside) : Type 0 where
   pub few : length s.inline.items ≤ 16
 
 abbrev pub IsSound : Inside → Type 0
-IsSound s = HasMarks (sets_of s)
+IsSound s = AreSets (sets_of s)

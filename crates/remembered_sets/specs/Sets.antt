@@ -1,5 +1,5 @@
 -- Remembered sets, and which cards they cover.
-use Rattle.std.specs.Prelude.{◌≡◌, ◌≢◌, ℕ, ◌/◌, ◌*◌, ◌<◌, Bool, true, false, ◌==◌, ◌||◌, nat_lt, All, List, [], ◌∷◌, ◌++◌, length, slice_index_or, slice_set, replicate, if◌then◌else◌, ⊤}
+use Rattle.std.specs.Prelude.{◌≡◌, ◌≢◌, ℕ, ◌/◌, ◌*◌, ◌<◌, ◌≤◌, Bool, true, false, ◌==◌, ◌||◌, nat_lt, All, count_by, List, [], ◌∷◌, ◌++◌, length, slice_index_or, slice_set, replicate, if◌then◌else◌, ⊤}
 use Rattle.std.specs.List.{list_any}
 
 -- one region's set: cards that stand inline, and for each region whether it is marked whole
@@ -55,10 +55,22 @@ added s region card = record {
 abbrev pub cleared : Sets → ℕ → Sets
 cleared s region = record { sets = slice_set s.sets region (empty_set (length s.sets)); cards_per_region = s.cards_per_region }
 
--- a region has cards, and each set has a mark for each region
-pub record HasMarks (s : Sets) : Type 0 where
-  pub some : 0 < s.cards_per_region
-  pub marks : All (λ set. length set.sources ≡ length s.sets) s.sets
+-- how often a card stands in a list
+abbrev pub times_in : ℕ → List ℕ → ℕ
+times_in card cards = count_by (λ c. c == card) cards
+
+-- what every set is, among so many regions with so many cards in all: sixteen cards at most stand inline, each once, and
+-- each region has a mark
+pub record IsSet (regions cards : ℕ) (set : CardSet) : Type 0 where
+  pub few : length set.inline ≤ 16
+  pub once : (card : ℕ) → times_in card set.inline ≤ 1
+  pub known : All (λ c. c < cards) set.inline
+  pub marks : length set.sources ≡ regions
+
+-- what all sets are
+pub record AreSets (s : Sets) : Type 0 where
+  pub some_cards : 0 < s.cards_per_region
+  pub each : All (IsSet (length s.sets) (card_count s)) s.sets
 
 -- ---- over a run
 pub data Change : Type 0 where

@@ -1,13 +1,13 @@
 //! The remembered sets of all regions.
 //!
 //! ```text
-//!   region     0          1              2     3
-//!   inline     -          6 9 .. 40      0     -
-//!   sources    . . . .    . . . 3        ....  ....       card c lies in region c / cards_per_region
+//!   region      0     1            2     3
+//!   inline      -     6 9 .. 40    0     -
+//!   sources     -     3            -     -        card c lies in region c / cards_per_region
 //! ```
 
 ghost use Rattle.std.specs.Prelude.{◌≡◌, ◌≢◌, ◌⊎◌, ◌/◌, ◌<◌, All, ℕ, false, true, IfOk, length, List};
-ghost use Rattle.remembered_sets.specs.Sets.{added, after_all, card_count, cleared, covers, empty_sets, set_of, Change, HasMarks, LeavesSet, Sets};
+ghost use Rattle.remembered_sets.specs.Sets.{added, after_all, card_count, cleared, covers, empty_sets, set_of, Change, AreSets, LeavesSet, Sets};
 
 use crate::set::RememberedSet;
 use heap_words::addr::{Card, RegionNo};
@@ -53,10 +53,10 @@ impl RememberedSets {
         })
     }
 
-    /// Tells a proof what is known of all sets: a region has cards, and each set has a mark for each region. It does
-    /// nothing.
+    /// Tells a proof what is known of all sets: a region has cards; no set has more than sixteen cards inline, nor one
+    /// twice; and each has a mark for each region. It does nothing.
     pub fn law(&self)
-        ensures { HasMarks self.now }
+        ensures { AreSets self.now }
     {
         let _ = &self.cards_per_region;
     }
@@ -97,7 +97,7 @@ impl RememberedSets {
 /// What a set covers after a card is added: the card, all that it covered, and else nothing but cards of the card's own
 /// region, or the card alone where there was room inline. The other sets stay.
 pub fn add_law()
-    ensures covered { (s : Sets) (region card : ℕ) → HasMarks s → region < length s.sets → card < card_count s → covers (added s region card) region card ≡ true }
+    ensures covered { (s : Sets) (region card : ℕ) → AreSets s → region < length s.sets → card < card_count s → covers (added s region card) region card ≡ true }
     ensures grows { (s : Sets) (region card other c : ℕ) → region < length s.sets → covers s other c ≡ true → covers (added s region card) other c ≡ true }
     ensures only { (s : Sets) (region card c : ℕ) → region < length s.sets → covers (added s region card) region c ≡ true
         → (covers s region c ≡ true) ⊎ (c / s.cards_per_region ≡ card / s.cards_per_region) }
@@ -114,6 +114,6 @@ pub fn clear_law()
 
 /// A card that is added is covered until the region's set is cleared, whatever else is added and cleared.
 pub fn run_law()
-    ensures { (s : Sets) (region card : ℕ) (changes : List Change) → HasMarks s → region < length s.sets → card < card_count s → All (LeavesSet region) changes
+    ensures { (s : Sets) (region card : ℕ) (changes : List Change) → AreSets s → region < length s.sets → card < card_count s → All (LeavesSet region) changes
         → covers (after_all changes (added s region card)) region card ≡ true }
 {}
