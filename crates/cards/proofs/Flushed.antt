@@ -35,9 +35,6 @@ sent_more t i h =
     ap (λ l. (t.queue ++ concat (take i t.logs)) ++ l) (log_left t.logs i h) ∙ append_assoc t.queue (concat (take i t.logs)) (get_or t.logs i []) ∙ ap (λ l. t.queue ++ l) (sym (concat_more t.logs i h)) in
     rw (add-one, emptied_more t.logs i h, queue) refl
 
-pub none_sent : (t : Cards) → flushed_up_to 0 t ≡ t
-none_sent t = ap (λ (q : List ℕ). record { dirty = t.dirty; logs = t.logs; queue = q }) (append-nil t.queue)
-
 pub all_sent : (t : Cards) (n : ℕ) → n ≡ length t.logs → flushed_up_to n t ≡ flushed t
 all_sent t n e = rw (e, take-length, drop-length, append-nil) refl
 

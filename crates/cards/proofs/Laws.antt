@@ -1,10 +1,10 @@
 -- Which cards are dirty after each change, and that the dirty cards are those that are listed.
-use Rattle.std.proofs.Common.{inl, inr, not, ◌≡◌, ◌⊎◌, ◌||◌, ◌&&◌, ℕ, ◌<◌, ◌≤◌, Bool, true, false, cond, eqb, List, [], ◌∷◌, ◌++◌, length, get_or, set, sum_by, ⊎_elim, refl, ap, ◌∙◌, arith, get_or-set_same, get_or-set_other, length-set}
+use Rattle.std.proofs.Common.{inl, inr, not, ◌≡◌, ◌⊎◌, ◌||◌, ◌&&◌, ℕ, ◌<◌, ◌≤◌, Bool, true, false, cond, eqb, List, [], ◌∷◌, length, get_or, set, sum_by, ⊎_elim, refl, ap, ◌∙◌, arith, get_or-set_same, get_or-set_other}
 use Rattle.std.specs.List.{Contains, concat}
 use Rattle.std.proofs.lemmas.Bool.{cases_eq, cases_lt, eq-eqb, ne_eqb}
 use Rattle.std.proofs.lemmas.List.Elements.{Contains-append_right, Contains-append_cases, Contains-push_cases}
 use Rattle.std.proofs.lemmas.List.Sums.{sum_by-cons, sum_by-append}
-use Rattle.cards.specs.Cards.{Cards, is_dirty, log_of, times_in, ListsDirtyOnce, entered, dirtied}
+use Rattle.cards.specs.Cards.{Cards, is_dirty, times_in, ListsDirtyOnce, entered, dirtied}
 use Rattle.cards.proofs.Listed.{bit, dirty_from_listed}
 use Rattle.cards.proofs.Dirtied.{dirtied_cases, sent_cases}
 
@@ -40,13 +40,6 @@ dirty_after t m c x h =
     let P : Cards → Type 0 = λ u. is_dirty u x ≡ (eqb x c || is_dirty t x) in
     dirtied_cases P t m c (dirty_already t c x) (λ clean.
     sent_cases P (entered t m c) m (λ full. flag_set_after t.dirty c x h) (λ short. flag_set_after t.dirty c x h))
-
-pub logs_after : (t : Cards) (m c : ℕ) → length (dirtied t m c).logs ≡ length t.logs
-logs_after t m c =
-    let P : Cards → Type 0 = λ u. length u.logs ≡ length t.logs in
-    let log : List ℕ = log_of t m ++ c ∷ [] in
-    dirtied_cases P t m c (λ was. refl) (λ clean.
-    sent_cases P (entered t m c) m (λ full. length-set (set t.logs m log) m [] ∙ length-set t.logs m log) (λ short. length-set t.logs m log))
 
 -- ---- where a dirty card stands
 counted_in : (xs : List ℕ) (c : ℕ) → 0 < times_in c xs → Contains xs c
