@@ -1,0 +1,5 @@
+pub mod Listed
+pub mod Flushed
+pub mod Dirtied
+pub mod Fields
+pub mod Laws

@@ -1,0 +1,28 @@
+//! Dirty cards: those whose words were written since their pointers were last looked at.
+//!
+//! A store of a pointer into another region makes its card dirty, and enters it in the log of its mutator. A log that
+//! holds four cards is appended to the queue. Refinement takes a card from the queue's front, which becomes clean, looks
+//! at its pointers, and puts it back where it isn't done; a pause first sends all logs to the queue.
+//!
+//! ```text
+//!   dirty(0, 7)  logs | 3 9 1 7 |      queue 5 2             log 0 holds four cards: it goes to the queue
+//!                     | 6       |
+//!   then         logs |         |      queue 5 2 3 9 1 7
+//!                     | 6       |
+//!   take         logs |         |      queue 2 3 9 1 7       5 is clean
+//!                     | 6       |
+//!   put_back(5)  logs |         |      queue 5 2 3 9 1 7     5 is dirty again, before all others
+//!                     | 6       |
+//!   flush_all    logs |         |      queue 5 2 3 9 1 7 6
+//!                     |         |
+//! ```
+//!
+//! A card that is dirty stands in the logs and the queue together exactly once, and a clean one not at all. So the
+//! queue never holds more cards than there are: its room is made once, and no call but the making takes memory or
+//! fails.
+#![tactic(auto)]
+
+mod log;
+pub mod table;
+
+pub use table::CardTable;

@@ -1,0 +1,241 @@
+//! Which cards are dirty, and where they stand.
+//!
+//! ```text
+//!   card     0 1 2 3 4 5 6 7 8 9          log 0   3 9 1         queue   5 2
+//!   dirty    . * * * . * * . . *          log 1   6
+//! ```
+
+ghost use Rattle.std.specs.List.{concat};
+ghost use Rattle.std.specs.Prelude.{◌≡◌, ◌⊎◌, Contains, ◌||◌, ◌&&◌, ◌==◌, ◌<◌, ℕ, false, true, not, All, IfNone, IfOk, IfSome, List, [], ◌∷◌, length, slice_set};
+ghost use Rattle.cards.specs.Cards.{appended, clean_cards, dirtied, flushed, is_dirty, put_in_front, Cards, ListsDirtyOnce};
+
+use crate::log::{CardLog, LOG_LEN};
+use heap_words::addr::Card;
+use std::alloc::{AllocError, Global};
+use std::collections::VecDeque;
+use std::marker::Model;
+
+/// A dirty flag for each card, a log for each mutator, and the queue. Clauses see the three lists.
+#[derive(Drop)]
+pub struct CardTable {
+    dirty: Vec<bool>,
+    logs: Vec<CardLog>,
+    queue: VecDeque<u32>,
+}
+
+impl Model for CardTable {
+    ghost use Rattle.cards.specs.Cards.{Cards};
+
+    ghost Value = { Cards };
+
+    ghost use Rattle.cards.specs.Inside.{cards_of, IsSound};
+
+    ghost view = { cards_of };
+
+    ghost invariant = { IsSound };
+}
+
+impl CardTable {
+    /// All cards are clean. No call takes memory afterwards.
+    pub fn new(alloc: Global, cards: u32, mutators: u32) -> Result<CardTable, AllocError>
+        ensures { IfOk result (λ table. table ≡ clean_cards cards mutators) }
+    {
+        let dirty = vec![in alloc; false; cards as usize]?;
+        let mut logs = Vec::with_capacity(alloc, mutators as usize)?;
+        for _ in 0..mutators {
+            logs.push(CardLog::new(alloc))?;
+        }
+        let queue = VecDeque::with_capacity(alloc, cards as usize)?;
+        Ok(CardTable { dirty, logs, queue })
+    }
+
+    /// Tells a proof what is known of every table: a dirty card is listed once and a clean one not at all, and each log
+    /// has room. It does nothing.
+    pub fn law(&self)
+        ensures listed { ListsDirtyOnce self.now }
+        ensures room { All (λ log. length log < 4) self.now.logs }
+    {
+        let _ = &self.dirty;
+    }
+
+    /// Whether the card is dirty.
+    pub fn is_dirty(&self, card: Card) -> bool
+        requires { card < length self.now.dirty }
+        ensures { result ≡ is_dirty self.now card }
+    {
+        self.dirty[card.number() as usize]
+    }
+
+    /// How many cards are in the queue.
+    pub fn queued(&self) -> u32
+        ensures { result ≡ length self.now.queue }
+    {
+        self.queue.len() as u32
+    }
+
+    /// A clean card becomes dirty at the end of the mutator's log, which goes to the queue if that makes four. Where the
+    /// card is dirty nothing changes.
+    pub fn dirty(&mut self, mutator: u32, card: Card)
+        requires mutator { mutator < length self.old.logs }
+        requires card { card < length self.old.dirty }
+        ensures after { self.new ≡ dirtied self.old mutator card }
+        ensures cards { length self.new.dirty ≡ length self.old.dirty }
+        ensures mutators { length self.new.logs ≡ length self.old.logs }
+    {
+        if self.is_dirty(card) {
+            return;
+        }
+        self.dirty[card.number() as usize] = true;
+        let log = &mut self.logs[mutator as usize];
+        log.push(card);
+        if log.len() == LOG_LEN {
+            log.move_to(&mut self.queue);
+        }
+    }
+
+    /// The front of the queue leaves it, and becomes clean.
+    pub fn take(&mut self) -> Option<Card>
+        ensures empty { IfNone result ((self.old.queue ≡ []) × (self.new ≡ self.old)) }
+        ensures front { IfSome result (λ card. self.old.queue ≡ card ∷ self.new.queue) }
+        ensures cleaned { IfSome result (λ card. self.new.dirty ≡ slice_set self.old.dirty card false) }
+        ensures logs { self.new.logs ≡ self.old.logs }
+        ensures was_dirty { IfSome result (λ card. is_dirty self.old card ≡ true) }
+        ensures known { IfSome result (λ card. card < length self.old.dirty) }
+    {
+        let card = self.queue.pop_front()?;
+        self.dirty[card as usize] = false;
+        Some(Card::new(card))
+    }
+
+    /// A clean card becomes dirty at the queue's end.
+    pub fn append(&mut self, card: Card)
+        requires card { card < length self.old.dirty }
+        requires clean { is_dirty self.old card ≡ false }
+        ensures { self.new ≡ appended self.old card }
+    {
+        self.dirty[card.number() as usize] = true;
+        self.queue.push_back_reserved(card.number());
+    }
+
+    /// A clean card becomes dirty at the queue's front.
+    pub fn put_back(&mut self, card: Card)
+        requires card { card < length self.old.dirty }
+        requires clean { is_dirty self.old card ≡ false }
+        ensures { self.new ≡ put_in_front self.old card }
+    {
+        self.dirty[card.number() as usize] = true;
+        self.queue.push_front_reserved(card.number());
+    }
+
+    /// All logs go to the queue, by mutator.
+    pub fn flush_all(&mut self)
+        ensures { self.new ≡ flushed self.old }
+    {
+        for mutator in 0..self.logs.len() {
+            let log = &mut self.logs[mutator];
+            log.move_to(&mut self.queue);
+        }
+    }
+}
+
+/// Which cards are dirty after each call: the one that it names changes, and no other.
+pub fn dirty_law()
+    ensures dirtied { (t : Cards) (mutator card other : ℕ) → card < length t.dirty → is_dirty (dirtied t mutator card) other ≡ (other == card || is_dirty t other) }
+    ensures appended { (t : Cards) (card other : ℕ) → card < length t.dirty → is_dirty (appended t card) other ≡ (other == card || is_dirty t other) }
+    ensures put_in_front { (t : Cards) (card other : ℕ) → card < length t.dirty → is_dirty (put_in_front t card) other ≡ (other == card || is_dirty t other) }
+    ensures cleaned { (t u : Cards) (card other : ℕ) → card < length t.dirty → u.dirty ≡ slice_set t.dirty card false → is_dirty u other ≡ (not (other == card) && is_dirty t other) }
+{}
+
+/// A dirty card stands in the queue or in one of the logs, and what stands there is dirty.
+pub fn listed_law()
+    ensures dirty { (t : Cards) (card : ℕ) → ListsDirtyOnce t → is_dirty t card ≡ true → Contains t.queue card ⊎ Contains (concat t.logs) card }
+    ensures queue { (t : Cards) (card : ℕ) → ListsDirtyOnce t → Contains t.queue card → is_dirty t card ≡ true }
+    ensures logs { (t : Cards) (card : ℕ) → ListsDirtyOnce t → Contains (concat t.logs) card → is_dirty t card ≡ true }
+{}
+
+#[cfg(test)]
+mod tests {
+    use super::*;
+    use std::test::Fail;
+
+    /// Three cards stay in their log. The fourth sends them to the queue, in order; a fifth begins the log anew.
+    #[test]
+    fn sends_a_full_log(rt: HostRuntime) -> Result<(), Fail> {
+        let mut table = CardTable::new(rt.alloc(), 10, 2)?;
+        table.dirty(0, Card::new(3));
+        table.dirty(0, Card::new(9));
+        table.dirty(0, Card::new(1));
+        assert_eq!(rt; table.queued(), 0);
+        assert!(rt; table.is_dirty(Card::new(9)) && !table.is_dirty(Card::new(7)));
+        table.dirty(0, Card::new(7));
+        assert!(rt; table.queued() == 4 && table.is_dirty(Card::new(7)));
+        table.dirty(0, Card::new(2));
+        assert_eq!(rt; table.queued(), 4);
+        for card in [3, 9, 1, 7] {
+            assert_eq!(rt; table.take(), Some(Card::new(card)));
+        }
+        assert_eq!(rt; table.take(), None);
+        Ok(())
+    }
+
+    /// A dirty card that is marked again changes nothing, whichever mutator marks it.
+    #[test]
+    fn lists_a_dirty_card_once(rt: HostRuntime) -> Result<(), Fail> {
+        let mut table = CardTable::new(rt.alloc(), 4, 2)?;
+        table.dirty(0, Card::new(2));
+        table.dirty(1, Card::new(2));
+        table.dirty(0, Card::new(2));
+        table.dirty(0, Card::new(2));
+        table.dirty(0, Card::new(2));
+        assert_eq!(rt; table.queued(), 0);
+        table.flush_all();
+        assert_eq!(rt; table.queued(), 1);
+        table.dirty(1, Card::new(2));
+        table.flush_all();
+        assert_eq!(rt; table.take(), Some(Card::new(2)));
+        assert_eq!(rt; table.take(), None);
+        Ok(())
+    }
+
+    /// What is taken is clean, and dirty again where it is put back, at the front, or appended, at the end.
+    #[test]
+    fn puts_back_and_appends(rt: HostRuntime) -> Result<(), Fail> {
+        let mut table = CardTable::new(rt.alloc(), 8, 1)?;
+        table.dirty(0, Card::new(4));
+        table.dirty(0, Card::new(6));
+        table.flush_all();
+        assert_eq!(rt; table.take(), Some(Card::new(4)));
+        let first = Card::new(4);
+        assert!(rt; !table.is_dirty(first));
+        if !table.is_dirty(first) {
+            table.put_back(first);
+        }
+        let last = Card::new(7);
+        if !table.is_dirty(last) {
+            table.append(last);
+        }
+        assert!(rt; table.is_dirty(first) && table.is_dirty(last));
+        for card in [4, 6, 7] {
+            assert_eq!(rt; table.take(), Some(Card::new(card)));
+        }
+        assert_eq!(rt; table.queued(), 0);
+        Ok(())
+    }
+
+    /// All logs go to the queue by mutator, and are empty then.
+    #[test]
+    fn flushes_by_mutator(rt: HostRuntime) -> Result<(), Fail> {
+        let mut table = CardTable::new(rt.alloc(), 8, 2)?;
+        table.dirty(1, Card::new(5));
+        table.dirty(0, Card::new(4));
+        table.dirty(1, Card::new(6));
+        table.flush_all();
+        assert_eq!(rt; table.queued(), 3);
+        table.flush_all();
+        for card in [4, 5, 6] {
+            assert_eq!(rt; table.take(), Some(Card::new(card)));
+        }
+        assert_eq!(rt; table.take(), None);
+        Ok(())
+    }
+}

@@ -1,0 +1,28 @@
+//! Remembered sets: for each region, cards that may hold a pointer into it from another region.
+//!
+//! Refinement looks at a dirty card, and adds it to the set of each region that its pointers lead into. A pause that
+//! reclaims the region then looks at the cards of its set, and at no other region, for the pointers that it has to set
+//! anew; the region's set is cleared when it is freed.
+//!
+//! ```text
+//!   2 cards a region: cards 6 and 7 lie in region 3
+//!
+//!   the set of region 1           inline                       sources, marked whole
+//!   add(1, 6)                     6                            -
+//!   add(1, 9), .., 16 cards       6 9 .. 40                    -
+//!   add(1, 7): no room inline     6 9 .. 40                    3      covers card 7, and all others of region 3
+//!   add(1, 6): covered already    6 9 .. 40                    3
+//!   clear(1)                      -                            -
+//! ```
+//!
+//! A set has a fixed size: room for sixteen cards, and a mark for each region that may be marked whole. It may cover
+//! more than was added, never less, and no call but the making takes memory or fails.
+#![tactic(auto)]
+
+mod set;
+pub mod sets;
+
+pub use sets::RememberedSets;
+
+#[cfg(test)]
+mod tests;

@@ -1,0 +1,74 @@
+//! The remembered set of one region.
+
+ghost use Rattle.std.specs.Prelude.{◌≡◌, ◌<◌, IfOk, length};
+ghost use Rattle.remembered_sets.specs.Sets.{empty_set, set_covers, set_with};
+
+use heap_words::addr::Card;
+use smallvec::SmallVec;
+use std::alloc::{AllocError, Global};
+use std::marker::Model;
+
+/// How many cards a set holds one by one.
+pub(crate) const INLINE: usize = 16;
+
+/// Cards, sixteen at most, and a mark for each region whose cards are all in the set. Clauses see the two lists.
+#[derive(Drop)]
+pub(crate) struct RememberedSet {
+    inline: SmallVec<u32, 16>,
+    sources: Vec<bool>,
+}
+
+impl Model for RememberedSet {
+    ghost use Rattle.remembered_sets.specs.Sets.{CardSet};
+
+    ghost Value = { CardSet };
+
+    ghost use Rattle.remembered_sets.specs.Inside.{set_of, IsSoundSet};
+
+    ghost view = { set_of };
+
+    ghost invariant = { IsSoundSet };
+}
+
+impl RememberedSet {
+    /// The empty set, among so many regions. No call takes memory afterwards.
+    pub(crate) fn new(alloc: Global, regions: u32) -> Result<RememberedSet, AllocError>
+        ensures { IfOk result (λ set. set ≡ empty_set regions) }
+    {
+        let sources = vec![in alloc; false; regions as usize]?;
+        let inline = SmallVec::new(alloc);
+        Ok(RememberedSet { inline, sources })
+    }
+
+    /// Whether the set covers a card that lies in the region `source`.
+    pub(crate) fn covers(&self, card: Card, source: u32) -> bool
+        requires { source < length self.now.sources }
+        ensures { result ≡ set_covers self.now card source }
+    {
+        self.inline.as_slice().contains(&card.number()) || self.sources[source as usize]
+    }
+
+    /// Adds a card that lies in the region `source`: inline while there is room, else by a mark for its region. A card
+    /// that is covered changes nothing.
+    pub(crate) fn add(&mut self, card: Card, source: u32)
+        requires { source < length self.old.sources }
+        ensures { self.new ≡ set_with self.old card source }
+    {
+        if self.covers(card, source) {
+            return;
+        }
+        if self.inline.len() < INLINE {
+            self.inline.push_reserved(card.number());
+        } else {
+            self.sources[source as usize] = true;
+        }
+    }
+
+    /// The set is empty.
+    pub(crate) fn clear(&mut self)
+        ensures { self.new ≡ empty_set (length self.old.sources) }
+    {
+        self.inline.clear();
+        self.sources.fill(false);
+    }
+}
