@@ -1,9 +1,9 @@
 -- Marking has ended: it is exact, and what is kept from then on shows the same graph.
-use Rattle.std.proofs.Common.{◌≡◌, ℕ, suc, ◌+◌, ◌-◌, ◌^◌, ◌<◌, Bool, true, false, not, List, [], ◌∷◌, Option, length, refl, sym, ap, ◌∙◌, subst, arith}
-use Rattle.std.specs.Prelude.{◌&&◌}
+use Rattle.std.proofs.Common.{None, Some, ◌≡◌, ℕ, suc, ◌+◌, ◌-◌, ◌^◌, ◌<◌, Bool, true, false, not, List, [], ◌∷◌, Option, length, refl, sym, ap, ◌∙◌, subst, arith}
+use Rattle.std.specs.Prelude.{◌&&◌, if◌then◌else◌}
 use Rattle.std.proofs.lemmas.List.Sums.{count_by-le-length}
 use Rattle.heap_model.specs.Graph.{Graph}
-use Rattle.heap_model.specs.Heap.{Heap, Shows}
+use Rattle.heap_model.specs.Heap.{Heap, Stored, Shows}
 use Rattle.heap_model.specs.Marking.{Marking, KeepsSnapshot, IsDone, MarksExactly, kept_after}
 use Rattle.heap_model.specs.Count.{IsReachableCount}
 use Rattle.heap_model.proofs.Finish.{exact, shows_after, reachable_kept, kept_or_new, quiet_kept}
@@ -12,7 +12,7 @@ use Rattle.heap_model.proofs.Changed.{same_shows}
 use Rattle.regions.specs.Table.{Table}
 use Rattle.regions.specs.Shaped.{IsShaped}
 use Rattle.mark_bitmap.specs.Marks.{is_marked, marked_count, HasNone}
-use Rattle.mark_bitmap.specs.Tops.{Tops, exchanged}
+use Rattle.mark_bitmap.specs.Tops.{Tops, exchanged, below_next}
 use Rattle.mark_bitmap.specs.Grey.{Scans, is_grey}
 use Rattle.mark_bitmap.specs.Kept.{MarksObjects, kept_in}
 use Rattle.mark_bitmap.proofs.KeptLaws.{swap_kept}
@@ -111,6 +111,12 @@ exchanged_stands t m m' st done e = record {
   counted = λ on. absurd (let f = e.off in cc);
 }
 
+-- what is kept once marking is over was kept
+was_kept : (marked old : Bool) (object : Option Stored) (x : Stored) → (if marked then object else (if old then None else object)) ≡ Some x → object ≡ Some x
+was_kept true old object x e = e
+was_kept false true object x e = cc
+was_kept false false object x e = e
+
 module _ (t : Table) (m m' m'' : Marker) (count : ℕ) (p : IsOver t m m') (e : IsExchanged m' m'') (counts : count ≡ marked_count m'.bitmaps.next) where
   same_kept_after : (s g : Graph) (roots : List (Option ℕ)) → Shows g (heap_of t roots m) → KeepsSnapshot s (heap_of t roots m) (marking_of t m) → (a : ℕ)
       → (heap_of t roots m'').kept a ≡ kept_after (heap_of t roots m) (marking_of t m') a
@@ -135,6 +141,7 @@ module _ (t : Table) (m m' m'' : Marker) (count : ℕ) (p : IsOver t m m') (e : 
       count = subst (λ (n : ℕ). IsReachableCount s n) (length-marked_from m'.bitmaps.next 0 ∙ sym counts) (counted s g h (marking_of t m') shows now p.done (marked_from 0 m'.bitmaps.next) (listed m'.bitmaps.next));
       shows = same_shows g (record { kept = kept_after h (marking_of t m'); roots = roots }) (heap_of t roots m'') (shows_after s g h (marking_of t m') now p.done shows) (record { kept = kept_now; roots = refl });
       all = λ n r. let (a, x, k, same) = reachable_kept s s h (marking_of t m') now p.done n r in (a, x, kept_now a ∙ k, same);
+      kept = λ a x k. was_kept (is_marked m'.bitmaps.next a) (below_next t m'.tams a) (h.kept a) x (sym (kept_now a) ∙ k);
       only = λ a x k. kept_or_new s g h (marking_of t m') now p.done a x (sym (kept_now a) ∙ k);
     }
 

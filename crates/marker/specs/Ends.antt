@@ -9,13 +9,14 @@ use Rattle.marker.specs.Views.{heap_of, marking_of, with_roles_exchanged}
 use Rattle.marker.specs.declared.marker.Marker.{Marker}
 
 -- marking from the snapshot s has ended with m', whose roles are exchanged: the marked names are those that were
--- reachable, and they are n; what is kept from now on shows the graph g, has all that was reachable in the
--- snapshot, and of what was there then nothing else
+-- reachable, and they are n; what is kept from now on shows the graph g, was kept before, has all that was
+-- reachable in the snapshot, and of what was there then nothing else
 pub record EndsMarking (s g : Graph) (t : Table) (roots : List (Option ℕ)) (m m' : Marker) (n : ℕ) : Type 0 where
   pub exact : MarksExactly s (heap_of t roots m) (marking_of t (with_roles_exchanged m'))
   pub count : IsReachableCount s n
   pub shows : Shows g (heap_of t roots m')
   pub all : (name : ℕ) → IsReachable s name → (a : ℕ) × (x : Stored) × ((heap_of t roots m').kept a ≡ Some x) × (x.name ≡ name)
+  pub kept : (a : ℕ) (x : Stored) → (heap_of t roots m').kept a ≡ Some x → (heap_of t roots m).kept a ≡ Some x
   pub only : (a : ℕ) (x : Stored) → (heap_of t roots m').kept a ≡ Some x → IsReachable s x.name ⊎ (next_name s ≤ x.name)
 
 -- so it ends whatever the snapshot, the graph and the roots, and where the snapshot is still the graph, what is kept is

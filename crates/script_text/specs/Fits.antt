@@ -42,14 +42,14 @@ pub record ConfigFits (c : Config) : Type 0 where
   pub mutators : c.mutators ≤ small
   pub first_name : c.first_name ≤ large
 
--- the steps that a script may have yet: those of mutators, and of a marking cycle
+-- the steps that a script may have yet: all but a pause
 abbrev pub is_step_yet : Step → Bool
 is_step_yet (steps.Mutator o) = true
 is_step_yet (steps.Collector collector.Begin) = true
 is_step_yet (steps.Collector (collector.Mark k)) = true
 is_step_yet (steps.Collector collector.Remark) = true
 is_step_yet (steps.Collector collector.Cleanup) = true
-is_step_yet (steps.Collector (collector.Refine k)) = false
+is_step_yet (steps.Collector (collector.Refine k)) = true
 is_step_yet (steps.Collector (collector.Pause b)) = false
 
 -- a script that has a text

@@ -1,6 +1,12 @@
 -- A new heap shows the first graph.
-use Rattle.std.proofs.Common.{◌≡◌, ℕ, zero, suc, ◌+◌, ◌*◌, ◌^◌, ◌/◌, ◌<◌, ◌≤◌, false, Option, Some, None, List, [], length, get_or, replicate, refl, ◌∙◌, ap, arith}
-use Rattle.std.specs.Prelude.{slice_get, slice_index}
+use Rattle.std.proofs.Common.{◌≡◌, ℕ, zero, suc, ◌+◌, ◌*◌, ◌^◌, ◌/◌, ◌<◌, ◌≤◌, false, Option, Some, None, List, [], length, get_or, replicate, refl, sym, ◌∙◌, ap, arith, inl, inr}
+use Rattle.std.specs.Prelude.{slice_get, slice_index, IsTrue, ◌%◌, count_ones}
+use Rattle.std.specs.Int.{is_power_of_two}
+use Rattle.std.proofs.lemmas.Nat.{zero_from_ones}
+use Rattle.std.proofs.lemmas.Bool.{cases_eq}
+use Rattle.std.proofs.lemmas.Grind.{common_steps}
+use Rattle.std.proofs.lemmas.Bool.Decides.{nat_tests}
+use lib.Count.{ones_step}
 use Rattle.std.specs.List.{AllZip}
 use Rattle.std.proofs.lemmas.List.{length-replicate}
 use Rattle.heap_model.specs.Heap.{Heap, Stored, IsShown}
@@ -14,7 +20,10 @@ use Rattle.alloc_buffers.specs.Placement.{BuffersStand, AreAbove, closed}
 use Rattle.satb_log.specs.Logs.{log_of}
 use Rattle.marker.specs.Stands.{MarkerStands}
 use Rattle.marker.specs.declared.marker.Marker.{Marker}
-use Rattle.step_core.specs.Stands.{CoreState, kept_of, heap_of, ShowsGraph, Stands, IsCore}
+use Rattle.cards.specs.Cards.{clean_cards, is_dirty}
+use Rattle.remembered_sets.specs.Sets.{empty_sets, empty_set, covers}
+use Rattle.refinement.proofs.Remembered.{remembers_none}
+use Rattle.step_core.specs.Stands.{CoreState, kept_of, heap_of, card_words, CardsFit, ShowsGraph, Stands, IsCore}
 use Rattle.step_core.proofs.Reading.{object_kept}
 
 all_free : (n k : ℕ) → get_or (replicate n Free) k Free ≡ Free
@@ -35,7 +44,7 @@ nil_shown h zero = tt
 nil_shown h (suc p) = (tt, nil_shown h p)
 
 abbrev pub first_core : Config → Marker → CoreState
-first_core g m = record { config = g; table = free_table g.regions g.words; buffers = closed g.buffer g.mutators; marker = m; roots = replicate (16 + 8 * g.mutators) None; next = g.first_name }
+first_core g m = record { config = g; table = free_table g.regions g.words; buffers = closed g.buffer g.mutators; marker = m; cards = clean_cards (g.regions * (g.words / 8)) g.mutators; sets = empty_sets g.regions (g.words / 8); roots = replicate (16 + 8 * g.mutators) None; next = g.first_name }
 
 none_kept : (g : Config) (m : Marker) (a : ℕ) (x : Stored) → kept_of (first_core g m) a ≡ Some x → ⊥
 none_kept g m a x e = let none = nothing_at g.regions g.words a in let is = object_kept (first_core g m) a x e in cc
@@ -73,6 +82,45 @@ no_logs zero k = refl
 no_logs (suc n) zero = refl
 no_logs (suc n) (suc k) = no_logs n k
 
+none_by : (o : Option Stored) → ((x : Stored) → o ≡ Some x → ⊥) → o ≡ None
+none_by None f = refl
+none_by (Some x) f = absurd (f x refl)
+
+first_none : (g : Config) (m : Marker) (a : ℕ) → kept_of (first_core g m) a ≡ None
+first_none g m a = none_by (kept_of (first_core g m) a) (λ x e. none_kept g m a x e)
+
+-- a number of two or more with one bit is even, and so is its half's case
+half : (n : ℕ) → count_ones n ≡ 1 → 2 ≤ n → (n % 2 ≡ 0) × (count_ones (n / 2) ≡ 1)
+half n one le =
+    let step = ones_step n in
+    let none : count_ones (n / 2) ≡ 0 → n / 2 ≡ 0 = zero_from_ones (n / 2) in
+    elim (cases_eq (count_ones (n / 2)) 0) [
+      | inl q ↦ absurd (let z = none q in omega arith)
+      | inr ne ↦ (omega arith, omega arith)
+    ]
+
+one_bit : (n : ℕ) → IsTrue (is_power_of_two n) → count_ones n ≡ 1
+one_bit n p = grind (arith, common_steps, nat_tests)
+
+eights : (n : ℕ) → IsTrue (is_power_of_two n) → 16 ≤ n → n ≡ n / 8 * 8
+eights n p le =
+    let first = half n (one_bit n p) (omega arith) in
+    let second = half (n / 2) first.1 (omega arith) in
+    let third = half (n / 2 / 2) second.1 (omega arith) in
+    omega (arith, first.0, second.0, third.0)
+
+-- a region is a whole number of cards
+whole : (g : Config) → Suits g → g.words ≡ g.words / 8 * 8
+whole g suits = eights g.words suits.words.power suits.words.at_least
+
+first_cards : (g : Config) → Suits g → CardsFit g (clean_cards (g.regions * (g.words / 8)) g.mutators) (empty_sets g.regions (g.words / 8))
+first_cards g suits = record {
+  whole_cards = whole g suits;
+  each_region = length-replicate g.regions (empty_set g.regions);
+  each_card = length-replicate (g.regions * (g.words / 8)) false ∙ ap (λ (n : ℕ). n * (g.words / 8)) (sym (length-replicate g.regions (empty_set g.regions)));
+  each_mutator = length-replicate g.mutators [];
+}
+
 pub first_is : (g : Config) (m : Marker) → ((t : Table) → BuffersStand t (closed g.buffer g.mutators)) → Suits g → g.first_name < 2 ^ 64 → m.running ≡ false → m.logs ≡ replicate g.mutators []
     → ((t : Table) → length t.regions ≡ g.regions → t.words_per_region ≡ g.words → MarkerStands t m) → IsCore (first_core g m)
 first_is g m stand suits names idle logs stands =
@@ -93,6 +141,8 @@ first_is g m stand suits names idle logs stands =
         above_next = first_above t g.buffer g.mutators (slice_index m.tams.next) st.next.top;
         room = λ k. let none = ap (λ (ls : List (List ℕ)). length (log_of ls k)) logs ∙ ap (λ (l : List ℕ). length l) (no_logs g.mutators k) in omega arith;
       };
+      cards = first_cards g suits;
+      remembers = remembers_none (first_core g m).table.words_per_region card_words (kept_of (first_core g m)) (is_dirty (first_core g m).cards) (covers (first_core g m).sets) (first_none g m);
       places = length-replicate (16 + 8 * g.mutators) None;
       names = names;
       graph = first_state g;

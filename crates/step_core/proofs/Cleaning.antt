@@ -1,8 +1,8 @@
 -- A dead region is released, and all of them one after another.
-use Rattle.std.proofs.Common.{◌≡◌, ◌≢◌, ℕ, suc, ◌+◌, ◌*◌, ◌<◌, ◌≤◌, ◌⊎◌, Bool, true, false, cond, List, Option, None, length, get_or, set, refl, sym, ◌∙◌, ap, subst, arith, inl, inr}
+use Rattle.std.proofs.Common.{◌≡◌, ◌≢◌, ℕ, suc, ◌+◌, ◌*◌, ◌/◌, ◌<◌, ◌≤◌, ◌⊎◌, Bool, true, false, cond, List, Option, None, length, get_or, set, refl, sym, ◌∙◌, ap, subst, arith, inl, inr}
 use Rattle.std.specs.Prelude.{◌↔◌, slice_index, slice_set, count_by, if◌then◌else◌}
 use Rattle.std.proofs.lemmas.Bool.{cases_lt, cases_Bool}
-use Rattle.std.proofs.lemmas.List.{get_or-set_same, get_or-set_other, get_or_past}
+use Rattle.std.proofs.lemmas.List.{get_or-set_same, get_or-set_other, get_or_past, length-set}
 use Rattle.std.proofs.lemmas.List.Sums.{sum_by-set}
 use Rattle.heap_model.specs.Graph.{Graph}
 use Rattle.heap_model.specs.Heap.{Stored}
@@ -22,9 +22,14 @@ use Rattle.mark_bitmap.proofs.LiveWords.{in_region, region_low, region_high, dea
 use Rattle.marker.specs.Stands.{MarkerStands}
 use Rattle.marker.specs.declared.marker.Marker.{Marker}
 use Rattle.marker.proofs.Forgotten.{released_stands}
-use Rattle.step_core.specs.Stands.{CoreState, kept_of, heap_of, ShowsGraph, KeepsFrom, IsCore}
+use Rattle.cards.specs.Cards.{is_dirty}
+use Rattle.remembered_sets.specs.Sets.{Sets, CardSet, cleared, covers, set_covers, empty_set, card_count}
+use Rattle.refinement.specs.Remembering.{Remembers}
+use Rattle.refinement.proofs.Remembered.{remembers_cleared, none_leads}
+use Rattle.heap_model.proofs.Shown.{closed}
+use Rattle.step_core.proofs.Remembering.{same_fields}
+use Rattle.step_core.specs.Stands.{CoreState, kept_of, heap_of, card_words, RemembersFields, CardsFit, ShowsGraph, KeepsFrom, IsCore}
 use Rattle.step_core.specs.Cycle.{KeepsAll, IsReclaimed, IsDead, HasReleased, HasCleaned}
-use Rattle.step_core.proofs.Storing.{with_store}
 
 -- an address in no region lies below or above it
 outside : (words k a : ℕ) → is_in_region words k a ≡ false → (a < k * words) ⊎ (k * words + words ≤ a)
@@ -86,9 +91,9 @@ module _ (k : CoreState) (core : IsCore k) (shaped : IsShaped k.table) (n : ℕ)
     (m : Marker) (st : MarkerStands k.table m) (running : m.running ≡ false) (tops : m.tams ≡ with_bottom k.marker.tams n (n * k.table.words_per_region))
     (previous : (a : ℕ) → is_marked m.bitmaps.previous a ≡ (if is_in_region k.table.words_per_region n a then false else is_marked k.marker.bitmaps.previous a))
     (next : (a : ℕ) → is_marked m.bitmaps.next a ≡ (if is_in_region k.table.words_per_region n a then false else is_marked k.marker.bitmaps.next a))
-    (logs : m.logs ≡ k.marker.logs) where
+    (logs : m.logs ≡ k.marker.logs) (ss : Sets) (empty : ss ≡ cleared k.sets n) where
   abbrev after : CoreState
-  after = with_store k (released k.table n) m
+  after = record k { table = released k.table n; marker = m; sets = ss }
 
   releases : Releases k.table (released k.table n) n
   releases = region_released k.table n shaped.positive known dead.ordinary
@@ -102,6 +107,13 @@ module _ (k : CoreState) (core : IsCore k) (shaped : IsShaped k.table) (n : ℕ)
       (objects_left k.table (released k.table n) n releases) previous a
       ∙ none_kept (is_in_region k.table.words_per_region n a) (kept_in k.table k.marker.tams k.marker.bitmaps.previous a)
       (λ inside. dead_kept k.table k.marker.tams k.marker.bitmaps.previous n a shaped dead.ordinary gone inside)
+
+  -- nothing of the region was kept
+  dead_none : (a : ℕ) → is_in_region k.table.words_per_region n a ≡ true → kept_of k a ≡ None
+  unfolding kept_of
+  dead_none a inside =
+      dead_kept k.table k.marker.tams k.marker.bitmaps.previous n a shaped dead.ordinary
+      (dead_of_zero k.table k.marker.tams.previous k.marker.bitmaps.previous n core.layers.marker.previous known dead.live_bound) inside
 
   keeps_all : KeepsAll k after
   keeps_all = record { config = refl; kept = kept_same; roots = refl; next = refl }
@@ -144,6 +156,28 @@ module _ (k : CoreState) (core : IsCore k) (shaped : IsShaped k.table) (n : ℕ)
       (λ a i. unmarked (is_marked k.marker.bitmaps.previous a) (is_marked m.bitmaps.previous a) _ (previous a) i)
       (λ a i. unmarked (is_marked k.marker.bitmaps.next a) (is_marked m.bitmaps.next a) _ (next a) i) previous_there next_there
 
+  none_there : (a : ℕ) → is_in_region k.table.words_per_region n a ≡ true → kept_of after a ≡ None
+  none_there a inside = kept_same a ∙ dead_none a inside
+
+  covers_others : (r card : ℕ) → r ≢ n → covers k.sets r card ≡ true → covers ss r card ≡ true
+  covers_others r card ne e = ap (λ (x : Sets). covers x r card) empty ∙ ap (λ (x : CardSet). set_covers x card (card / k.sets.cards_per_region)) (get_or-set_other k.sets.sets n r (empty_set (length k.sets.sets)) (empty_set 0) ne) ∙ e
+
+  remembers_after : RemembersFields after
+  remembers_after =
+      let shows = release_shows core.graph core.stands.shows in
+      let none = none_leads k.table.words_per_region n (heap_of after) shaped.positive (closed core.graph (heap_of after) shows.shows) none_there in
+      subst (λ (w : ℕ). Remembers w (kept_of after) card_words (is_dirty k.cards) (covers ss)) (sym releases.size)
+      (remembers_cleared k.table.words_per_region card_words n (kept_of k) (kept_of after) (is_dirty k.cards) (covers k.sets) (covers ss)
+      (same_fields (kept_of k) (kept_of after) kept_same) none covers_others core.remembers)
+
+  cards_fit : CardsFit k.config k.cards ss
+  cards_fit = record {
+    whole_cards = core.cards.whole_cards ∙ ap (λ (x : Sets). x.cards_per_region * card_words) (sym empty);
+    each_region = ap (λ (x : Sets). length x.sets) empty ∙ length-set k.sets.sets n (empty_set (length k.sets.sets)) ∙ core.cards.each_region;
+    each_card = core.cards.each_card ∙ ap (λ (c : ℕ). c * k.sets.cards_per_region) (sym (length-set k.sets.sets n (empty_set (length k.sets.sets)))) ∙ sym (ap (λ (x : Sets). card_count x) empty);
+    each_mutator = core.cards.each_mutator;
+  }
+
   pub release_kept : IsCore after
   release_kept =
       let gone = dead_of_zero k.table k.marker.tams.previous k.marker.bitmaps.previous n core.layers.marker.previous known dead.live_bound in
@@ -162,6 +196,8 @@ module _ (k : CoreState) (core : IsCore k) (shaped : IsShaped k.table) (n : ℕ)
           above_next = above_released k.table k.buffers (slice_index k.marker.tams.next) (slice_index m.tams.next) n shaped core.layers.above_next known dead.ordinary next_other next_there;
           room = λ i. rw logs (core.layers.room i);
         };
+        cards = cards_fit;
+        remembers = remembers_after;
         places = core.places;
         names = core.names;
         graph = core.graph;

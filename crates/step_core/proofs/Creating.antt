@@ -29,6 +29,7 @@ use Rattle.step_core.specs.Answers.{Acts, HasNoPlace}
 use Rattle.step_core.proofs.Acting.{acts_by}
 use Rattle.step_core.proofs.Added.{Fills, fills, was_none}
 use Rattle.step_core.proofs.Written.{kept_is, kept_above, kept_same, marking_same}
+use Rattle.step_core.proofs.Remembering.{remembers_new}
 use Rattle.step_core.proofs.Layers.{follows_of, stands_over}
 use Rattle.alloc_buffers.proofs.Above.{above_same}
 
@@ -49,7 +50,7 @@ nil_get (suc p) (suc i) b e = nil_get p i b e
 
 -- the core with a new object
 abbrev pub with_new : CoreState → Table → Buffers → ℕ → ℕ → CoreState
-with_new c t b place a = record { config = c.config; table = t; buffers = b; marker = c.marker; roots = slice_set c.roots place (Some a); next = c.next + 1 }
+with_new c t b place a = record c { table = t; buffers = b; roots = slice_set c.roots place (Some a); next = c.next + 1 }
 
 -- what lies above the tops of a region isn't below them
 above_below : (words : ℕ) (tops : List ℕ) (a : ℕ) → 0 < words → IsAbove words (slice_index tops) a → is_below words tops a ≡ false
@@ -147,6 +148,8 @@ module _ (k : CoreState) (m : ℕ) (to : Register) (t1 t2 : Table) (b1 : Buffers
           above_next = next;
           room = core.layers.room;
         };
+        cards = core.cards;
+        remembers = remembers_new k (new (register_place m to.number)) a (new_object k.next p d) (register_place m to.number) words refl refl (added (register_place m to.number)) core.remembers;
         places = length-set k.roots (register_place m to.number) (Some a) ∙ core.places;
         names = (let old = core.names in omega arith);
         graph = (act core.graph m (actions.New to p d)).1;

@@ -18,12 +18,13 @@ use Rattle.marker.specs.Steps.{SameRoles, KeepsSnapshots}
 use Rattle.marker.specs.Ends.{EndsExactly}
 use Rattle.marker.specs.declared.marker.Marker.{Marker}
 use Rattle.marker.proofs.Views.{same_heap, previous_heap}
-use Rattle.step_core.specs.Stands.{CoreState, kept_of, heap_of, ShowsGraph, KeepsFrom, IsCore}
+use Rattle.step_core.specs.Stands.{CoreState, kept_of, heap_of, RemembersFields, ShowsGraph, KeepsFrom, IsCore}
 use Rattle.step_core.specs.Cycle.{KeepsAll, HasBegun, HasMarked, HasRemarked}
 use Rattle.step_core.proofs.Layers.{layers_marked}
+use Rattle.step_core.proofs.Remembering.{remembers_on, same_fields}
 
 abbrev pub with_marker : CoreState → Buffers → Marker → CoreState
-with_marker c b m = record { config = c.config; table = c.table; buffers = b; marker = m; roots = c.roots; next = c.next }
+with_marker c b m = record c { buffers = b; marker = m }
 
 -- a fact of the core's value is one of its fields
 pub to_fields : (k c : CoreState) → k ≡ c → (P : CoreState → Type 0) → P c → P k
@@ -42,6 +43,10 @@ shows_same c b m e g s = record { room = s.room; mutators = s.mutators; next = s
 all_same : (c : CoreState) (b : Buffers) (m : Marker) → views.heap_of c.table c.roots m ≡ views.heap_of c.table c.roots c.marker → KeepsAll c (with_marker c b m)
 unfolding kept_of
 all_same c b m e = record { config = refl; kept = λ a. ap (λ (h : Heap). h.kept a) e; roots = refl; next = refl }
+
+remembers_same : (c : CoreState) (b : Buffers) (m : Marker) → views.heap_of c.table c.roots m ≡ views.heap_of c.table c.roots c.marker → RemembersFields c → RemembersFields (with_marker c b m)
+unfolding kept_of
+remembers_same c b m e r = remembers_on c (with_marker c b m) refl refl refl (same_fields (kept_of c) (kept_of (with_marker c b m)) (λ a. ap (λ (h : Heap). h.kept a) e)) r
 
 -- marking begins
 module _ (k : CoreState) (core : IsCore k) (b : Buffers) (m : Marker) (retires : b ≡ retired k.buffers)
@@ -83,6 +88,8 @@ module _ (k : CoreState) (core : IsCore k) (b : Buffers) (m : Marker) (retires :
       above_next = above k.table (slice_index m.tams.next) st.next.top;
       room = λ n. rw logs (core.layers.room n);
     };
+    cards = core.cards;
+    remembers = remembers_same k b m heap_begun core.remembers;
     places = core.places;
     names = core.names;
     graph = core.graph;
@@ -122,6 +129,8 @@ module _ (k : CoreState) (core : IsCore k) (run : k.marker.running ≡ true) (m 
   marked_kept = record {
     suits = core.suits;
     layers = layers_marked k.config k.table k.buffers k.marker m core.layers st same.tams (ap (λ (ls : List (List ℕ)). length ls) logs) (λ n. rw logs (core.layers.room n));
+    cards = core.cards;
+    remembers = remembers_same k k.buffers m heap_marked core.remembers;
     places = core.places;
     names = core.names;
     graph = core.graph;
@@ -147,6 +156,13 @@ module _ (k : CoreState) (core : IsCore k) (run : k.marker.running ≡ true) (m 
     next = s.next;
     shows = (exact.ends core.snapshot g k.roots s.shows (core.stands.keeps.marking run)).shows;
   }
+
+  -- what is kept then was kept before
+  remarked_remembers : RemembersFields (with_marker k k.buffers m)
+  unfolding kept_of
+  remarked_remembers =
+      let ends = exact.ends core.snapshot core.graph k.roots core.stands.shows.shows (core.stands.keeps.marking run) in
+      remembers_on k (with_marker k k.buffers m) refl refl refl (λ a o e. (o, ends.kept a o e, refl)) core.remembers
 
   pub remarked_keeps : (s : Graph) → KeepsFrom s k → KeepsFrom s (with_marker k k.buffers m)
   remarked_keeps s f = record { earlier = f.earlier; marking = λ on. absurd cc }
@@ -184,6 +200,8 @@ module _ (k : CoreState) (core : IsCore k) (run : k.marker.running ≡ true) (m 
       above_next = rw tops core.layers.above_previous;
       room = λ i. let none = none_in m.logs i (st.idle over) in omega arith;
     };
+    cards = core.cards;
+    remembers = remarked_remembers;
     places = core.places;
     names = core.names;
     graph = core.graph;

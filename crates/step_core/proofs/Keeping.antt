@@ -3,7 +3,7 @@ use Rattle.std.proofs.Common.{◌≡◌, ℕ, ◌+◌, ◌*◌, ◌<◌, Option,
 use Rattle.std.specs.Prelude.{slice_get, IsSome, IfSome}
 use Rattle.std.proofs.lemmas.List.{get_or_read, length-set}
 use Rattle.heap_model.specs.Graph.{Graph}
-use Rattle.heap_model.specs.Heap.{Stored, IsShown, IsRoot, IsHeld}
+use Rattle.heap_model.specs.Heap.{Stored, IsShown, IsRoot, IsHeld, ObjectSet}
 use Rattle.regions.specs.Table.{Table, object_at, pointers_at, values_at, set_value}
 use Rattle.regions.proofs.Changes.{WritesObject, value_put}
 use Rattle.regions.proofs.Values.{with_value}
@@ -12,12 +12,13 @@ use Rattle.object_graph.specs.Machine.{act}
 use Rattle.object_graph.specs.declared.step.Action.TheVariants as actions
 use Rattle.object_graph.specs.declared.step.Reply.TheVariants as replies
 use Rattle.object_graph.specs.declared.step.Register.{Register}
-use Rattle.step_core.specs.Stands.{CoreState, heap_of, ShowsGraph, KeepsFrom, IsCore, IsWordOf, IsRootWord, HasObject, Leads, name_in, name_of}
+use Rattle.step_core.specs.Stands.{CoreState, kept_of, heap_of, RemembersFields, ShowsGraph, KeepsFrom, IsCore, IsWordOf, IsRootWord, HasObject, Leads, name_in, name_of}
 use Rattle.step_core.specs.Cycle.{LeavesRegions}
 use Rattle.step_core.specs.Answers.{Acts}
 use Rattle.step_core.proofs.Sizes.{some_words}
 use Rattle.step_core.proofs.Layers.{layers_writes, follows_of}
-use Rattle.step_core.proofs.Written.{write_keeps, root_keeps}
+use Rattle.step_core.proofs.Written.{object_written, write_keeps, root_keeps}
+use Rattle.step_core.proofs.Remembering.{remembers_on, written_fields}
 use Rattle.step_core.proofs.Reading.{root_shown, leads, root_word, root_rooted, object_kept, pointers_there, field_held, led_object, word_object}
 use Rattle.step_core.proofs.Acting.{root_shows, with_root_word, write_done, field_word}
 
@@ -59,6 +60,10 @@ module _ (k c : CoreState) (place : ℕ) (w : Option ℕ) (e : k ≡ c) where
     pub root_kept_from : (s : Graph) → KeepsFrom s c → KeepsFrom s (with_root_word k place w)
     root_kept_from s = subst (λ (d : CoreState). KeepsFrom s d → KeepsFrom s (with_root_word k place w)) e (root_keeps core.graph s k place w _ core.stands.shows held' refl)
 
+    root_remembers : RemembersFields (with_root_word k place w)
+    unfolding kept_of
+    root_remembers = core.remembers
+
     pub root_leaves : LeavesRegions c (with_root_word k place w)
     root_leaves = subst (λ (d : CoreState). LeavesRegions d (with_root_word k place w)) e (record { config = refl; running = refl; scans = refl; in_use = λ n h. h })
 
@@ -68,6 +73,8 @@ module _ (k c : CoreState) (place : ℕ) (w : Option ℕ) (e : k ≡ c) where
         record {
           suits = core.suits;
           layers = core.layers;
+          cards = core.cards;
+          remembers = root_remembers;
           places = length-set k.roots place w ∙ core.places;
           names = core.names;
           graph = with_root core.graph place word'.name;
@@ -109,6 +116,9 @@ module _ (k c : CoreState) (e : k ≡ c) (core : IsCore k) (m : ℕ) (object : R
   writes : WritesObject k.table t a h.stored (with_value h.stored i v)
   writes = subst (λ (u : Table). WritesObject k.table u a h.stored (with_value h.stored i v)) (sym is) (value_put k.table a i v h.stored (some_words k core) (object_kept k a h.stored h.at))
 
+  write_set : ObjectSet (heap_of k) (heap_of (record k { table = t })) a h.stored (with_value h.stored i v)
+  write_set = object_written k (record k { table = t }) a h.stored (with_value h.stored i v) writes refl h.at (record { tams = refl; previous = refl; roots = refl })
+
   keeps_by : (s : Graph) → KeepsFrom s k → KeepsFrom s (record k { table = t })
   keeps_by s f = write_keeps s k t a h.stored (with_value h.stored i v) writes refl h.at refl f
 
@@ -125,6 +135,9 @@ module _ (k c : CoreState) (e : k ≡ c) (core : IsCore k) (m : ℕ) (object : R
       record {
         suits = core.suits;
         layers = layers_writes k.config k.table t k.buffers k.marker a h.stored (with_value h.stored i v) writes core.layers (follows_of (record k { table = t }) _ core.snapshot shows keeps);
+        cards = core.cards;
+        remembers = remembers_on k (record k { table = t }) writes.size refl refl
+            (written_fields (heap_of k) (heap_of (record k { table = t })) a h.stored (with_value h.stored i v) write_set refl) core.remembers;
         places = core.places;
         names = core.names;
         graph = (act core.graph m (actions.Write object i v)).1;

@@ -1,14 +1,17 @@
 pub mod Sizes
 pub mod Reading
 pub mod Written
+pub mod Remembering
 pub mod Added
 pub mod Layers
 pub mod Acting
 pub mod Keeping
 pub mod Storing
 pub mod Stored
+pub mod Noting
 pub mod Creating
 pub mod Cycling
 pub mod Cleaning
+pub mod Refined
 pub mod Following
 pub mod Beginning

@@ -14,8 +14,10 @@ use Rattle.marker.specs.Views as views
 use Rattle.marker.specs.Stands.{MarkerStands, IsKept}
 use Rattle.marker.specs.Steps.{SameRoles, KeepsSnapshots}
 use Rattle.marker.specs.declared.marker.Marker.{Marker}
-use Rattle.step_core.specs.Stands.{CoreState, kept_of, heap_of, ShowsGraph, KeepsFrom, IsCore}
+use Rattle.step_core.specs.Stands.{CoreState, kept_of, heap_of, card_words, ShowsGraph, KeepsFrom, IsCore}
 use Rattle.step_core.specs.Cycle.{LeavesRegions}
+use Rattle.cards.specs.Cards.{is_dirty}
+use Rattle.refinement.specs.Remembering.{field_word, IsNoted}
 use Rattle.step_core.proofs.Storing as storing
 use Rattle.step_core.proofs.Storing.{with_store, Rooted, rooted, overwritten_kept}
 
@@ -68,42 +70,45 @@ module _ (k c : CoreState) (e : k ≡ c) (core : IsCore k) (a i : ℕ) (w : Opti
   pub was_kept : (was : Option ℕ) → slice_get (pointers_at k.table a) i ≡ Some was → (b : ℕ) → was ≡ Some b → IsKept k.table k.marker b
   was_kept was is b there = overwritten_kept k a i b was core r' is there
 
-  module _ (t : Table) (is : t ≡ set_pointer k.table a i w) where
+  module _ (noted : IsNoted c.table.words_per_region card_words (is_dirty c.cards) (field_word a i) w) (t : Table) (is : t ≡ set_pointer k.table a i w) where
+    noted' : IsNoted k.table.words_per_region card_words (is_dirty k.cards) (field_word a i) w
+    noted' = subst (λ (d : CoreState). IsNoted d.table.words_per_region card_words (is_dirty d.cards) (field_word a i) w) (sym e) noted
+
     pub store_shows : (m : Marker) → SameRoles k.marker m → (g : Graph) (y : Stored) (o : Object) (v : Option ℕ) → ShowsGraph g c → kept_of c a ≡ Some y → object_named g y.name ≡ Some o → IsShown (heap_of c) w v
         → ShowsGraph (with_changed g y.name (record { pointers = slice_set o.pointers i v; values = o.values })) (with_store k t m)
     store_shows m same =
         subst (λ (d : CoreState). (g : Graph) (y : Stored) (o : Object) (v : Option ℕ) → ShowsGraph g d → kept_of d a ≡ Some y → object_named g y.name ≡ Some o → IsShown (heap_of d) w v
         → ShowsGraph (with_changed g y.name (record { pointers = slice_set o.pointers i v; values = o.values })) (with_store k t m)) e
-        (storing.store_shows k core a i w t root' within' held' is r' m same)
+        (storing.store_shows k core a i w t root' within' held' is r' noted' m same)
 
     pub idle_shows : (g : Graph) (y : Stored) (o : Object) (v : Option ℕ) → ShowsGraph g c → kept_of c a ≡ Some y → object_named g y.name ≡ Some o → IsShown (heap_of c) w v
         → ShowsGraph (with_changed g y.name (record { pointers = slice_set o.pointers i v; values = o.values })) (with_store k t k.marker)
     idle_shows = store_shows k.marker (record { previous = refl; tams = refl; running = refl })
 
     pub store_leaves : (m : Marker) → m.running ≡ k.marker.running → m.scans ≡ k.marker.scans → LeavesRegions c (with_store k t m)
-    store_leaves m running scans = subst (λ (d : CoreState). LeavesRegions d (with_store k t m)) e (storing.store_leaves k core a i w t root' within' held' is r' m running scans)
+    store_leaves m running scans = subst (λ (d : CoreState). LeavesRegions d (with_store k t m)) e (storing.store_leaves k core a i w t root' within' held' is r' noted' m running scans)
 
     pub idle_leaves : LeavesRegions c (with_store k t k.marker)
     idle_leaves = store_leaves k.marker refl refl
 
     pub idle_kept : k.marker.running ≡ false → IsCore (with_store k t k.marker)
-    idle_kept = storing.idle_kept k core a i w t root' within' held' is r'
+    idle_kept = storing.idle_kept k core a i w t root' within' held' is r' noted'
 
     module _ (m : Marker) (same : SameRoles k.marker m) (was : Option ℕ) (there : slice_get (pointers_at k.table a) i ≡ Some was)
         (saved : IsSaved (views.marking_of k.table k.marker) (views.marking_of k.table m) was) (st : MarkerStands k.table m) (running : m.running ≡ true) where
       pub saved_stands : MarkerStands t m
-      saved_stands = storing.mid_stands k core a i w t root' within' held' is r' m same was there saved st
+      saved_stands = storing.mid_stands k core a i w t root' within' held' is r' noted' m same was there saved st
 
       pub saved_keeps : (s : Graph) → KeepsFrom s c → KeepsFrom s (with_store k t m)
-      saved_keeps s f = storing.mid_keeps k core a i w t root' within' held' is r' m same was there saved st s (subst (λ (d : CoreState). KeepsFrom s d) (sym e) f)
+      saved_keeps s f = storing.mid_keeps k core a i w t root' within' held' is r' noted' m same was there saved st s (subst (λ (d : CoreState). KeepsFrom s d) (sym e) f)
 
       module _ (m2 : Marker) (then : SameRoles m m2) (snapshots : KeepsSnapshots t m m2) (st2 : MarkerStands t m2)
           (logs : length m2.logs ≡ length k.marker.logs) (room : (mutator : ℕ) → length (log_of m2.logs mutator) < 8) where
         pub taken_kept : IsCore (with_store k t m2)
-        taken_kept = storing.last_kept k core a i w t root' within' held' is r' m same was there saved st m2 then snapshots st2 logs room running
+        taken_kept = storing.last_kept k core a i w t root' within' held' is r' noted' m same was there saved st m2 then snapshots st2 logs room running
 
         pub taken_keeps : (s : Graph) → KeepsFrom s c → KeepsFrom s (with_store k t m2)
-        taken_keeps s f = storing.last_keeps k core a i w t root' within' held' is r' m same was there saved st m2 then snapshots st2 logs room running s (subst (λ (d : CoreState). KeepsFrom s d) (sym e) f)
+        taken_keeps s f = storing.last_keeps k core a i w t root' within' held' is r' noted' m same was there saved st m2 then snapshots st2 logs room running s (subst (λ (d : CoreState). KeepsFrom s d) (sym e) f)
 
       same_then : SameRoles m m
       same_then = record { previous = refl; tams = refl; running = refl }

@@ -17,9 +17,12 @@ use Rattle.marker.specs.Views as views
 use Rattle.marker.specs.Stands.{MarkerStands, CanFollow, IsKept}
 use Rattle.marker.specs.Steps.{SameRoles, KeepsSnapshots}
 use Rattle.marker.specs.declared.marker.Marker.{Marker}
-use Rattle.step_core.specs.Stands.{CoreState, kept_of, heap_of, marking_of, ShowsGraph, KeepsFrom, IsCore}
+use Rattle.step_core.specs.Stands.{CoreState, kept_of, heap_of, marking_of, card_words, RemembersFields, ShowsGraph, KeepsFrom, IsCore}
 use Rattle.step_core.specs.Cycle.{LeavesRegions}
 use Rattle.step_core.proofs.Sizes.{some_words}
+use Rattle.step_core.proofs.Remembering.{remembers_stored}
+use Rattle.cards.specs.Cards.{is_dirty}
+use Rattle.refinement.specs.Remembering.{field_word, IsNoted}
 use Rattle.step_core.proofs.Reading.{object_kept, pointers_there}
 use Rattle.step_core.proofs.Written.{SameKeeping, object_written, marking_same}
 use Rattle.step_core.proofs.Acting.{object_shows}
@@ -47,14 +50,15 @@ overwritten_kept c a i b w core r is e =
 
 -- the core with the table and the marker changed
 abbrev pub with_store : CoreState → Table → Marker → CoreState
-with_store c t m = record { config = c.config; table = t; buffers = c.buffers; marker = m; roots = c.roots; next = c.next }
+with_store c t m = record c { table = t; marker = m }
 
 -- the marks and tops that tell what is kept stay
 pub same_keeping : (c : CoreState) (t : Table) (m : Marker) → SameRoles c.marker m → SameKeeping c (with_store c t m)
 same_keeping c t m same = record { tams = ap (λ tams. Tops.previous tams) same.tams; previous = same.previous; roots = refl }
 
 module _ (k : CoreState) (core : IsCore k) (a i : ℕ) (w : Option ℕ) (t : Table) (root : IsRoot (heap_of k) a) (within : i < length (pointers_at k.table a))
-    (held : IsHeld (heap_of k) w) (is : t ≡ set_pointer k.table a i w) (r : Rooted k a) where
+    (held : IsHeld (heap_of k) w) (is : t ≡ set_pointer k.table a i w) (r : Rooted k a)
+    (noted : IsNoted k.table.words_per_region card_words (is_dirty k.cards) (field_word a i) w) where
   abbrev pub x : Stored
   x = r.stored
 
@@ -96,12 +100,16 @@ module _ (k : CoreState) (core : IsCore k) (a i : ℕ) (w : Option ℕ) (t : Tab
           a x (with_pointer x i w) i was w root held (ap (λ (ps : List (Option ℕ)). slice_get ps i) (sym (pointers_there k a x at)) ∙ there) set_in refl saved);
     }
 
+  pub same_roles : SameRoles k.marker k.marker
+  same_roles = record { previous = refl; tams = refl; running = refl }
+
+  -- the field's card is noted, so all stays remembered
+  pub store_remembers : (m : Marker) (same : SameRoles k.marker m) → RemembersFields (with_store k t m)
+  store_remembers m same = remembers_stored k (with_store k t m) a i w x (with_pointer x i w) writes.size refl refl (set_in m same) refl noted core.remembers
+
   -- while marking doesn't run there is nothing to save
   pub idle_keeps : k.marker.running ≡ false → (s : Graph) → KeepsFrom s k → KeepsFrom s (with_store k t k.marker)
   idle_keeps idle s f = record { earlier = f.earlier; marking = λ run. absurd cc }
-
-  pub same_roles : SameRoles k.marker k.marker
-  same_roles = record { previous = refl; tams = refl; running = refl }
 
   -- the word that is stored, as the invariant's graph has it
   pub held_name : (v : Option ℕ) × IsShown (heap_of k) w v
@@ -131,6 +139,8 @@ module _ (k : CoreState) (core : IsCore k) (a i : ℕ) (w : Option ℕ) (t : Tab
   idle_kept idle = record {
     suits = core.suits;
     layers = layers_writes k.config k.table t k.buffers k.marker a x (with_pointer x i w) writes core.layers (λ run. absurd cc);
+    cards = core.cards;
+    remembers = store_remembers k.marker same_roles;
     places = core.places;
     names = core.names;
     graph = graph_after;
@@ -174,6 +184,8 @@ module _ (k : CoreState) (core : IsCore k) (a i : ℕ) (w : Option ℕ) (t : Tab
           record {
             suits = core.suits;
             layers = layers_changed k.config k.table t k.buffers k.marker m2 a x (with_pointer x i w) writes core.layers st2 same2.tams logs room;
+            cards = core.cards;
+            remembers = store_remembers m2 same2;
             places = core.places;
             names = core.names;
             graph = graph_after;

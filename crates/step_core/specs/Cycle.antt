@@ -1,5 +1,5 @@
 -- What each step of the collector does to a core, exactly.
-use Rattle.std.specs.Prelude.{◌≡◌, ◌≢◌, ℕ, suc, ◌+◌, ◌<◌, ◌≤◌, ◌↔◌, ⊤, true, false, Some, length, count_by}
+use Rattle.std.specs.Prelude.{◌≡◌, ◌≢◌, ℕ, suc, ◌+◌, ◌<◌, ◌≤◌, ◌↔◌, ⊤, Bool, true, false, Some, [], ◌∷◌, length, drop, min, count_by}
 use Rattle.heap_model.specs.Graph.{Graph, IsReachable}
 use Rattle.heap_model.specs.Heap.{Stored}
 use Rattle.heap_model.specs.Marking.{Begins}
@@ -90,13 +90,39 @@ pub record HasCleaned (n : ℕ) (c c' : CoreState) : Type 0 where
   pub reclaimed : (k : ℕ) → IsReclaimed c.table c'.table k ↔ IsDead c k
   pub count : count_by is_free c'.table.regions ≡ count_by is_free c.table.regions + n
 
--- a step of the collector that the heap does: a part of a marking cycle
+-- the card was the queue's front, and isn't in it now
+pub record HasTaken (card : ℕ) (c c' : CoreState) : Type 0 where
+  pub all : KeepsAll c c'
+  pub table : c'.table ≡ c.table
+  pub buffers : c'.buffers ≡ c.buffers
+  pub marker : c'.marker ≡ c.marker
+  pub queue : c.cards.queue ≡ card ∷ c'.cards.queue
+  pub logs : c'.cards.logs ≡ c.cards.logs
+
+-- the front of the queue was refined, and nothing else of the core changed but what sets cover; or the queue is empty, and
+-- nothing changed
+abbrev pub RefinesCard : Bool → CoreState → CoreState → Type 0
+RefinesCard true c c' = (card : ℕ) × HasTaken card c c'
+RefinesCard false c c' = (c.cards.queue ≡ []) × (c' ≡ c)
+
+-- the first n cards of the queue were refined, k at most, and fewer only if there are no more; the rest of the queue stays, and
+-- what stands in the logs
+pub record HasRefined (k n : ℕ) (c c' : CoreState) : Type 0 where
+  pub all : KeepsAll c c'
+  pub table : c'.table ≡ c.table
+  pub buffers : c'.buffers ≡ c.buffers
+  pub marker : c'.marker ≡ c.marker
+  pub count : n ≡ min k (length c.cards.queue)
+  pub queue : c'.cards.queue ≡ drop n c.cards.queue
+  pub logs : c'.cards.logs ≡ c.cards.logs
+
+-- a step of the collector that the heap does: a part of a marking cycle, and refinement
 abbrev pub IsCycleStep : CollectorStep → Type 0
 IsCycleStep collector.Begin = ⊤
 IsCycleStep (collector.Mark k) = ⊤
 IsCycleStep collector.Remark = ⊤
 IsCycleStep collector.Cleanup = ⊤
-IsCycleStep (collector.Refine k) = ⊥
+IsCycleStep (collector.Refine k) = ⊤
 IsCycleStep (collector.Pause k) = ⊥
 
 -- a step of the collector is done, or refused, which changes nothing. Begin and cleanup are refused while marking runs,
@@ -110,6 +136,7 @@ Collects collector.Remark (replies.Marked n) c c' = (c.marker.running ≡ true) 
 Collects collector.Remark (replies.Refused refusals.NotMarking) c c' = (c.marker.running ≡ false) × (c' ≡ c)
 Collects collector.Cleanup (replies.Reclaimed n) c c' = (c.marker.running ≡ false) × HasCleaned n c c'
 Collects collector.Cleanup (replies.Refused refusals.MarkRunning) c c' = (c.marker.running ≡ true) × (c' ≡ c)
+Collects (collector.Refine k) (replies.Refined n) c c' = HasRefined k n c c'
 Collects _ _ _ _ = ⊥
 
 -- a mutator's step does none of the collector's work: marking runs as before, no object is scanned, and each region in

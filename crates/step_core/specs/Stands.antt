@@ -15,6 +15,9 @@ use Rattle.satb_log.specs.Logs.{log_of}
 use Rattle.marker.specs.declared.marker.Marker.{Marker}
 use Rattle.marker.specs.Stands.{MarkerStands}
 use Rattle.marker.specs.Views as views
+use Rattle.cards.specs.Cards.{Cards, is_dirty}
+use Rattle.remembered_sets.specs.Sets.{Sets, card_count, covers}
+use Rattle.refinement.specs.Remembering.{Remembers}
 use Rattle.object_graph.specs.State.{root_at}
 
 pub record CoreState : Type 0 where
@@ -22,6 +25,9 @@ pub record CoreState : Type 0 where
   pub table : Table
   pub buffers : Buffers
   pub marker : Marker
+  pub cards : Cards
+  -- the remembered set of each region
+  pub sets : Sets
   -- the globals, and each mutator's registers
   pub roots : List (Option ℕ)
   -- the name of the next object
@@ -38,6 +44,15 @@ heap_of c = record { kept = kept_of c; roots = c.roots }
 -- what the theory sees of marking
 abbrev pub marking_of : CoreState → Marking
 marking_of c = views.marking_of c.table c.marker
+
+-- how many words a card has
+abbrev pub card_words : ℕ
+card_words = 8
+
+-- cross-region pointers are remembered: the card of each field of a kept object that leads into another region than
+-- its word's is dirty, or the other region's set covers it
+abbrev pub RemembersFields : CoreState → Type 0
+RemembersFields c = Remembers c.table.words_per_region (kept_of c) card_words (is_dirty c.cards) (covers c.sets)
 
 -- the heap shows the graph, whose next name is the core's
 pub record ShowsGraph (g : Graph) (c : CoreState) : Type 0 where
@@ -77,10 +92,19 @@ pub record LayersFit (config : Config) (t : Table) (b : Buffers) (m : Marker) : 
   pub above_next : AreAbove t b (slice_index m.tams.next)
   pub room : (mutator : ℕ) → length (log_of m.logs mutator) < 8
 
+-- a region is a whole number of cards, and each mutator has a card log, each region a set
+pub record CardsFit (config : Config) (cards : Cards) (sets : Sets) : Type 0 where
+  pub whole_cards : config.words ≡ sets.cards_per_region * card_words
+  pub each_region : length sets.sets ≡ config.regions
+  pub each_card : length cards.dirty ≡ card_count sets
+  pub each_mutator : length cards.logs ≡ config.mutators
+
 -- What every core keeps. There is a graph that it stands for, and a snapshot: so each root is the start of an object
 pub record IsCore (c : CoreState) : Type 0 where
   pub suits : Suits c.config
   pub layers : LayersFit c.config c.table c.buffers c.marker
+  pub cards : CardsFit c.config c.cards c.sets
+  pub remembers : RemembersFields c
   pub places : length c.roots ≡ 16 + 8 * c.config.mutators
   pub names : c.next < 2 ^ 64
   pub graph : Graph

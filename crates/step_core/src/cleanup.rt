@@ -7,7 +7,8 @@
 //!              objects    top at mark start is the top
 //! ```
 //!
-//! A region that is released has no marks, and both its tops at mark start are its bottom, as in a new heap.
+//! A region that is released has no marks, both its tops at mark start are its bottom, and its remembered set is empty, as in
+//! a new heap. Its cards stay as they are.
 
 ghost use Rattle.std.specs.Prelude.{◌≡◌, ◌≢◌, ◌↔◌, ◌<◌, ◌≤◌, ◌+◌, ℕ, false, IsTrue, length, count_by};
 ghost use Rattle.heap_model.specs.Graph.{Graph};
@@ -51,6 +52,7 @@ impl Core {
     {
         self.table.law();
         self.marker.forget(&self.table, region);
+        self.sets.clear(region);
         self.table.release(region);
     }
 

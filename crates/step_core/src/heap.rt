@@ -5,25 +5,34 @@ ghost use Rattle.heap_words.specs.Configs.{Suits, IsNewFault};
 ghost use Rattle.heap_model.specs.Graph.{Graph};
 ghost use Rattle.heap_model.specs.Heap.{IsShown, IsHeld};
 ghost use Rattle.object_graph.specs.State.{first_state, register_place, with_root, root_at};
-ghost use Rattle.step_core.specs.Stands.{ShowsGraph, KeepsFrom, Stands, IsWhole, heap_of, IsWordOf, IsRootWord, Leads, name_in};
+ghost use Rattle.step_core.specs.Stands.{ShowsGraph, KeepsFrom, Stands, IsWhole, heap_of, IsWordOf, IsRootWord, Leads, name_in, RemembersFields};
+ghost use Rattle.cards.specs.Cards.{ListsDirtyOnce};
 ghost use Rattle.step_core.specs.Cycle.{LeavesRegions};
 
 use alloc_buffers::AllocBuffers;
+use cards::CardTable;
 use heap_words::addr::{Addr, Ptr};
 use heap_words::config::{Config, NewFault};
 use marker::Marker;
 use object_graph::Register;
 use regions::RegionTable;
+use remembered_sets::RememberedSets;
 use std::alloc::{AllocError, Global};
 use std::marker::Model;
 
-/// A heap: its table of regions, its allocation buffers, its marker, its roots and the name of its next object.
+/// How many words a card has.
+pub(crate) const CARD_WORDS: u32 = 8;
+
+/// A heap: its table of regions, its allocation buffers, its marker, its dirty cards and remembered sets, its roots and the
+/// name of its next object.
 #[derive(Drop)]
 pub struct Core {
     pub(crate) config: Config,
     pub(crate) table: RegionTable,
     pub(crate) buffers: AllocBuffers,
     pub(crate) marker: Marker,
+    pub(crate) cards: CardTable,
+    pub(crate) sets: RememberedSets,
     pub(crate) roots: Vec<Ptr>,
     pub(crate) next: u64,
 }
@@ -33,9 +42,9 @@ impl Model for Core {
 
     ghost Value = { CoreState };
 
-    ghost view = { λ c. record { config = c.config; table = c.table; buffers = c.buffers; marker = c.marker; roots = c.roots.items; next = c.next } };
+    ghost view = { λ c. record { config = c.config; table = c.table; buffers = c.buffers; marker = c.marker; cards = c.cards; sets = c.sets; roots = c.roots.items; next = c.next } };
 
-    ghost invariant = { λ c. IsCore (record { config = c.config; table = c.table; buffers = c.buffers; marker = c.marker; roots = c.roots.items; next = c.next }) };
+    ghost invariant = { λ c. IsCore (record { config = c.config; table = c.table; buffers = c.buffers; marker = c.marker; cards = c.cards; sets = c.sets; roots = c.roots.items; next = c.next }) };
 }
 
 /// Where a mutator's register stands among the roots, behind the 16 globals.
@@ -70,6 +79,14 @@ impl Core {
         let Ok(marker) = Marker::new(alloc, config) else {
             return Err(NewFault::NoMemory);
         };
+        let cards_per_region = config.words / CARD_WORDS;
+        let Ok(cards) = CardTable::new(alloc, config.regions * cards_per_region, config.mutators)
+        else {
+            return Err(NewFault::NoMemory);
+        };
+        let Ok(sets) = RememberedSets::new(alloc, config.regions, cards_per_region) else {
+            return Err(NewFault::NoMemory);
+        };
         let Ok(roots) = nil_roots(alloc, 16 + 8 * config.mutators as usize) else {
             return Err(NewFault::NoMemory);
         };
@@ -78,6 +95,8 @@ impl Core {
             table,
             buffers,
             marker,
+            cards,
+            sets,
             roots,
             next: config.first_name,
         })
@@ -103,6 +122,22 @@ impl Core {
         ensures { result ≡ self.now.marker.scans }
     {
         self.marker.scans()
+    }
+
+    /// How many cards wait for refinement.
+    pub fn queued(&self) -> u32
+        ensures { result ≡ length self.now.cards.queue }
+    {
+        self.cards.queued()
+    }
+
+    /// Tells a proof that cross-region pointers are remembered, and that a card is dirty exactly when it is listed, once. It
+    /// does nothing.
+    pub fn remembers(&self)
+        ensures fields { RemembersFields self.now }
+        ensures cards { ListsDirtyOnce self.now.cards }
+    {
+        self.cards.law();
     }
 
     /// Tells a proof that each object that a root reaches stands, whole and once, in regions in use. It

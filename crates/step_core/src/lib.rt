@@ -1,19 +1,27 @@
 //! The heap as a whole: its steps one by one, and a run of a list of them.
 //!
-//! A `Core` is the table of regions, the allocation buffers, the roots and the name of the next object. It stands for
-//! a graph of objects by name when its heap shows the graph: each root word is nil or the start of the object that the
-//! graph's root names, and each object has the graph's contents. A core stands for some graph at every moment.
+//! A `Core` is the table of regions, the allocation buffers, the marker, the dirty cards, the remembered sets, the roots and
+//! the name of the next object. It stands for a graph of objects by name and for a snapshot, the graph when marking last
+//! began: its heap shows the graph (each root word is nil or the start of the object that the graph's root names, and each object has the
+//! graph's contents), and while marking runs, whatever was reachable in the snapshot is marked or will be. A core stands
+//! for some graph and snapshot at every moment.
 //!
 //! ```text
-//!   graph   g0 --- new r0 1 1 ---> g1 --- read r0 0 ---> g2
-//!           :        = #0          :        = 0          :
-//!   core    c0 ------------------> c1 -----------------> c2     each core stands for its graph
+//!   snapshot  g0                        g1                                       g1
+//!   graph     g0 --- new r0 1 1 --> g1 --- gc begin --> g1 --- put r0 0 nil --> g2
+//!             :        = #0         :        = ok       :         = ok          :
+//!   core      c0 -----------------> c1 ---------------> c2 -------------------> c3     each core stands for its graph
 //! ```
 //!
-//! What is promised, for every graph that the core stands for: a step's reply is the one that the graph gives, and the
-//! core stands for the graph after it; or the reply is Full and nothing changed, exactly where the graph creates an
-//! object and the heap has no place for it. No step takes memory. `run` does a list of steps in a new heap; after
-//! each of them every object that a root reaches stands, whole and once, in regions in use.
+//! What is promised, for every graph and snapshot that the core stands for: a step's reply is one that the graph gives, and
+//! the core stands for the graph and the snapshot after it; or the reply is Full and nothing changed, exactly where the graph
+//! creates an object and the heap has no place for it. What each step of the collector does is said exactly (`Collects`): regions
+//! are reclaimed by `cleanup` alone, those that hold nothing live. Cross-region pointers are remembered at every moment: the
+//! card of each field that leads into another region is dirty, or that region's set covers it. No step takes memory. `run` does
+//! a list of steps in a new heap; after each of them every object that a root reaches stands, whole and once, in regions in use.
+//!
+//! `steps` has the mutator's steps, `barrier` what a store does beside the store, `cycle` the steps of marking, `cleanup` the
+//! reclaiming, `refine` refinement, `step` any step, `runs` a list of them.
 //!
 //! A field is read or written in constant time: no step tests or walks its region to see that an address is an object.
 #![tactic(auto)]
@@ -22,6 +30,7 @@ mod barrier;
 mod cleanup;
 mod cycle;
 mod heap;
+mod refine;
 mod runs;
 mod step;
 mod steps;

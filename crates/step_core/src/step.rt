@@ -48,7 +48,8 @@ impl Core {
                 }
                 Reply::Reclaimed(self.cleanup())
             }
-            CollectorStep::Refine(_) | CollectorStep::Pause(_) => unreachable!(),
+            CollectorStep::Refine(cards) => Reply::Refined(self.refine(cards)),
+            CollectorStep::Pause(_) => unreachable!(),
         }
     }
 

@@ -3,6 +3,7 @@
 ghost use Rattle.std.specs.Prelude.{◌≡◌, ◌<◌};
 
 use crate::{Core, RunFault, run};
+use heap_words::addr::{Card, RegionNo};
 use heap_words::config::{Config, NewFault};
 use object_graph::{Action, CollectorStep, GlobalRoot, Op, Refusal, Register, Reply, Step};
 use std::test::Fail;
@@ -139,7 +140,10 @@ fn collect(core: &mut Core, step: CollectorStep) -> Option<Reply> {
         CollectorStep::Mark(units) => Some(core.step(Step::Collector(CollectorStep::Mark(units)))),
         CollectorStep::Remark => Some(core.step(Step::Collector(CollectorStep::Remark))),
         CollectorStep::Cleanup => Some(core.step(Step::Collector(CollectorStep::Cleanup))),
-        CollectorStep::Refine(_) | CollectorStep::Pause(_) => None,
+        CollectorStep::Refine(cards) => Some(core.step(Step::Collector(CollectorStep::Refine(
+            cards,
+        )))),
+        CollectorStep::Pause(_) => None,
     }
 }
 
@@ -250,6 +254,79 @@ fn reclaims_regions(rt: HostRuntime) -> Result<(), Fail> {
         );
     }
     Ok(())
+}
+
+/// Four stores out of region 0 and 1 into region 2 fill a card log; refined, they are remembered by region 2, and the next
+/// store makes its card dirty again.
+#[test]
+fn a_card_log_fills(rt: HostRuntime) -> Result<(), Fail> {
+    let Ok(mut core) = Core::new(
+        rt.alloc(),
+        &Config {
+            buffer: 4,
+            ..CONFIG
+        },
+    ) else {
+        return Err(Fail::from("a core"));
+    };
+    for number in 0..5u8 {
+        let action = Action::New {
+            to: register(number),
+            pointers: if number < 4 { 4 } else { 2 },
+            values: 2,
+        };
+        assert!(rt; act(&mut core, 0, action).is_some());
+    }
+    let put = |number: u8, field: u32| Action::Put {
+        object: Register { number: number % 8 },
+        field,
+        value: Some(Register { number: 4 }),
+    };
+    for (number, field) in [(0, 0), (0, 1), (1, 0), (2, 0)] {
+        assert_eq!(rt; act(&mut core, 0, put(number, field)), Some(Reply::Done));
+    }
+    assert_eq!(rt;
+        collect(&mut core, CollectorStep::Refine(9)),
+        Some(Reply::Refined(0))
+    );
+    assert_eq!(rt; act(&mut core, 0, put(3, 0)), Some(Reply::Done));
+    assert_eq!(rt; core.queued(), 4);
+    assert_eq!(rt;
+        collect(&mut core, CollectorStep::Refine(3)),
+        Some(Reply::Refined(3))
+    );
+    assert_eq!(rt;
+        collect(&mut core, CollectorStep::Refine(9)),
+        Some(Reply::Refined(1))
+    );
+    assert_eq!(rt; act(&mut core, 0, put(0, 2)), Some(Reply::Done));
+    assert_eq!(rt;
+        collect(&mut core, CollectorStep::Refine(9)),
+        Some(Reply::Refined(0))
+    );
+    for card in 0..8u32 {
+        for region in 0..4u32 {
+            assert_eq!(rt;
+                remembers(&core, region, card),
+                Some((region == 2 && card < 4, card == 0))
+            );
+        }
+    }
+    Ok(())
+}
+
+/// Whether a region remembers a card, and whether the card is dirty. None where there is no such region or card.
+fn remembers(core: &Core, region: u32, card: u32) -> Option<(bool, bool)> {
+    core.table.law();
+    let regions = core.table.region_count();
+    if card >= 1024 || region >= regions {
+        return None;
+    }
+    if card * 8 >= regions * core.table.words_per_region() {
+        return None;
+    }
+    let covered = core.sets.covers(RegionNo::new(region), Card::new(card));
+    Some((covered, core.cards.is_dirty(Card::new(card))))
 }
 
 /// The faults of a run print as they are told.

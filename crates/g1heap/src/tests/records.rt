@@ -1,7 +1,7 @@
 //! Whole records, each of which its own script gives.
 
 /// A name, and the record.
-pub(super) static RECORDS: [(&str, &str); 12] = [
+pub(super) static RECORDS: [(&str, &str); 13] = [
     (
         "first read",
         "heap 4 16 8 1 0\n1 0 new r0 1 1 = #0\n2 0 read r0 0 = 0\n3 0 get r1 r0 0 = nil\n",
@@ -140,5 +140,24 @@ pub(super) static RECORDS: [(&str, &str); 12] = [
 32 gc begin = ok\n\
 33 gc remark = marked 1\n\
 34 gc cleanup = reclaimed 0\n",
+    ),
+    (
+        "card log fills",
+        "heap 4 16 4 1 0\n\
+1 0 new r0 4 2 = #0\n\
+2 0 new r1 4 2 = #1\n\
+3 0 new r2 4 2 = #2\n\
+4 0 new r3 4 2 = #3\n\
+5 0 new r4 2 2 = #4\n\
+6 0 put r0 0 r4 = ok\n\
+7 0 put r0 1 r4 = ok\n\
+8 0 put r1 0 r4 = ok\n\
+9 0 put r2 0 r4 = ok\n\
+10 gc refine 9 = refined 0\n\
+11 0 put r3 0 r4 = ok\n\
+12 gc refine 3 = refined 3\n\
+13 gc refine 9 = refined 1\n\
+14 0 put r0 2 r4 = ok\n\
+15 gc refine 9 = refined 0\n",
     ),
 ];

@@ -1,63 +1,15 @@
-use Rattle.std.proofs.Common.{◌∙◌, sym, ap, List, [], ℕ, length, length-set}
-use Rattle.step_core.proofs.Stored.{was_kept, store_shows, idle_shows, store_leaves, idle_leaves, idle_kept, saved_stands, saved_keeps, saved_kept, saved_room, taken_room, taken_kept, taken_keeps, roles_trans, known_log}
+use Rattle.std.proofs.Common.{◌∙◌}
+use Rattle.step_core.proofs.Noting.{held_noted, kept_noted, shown_noted, shows_noted, keeps_noted}
 use Rattle.step_core.proofs.heap.Core.store.Goals as goal
 
-pub invariant_of-self : goal.invariant_of-self
-invariant_of-self c = idle_kept _ _ c.self.view_is c.self.invariant c.args.object c.args.field c.args.target c.requires.rooted c.requires.field c.requires.held _ c.set_ptr.ensures c.if-not-self.true
+pub store_noted-requires-clause-held : goal.store_noted-requires-clause-held
+store_noted-requires-clause-held c = held_noted c.args.self.now c.note.new.self c.args.target c.note.ensures.same c.requires.held
 
-pub returns-then-not-self-clause-shows : goal.returns-then-not-self-clause-shows
-returns-then-not-self-clause-shows c = idle_shows _ _ c.self.view_is c.self.invariant c.args.object c.args.field c.args.target c.requires.rooted c.requires.field c.requires.held _ c.set_ptr.ensures
+pub returns-clause-shows : goal.returns-clause-shows
+returns-clause-shows c = λ g x o v s at named shown.
+    let same = c.note.ensures.same in
+    c.store_noted.ensures.shows g x o v (shows_noted c.args.self.now c.note.new.self g same s) (kept_noted c.args.self.now c.note.new.self c.args.object same ∙ at) named
+    (shown_noted c.args.self.now c.note.new.self c.args.target v same shown)
 
-pub returns-then-not-self-clause-leaves : goal.returns-then-not-self-clause-leaves
-returns-then-not-self-clause-leaves c = idle_leaves _ _ c.self.view_is c.self.invariant c.args.object c.args.field c.args.target c.requires.rooted c.requires.field c.requires.held _ c.set_ptr.ensures
-
-pub save-full-requires-clause-kept : goal.save-full-requires-clause-kept
-save-full-requires-clause-kept c = was_kept _ _ c.self.view_is c.self.invariant c.args.object c.args.field c.args.target c.requires.rooted c.requires.field c.requires.held _ c.get_ptr-overwritten.ensures
-
-pub take_log-requires-clause-stands : goal.take_log-requires-clause-stands
-take_log-requires-clause-stands c =
-    let s = c.save-full.ensures in
-    saved_stands _ _ c.self.view_is c.self.invariant c.args.object c.args.field c.args.target c.requires.rooted c.requires.field c.requires.held _ c.set_ptr-2.ensures _ s.same _ c.get_ptr-overwritten.ensures s.saved s.stands (s.same.running ∙ c.if-not-self.false)
-
-pub invariant_of-self-then-full : goal.invariant_of-self-then-full
-invariant_of-self-then-full c =
-    let s = c.save-full.ensures in
-    let known = known_log _ _ c.self.view_is c.self.invariant c.args.mutator _ s.mutators c.requires.known in
-    taken_kept _ _ c.self.view_is c.self.invariant c.args.object c.args.field c.args.target c.requires.rooted c.requires.field c.requires.held _ c.set_ptr-2.ensures _ s.same _ c.get_ptr-overwritten.ensures s.saved s.stands (s.same.running ∙ c.if-not-self.false) _ c.take_log.ensures.same c.take_log.ensures.snapshots c.take_log.ensures.stands (ap (λ (ls : List (List ℕ)). length ls) c.take_log.ensures.emptied ∙ length-set c.save-full.new.self.logs c.args.mutator [] ∙ s.mutators)
-    (taken_room c.self.inside.marker.logs _ _ c.args.mutator c.self.invariant.layers.room s.others known c.take_log.ensures.emptied)
-
-pub invariant_of-self-else-full : goal.invariant_of-self-else-full
-invariant_of-self-else-full c =
-    let s = c.save-full.ensures in
-    saved_kept _ _ c.self.view_is c.self.invariant c.args.object c.args.field c.args.target c.requires.rooted c.requires.field c.requires.held _ c.set_ptr-2.ensures _ s.same _ c.get_ptr-overwritten.ensures s.saved s.stands (s.same.running ∙ c.if-not-self.false) s.mutators
-    (saved_room c.self.inside.marker.logs _ c.args.mutator c.self.invariant.layers.room s.others s.most (sym s.full ∙ c.if-full.false))
-
-pub returns-then-full-clause-shows : goal.returns-then-full-clause-shows
-returns-then-full-clause-shows c =
-    let s = c.save-full.ensures in
-    store_shows _ _ c.self.view_is c.self.invariant c.args.object c.args.field c.args.target c.requires.rooted c.requires.field c.requires.held _ c.set_ptr-2.ensures _ (roles_trans _ _ _ s.same c.take_log.ensures.same)
-
-pub returns-then-full-clause-keeps : goal.returns-then-full-clause-keeps
-returns-then-full-clause-keeps c =
-    let s = c.save-full.ensures in
-    let known = known_log _ _ c.self.view_is c.self.invariant c.args.mutator _ s.mutators c.requires.known in
-    taken_keeps _ _ c.self.view_is c.self.invariant c.args.object c.args.field c.args.target c.requires.rooted c.requires.field c.requires.held _ c.set_ptr-2.ensures _ s.same _ c.get_ptr-overwritten.ensures s.saved s.stands (s.same.running ∙ c.if-not-self.false) _ c.take_log.ensures.same c.take_log.ensures.snapshots c.take_log.ensures.stands (ap (λ (ls : List (List ℕ)). length ls) c.take_log.ensures.emptied ∙ length-set c.save-full.new.self.logs c.args.mutator [] ∙ s.mutators)
-    (taken_room c.self.inside.marker.logs _ _ c.args.mutator c.self.invariant.layers.room s.others known c.take_log.ensures.emptied)
-
-pub returns-then-full-clause-leaves : goal.returns-then-full-clause-leaves
-returns-then-full-clause-leaves c =
-    let s = c.save-full.ensures in
-    store_leaves _ _ c.self.view_is c.self.invariant c.args.object c.args.field c.args.target c.requires.rooted c.requires.field c.requires.held _ c.set_ptr-2.ensures _ (c.take_log.ensures.same.running ∙ s.same.running) (c.take_log.ensures.scans ∙ s.scans)
-
-pub returns-else-full-clause-shows : goal.returns-else-full-clause-shows
-returns-else-full-clause-shows c = store_shows _ _ c.self.view_is c.self.invariant c.args.object c.args.field c.args.target c.requires.rooted c.requires.field c.requires.held _ c.set_ptr-2.ensures _ c.save-full.ensures.same
-
-pub returns-else-full-clause-keeps : goal.returns-else-full-clause-keeps
-returns-else-full-clause-keeps c =
-    let s = c.save-full.ensures in
-    saved_keeps _ _ c.self.view_is c.self.invariant c.args.object c.args.field c.args.target c.requires.rooted c.requires.field c.requires.held _ c.set_ptr-2.ensures _ s.same _ c.get_ptr-overwritten.ensures s.saved s.stands (s.same.running ∙ c.if-not-self.false)
-
-pub returns-else-full-clause-leaves : goal.returns-else-full-clause-leaves
-returns-else-full-clause-leaves c =
-    let s = c.save-full.ensures in
-    store_leaves _ _ c.self.view_is c.self.invariant c.args.object c.args.field c.args.target c.requires.rooted c.requires.field c.requires.held _ c.set_ptr-2.ensures _ s.same.running s.scans
+pub returns-clause-keeps : goal.returns-clause-keeps
+returns-clause-keeps c = λ s f. c.store_noted.ensures.keeps s (keeps_noted c.args.self.now c.note.new.self s c.note.ensures.same f)

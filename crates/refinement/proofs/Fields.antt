@@ -1,0 +1,93 @@
+-- What is covered as a scan goes over the fields of an object.
+use Rattle.std.proofs.Common.{inl, inr, ◌≡◌, ◌≢◌, ℕ, ◌+◌, ◌-◌, ◌*◌, ◌/◌, ◌<◌, ◌≤◌, true, Option, Some, None, List, length, min, get_or, refl, sym, ap, subst, ◌∙◌, arith}
+use Rattle.std.specs.Prelude.{slice_get}
+use Rattle.std.proofs.lemmas.Bool.{cases_lt}
+use Rattle.std.proofs.lemmas.Option.{slice_get_within, slice_get-get_or}
+use Rattle.heap_model.specs.Heap.{Stored}
+use Rattle.regions.specs.Table.{Table, object_at, pointers_at}
+use Rattle.remembered_sets.specs.Sets.{Sets, covers, card_count}
+use Rattle.refinement.specs.Remembering.{field_word, field_card, IsCrossing}
+use Rattle.refinement.specs.Refining.{AddsCard, IsScanned, PointsInside, SetsFit, with_field}
+use Rattle.refinement.proofs.Divides.{card_within, div_is, div_low, div_high}
+use Rattle.refinement.proofs.Entered.{adds_none, adds_more, adds_sets, field_adds, field_grows}
+use Rattle.refinement.proofs.Holders.{field_at, pointers_of}
+
+-- the fields of an object from one on up to another are done
+pub record IsPartly (words : ℕ) (kept : ℕ → Option Stored) (len card at start field : ℕ) (old new : Sets) : Type 0 where
+  pub adds : AddsCard words kept len card old new
+  pub done : (i v : ℕ) → start ≤ i → i < field → IsCrossing words kept at i v → covers new (v / words) card ≡ true
+
+pub partly_first : (words : ℕ) (kept : ℕ → Option Stored) (len card at start : ℕ) (s : Sets) → IsPartly words kept len card at start start s s
+partly_first words kept len card at start s = record { adds = adds_none words kept len card s; done = λ i v l h x. absurd (omega arith) }
+
+pub partly_next : (t : Table) (kept : ℕ → Option Stored) (len card at start field next : ℕ) (old mid new : Sets) → kept at ≡ object_at t at → PointsInside t at → length mid.sets ≡ length t.regions
+    → field < length (pointers_at t at) → field_card len at field ≡ card → next ≡ field + 1
+    → ((target : Option ℕ) → slice_get (pointers_at t at) field ≡ Some target → new ≡ with_field t.words_per_region card (field_word at field) target mid)
+    → ((target : ℕ) → slice_get (pointers_at t at) field ≡ Some (Some target) → target / t.words_per_region ≢ field_word at field / t.words_per_region → covers new (target / t.words_per_region) card ≡ true)
+    → IsPartly t.words_per_region kept len card at start field old mid → IsPartly t.words_per_region kept len card at start next old new
+partly_next t kept len card at start field next old mid new same inside count known in_card n after covered p =
+    let f = field_at t at field known in
+    let s : Stored = f.object in
+    let target : Option ℕ = get_or s.pointers field None in
+    let there : slice_get s.pointers field ≡ Some target = slice_get-get_or s.pointers field None f.within in
+    let pointers : pointers_at t at ≡ s.pointers = pointers_of t at s f.is in
+    let read : slice_get (pointers_at t at) field ≡ Some target = ap (λ (l : List (Option ℕ)). slice_get l field) pointers ∙ there in
+    let kept_is : kept at ≡ Some s = same ∙ f.is in
+    let step = after target read in
+    let grows = field_grows t.words_per_region card (field_word at field) (length t.regions) target mid new (λ v e. let h = inside field v (read ∙ ap Some e) in omega (arith, h, count)) step in
+    record {
+      adds = adds_more t.words_per_region kept len card old mid new p.adds (field_adds t.words_per_region kept len card at field s target mid new kept_is there in_card step);
+      done = λ i v l h x. elim (cases_lt i field) [
+        | inl lt ↦ grows (v / t.words_per_region) card (p.done i v l lt x)
+        | inr ge ↦
+            let e : i ≡ field = omega arith in
+            let k = x.kept_is in
+            let o : x.object ≡ s = cc in
+            let now : slice_get (pointers_at t at) field ≡ Some (Some v) = ap (λ (l : List (Option ℕ)). slice_get l field) pointers ∙ ap (λ (q : Stored). slice_get q.pointers field) (sym o) ∙ ap (λ (j : ℕ). slice_get x.object.pointers j) (sym e) ∙ x.field_is in
+            covered v now (subst (λ (j : ℕ). v / t.words_per_region ≢ field_word at j / t.words_per_region) e x.leaves)
+      ];
+    }
+
+-- the fields from start up to end are those in the card
+pub record AreInCard (len card at count start end : ℕ) : Type 0 where
+  pub within : end ≤ count
+  pub in_card : (i : ℕ) → start ≤ i → i < end → field_card len at i ≡ card
+  pub all : (i : ℕ) → i < count → field_card len at i ≡ card → (start ≤ i) × (i < end)
+
+pub fields_in_card : (len card at count w n start upto end : ℕ) → 0 < len → w ≡ at → n ≡ card → start ≡ n * len - (w + 2) → upto ≡ n * len + len - (w + 2) → end ≡ min upto count → AreInCard len card at count start end
+fields_in_card len card at count w n start upto end z f g h u e =
+    let from : n * len ≡ card * len = ap (λ (m : ℕ). m * len) g in
+    record {
+      within = omega arith;
+      in_card = λ i l b. div_is (field_word at i) len card (omega arith) (omega arith);
+      all = λ i b q.
+          let low = div_low (field_word at i) len card z q in
+          let high = div_high (field_word at i) len card z q in
+          (omega (arith, low), omega (arith, high));
+    }
+
+pub partly_last : (t : Table) (kept : ℕ → Option Stored) (len card at count start end field : ℕ) (old new : Sets) → kept at ≡ object_at t at → count ≡ length (pointers_at t at) → AreInCard len card at count start end → end ≤ field
+    → IsPartly t.words_per_region kept len card at start field old new → IsScanned t.words_per_region kept len card at old new
+partly_last t kept len card at count start end field old new same e r past p = record {
+  adds = p.adds;
+  covered = record {
+    each = λ i v x y.
+        let inside = slice_get_within x.object.pointers i (Some v) x.field_is in
+        let pointers = pointers_of t at x.object (sym same ∙ x.kept_is) in
+        let q = r.all i (omega (arith, inside, e, ap (λ (l : List (Option ℕ)). length l) pointers)) y in
+        p.done i v q.0 (omega (arith, q.1)) x;
+  };
+}
+
+-- ---- sizes
+-- a card ends where the heap does or before
+pub card_end : (t : Table) (len card : ℕ) (s : Sets) → SetsFit t len s → card < card_count s → card * len + len ≤ length t.regions * t.words_per_region
+card_end t len card s f h =
+    let known : card < length t.regions * s.cards_per_region = subst (λ (n : ℕ). card < n * s.cards_per_region) f.each_region h in
+    card_within card len t.words_per_region s.cards_per_region (length t.regions) f.whole_cards known
+
+-- there are as many sets and cards as before
+pub adds_fit : (t : Table) (kept : ℕ → Option Stored) (len card : ℕ) (old new : Sets) → SetsFit t len old → AddsCard t.words_per_region kept len card old new → SetsFit t len new × (card_count new ≡ card_count old)
+adds_fit t kept len card old new f a =
+    let e = adds_sets t.words_per_region kept len card old new a in
+    (record { whole_cards = f.whole_cards ∙ ap (λ (q : ℕ). q * len) (sym e.1); each_region = e.0 ∙ f.each_region }, rw (e.0, e.1) refl)

@@ -1,0 +1,94 @@
+use Rattle.std.proofs.Common.{◌≡◌, ◌∙◌, ◌*◌, ◌<◌, ℕ, ap, sym, subst, arith}
+use Rattle.mark_bitmap.specs.Kept.{kept_in}
+use Rattle.remembered_sets.specs.Sets.{covers}
+use Rattle.refinement.specs.Remembering.{LeadsInside}
+use Rattle.refinement.proofs.Divides.{card_has_words}
+use Rattle.refinement.proofs.Entered.{adds_none, adds_more, adds_grows}
+use Rattle.refinement.proofs.Fields.{adds_fit, card_end}
+use Rattle.refinement.proofs.Holders.{kept_object, not_kept, points_inside, same_object, tile_there}
+use Rattle.refinement.proofs.Scanned.{covered_dead, turn_first, turn_last, turn_next, turn_past, turn_placed}
+use Rattle.refinement.proofs.scan.scan_tiles.Goals as goal
+
+pub overflow_mul-end : goal.overflow_mul-end
+overflow_mul-end c =
+    let e = card_end c.args.table.now c.args.card_words c.args.card c.args.sets.now c.requires.stands.fit c.requires.card in
+    let small = c.law.ensures.in_all in
+    rw c.number.ensures (omega (arith, e, small))
+
+pub overflow_add-end : goal.overflow_add-end
+overflow_add-end c =
+    let e = card_end c.args.table.now c.args.card_words c.args.card c.args.sets.now c.requires.stands.fit c.requires.card in
+    let small = c.law.ensures.in_all in
+    rw c.number.ensures (omega (arith, e, small))
+
+pub loop-at-init : goal.loop-at-init
+loop-at-init c =
+    let u = tile_there c.args.table.now c.args.first c.requires.tile in
+    record {
+      adds = adds_none c.args.table.now.words_per_region (kept_in c.args.table.now c.args.tams.now c.args.marks.now) c.args.card_words c.args.card c.args.sets.now;
+      turn = turn_first c.args.table.now c.law.ensures (kept_in c.args.table.now c.args.tams.now c.args.marks.now) (kept_object c.args.table.now c.args.tams.now c.args.marks.now)
+          c.args.card_words c.args.card c.args.first (covers c.args.sets.now) c.into_iter-at-iterator.result u.0 u.1 (c.into_iter-at-iterator.ensures.into_iter_gives ∙ c.walk_from-at-items.ensures);
+    }
+
+pub returns-then-word-end-clause-adds : goal.returns-then-word-end-clause-adds
+returns-then-word-end-clause-adds c = c.loop-at.invariant.adds
+
+pub returns-then-word-end-clause-covered : goal.returns-then-word-end-clause-covered
+returns-then-word-end-clause-covered c =
+    let z = card_has_words c.args.card_words c.args.table.now.words_per_region c.args.sets.now.cards_per_region c.law.ensures.positive c.requires.stands.fit.whole_cards in
+    turn_past c.args.table.now c.law.ensures (kept_in c.args.table.now c.args.tams.now c.args.marks.now) (kept_object c.args.table.now c.args.tams.now c.args.marks.now)
+    c.args.card_words c.args.card c.args.first (covers c.loop-at.sets) c.loop-at.at-iterator c.next.new.self c.in-Some.at c.in-Some.shape z c.loop-at.invariant.turn c.in-Some.ensures.steps
+    (let end : c.number.result * c.args.card_words ≡ c.args.card * c.args.card_words = ap (λ (n : ℕ). n * c.args.card_words) c.number.ensures in omega (arith, end, c.word.ensures, c.if-word-end.true))
+
+pub is_kept-requires-clause-tile : goal.is_kept-requires-clause-tile
+is_kept-requires-clause-tile c =
+    turn_placed c.args.table.now c.law.ensures (kept_in c.args.table.now c.args.tams.now c.args.marks.now) (kept_object c.args.table.now c.args.tams.now c.args.marks.now)
+    c.args.card_words c.args.card c.args.first (covers c.loop-at.sets) c.loop-at.at-iterator c.next.new.self c.in-Some.at c.in-Some.shape c.loop-at.invariant.turn c.in-Some.ensures.steps
+
+pub scan_object-requires-clause-inside : goal.scan_object-requires-clause-inside
+scan_object-requires-clause-inside c =
+    points_inside c.args.table.now (kept_in c.args.table.now c.args.tams.now c.args.marks.now) c.in-Some.at (kept_object c.args.table.now c.args.tams.now c.args.marks.now) c.requires.stands.inside (c.is_kept.ensures.0 c.if-is_kept.true)
+
+pub scan_object-requires-clause-fit : goal.scan_object-requires-clause-fit
+scan_object-requires-clause-fit c =
+    (adds_fit c.args.table.now (kept_in c.args.table.now c.args.tams.now c.args.marks.now) c.args.card_words c.args.card c.args.sets.now c.loop-at.sets c.requires.stands.fit c.loop-at.invariant.adds).0
+
+pub scan_object-requires-clause-card : goal.scan_object-requires-clause-card
+scan_object-requires-clause-card c =
+    let e = (adds_fit c.args.table.now (kept_in c.args.table.now c.args.tams.now c.args.marks.now) c.args.card_words c.args.card c.args.sets.now c.loop-at.sets c.requires.stands.fit c.loop-at.invariant.adds).1 in
+    subst (λ (n : ℕ). c.args.card < n) (sym e) c.requires.card
+
+pub loop-at-preserved-then-is_kept : goal.loop-at-preserved-then-is_kept
+loop-at-preserved-then-is_kept c =
+    let kept = kept_in c.args.table.now c.args.tams.now c.args.marks.now in
+    let words = c.args.table.now.words_per_region in
+    let stands = kept_object c.args.table.now c.args.tams.now c.args.marks.now in
+    let p = c.loop-at.invariant in
+    let same = same_object c.args.table.now kept c.in-Some.at stands (c.is_kept.ensures.0 c.if-is_kept.true) in
+    let q = c.scan_object.ensures kept same in
+    let fit = (adds_fit c.args.table.now kept c.args.card_words c.args.card c.args.sets.now c.loop-at.sets c.requires.stands.fit p.adds).0 in
+    let inside = subst (λ (n : ℕ). LeadsInside words n kept) (sym fit.each_region) c.requires.stands.inside in
+    record {
+      adds = adds_more words kept c.args.card_words c.args.card c.args.sets.now c.loop-at.sets c.scan_object.new.sets p.adds q.adds;
+      turn = turn_next c.args.table.now c.law.ensures kept stands c.args.card_words c.args.card c.args.first (covers c.loop-at.sets) (covers c.scan_object.new.sets) c.loop-at.at-iterator c.next.new.self c.in-Some.at c.in-Some.shape
+          p.turn c.in-Some.ensures.steps (adds_grows words kept c.args.card_words c.args.card c.loop-at.sets c.scan_object.new.sets inside q.adds) q.covered;
+    }
+
+pub loop-at-preserved : goal.loop-at-preserved
+loop-at-preserved c =
+    let kept = kept_in c.args.table.now c.args.tams.now c.args.marks.now in
+    let p = c.loop-at.invariant in
+    let none = not_kept kept c.in-Some.at c.is_kept.result c.is_kept.ensures.1 c.if-is_kept.false in
+    record {
+      adds = p.adds;
+      turn = turn_next c.args.table.now c.law.ensures kept (kept_object c.args.table.now c.args.tams.now c.args.marks.now) c.args.card_words c.args.card c.args.first (covers c.loop-at.sets) (covers c.loop-at.sets) c.loop-at.at-iterator c.next.new.self c.in-Some.at c.in-Some.shape
+          p.turn c.in-Some.ensures.steps (λ r card was. was) (covered_dead c.args.table.now.words_per_region kept c.args.card_words c.args.card c.in-Some.at (covers c.loop-at.sets) none);
+    }
+
+pub returns-clause-adds : goal.returns-clause-adds
+returns-clause-adds c = c.loop-at.invariant.adds
+
+pub returns-clause-covered : goal.returns-clause-covered
+returns-clause-covered c =
+    turn_last c.args.table.now c.law.ensures (kept_in c.args.table.now c.args.tams.now c.args.marks.now) (kept_object c.args.table.now c.args.tams.now c.args.marks.now)
+    c.args.card_words c.args.card c.args.first (covers c.loop-at.sets) c.loop-at.at-iterator c.loop-at.invariant.turn c.in-None.ensures.steps.0

@@ -1,0 +1,40 @@
+//! Refinement of one card.
+
+ghost use Rattle.std.specs.Prelude.{◌≡◌, ◌↔◌, [], IsTrue, length};
+ghost use Rattle.mark_bitmap.specs.Kept.{kept_in};
+ghost use Rattle.cards.specs.Cards.{is_dirty};
+ghost use Rattle.remembered_sets.specs.Sets.{card_count, covers};
+ghost use Rattle.refinement.specs.Remembering.{Remembers};
+ghost use Rattle.refinement.specs.Refining.{CanScan, Refines};
+
+use crate::scan::scan_card;
+use cards::CardTable;
+use mark_bitmap::marks::Marks;
+use mark_bitmap::tams::Tams;
+use regions::RegionTable;
+use remembered_sets::RememberedSets;
+
+/// Takes the front card of the queue, which becomes clean, and enters it for its crossing fields. False where the queue is
+/// empty, and then nothing changes.
+pub fn refine_one(
+    table: &RegionTable,
+    tams: &Tams,
+    marks: &Marks,
+    cards: &mut CardTable,
+    sets: &mut RememberedSets,
+    card_words: u32,
+) -> bool
+    requires stands { CanScan table.now tams.now marks.now card_words sets.old }
+    requires cards { length cards.old.dirty ≡ card_count sets.old }
+    ensures refines { Refines result table.now.words_per_region (kept_in table.now tams.now marks.now) card_words cards.old cards.new sets.old sets.new }
+    ensures remembers { Remembers table.now.words_per_region (kept_in table.now tams.now marks.now) card_words (is_dirty cards.old) (covers sets.old)
+        → Remembers table.now.words_per_region (kept_in table.now tams.now marks.now) card_words (is_dirty cards.new) (covers sets.new) }
+    ensures stands { CanScan table.now tams.now marks.now card_words sets.new }
+    ensures cards { length cards.new.dirty ≡ card_count sets.new }
+{
+    let Some(card) = cards.take() else {
+        return false;
+    };
+    scan_card(table, tams, marks, sets, card_words, card);
+    true
+}

@@ -1,0 +1,148 @@
+//! The scan of one card.
+//!
+//! ```text
+//!                      from                        to
+//!   the card           |                           |
+//!   tiles      | A            | filler | B       | C         | D     |
+//!   fields           .   .   *             *   *      .   .
+//!              ^ the walk starts                 ^ the last tile that it looks at
+//! ```
+//!
+//! Of the fields, those marked `*` lie in the card; those of a dead object aren't looked at. In a run of regions A is the
+//! run's one object, however far below the card it starts.
+
+ghost use Rattle.std.specs.Prelude.{◌≡◌, ◌≢◌, ◌↔◌, true, ℕ, ◌+◌, ◌*◌, ◌/◌, ◌<◌, ◌≤◌, Option, Some, IsSome, IsTrue, length, slice_get};
+ghost use Rattle.heap_model.specs.Heap.{Stored};
+ghost use Rattle.regions.specs.Table.{object_at, pointers_at, tile_in};
+ghost use Rattle.regions.specs.Walks.{IsPlacedTile};
+ghost use Rattle.mark_bitmap.specs.Kept.{kept_in};
+ghost use Rattle.remembered_sets.specs.Sets.{card_count, covers};
+ghost use Rattle.refinement.specs.Remembering.{field_word, Gains, IsCovered};
+ghost use Rattle.refinement.specs.Refining.{with_field, AddsCard, AreObjectsCovered, CanScan, IsScanned, PointsInside, SetsFit};
+
+use heap_words::addr::{Addr, Card, RegionNo};
+use mark_bitmap::marks::Marks;
+use mark_bitmap::tams::Tams;
+use regions::{RegionTable, Shape};
+use remembered_sets::RememberedSets;
+
+/// Whether the tile at an address is a kept object.
+fn is_kept(table: &RegionTable, tams: &Tams, marks: &Marks, at: Addr, shape: Shape) -> bool
+    requires tile { IsPlacedTile table.now at shape }
+    requires marks { length marks.now ≡ length table.now.regions * table.now.words_per_region }
+    ensures { IsTrue result ↔ IsSome (kept_in table.now tams.now marks.now at) }
+{
+    table.law();
+    match shape {
+        Shape::Object { .. } => {
+            if !tams.is_below_previous(table.words_per_region(), at) {
+                return true;
+            }
+            marks.get(at)
+        }
+        Shape::Filler { .. } | Shape::Moved { .. } => false,
+    }
+}
+
+/// Adds the card to the set of the region that a field leads into, if its word lies in another one.
+fn scan_field(table: &RegionTable, sets: &mut RememberedSets, card: Card, object: Addr, field: u32)
+    requires field { field < length (pointers_at table.now object) }
+    requires inside { PointsInside table.now object }
+    requires regions { length sets.old.sets ≡ length table.now.regions }
+    requires card { card < card_count sets.old }
+    ensures after { (target : Option ℕ) → slice_get (pointers_at table.now object) field ≡ Some target
+        → sets.new ≡ with_field table.now.words_per_region card (field_word object field) target sets.old }
+    ensures covered { (target : ℕ) → slice_get (pointers_at table.now object) field ≡ Some (Some target)
+        → target / table.now.words_per_region ≢ field_word object field / table.now.words_per_region → covers sets.new (target / table.now.words_per_region) card ≡ true }
+{
+    table.law();
+    let words = table.words_per_region();
+    let home = (object.word() + 2 + field) / words;
+    let Some(target) = table.get_ptr(object, field) else {
+        return;
+    };
+    let region = target.word() / words;
+    if region != home {
+        sets.add(RegionNo::new(region), card);
+    }
+}
+
+/// Adds the card for the fields of an object that lie in it.
+fn scan_object(
+    table: &RegionTable,
+    sets: &mut RememberedSets,
+    card_words: u32,
+    card: Card,
+    object: Addr,
+)
+    requires object { IsSome (object_at table.now object) }
+    requires inside { PointsInside table.now object }
+    requires fit { SetsFit table.now card_words sets.old }
+    requires card { card < card_count sets.old }
+    ensures { (kept : ℕ → Option Stored) → kept object ≡ object_at table.now object
+        → IsScanned table.now.words_per_region kept card_words card object sets.old sets.new }
+{
+    table.law();
+    let first = object.word() + 2;
+    let from = card.number() * card_words;
+    let to = from + card_words;
+    let count = table.pointer_count(object);
+    let start = from.saturating_sub(first);
+    let end = to.saturating_sub(first).min(count);
+    for field in start..end {
+        scan_field(table, sets, card, object, field);
+    }
+}
+
+/// Adds the card for the fields of kept objects that lie in it, over the tiles of a region from one on.
+fn scan_tiles(
+    table: &RegionTable,
+    tams: &Tams,
+    marks: &Marks,
+    sets: &mut RememberedSets,
+    card_words: u32,
+    card: Card,
+    first: Addr,
+)
+    requires stands { CanScan table.now tams.now marks.now card_words sets.old }
+    requires card { card < card_count sets.old }
+    requires tile { IsSome (tile_in table.now first) }
+    ensures adds { AddsCard table.now.words_per_region (kept_in table.now tams.now marks.now) card_words card sets.old sets.new }
+    ensures covered { AreObjectsCovered table.now (kept_in table.now tams.now marks.now) card_words card (covers sets.new) first }
+{
+    table.law();
+    let end = card.number() * card_words + card_words;
+    for (at, shape) in table.walk_from(first) {
+        if at.word() >= end {
+            return;
+        }
+        if is_kept(table, tams, marks, at, shape) {
+            scan_object(table, sets, card_words, card, at);
+        }
+    }
+}
+
+/// Adds a card to the sets of the regions that its crossing fields lead into, and to no other. It walks from the tile that
+/// holds the card's first word to the card's end.
+pub fn scan_card(
+    table: &RegionTable,
+    tams: &Tams,
+    marks: &Marks,
+    sets: &mut RememberedSets,
+    card_words: u32,
+    card: Card,
+)
+    requires stands { CanScan table.now tams.now marks.now card_words sets.old }
+    requires card { card < card_count sets.old }
+    ensures covered { IsCovered table.now.words_per_region (kept_in table.now tams.now marks.now) card_words card (covers sets.new) }
+    ensures adds { AddsCard table.now.words_per_region (kept_in table.now tams.now marks.now) card_words card sets.old sets.new }
+    ensures gains { Gains table.now.words_per_region (kept_in table.now tams.now marks.now) card_words sets.old.cards_per_region card (covers sets.old) (covers sets.new) }
+    ensures stands { CanScan table.now tams.now marks.now card_words sets.new }
+    ensures count { card_count sets.new ≡ card_count sets.old }
+{
+    table.law();
+    let from = Addr::new(card.number() * card_words);
+    if let Some(first) = table.first_tile(from) {
+        scan_tiles(table, tams, marks, sets, card_words, card, first);
+    }
+}

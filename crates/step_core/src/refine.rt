@@ -1,0 +1,47 @@
+//! Refinement by steps: cards from the front of the queue are looked at, and enter the remembered sets of the regions that
+//! their pointers lead into. Logs that aren't full are not read.
+//!
+//! ```text
+//!   refine 2     queue 5 2 3      region 1 covers -        region 3 covers 2
+//!   then         queue 3          region 1 covers 5        region 3 covers 2 5
+//! ```
+
+ghost use Rattle.std.specs.Prelude.{◌≡◌};
+ghost use Rattle.heap_model.specs.Graph.{Graph};
+ghost use Rattle.step_core.specs.Stands.{ShowsGraph, KeepsFrom};
+ghost use Rattle.step_core.specs.Cycle.{RefinesCard, HasRefined};
+
+use crate::heap::{CARD_WORDS, Core};
+use refinement::refine_one;
+
+impl Core {
+    /// Refines the front of the queue. False where the queue is empty.
+    fn refine_card(&mut self) -> bool
+        ensures shows { (g : Graph) → ShowsGraph g self.old → ShowsGraph g self.new }
+        ensures keeps { (s : Graph) → KeepsFrom s self.old → KeepsFrom s self.new }
+        ensures refined { RefinesCard result self.old self.new }
+    {
+        refine_one(
+            &self.table,
+            &self.marker.tams,
+            &self.marker.bitmaps.previous,
+            &mut self.cards,
+            &mut self.sets,
+            CARD_WORDS,
+        )
+    }
+
+    /// Refines up to so many cards. The result is how many.
+    pub(crate) fn refine(&mut self, cards: u32) -> u32
+        ensures shows { (g : Graph) → ShowsGraph g self.old → ShowsGraph g self.new }
+        ensures keeps { (s : Graph) → KeepsFrom s self.old → KeepsFrom s self.new }
+        ensures refined { HasRefined cards result self.old self.new }
+    {
+        for done in 0..cards {
+            if !self.refine_card() {
+                return done;
+            }
+        }
+        cards
+    }
+}
