@@ -117,3 +117,11 @@ shows_noted c c' g e s = subst (λ (d : CoreState). ShowsGraph g d) (sym e) (sho
 
 pub keeps_noted : (c c' : CoreState) (s : Graph) → c' ≡ record c { cards = c'.cards } → KeepsFrom s c → KeepsFrom s c'
 keeps_noted c c' s e f = subst (λ (d : CoreState). KeepsFrom s d) (sym e) (keeps_with c c'.cards s f)
+
+-- a card whose first word lies in the heap is one of the cards
+pub card_known : (k : CoreState) (card regions words : ℕ) → IsCore k → regions ≡ length k.table.regions → words ≡ k.table.words_per_region → card * 8 < regions * words → card < length k.cards.dirty
+card_known k card regions words core er ew lt =
+    let lt' : card * 8 < length k.table.regions * k.table.words_per_region = subst (λ (n : ℕ). card * 8 < n * k.table.words_per_region) er (subst (λ (w : ℕ). card * 8 < regions * w) ew lt) in
+    let there = card_inside k (card * 8) core lt' in
+    let same : card * 8 / 8 ≡ card = omega arith in
+    omega (arith, there, same)
