@@ -188,10 +188,8 @@ fn drawn_from(rt: &impl Abort, alloc: Global, first: u64) -> Result<(), Fail> {
             tally.count(event.reply);
         }
     }
-    assert_eq!(rt;
-        (tally.reclaimed, tally.marked, tally.full, tally.refined),
-        (0, 0, 0, 0)
-    );
+    assert!(rt; tally.reclaimed > 1_000 && tally.marked > 20_000);
+    assert!(rt; tally.full > 4_500 && tally.refined > 80);
     Ok(())
 }
 
