@@ -12,7 +12,7 @@ dirty-requires-clause-card c =
     let within = to_fields _ _ c.self.view_is (λ d. c.args.field < length (pointers_at d.table c.args.object)) c.requires.field in
     let inside = field_inside _ c.args.object c.args.field c.self.invariant c.law.ensures root within in
     let known = subst (λ (n : ℕ). n < length c.self.inside.cards.dirty) (sym c.new.ensures)
-        (card_inside _ (c.word.result + 2 + c.args.field) c.self.invariant (omega (arith, inside, c.word.ensures))) in
+    (card_inside _ (c.word.result + 2 + c.args.field) c.self.invariant (omega (arith, inside, c.word.ensures))) in
     known
 
 pub invariant_of-self : goal.invariant_of-self
@@ -21,7 +21,7 @@ invariant_of-self c =
     let within = to_fields _ _ c.self.view_is (λ d. c.args.field < length (pointers_at d.table c.args.object)) c.requires.field in
     let inside = field_inside _ c.args.object c.args.field c.self.invariant c.law.ensures root within in
     let known = subst (λ (n : ℕ). n < length c.self.inside.cards.dirty) (sym c.new.ensures)
-        (card_inside _ (c.word.result + 2 + c.args.field) c.self.invariant (omega (arith, inside, c.word.ensures))) in
+    (card_inside _ (c.word.result + 2 + c.args.field) c.self.invariant (omega (arith, inside, c.word.ensures))) in
     let d = c.dirty.ensures in
     dirtied_kept _ c.self.invariant c.args.mutator c.new.result _ known d.after d.cards d.mutators
 
@@ -45,7 +45,7 @@ returns-then-word-words-clause-noted c =
     let within = to_fields _ _ c.self.view_is (λ d. c.args.field < length (pointers_at d.table c.args.object)) c.requires.field in
     let inside = field_inside _ c.args.object c.args.field c.self.invariant c.law.ensures root within in
     let known = subst (λ (n : ℕ). n < length c.self.inside.cards.dirty) (sym c.new.ensures)
-        (card_inside _ (c.word.result + 2 + c.args.field) c.self.invariant (omega (arith, inside, c.word.ensures))) in
+    (card_inside _ (c.word.result + 2 + c.args.field) c.self.invariant (omega (arith, inside, c.word.ensures))) in
     let d = c.dirty.ensures in
     noted_so _ c.self.invariant c.args.mutator c.new.result _ known d.after d.cards d.mutators c.args.object c.args.field c.args.target.now c.in-Some.to c.in-Some.is
     (c.new.ensures ∙ ap (λ (n : ℕ). (n + 2 + c.args.field) / 8) c.word.ensures)
