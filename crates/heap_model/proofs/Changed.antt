@@ -3,8 +3,8 @@ use Rattle.std.proofs.Common.{◌≡◌, ℕ, ◌<◌, ◌≤◌, ◌-◌, ◌�
 use Rattle.std.specs.Prelude.{slice_set, slice_get}
 use Rattle.std.specs.List.{AllZip}
 use Rattle.std.proofs.lemmas.Bool.{cases_eq, cases_lt}
-use Rattle.heap_model.specs.Graph.{Graph, Object, object_named, object_fields, next_name, with_root, with_object, with_changed}
-use Rattle.heap_model.specs.Heap.{Heap, Stored, fields, IsShown, IsObjectShown, Shows, RootSet, ObjectSet, ObjectAdded, SameHeap}
+use Rattle.heap_model.specs.Graph.{Graph, Object, object_named, next_name, with_root, with_object, with_changed}
+use Rattle.heap_model.specs.Heap.{Heap, Stored, IsShown, IsObjectShown, Shows, RootSet, ObjectSet, ObjectAdded, SameHeap}
 use Rattle.heap_model.proofs.Names.{named_below}
 use Rattle.heap_model.proofs.Lists.{AllZip-get, AllZip-set, AllZip_map, get-set_same, get-set_other, get-push_last, get_kept-append}
 
@@ -60,11 +60,11 @@ module _ (g : Graph) (h h' : Heap) (shows : Shows g h) where
       distinct = λ a b x y ea eb e. shows.distinct a b x y (sym (step.kept a) ∙ ea) (sym (step.kept b) ∙ eb) e;
       objects = λ a x e.
           let o = shows.objects a x (sym (step.kept a) ∙ e) in
-          record { object = o.object; named = rooted_same g place x.name v ∙ o.named; values = o.values; pointers = AllZip_map (IsShown h) (IsShown h') same (fields x) (object_fields o.object) o.pointers };
+          record { object = o.object; named = rooted_same g place x.name v ∙ o.named; values = o.values; pointers = AllZip_map (IsShown h) (IsShown h') same x.pointers o.object.pointers o.pointers; weaks = AllZip_map (IsShown h) (IsShown h') same x.weaks o.object.weaks o.weaks };
     }
 
   module _ (d : ℕ) (x y : Stored) (o p : Object) (step : ObjectSet h h' d x y) (named : object_named g x.name ≡ Some o)
-      (pointers : AllZip (IsShown h) (fields y) (object_fields p)) (values : y.values ≡ p.values) where
+      (pointers : AllZip (IsShown h) y.pointers p.pointers) (weaks : AllZip (IsShown h) y.weaks p.weaks) (values : y.values ≡ p.values) where
     set_same : (w v : Option ℕ) → IsShown h w v → IsShown h' w v
     set_same = shown_in h h' (λ a z at. elim (cases_eq a d) [
       | inl q ↦ (y, ap h'.kept q ∙ step.is, step.name ∙ (let e : x ≡ z = let e1 = step.was in let e2 = ap h.kept q in cc in ap (λ (k : Stored). k.name) e))
@@ -86,7 +86,8 @@ module _ (g : Graph) (h h' : Heap) (shows : Shows g h) where
         object = p;
         named = ap (object_named (with_changed g x.name p)) step.name ∙ changed_here g x.name o p named;
         values = values;
-        pointers = AllZip_map (IsShown h) (IsShown h') set_same (fields y) (object_fields p) pointers;
+        pointers = AllZip_map (IsShown h) (IsShown h') set_same y.pointers p.pointers pointers;
+        weaks = AllZip_map (IsShown h) (IsShown h') set_same y.weaks p.weaks weaks;
       })
       | inr q ↦
           let t = shows.objects a z q.1 in
@@ -94,7 +95,8 @@ module _ (g : Graph) (h h' : Heap) (shows : Shows g h) where
             object = t.object;
             named = changed_other g x.name z.name o p t.object named (λ e. q.0 (shows.distinct a d z x q.1 step.was e)) t.named;
             values = t.values;
-            pointers = AllZip_map (IsShown h) (IsShown h') set_same (fields z) (object_fields t.object) t.pointers;
+            pointers = AllZip_map (IsShown h) (IsShown h') set_same z.pointers t.object.pointers t.pointers;
+            weaks = AllZip_map (IsShown h) (IsShown h') set_same z.weaks t.object.weaks t.weaks;
           }
     ]
 
@@ -109,7 +111,7 @@ module _ (g : Graph) (h h' : Heap) (shows : Shows g h) where
     }
 
   module _ (a : ℕ) (x : Stored) (o : Object) (place : ℕ) (step : ObjectAdded h h' a x place) (name : x.name ≡ next_name g)
-      (pointers : AllZip (IsShown h) (fields x) (object_fields o)) (values : x.values ≡ o.values) where
+      (pointers : AllZip (IsShown h) x.pointers o.pointers) (weaks : AllZip (IsShown h) x.weaks o.weaks) (values : x.values ≡ o.values) where
     added_other_at : (b : ℕ) (z : Stored) → h.kept b ≡ Some z → h'.kept b ≡ Some z
     added_other_at b z at = elim (cases_eq b a) [ inl q ↦ absurd (let was = step.was in let here = ap h.kept q in cc) | inr n ↦ step.others b n ∙ at ]
 
@@ -128,11 +130,12 @@ module _ (g : Graph) (h h' : Heap) (shows : Shows g h) where
         object = o;
         named = ap (object_named (with_object g o place)) name ∙ added_here g o place;
         values = values;
-        pointers = AllZip_map (IsShown h) (IsShown h') added_same (fields x) (object_fields o) pointers;
+        pointers = AllZip_map (IsShown h) (IsShown h') added_same x.pointers o.pointers pointers;
+        weaks = AllZip_map (IsShown h) (IsShown h') added_same x.weaks o.weaks weaks;
       })
       | inr was ↦
           let t = shows.objects b z was in
-          record { object = t.object; named = added_other g o t.object place z.name t.named; values = t.values; pointers = AllZip_map (IsShown h) (IsShown h') added_same (fields z) (object_fields t.object) t.pointers }
+          record { object = t.object; named = added_other g o t.object place z.name t.named; values = t.values; pointers = AllZip_map (IsShown h) (IsShown h') added_same z.pointers t.object.pointers t.pointers; weaks = AllZip_map (IsShown h) (IsShown h') added_same z.weaks t.object.weaks t.weaks }
     ]
 
     added_distinct : (b c : ℕ) (u z : Stored) → h'.kept b ≡ Some u → h'.kept c ≡ Some z → u.name ≡ z.name → b ≡ c
@@ -164,15 +167,18 @@ module _ (g : Graph) (h h' : Heap) (shows : Shows g h) where
         distinct = λ a b x y ea eb e. shows.distinct a b x y (sym (same.kept a) ∙ ea) (sym (same.kept b) ∙ eb) e;
         objects = λ a x e.
             let o = shows.objects a x (sym (same.kept a) ∙ e) in
-            record { object = o.object; named = o.named; values = o.values; pointers = AllZip_map (IsShown h) (IsShown h') in' (fields x) (object_fields o.object) o.pointers };
+            record { object = o.object; named = o.named; values = o.values; pointers = AllZip_map (IsShown h) (IsShown h') in' x.pointers o.object.pointers o.pointers; weaks = AllZip_map (IsShown h) (IsShown h') in' x.weaks o.object.weaks o.weaks };
       }
 
   -- what is read of the heap is what the graph has
   pub root_read : (j : ℕ) (w : Option ℕ) → slice_get h.roots j ≡ Some w → (v : Option ℕ) × (slice_get g.roots j ≡ Some v) × IsShown h w v
   root_read j w e = AllZip-get (IsShown h) h.roots g.roots shows.roots j w e
 
-  pub field_read : (a i : ℕ) (x : Stored) (w : Option ℕ) → h.kept a ≡ Some x → slice_get (fields x) i ≡ Some w → (o : Object) × (object_named g x.name ≡ Some o) × (v : Option ℕ) × (slice_get (object_fields o) i ≡ Some v) × IsShown h w v
-  field_read a i x w at e = let t = shows.objects a x at in let (v, is, s) = AllZip-get (IsShown h) (fields x) (object_fields t.object) t.pointers i w e in (t.object, t.named, v, is, s)
+  pub pointer_read : (a i : ℕ) (x : Stored) (w : Option ℕ) → h.kept a ≡ Some x → slice_get x.pointers i ≡ Some w → (o : Object) × (object_named g x.name ≡ Some o) × (v : Option ℕ) × (slice_get o.pointers i ≡ Some v) × IsShown h w v
+  pointer_read a i x w at e = let t = shows.objects a x at in let (v, is, s) = AllZip-get (IsShown h) x.pointers t.object.pointers t.pointers i w e in (t.object, t.named, v, is, s)
+
+  pub weak_read : (a i : ℕ) (x : Stored) (w : Option ℕ) → h.kept a ≡ Some x → slice_get x.weaks i ≡ Some w → (o : Object) × (object_named g x.name ≡ Some o) × (v : Option ℕ) × (slice_get o.weaks i ≡ Some v) × IsShown h w v
+  weak_read a i x w at e = let t = shows.objects a x at in let (v, is, s) = AllZip-get (IsShown h) x.weaks t.object.weaks t.weaks i w e in (t.object, t.named, v, is, s)
 
   pub word_read : (a : ℕ) (x : Stored) → h.kept a ≡ Some x → (o : Object) × (object_named g x.name ≡ Some o) × (x.values ≡ o.values)
   word_read a x at = let t = shows.objects a x at in (t.object, t.named, t.values)

@@ -1,5 +1,5 @@
 -- The turns of the copying.
-use Rattle.std.proofs.Common.{◌≡◌, ℕ, zero, suc, ◌⊎◌, ◌↔◌, Bool, true, false, List, ◌∷◌, [], Option, Some, None, refl, sym, ap, ◌∙◌, subst, inl, inr}
+use Rattle.std.proofs.Common.{◌≡◌, ℕ, zero, suc, ◌⊎◌, ◌↔◌, Bool, true, false, List, ◌∷◌, [], length, Option, Some, None, refl, sym, ap, ◌∙◌, subst, inl, inr}
 use Rattle.std.specs.Prelude.{slice_set, slice_get}
 use Rattle.std.specs.List.{AllZip}
 use Rattle.std.proofs.lemmas.Bool.{cases_eq}
@@ -7,7 +7,7 @@ use Rattle.heap_model.specs.Heap.{Heap, Stored, fields, HasField, IsRoot, IsClos
 use Rattle.heap_model.specs.Relocation.{IsMoved, Relocates}
 use Rattle.heap_model.specs.Evacuation.{IsReached, ByRootWord, ByOutside, ByInside, place_of, IsWord, IsEvacuating, IsClean, IsEvacuated, released, Copies}
 use Rattle.heap_model.proofs.Names.{bool_cases}
-use Rattle.heap_model.proofs.Lists.{get_as, AllZip-get, AllZip-get_right, AllZip_map}
+use Rattle.heap_model.proofs.Lists.{get_as, AllZip-get, AllZip-get_right, AllZip_map, AllZip-split}
 
 placed_inside : (set : ℕ → Bool) (forward : ℕ → Option ℕ) (a : ℕ) → set a ≡ true → place_of set forward a ≡ forward a
 placed_inside set forward a e = rw e refl
@@ -34,7 +34,7 @@ start set h = record {
     | inr e ↦
         let q = placed_outside set (λ a. None) a e in
         let same : a ≡ b = cc in
-        record { part = x; at = ap h.kept (sym same) ∙ at; name = refl; values = refl; pointers = same_words (fields x) }
+        record { part = x; at = ap h.kept (sym same) ∙ at; name = refl; values = refl; shape = refl; words = same_words (fields x) }
   ];
   came = λ b y at out. record { from = b; object = y; at = at; placed = placed_outside set (λ a. None) b out };
   untouched = λ a _ _. refl;
@@ -66,7 +66,9 @@ module _ (set : ℕ → Bool) (h : Heap) (forward : ℕ → Option ℕ) (now : H
       kept = λ a b x at e.
           let p = v.objects a b x at e in
           let out = part_outside a b x at e in
-          record { copy = p.part; at = rw out p.at; name = p.name; values = p.values; pointers = clean_words (fields x) (fields p.part) (done.objects b p.part p.at out) p.pointers };
+          let moved = clean_words (fields x) (fields p.part) (done.objects b p.part p.at out) p.words in
+          let (pointers, weaks) = AllZip-split (IsMoved (place_of set forward)) x.pointers p.part.pointers x.weaks p.part.weaks p.shape moved in
+          record { copy = p.part; at = rw out p.at; name = p.name; values = p.values; pointers = pointers; weaks = weaks };
       came = λ b y e. elim (bool_cases (set b)) [
         | inl k ↦ absurd (let q = rw k at e in cc)
         | inr k ↦ let o = v.came b y (rw k at e) k in record { from = o.from; object = o.object; at = o.at; placed = o.placed }
@@ -81,7 +83,7 @@ module _ (set : ℕ → Bool) (h : Heap) (forward : ℕ → Option ℕ) (now : H
     field_forwarded : (b c a : ℕ) (p : HasField h b a) → place_of set forward b ≡ Some c → set a ≡ true → (d : ℕ) × (forward a ≡ Some d)
     field_forwarded b c a p e inside =
         let k = v.objects b c p.object p.at e in
-        let moved = clean_words (fields p.object) (fields k.part) (done.objects c k.part k.at (part_outside b c p.object p.at e)) k.pointers in
+        let moved = clean_words (fields p.object) (fields k.part) (done.objects c k.part k.at (part_outside b c p.object p.at e)) k.words in
         let (w, is, m) = AllZip-get (IsMoved (place_of set forward)) (fields p.object) (fields k.part) moved p.field (Some a) p.is in
         moved_inside a w m inside
 
@@ -113,7 +115,7 @@ module _ (set : ℕ → Bool) (h : Heap) (forward : ℕ → Option ℕ) (now : H
   pub root_updated : (now' : Heap) (j : ℕ) (w w' : Option ℕ) → slice_get h.roots j ≡ Some w → IsMoved (place_of set forward) w w' → RootSet now now' j w' → IsEvacuating set h forward now'
   root_updated now' j w w' at moved step = record {
     roots = subst (λ ws. AllZip (IsWord (place_of set forward)) h.roots ws) (sym step.roots) (set_one h.roots now.roots j v.roots at);
-    objects = λ a b x e p. let k = v.objects a b x e p in record { part = k.part; at = step.kept b ∙ k.at; name = k.name; values = k.values; pointers = k.pointers };
+    objects = λ a b x e p. let k = v.objects a b x e p in record { part = k.part; at = step.kept b ∙ k.at; name = k.name; values = k.values; shape = k.shape; words = k.words };
     came = λ b y e out. v.came b y (sym (step.kept b) ∙ e) out;
     untouched = λ a e u. step.kept a ∙ v.untouched a e u;
     reached = v.reached;
@@ -153,7 +155,7 @@ module _ (set : ℕ → Bool) (h : Heap) (forward : ℕ → Option ℕ) (now : H
       let k = v.objects o.from b o.object o.at o.placed in
       let same : y ≡ k.part = let e1 = k.at in cc in
       let e' = subst (λ (z : Stored). slice_get (fields z) i ≡ Some (Some c)) same e in
-      let (w, is, s) = AllZip-get_right (IsWord (place_of set forward)) (fields o.object) (fields k.part) k.pointers i (Some c) e' in
+      let (w, is, s) = AllZip-get_right (IsWord (place_of set forward)) (fields o.object) (fields k.part) k.words i (Some c) e' in
       let p : HasField h o.from c = record { object = o.object; at = o.at; field = i; is = get_as (fields o.object) i w (Some c) is (word_was w c s inside) } in
       elim (bool_cases (set o.from)) [
         | inl q ↦ ByInside o.from c (v.reached o.from b q (sym (placed_inside set forward o.from q) ∙ o.placed)) p inside
@@ -161,8 +163,8 @@ module _ (set : ℕ → Bool) (h : Heap) (forward : ℕ → Option ℕ) (now : H
       ]
 
   -- a pointer field of an object outside the set is updated
-  pub field_updated : (now' : Heap) (b i c d : ℕ) (y y' : Stored) → set b ≡ false → slice_get (fields y) i ≡ Some (Some c) → set c ≡ true → forward c ≡ Some d → ObjectSet now now' b y y' → y'.values ≡ y.values → fields y' ≡ slice_set (fields y) i (Some d) → IsEvacuating set h forward now'
-  field_updated now' b i c d y y' out e inside f step values pointers = record {
+  pub field_updated : (now' : Heap) (b i c d : ℕ) (y y' : Stored) → set b ≡ false → slice_get (fields y) i ≡ Some (Some c) → set c ≡ true → forward c ≡ Some d → ObjectSet now now' b y y' → y'.values ≡ y.values → length y'.pointers ≡ length y.pointers → fields y' ≡ slice_set (fields y) i (Some d) → IsEvacuating set h forward now'
+  field_updated now' b i c d y y' out e inside f step values shape words = record {
     roots = subst (λ ws. AllZip (IsWord (place_of set forward)) h.roots ws) (sym step.roots) v.roots;
     objects = λ a b0 x at p.
         let k = v.objects a b0 x at p in
@@ -174,10 +176,11 @@ module _ (set : ℕ → Bool) (h : Heap) (forward : ℕ → Option ℕ) (now : H
                 at = ap now'.kept q ∙ step.is;
                 name = step.name ∙ ap (λ (z : Stored). z.name) (sym same) ∙ k.name;
                 values = values ∙ ap (λ (z : Stored). z.values) (sym same) ∙ k.values;
-                pointers = subst (λ ws. AllZip (IsWord (place_of set forward)) (fields x) ws) (sym pointers)
-                    (set_one (fields x) (fields y) i (subst (λ (z : Stored). AllZip (IsWord (place_of set forward)) (fields x) (fields z)) same k.pointers) e);
+                shape = shape ∙ ap (λ (z : Stored). length z.pointers) (sym same) ∙ k.shape;
+                words = subst (λ ws. AllZip (IsWord (place_of set forward)) (fields x) ws) (sym words)
+                    (set_one (fields x) (fields y) i (subst (λ (z : Stored). AllZip (IsWord (place_of set forward)) (fields x) (fields z)) same k.words) e);
               }
-          | inr n ↦ record { part = k.part; at = step.others b0 n ∙ k.at; name = k.name; values = k.values; pointers = k.pointers }
+          | inr n ↦ record { part = k.part; at = step.others b0 n ∙ k.at; name = k.name; values = k.values; shape = k.shape; words = k.words }
         ];
     came = λ b0 z at o. elim (cases_eq b0 b) [
       | inl q ↦ let k = v.came b y step.was out in record { from = k.from; object = k.object; at = k.at; placed = k.placed ∙ ap Some (sym q) }
@@ -244,10 +247,10 @@ module _ (set : ℕ → Bool) (h : Heap) (forward : ℕ → Option ℕ) (now : H
       objects = λ c d z at e. elim (placed_before c d e) [
         | inl q ↦
             let same : z ≡ x = let e1 = ap h.kept q.0 in let e2 = v.untouched a step.inside step.unforwarded in let e3 = step.object in cc in
-            record { part = x; at = ap now'.kept q.1 ∙ step.copy; name = ap (λ (y : Stored). y.name) (sym same); values = ap (λ (y : Stored). y.values) (sym same); pointers = subst (λ (y : Stored). AllZip (IsWord (place_of set forward')) (fields y) (fields x)) (sym same) (same_words (fields x)) }
+            record { part = x; at = ap now'.kept q.1 ∙ step.copy; name = ap (λ (y : Stored). y.name) (sym same); values = ap (λ (y : Stored). y.values) (sym same); shape = ap (λ (y : Stored). length y.pointers) (sym same); words = subst (λ (y : Stored). AllZip (IsWord (place_of set forward')) (fields y) (fields x)) (sym same) (same_words (fields x)) }
         | inr q ↦
             let k = v.objects c d z at q.1 in
-            record { part = k.part; at = kept_on d k.part k.at (out_of c d q.1); name = k.name; values = k.values; pointers = AllZip_map (IsWord (place_of set forward)) (IsWord (place_of set forward')) word_grows (fields z) (fields k.part) k.pointers }
+            record { part = k.part; at = kept_on d k.part k.at (out_of c d q.1); name = k.name; values = k.values; shape = k.shape; words = AllZip_map (IsWord (place_of set forward)) (IsWord (place_of set forward')) word_grows (fields z) (fields k.part) k.words }
       ];
       came = λ d y e out. elim (cases_eq d b) [
         | inl q ↦ record { from = a; object = x; at = sym (v.untouched a step.inside step.unforwarded) ∙ step.object; placed = placed_inside set forward' a step.inside ∙ step.forwarded ∙ ap Some (sym q) }
@@ -291,5 +294,5 @@ module _ (set : ℕ → Bool) (h : Heap) (forward : ℕ → Option ℕ) (now : H
       let k = v.objects o.from b o.object o.at o.placed in
       let same : y ≡ k.part = let e1 = k.at in cc in
       let e' = subst (λ (z : Stored). slice_get (fields z) i ≡ Some (Some c)) same e in
-      let (w, is, s) = AllZip-get_right (IsWord (place_of set forward)) (fields o.object) (fields k.part) k.pointers i (Some c) e' in
+      let (w, is, s) = AllZip-get_right (IsWord (place_of set forward)) (fields o.object) (fields k.part) k.words i (Some c) e' in
       word_names w c s (λ a q. closed.field o.from i a o.object o.at (get_as (fields o.object) i w (Some a) is q))

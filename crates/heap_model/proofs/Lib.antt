@@ -1,11 +1,15 @@
 pub mod Lists
 pub mod Names
+pub mod Fields
 pub mod Advance
 pub mod Shown
 pub mod Begin
 pub mod Marks
 pub mod Mutate
 pub mod Finish
+pub mod Cleared
+pub mod Unreached
+pub mod Touched
 pub mod Changed
 pub mod Relocated
 pub mod Evacuated

@@ -1,5 +1,5 @@
 -- Lists by place.
-use Rattle.std.proofs.Common.{◌≡◌, ℕ, zero, suc, ◌⊎◌, List, ◌∷◌, [], ◌++◌, length, Some, refl, ap, ◌∙◌, subst, inl, inr}
+use Rattle.std.proofs.Common.{◌≡◌, ℕ, zero, suc, ◌⊎◌, List, ◌∷◌, [], ◌++◌, length, Some, refl, ap, ◌∙◌, subst, inl, inr, arith}
 use Rattle.std.specs.Prelude.{slice_set, slice_get}
 use Rattle.std.specs.List.{AllZip}
 
@@ -86,3 +86,52 @@ module _ {A B : Type 0} (R Q : A → B → Type 0) where
   AllZip_map_at [] (v ∷ ys) f z = absurd z
   AllZip_map_at (u ∷ xs) [] f z = absurd z
   AllZip_map_at (u ∷ xs) (v ∷ ys) f z = (f zero u v refl z.0, AllZip_map_at xs ys (λ i x y e r. f (suc i) x y e r) z.1)
+
+module _ {A B : Type 0} (R : A → B → Type 0) where
+  pub AllZip-append : (xs : List A) (ys : List B) (us : List A) (vs : List B) → AllZip R xs ys → AllZip R us vs → AllZip R (xs ++ us) (ys ++ vs)
+  AllZip-append [] [] us vs z q = q
+  AllZip-append [] (v ∷ ys) us vs z q = absurd z
+  AllZip-append (u ∷ xs) [] us vs z q = absurd z
+  AllZip-append (u ∷ xs) (v ∷ ys) us vs z q = (z.0, AllZip-append xs ys us vs z.1 q)
+
+  pub AllZip_length : (xs : List A) (ys : List B) → AllZip R xs ys → length ys ≡ length xs
+  AllZip_length [] [] z = refl
+  AllZip_length [] (v ∷ ys) z = absurd z
+  AllZip_length (u ∷ xs) [] z = absurd z
+  AllZip_length (u ∷ xs) (v ∷ ys) z = ap suc (AllZip_length xs ys z.1)
+
+  -- the fronts are equally long
+  pub AllZip-split : (xs : List A) (ys : List B) (us : List A) (vs : List B) → length ys ≡ length xs → AllZip R (xs ++ us) (ys ++ vs) → AllZip R xs ys × AllZip R us vs
+  AllZip-split [] [] us vs e z = (tt, z)
+  AllZip-split [] (v ∷ ys) us vs e z = cc
+  AllZip-split (u ∷ xs) [] us vs e z = cc
+  AllZip-split (u ∷ xs) (v ∷ ys) us vs e z = let (p, q) = AllZip-split xs ys us vs (omega arith) z.1 in ((z.0, p), q)
+
+module _ {A : Type 0} where
+  -- what stands in two lists one after the other stands in one of them
+  pub get-append_cases : (xs ys : List A) (i : ℕ) (x : A) → slice_get (xs ++ ys) i ≡ Some x → (slice_get xs i ≡ Some x) ⊎ ((j : ℕ) × (slice_get ys j ≡ Some x))
+  get-append_cases [] ys i x e = inr (i, e)
+  get-append_cases (u ∷ xs) ys zero x e = inl e
+  get-append_cases (u ∷ xs) ys (suc i) x e = get-append_cases xs ys i x e
+
+  pub get-append_right : (xs ys : List A) (j : ℕ) (x : A) → slice_get ys j ≡ Some x → (i : ℕ) × (slice_get (xs ++ ys) i ≡ Some x)
+  get-append_right [] ys j x e = (j, e)
+  get-append_right (u ∷ xs) ys j x e = let (i, is) = get-append_right xs ys j x e in (suc i, is)
+
+  pub get-append_left : (xs ys : List A) (i : ℕ) (x : A) → slice_get xs i ≡ Some x → slice_get (xs ++ ys) i ≡ Some x
+  get-append_left xs ys i x e = get_kept-append xs ys x i e
+
+  pub get-push_cases : (xs : List A) (y x : A) (i : ℕ) → slice_get (xs ++ y ∷ []) i ≡ Some x → (slice_get xs i ≡ Some x) ⊎ ((i ≡ length xs) × (x ≡ y))
+  get-push_cases [] y x zero e = inr (refl, cc)
+  get-push_cases [] y x (suc i) e = cc
+  get-push_cases (u ∷ xs) y x zero e = inl e
+  get-push_cases (u ∷ xs) y x (suc i) e = elim (get-push_cases xs y x i e) [ inl q ↦ inl q | inr q ↦ inr (ap suc q.0, q.1) ]
+
+  pub length-set : (xs : List A) (i : ℕ) (v : A) → length (slice_set xs i v) ≡ length xs
+  length-set [] i v = refl
+  length-set (x ∷ xs) zero v = refl
+  length-set (x ∷ xs) (suc i) v = ap suc (length-set xs i v)
+
+  pub length-push : (xs : List A) (v : A) → length (xs ++ v ∷ []) ≡ suc (length xs)
+  length-push [] v = refl
+  length-push (x ∷ xs) v = ap suc (length-push xs v)

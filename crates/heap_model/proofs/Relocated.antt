@@ -1,8 +1,8 @@
 -- Moves keep what the heap shows, and the snapshot invariant.
 use Rattle.std.proofs.Common.{◌≡◌, ℕ, true, false, Option, Some, None, refl, sym, ap, ◌∙◌, subst, inl, inr, arith}
 use Rattle.std.specs.List.{AllZip}
-use Rattle.heap_model.specs.Graph.{Graph, object_named, object_fields}
-use Rattle.heap_model.specs.Heap.{Heap, Stored, fields, Points, IsRoot, IsShown, Shows}
+use Rattle.heap_model.specs.Graph.{Graph, object_named}
+use Rattle.heap_model.specs.Heap.{Heap, Stored, Points, IsRoot, IsShown, Shows}
 use Rattle.heap_model.specs.Marking.{Marking, IsFound, ByRoot, ByLive, ByNew, MarkingInvariant}
 use Rattle.heap_model.specs.Relocation.{IsMoved, Relocates, KeepsOld}
 use Rattle.heap_model.proofs.Names.{bool_cases}
@@ -35,7 +35,8 @@ module _ (place : ℕ → Option ℕ) (g : Graph) (h h' : Heap) (shows : Shows g
     pub placed : place from ≡ Some b
     pub name : y.name ≡ object.name
     pub values : y.values ≡ object.values
-    pub pointers : AllZip (IsMoved place) (fields object) (fields y)
+    pub pointers : AllZip (IsMoved place) object.pointers y.pointers
+    pub weaks : AllZip (IsMoved place) object.weaks y.weaks
 
   origin : (b : ℕ) (y : Stored) → h'.kept b ≡ Some y → Origin b y
   origin b y e =
@@ -49,7 +50,8 @@ module _ (place : ℕ → Option ℕ) (g : Graph) (h h' : Heap) (shows : Shows g
         placed = c.placed;
         name = ap (λ (z : Stored). z.name) (sym same) ∙ k.name;
         values = ap (λ (z : Stored). z.values) (sym same) ∙ k.values;
-        pointers = subst (λ (z : Stored). AllZip (IsMoved place) (fields c.object) (fields z)) same k.pointers;
+        pointers = subst (λ (z : Stored). AllZip (IsMoved place) c.object.pointers z.pointers) same k.pointers;
+        weaks = subst (λ (z : Stored). AllZip (IsMoved place) c.object.weaks z.weaks) same k.weaks;
       }
 
   pub relocated_shows : Shows g h'
@@ -70,7 +72,8 @@ module _ (place : ℕ → Option ℕ) (g : Graph) (h h' : Heap) (shows : Shows g
           object = o.object;
           named = ap (object_named g) p.name ∙ o.named;
           values = p.values ∙ o.values;
-          pointers = AllZip_through (IsShown h) (IsMoved place) (IsShown h') shown_moved (fields p.object) (object_fields o.object) (fields x) o.pointers p.pointers;
+          pointers = AllZip_through (IsShown h) (IsMoved place) (IsShown h') shown_moved p.object.pointers o.object.pointers x.pointers o.pointers p.pointers;
+          weaks = AllZip_through (IsShown h) (IsMoved place) (IsShown h') shown_moved p.object.weaks o.object.weaks x.weaks o.weaks p.weaks;
         };
   }
 
@@ -78,7 +81,7 @@ module _ (place : ℕ → Option ℕ) (g : Graph) (h h' : Heap) (shows : Shows g
     edge : (a b : ℕ) → m.old a ≡ true → (p : Points h a b) → m.old b ≡ true → Points h' a b
     edge a b oa p ob =
         let k = r.kept a a p.object p.at (keeps.stays a p.object p.at oa) in
-        let (w, is, t) = AllZip-get (IsMoved place) (fields p.object) (fields k.copy) k.pointers p.field (Some b) p.is in
+        let (w, is, t) = AllZip-get (IsMoved place) p.object.pointers k.copy.pointers k.pointers p.field (Some b) p.is in
         let (c, e, placed) = moved_to place b w t in
         let (y, at, _) = target_reachable g h shows g a b p in
         let stays = keeps.stays b y at ob in
@@ -101,7 +104,7 @@ module _ (place : ℕ → Option ℕ) (g : Graph) (h h' : Heap) (shows : Shows g
     points_back : (c d : ℕ) → m.old d ≡ true → (p : Points h' c d) → Before c d p.object
     points_back c d o p =
         let k = origin c p.object p.at in
-        let (w, is, t) = AllZip-get_right (IsMoved place) (fields k.object) (fields p.object) k.pointers p.field (Some d) p.is in
+        let (w, is, t) = AllZip-get_right (IsMoved place) k.object.pointers p.object.pointers k.pointers p.field (Some d) p.is in
         let (a, e, placed) = moved_from place w d t in
         let before : Points h k.from a = record { object = k.object; at = k.at; field = p.field; is = is ∙ ap Some e } in
         let (y, at, _) = target_reachable g h shows g k.from a before in

@@ -2,8 +2,9 @@
 use Rattle.std.proofs.Common.{◌≡◌, ℕ, Option, Some, None, refl, sym, ap, ◌∙◌}
 use Rattle.std.specs.Prelude.{slice_get}
 use Rattle.heap_model.specs.Graph.{Graph, Object, object_named, object_fields, IsReachable, FromRoot, FromObject}
-use Rattle.heap_model.specs.Heap.{Heap, Stored, Points, IsRoot, IsShown, Shows, StandsOnce, IsClosed, fields}
-use Rattle.heap_model.proofs.Lists.{AllZip-get, AllZip-get_right}
+use Rattle.std.specs.List.{AllZip}
+use Rattle.heap_model.specs.Heap.{Heap, Stored, Points, IsRoot, IsShown, IsObjectShown, Shows, StandsOnce, IsClosed, fields}
+use Rattle.heap_model.proofs.Lists.{AllZip-get, AllZip-get_right, AllZip-append}
 
 -- the object of this name stands at the end of this pointer
 pub record PointsTo (h : Heap) (a n : ℕ) : Type 0 where
@@ -28,9 +29,13 @@ pointer_to : (h : Heap) (a : ℕ) (x : Stored) (i n : ℕ) (w : Option ℕ) → 
 pointer_to h a x i n None at is s = absurd s
 pointer_to h a x i n (Some b) at is s = record { address = b; points = record { object = x; at = at; field = i; is = is }; object = s.0; at = s.1; named = s.2 }
 
-shown_name : (h : Heap) (a : ℕ) (v : Option ℕ) → IsShown h (Some a) v → (n : ℕ) × (v ≡ Some n) × (x : Stored) × (h.kept a ≡ Some x) × (x.name ≡ n)
+pub shown_name : (h : Heap) (a : ℕ) (v : Option ℕ) → IsShown h (Some a) v → (n : ℕ) × (v ≡ Some n) × (x : Stored) × (h.kept a ≡ Some x) × (x.name ≡ n)
 shown_name h a None s = absurd s
 shown_name h a (Some n) s = (n, refl, s.0, s.1, s.2)
+
+-- so all fields show what the graph has
+pub fields_shown : {g : Graph} {h : Heap} (x : Stored) (shown : IsObjectShown g h x) → AllZip (IsShown h) (fields x) (object_fields shown.object)
+fields_shown {g} {h} x shown = AllZip-append (IsShown h) x.pointers shown.object.pointers x.weaks shown.object.weaks shown.pointers shown.weaks
 
 module _ (g : Graph) (h : Heap) (shows : Shows g h) where
   pub root_stands : (j n : ℕ) → slice_get g.roots j ≡ Some (Some n) → StandsRoot h n
@@ -68,7 +73,7 @@ module _ (g : Graph) (h : Heap) (shows : Shows g h) where
         (y, here);
     field = λ b i a y at e.
         let shown = shows.objects b y at in
-        let (v, is, s) = AllZip-get (IsShown h) (fields y) (object_fields shown.object) shown.pointers i (Some a) e in
+        let (v, is, s) = AllZip-get (IsShown h) (fields y) (object_fields shown.object) (fields_shown y shown) i (Some a) e in
         let (n, is', z, here, called) = shown_name h a v s in
         (z, here);
   }

@@ -1,6 +1,6 @@
 -- Copying a set of objects out of their regions, so that the regions can be released. `set` tells the addresses in
 -- those regions, `forward` where the objects that were copied stand now.
-use Rattle.std.specs.Prelude.{◌≡◌, ◌⊎◌, ℕ, Bool, true, false, List, Option, Some, None, slice_get, if◌then◌else◌}
+use Rattle.std.specs.Prelude.{◌≡◌, ◌⊎◌, ℕ, Bool, true, false, List, Option, Some, None, slice_get, length, if◌then◌else◌}
 use Rattle.std.specs.List.{AllZip}
 use Rattle.heap_model.specs.Heap.{Heap, Stored, IsRoot, HasField, fields}
 use Rattle.heap_model.specs.Relocation.{IsMoved, Came}
@@ -20,13 +20,14 @@ place_of set forward a = if set a then forward a else Some a
 abbrev pub IsWord : (ℕ → Option ℕ) → Option ℕ → Option ℕ → Type 0
 IsWord place w w' = (w' ≡ w) ⊎ IsMoved place w w'
 
--- at b stands what x became: the same, but that some of its fields name new places
+-- at b stands what x became: the same, with as many pointers, but that some of its fields name new places
 pub record IsPart (place : ℕ → Option ℕ) (now : Heap) (x : Stored) (b : ℕ) : Type 0 where
   pub part : Stored
   pub at : now.kept b ≡ Some part
   pub name : part.name ≡ x.name
   pub values : part.values ≡ x.values
-  pub pointers : AllZip (IsWord place) (fields x) (fields part)
+  pub shape : length part.pointers ≡ length x.pointers
+  pub words : AllZip (IsWord place) (fields x) (fields part)
 
 -- between two turns of the copying, h being the heap at its start: each placed object stands at its place; outside
 -- the set nothing else is kept; what is not forwarded is untouched; what is forwarded is reached, and lies outside

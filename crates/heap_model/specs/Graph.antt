@@ -1,15 +1,16 @@
 -- The object graph: objects by unchanging names, and root places that lead to them. No object is ever
 -- removed, so objects stand in a list, by name: the first one bears the first name, each later one the next.
-use Rattle.std.specs.Prelude.{◌≡◌, ℕ, ◌+◌, ◌-◌, List, ◌∷◌, [], ◌++◌, length, Option, Some, None, slice_set, slice_get, nat_le, if◌then◌else◌}
+use Rattle.std.specs.Prelude.{◌≡◌, ℕ, ◌+◌, ◌-◌, ◌<◌, List, ◌∷◌, [], ◌++◌, length, Option, Some, None, slice_set, slice_get, nat_le, if◌then◌else◌}
 
--- pointers are nil or names; marking and reachability follow them
+-- pointers and weak slots are nil or names. Marking and reachability follow the pointers alone
 pub record Object : Type 0 where
   pub pointers : List (Option ℕ)
+  pub weaks : List (Option ℕ)
   pub values : List ℕ
 
 -- every field of the object that holds a name, in the order in which the heap stores them
 abbrev pub object_fields : Object → List (Option ℕ)
-object_fields o = o.pointers
+object_fields o = o.pointers ++ o.weaks
 
 pub record Graph : Type 0 where
   -- how many words the heap has
@@ -45,3 +46,8 @@ with_object g o j = record g { objects = g.objects ++ o ∷ []; roots = slice_se
 -- the graph with another object under a name
 abbrev pub with_changed : Graph → ℕ → Object → Graph
 with_changed g n o = record g { objects = slice_set g.objects (n - g.first_name) o }
+
+-- the next name is above every name in the graph
+pub record IsSound (g : Graph) : Type 0 where
+  pub roots : (j n : ℕ) → slice_get g.roots j ≡ Some (Some n) → n < next_name g
+  pub fields : (m i n : ℕ) (o : Object) → object_named g m ≡ Some o → slice_get (object_fields o) i ≡ Some (Some n) → n < next_name g

@@ -1,18 +1,25 @@
 -- A heap as the objects that it keeps, by address, and its root words; and what it shows of a graph.
-use Rattle.std.specs.Prelude.{◌≡◌, ℕ, List, Option, Some, None, slice_set, slice_get, ⊤, ◌⊎◌}
+use Rattle.std.specs.Prelude.{◌≡◌, ℕ, ◌-◌, List, ◌++◌, length, Option, Some, None, slice_set, slice_get, nat_lt, if◌then◌else◌, ⊤, ◌⊎◌}
 use Rattle.std.specs.List.{AllZip}
-use Rattle.heap_model.specs.Graph.{Graph, Object, object_named, object_fields}
+use Rattle.heap_model.specs.Graph.{Graph, Object, object_named}
 
--- an object as the heap stores it: its pointers are nil or addresses
+-- an object as the heap stores it: its pointers and weak slots are nil or addresses
 pub record Stored : Type 0 where
   pub name : ℕ
   pub pointers : List (Option ℕ)
+  pub weaks : List (Option ℕ)
   pub values : List ℕ
 
--- every field that holds an address, in address order. Marking follows the pointers alone, whatever else
--- holds addresses
+-- every field that holds an address, in address order. Marking follows the pointers alone; all that moves objects, or
+-- remembers where a region is named from, goes by the fields
 abbrev pub fields : Stored → List (Option ℕ)
-fields x = x.pointers
+fields x = x.pointers ++ x.weaks
+
+-- the object with another value in a field: in a pointer, or in a weak slot, which stand behind the pointers
+abbrev pub with_field : Stored → ℕ → Option ℕ → Stored
+with_field x i v =
+    if nat_lt i (length x.pointers) then record x { pointers = slice_set x.pointers i v }
+    else record x { weaks = slice_set x.weaks (i - length x.pointers) v }
 
 -- the kept object that starts at an address, and what each root place holds: nil or an address
 pub record Heap : Type 0 where
@@ -30,7 +37,8 @@ IsShown h (Some a) (Some n) = (x : Stored) × (h.kept a ≡ Some x) × (x.name �
 pub record IsObjectShown (g : Graph) (h : Heap) (x : Stored) : Type 0 where
   pub object : Object
   pub named : object_named g x.name ≡ Some object
-  pub pointers : AllZip (IsShown h) (fields x) (object_fields object)
+  pub pointers : AllZip (IsShown h) x.pointers object.pointers
+  pub weaks : AllZip (IsShown h) x.weaks object.weaks
   pub values : x.values ≡ object.values
 
 -- the heap shows the graph: roots agree place by place, kept objects have distinct names, and each has the

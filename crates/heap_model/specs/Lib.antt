@@ -3,6 +3,7 @@ pub mod Paths
 pub mod Count
 pub mod Heap
 pub mod Marking
+pub mod Weak
 pub mod Kept
 pub mod Relocation
 pub mod Evacuation

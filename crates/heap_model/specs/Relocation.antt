@@ -1,7 +1,7 @@
 -- Objects that move, or are gone: `place` tells for each kept object where it stands afterwards, None for gone.
 use Rattle.std.specs.Prelude.{◌≡◌, ℕ, true, Option, Some, None, ⊤}
 use Rattle.std.specs.List.{AllZip}
-use Rattle.heap_model.specs.Heap.{Heap, Stored, fields}
+use Rattle.heap_model.specs.Heap.{Heap, Stored}
 use Rattle.heap_model.specs.Marking.{Marking}
 
 -- the word after the move: where `place` puts its target
@@ -17,7 +17,8 @@ pub record IsCopy (place : ℕ → Option ℕ) (h' : Heap) (x : Stored) (b : ℕ
   pub at : h'.kept b ≡ Some copy
   pub name : copy.name ≡ x.name
   pub values : copy.values ≡ x.values
-  pub pointers : AllZip (IsMoved place) (fields x) (fields copy)
+  pub pointers : AllZip (IsMoved place) x.pointers copy.pointers
+  pub weaks : AllZip (IsMoved place) x.weaks copy.weaks
 
 -- a kept object came to b
 pub record Came (place : ℕ → Option ℕ) (h : Heap) (b : ℕ) : Type 0 where

@@ -1,6 +1,6 @@
 //! Copying the reached objects of a set out of their regions.
 
-ghost use Rattle.std.specs.Prelude.{◌≡◌, ◌⊎◌, ◌↔◌, ℕ, Bool, true, false, Option, Some, None, slice_get, slice_set};
+ghost use Rattle.std.specs.Prelude.{◌≡◌, ◌⊎◌, ◌↔◌, ℕ, Bool, true, false, Option, Some, None, length, slice_get, slice_set};
 ghost use Rattle.heap_model.specs.Heap.{Heap, Stored, IsRoot, IsClosed, RootSet, ObjectSet, fields};
 ghost use Rattle.heap_model.specs.Relocation.{Relocates, IsMoved};
 ghost use Rattle.heap_model.specs.Evacuation.{IsReached, IsEvacuating, IsEvacuated, place_of, released, Copies};
@@ -16,7 +16,8 @@ pub fn turn_law()
         → IsEvacuating set h forward now' }
     ensures field { (set : ℕ → Bool) (h now now' : Heap) (forward : ℕ → Option ℕ) → IsEvacuating set h forward now
         → (b i c d : ℕ) (y y' : Stored) → set b ≡ false → slice_get (fields y) i ≡ Some (Some c) → set c ≡ true → forward c ≡ Some d
-        → ObjectSet now now' b y y' → y'.values ≡ y.values → fields y' ≡ slice_set (fields y) i (Some d)
+        → ObjectSet now now' b y y' → y'.values ≡ y.values
+        → length y'.pointers ≡ length y.pointers → fields y' ≡ slice_set (fields y) i (Some d)
         → IsEvacuating set h forward now' }
 {}
 

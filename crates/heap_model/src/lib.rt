@@ -12,7 +12,10 @@
 //! - marking begins with the present graph as its snapshot, goes on beside mutators whose overwritten pointers are
 //!   saved, and ends with exactly those names marked that were reachable in the snapshot (`marking::begin_law`,
 //!   `put_law` and the like, `done_law`);
-//! - what is marked, or was made since, still shows the graph, so the rest may be reclaimed (`done_law`);
+//! - what a mutator reads from a weak slot meanwhile is saved, and its name counts as a root of the snapshot
+//!   (`weak::touch_law`);
+//! - what is marked, or was made since, still shows the graph once weak slots are cleared in both, so the rest may be
+//!   reclaimed (`weak::clear_law`, `marking::done_law`);
 //! - a heap whose objects were moved shows the graph, and so does one whose reached objects were copied out of a set
 //!   of regions that is then released (`relocation::move_law`, `evacuation::evacuation_law`).
 //!
@@ -26,7 +29,7 @@
 //!
 //! The definitions, in order of reading: `Graph` (objects by name, `IsReachable`), `Heap` (objects by address,
 //! `Shows`, `StandsOnce`), `Marking` (the snapshot-at-the-beginning invariant `KeepsSnapshot`, the steps that keep
-//! it, `MarksExactly`), `Kept` (what is kept by marks and tops at mark start), `Relocation`, `Evacuation`; `Paths`
+//! it, `MarksExactly`), `Weak` (touched names, `KeepsUnreached`, `Clears`), `Kept` (what is kept by marks and tops at mark start), `Relocation`, `Evacuation`; `Paths`
 //! and `Count` say again what reachable is.
 #![tactic(auto)]
 
@@ -35,3 +38,4 @@ pub mod marking;
 pub mod reaching;
 pub mod relocation;
 pub mod showing;
+pub mod weak;

@@ -1,9 +1,10 @@
 //! Marking from a snapshot: it begins, goes on beside mutators, and is exact at its end.
 
-ghost use Rattle.std.specs.Prelude.{◌≡◌, ℕ, ◌≤◌, ◌⊎◌, Bool, false, List, Option, Some, length, slice_get, slice_set};
+ghost use Rattle.std.specs.Prelude.{◌≡◌, ℕ, ◌≤◌, ◌⊎◌, Bool, true, false, List, Option, Some, length, slice_get, slice_set};
 ghost use Rattle.heap_model.specs.Graph.{Graph, IsReachable, next_name};
 ghost use Rattle.heap_model.specs.Heap.{Heap, Stored, Shows, IsRoot, IsHeld, RootSet, ObjectSet, ObjectAdded, SameHeap};
-ghost use Rattle.heap_model.specs.Marking.{Marking, KeepsSnapshot, Begins, MarksMore, IsSaved, IsDone, MarksExactly, SameMarking, kept_after};
+ghost use Rattle.heap_model.specs.Marking.{Marking, KeepsSnapshot, Begins, MarksMore, IsSaved, IsDone, MarksExactly, SameMarking};
+ghost use Rattle.heap_model.specs.Weak.{cleared_object, cleared_after};
 ghost use Rattle.heap_model.specs.Kept.{kept_by};
 ghost use Rattle.heap_model.specs.Count.{IsReachableCount, ListsMarked};
 
@@ -32,7 +33,7 @@ pub fn put_law()
         → IsSaved m m' was → KeepsSnapshot s h' m' }
 {}
 
-/// A store into data words keeps the invariant.
+/// A store into data words or weak slots keeps the invariant.
 pub fn write_law()
     ensures { (s : Graph) (h h' : Heap) (m : Marking) (d : ℕ) (x y : Stored)
         → KeepsSnapshot s h m → ObjectSet h h' d x y → y.pointers ≡ x.pointers → KeepsSnapshot s h' m }
@@ -49,16 +50,16 @@ pub fn same_marking_law()
     ensures { (s : Graph) (h h' : Heap) (m m' : Marking) → KeepsSnapshot s h m → SameHeap h h' → SameMarking m m' → KeepsSnapshot s h' m' }
 {}
 
-/// At the end marking is exact. What is kept from then on shows the same graph: all that was reachable in the
+/// At the end marking is exact. What is kept from then on, its weak slots cleared, is all that was reachable in the
 /// snapshot, and what was made since. Where no mutator took a step meanwhile, that is what is reachable.
 pub fn done_law()
     ensures exact { (s g : Graph) (h : Heap) (m : Marking) → Shows g h → KeepsSnapshot s h m → IsDone m → MarksExactly s h m }
-    ensures shows { (s g : Graph) (h : Heap) (m : Marking) → Shows g h → KeepsSnapshot s h m → IsDone m → Shows g (record { kept = kept_after h m; roots = h.roots }) }
     ensures all { (s : Graph) (h : Heap) (m : Marking) → KeepsSnapshot s h m → IsDone m
-        → (n : ℕ) → IsReachable s n → (a : ℕ) × (x : Stored) × (kept_after h m a ≡ Some x) × (x.name ≡ n) }
+        → (n : ℕ) → IsReachable s n → (a : ℕ) × (x : Stored) × (cleared_after h m a ≡ Some x) × (x.name ≡ n) }
     ensures only { (s : Graph) (h : Heap) (m : Marking) → KeepsSnapshot s h m → IsDone m
-        → (a : ℕ) (x : Stored) → kept_after h m a ≡ Some x → IsReachable s x.name ⊎ (next_name s ≤ x.name) }
-    ensures quiet { (g : Graph) (h : Heap) (m : Marking) → Shows g h → KeepsSnapshot g h m → IsDone m → (a : ℕ) (x : Stored) → kept_after h m a ≡ Some x → IsReachable g x.name }
+        → (a : ℕ) (x : Stored) → cleared_after h m a ≡ Some x → IsReachable s x.name ⊎ (next_name s ≤ x.name) }
+    ensures quiet { (g : Graph) (h : Heap) (m : Marking) → Shows g h → KeepsSnapshot g h m → IsDone m
+        → (a : ℕ) (x : Stored) → cleared_after h m a ≡ Some x → IsReachable g x.name }
 {}
 
 /// The number of marked addresses at the end is that of the names that are reachable in the snapshot.
@@ -68,10 +69,11 @@ pub fn count_law()
 {}
 
 /// When the new marks and tops at mark start take the place of the previous ones, above which they lie, they keep
-/// what marking keeps.
+/// what marking keeps, its weak slots cleared, where those of the objects that are marked or new were cleared before.
 pub fn kept_law()
-    ensures { (s : Graph) (tiles : ℕ → Option Stored) (below marked : ℕ → Bool) (roots : List (Option ℕ)) (m : Marking)
+    ensures { (s : Graph) (tiles cleared_tiles : ℕ → Option Stored) (below marked : ℕ → Bool) (roots : List (Option ℕ)) (m : Marking)
         → KeepsSnapshot s (record { kept = kept_by tiles below marked; roots = roots }) m
         → ((a : ℕ) → m.old a ≡ false → below a ≡ false)
-        → (a : ℕ) → kept_by tiles m.old m.marked a ≡ kept_after (record { kept = kept_by tiles below marked; roots = roots }) m a }
+        → ((a : ℕ) → (m.marked a ≡ true) ⊎ (m.old a ≡ false) → cleared_tiles a ≡ cleared_object m (tiles a))
+        → (a : ℕ) → kept_by cleared_tiles m.old m.marked a ≡ cleared_after (record { kept = kept_by tiles below marked; roots = roots }) m a }
 {}

@@ -1,9 +1,9 @@
 //! What a heap shows of a graph, and how a mutator's steps carry it along.
 
-ghost use Rattle.std.specs.Prelude.{◌≡◌, ℕ, Option, Some, slice_get};
+ghost use Rattle.std.specs.Prelude.{◌≡◌, ℕ, Option, Some, length, slice_get, slice_set};
 ghost use Rattle.std.specs.List.{AllZip};
-ghost use Rattle.heap_model.specs.Graph.{Graph, Object, IsReachable, next_name, object_named, object_fields, with_root, with_object, with_changed};
-ghost use Rattle.heap_model.specs.Heap.{Heap, Stored, Shows, IsShown, StandsOnce, IsClosed, RootSet, ObjectSet, ObjectAdded, SameHeap, fields};
+ghost use Rattle.heap_model.specs.Graph.{Graph, Object, IsReachable, next_name, object_named, with_root, with_object, with_changed};
+ghost use Rattle.heap_model.specs.Heap.{Heap, Stored, Shows, IsShown, StandsOnce, IsClosed, RootSet, ObjectSet, ObjectAdded, SameHeap, fields, with_field};
 
 /// Each object that a root reaches stands in the heap once, with the graph's contents.
 pub fn stands_law()
@@ -15,16 +15,27 @@ pub fn closed_law()
     ensures { (g : Graph) (h : Heap) → Shows g h → IsClosed h }
 {}
 
-/// What is read of the heap is what the graph has: root places, fields, data words.
+/// What is read of the heap is what the graph has: root places, pointers, weak slots, data words.
 pub fn read_law()
     ensures root { (g : Graph) (h : Heap) → Shows g h
         → (place : ℕ) (w : Option ℕ) → slice_get h.roots place ≡ Some w
         → (v : Option ℕ) × (slice_get g.roots place ≡ Some v) × IsShown h w v }
-    ensures field { (g : Graph) (h : Heap) → Shows g h
-        → (a i : ℕ) (x : Stored) (w : Option ℕ) → h.kept a ≡ Some x → slice_get (fields x) i ≡ Some w
-        → (o : Object) × (object_named g x.name ≡ Some o) × (v : Option ℕ) × (slice_get (object_fields o) i ≡ Some v) × IsShown h w v }
+    ensures pointer { (g : Graph) (h : Heap) → Shows g h
+        → (a i : ℕ) (x : Stored) (w : Option ℕ) → h.kept a ≡ Some x → slice_get x.pointers i ≡ Some w
+        → (o : Object) × (object_named g x.name ≡ Some o) × (v : Option ℕ) × (slice_get o.pointers i ≡ Some v) × IsShown h w v }
+    ensures weak { (g : Graph) (h : Heap) → Shows g h
+        → (a i : ℕ) (x : Stored) (w : Option ℕ) → h.kept a ≡ Some x → slice_get x.weaks i ≡ Some w
+        → (o : Object) × (object_named g x.name ≡ Some o) × (v : Option ℕ) × (slice_get o.weaks i ≡ Some v) × IsShown h w v }
     ensures values { (g : Graph) (h : Heap) → Shows g h
         → (a : ℕ) (x : Stored) → h.kept a ≡ Some x → (o : Object) × (object_named g x.name ≡ Some o) × (x.values ≡ o.values) }
+{}
+
+/// Setting a field sets it in the list of the fields; there are as many pointers as before, and the rest stays.
+pub fn field_law()
+    ensures field { (x : Stored) (i : ℕ) (v : Option ℕ) → fields (with_field x i v) ≡ slice_set (fields x) i v }
+    ensures shape { (x : Stored) (i : ℕ) (v : Option ℕ) → length (with_field x i v).pointers ≡ length x.pointers }
+    ensures name { (x : Stored) (i : ℕ) (v : Option ℕ) → (with_field x i v).name ≡ x.name }
+    ensures values { (x : Stored) (i : ℕ) (v : Option ℕ) → (with_field x i v).values ≡ x.values }
 {}
 
 /// A root place set in both.
@@ -37,14 +48,14 @@ pub fn root_set_law()
 pub fn object_set_law()
     ensures { (g : Graph) (h h' : Heap) → Shows g h
         → (d : ℕ) (x y : Stored) (o p : Object) → ObjectSet h h' d x y → object_named g x.name ≡ Some o
-        → AllZip (IsShown h) (fields y) (object_fields p) → y.values ≡ p.values → Shows (with_changed g x.name p) h' }
+        → AllZip (IsShown h) y.pointers p.pointers → AllZip (IsShown h) y.weaks p.weaks → y.values ≡ p.values → Shows (with_changed g x.name p) h' }
 {}
 
 /// An object added to both, under the graph's next name.
 pub fn object_added_law()
     ensures { (g : Graph) (h h' : Heap) → Shows g h
         → (a : ℕ) (x : Stored) (o : Object) (place : ℕ) → ObjectAdded h h' a x place → x.name ≡ next_name g
-        → AllZip (IsShown h) (fields x) (object_fields o) → x.values ≡ o.values → Shows (with_object g o place) h' }
+        → AllZip (IsShown h) x.pointers o.pointers → AllZip (IsShown h) x.weaks o.weaks → x.values ≡ o.values → Shows (with_object g o place) h' }
 {}
 
 /// Only what is kept at each address counts, and the root words.

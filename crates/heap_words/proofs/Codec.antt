@@ -6,9 +6,9 @@ use Rattle.heap_words.specs.declared.header.Header.{Header}
 use Rattle.heap_words.specs.declared.header.Header.TheVariants.{Object, Filler, Forwarded}
 use Rattle.heap_words.specs.Headers.{header_of, header_word, IsHeader}
 
-object_again : (p d : ℕ) → p < 2 ^ 24 → d < 2 ^ 24 → header_of (p * 2 ^ 8 + d * 2 ^ 32) ≡ Some (Object p d)
+object_again : (p w d : ℕ) → p < 2 ^ 24 → w < 2 ^ 8 → d < 2 ^ 24 → header_of (p * 2 ^ 8 + d * 2 ^ 32 + w * 2 ^ 56) ≡ Some (Object p w d)
 unfolding header_of
-object_again p d h g = grind (arith, common_steps, nat_tests)
+object_again p w d h k g = grind (arith, common_steps, nat_tests)
 
 filler_again : (n : ℕ) → 0 < n → n < 2 ^ 24 → header_of (n * 2 ^ 8 + 1) ≡ Some (Filler n)
 unfolding header_of
@@ -19,6 +19,6 @@ unfolding header_of
 forwarded_again n h = grind (arith, common_steps, nat_tests)
 
 pub header_of-word : (h : Header) → IsHeader h → header_of (header_word h) ≡ Some h
-header_of-word (Object p d) h = object_again p d h.0 h.1
+header_of-word (Object p w d) h = object_again p w d h.0 h.1 h.2
 header_of-word (Filler n) h = filler_again n h.0 h.1
 header_of-word (Forwarded n) h = forwarded_again n h

@@ -1,5 +1,5 @@
 -- What the words of a heap hold.
-use Rattle.std.specs.Prelude.{ℕ, zero, suc, List, [], ◌∷◌, ◌++◌, length, drop, slice_index, Option, Some, None}
+use Rattle.std.specs.Prelude.{ℕ, zero, suc, ◌+◌, List, [], ◌∷◌, ◌++◌, length, drop, slice_index, Option, Some, None}
 use Rattle.heap_words.specs.declared.header.Header.{Header}
 use Rattle.heap_words.specs.declared.header.Header.TheVariants.{Object, Filler, Forwarded}
 use Rattle.heap_words.specs.declared.header.Counts.{Counts}
@@ -12,19 +12,29 @@ header_at words at = header_of (slice_index words at)
 -- the counts of an object's header
 abbrev pub counts_of : Option Header → Option Counts
 counts_of None = None
-counts_of (Some (Object p d)) = Some (record { pointers = p; values = d })
+counts_of (Some (Object p w d)) = Some (record { pointers = p; weaks = w; values = d })
 counts_of (Some (Filler n)) = None
 counts_of (Some (Forwarded to)) = None
 
 -- how many pointers a header's object has
 abbrev pub pointer_count : Option Header → ℕ
 pointer_count None = 0
-pointer_count (Some (Object p d)) = p
+pointer_count (Some (Object p w d)) = p
 pointer_count (Some (Filler n)) = 0
 pointer_count (Some (Forwarded to)) = 0
 
 abbrev pub pointer_count_at : List ℕ → ℕ → ℕ
 pointer_count_at words at = pointer_count (header_at words at)
+
+-- how many fields it has: pointers, and weak slots behind them
+abbrev pub field_count : Option Header → ℕ
+field_count None = 0
+field_count (Some (Object p w d)) = p + w
+field_count (Some (Filler n)) = 0
+field_count (Some (Forwarded to)) = 0
+
+abbrev pub field_count_at : List ℕ → ℕ → ℕ
+field_count_at words at = field_count (header_at words at)
 
 -- the words with a block in place of as many from an address on
 abbrev pub put : List ℕ → ℕ → List ℕ → List ℕ

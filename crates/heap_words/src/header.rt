@@ -75,11 +75,13 @@ impl FillerSize {
     }
 }
 
-/// How many pointers and data words an object has.
+/// How many pointers, weak slots and data words an object has.
 #[derive(Clone, Copy, Debug, PartialEq, Eq)]
 pub struct Counts {
     /// How many pointers.
     pub pointers: Count,
+    /// How many weak slots.
+    pub weaks: u8,
     /// How many data words.
     pub values: Count,
 }
@@ -87,12 +89,20 @@ pub struct Counts {
 /// The header of a tile, told apart by its two lowest bits.
 #[derive(Clone, Copy, Debug, PartialEq, Eq)]
 pub enum Header {
-    /// 0: the count of pointers in bits 8 to 31, of data words in bits 32 to 55.
-    Object { pointers: Count, data: Count },
+    /// 0: the count of pointers in bits 8 to 31, of data words in bits 32 to 55, of weak slots in bits 56 to 63.
+    Object {
+        pointers: Count,
+        weaks: u8,
+        data: Count,
+    },
     /// 1: the filler's size in bits 8 to 31.
-    Filler { size: FillerSize },
+    Filler {
+        size: FillerSize,
+    },
     /// 2: the new address in bits 8 to 39.
-    Forwarded { to: Addr },
+    Forwarded {
+        to: Addr,
+    },
 }
 
 /// The word of a header.
@@ -103,8 +113,14 @@ pub fn encode_header(header: Header) -> u64
     ensures fits { IsHeader header }
 {
     match header {
-        Header::Object { pointers, data } => {
-            (u64::from(pointers.get()) << 8) | (u64::from(data.get()) << 32)
+        Header::Object {
+            pointers,
+            weaks,
+            data,
+        } => {
+            (u64::from(pointers.get()) << 8)
+                | (u64::from(data.get()) << 32)
+                | (u64::from(weaks) << 56)
         }
         Header::Filler { size } => (u64::from(size.get()) << 8) | 1,
         Header::Forwarded { to } => (u64::from(to.word()) << 8) | 2,
@@ -120,10 +136,11 @@ pub fn decode_header(word: u64) -> Option<Header>
 {
     let low = word & 0xff;
     let rest = word >> 8;
-    if low == 0 && rest < 1 << 48 {
+    if low == 0 {
         Some(Header::Object {
             pointers: Count::new((rest & 0xff_ffff) as u32),
-            data: Count::new((rest >> 24) as u32),
+            weaks: (rest >> 48) as u8,
+            data: Count::new(((rest >> 24) & 0xff_ffff) as u32),
         })
     } else if low == 1 && 0 < rest && rest < 1 << 24 {
         Some(Header::Filler {
@@ -164,12 +181,13 @@ pub fn encode_pointer(target: Ptr) -> u64
 mod tests {
     use super::*;
 
-    fn object(pointers: u32, values: u32) -> Header
+    fn object(pointers: u32, weaks: u8, values: u32) -> Header
         requires pointers { pointers < 2 ^ 24 }
         requires values { values < 2 ^ 24 }
     {
         Header::Object {
             pointers: Count::new(pointers),
+            weaks,
             data: Count::new(values),
         }
     }
@@ -190,14 +208,19 @@ mod tests {
     /// Words that were put together by hand from the layout.
     #[test]
     fn reads_and_writes_headers(rt: HostRuntime) {
-        assert_eq!(rt; encode_header(object(1, 1)), 4_294_967_552);
+        assert_eq!(rt; encode_header(object(1, 0, 1)), 4_294_967_552);
+        assert_eq!(rt; encode_header(object(1, 1, 1)), 72_057_598_332_895_488);
         assert_eq!(rt; encode_header(filler(5)), 1281);
         assert_eq!(rt; encode_header(forwarded(16)), 4098);
-        assert_eq!(rt; decode_header(4_294_967_552), Some(object(1, 1)));
+        assert_eq!(rt; decode_header(4_294_967_552), Some(object(1, 0, 1)));
+        assert_eq!(rt;
+            decode_header(72_057_598_332_895_488),
+            Some(object(1, 1, 1))
+        );
         assert_eq!(rt; decode_header(1281), Some(filler(5)));
         assert_eq!(rt; decode_header(4098), Some(forwarded(16)));
-        assert_eq!(rt; decode_header(0), Some(object(0, 0)));
-        for word in [1, 3, 4, 1 << 32 | 1, 1 << 40 | 2, 1 << 56] {
+        assert_eq!(rt; decode_header(0), Some(object(0, 0, 0)));
+        for word in [1, 3, 4, 1 << 32 | 1, 1 << 40 | 2, 1 << 56 | 3] {
             assert_eq!(rt; decode_header(word), None, "at {word}");
         }
     }

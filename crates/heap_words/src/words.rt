@@ -1,15 +1,15 @@
 //! The words of a heap, read and written as objects.
 //!
-//! An object is its header, its name, its pointers and its data, one word each:
+//! An object is its header, its name, its pointers, its weak slots and its data, one word each:
 //!
 //! ```text
-//!   object            + 1     + 2           + 2 + p         + 2 + p + d
-//!   | header: p and d | name  | p pointers  | d data words  |
+//!   object              + 1    + 2          + 2 + p        + 2 + p + w    + 2 + p + w + d
+//!   | header: p, w, d   | name | p pointers | w weak slots | d data words |
 //! ```
 
 ghost use Rattle.std.specs.Prelude.{◌≡◌, ◌+◌, ◌<◌, ◌≤◌, ◌∷◌, length, replicate, slice_index, slice_set, take, drop, IfOk};
 ghost use Rattle.heap_words.specs.Headers.{header_of, header_word, pointer_of, pointer_word};
-ghost use Rattle.heap_words.specs.Contents.{put, header_at, counts_of, pointer_count_at};
+ghost use Rattle.heap_words.specs.Contents.{put, header_at, counts_of, field_count_at};
 ghost use Rattle.heap_words.specs.declared.header.Header.TheVariants as headers;
 
 use crate::addr::{Addr, Ptr};
@@ -60,8 +60,13 @@ fn counts_in(word: u64) -> Option<Counts>
 {
     match decode_header(word) {
         Some(header) => match header {
-            Header::Object { pointers, data } => Some(Counts {
+            Header::Object {
                 pointers,
+                weaks,
+                data,
+            } => Some(Counts {
+                pointers,
+                weaks,
                 values: data,
             }),
             Header::Filler { .. } | Header::Forwarded { .. } => None,
@@ -95,7 +100,7 @@ impl Words {
         decode_header(self.items[at.word() as usize])
     }
 
-    /// How many pointers and data words the object at an address has, None if no object's header is there.
+    /// How many pointers, weak slots and data words the object at an address has, None if no object's header is there.
     pub fn object_at(&self, at: Addr) -> Option<Counts>
         requires { at < length self.now }
         ensures { result ≡ counts_of (header_at self.now at) }
@@ -111,16 +116,16 @@ impl Words {
         self.items[object.word() as usize + 1]
     }
 
-    /// A pointer of the object at an address, counted from 0.
-    pub fn get_ptr(&self, object: Addr, field: u32) -> Ptr
+    /// A field of the object at an address, counted from 0: its pointers, then its weak slots.
+    pub fn get_field(&self, object: Addr, field: u32) -> Ptr
         requires { object + 2 + field < length self.now }
         ensures { result ≡ pointer_of (slice_index self.now (object + 2 + field)) }
     {
         decode_pointer(self.items[object.word() as usize + 2 + field as usize])
     }
 
-    /// Sets a pointer of the object at an address.
-    pub fn set_ptr(&mut self, object: Addr, field: u32, target: Ptr)
+    /// Sets a field of the object at an address.
+    pub fn set_field(&mut self, object: Addr, field: u32, target: Ptr)
         requires { object + 2 + field < length self.old }
         ensures word { self.new ≡ slice_set self.old (object + 2 + field) (pointer_word target) }
         ensures back { pointer_of (pointer_word target) ≡ target }
@@ -131,20 +136,20 @@ impl Words {
     /// Where a data word of the object at an address is.
     fn data_place(&self, object: Addr, field: u32) -> usize
         requires { object < length self.now }
-        ensures { result ≡ object + 2 + pointer_count_at self.now object + field }
+        ensures { result ≡ object + 2 + field_count_at self.now object + field }
     {
-        let pointers = match self.object_at(object) {
-            Some(counts) => counts.pointers.get(),
+        let fields = match self.object_at(object) {
+            Some(counts) => counts.pointers.get() + u32::from(counts.weaks),
             None => 0,
         };
-        object.word() as usize + 2 + pointers as usize + field as usize
+        object.word() as usize + 2 + fields as usize + field as usize
     }
 
-    /// A data word of the object at an address, counted from 0 behind the pointers that its header tells.
+    /// A data word of the object at an address, counted from 0 behind the fields that its header tells.
     pub fn get_data(&self, object: Addr, field: u32) -> u64
         requires at { object < length self.now }
-        requires within { object + 2 + pointer_count_at self.now object + field < length self.now }
-        ensures { result ≡ slice_index self.now (object + 2 + pointer_count_at self.now object + field) }
+        requires within { object + 2 + field_count_at self.now object + field < length self.now }
+        ensures { result ≡ slice_index self.now (object + 2 + field_count_at self.now object + field) }
     {
         self.items[self.data_place(object, field)]
     }
@@ -152,22 +157,27 @@ impl Words {
     /// Sets a data word of the object at an address.
     pub fn set_data(&mut self, object: Addr, field: u32, value: u64)
         requires at { object < length self.old }
-        requires within { object + 2 + pointer_count_at self.old object + field < length self.old }
-        ensures { self.new ≡ slice_set self.old (object + 2 + pointer_count_at self.old object + field) value }
+        requires within { object + 2 + field_count_at self.old object + field < length self.old }
+        ensures { self.new ≡ slice_set self.old (object + 2 + field_count_at self.old object + field) value }
     {
         let at = self.data_place(object, field);
         self.items[at] = value;
     }
 
-    /// Writes an object whose pointers are nil and whose data words are 0.
+    /// Writes an object whose pointers and weak slots are nil and whose data words are 0.
     pub fn write_object(&mut self, at: Addr, name: u64, counts: Counts)
-        requires { at + (2 + counts.pointers + counts.values) ≤ length self.old }
-        ensures { self.new ≡ put self.old at (header_word (headers.Object counts.pointers counts.values) ∷ name ∷ replicate (counts.pointers + counts.values) 0) }
+        requires { at + (2 + counts.pointers + counts.weaks + counts.values) ≤ length self.old }
+        ensures { self.new ≡ put self.old at (header_word (headers.Object counts.pointers counts.weaks counts.values) ∷ name ∷ replicate (counts.pointers + counts.weaks + counts.values) 0) }
     {
-        let Counts { pointers, values } = counts;
-        let fields = pointers.get() as usize + values.get() as usize;
+        let Counts {
+            pointers,
+            weaks,
+            values,
+        } = counts;
+        let fields = pointers.get() as usize + usize::from(weaks) + values.get() as usize;
         let header = encode_header(Header::Object {
             pointers,
+            weaks,
             data: values,
         });
         write_fresh(&mut self.items, at.word() as usize, header, name, fields);
@@ -209,22 +219,24 @@ mod tests {
     use super::*;
     use std::test::Fail;
 
-    fn pointers_of(words: &Words, object: Addr) -> u32
+    fn fields_of(words: &Words, object: Addr) -> u32
         requires { object < length words.now }
-        ensures { result ≡ pointer_count_at words.now object }
+        ensures { result ≡ field_count_at words.now object }
     {
         match words.object_at(object) {
-            Some(counts) => counts.pointers.get(),
+            Some(counts) => u32::from(counts.weaks) + counts.pointers.get(),
             None => 0,
         }
     }
 
     fn small() -> Counts
         ensures pointers { result.pointers ≡ 1 }
+        ensures weaks { result.weaks ≡ 0 }
         ensures values { result.values ≡ 2 }
     {
         Counts {
             pointers: Count::new(1),
+            weaks: 0,
             values: Count::new(2),
         }
     }
@@ -238,9 +250,9 @@ mod tests {
         words.write_object(object, 7, small());
         assert!(rt; words.len() == 16);
         words.write_filler(Addr::new(6), FillerSize::new(2));
-        words.set_ptr(object, 0, Some(Addr::new(8)));
+        words.set_field(object, 0, Some(Addr::new(8)));
         assert!(rt; words.len() == 16);
-        assert!(rt; pointers_of(&words, object) == 1);
+        assert!(rt; fields_of(&words, object) == 1);
         words.set_data(object, 1, 9);
         assert!(rt; words.len() == 16);
         words.copy(object, Addr::new(8), 5);
@@ -248,10 +260,10 @@ mod tests {
         words.write_forwarded(object, Addr::new(8));
         assert!(rt; words.len() == 16);
         let copy = Addr::new(8);
-        assert!(rt; pointers_of(&words, copy) == 1);
+        assert!(rt; fields_of(&words, copy) == 1);
         assert_eq!(rt; words.object_at(copy), Some(small()));
         assert_eq!(rt; words.name(copy), 7);
-        assert_eq!(rt; words.get_ptr(copy, 0), Some(Addr::new(8)));
+        assert_eq!(rt; words.get_field(copy, 0), Some(Addr::new(8)));
         assert_eq!(rt; words.get_data(copy, 0), 0);
         assert_eq!(rt; words.get_data(copy, 1), 9);
         let size = FillerSize::new(2);

@@ -1,10 +1,11 @@
 -- What is kept when regions lose their objects, and when marking is over.
-use Rattle.std.proofs.Common.{inl, inr, ◌≡◌, ℕ, ◌/◌, ◌<◌, ◌≤◌, Bool, true, false, List, Option, None, get_or, refl, ap, ◌∙◌, arith, ⊎_elim}
+use Rattle.std.proofs.Common.{inl, inr, ◌≡◌, ◌⊎◌, ℕ, ◌/◌, ◌<◌, ◌≤◌, Bool, true, false, List, Option, None, get_or, refl, ap, ◌∙◌, arith, ⊎_elim}
 use Rattle.std.specs.Prelude.{if◌then◌else◌}
 use Rattle.std.proofs.lemmas.Bool.{cases_lt, cases_Bool, le-ltb, lt-ltb}
 use Rattle.heap_model.specs.Graph.{Graph, IsReachable, next_name}
 use Rattle.heap_model.specs.Heap.{Stored}
-use Rattle.heap_model.specs.Marking.{KeepsSnapshot, kept_after}
+use Rattle.heap_model.specs.Marking.{KeepsSnapshot}
+use Rattle.heap_model.specs.Weak.{cleared_object, cleared_after}
 use Rattle.heap_model.proofs.Kept.{kept_by_marks}
 use Rattle.regions.specs.Table.{Table, object_at}
 use Rattle.mark_bitmap.specs.Marks.{is_marked}
@@ -52,9 +53,12 @@ newer_below t tops a newer h =
     let far : next ≤ a = ⊎_elim (λ b. let e = lt-ltb a next b in absurd (let f = h in cc)) (λ b. b) (cases_lt a next) in
     le-ltb a (get_or tops.previous (a / t.words_per_region) 0) (omega (arith, far, newer (a / t.words_per_region)))
 
-pub swap_kept : (s : Graph) (t : Table) (tops : Tops) (previous next : List Bool) (scans : Scans) (logged : List ℕ) (roots : List (Option ℕ))
+pub swap_kept : (s : Graph) (t t' : Table) (tops : Tops) (previous next : List Bool) (scans : Scans) (logged : List ℕ) (roots : List (Option ℕ))
     → AreNewer tops → KeepsSnapshot s (heap_in t tops previous roots) (marking_in t tops next scans logged)
-    → (a : ℕ) → kept_in t (exchanged tops) next a ≡ kept_after (heap_in t tops previous roots) (marking_in t tops next scans logged) a
-swap_kept s t tops previous next scans logged roots newer i a =
-    kept_by_marks (IsReachable s) (next_name s) (object_at t) (below_previous t tops) (is_marked previous) roots (marking_in t tops next scans logged) i
-    (λ b h. newer_below t tops b newer h) a
+    → t'.words_per_region ≡ t.words_per_region
+    → ((a : ℕ) → (is_marked next a ≡ true) ⊎ (below_next t tops a ≡ false) → object_at t' a ≡ cleared_object (marking_in t tops next scans logged) (object_at t a))
+    → (a : ℕ) → kept_in t' (exchanged tops) next a ≡ cleared_after (heap_in t tops previous roots) (marking_in t tops next scans logged) a
+swap_kept s t t' tops previous next scans logged roots newer i words clears a =
+    ap (λ (w : ℕ). if is_below w tops.next a then (if is_marked next a then object_at t' a else None) else object_at t' a) words
+    ∙ (kept_by_marks (IsReachable s) (next_name s) (object_at t) (object_at t') (below_previous t tops) (is_marked previous) roots (marking_in t tops next scans logged) i
+    (λ b h. newer_below t tops b newer h) clears a)

@@ -33,15 +33,15 @@ fresh_objects t count words tops marks regions size low none =
     }
 
 -- what has an object's shape is one
-object_shape : (o : Option Tile) (shape : Shape) (p d : ℕ) → IsSome o → IfSome o (λ u. shape ≡ tile_shape u) → shape ≡ shapes.Object p d → (s : Stored) × (tile_object o ≡ Some s)
-object_shape None shape p d some is e = cc
-object_shape (Some (Live s)) shape p d some is e = (s, refl)
-object_shape (Some (Gap n)) shape p d some is e = cc
-object_shape (Some (Moved to n)) shape p d some is e = cc
+object_shape : (o : Option Tile) (shape : Shape) (p weak d : ℕ) → IsSome o → IfSome o (λ u. shape ≡ tile_shape u) → shape ≡ shapes.Object p weak d → (s : Stored) × (tile_object o ≡ Some s)
+object_shape None shape p weak d some is e = cc
+object_shape (Some (Live s)) shape p weak d some is e = (s, refl)
+object_shape (Some (Gap n)) shape p weak d some is e = cc
+object_shape (Some (Moved to n)) shape p weak d some is e = cc
 
-pub shaped_object : (t : Table) (a : ℕ) (shape : Shape) (p d : ℕ) → IsSome (tile_in t a) → IfSome (tile_in t a) (λ u. shape ≡ tile_shape u) → shape ≡ shapes.Object p d → (s : Stored) × (object_at t a ≡ Some s)
+pub shaped_object : (t : Table) (a : ℕ) (shape : Shape) (p weak d : ℕ) → IsSome (tile_in t a) → IfSome (tile_in t a) (λ u. shape ≡ tile_shape u) → shape ≡ shapes.Object p weak d → (s : Stored) × (object_at t a ≡ Some s)
 unfolding object_at
-shaped_object t a shape p d some is e = object_shape (tile_in t a) shape p d some is e
+shaped_object t a shape p weak d some is e = object_shape (tile_in t a) shape p weak d some is e
 
 -- a filler just pushed is there
 pub pushed_there : (t t' : Table) (k a n : ℕ) → IsShaped t → k < length t.regions → kind_of t k ≡ kinds.Ordinary → used_of t k + n ≤ t.words_per_region → 0 < n → a ≡ top_of t k

@@ -6,14 +6,15 @@
 //!              | unmarked: dead   |                                 |
 //! ```
 
-ghost use Rattle.std.specs.Prelude.{◌≡◌, ◌≢◌, ℕ, ◌+◌, ◌*◌, ◌<◌, Bool, true, false, List, Option, Some, None, if◌then◌else◌, length, slice_set};
+ghost use Rattle.std.specs.Prelude.{◌≡◌, ◌≢◌, ◌⊎◌, ℕ, ◌+◌, ◌*◌, ◌<◌, Bool, true, false, List, Option, Some, None, if◌then◌else◌, length, slice_set};
 ghost use Rattle.heap_model.specs.Graph.{Graph};
 ghost use Rattle.heap_model.specs.Heap.{Stored};
-ghost use Rattle.heap_model.specs.Marking.{KeepsSnapshot, kept_after};
+ghost use Rattle.heap_model.specs.Marking.{KeepsSnapshot};
+ghost use Rattle.heap_model.specs.Weak.{cleared_object, cleared_after};
 ghost use Rattle.regions.specs.Table.{Table, object_at};
 ghost use Rattle.mark_bitmap.specs.Marks.{is_marked};
 ghost use Rattle.mark_bitmap.specs.Grey.{Scans};
-ghost use Rattle.mark_bitmap.specs.Tops.{Tops, below_previous, exchanged, is_in_region, with_bottom, AreNewer};
+ghost use Rattle.mark_bitmap.specs.Tops.{Tops, below_previous, below_next, exchanged, is_in_region, with_bottom, AreNewer};
 ghost use Rattle.mark_bitmap.specs.Kept.{kept_in, heap_in, marking_in};
 
 /// An object that starts at or above its region's previous top is kept, and one that is marked; another one isn't.
@@ -52,7 +53,9 @@ pub fn region_law()
 
 /// Marking is over, and the roles are exchanged: what is kept is what marking keeps.
 pub fn swap_law()
-    ensures { (s : Graph) (t : Table) (tops : Tops) (previous next : List Bool) (scans : Scans) (logged : List ℕ) (roots : List (Option ℕ))
+    ensures { (s : Graph) (t t' : Table) (tops : Tops) (previous next : List Bool) (scans : Scans) (logged : List ℕ) (roots : List (Option ℕ))
         → AreNewer tops → KeepsSnapshot s (heap_in t tops previous roots) (marking_in t tops next scans logged)
-        → (a : ℕ) → kept_in t (exchanged tops) next a ≡ kept_after (heap_in t tops previous roots) (marking_in t tops next scans logged) a }
+        → t'.words_per_region ≡ t.words_per_region
+        → ((a : ℕ) → (is_marked next a ≡ true) ⊎ (below_next t tops a ≡ false) → object_at t' a ≡ cleared_object (marking_in t tops next scans logged) (object_at t a))
+        → (a : ℕ) → kept_in t' (exchanged tops) next a ≡ cleared_after (heap_in t tops previous roots) (marking_in t tops next scans logged) a }
 {}

@@ -56,6 +56,7 @@ fn add(table: &mut RegionTable, region: RegionNo, size: u32)
     }
     let counts = Counts {
         pointers: Count::new(0),
+        weaks: 0,
         values: Count::new(size - 2),
     };
     table.make_object(at, filler, 7, counts);

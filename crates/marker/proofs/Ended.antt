@@ -1,18 +1,22 @@
 -- Marking has ended: it is exact, and what is kept from then on shows the same graph.
-use Rattle.std.proofs.Common.{None, Some, ◌≡◌, ℕ, suc, ◌+◌, ◌-◌, ◌^◌, ◌<◌, Bool, true, false, not, List, [], ◌∷◌, Option, length, refl, sym, ap, ◌∙◌, subst, arith}
-use Rattle.std.specs.Prelude.{◌&&◌, if◌then◌else◌}
+use Rattle.std.proofs.Common.{inl, inr, Some, ◌≡◌, ℕ, suc, ◌+◌, ◌-◌, ◌^◌, ◌<◌, Bool, true, false, not, List, [], ◌∷◌, Option, length, refl, sym, ap, ◌∙◌, subst, arith}
+use Rattle.std.specs.Prelude.{◌&&◌}
 use Rattle.std.proofs.lemmas.List.Sums.{count_by-le-length}
 use Rattle.heap_model.specs.Graph.{Graph}
 use Rattle.heap_model.specs.Heap.{Heap, Stored, Shows}
-use Rattle.heap_model.specs.Marking.{Marking, KeepsSnapshot, IsDone, MarksExactly, kept_after}
+use Rattle.heap_model.specs.Marking.{Marking, KeepsSnapshot, IsDone, MarksExactly}
+use Rattle.heap_model.specs.Weak.{cleared, cleared_object, cleared_after}
 use Rattle.heap_model.specs.Count.{IsReachableCount}
-use Rattle.heap_model.proofs.Finish.{exact, shows_after, reachable_kept, kept_or_new, quiet_kept}
+use Rattle.heap_model.proofs.Finish.{exact, kept_before_here}
+use Rattle.heap_model.proofs.Cleared.{shows_cleared, clears_exists, cleared_was, cleared_all, cleared_only, cleared_quiet}
+use Rattle.heap_model.proofs.Touched.{reached_known}
 use Rattle.heap_model.proofs.Counted.{counted}
+use Rattle.heap_model.proofs.Names.{bool_cases}
 use Rattle.heap_model.proofs.Changed.{same_shows}
-use Rattle.regions.specs.Table.{Table}
+use Rattle.regions.specs.Table.{Table, object_at}
 use Rattle.regions.specs.Shaped.{IsShaped}
 use Rattle.mark_bitmap.specs.Marks.{is_marked, marked_count, HasNone}
-use Rattle.mark_bitmap.specs.Tops.{Tops, exchanged, below_next}
+use Rattle.mark_bitmap.specs.Tops.{Tops, exchanged}
 use Rattle.mark_bitmap.specs.Grey.{Scans, is_grey}
 use Rattle.mark_bitmap.specs.Kept.{MarksObjects, kept_in}
 use Rattle.mark_bitmap.proofs.KeptLaws.{swap_kept}
@@ -22,9 +26,11 @@ use Rattle.satb_log.proofs.Logged.{none_logged}
 use Rattle.marker.specs.Views.{heap_of, marking_of, with_roles_exchanged}
 use Rattle.marker.specs.Stands.{MarkerStands}
 use Rattle.marker.specs.Steps.{KeepsSnapshots, SameRoles}
-use Rattle.marker.specs.Ends.{EndsMarking, EndsExactly}
+use Rattle.marker.specs.Clears.{ClearsTable}
+use Rattle.marker.specs.Ends.{EndsMarking, EndsExactly, WasKept}
 use Rattle.marker.specs.declared.marker.Marker.{Marker}
 use Rattle.marker.proofs.Views.{same_heap}
+use Rattle.marker.proofs.Forgotten.{role_stays}
 use Rattle.marker.proofs.Reached.{same_trans}
 use Rattle.marker.proofs.Marking.{snapshots_trans}
 
@@ -92,16 +98,30 @@ pub record IsExchanged (m m' : Marker) : Type 0 where
   pub logs : m'.logs ≡ m.logs
   pub off : m'.running ≡ false
 
-exchanged_marking : (t : Table) (m m' : Marker) → IsExchanged m m' → marking_of t (with_roles_exchanged m') ≡ marking_of t m
+pub exchanged_marking : (t : Table) (m m' : Marker) → IsExchanged m m' → marking_of t (with_roles_exchanged m') ≡ marking_of t m
 exchanged_marking t m m' e = rw (e.tams, e.previous, e.grey, e.logs) refl
 
 exchanged_kept : (t : Table) (roots : List (Option ℕ)) (m m' : Marker) (a : ℕ) → IsExchanged m m' → (heap_of t roots m').kept a ≡ kept_in t (exchanged m.tams) m.bitmaps.next a
 exchanged_kept t roots m m' a e = rw (e.tams, e.previous) refl
 
-pub exchanged_stands : (t : Table) (m m' : Marker) → MarkerStands t m → IsDone (marking_of t m) → IsExchanged m m' → MarkerStands t m'
-exchanged_stands t m m' st done e = record {
-  previous = subst (λ (x : Tops). MarksObjects t x.previous m'.bitmaps.previous) (sym e.tams) (subst (λ (b : List Bool). MarksObjects t m.tams.next b) (sym e.previous) st.next);
-  next = subst (λ (x : Tops). MarksObjects t x.next m'.bitmaps.next) (sym e.tams) (subst (λ (b : List Bool). MarksObjects t m.tams.previous b) (sym e.next) st.previous);
+-- an object stays one
+cleared_has : (t t' : Table) (m : Marking) (a : ℕ) (x : Stored) → ClearsTable m t t' → object_at t a ≡ Some x → (y : Stored) × (object_at t' a ≡ Some y)
+cleared_has t t' m a x c at = elim (bool_cases (m.marked a)) [
+  | inl k ↦ (cleared m x, c.kept a (inl k) ∙ ap (cleared_object m) at)
+  | inr k ↦ elim (bool_cases (m.old a)) [
+    | inl o ↦ (x, c.dead a k o ∙ at)
+    | inr o ↦ (cleared m x, c.kept a (inr o) ∙ ap (cleared_object m) at)
+  ]
+]
+
+-- marks stand at objects of the cleared table too
+cleared_marks : (t t' : Table) (m : Marking) (tops : List ℕ) (marks : List Bool) → ClearsTable m t t' → MarksObjects t tops marks → MarksObjects t' tops marks
+cleared_marks t t' m tops marks c o = role_stays t t' tops marks o c.count c.size (λ k h. let top = o.top k h in let same = c.tops k in omega arith) (λ a x k at. cleared_has t t' m a x c at)
+
+pub exchanged_stands : (t t' : Table) (k : Marking) (m m' : Marker) → MarkerStands t m → IsDone (marking_of t m) → ClearsTable k t t' → IsExchanged m m' → MarkerStands t' m'
+exchanged_stands t t' k m m' st done c e = record {
+  previous = subst (λ (x : Tops). MarksObjects t' x.previous m'.bitmaps.previous) (sym e.tams) (subst (λ (b : List Bool). MarksObjects t' m.tams.next b) (sym e.previous) (cleared_marks t t' k m.tams.next m.bitmaps.next c st.next));
+  next = subst (λ (x : Tops). MarksObjects t' x.next m'.bitmaps.next) (sym e.tams) (subst (λ (b : List Bool). MarksObjects t' m.tams.previous b) (sym e.next) (cleared_marks t t' k m.tams.previous m.bitmaps.previous c st.previous));
   scanned = ap (λ (g : Scans). length g.scanned) e.grey ∙ st.scanned ∙ st.next.each_word ∙ sym st.previous.each_word ∙ sym (ap length e.next);
   finger = λ on. absurd (let f = e.off in cc);
   newer = λ on. absurd (let f = e.off in cc);
@@ -111,19 +131,13 @@ exchanged_stands t m m' st done e = record {
   counted = λ on. absurd (let f = e.off in cc);
 }
 
--- what is kept once marking is over was kept
-was_kept : (marked old : Bool) (object : Option Stored) (x : Stored) → (if marked then object else (if old then None else object)) ≡ Some x → object ≡ Some x
-was_kept true old object x e = e
-was_kept false true object x e = cc
-was_kept false false object x e = e
-
-module _ (t : Table) (m m' m'' : Marker) (count : ℕ) (p : IsOver t m m') (e : IsExchanged m' m'') (counts : count ≡ marked_count m'.bitmaps.next) where
+module _ (t t' : Table) (m m' m'' : Marker) (count : ℕ) (p : IsOver t m m') (c : ClearsTable (marking_of t m') t t') (e : IsExchanged m' m'') (counts : count ≡ marked_count m'.bitmaps.next) where
   same_kept_after : (s g : Graph) (roots : List (Option ℕ)) → Shows g (heap_of t roots m) → KeepsSnapshot s (heap_of t roots m) (marking_of t m) → (a : ℕ)
-      → (heap_of t roots m'').kept a ≡ kept_after (heap_of t roots m) (marking_of t m') a
+      → (heap_of t' roots m'').kept a ≡ cleared_after (heap_of t roots m) (marking_of t m') a
   same_kept_after s g roots shows keeps a =
-      exchanged_kept t roots m' m'' a e
-      ∙ swap_kept s t m'.tams m'.bitmaps.previous m'.bitmaps.next m'.grey (logged m'.logs) roots (p.stands.newer p.running) (p.snapshots s g roots shows keeps) a
-      ∙ ap (λ (h : Heap). kept_after h (marking_of t m') a) (same_heap t roots m m' p.same)
+      exchanged_kept t' roots m' m'' a e
+      ∙ swap_kept s t t' m'.tams m'.bitmaps.previous m'.bitmaps.next m'.grey (logged m'.logs) roots (p.stands.newer p.running) (p.snapshots s g roots shows keeps) c.size c.kept a
+      ∙ ap (λ (h : Heap). cleared_after h (marking_of t m') a) (same_heap t roots m m' p.same)
 
   module _ (s g : Graph) (roots : List (Option ℕ)) (shows : Shows g (heap_of t roots m)) (keeps : KeepsSnapshot s (heap_of t roots m) (marking_of t m)) where
     abbrev h : Heap
@@ -132,21 +146,38 @@ module _ (t : Table) (m m' m'' : Marker) (count : ℕ) (p : IsOver t m m') (e : 
     now : KeepsSnapshot s h (marking_of t m')
     now = subst (λ (x : Heap). KeepsSnapshot s x (marking_of t m')) (same_heap t roots m m' p.same) (p.snapshots s g roots shows keeps)
 
-    kept_now : (a : ℕ) → (heap_of t roots m'').kept a ≡ kept_after h (marking_of t m') a
+    kept_now : (a : ℕ) → (heap_of t' roots m'').kept a ≡ cleared_after h (marking_of t m') a
     kept_now a = same_kept_after s g roots shows keeps a
 
-    ends : EndsMarking s g t roots m m'' count
-    ends = record {
-      exact = subst (λ (x : Marking). MarksExactly s h x) (sym (exchanged_marking t m' m'' e)) (exact s g h (marking_of t m') now p.done);
-      count = subst (λ (n : ℕ). IsReachableCount s n) (length-marked_from m'.bitmaps.next 0 ∙ sym counts) (counted s g h (marking_of t m') shows now p.done (marked_from 0 m'.bitmaps.next) (listed m'.bitmaps.next));
-      shows = same_shows g (record { kept = kept_after h (marking_of t m'); roots = roots }) (heap_of t roots m'') (shows_after s g h (marking_of t m') now p.done shows) (record { kept = kept_now; roots = refl });
-      all = λ n r. let (a, x, k, same) = reachable_kept s s h (marking_of t m') now p.done n r in (a, x, kept_now a ∙ k, same);
-      kept = λ a x k. was_kept (is_marked m'.bitmaps.next a) (below_next t m'.tams a) (h.kept a) x (sym (kept_now a) ∙ k);
-      only = λ a x k. kept_or_new s g h (marking_of t m') now p.done a x (sym (kept_now a) ∙ k);
-    }
+    was_kept : (a : ℕ) (x : Stored) → cleared_after h (marking_of t m') a ≡ Some x → WasKept t roots m a x
+    was_kept a x k =
+        let (y, at, is) = cleared_was h (marking_of t m') a x k in
+        record {
+          before = y;
+          was = (kept_before_here s g h (marking_of t m') now p.done a y at).0;
+          name = ap (λ (z : Stored). z.name) is;
+          pointers = ap (λ (z : Stored). z.pointers) is;
+          values = ap (λ (z : Stored). z.values) is;
+        }
 
-  pub ends_exactly : EndsExactly t m m'' count
+    ends : EndsMarking s g t t' roots m m'' count
+    ends =
+        let counted_names = subst (λ (n : ℕ). IsReachableCount s n) (length-marked_from m'.bitmaps.next 0 ∙ sym counts) (counted s g h (marking_of t m') shows now p.done (marked_from 0 m'.bitmaps.next) (listed m'.bitmaps.next)) in
+        let (after, clears) = clears_exists s count counted_names g in
+        record {
+          exact = subst (λ (x : Marking). MarksExactly s h x) (sym (exchanged_marking t m' m'' e)) (exact s g h (marking_of t m') now p.done);
+          count = counted_names;
+          after = after;
+          clears = clears;
+          shows = same_shows after (record { kept = cleared_after h (marking_of t m'); roots = roots }) (heap_of t' roots m'') (shows_cleared s g after h (marking_of t m') now p.done shows clears) (record { kept = kept_now; roots = refl });
+          unlost = λ n r. reached_known s g h (marking_of t m') shows now n r;
+          all = λ n r. let (a, x, k, same) = cleared_all s h (marking_of t m') now p.done n r in (a, x, kept_now a ∙ k, same);
+          kept = λ a x k. was_kept a x (sym (kept_now a) ∙ k);
+          only = λ a x k. cleared_only s h (marking_of t m') now p.done a x (sym (kept_now a) ∙ k);
+        }
+
+  pub ends_exactly : EndsExactly t t' m m'' count
   ends_exactly = record {
     ends = λ s g roots shows keeps. ends s g roots shows keeps;
-    quiet = λ g roots shows keeps a x k. quiet_kept g (heap_of t roots m) (marking_of t m') (now g g roots shows keeps) p.done shows a x (sym (kept_now g g roots shows keeps a) ∙ k);
+    quiet = λ g roots shows keeps a x k. cleared_quiet g (heap_of t roots m) (marking_of t m') (now g g roots shows keeps) p.done shows a x (sym (kept_now g g roots shows keeps a) ∙ k);
   }

@@ -61,7 +61,7 @@ forgotten_stands t m k from to previous next tops z st off low high len cleared 
       counted = λ on. absurd (let e = off in cc);
     }
 
-role_stays : (t t' : Table) (tops : List ℕ) (marks : List Bool) → MarksObjects t tops marks → length t'.regions ≡ length t.regions → t'.words_per_region ≡ t.words_per_region
+pub role_stays : (t t' : Table) (tops : List ℕ) (marks : List Bool) → MarksObjects t tops marks → length t'.regions ≡ length t.regions → t'.words_per_region ≡ t.words_per_region
     → ((k : ℕ) → k < length t.regions → get_or tops k 0 ≤ top_of t' k)
     → ((a : ℕ) (x : Stored) → is_marked marks a ≡ true → object_at t a ≡ Some x → (y : Stored) × (object_at t' a ≡ Some y))
     → MarksObjects t' tops marks

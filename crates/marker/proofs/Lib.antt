@@ -9,3 +9,5 @@ pub mod Logs
 pub mod Ended
 pub mod Forgotten
 pub mod Samples
+pub mod Slots
+pub mod Swept

@@ -5,13 +5,14 @@ use Rattle.std.proofs.lemmas.Bool.{cases_lt, cases_eq}
 use Rattle.std.proofs.lemmas.Bool.Decides.{leb_tells}
 use Rattle.std.proofs.lemmas.List.{get_or-replicate, length-replicate, get_or_past}
 use Rattle.std.proofs.lemmas.Option.{slice_get_within, slice_get_read, get_or_from_slice_get}
-use Rattle.heap_model.specs.Heap.{Stored, IsClosed}
+use Rattle.heap_model.specs.Heap.{Stored, IsClosed, fields, with_field}
+use Rattle.heap_model.proofs.Fields.{field_set}
+use Rattle.heap_model.proofs.Lists.{get-set_cases, get-append_cases}
 use Rattle.regions.specs.Tiles.{Tile, Live, Gap, tile_size, tile_at}
-use Rattle.regions.specs.Table.{Region, Free, Table, region_tile, region_at, tile_in, tile_object, object_at, free_table, taken, first_free, set_pointer, push_tile, replace_tile, new_object, gap, used_of, top_of, kind_of, HasObject}
+use Rattle.regions.specs.Table.{Region, Free, Table, region_tile, region_at, tile_in, tile_object, object_at, free_table, taken, first_free, set_field, push_tile, replace_tile, new_object, gap, used_of, top_of, kind_of, HasObject}
 use Rattle.regions.specs.declared.row.Kind.TheVariants as kinds
 use Rattle.regions.specs.Shaped.{IsShaped}
-use Rattle.regions.proofs.Fields.{with_pointer}
-use Rattle.regions.proofs.Changes.{WritesObject, pointer_put, object_same}
+use Rattle.regions.proofs.Changes.{WritesObject, field_put, object_same}
 use Rattle.regions.proofs.Placing.{region_taken, Pushed, gap_push, Replaces, gap_replaced}
 use Rattle.mark_bitmap.specs.Tops.{is_below, below_previous}
 use Rattle.marker.specs.Views.{heap_of}
@@ -57,41 +58,30 @@ module _ (t : Table) (x i b : ℕ) (z : 0 < t.words_per_region) (from : HasObjec
   s = from.object
 
   abbrev u : Table
-  u = set_pointer t x i (Some b)
+  u = set_field t x i (Some b)
 
-  w : WritesObject t u x s (with_pointer s i (Some b))
-  w = pointer_put t x i (Some b) s z from.is
+  w : WritesObject t u x s (with_field s i (Some b))
+  w = field_put t x i (Some b) s z from.is
 
   link_stays : (a : ℕ) → HasObject t a → HasObject u a
   link_stays a h = elim (cases_eq a x) [
-    | inl same ↦ record { object = with_pointer s i (Some b); is = ap (object_at u) same ∙ w.is }
+    | inl same ↦ record { object = with_field s i (Some b); is = ap (object_at u) same ∙ w.is }
     | inr other ↦ record { object = h.object; is = object_same t u a (w.others a other) ∙ h.is }
   ]
 
   linked : IsLinked t → IsLinked u
   linked l a j c y o f = elim (cases_eq a x) [
     | inl same ↦
-        let y_is : y ≡ with_pointer s i (Some b) = let e1 = w.is in let e2 = sym (ap (object_at u) same) ∙ o in cc in
-        elim (cases_eq j i) [
-          | inl at ↦
-              let inside : j < length y.pointers = slice_get_within y.pointers j (Some c) f in
-              let inside' : i < length s.pointers = omega (arith, inside, at, ap (λ (q : Stored). length q.pointers) y_is, length-set s.pointers i (Some b)) in
-              let read : get_or y.pointers j None ≡ Some c = get_or_from_slice_get y.pointers j (Some c) None f in
-              let wrote : get_or (set s.pointers i (Some b)) j None ≡ Some b = ap (λ (k : ℕ). get_or (set s.pointers i (Some b)) k None) at ∙ get_or-set_same s.pointers i (Some b) None inside' in
-              let both : Some c ≡ Some b = sym read ∙ ap (λ (q : Stored). get_or q.pointers j None) y_is ∙ wrote in
-              let end : c ≡ b = cc in
-              subst (λ (k : ℕ). HasObject u k) (sym end) (link_stays b to)
-          | inr apart ↦
-              let inside : j < length y.pointers = slice_get_within y.pointers j (Some c) f in
-              let inside' : j < length s.pointers = omega (arith, inside, ap (λ (q : Stored). length q.pointers) y_is, length-set s.pointers i (Some b)) in
-              let read : get_or y.pointers j (Some c) ≡ Some c = get_or_from_slice_get y.pointers j (Some c) (Some c) f in
-              let was : get_or s.pointers j (Some c) ≡ Some c = sym (get_or-set_other s.pointers i j (Some b) (Some c) apart) ∙ sym (ap (λ (q : Stored). get_or q.pointers j (Some c)) y_is) ∙ read in
-              link_stays c (l x j c s from.is (slice_get_read s.pointers (length s.pointers) j (Some c) refl inside' (sym was)))
+        let y_is : y ≡ with_field s i (Some b) = let e1 = w.is in let e2 = sym (ap (object_at u) same) ∙ o in cc in
+        let now : slice_get (set (fields s) i (Some b)) j ≡ Some (Some c) = ap (λ k. slice_get k j) (sym (field_set s i (Some b)).fields_are) ∙ ap (λ (q : Stored). slice_get (fields q) j) (sym y_is) ∙ f in
+        elim (get-set_cases (fields s) i j (Some b) (Some c) now) [
+          | inl is ↦ let end : c ≡ b = cc in subst (λ (k : ℕ). HasObject u k) (sym end) (link_stays b to)
+          | inr was ↦ link_stays c (l x j c s from.is was)
         ]
     | inr other ↦ link_stays c (l a j c y (sym (object_same t u a (w.others a other)) ∙ o) f)
   ]
 
-  pub link_keeps : (t' : Table) → t' ≡ set_pointer t x i (Some b) → Keeps t t'
+  pub link_keeps : (t' : Table) → t' ≡ set_field t x i (Some b) → Keeps t t'
   link_keeps t' e = subst (λ (v : Table). Keeps t v) (sym e) (record { count = w.count; size = w.size; linked = linked; stays = link_stays })
 
 nil_alone : (n i b : ℕ) → slice_get (replicate n None) i ≡ Some (Some b) → ⊥
@@ -124,6 +114,9 @@ linked_closed t roots m linked leads none =
       field = λ b i a y e f. let h = linked b i a y (sym (kept b) ∙ e) f in (h.object, kept a ∙ h.is);
     }
 
+nil_fields : (name n i b : ℕ) → slice_get (fields (new_object name n 0 0)) i ≡ Some (Some b) → ⊥
+nil_fields name n i b e = elim (get-append_cases (replicate n None) [] i (Some b) e) [ inl q ↦ nil_alone n i b q | inr q ↦ (let none = q.1 in cc) ]
+
 alone : (t : Tile) (j : ℕ) → 0 < j → tile_at j (t ∷ []) ≡ None
 alone t zero h = absurd (omega arith)
 alone t (suc j) h = elim (leb_tells (tile_size t) (suc j)) [ inl q ↦ rw q.0 refl | inr q ↦ rw q.0 refl ]
@@ -131,14 +124,14 @@ alone t (suc j) h = elim (leb_tells (tile_size t) (suc j)) [ inl q ↦ rw q.0 re
 -- an object with nil pointers is made where a filler was pushed
 module _ (t t' t'' : Table) (k a n p name : ℕ) (shape : IsShaped t) (shape' : IsShaped t') (known : k < length t.regions) (ordinary : kind_of t k ≡ kinds.Ordinary)
     (room : used_of t k + n ≤ t.words_per_region) (size : n ≡ 2 + p) (at : a ≡ top_of t k) (e : t' ≡ push_tile t k (Gap n))
-    (e' : t'' ≡ replace_tile t' a (Live (new_object name p 0) ∷ gap (n - (2 + p + 0)))) where
+    (e' : t'' ≡ replace_tile t' a (Live (new_object name p 0 0) ∷ gap (n - (2 + p + 0 + 0)))) where
   abbrev new : Stored
-  new = new_object name p 0
+  new = new_object name p 0 0
 
   push : Pushed t t' k a (Gap n)
   push = rw (e, at) (gap_push t k (Gap n) shape.positive shape.fitting known ordinary (omega (arith, size)) room tt)
 
-  whole : n - (2 + p + 0) ≡ 0
+  whole : n - (2 + p + 0 + 0) ≡ 0
   whole = omega (arith, size)
 
   words : tile_size (Live new) ≡ n
@@ -192,7 +185,7 @@ module _ (t t' t'' : Table) (k a n p name : ℕ) (shape : IsShaped t) (shape' : 
     linked = λ l y i b x o f. elim (cases_eq y a) [
       | inl same ↦
           let x_is : x ≡ new = let m = new_is in let o' = sym (ap (object_at t'') same) ∙ o in cc in
-          absurd (nil_alone p i b (ap (λ (q : Stored). slice_get q.pointers i) (sym x_is) ∙ f))
+          absurd (nil_fields name p i b (ap (λ (q : Stored). slice_get (fields q) i) (sym x_is) ∙ f))
       | inr apart ↦ add_stays b (l y i b x (sym (other y apart) ∙ o) f)
     ];
     stays = add_stays;

@@ -9,6 +9,7 @@ use Rattle.heap_model.specs.Graph.{IsReachable, next_name}
 use Rattle.heap_model.specs.Heap.{Heap}
 use Rattle.heap_model.specs.Marking.{KeepsSnapshot, MarksMore}
 use Rattle.heap_model.proofs.Marks.{marks_more}
+use Rattle.heap_model.proofs.Lists.{get-append_left}
 use Rattle.regions.specs.Table.{Table, pointers_at}
 use Rattle.regions.specs.Shaped.{IsShaped}
 use Rattle.mark_bitmap.specs.Marks.{is_marked, marked_count}
@@ -50,7 +51,7 @@ pub target_kept : (t : Table) (m : Marker) (object place a : ℕ) → CanFollow 
 target_kept t m object place a f marked e =
     let k = f.marked object marked in
     let pointers = object_pointers_at t object k.object (kept_object t m.tams m.bitmaps.previous object k.object k.is) in
-    let found = f.closed.field object place a k.object k.is (rw pointers at e) in
+    let found = f.closed.field object place a k.object k.is (get-append_left k.object.pointers k.object.weaks place (Some a) (rw pointers at e)) in
     record { object = found.0; is = found.1 }
 
 abbrev pub all_pointers : Table → ℕ → ℕ → Type 0

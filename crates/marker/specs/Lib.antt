@@ -1,5 +1,6 @@
 pub mod Views
 pub mod Stands
 pub mod Steps
+pub mod Clears
 pub mod Ends
 pub mod Samples

@@ -1,11 +1,11 @@
 -- What the tests keep of the tables that they build.
 use Rattle.std.specs.Prelude.{◌≡◌, ℕ, List, length, Option, Some, slice_get}
-use Rattle.heap_model.specs.Heap.{Stored}
+use Rattle.heap_model.specs.Heap.{Stored, fields}
 use Rattle.regions.specs.Table.{Table, object_at, HasObject}
 
--- each pointer of an object is nil or leads to an object
+-- each field of an object is nil or leads to an object
 abbrev pub IsLinked : Table → Type 0
-IsLinked t = (a i b : ℕ) (x : Stored) → object_at t a ≡ Some x → slice_get x.pointers i ≡ Some (Some b) → HasObject t b
+IsLinked t = (a i b : ℕ) (x : Stored) → object_at t a ≡ Some x → slice_get (fields x) i ≡ Some (Some b) → HasObject t b
 
 -- each word is nil or leads to an object
 abbrev pub LeadToObjects : Table → List (Option ℕ) → Type 0

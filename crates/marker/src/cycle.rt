@@ -8,8 +8,9 @@ ghost use Rattle.regions.specs.Table.{Table, top_of};
 ghost use Rattle.mark_bitmap.specs.Marks.{is_marked, marked_count};
 ghost use Rattle.mark_bitmap.specs.Tops.{exchanged, is_in_region, with_bottom};
 ghost use Rattle.satb_log.specs.Logs.{log_of};
-ghost use Rattle.marker.specs.Views.{heap_of, marking_of};
+ghost use Rattle.marker.specs.Views.{heap_of, marking_of, with_roles_exchanged};
 ghost use Rattle.marker.specs.Stands.{MarkerStands, IsKept};
+ghost use Rattle.marker.specs.Clears.{ClearsTable};
 ghost use Rattle.marker.specs.Ends.{EndsExactly};
 ghost use Rattle.marker.specs.Steps.{KeepsSnapshots, SameRoles, MarksWanted};
 
@@ -154,14 +155,15 @@ impl Marker {
         }
     }
 
-    /// Marking ends: all logs are taken, all grey objects scanned, and the next marks and tops become the previous
-    /// ones. The result is how many objects are marked, and as many were scanned.
-    pub fn finish(&mut self, table: &RegionTable) -> u32
-        requires stands { MarkerStands table.now self.old }
+    /// Marking ends: all logs are taken, all grey objects scanned, the weak slots of what is kept are cleared, and the next
+    /// marks and tops become the previous ones. The result is how many objects are marked, and as many were scanned.
+    pub fn finish(&mut self, table: &mut RegionTable) -> u32
+        requires stands { MarkerStands table.old self.old }
         requires running { self.old.running ≡ true }
-        ensures stands { MarkerStands table.now self.new }
+        ensures stands { MarkerStands table.new self.new }
         ensures over { self.new.running ≡ false }
-        ensures exact { EndsExactly table.now self.old self.new result }
+        ensures exact { EndsExactly table.old table.new self.old self.new result }
+        ensures cleared { ClearsTable (marking_of table.old (with_roles_exchanged self.new)) table.old table.new }
         ensures count { result ≡ marked_count self.new.bitmaps.previous }
         ensures scans { self.new.scans ≡ result }
         ensures tops { self.new.tams ≡ exchanged self.old.tams }
@@ -171,6 +173,7 @@ impl Marker {
         table.law();
         self.take_logs(table);
         self.mark(table, u32::MAX);
+        self.clear_weaks(table);
         let count = self.scans;
         self.bitmaps.swap_roles();
         self.tams.swap_roles();

@@ -33,6 +33,7 @@ fn add(table: &mut RegionTable, region: RegionNo, name: u64, pointers: u32) -> O
     let size = FillerSize::new(2 + pointers);
     let counts = Counts {
         pointers: Count::new(pointers),
+        weaks: 0,
         values: Count::new(0),
     };
     let at = table.push_filler(region, size);
@@ -48,8 +49,8 @@ fn link(table: &mut RegionTable, from: Addr, field: u32, to: Addr)
     ensures keeps { Keeps table.old table.new }
 {
     table.law();
-    if field < table.pointer_count(from) {
-        table.set_ptr(from, field, Some(to));
+    if field < table.field_count(from) {
+        table.set_field(from, field, Some(to));
     }
 }
 
@@ -159,32 +160,34 @@ fn save(marker: &mut Marker, made: &Made, mutator: u32, object: usize)
 }
 
 /// How many objects are marked in all, where the roots hold some of them.
-fn count_from(alloc: Global, made: &Made, held: &[(usize, usize)]) -> Result<u32, Fail>
-    requires count { length made.now.table.regions ≡ 4 }
-    requires words { made.now.table.words_per_region ≡ 16 }
-    requires linked { IsLinked made.now.table }
-    requires objects { (i a : ℕ) → slice_get made.now.objects.items i ≡ Some a → HasObject made.now.table a }
-{
-    let roots = roots_of(alloc, made, held)?;
+fn count_from(
+    alloc: Global,
+    shapes: &[u8],
+    links: &[(usize, u32, usize)],
+    held: &[(usize, usize)],
+) -> Result<u32, Fail> {
+    let mut made = build(alloc, shapes, links)?;
+    let roots = roots_of(alloc, &made, held)?;
     let mut marker = begun(alloc, &made.table, &roots)?;
-    Ok(marker.finish(&made.table))
+    Ok(marker.finish(&mut made.table))
 }
 
 /// Two objects that name each other, the first in a register: two scans, and no third. With nil roots there is none.
 #[test]
 fn marks_a_ring(rt: HostRuntime) -> Result<(), Fail> {
-    let made = build(rt.alloc(), &[1, 1], &[(0, 0, 1), (1, 0, 0)])?;
+    let mut made = build(rt.alloc(), &[1, 1], &[(0, 0, 1), (1, 0, 0)])?;
     let roots = roots_of(rt.alloc(), &made, &[(16, 0)])?;
     let mut marker = begun(rt.alloc(), &made.table, &roots)?;
     assert_eq!(rt; (marker.mark(&made.table, 0), marker.scans()), (0, 0));
     assert_eq!(rt; (marker.mark(&made.table, 1), marker.scans()), (1, 1));
     assert_eq!(rt; (marker.mark(&made.table, 9), marker.scans()), (1, 2));
     assert_eq!(rt; (marker.mark(&made.table, 9), marker.scans()), (0, 2));
-    assert_eq!(rt; (marker.finish(&made.table), marker.scans()), (2, 2));
-    let nil = roots_of(rt.alloc(), &made, &[])?;
-    let mut idle = begun(rt.alloc(), &made.table, &nil)?;
-    assert_eq!(rt; idle.mark(&made.table, 9), 0);
-    assert_eq!(rt; (idle.finish(&made.table), idle.scans()), (0, 0));
+    assert_eq!(rt; (marker.finish(&mut made.table), marker.scans()), (2, 2));
+    let mut other = build(rt.alloc(), &[1, 1], &[(0, 0, 1), (1, 0, 0)])?;
+    let nil = roots_of(rt.alloc(), &other, &[])?;
+    let mut idle = begun(rt.alloc(), &other.table, &nil)?;
+    assert_eq!(rt; idle.mark(&other.table, 9), 0);
+    assert_eq!(rt; (idle.finish(&mut other.table), idle.scans()), (0, 0));
     Ok(())
 }
 
@@ -193,7 +196,7 @@ fn marks_a_ring(rt: HostRuntime) -> Result<(), Fail> {
 #[test]
 fn counts_what_roots_reach(rt: HostRuntime) -> Result<(), Fail> {
     let chain = [(0, 0, 1), (1, 0, 2), (2, 0, 3), (3, 0, 4)];
-    let made = build(rt.alloc(), &[1, 1, 1, 1, 1, 2], &chain)?;
+    let shapes = [1, 1, 1, 1, 1, 2];
     for (held, count) in [
         (&[(0, 0)][..], 5),
         (&[(15, 2)][..], 3),
@@ -202,7 +205,7 @@ fn counts_what_roots_reach(rt: HostRuntime) -> Result<(), Fail> {
         (&[(0, 4), (24, 0), (31, 5)][..], 6),
         (&[][..], 0),
     ] {
-        assert_eq!(rt; count_from(rt.alloc(), &made, held)?, count);
+        assert_eq!(rt; count_from(rt.alloc(), &shapes, &chain, held)?, count);
     }
     let links = [
         (0, 0, 2),
@@ -212,13 +215,13 @@ fn counts_what_roots_reach(rt: HostRuntime) -> Result<(), Fail> {
         (3, 0, 4),
         (4, 0, 3),
     ];
-    let made = build(rt.alloc(), &[2, 1, 1, 1, 1], &links)?;
+    let shapes = [2, 1, 1, 1, 1];
     for (held, count) in [
         (&[(31, 0)][..], 3),
         (&[(31, 2)][..], 1),
         (&[(15, 1), (16, 3)][..], 4),
     ] {
-        assert_eq!(rt; count_from(rt.alloc(), &made, held)?, count);
+        assert_eq!(rt; count_from(rt.alloc(), &shapes, &links, held)?, count);
     }
     Ok(())
 }
@@ -226,15 +229,17 @@ fn counts_what_roots_reach(rt: HostRuntime) -> Result<(), Fail> {
 /// What only a log names is marked in the end, and what it leads to.
 #[test]
 fn takes_what_was_logged(rt: HostRuntime) -> Result<(), Fail> {
-    let made = build(rt.alloc(), &[1, 1, 0], &[(0, 0, 1), (1, 0, 0)])?;
+    let mut made = build(rt.alloc(), &[1, 1, 0], &[(0, 0, 1), (1, 0, 0)])?;
     let roots = roots_of(rt.alloc(), &made, &[(3, 2)])?;
     let mut marker = begun(rt.alloc(), &made.table, &roots)?;
     assert_eq!(rt; marker.mark(&made.table, 9), 1);
-    let mut other = begun(rt.alloc(), &made.table, &roots)?;
-    save(&mut other, &made, 1, 1);
-    assert_eq!(rt; other.mark(&made.table, 9), 1);
-    assert_eq!(rt; (other.finish(&made.table), other.scans()), (3, 3));
-    assert_eq!(rt; marker.finish(&made.table), 1);
+    assert_eq!(rt; marker.finish(&mut made.table), 1);
+    let mut logging = build(rt.alloc(), &[1, 1, 0], &[(0, 0, 1), (1, 0, 0)])?;
+    let roots = roots_of(rt.alloc(), &logging, &[(3, 2)])?;
+    let mut other = begun(rt.alloc(), &logging.table, &roots)?;
+    save(&mut other, &logging, 1, 1);
+    assert_eq!(rt; other.mark(&logging.table, 9), 1);
+    assert_eq!(rt; (other.finish(&mut logging.table), other.scans()), (3, 3));
     Ok(())
 }
 
@@ -253,23 +258,25 @@ fn exchange(marker: &mut Marker, _table: &RegionTable)
 /// its tops are at its bottom; the other region's mark stays.
 #[test]
 fn forgets_a_region(rt: HostRuntime) -> Result<(), Fail> {
-    let made = build(rt.alloc(), &[1, 1], &[(0, 0, 1)])?;
+    let mut made = build(rt.alloc(), &[1, 1], &[(0, 0, 1)])?;
     let roots = roots_of(rt.alloc(), &made, &[(16, 0)])?;
     let region = RegionNo::new(0);
     let bottom = Addr::new(0);
     let mut marker = begun(rt.alloc(), &made.table, &roots)?;
-    assert_eq!(rt; marker.finish(&made.table), 2);
+    assert_eq!(rt; marker.finish(&mut made.table), 2);
     assert_eq!(rt; marker.bitmaps.previous.next(bottom), Some(bottom));
     assert_eq!(rt; marker.tams.previous(region), Addr::new(3));
     marker.forget(&made.table, region);
     assert_eq!(rt; marker.bitmaps.previous.next(bottom), Some(Addr::new(16)));
     assert_eq!(rt; marker.tams.previous(region), bottom);
-    let mut other = begun(rt.alloc(), &made.table, &roots)?;
-    assert_eq!(rt; other.finish(&made.table), 2);
-    exchange(&mut other, &made.table);
+    let mut next = build(rt.alloc(), &[1, 1], &[(0, 0, 1)])?;
+    let roots = roots_of(rt.alloc(), &next, &[(16, 0)])?;
+    let mut other = begun(rt.alloc(), &next.table, &roots)?;
+    assert_eq!(rt; other.finish(&mut next.table), 2);
+    exchange(&mut other, &next.table);
     assert_eq!(rt; other.bitmaps.next.next(bottom), Some(bottom));
     assert_eq!(rt; other.tams.next(region), Addr::new(3));
-    other.forget(&made.table, region);
+    other.forget(&next.table, region);
     assert_eq!(rt; other.bitmaps.next.next(bottom), Some(Addr::new(16)));
     assert_eq!(rt; other.tams.next(region), bottom);
     Ok(())

@@ -23,7 +23,7 @@ on_field_law : {X : Type 0} (P : Outcome → Type 0) (g : Graph) (o : Option X) 
 on_field_law P g None f none each = none
 on_field_law P g (Some x) f none each = each x
 
-cond_law : (P : Outcome → Type 0) (b : Bool) (x y : Outcome) → P x → P y → P (cond b x y)
+pub cond_law : (P : Outcome → Type 0) (b : Bool) (x y : Outcome) → P x → P y → P (cond b x y)
 cond_law P true x y p q = p
 cond_law P false x y p q = q
 
@@ -44,6 +44,12 @@ act_keeps g m (actions.Drop register) = refl
 act_keeps g m (actions.Load to from) = refl
 act_keeps g m (actions.Save to from) = refl
 act_keeps g m (actions.Shape object) = on_name_law (KeepsMutators g) g (root_at g (register_place m object.number)) _ refl (λ n x. refl)
+act_keeps g m (actions.NewWeak to p w d) =
+    cond_law (KeepsMutators g) (nat_lt g.room (2 + p + w + d)) (refused g refusals.TooBig) _ refl
+    (cond_law (KeepsMutators g) (next_name g == 2 ^ 64 - 1) (refused g refusals.NamesSpent) _ refl refl)
+act_keeps g m (actions.GetWeak to object i) = on_name_law (KeepsMutators g) g (root_at g (register_place m object.number)) _ refl (λ n x. on_field_law (KeepsMutators g) g (slice_get x.weaks i) _ refl (λ v. refl))
+act_keeps g m (actions.PutWeak object i value) = on_name_law (KeepsMutators g) g (root_at g (register_place m object.number)) _ refl (λ n x. on_field_law (KeepsMutators g) g (slice_get x.weaks i) _ refl (λ v. refl))
+act_keeps g m (actions.Weaks object) = on_name_law (KeepsMutators g) g (root_at g (register_place m object.number)) _ refl (λ n x. refl)
 
 pub outcome_of-mutators : (g : Graph) (o : Op) → (outcome_of g o).1.mutators ≡ g.mutators
 outcome_of-mutators g o = act_keeps g o.mutator o.action
@@ -70,3 +76,9 @@ act-not_full g m (actions.Drop register) = λ h. cc
 act-not_full g m (actions.Load to from) = λ h. cc
 act-not_full g m (actions.Save to from) = λ h. cc
 act-not_full g m (actions.Shape object) = on_name_law NotFull g (root_at g (register_place m object.number)) _ (λ h. cc) (λ n x h. cc)
+act-not_full g m (actions.NewWeak to p w d) =
+    cond_law NotFull (nat_lt g.room (2 + p + w + d)) (refused g refusals.TooBig) _ (λ h. cc)
+    (cond_law NotFull (next_name g == 2 ^ 64 - 1) (refused g refusals.NamesSpent) _ (λ h. cc) (λ h. cc))
+act-not_full g m (actions.GetWeak to object i) = on_name_law NotFull g (root_at g (register_place m object.number)) _ (λ h. cc) (λ n x. on_field_law NotFull g (slice_get x.weaks i) _ (λ h. cc) (λ v h. cc))
+act-not_full g m (actions.PutWeak object i value) = on_name_law NotFull g (root_at g (register_place m object.number)) _ (λ h. cc) (λ n x. on_field_law NotFull g (slice_get x.weaks i) _ (λ h. cc) (λ v h. cc))
+act-not_full g m (actions.Weaks object) = on_name_law NotFull g (root_at g (register_place m object.number)) _ (λ h. cc) (λ n x h. cc)

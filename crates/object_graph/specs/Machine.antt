@@ -1,6 +1,6 @@
 -- What a mutator's step replies, and the graph after it. The graph alone gives both: there is no heap here, and
 -- nothing is ever freed or moved.
-use Rattle.std.specs.Prelude.{ℕ, ◌+◌, ◌-◌, ◌^◌, Option, Some, None, length, slice_get, slice_set, replicate, nat_lt, ◌==◌, if◌then◌else◌}
+use Rattle.std.specs.Prelude.{ℕ, ◌+◌, ◌-◌, ◌^◌, Option, Some, None, length, [], slice_get, slice_set, replicate, nat_lt, ◌==◌, if◌then◌else◌}
 use Rattle.heap_model.specs.Graph.{Object, Graph, next_name, with_root, with_object, with_changed}
 use Rattle.object_graph.specs.State.{register_place, root_at}
 use Rattle.object_graph.specs.declared.step.Action.{Action}
@@ -44,12 +44,12 @@ abbrev pub stored : Graph → ℕ → Option Register → Option ℕ
 stored g mutator None = None
 stored g mutator (Some register) = root_at g (register_place mutator register.number)
 
--- the ten steps of a mutator
+-- the steps of a mutator
 abbrev pub act : Graph → ℕ → Action → Outcome
 act g m (actions.New to p d) =
     if nat_lt g.room (2 + p + d) then refused g refusals.TooBig
     else if next_name g == 2 ^ 64 - 1 then refused g refusals.NamesSpent
-    else (replies.Named (Some (next_name g)), with_object g (record { pointers = replicate p None; values = replicate d 0 }) (register_place m to.number))
+    else (replies.Named (Some (next_name g)), with_object g (record { pointers = replicate p None; weaks = []; values = replicate d 0 }) (register_place m to.number))
 act g m (actions.Get to object i) = on_object g m object (λ name x. on_field g (slice_get x.pointers i) (λ value. (replies.Named value, with_root g (register_place m to.number) value)))
 act g m (actions.Put object i value) = on_object g m object (λ name x. on_field g (slice_get x.pointers i) (λ old. (replies.Done, with_changed g name (record x { pointers = slice_set x.pointers i (stored g m value) }))))
 act g m (actions.Read object j) = on_object g m object (λ name x. on_field g (slice_get x.values j) (λ word. (replies.Word word, g)))
@@ -59,6 +59,13 @@ act g m (actions.Drop register) = (replies.Done, with_root g (register_place m r
 act g m (actions.Load to from) = (replies.Named (root_at g from.number), with_root g (register_place m to.number) (root_at g from.number))
 act g m (actions.Save to from) = (replies.Done, with_root g to.number (root_at g (register_place m from.number)))
 act g m (actions.Shape object) = on_object g m object (λ name x. (replies.Shape (length x.pointers) (length x.values), g))
+act g m (actions.NewWeak to p w d) =
+    if nat_lt g.room (2 + p + w + d) then refused g refusals.TooBig
+    else if next_name g == 2 ^ 64 - 1 then refused g refusals.NamesSpent
+    else (replies.Named (Some (next_name g)), with_object g (record { pointers = replicate p None; weaks = replicate w None; values = replicate d 0 }) (register_place m to.number))
+act g m (actions.GetWeak to object i) = on_object g m object (λ name x. on_field g (slice_get x.weaks i) (λ value. (replies.Named value, with_root g (register_place m to.number) value)))
+act g m (actions.PutWeak object i value) = on_object g m object (λ name x. on_field g (slice_get x.weaks i) (λ old. (replies.Done, with_changed g name (record x { weaks = slice_set x.weaks i (stored g m value) }))))
+act g m (actions.Weaks object) = on_object g m object (λ name x. (replies.Word (length x.weaks), g))
 
 -- what an operation replies, and the graph after it
 abbrev pub outcome_of : Graph → Op → Outcome

@@ -1,6 +1,8 @@
 -- Which events may follow one another.
-use Rattle.std.specs.Prelude.{◌≡◌, ℕ, ◌-◌, ◌<◌, ◌≤◌, ◌⊎◌, List, Some, length, take, slice_get, ◌∷◌, []}
+use Rattle.std.specs.Prelude.{◌≡◌, ℕ, ◌-◌, ◌<◌, ◌≤◌, ◌⊎◌, List, Option, Some, None, length, take, slice_get, ◌∷◌, []}
 use Rattle.heap_model.specs.Graph.{Graph, next_name}
+use Rattle.heap_model.specs.Weak.{touched, Clears}
+use Rattle.object_graph.specs.State.{State}
 use Rattle.object_graph.specs.Machine.{outcome_of, reply_of}
 use Rattle.object_graph.specs.declared.step.Action.{Action}
 use Rattle.object_graph.specs.declared.step.Action.TheVariants as actions
@@ -31,34 +33,54 @@ IsCollectorReply _ _ = ⊥
 -- the action asks for an object
 abbrev pub IsNew : Action → Type 0
 IsNew (actions.New to p d) = Unit {0}
+IsNew (actions.NewWeak to p w d) = Unit {0}
 IsNew _ = ⊥
 
 -- the step would create an object
 abbrev pub Creates : Graph → Op → Type 0
 Creates old o = IsNew o.action × (reply_of old o ≡ replies.Named (Some (next_name old)))
 
--- From old the step may have the reply, and new is the graph after it. A mutator's reply is the graph's; where an
--- object would be created, the heap may be full instead, and then nothing changes. The collector changes nothing.
-abbrev pub Happens : Graph → Step → Reply → Graph → Type 0
-Happens old (steps.Mutator o) reply new = ((reply, new) ≡ outcome_of old o) ⊎ (Creates old o × (reply ≡ replies.Refused refusals.Full) × (new ≡ old))
-Happens old (steps.Collector k) reply new = IsCollectorReply k reply × (new ≡ old)
+-- the snapshot after a mutator's step: what a getweak replied with is touched
+abbrev pub snapshot_after : Option Graph → Action → Reply → Option Graph
+snapshot_after (Some s) (actions.GetWeak to object i) (replies.Named v) = Some (touched s v)
+snapshot_after snapshot _ _ = snapshot
+
+-- at the end of marking the weak slots are cleared by the snapshot; without one nothing changes
+abbrev pub ClearsBy : Option Graph → Graph → Graph → Type 0
+ClearsBy None old new = new ≡ old
+ClearsBy (Some s) old new = Clears s old new
+
+-- what a step of the collector changes: a begin that was done takes the snapshot, a remark that marked clears weak slots by it
+-- and gives it up
+abbrev pub Collects : State → CollectorStep → Reply → State → Type 0
+Collects old collector.Begin replies.Done new = new ≡ record { graph = old.graph; snapshot = Some old.graph }
+Collects old collector.Remark (replies.Marked n) new = (new.snapshot ≡ None) × ClearsBy old.snapshot old.graph new.graph
+Collects old _ _ new = new ≡ old
+
+-- From old the step may have the reply, and new is the state after it. A mutator's reply is the graph's; where an
+-- object would be created, the heap may be full instead, and then nothing changes.
+abbrev pub Happens : State → Step → Reply → State → Type 0
+Happens old (steps.Mutator o) reply new =
+    (((reply, new.graph) ≡ outcome_of old.graph o) × (new.snapshot ≡ snapshot_after old.snapshot o.action reply))
+    ⊎ (Creates old.graph o × (reply ≡ replies.Refused refusals.Full) × (new ≡ old))
+Happens old (steps.Collector k) reply new = IsCollectorReply k reply × Collects old k reply new
 
 -- the same of an event
-abbrev pub EventHappens : Graph → Event → Graph → Type 0
+abbrev pub EventHappens : State → Event → State → Type 0
 EventHappens old e new = Happens old e.step e.reply new
 
--- From old the events may happen one after another, and new is the graph after them.
-abbrev pub IsRun : Graph → List Event → Graph → Type 0
+-- From old the events may happen one after another, and new is the state after them.
+abbrev pub IsRun : State → List Event → State → Type 0
 IsRun old [] new = new ≡ old
-IsRun old (e ∷ es) new = (mid : Graph) × EventHappens old e mid × IsRun mid es new
+IsRun old (e ∷ es) new = (mid : State) × EventHappens old e mid × IsRun mid es new
 
 -- The events before the n-th are a run, and none goes on with the n-th.
-pub record BreaksAt (first : Graph) (es : List Event) (n : ℕ) : Type 0 where
+pub record BreaksAt (first : State) (es : List Event) (n : ℕ) : Type 0 where
   pub positive : 0 < n
   pub within : n ≤ length es
-  pub before : Graph
+  pub before : State
   pub run : IsRun first (take (n - 1) es) before
-  pub stops : (e : Event) → slice_get es (n - 1) ≡ Some e → (after : Graph) → EventHappens before e after → ⊥
+  pub stops : (e : Event) → slice_get es (n - 1) ≡ Some e → (after : State) → EventHappens before e after → ⊥
 
 -- the fact holds if the step is a mutator's
 abbrev pub ForMutator : Step → (Op → Type 0) → Type 0

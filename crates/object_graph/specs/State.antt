@@ -1,7 +1,7 @@
--- The graph of a heap: where its roots stand, and the graph of a new one.
-use Rattle.std.specs.Prelude.{◌≡◌, ℕ, ◌+◌, ◌*◌, ◌-◌, ◌<◌, ◌^◌, List, Option, Some, None, length, slice_index_or, replicate, [], nat_lt, if◌then◌else◌}
+-- The graph of a heap and the snapshot of its marking: where roots stand, and the state of a new heap.
+use Rattle.std.specs.Prelude.{◌≡◌, ℕ, ◌+◌, ◌*◌, ◌-◌, ◌<◌, ◌≤◌, ◌^◌, List, Option, Some, None, length, slice_get, slice_index_or, replicate, [], nat_lt, if◌then◌else◌}
 use Rattle.heap_words.specs.declared.config.Config.{Config}
-use Rattle.heap_model.specs.Graph.{Graph, Object, next_name}
+use Rattle.heap_model.specs.Graph.{Graph, Object, next_name, object_fields}
 pub use Rattle.heap_model.specs.Graph.{with_root}
 
 -- the place of a mutator's register among the roots: behind the 16 globals, 8 registers a mutator
@@ -26,6 +26,45 @@ abbrev pub place_of : Graph → Option ℕ → Option ℕ
 place_of g None = None
 place_of g (Some name) = within g.objects (name - g.first_name)
 
+-- the graph, and while a snapshot is kept, that: the graph at the last begin that replied ok, with each name of it that was
+-- touched since then as one root more
+pub record State : Type 0 where
+  pub graph : Graph
+  pub snapshot : Option Graph
+
 -- the graph of a new heap: no objects, and each root nil
-abbrev pub first_state : Config → Graph
-first_state c = record { room = c.regions * c.words; first_name = c.first_name; mutators = c.mutators; objects = []; roots = replicate (16 + 8 * c.mutators) None }
+abbrev pub first_graph : Config → Graph
+first_graph c = record { room = c.regions * c.words; first_name = c.first_name; mutators = c.mutators; objects = []; roots = replicate (16 + 8 * c.mutators) None }
+
+-- the state of a new heap
+abbrev pub first_state : Config → State
+first_state c = record { graph = first_graph c; snapshot = None }
+
+-- a name of the graph: one that an object bears
+abbrev pub IsNameOf : Graph → ℕ → Type 0
+IsNameOf g n = (g.first_name ≤ n) × (n < next_name g)
+
+-- the name stands in a root place, or in a field of an object
+pub data Occurs (g : Graph) (n : ℕ) : Type 0 where
+  AtRoot : (j : ℕ) → slice_get g.roots j ≡ Some (Some n) → Occurs g n
+  AtField : (k i : ℕ) (x : Object) → slice_get g.objects k ≡ Some x → slice_get (object_fields x) i ≡ Some (Some n) → Occurs g n
+
+-- each name that stands anywhere in the graph is borne by an object
+abbrev pub HoldsNames : Graph → Type 0
+HoldsNames g = (n : ℕ) → Occurs g n → IsNameOf g n
+
+-- the snapshot has the graph's names up to some name
+pub record IsEarlier (s g : Graph) : Type 0 where
+  pub holds : HoldsNames s
+  pub first_name : s.first_name ≡ g.first_name
+  pub next_name : next_name s ≤ next_name g
+
+-- the fact holds of the snapshot if there is one
+abbrev pub ForSnapshot : Option Graph → (Graph → Type 0) → Type 0
+ForSnapshot None P = Unit {0}
+ForSnapshot (Some s) P = P s
+
+-- no name stands anywhere but those that objects bear
+pub record IsSoundState (st : State) : Type 0 where
+  pub graph : HoldsNames st.graph
+  pub snapshot : ForSnapshot st.snapshot (λ s. IsEarlier s st.graph)

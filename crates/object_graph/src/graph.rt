@@ -1,10 +1,10 @@
 //! The graph of objects by name, and what each step of a mutator does to it.
 
-ghost use Rattle.std.specs.Prelude.{◌≡◌, ◌<◌, ◌≤◌, ◌+◌, ◌*◌, ◌↔◌, ◌≢◌, IsTrue, IsOk, IfOk, OnErr};
-ghost use Rattle.object_graph.specs.Run.{IsCollectorReply};
+ghost use Rattle.std.specs.Prelude.{◌≡◌, ◌<◌, ◌≤◌, ◌+◌, ◌*◌, ◌↔◌, ◌≢◌, length, IsTrue, IsOk, IfOk, OnErr};
 
-use crate::object::Object;
-use crate::step::{Action, CollectorStep, Event, GlobalRoot, Op, Refusal, Register, Reply, Step};
+use crate::object::{Object, clear_all, copy_all};
+use crate::search::Search;
+use crate::step::{Action, GlobalRoot, Op, Refusal, Register, Reply};
 use heap_words::config::Config;
 use std::alloc::{AllocError, Global};
 use std::marker::Model;
@@ -31,10 +31,12 @@ impl Model for Graph {
 }
 
 impl Graph {
-    ghost use Rattle.object_graph.specs.State.{root_at, register_place, place_of, first_state};
+    ghost use Rattle.object_graph.specs.State.{root_at, register_place, place_of, first_graph};
     ghost use Rattle.heap_model.specs.Graph as model;
     ghost use Rattle.heap_model.specs.Graph.{next_name, with_root};
-    ghost use Rattle.object_graph.specs.Run.{Creates, EventHappens, ForMutator};
+    ghost use Rattle.object_graph.specs.Run.{Creates};
+    ghost use Rattle.object_graph.specs.Reached.{flag_of, started, all_found, searched};
+    ghost use Rattle.heap_model.specs.Weak.{cleared_graph};
     ghost use Rattle.object_graph.specs.Machine.{act, outcome_of, stored};
 
     /// What a mutator's register holds.
@@ -88,11 +90,90 @@ impl Graph {
         let alloc = *self.objects.allocator();
         let object = Object {
             pointers: vec![in alloc; None; pointers as usize]?,
+            weaks: Vec::new(alloc),
             values: vec![in alloc; 0; values as usize]?,
         };
         self.objects.push(object)?;
         self.roots[16 + 8 * mutator as usize + to.number as usize] = Some(name);
         Ok(Reply::Named(Some(name)))
+    }
+
+    fn new_weak_object(
+        &mut self,
+        mutator: u32,
+        to: Register,
+        pointers: u32,
+        weaks: u8,
+        values: u32,
+    ) -> Result<Reply, AllocError>
+        requires { mutator < self.old.mutators }
+        ensures ok { IfOk result (λ reply. (reply, self.new) ≡ act self.old mutator (Action.NewWeak to pointers weaks values)) }
+        ensures err { OnErr result (self.new ≡ self.old) }
+        ensures memory { ((act self.old mutator (Action.NewWeak to pointers weaks values)).0 ≢ Reply.Named (Some (next_name self.old))) → IsOk result }
+    {
+        if self.room < 2 + u64::from(pointers) + u64::from(weaks) + u64::from(values) {
+            return Ok(Reply::Refused(Refusal::TooBig));
+        }
+        let name = self.first_name + self.objects.len() as u64;
+        if u64::MAX == name {
+            return Ok(Reply::Refused(Refusal::NamesSpent));
+        }
+        let alloc = *self.objects.allocator();
+        let values = vec![in alloc; 0; values as usize]?;
+        let object = Object {
+            pointers: vec![in alloc; None; pointers as usize]?,
+            weaks: vec![in alloc; None; weaks as usize]?,
+            values,
+        };
+        self.objects.push(object)?;
+        self.roots[16 + 8 * mutator as usize + to.number as usize] = Some(name);
+        Ok(Reply::Named(Some(name)))
+    }
+
+    fn get_weak(&mut self, mutator: u32, to: Register, object: Register, slot: u32) -> Reply
+        requires { mutator < self.old.mutators }
+        ensures { (result, self.new) ≡ act self.old mutator (Action.GetWeak to object slot) }
+    {
+        let Some(place) = self.place(mutator, object) else {
+            return Reply::Refused(Refusal::Nil);
+        };
+        let object = &self.objects[place];
+        let Some(value) = object.weaks.get(slot as usize).copied() else {
+            return Reply::Refused(Refusal::NoField);
+        };
+        self.set_register(mutator, to, value);
+        Reply::Named(value)
+    }
+
+    fn put_weak(
+        &mut self,
+        mutator: u32,
+        object: Register,
+        slot: u32,
+        value: Option<Register>,
+    ) -> Reply
+        requires { mutator < self.old.mutators }
+        ensures { (result, self.new) ≡ act self.old mutator (Action.PutWeak object slot value) }
+    {
+        let Some(place) = self.place(mutator, object) else {
+            return Reply::Refused(Refusal::Nil);
+        };
+        let value = self.stored(mutator, value);
+        if slot >= self.objects[place].weak_count() {
+            return Reply::Refused(Refusal::NoField);
+        }
+        self.objects[place].set_weak(slot, value);
+        Reply::Done
+    }
+
+    fn weaks(&self, mutator: u32, object: Register) -> Reply
+        requires { mutator < self.now.mutators }
+        ensures { (result, self.now) ≡ act self.now mutator (Action.Weaks object) }
+    {
+        let Some(place) = self.place(mutator, object) else {
+            return Reply::Refused(Refusal::Nil);
+        };
+        Reply::Word(u64::from(self.objects[place].weak_count()))
     }
 
     fn get(&mut self, mutator: u32, to: Register, object: Register, field: u32) -> Reply
@@ -249,11 +330,24 @@ impl Graph {
             Action::Load { to, from } => Ok(self.load(mutator, to, from)),
             Action::Save { to, from } => Ok(self.save(mutator, to, from)),
             Action::Shape { object } => Ok(self.shape(mutator, object)),
+            Action::NewWeak {
+                to,
+                pointers,
+                weaks,
+                values,
+            } => self.new_weak_object(mutator, to, pointers, weaks, values),
+            Action::GetWeak { to, object, slot } => Ok(self.get_weak(mutator, to, object, slot)),
+            Action::PutWeak {
+                object,
+                slot,
+                value,
+            } => Ok(self.put_weak(mutator, object, slot, value)),
+            Action::Weaks { object } => Ok(self.weaks(mutator, object)),
         }
     }
 
     /// Whether a step would create an object.
-    fn creates(&self, op: Op) -> bool
+    pub(crate) fn creates(&self, op: Op) -> bool
         ensures { IsTrue result ↔ Creates self.now op }
     {
         match op.action {
@@ -265,34 +359,61 @@ impl Graph {
                 self.room >= 2 + u64::from(pointers) + u64::from(values)
                     && self.first_name + self.objects.len() as u64 != u64::MAX
             }
+            Action::NewWeak {
+                pointers,
+                weaks,
+                values,
+                ..
+            } => {
+                self.room >= 2 + u64::from(pointers) + u64::from(weaks) + u64::from(values)
+                    && self.first_name + self.objects.len() as u64 != u64::MAX
+            }
             _ => false,
         }
     }
 
-    /// Takes an event, if it may happen: then the graph is the one after it. Refused for memory, the graph is
-    /// unchanged. Once an event may not happen, the graph is no longer that of the events.
-    pub fn take(&mut self, event: &Event) -> Result<bool, AllocError>
-        requires { ForMutator event.now.step (λ o. o.mutator < self.old.mutators) }
-        ensures yes { IfOk result (λ yes. IsTrue yes → EventHappens self.old event.now self.new) }
-        ensures no { IfOk result (λ yes. (after : model.Graph) → EventHappens self.old event.now after → IsTrue yes) }
-        ensures err { OnErr result (self.new ≡ self.old) }
-        ensures mutators { self.new.mutators ≡ self.old.mutators }
+    /// The same graph once more.
+    pub(crate) fn copy(&self) -> Result<Graph, AllocError>
+        ensures { IfOk result (λ g. g ≡ self.now) }
     {
-        match event.step {
-            Step::Collector(step) => Ok(is_collector_reply(step, event.reply)),
-            Step::Mutator(op) => {
-                if event.reply == Reply::Refused(Refusal::Full) {
-                    return Ok(self.creates(op));
-                }
-                let reply = self.apply(op)?;
-                Ok(reply == event.reply)
-            }
-        }
+        Ok(Graph {
+            room: self.room,
+            first_name: self.first_name,
+            mutators: self.mutators,
+            objects: copy_all(&self.objects)?,
+            roots: self.roots.clone()?,
+        })
+    }
+
+    /// Every weak slot becomes nil that holds a name below a limit which isn't flagged.
+    pub(crate) fn clear(&mut self, limit: u64, flags: &[bool])
+        ensures { self.new ≡ cleared_graph (flag_of self.old.first_name flags.now) limit self.old }
+    {
+        clear_all(&mut self.objects, self.first_name, limit, flags);
+    }
+
+    /// The name of the next object.
+    pub(crate) fn next_name(&self) -> u64
+        ensures { result ≡ next_name self.now }
+    {
+        self.first_name + self.objects.len() as u64
+    }
+
+    /// The search for what is reachable from the graph's roots and from some other names.
+    pub(crate) fn search(&self, others: &[Option<u64>]) -> Result<Vec<bool>, AllocError>
+        ensures { IfOk result (λ flags. flags.items ≡ (searched (all_found (all_found (started self.now) others.now) self.now.roots) self.now.objects (length self.now.objects)).flags) }
+    {
+        let alloc = *self.objects.allocator();
+        let mut search = Search::new(alloc, self.first_name, self.objects.len())?;
+        search.find_all(others)?;
+        search.find_all(self.roots.as_slice())?;
+        search.look_at_all(self.objects.as_slice())?;
+        Ok(search.into_flags())
     }
 
     /// The graph of a new heap: no objects, and each root nil.
     pub fn new(alloc: Global, config: &Config) -> Result<Graph, AllocError>
-        ensures { IfOk result (λ g. g ≡ first_state config.now) }
+        ensures { IfOk result (λ g. g ≡ first_graph config.now) }
     {
         let places = 16 + 8 * config.mutators as usize;
         Ok(Graph {
@@ -302,27 +423,5 @@ impl Graph {
             objects: Vec::new(alloc),
             roots: vec![in alloc; None; places]?,
         })
-    }
-}
-
-/// Whether a step of the collector may have the reply.
-fn is_collector_reply(step: CollectorStep, reply: Reply) -> bool
-    ensures { IsTrue result ↔ IsCollectorReply step reply }
-{
-    match step {
-        CollectorStep::Begin => matches!(reply, Reply::Done | Reply::Refused(Refusal::MarkRunning)),
-        CollectorStep::Mark(_) => {
-            matches!(reply, Reply::Done | Reply::Refused(Refusal::NotMarking))
-        }
-        CollectorStep::Remark => matches!(
-            reply,
-            Reply::Marked(_) | Reply::Refused(Refusal::NotMarking)
-        ),
-        CollectorStep::Cleanup => matches!(
-            reply,
-            Reply::Reclaimed(_) | Reply::Refused(Refusal::MarkRunning)
-        ),
-        CollectorStep::Refine(_) => matches!(reply, Reply::Refined(_)),
-        CollectorStep::Pause(_) => matches!(reply, Reply::Moved { .. }),
     }
 }

@@ -1,13 +1,13 @@
 //! The judge of records, which knows names and the heap line alone.
 
 ghost use Rattle.std.specs.Prelude.{◌≡◌, ℕ, List, IfOk};
-ghost use Rattle.object_graph.specs.State.{first_state};
+ghost use Rattle.object_graph.specs.State.{State, IsSoundState, first_state};
+ghost use Rattle.heap_words.specs.declared.config.Config.{Config};
 ghost use Rattle.object_graph.specs.Run.{IsRun, BreaksAt};
 ghost use Rattle.object_graph.specs.declared.step.Event.{Event};
 ghost use Rattle.object_graph.specs.Judged.{Judged};
-ghost use Rattle.heap_model.specs.Graph as model;
 
-use crate::graph::Graph;
+use crate::machine::Machine;
 use crate::record::Record;
 use std::alloc::{AllocError, Global};
 
@@ -26,10 +26,10 @@ pub fn check(alloc: Global, history: &Record) -> Result<Verdict, AllocError>
     ensures { IfOk result (Judged (first_state history.now.config) history.now.events) }
 {
     let config = history.config();
-    let mut graph = Graph::new(alloc, &config)?;
+    let mut machine = Machine::new(alloc, &config)?;
     let events = history.events();
     for (index, event) in events.iter().enumerate() {
-        if !graph.take(event)? {
+        if !machine.take(event)? {
             return Ok(Verdict::No(index as u64 + 1));
         }
     }
@@ -38,10 +38,16 @@ pub fn check(alloc: Global, history: &Record) -> Result<Verdict, AllocError>
 
 /// No events are both a run and broken at one of them.
 pub fn judged_once()
-    ensures { (first last : model.Graph) (es : List Event) (n : ℕ) → IsRun first es last → BreaksAt first es n → ⊥ }
+    ensures { (first last : State) (es : List Event) (n : ℕ) → IsRun first es last → BreaksAt first es n → ⊥ }
 {}
 
-/// A run leads to one graph.
+/// A run leads to one state.
 pub fn run_once()
-    ensures { (es : List Event) (first a b : model.Graph) → IsRun first es a → IsRun first es b → a ≡ b }
+    ensures { (es : List Event) (first a b : State) → IsRun first es a → IsRun first es b → a ≡ b }
+{}
+
+/// In every state of a run each name that stands in the graph or in the snapshot is borne by an object, and the snapshot's
+/// names are the graph's up to some name.
+pub fn run_is_sound()
+    ensures { (c : Config) (es : List Event) (last : State) → IsRun (first_state c) es last → IsSoundState last }
 {}

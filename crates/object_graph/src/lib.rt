@@ -1,7 +1,8 @@
 //! The graph of objects by name, and the judge of records.
 //!
-//! A mutator's step has one reply and leads to one graph; the collector's steps leave the graph as it is. So the
-//! graph tells what every reply of a heap must be, however its objects are stored, moved and reclaimed.
+//! A mutator's step has one reply and leads to one graph; of the collector's steps only the end of marking changes it, and
+//! weak slots alone: there it clears those that hold what the graph at the beginning of marking reached neither from a root
+//! nor from a name that was read from a weak slot since then. So the graph tells what every reply of a heap must be, however its objects are stored, moved and reclaimed.
 //!
 //! ```text
 //!   event                      reply    roots                objects
@@ -13,20 +14,22 @@
 //!   0 get r1 r0 0              #1       r0 0    r1 1         0: [1]     1: 0
 //! ```
 //!
-//! `Graph` takes steps (`apply`) and events (`take`); a `Plan` holds the steps to be done, a `Record` the events that
+//! `Graph` takes steps (`apply`); a `Plan` holds the steps to be done, a `Record` the events that
 //! were; `check` says whether a record is a run of the graph, and if not, at which event it breaks.
 #![tactic(auto)]
 
 mod graph;
 mod judge;
+mod machine;
 mod object;
 mod record;
+mod search;
 mod step;
 #[cfg(test)]
 mod tests;
 
 pub use graph::Graph;
-pub use judge::{Verdict, check, judged_once, run_once};
+pub use judge::{Verdict, check, judged_once, run_is_sound, run_once};
 pub use object::Object;
 pub use record::{Plan, Record};
 pub use step::{

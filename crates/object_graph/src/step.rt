@@ -19,7 +19,7 @@ pub struct GlobalRoot {
 }
 
 /// What a mutator does. Where an object is needed, the register may be nil, and the step is refused; fields
-/// count from 0, pointers and data words apart.
+/// count from 0, pointers, weak slots and data words apart.
 #[derive(Clone, Copy, Debug, PartialEq, Eq)]
 pub enum Action {
     /// An object of so many nil pointers and data words of 0 is made, and `to` holds its name.
@@ -72,6 +72,29 @@ pub enum Action {
     },
     /// Tells how many pointers and data words the object has.
     Shape {
+        object: Register,
+    },
+    /// An object of so many nil pointers, nil weak slots and data words of 0 is made, and `to` holds its name.
+    NewWeak {
+        to: Register,
+        pointers: u32,
+        weaks: u8,
+        values: u32,
+    },
+    /// `to` takes what a weak slot of the object holds.
+    GetWeak {
+        to: Register,
+        object: Register,
+        slot: u32,
+    },
+    /// A weak slot of the object takes what a register holds, or nil where there is none.
+    PutWeak {
+        object: Register,
+        slot: u32,
+        value: Option<Register>,
+    },
+    /// Tells how many weak slots the object has.
+    Weaks {
         object: Register,
     },
 }
@@ -137,7 +160,7 @@ pub enum Reply {
     Done,
     /// An object's name, or nil.
     Named(Option<u64>),
-    /// A data word.
+    /// A data word, or how many weak slots an object has.
     Word(u64),
     /// How many pointers and data words an object has.
     Shape { pointers: u32, values: u32 },

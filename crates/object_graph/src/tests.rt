@@ -1,6 +1,6 @@
 //! Each step once, each refusal of the graph, and small records before the judge.
 
-ghost use Rattle.std.specs.Prelude.{◌≡◌, ◌<◌};
+ghost use Rattle.std.specs.Prelude.{◌≡◌, ◌<◌, IfOk};
 ghost use Rattle.object_graph.specs.declared.step.Actor.TheVariants as actors;
 ghost use Rattle.object_graph.specs.declared.step.Step.TheVariants as steps;
 
@@ -11,7 +11,7 @@ use crate::step::{
     Action, Actor, CollectorStep, Event, GlobalRoot, Op, Refusal, Register, Reply, Step,
 };
 use heap_words::config::Config;
-use std::alloc::AllocError;
+use std::alloc::{AllocError, Global};
 use std::test::Fail;
 
 /// A heap of 64 words and one mutator.
@@ -193,5 +193,142 @@ fn keeps_plans(rt: HostRuntime) -> Result<(), Fail> {
     }))?;
     assert_eq!(rt; plan.steps().len(), 2);
     assert_eq!(rt; plan.config().regions, 4);
+    Ok(())
+}
+
+fn new_weak(to: u8, pointers: u32, weaks: u8, values: u32) -> Action
+    requires { to < 8 }
+{
+    Action::NewWeak {
+        to: r(to),
+        pointers,
+        weaks,
+        values,
+    }
+}
+
+fn get_weak(to: u8, object: u8, slot: u32) -> Action
+    requires to { to < 8 }
+    requires object { object < 8 }
+{
+    Action::GetWeak {
+        to: r(to),
+        object: r(object),
+        slot,
+    }
+}
+
+fn put_weak(object: u8, slot: u32, value: u8) -> Action
+    requires object { object < 8 }
+    requires value { value < 8 }
+{
+    Action::PutWeak {
+        object: r(object),
+        slot,
+        value: Some(r(value)),
+    }
+}
+
+fn collected(step: CollectorStep, reply: Reply) -> Event
+    ensures { result ≡ record { actor = actors.Collector; step = steps.Collector step; reply = reply } }
+{
+    Event {
+        actor: Actor::Collector,
+        step: Step::Collector(step),
+        reply,
+    }
+}
+
+#[test]
+fn reads_and_writes_weak_slots(rt: HostRuntime) -> Result<(), Fail> {
+    let mut graph = Graph::new(rt.alloc(), &config(0))?;
+    let g = &mut graph;
+    assert_eq!(rt; apply(g, new_weak(0, 1, 2, 1))?, Reply::Named(Some(0)));
+    assert_eq!(rt; apply(g, Action::Weaks { object: r(0) })?, Reply::Word(2));
+    let shape = Reply::Shape {
+        pointers: 1,
+        values: 1,
+    };
+    assert_eq!(rt; apply(g, Action::Shape { object: r(0) })?, shape);
+    assert_eq!(rt; apply(g, get_weak(1, 0, 1))?, Reply::Named(None));
+    assert_eq!(rt; apply(g, put_weak(0, 1, 0))?, Reply::Done);
+    assert_eq!(rt; apply(g, get_weak(1, 0, 1))?, Reply::Named(Some(0)));
+    assert_eq!(rt; apply(g, get(1, 0, 0))?, Reply::Named(None));
+    assert_eq!(rt;
+        apply(g, get_weak(1, 0, 2))?,
+        Reply::Refused(Refusal::NoField)
+    );
+    assert_eq!(rt;
+        apply(g, put_weak(0, 2, 0))?,
+        Reply::Refused(Refusal::NoField)
+    );
+    assert_eq!(rt; apply(g, put_weak(2, 0, 0))?, Reply::Refused(Refusal::Nil));
+    assert_eq!(rt;
+        apply(g, new_weak(2, 0, 255, 0))?,
+        Reply::Refused(Refusal::TooBig)
+    );
+    Ok(())
+}
+
+/// A weak slot of #0, in r0, holds #1, which nothing else names.
+fn held_weakly(alloc: Global) -> Result<Record, AllocError>
+    ensures { IfOk result (λ held. held.config.mutators ≡ 1) }
+{
+    let mut record = Record::new(alloc, config(0));
+    record.push(done(new_weak(0, 0, 1, 0), Reply::Named(Some(0))))?;
+    record.push(done(new(1, 0, 1), Reply::Named(Some(1))))?;
+    record.push(done(put_weak(0, 0, 1), Reply::Done))?;
+    record.push(done(Action::Drop { register: r(1) }, Reply::Done))?;
+    Ok(record)
+}
+
+#[test]
+fn clears_what_only_weak_slots_name(rt: HostRuntime) -> Result<(), Fail> {
+    let alloc = rt.alloc();
+    let mut cleared = held_weakly(alloc)?;
+    cleared.push(collected(CollectorStep::Begin, Reply::Done))?;
+    cleared.push(collected(CollectorStep::Remark, Reply::Marked(1)))?;
+    cleared.push(done(get_weak(1, 0, 0), Reply::Named(None)))?;
+    assert_eq!(rt; check(alloc, &cleared)?, Verdict::Yes(7));
+
+    let mut wrong = held_weakly(alloc)?;
+    wrong.push(collected(CollectorStep::Begin, Reply::Done))?;
+    wrong.push(collected(CollectorStep::Remark, Reply::Marked(1)))?;
+    wrong.push(done(get_weak(1, 0, 0), Reply::Named(Some(1))))?;
+    assert_eq!(rt; check(alloc, &wrong)?, Verdict::No(7));
+    Ok(())
+}
+
+#[test]
+fn keeps_what_was_read_while_marking_ran(rt: HostRuntime) -> Result<(), Fail> {
+    let alloc = rt.alloc();
+    let mut touched = held_weakly(alloc)?;
+    touched.push(collected(CollectorStep::Begin, Reply::Done))?;
+    touched.push(done(get_weak(1, 0, 0), Reply::Named(Some(1))))?;
+    touched.push(done(Action::Drop { register: r(1) }, Reply::Done))?;
+    touched.push(collected(CollectorStep::Remark, Reply::Marked(2)))?;
+    touched.push(done(get_weak(1, 0, 0), Reply::Named(Some(1))))?;
+    touched.push(done(Action::Drop { register: r(1) }, Reply::Done))?;
+    touched.push(collected(CollectorStep::Begin, Reply::Done))?;
+    touched.push(collected(CollectorStep::Remark, Reply::Marked(1)))?;
+    touched.push(done(get_weak(1, 0, 0), Reply::Named(None)))?;
+    assert_eq!(rt; check(alloc, &touched)?, Verdict::Yes(13));
+    Ok(())
+}
+
+#[test]
+fn a_pause_leaves_weak_slots(rt: HostRuntime) -> Result<(), Fail> {
+    let alloc = rt.alloc();
+    let mut moved = held_weakly(alloc)?;
+    let pause = Reply::Moved {
+        regions: 1,
+        words: 6,
+    };
+    moved.push(collected(CollectorStep::Pause(100), pause))?;
+    // without a snapshot nothing is cleared
+    moved.push(collected(CollectorStep::Remark, Reply::Marked(1)))?;
+    moved.push(done(get_weak(1, 0, 0), Reply::Named(Some(1))))?;
+    moved.push(done(read(1, 0), Reply::Word(0)))?;
+    assert_eq!(rt; check(alloc, &moved)?, Verdict::Yes(8));
     Ok(())
 }

@@ -3,11 +3,12 @@ use Rattle.std.proofs.Common.{inl, inr, ◌≡◌, ◌≢◌, ℕ, suc, ◌+◌,
 use Rattle.std.specs.Prelude.{slice_get, IsSome, IsTrue, if◌then◌else◌}
 use Rattle.std.proofs.lemmas.Bool.{cases_lt}
 use Rattle.std.proofs.lemmas.Nat.{mul-le}
+use Rattle.std.proofs.lemmas.List.{length-append}
 use Rattle.std.proofs.lemmas.Option.{slice_get_within}
 use Rattle.heap_model.specs.Heap.{Stored, IsClosed, fields}
 use Rattle.heap_words.specs.declared.addr.Addr.{Addr}
 use Rattle.regions.specs.Tiles.{Tile, Live, Gap, Moved, tile_size, tile_at, total_size}
-use Rattle.regions.specs.Table.{Table, Region, Free, Ordinary, First, Rest, region_number, kind_of, tile_in, tile_object, object_at, object_pointers, pointers_at, top_of}
+use Rattle.regions.specs.Table.{Table, Region, Free, Ordinary, First, Rest, region_number, kind_of, tile_in, tile_object, object_at, object_fields, fields_at, top_of}
 use Rattle.regions.specs.Shapes.{tile_shape}
 use Rattle.regions.specs.Walks.{tiles_of, tiles_from, placed, walk_rest, IsHolder, IsRunStart, IsPlacedTile}
 use Rattle.regions.specs.Shaped.{IsShaped}
@@ -25,7 +26,7 @@ use Rattle.mark_bitmap.specs.Tops.{Tops, below_previous}
 use Rattle.mark_bitmap.specs.Marks.{is_marked}
 use Rattle.mark_bitmap.specs.Kept.{heap_in, kept_in}
 use Rattle.refinement.specs.Remembering.{field_word, IsCrossing, LeadsInside}
-use Rattle.refinement.specs.Refining.{PointsInside}
+use Rattle.refinement.specs.Refining.{FieldsInside}
 use Rattle.refinement.proofs.Divides.{div_is}
 
 spread : (a b c n : ℕ) → a + b ≡ c → a * n + b * n ≡ c * n
@@ -156,7 +157,7 @@ pub field_holder : (t : Table) (kept : ℕ → Option Stored) (a i v : ℕ) → 
 unfolding object_at
 field_holder t kept a i v stands x =
     let inside = slice_get_within (fields x.object) i (Some v) x.field_is in
-    record { tile = Live x.object; tile_is = object_tile (tile_in t a) x.object (stands a x.object x.kept_is); low = omega arith; high = omega (arith, inside) }
+    record { tile = Live x.object; tile_is = object_tile (tile_in t a) x.object (stands a x.object x.kept_is); low = omega arith; high = omega (arith, inside, length-append x.object.pointers x.object.weaks) }
 
 pub object_known : (t : Table) (a : ℕ) (s : Stored) → object_at t a ≡ Some s → a / t.words_per_region < length t.regions
 unfolding object_at
@@ -178,16 +179,16 @@ closed_inside t tops previous roots closed = record {
       object_known t v there.0 (kept_object t tops previous v there.0 there.1);
 }
 
-pub pointers_of : (t : Table) (a : ℕ) (s : Stored) → object_at t a ≡ Some s → pointers_at t a ≡ s.pointers
-unfolding pointers_at
-pointers_of t a s e = ap object_pointers e
+pub fields_of : (t : Table) (a : ℕ) (s : Stored) → object_at t a ≡ Some s → fields_at t a ≡ (fields s)
+unfolding fields_at
+fields_of t a s e = ap object_fields e
 
 -- a filler and what has moved are no objects
-pub shape_object : (t : Table) (a p d : ℕ) → IsPlacedTile t a (Object p d) → IsSome (object_at t a)
+pub shape_object : (t : Table) (a p weak d : ℕ) → IsPlacedTile t a (Object p weak d) → IsSome (object_at t a)
 unfolding object_at
-shape_object t a p d h = go h.tile h.tile_is h.shape_is
+shape_object t a p weak d h = go h.tile h.tile_is h.shape_is
   where
-    go : (u : Tile) → tile_in t a ≡ Some u → Object p d ≡ tile_shape u → IsSome (tile_object (tile_in t a))
+    go : (u : Tile) → tile_in t a ≡ Some u → Object p weak d ≡ tile_shape u → IsSome (tile_object (tile_in t a))
     go (Live s) e f = rw e refl
     go (Gap m) e f = cc
     go (Moved to m) e f = cc
@@ -215,8 +216,8 @@ pub object_within : (t : Table) (a : ℕ) (s : Stored) → IsShaped t → object
 unfolding object_at
 object_within t a s g e = g.within a (Live s) (object_tile (tile_in t a) s e)
 
-pub shape_within : (t : Table) (a p d n : ℕ) → IsShaped t → n ≡ length t.regions * t.words_per_region → IsPlacedTile t a (Object p d) → a < n
-shape_within t a p d n g e h = go (object_at t a) refl (shape_object t a p d h)
+pub shape_within : (t : Table) (a p weak d n : ℕ) → IsShaped t → n ≡ length t.regions * t.words_per_region → IsPlacedTile t a (Object p weak d) → a < n
+shape_within t a p weak d n g e h = go (object_at t a) refl (shape_object t a p weak d h)
   where
     go : (o : Option Stored) → object_at t a ≡ o → IsSome o → a < n
     go None f x = cc
@@ -226,21 +227,21 @@ shape_within t a p d n g e h = go (object_at t a) refl (shape_object t a p d h)
 pub record IsFieldAt (t : Table) (a i : ℕ) : Type 0 where
   pub object : Stored
   pub is : object_at t a ≡ Some object
-  pub within : i < length object.pointers
+  pub within : i < length (fields object)
 
-pub field_at : (t : Table) (a i : ℕ) → i < length (pointers_at t a) → IsFieldAt t a i
-unfolding pointers_at
+pub field_at : (t : Table) (a i : ℕ) → i < length (fields_at t a) → IsFieldAt t a i
+unfolding fields_at
 field_at t a i h = go (object_at t a) refl
   where
     go : (o : Option Stored) → object_at t a ≡ o → IsFieldAt t a i
-    go None e = absurd (omega (arith, h, ap (λ (x : Option Stored). length (object_pointers x)) e))
-    go (Some s) e = record { object = s; is = e; within = omega (arith, h, ap (λ (x : Option Stored). length (object_pointers x)) e) }
+    go None e = absurd (omega (arith, h, ap (λ (x : Option Stored). length (object_fields x)) e))
+    go (Some s) e = record { object = s; is = e; within = omega (arith, h, ap (λ (x : Option Stored). length (object_fields x)) e) }
 
-pub field_inside : (t : Table) (a i : ℕ) → IsShaped t → i < length (pointers_at t a) → a + 2 + i < length t.regions * t.words_per_region
+pub field_inside : (t : Table) (a i : ℕ) → IsShaped t → i < length (fields_at t a) → a + 2 + i < length t.regions * t.words_per_region
 field_inside t a i g h =
     let f = field_at t a i h in
     let w = object_within t a f.object g f.is in
-    omega (arith, w, f.within)
+    omega (arith, w, f.within, length-append f.object.pointers f.object.weaks)
 
 pub object_small : (t : Table) (a : ℕ) → IsShaped t → IsSome (object_at t a) → a + 2 ≤ length t.regions * t.words_per_region
 object_small t a g h = go (object_at t a) refl h
@@ -282,12 +283,12 @@ same_object t kept a stands h = go (kept a) refl h
     go None e x = cc
     go (Some s) e x = e ∙ sym (stands a s e)
 
-pub points_inside : (t : Table) (kept : ℕ → Option Stored) (a : ℕ) → Stands t kept → LeadsInside t.words_per_region (length t.regions) kept → IsSome (kept a) → PointsInside t a
+pub points_inside : (t : Table) (kept : ℕ → Option Stored) (a : ℕ) → Stands t kept → LeadsInside t.words_per_region (length t.regions) kept → IsSome (kept a) → FieldsInside t a
 points_inside t kept a stands inside h i v f = go (kept a) refl h
   where
     go : (o : Option Stored) → kept a ≡ o → IsSome o → v / t.words_per_region < length t.regions
     go None e x = cc
-    go (Some s) e x = inside.each a i v s e (ap (λ (l : List (Option ℕ)). slice_get l i) (sym (pointers_of t a s (stands a s e))) ∙ f)
+    go (Some s) e x = inside.each a i v s e (ap (λ (l : List (Option ℕ)). slice_get l i) (sym (fields_of t a s (stands a s e))) ∙ f)
 
 pub not_kept : (kept : ℕ → Option Stored) (a : ℕ) (r : Bool) → (IsSome (kept a) → IsTrue r) → r ≡ false → kept a ≡ None
 not_kept kept a r f e = go (kept a) refl

@@ -3,20 +3,21 @@ use Rattle.std.proofs.Common.{inl, inr, ◌≡◌, ◌≢◌, ℕ, zero, suc, �
 use Rattle.std.specs.Prelude.{slice_get, IsSome, IfSome}
 use Rattle.std.proofs.lemmas.Bool.{cases_lt, cases_eq}
 use Rattle.std.proofs.lemmas.Bool.Decides.{leb_tells}
-use Rattle.std.proofs.lemmas.List.{get_or-replicate, length-replicate, get_or_past}
+use Rattle.std.proofs.lemmas.List.{get_or-replicate, length-replicate, length-append, get_or_past}
 use Rattle.std.proofs.lemmas.Nat.{div_below}
 use Rattle.std.proofs.lemmas.Option.{slice_get_within, get_or_from_slice_get}
-use Rattle.heap_model.specs.Heap.{Stored}
+use Rattle.heap_model.specs.Heap.{Stored, fields, with_field}
+use Rattle.heap_model.proofs.Fields.{field_set}
+use Rattle.heap_model.proofs.Lists.{get-append_cases}
 use Rattle.regions.specs.Tiles.{Tile, Live, Gap, Moved, tile_size, tile_at}
-use Rattle.regions.specs.Table.{Region, Free, First, Table, region_number, first_run, is_free, with_run, region_tile, region_at, tile_in, tile_object, object_at, free_table, taken, first_free, set_pointer, push_tile, replace_tile, new_object, gap, used_of, top_of, kind_of, object_pointers, pointers_at}
+use Rattle.regions.specs.Table.{Region, Free, First, Table, region_number, first_run, is_free, with_run, region_tile, region_at, tile_in, tile_object, object_at, free_table, taken, first_free, set_field, push_tile, replace_tile, new_object, gap, used_of, top_of, kind_of, object_fields, fields_at}
 use Rattle.regions.specs.declared.row.Kind.TheVariants as kinds
 use Rattle.regions.specs.Shaped.{IsShaped}
 use Rattle.regions.specs.Shapes.{tile_shape}
 use Rattle.regions.specs.Walks.{IsHolder}
 use Rattle.regions.specs.declared.row.Shape.{Shape}
 use Rattle.regions.specs.declared.row.Shape.TheVariants as shapes
-use Rattle.regions.proofs.Fields.{with_pointer}
-use Rattle.regions.proofs.Changes.{pointer_put, object_same}
+use Rattle.regions.proofs.Changes.{field_put, object_same}
 use Rattle.regions.proofs.Placing.{region_taken, Pushed, gap_push, Replaces, gap_replaced}
 use Rattle.regions.proofs.RunLaws.{TakesRun, run_made, tile_of_region}
 use Rattle.mark_bitmap.specs.Tops.{Tops}
@@ -54,11 +55,11 @@ take_sample t t' (Some k) f e s =
     subst IsSample (sym e) (same_objects t (taken t (Some k)) p.count p.size (λ a. object_same t (taken t (Some k)) a (p.others a)) s)
 
 -- a field is set to an address of the heap
-pub link_sample : (t t' : Table) (a i b : ℕ) → 0 < t.words_per_region → i < length (pointers_at t a) → b < 64 → t' ≡ set_pointer t a i (Some b) → IsSample t → IsSample t'
+pub link_sample : (t t' : Table) (a i b : ℕ) → 0 < t.words_per_region → i < length (fields_at t a) → b < 64 → t' ≡ set_field t a i (Some b) → IsSample t → IsSample t'
 link_sample t t' a i b z known small e s =
     let f = field_at t a i known in
-    let u : Table = set_pointer t a i (Some b) in
-    let w = pointer_put t a i (Some b) f.object z f.is in
+    let u : Table = set_field t a i (Some b) in
+    let w = field_put t a i (Some b) f.object z f.is in
     let near : b / t.words_per_region < length t.regions = rw (s.count, s.words) (div_below b 16 4 (omega arith) small) in
     subst IsSample (sym e) (record {
       count = w.count ∙ s.count;
@@ -67,14 +68,15 @@ link_sample t t' a i b z known small e s =
         | inl same ↦
             let is = w.is in
             let o' : object_at u a ≡ Some x = ap (object_at u) (sym same) ∙ o in
-            let x_is : x ≡ with_pointer f.object i (Some b) = cc in
-            let now : slice_get (set f.object.pointers i (Some b)) j ≡ Some (Some v) = ap (λ (q : Stored). slice_get q.pointers j) (sym x_is) ∙ g in
+            let x_is : x ≡ with_field f.object i (Some b) = cc in
+            let set_is : fields (with_field f.object i (Some b)) ≡ set (fields f.object) i (Some b) = (field_set f.object i (Some b)).fields_are in
+            let now : slice_get (set (fields f.object) i (Some b)) j ≡ Some (Some v) = ap (λ l. slice_get l j) (sym set_is) ∙ ap (λ (q : Stored). slice_get (fields q) j) (sym x_is) ∙ g in
             elim (cases_eq j i) [
               | inl at ↦
-                  let v_is : Some v ≡ Some b = set_here f.object.pointers i (Some b) (Some v) (ap (λ (k : ℕ). slice_get (set f.object.pointers i (Some b)) k) (sym at) ∙ now) in
+                  let v_is : Some v ≡ Some b = set_here (fields f.object) i (Some b) (Some v) (ap (λ (k : ℕ). slice_get (set (fields f.object) i (Some b)) k) (sym at) ∙ now) in
                   let end : v ≡ b = cc in
                   subst (λ (k : ℕ). k / t.words_per_region < length t.regions) (sym end) near
-              | inr apart ↦ s.inside a j v f.object f.is (set_there f.object.pointers i j (Some b) (Some v) apart now)
+              | inr apart ↦ s.inside a j v f.object f.is (set_there (fields f.object) i j (Some b) (Some v) apart now)
             ]
         | inr other ↦ s.inside c j v x (sym (object_same t u c (w.others c other)) ∙ o) g
       ]);
@@ -87,6 +89,9 @@ nil_alone n i b e =
     let none : get_or (replicate n None) i None ≡ None = get_or-replicate {A = Option ℕ} n i None None inside in
     cc
 
+nil_fields : (name n i b : ℕ) → slice_get (fields (new_object name n 0 0)) i ≡ Some (Some b) → ⊥
+nil_fields name n i b e = elim (get-append_cases (replicate n None) [] i (Some b) e) [ inl q ↦ nil_alone n i b q | inr q ↦ (let none = q.1 in cc) ]
+
 alone : (t : Tile) (j : ℕ) → 0 < j → tile_at j (t ∷ []) ≡ None
 alone t zero h = absurd (omega arith)
 alone t (suc j) h = elim (leb_tells (tile_size t) (suc j)) [ inl q ↦ rw q.0 refl | inr q ↦ rw q.0 refl ]
@@ -94,14 +99,14 @@ alone t (suc j) h = elim (leb_tells (tile_size t) (suc j)) [ inl q ↦ rw q.0 re
 -- an object with nil pointers is made where a filler was pushed
 module _ (t t' t'' : Table) (k a n p name : ℕ) (shape : IsShaped t) (shape' : IsShaped t') (known : k < length t.regions) (ordinary : kind_of t k ≡ kinds.Ordinary)
     (room : used_of t k + n ≤ t.words_per_region) (size : n ≡ 2 + p) (at : a ≡ top_of t k) (e : t' ≡ push_tile t k (Gap n))
-    (e' : t'' ≡ replace_tile t' a (Live (new_object name p 0) ∷ gap (n - (2 + p + 0)))) where
+    (e' : t'' ≡ replace_tile t' a (Live (new_object name p 0 0) ∷ gap (n - (2 + p + 0 + 0)))) where
   abbrev new : Stored
-  new = new_object name p 0
+  new = new_object name p 0 0
 
   push : Pushed t t' k a (Gap n)
   push = rw (e, at) (gap_push t k (Gap n) shape.positive shape.fitting known ordinary (omega (arith, size)) room tt)
 
-  whole : n - (2 + p + 0) ≡ 0
+  whole : n - (2 + p + 0 + 0) ≡ 0
   whole = omega (arith, size)
 
   words : tile_size (Live new) ≡ n
@@ -148,7 +153,7 @@ module _ (t t' t'' : Table) (k a n p name : ℕ) (shape : IsShaped t) (shape' : 
         inside = λ y i b x o f. elim (cases_eq y a) [
           | inl same ↦
               let x_is : x ≡ new = let m = new_is in let o' = sym (ap (object_at t'') same) ∙ o in cc in
-              absurd (nil_alone p i b (ap (λ (q : Stored). slice_get q.pointers i) (sym x_is) ∙ f))
+              absurd (nil_fields name p i b (ap (λ (q : Stored). slice_get (fields q) i) (sym x_is) ∙ f))
           | inr apart ↦ rw (count, words_are) (s.inside y i b x (sym (other y apart) ∙ o) f)
         ];
       }
@@ -158,12 +163,12 @@ pub add_there : (t t' : Table) (k a n : ℕ) → IsShaped t → k < length t.reg
 add_there t t' k a n shape known ordinary room z at e = rw (e, at) (gap_push t k (Gap n) shape.positive shape.fitting known ordinary z room tt).is
 
 -- an object of nil pointers in the first region of a run
-first_alone : (p name o : ℕ) (x : Stored) → tile_object (region_tile (First (new_object name p 0)) o) ≡ Some x → x ≡ new_object name p 0
+first_alone : (p name o : ℕ) (x : Stored) → tile_object (region_tile (First (new_object name p 0 0)) o) ≡ Some x → x ≡ new_object name p 0 0
 first_alone p name zero x e = cc
 first_alone p name (suc o) x e = cc
 
 -- a humongous object is made
-pub run_sample : (t t' : Table) (m p name : ℕ) (o : Option ℕ) → 0 < t.words_per_region → 0 < m → first_run is_free m t.regions ≡ o → t' ≡ with_run t m (new_object name p 0) o → IsSample t → IsSample t'
+pub run_sample : (t t' : Table) (m p name : ℕ) (o : Option ℕ) → 0 < t.words_per_region → 0 < m → first_run is_free m t.regions ≡ o → t' ≡ with_run t m (new_object name p 0 0) o → IsSample t → IsSample t'
 unfolding object_at
 run_sample t t' m p name None z n f e s = subst IsSample (sym e) s
 run_sample t t' m p name (Some k) z n f e s = subst IsSample (sym e) (record {
@@ -174,13 +179,13 @@ run_sample t t' m p name (Some k) z n f e s = subst IsSample (sym e) (record {
         let region : y / u.words_per_region ≡ k = ap (λ (w : ℕ). y / w) r.size ∙ div_is y t.words_per_region k (omega arith) (omega arith) in
         let tile = tile_of_region u y (First new) (ap (region_number u) region ∙ r.first) in
         let is : x ≡ new = first_alone p name (y % u.words_per_region) x (ap tile_object (sym tile) ∙ h) in
-        absurd (nil_alone p i b (ap (λ (q : Stored). slice_get q.pointers i) (sym is) ∙ g))
+        absurd (nil_fields name p i b (ap (λ (q : Stored). slice_get (fields q) i) (sym is) ∙ g))
     | inr apart ↦ s.inside y i b x (ap tile_object (sym (r.others y apart)) ∙ h) g
   ]);
 })
   where
     new : Stored
-    new = new_object name p 0
+    new = new_object name p 0 0
 
     u : Table
     u = with_run t m new (Some k)
@@ -197,18 +202,18 @@ sample_scans t tops previous sets s marks count cards = record {
 }
 
 -- a field is known by the shape of its object
-counted_tile : (o : Option Tile) (p d n i : ℕ) (shape : Shape) → IfSome o (λ u. shape ≡ tile_shape u) → IsSome o → shape ≡ shapes.Object p d → n ≡ p → i < n → i < length (object_pointers (tile_object o))
-counted_tile None p d n i shape h some e f l = cc
-counted_tile (Some (Live s)) p d n i shape h some e f l =
-    let q : shapes.Object p d ≡ shapes.Object (length s.pointers) (length s.values) = sym e ∙ h in
+counted_tile : (o : Option Tile) (p weak d n i : ℕ) (shape : Shape) → IfSome o (λ u. shape ≡ tile_shape u) → IsSome o → shape ≡ shapes.Object p weak d → n ≡ p → i < n → i < length (object_fields (tile_object o))
+counted_tile None p weak d n i shape h some e f l = cc
+counted_tile (Some (Live s)) p weak d n i shape h some e f l =
+    let q : shapes.Object p weak d ≡ shapes.Object (length s.pointers) (length s.weaks) (length s.values) = sym e ∙ h in
     let same : p ≡ length s.pointers = cc in
-    omega arith
-counted_tile (Some (Gap m)) p d n i shape h some e f l = cc
-counted_tile (Some (Moved to m)) p d n i shape h some e f l = cc
+    omega (arith, length-append s.pointers s.weaks)
+counted_tile (Some (Gap m)) p weak d n i shape h some e f l = cc
+counted_tile (Some (Moved to m)) p weak d n i shape h some e f l = cc
 
-pub counted : (t : Table) (a i n p d : ℕ) (shape : Shape) → IfSome (tile_in t a) (λ u. shape ≡ tile_shape u) → IsSome (tile_in t a) → shape ≡ shapes.Object p d → n ≡ p → i < n → i < length (pointers_at t a)
-unfolding pointers_at object_at
-counted t a i n p d shape h some e f l = counted_tile (tile_in t a) p d n i shape h some e f l
+pub counted : (t : Table) (a i n p weak d : ℕ) (shape : Shape) → IfSome (tile_in t a) (λ u. shape ≡ tile_shape u) → IsSome (tile_in t a) → shape ≡ shapes.Object p weak d → n ≡ p → i < n → i < length (fields_at t a)
+unfolding fields_at object_at
+counted t a i n p weak d shape h some e f l = counted_tile (tile_in t a) p weak d n i shape h some e f l
 
 pub tile_some : (t : Table) (a w : ℕ) → IsHolder t a w → IsSome (tile_in t a)
 tile_some t a w h = rw h.tile_is refl

@@ -1,13 +1,13 @@
 -- What the tests keep of the tables that they build.
 use Rattle.std.specs.Prelude.{◌≡◌, ℕ, ◌/◌, ◌<◌, length, Some, slice_get}
-use Rattle.heap_model.specs.Heap.{Stored}
+use Rattle.heap_model.specs.Heap.{Stored, fields}
 use Rattle.regions.specs.Table.{Table, object_at}
 
--- each pointer of an object is nil or leads into a region of the table
+-- each field of an object is nil or leads into a region of the table
 abbrev pub IsInside : Table → Type 0
-IsInside t = (a i b : ℕ) (x : Stored) → object_at t a ≡ Some x → slice_get x.pointers i ≡ Some (Some b) → b / t.words_per_region < length t.regions
+IsInside t = (a i b : ℕ) (x : Stored) → object_at t a ≡ Some x → slice_get (fields x) i ≡ Some (Some b) → b / t.words_per_region < length t.regions
 
--- four regions of sixteen words, all pointers inside
+-- four regions of sixteen words, all fields inside
 pub record IsSample (t : Table) : Type 0 where
   pub count : length t.regions ≡ 4
   pub words : t.words_per_region ≡ 16

@@ -45,6 +45,7 @@ fn add(table: &mut RegionTable, region: u32, pointers: u32)
     let size = FillerSize::new(2 + pointers);
     let counts = Counts {
         pointers: Count::new(pointers),
+        weaks: 0,
         values: Count::new(0),
     };
     let at = table.push_filler(region, size);
@@ -71,6 +72,7 @@ fn take_run(table: &mut RegionTable, pointers: u32)
     table.law();
     let counts = Counts {
         pointers: Count::new(pointers),
+        weaks: 0,
         values: Count::new(0),
     };
     table.take_run(2, 7, counts);
@@ -91,7 +93,7 @@ fn link(table: &mut RegionTable, from: u32, field: u32, to: u32)
         return;
     };
     if field < pointers.get() {
-        table.set_ptr(at, field, Some(Addr::new(to)));
+        table.set_field(at, field, Some(Addr::new(to)));
     }
 }
 

@@ -1,14 +1,15 @@
 -- What a write to an object changes, with no word in it.
-use Rattle.std.proofs.Common.{◌≡◌, ◌≢◌, ℕ, ◌+◌, ◌/◌, ◌%◌, ◌<◌, Option, Some, length, get_or, refl, sym, ◌∙◌, ap, subst, inl, inr}
-use Rattle.std.proofs.lemmas.List.{get_or-set_same, get_or-set_other, length-set}
+use Rattle.std.proofs.Common.{◌≡◌, ◌≢◌, ℕ, ◌+◌, ◌/◌, ◌%◌, ◌<◌, Option, Some, length, get_or, arith, refl, sym, ◌∙◌, ap, subst, inl, inr}
+use Rattle.std.proofs.lemmas.List.{get_or-set_same, get_or-set_other, length-set, length-append}
 use Rattle.std.proofs.lemmas.Bool.{cases_eq}
 use Rattle.regions.specs.Tiles.{Live, tile_size}
-use Rattle.heap_model.specs.Heap.{Stored}
-use Rattle.regions.specs.Table.{Region, Free, Ordinary, First, Rest, Table, region_at, region_number, tile_in, tile_object, object_at, with_object, put_object, set_pointer, set_value, kind_of, region_kind, used_of, HasNoMoved}
+use Rattle.heap_model.specs.Heap.{Stored, fields, with_field}
+use Rattle.heap_model.proofs.Fields.{field_set}
+use Rattle.regions.specs.Table.{Region, Free, Ordinary, First, Rest, Table, region_at, region_number, tile_in, tile_object, object_at, with_object, put_object, set_pointer, set_weak, set_field, set_value, kind_of, region_kind, used_of, HasNoMoved}
 use Rattle.regions.proofs.Laws.{object_tile, known_region, object_at-put_same, tile_in-put_other}
-use Rattle.regions.proofs.Fields.{with_pointer}
+use Rattle.regions.proofs.Fields.{with_pointer, with_weak}
 use Rattle.regions.proofs.Values.{with_value, set_value-is}
-use Rattle.regions.proofs.Access.{set_pointer-is}
+use Rattle.regions.proofs.Access.{set_pointer-is, set_weak-is}
 use Rattle.regions.proofs.Kept.{put_object-moved}
 use Rattle.regions.proofs.Totals.{used_put}
 
@@ -62,11 +63,26 @@ object_put t x s s' z h e = record {
 
 pub pointer_put : (t : Table) (x i : ℕ) (v : Option ℕ) (s : Stored) → 0 < t.words_per_region → object_at t x ≡ Some s → WritesObject t (set_pointer t x i v) x s (with_pointer s i v)
 pointer_put t x i v s z h =
-    subst (λ (u : Table). WritesObject t u x s (with_pointer s i v)) (sym (set_pointer-is t x i v s h)) (object_put t x s (with_pointer s i v) z h (ap (λ n. 2 + n + length s.values) (length-set s.pointers i v)))
+    subst (λ (u : Table). WritesObject t u x s (with_pointer s i v)) (sym (set_pointer-is t x i v s h)) (object_put t x s (with_pointer s i v) z h (ap (λ n. 2 + n + length s.weaks + length s.values) (length-set s.pointers i v)))
+
+pub weak_put : (t : Table) (x i : ℕ) (v : Option ℕ) (s : Stored) → 0 < t.words_per_region → object_at t x ≡ Some s → WritesObject t (set_weak t x i v) x s (with_weak s i v)
+weak_put t x i v s z h =
+    subst (λ (u : Table). WritesObject t u x s (with_weak s i v)) (sym (set_weak-is t x i v s h)) (object_put t x s (with_weak s i v) z h (ap (λ n. 2 + length s.pointers + n + length s.values) (length-set s.weaks i v)))
+
+pub field_put : (t : Table) (x i : ℕ) (v : Option ℕ) (s : Stored) → 0 < t.words_per_region → object_at t x ≡ Some s → WritesObject t (set_field t x i v) x s (with_field s i v)
+unfolding set_field
+field_put t x i v s z h =
+    let f = field_set s i v in
+    let long = length-set (fields s) i v in
+    let was = length-append s.pointers s.weaks in
+    let now = length-append (with_field s i v).pointers (with_field s i v).weaks in
+    let same : tile_size (Live (with_field s i v)) ≡ tile_size (Live s) = omega (arith, ap length f.fields_are, ap length f.values, long, was, now) in
+    let is : set_field t x i v ≡ put_object t x (with_field s i v) = rw h refl in
+    subst (λ (u : Table). WritesObject t u x s (with_field s i v)) (sym is) (object_put t x s (with_field s i v) z h same)
 
 pub value_put : (t : Table) (x i v : ℕ) (s : Stored) → 0 < t.words_per_region → object_at t x ≡ Some s → WritesObject t (set_value t x i v) x s (with_value s i v)
 value_put t x i v s z h =
-    subst (λ (u : Table). WritesObject t u x s (with_value s i v)) (sym (set_value-is t x i v s h)) (object_put t x s (with_value s i v) z h (ap (λ n. 2 + length s.pointers + n) (length-set s.values i v)))
+    subst (λ (u : Table). WritesObject t u x s (with_value s i v)) (sym (set_value-is t x i v s h)) (object_put t x s (with_value s i v) z h (ap (λ n. 2 + length s.pointers + length s.weaks + n) (length-set s.values i v)))
 
 object_of_tile : (t : Table) (y : ℕ) → object_at t y ≡ tile_object (tile_in t y)
 unfolding object_at

@@ -6,6 +6,7 @@ pub mod Fields
 pub mod Sizes
 pub mod Written
 pub mod Access
+pub mod FieldAccess
 pub mod Making
 pub mod Puts
 pub mod Pushes
@@ -29,6 +30,7 @@ pub mod Search
 pub mod RunGone
 pub mod MovedLaws
 pub mod TileLaws
+pub mod SameWalks
 pub mod Totals
 pub mod Changes
 pub mod Placing
@@ -41,5 +43,6 @@ pub mod Samples
 pub mod RunLaws
 pub mod Fronts
 pub mod WalkTiles
+pub mod Steps
 pub mod InUse
 pub mod Released

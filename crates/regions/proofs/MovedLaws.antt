@@ -39,7 +39,7 @@ moved_in P t x to n a h = moved_region P (get_or t.regions (x / t.words_per_regi
 
 moved_shape : (f : ℕ → ℕ) (o : Option Header) (to n : ℕ) → shape_by f o ≡ shapes.Moved to n → n ≡ f to
 moved_shape f None to n h = cc
-moved_shape f (Some (Object p d)) to n h = cc
+moved_shape f (Some (Object p weak d)) to n h = cc
 moved_shape f (Some (Filler m)) to n h = cc
 moved_shape f (Some (Forwarded at)) to n h = let a : at ≡ to = cc in let b : f at ≡ n = cc in sym b ∙ ap f a
 
@@ -54,9 +54,9 @@ target_shape : (f : ℕ → ℕ) (o : Option Header) (t : Tile) → shape_by f o
 target_shape f None (Live s) h = refl
 target_shape f None (Gap n) h = refl
 target_shape f None (Moved to n) h = cc
-target_shape f (Some (Object p d)) (Live s) h = refl
-target_shape f (Some (Object p d)) (Gap n) h = refl
-target_shape f (Some (Object p d)) (Moved to n) h = cc
+target_shape f (Some (Object p weak d)) (Live s) h = refl
+target_shape f (Some (Object p weak d)) (Gap n) h = refl
+target_shape f (Some (Object p weak d)) (Moved to n) h = cc
 target_shape f (Some (Filler m)) (Live s) h = refl
 target_shape f (Some (Filler m)) (Gap n) h = refl
 target_shape f (Some (Filler m)) (Moved to n) h = cc

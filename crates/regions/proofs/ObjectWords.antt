@@ -3,11 +3,11 @@ use Rattle.std.proofs.Common.{Option, None, ◌≡◌, ℕ, suc, ◌+◌, ◌≤
 use Rattle.std.proofs.lemmas.List.{length-take, length-drop, take-append-drop, get_or-drop}
 use Rattle.heap_model.specs.Heap.{Stored}
 use Rattle.regions.specs.Tiles.{Live, tile_size, stored_of}
-use Rattle.regions.specs.Table.{Table, object_at, object_words, stored_size, object_pointers, object_values, pointers_at, values_at}
+use Rattle.regions.specs.Table.{Table, object_at, object_words, stored_size, object_pointers, object_weaks, object_values, pointers_at, weaks_at, values_at}
 use Rattle.std.specs.Prelude.{IsSome}
 use Rattle.heap_words.specs.Headers.{header_of}
 use Rattle.heap_words.specs.Contents.{pointer_count}
-use Rattle.regions.specs.Rows.{value_count, object_size, sizes_in, table_of, IsTable}
+use Rattle.regions.specs.Rows.{weak_count, value_count, object_size, sizes_in, table_of, IsTable}
 use Rattle.regions.specs.declared.row.Row.{Row}
 use Rattle.regions.proofs.Parse.{stored_of-append}
 use Rattle.regions.proofs.Places.{table_right, IsIn, object_is_in}
@@ -57,6 +57,10 @@ pub pointers_counted : (words : List ℕ) (t : Table) (x : ℕ) (s : Stored) →
 unfolding pointers_at
 pointers_counted words t x s i = ap pointer_count i.is_in.header_is ∙ sym (ap (λ (o : Option Stored). length (object_pointers o)) i.is)
 
+pub weaks_counted : (words : List ℕ) (t : Table) (x : ℕ) (s : Stored) → IsThere words t x s → weak_count (header_of (get_or words x 0)) ≡ length (weaks_at t x)
+unfolding weaks_at
+weaks_counted words t x s i = ap weak_count i.is_in.header_is ∙ sym (ap (λ (o : Option Stored). length (object_weaks o)) i.is)
+
 pub values_counted : (words : List ℕ) (t : Table) (x : ℕ) (s : Stored) → IsThere words t x s → value_count (header_of (get_or words x 0)) ≡ length (values_at t x)
 unfolding values_at
 values_counted words t x s i = ap value_count i.is_in.header_is ∙ sym (ap (λ (o : Option Stored). length (object_values o)) i.is)
@@ -65,16 +69,17 @@ values_counted words t x s i = ap value_count i.is_in.header_is ∙ sym (ap (λ 
 pub one_copy : (sizes : ℕ → ℕ) (words : List ℕ) (x : ℕ) (s : Stored) → IsIn words x s → IsOne sizes (take (tile_size (Live s)) (drop x words)) (Live s)
 one_copy sizes words x s i =
     let p : ℕ = length s.pointers in
+    let weak : ℕ = length s.weaks in
     let d : ℕ = length s.values in
     let body : List ℕ = drop (x + 1) words in
-    let m : ℕ = 1 + p + d in
+    let m : ℕ = 1 + p + weak + d in
     let at : x + 1 ≡ suc x = omega arith in
     let whole : drop x words ≡ get_or words x 0 ∷ body = rw at (drop-cons words x 0 (omega (arith, i.fits))) in
     let n : tile_size (Live s) ≡ suc m = omega arith in
     let block : take (tile_size (Live s)) (drop x words) ≡ get_or words x 0 ∷ take m body = rw (n, whole) refl in
     let len : length (take m body) ≡ m = simp (length-take, length-drop) (omega (arith, i.fits)) in
-    let one = one_object sizes (get_or words x 0) p d (take m body) i.header_is len in
-    let same : stored_of p d (take m body ++ drop m body) ≡ stored_of p d (take m body) = stored_of-append p d (take m body) (drop m body) (omega arith) in
+    let one = one_object sizes (get_or words x 0) p weak d (take m body) i.header_is len in
+    let same : stored_of p weak d (take m body ++ drop m body) ≡ stored_of p weak d (take m body) = stored_of-append p weak d (take m body) (drop m body) (omega arith) in
     let joined : take m body ++ drop m body ≡ body = take-append-drop m body in
-    let stored : stored_of p d (take m body) ≡ s = sym same ∙ ap (stored_of p d) joined ∙ sym i.stored_is in
+    let stored : stored_of p weak d (take m body) ≡ s = sym same ∙ ap (stored_of p weak d) joined ∙ sym i.stored_is in
     rw block (subst (λ (r : Stored). IsOne sizes (get_or words x 0 ∷ take m body) (Live r)) stored one)

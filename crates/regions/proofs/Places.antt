@@ -58,19 +58,21 @@ object_place f size words rows x s h = place_of f size words rows x (Live s) (ob
 
 -- an object is its words: it lies in the table, and its header says so
 pub record IsIn (words : List ℕ) (x : ℕ) (s : Stored) : Type 0 where
-  pub header_is : header_of (get_or words x 0) ≡ Some (Object (length s.pointers) (length s.values))
-  pub stored_is : s ≡ stored_of (length s.pointers) (length s.values) (drop (x + 1) words)
-  pub fits : x + 2 + length s.pointers + length s.values ≤ length words
+  pub header_is : header_of (get_or words x 0) ≡ Some (Object (length s.pointers) (length s.weaks) (length s.values))
+  pub stored_is : s ≡ stored_of (length s.pointers) (length s.weaks) (length s.values) (drop (x + 1) words)
+  pub fits : x + 2 + length s.pointers + length s.weaks + length s.values ≤ length words
 
-pub live_by : (sizes : ℕ → ℕ) (o : Option Header) (ws : List ℕ) (s : Stored) → size_by sizes o - 1 ≤ length ws → tile_by sizes ws o ≡ Live s → (o ≡ Some (Object (length s.pointers) (length s.values))) × (s ≡ stored_of (length s.pointers) (length s.values) ws)
+pub live_by : (sizes : ℕ → ℕ) (o : Option Header) (ws : List ℕ) (s : Stored) → size_by sizes o - 1 ≤ length ws → tile_by sizes ws o ≡ Live s → (o ≡ Some (Object (length s.pointers) (length s.weaks) (length s.values))) × (s ≡ stored_of (length s.pointers) (length s.weaks) (length s.values) ws)
 live_by sizes None ws s f h = cc
-live_by sizes (Some (Object p d)) ws s f h =
-    let e : stored_of p d ws ≡ s = cc in
-    let ep : length (stored_of p d ws).pointers ≡ p = simp (length-map, length-take, length-drop) (omega arith) in
-    let ed : length (stored_of p d ws).values ≡ d = simp (length-take, length-drop) (omega arith) in
+live_by sizes (Some (Object p weak d)) ws s f h =
+    let e : stored_of p weak d ws ≡ s = cc in
+    let ep : length (stored_of p weak d ws).pointers ≡ p = simp (length-map, length-take, length-drop) (omega arith) in
+    let ed : length (stored_of p weak d ws).values ≡ d = simp (length-take, length-drop) (omega arith) in
     let lp : length s.pointers ≡ p = ap (λ (r : Stored). length r.pointers) (sym e) ∙ ep in
     let ld : length s.values ≡ d = ap (λ (r : Stored). length r.values) (sym e) ∙ ed in
-    (rw (lp, ld) refl, rw (lp, ld) (sym e))
+    let ew : length (stored_of p weak d ws).weaks ≡ weak = simp (length-map, length-take, length-drop) (omega arith) in
+    let lw : length s.weaks ≡ weak = ap (λ (r : Stored). length r.weaks) (sym e) ∙ ew in
+    (rw (lp, lw, ld) refl, rw (lp, lw, ld) (sym e))
 live_by sizes (Some (Filler n)) ws s f h = cc
 live_by sizes (Some (Forwarded to)) ws s f h = cc
 
@@ -86,11 +88,11 @@ live_in sizes (w ∷ v) u words x s e t h =
     let l = live_by sizes (header_of w) v s fits h in
     let word : get_or words x 0 ≡ w = front_word words x w (v ++ u) e in
     let behind : drop (x + 1) words ≡ v ++ u = sym (drop-drop 1 x words) ∙ ap (λ (ws : List ℕ). drop 1 ws) e in
-    let size : size_by sizes (header_of w) ≡ 2 + length s.pointers + length s.values = ap (size_by sizes) l.0 in
+    let size : size_by sizes (header_of w) ≡ 2 + length s.pointers + length s.weaks + length s.values = ap (size_by sizes) l.0 in
     let whole : length (drop x words) ≡ suc (length v) + length u = rw e (length-append (w ∷ v) u) in
     record {
       header_is = rw word l.0;
-      stored_is = l.1 ∙ sym (stored_of-append _ _ v u (omega arith)) ∙ ap (stored_of (length s.pointers) (length s.values)) (sym behind);
+      stored_is = l.1 ∙ sym (stored_of-append _ _ _ v u (omega arith)) ∙ ap (stored_of (length s.pointers) (length s.weaks) (length s.values)) (sym behind);
       fits = omega (arith, length-drop x words);
     }
 
@@ -113,15 +115,15 @@ in_ordinary f size words rows x s g q =
 room : (m k l size n : ℕ) → l ≡ m + suc k → n ≡ l * size → n ≡ m * size + size + k * size
 room m k l size n e f = f ∙ rw e (omega arith)
 
-first_by : (o : Option Header) (ws : List ℕ) (s : Stored) → IsObject o → object_size o - 1 ≤ length ws → stored_by ws o ≡ s → (o ≡ Some (Object (length s.pointers) (length s.values))) × (s ≡ stored_of (length s.pointers) (length s.values) ws)
+first_by : (o : Option Header) (ws : List ℕ) (s : Stored) → IsObject o → object_size o - 1 ≤ length ws → stored_by ws o ≡ s → (o ≡ Some (Object (length s.pointers) (length s.weaks) (length s.values))) × (s ≡ stored_of (length s.pointers) (length s.weaks) (length s.values) ws)
 first_by None ws s i f h = absurd i
-first_by (Some (Object p d)) ws s i f h = live_by (λ _. 0) (Some (Object p d)) ws s f (ap Live h)
+first_by (Some (Object p weak d)) ws s i f h = live_by (λ _. 0) (Some (Object p weak d)) ws s f (ap Live h)
 first_by (Some (Filler n)) ws s i f h = absurd i
 first_by (Some (Forwarded to)) ws s i f h = absurd i
 
 object_size_pos : (o : Option Header) → 0 < object_size o
 object_size_pos None = omega arith
-object_size_pos (Some (Object p d)) = omega arith
+object_size_pos (Some (Object p weak d)) = omega arith
 object_size_pos (Some (Filler n)) = omega arith
 object_size_pos (Some (Forwarded to)) = omega arith
 
@@ -131,11 +133,11 @@ first_in (w ∷ v) words x s e i h f =
     let l = first_by (header_of w) v s i (omega arith) h in
     let word : get_or words x 0 ≡ w = front_word words x w v e in
     let behind : drop (x + 1) words ≡ v = sym (drop-drop 1 x words) ∙ ap (λ (ws : List ℕ). drop 1 ws) e in
-    let size : object_size (header_of w) ≡ 2 + length s.pointers + length s.values = ap object_size l.0 in
+    let size : object_size (header_of w) ≡ 2 + length s.pointers + length s.weaks + length s.values = ap object_size l.0 in
     let whole : length (drop x words) ≡ suc (length v) = ap (λ (ws : List ℕ). length ws) e in
     record {
       header_is = rw word l.0;
-      stored_is = l.1 ∙ sym (ap (stored_of (length s.pointers) (length s.values)) behind);
+      stored_is = l.1 ∙ sym (ap (stored_of (length s.pointers) (length s.weaks) (length s.values)) behind);
       fits = omega (arith, length-drop x words);
     }
 

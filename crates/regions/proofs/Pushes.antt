@@ -62,10 +62,12 @@ map_nil (suc n) = ap (λ ps. None ∷ ps) (map_nil n)
 abbrev pub zeros : ℕ → List ℕ
 zeros n = replicate n 0
 
-pub stored_of-new : (name p d : ℕ) → stored_of p d (name ∷ zeros (p + d)) ≡ new_object name p d
-stored_of-new name p d =
-    let e : take p (zeros (p + d)) ≡ zeros p = take-replicate p (p + d) 0 (omega arith) in
-    let le : p + d - p ≡ d = omega arith in
-    let f : drop p (zeros (p + d)) ≡ zeros d = drop-replicate p (p + d) 0 ∙ ap (λ n. zeros n) le in
+pub stored_of-new : (name p weak d : ℕ) → stored_of p weak d (name ∷ zeros (p + weak + d)) ≡ new_object name p weak d
+stored_of-new name p weak d =
+    let e : take p (zeros (p + weak + d)) ≡ zeros p = take-replicate p (p + weak + d) 0 (omega arith) in
+    let le : p + weak + d - p ≡ weak + d = omega arith in
+    let le' : p + weak + d - (p + weak) ≡ d = omega arith in
+    let f : take weak (drop p (zeros (p + weak + d))) ≡ zeros weak = ap (take weak) (drop-replicate p (p + weak + d) 0 ∙ ap (λ n. zeros n) le) ∙ take-replicate weak (weak + d) 0 (omega arith) in
+    let k : drop (p + weak) (zeros (p + weak + d)) ≡ zeros d = drop-replicate (p + weak) (p + weak + d) 0 ∙ ap (λ n. zeros n) le' in
     let g : take d (zeros d) ≡ zeros d = take-replicate d d 0 (omega arith) in
-    rw (e, map_nil, f, g) refl
+    rw (e, f, map_nil, map_nil, k, g) refl

@@ -66,7 +66,7 @@ put_extend (w ∷ ws) (suc n) m block h =
     rw e (ap (λ xs. w ∷ xs) (put_extend ws n m block (omega arith)))
 
 -- an object's words, written within the heap
-pub put_object_length : (ws : List ℕ) (n w name p d : ℕ) → n + (2 + p + d) ≤ length ws → length (put ws n (w ∷ name ∷ replicate (p + d) 0)) ≡ length ws
-put_object_length ws n w name p d h =
-    let x = put_is ws n (w ∷ name ∷ replicate (p + d) 0) (omega (arith, length-replicate {A = ℕ} (p + d) 0)) in
+pub put_object_length : (ws : List ℕ) (n w name p weak d : ℕ) → n + (2 + p + weak + d) ≤ length ws → length (put ws n (w ∷ name ∷ replicate (p + weak + d) 0)) ≡ length ws
+put_object_length ws n w name p weak d h =
+    let x = put_is ws n (w ∷ name ∷ replicate (p + weak + d) 0) (omega (arith, length-replicate {A = ℕ} (p + weak + d) 0)) in
     x.length_is

@@ -23,7 +23,7 @@ abbrev pub with_sample : Stored → Table
 with_sample s = sample (Ordinary (Live s ∷ Gap 1 ∷ Gap 5 ∷ []) ∷ Free ∷ Free ∷ Free ∷ [])
 
 abbrev pub sample_object : Option ℕ → ℕ → Stored
-sample_object p d = record { name = 7; pointers = p ∷ []; values = d ∷ [] }
+sample_object p d = record { name = 7; pointers = p ∷ []; weaks = []; values = d ∷ [] }
 
 pub fill_take : (t t' : Table) → t ≡ free_table 4 16 → t' ≡ taken t (first_free t) → t' ≡ filled1
 unfolding free_table
@@ -37,9 +37,9 @@ pub fill_split : (t t' : Table) (a n m : ℕ) → t ≡ filled2 → t' ≡ repla
 unfolding replace_tile region_at
 fill_split t t' a n m e f p q r = rw (f, e, p, q, r) refl
 
-pub fill_make : (t t' : Table) (a n p d : ℕ) → t ≡ filled3 → t' ≡ replace_tile t a (Live (new_object 7 p d) ∷ gap (n - (2 + p + d))) → a ≡ 0 → n ≡ 5 → p ≡ 1 → d ≡ 1 → t' ≡ with_sample (sample_object None 0)
+pub fill_make : (t t' : Table) (a n p weak d : ℕ) → t ≡ filled3 → t' ≡ replace_tile t a (Live (new_object 7 p weak d) ∷ gap (n - (2 + p + weak + d))) → a ≡ 0 → n ≡ 5 → p ≡ 1 → weak ≡ 0 → d ≡ 1 → t' ≡ with_sample (sample_object None 0)
 unfolding replace_tile region_at
-fill_make t t' a n p d e f h i j k = rw (f, e, h, i, j, k) refl
+fill_make t t' a n p weak d e f h i j l k = rw (f, e, h, i, j, l, k) refl
 
 pub fill_pointer : (t t' : Table) (a to : ℕ) → t ≡ with_sample (sample_object None 0) → t' ≡ set_pointer t a 0 (Some to) → a ≡ 0 → to ≡ 5 → t' ≡ with_sample (sample_object (Some 5) 0)
 unfolding set_pointer object_at tile_in region_at put_object
@@ -96,7 +96,7 @@ abbrev pub moved2 : Table
 moved2 = sample (Ordinary (Gap 4 ∷ []) ∷ Ordinary [] ∷ Free ∷ Free ∷ [])
 
 abbrev pub moving : Stored
-moving = record { name = 7; pointers = []; values = 0 ∷ 0 ∷ [] }
+moving = record { name = 7; pointers = []; weaks = []; values = 0 ∷ 0 ∷ [] }
 
 abbrev pub moved3 : Table
 moved3 = sample (Ordinary (Live moving ∷ []) ∷ Ordinary [] ∷ Free ∷ Free ∷ [])
@@ -117,9 +117,9 @@ pub move_push : (t t' : Table) (k n : ℕ) → t ≡ moved1 → t' ≡ push_tile
 unfolding push_tile region_number
 move_push t t' k n e f p q = rw (f, e, p, q) refl
 
-pub move_make : (t t' : Table) (a n p d : ℕ) → t ≡ moved2 → t' ≡ replace_tile t a (Live (new_object 7 p d) ∷ gap (n - (2 + p + d))) → a ≡ 0 → n ≡ 4 → p ≡ 0 → d ≡ 2 → t' ≡ moved3
+pub move_make : (t t' : Table) (a n p weak d : ℕ) → t ≡ moved2 → t' ≡ replace_tile t a (Live (new_object 7 p weak d) ∷ gap (n - (2 + p + weak + d))) → a ≡ 0 → n ≡ 4 → p ≡ 0 → weak ≡ 0 → d ≡ 2 → t' ≡ moved3
 unfolding replace_tile region_at
-move_make t t' a n p d e f h i j k = rw (f, e, h, i, j, k) refl
+move_make t t' a n p weak d e f h i j l k = rw (f, e, h, i, j, l, k) refl
 
 pub move_copy : (t t' : Table) (a k : ℕ) → t ≡ moved3 → ((s : Stored) → object_at t a ≡ Some s → t' ≡ push_tile t k (Live s)) → a ≡ 0 → k ≡ 1 → t' ≡ moved4
 unfolding object_at tile_in region_at push_tile region_number
@@ -177,13 +177,13 @@ known6 t k n e p h = rw (e, p) h
 
 -- a run
 abbrev pub large : Stored
-large = new_object 8 3 20
+large = new_object 8 3 0 20
 
 abbrev pub run1 : Table
 run1 = sample (Ordinary [] ∷ First large ∷ Rest 9 ∷ Free ∷ [])
 
-pub run_take : (t t' : Table) (p d : ℕ) → t ≡ filled1 → t' ≡ with_run t 2 (new_object 8 p d) (first_run is_free 2 t.regions) → p ≡ 3 → d ≡ 20 → t' ≡ run1
-run_take t t' p d e f h i = rw (f, e, h, i) refl
+pub run_take : (t t' : Table) (p weak d : ℕ) → t ≡ filled1 → t' ≡ with_run t 2 (new_object 8 p weak d) (first_run is_free 2 t.regions) → p ≡ 3 → weak ≡ 0 → d ≡ 20 → t' ≡ run1
+run_take t t' p weak d e f h l i = rw (f, e, h, l, i) refl
 
 pub run_release : (t t' : Table) (k : ℕ) → t ≡ run1 → t' ≡ released t k → k ≡ 1 → t' ≡ filled1
 unfolding released region_number
@@ -193,8 +193,8 @@ pub releasable_run : (t : Table) (k : ℕ) → t ≡ run1 → k ≡ 1 → CanRel
 unfolding region_number kind_of
 releasable_run t k e p = rw (e, p) (record { known = omega arith; releasable = tt; untargeted = (tt, tt) })
 
-pub run_fits : (t : Table) (p d : ℕ) → t ≡ filled1 → p ≡ 3 → d ≡ 20 → (2 + p + d ≤ 2 * t.words_per_region) × (2 * t.words_per_region < 2 + p + d + t.words_per_region)
-run_fits t p d e h i = rw (e, h, i) (omega arith, omega arith)
+pub run_fits : (t : Table) (p weak d : ℕ) → t ≡ filled1 → p ≡ 3 → weak ≡ 0 → d ≡ 20 → (2 + p + weak + d ≤ 2 * t.words_per_region) × (2 * t.words_per_region < 2 + p + weak + d + t.words_per_region)
+run_fits t p weak d e h l i = rw (e, h, l, i) (omega arith, omega arith)
 
 pub known_region : (rs : List Region) (t : Table) (k n : ℕ) → t ≡ sample rs → length rs ≡ 4 → k ≡ n → n < 4 → k < length t.regions
 known_region rs t k n e l p h = rw (e, l, p) h

@@ -24,7 +24,7 @@ record SameTile (f g : ℕ → ℕ) (o : Option Header) (ws : List ℕ) (ts : Li
 
 same_tile : (f g : ℕ → ℕ) (o : Option Header) (ws : List ℕ) (ts : List Tile) → AgreeOn f g (tile_by f ws o ∷ ts) → SameTile f g o ws ts
 same_tile f g None ws ts a = record { tile_is = refl; size_is = refl; others = a }
-same_tile f g (Some (Object p d)) ws ts a = record { tile_is = refl; size_is = refl; others = a }
+same_tile f g (Some (Object p weak d)) ws ts a = record { tile_is = refl; size_is = refl; others = a }
 same_tile f g (Some (Filler n)) ws ts a = record { tile_is = refl; size_is = refl; others = a }
 same_tile f g (Some (Forwarded to)) ws ts a = record { tile_is = ap (Moved to) a.0; size_is = a.0; others = a.1 }
 

@@ -13,7 +13,7 @@ use Rattle.regions.specs.declared.row.Kind.TheVariants as kinds
 -- how many words the object of a header has, 1 where it is no object's
 abbrev pub object_size : Option Header → ℕ
 object_size None = 1
-object_size (Some (Object p d)) = 2 + p + d
+object_size (Some (Object p weak d)) = 2 + p + weak + d
 object_size (Some (Filler n)) = 1
 object_size (Some (Forwarded to)) = 1
 
@@ -24,20 +24,20 @@ sizes_in words a = object_size (header_of (slice_index words a))
 -- where a header's object went
 abbrev pub header_target : Option Header → Option ℕ
 header_target None = None
-header_target (Some (Object p d)) = None
+header_target (Some (Object p weak d)) = None
 header_target (Some (Filler n)) = None
 header_target (Some (Forwarded to)) = Some to
 
 -- the object of a header
 abbrev pub stored_by : List ℕ → Option Header → Stored
-stored_by ws None = stored_of 0 0 ws
-stored_by ws (Some (Object p d)) = stored_of p d ws
-stored_by ws (Some (Filler n)) = stored_of 0 0 ws
-stored_by ws (Some (Forwarded to)) = stored_of 0 0 ws
+stored_by ws None = stored_of 0 0 0 ws
+stored_by ws (Some (Object p weak d)) = stored_of p weak d ws
+stored_by ws (Some (Filler n)) = stored_of 0 0 0 ws
+stored_by ws (Some (Forwarded to)) = stored_of 0 0 0 ws
 
 -- the object that words begin with
 abbrev pub first_stored : List ℕ → Stored
-first_stored [] = stored_of 0 0 []
+first_stored [] = stored_of 0 0 0 []
 first_stored (w ∷ ws) = stored_by ws (header_of w)
 
 -- the region whose words begin ws
@@ -59,7 +59,7 @@ regions_of sizes size ws (row ∷ rows) = region_of sizes ws row ∷ regions_of 
 -- the header is an object's
 abbrev pub IsObject : Option Header → Type 0
 IsObject None = ⊥
-IsObject (Some (Object p d)) = Unit {0}
+IsObject (Some (Object p weak d)) = Unit {0}
 IsObject (Some (Filler n)) = ⊥
 IsObject (Some (Forwarded to)) = ⊥
 
@@ -150,10 +150,17 @@ abbrev pub put_gap : List ℕ → ℕ → ℕ → List ℕ
 put_gap words n zero = words
 put_gap words n (suc m) = slice_set words n (header_word (Filler (suc m)))
 
+-- how many weak slots a header's object has
+abbrev pub weak_count : Option Header → ℕ
+weak_count None = 0
+weak_count (Some (Object p weak d)) = weak
+weak_count (Some (Filler n)) = 0
+weak_count (Some (Forwarded to)) = 0
+
 -- how many data words a header's object has
 abbrev pub value_count : Option Header → ℕ
 value_count None = 0
-value_count (Some (Object p d)) = d
+value_count (Some (Object p weak d)) = d
 value_count (Some (Filler n)) = 0
 value_count (Some (Forwarded to)) = 0
 

@@ -1,6 +1,6 @@
 -- A table of regions, as callers see it: regions of tiles, and no words.
 use Rattle.std.specs.Prelude.{◌≡◌, ℕ, zero, suc, ◌+◌, ◌-◌, ◌*◌, ◌/◌, ◌%◌, Option, Some, None, List, [], ◌∷◌, ◌++◌, length, slice_index_or, slice_set, replicate, min, position, Bool, true, false, take, drop, if◌then◌else◌, nat_le}
-use Rattle.heap_model.specs.Heap.{Stored}
+use Rattle.heap_model.specs.Heap.{Stored, fields, with_field}
 use Rattle.regions.specs.Tiles.{Tile, Live, Gap, Moved, tile_size, tile_at, replace, total_size}
 use Rattle.regions.specs.declared.row.Kind.{Kind}
 use Rattle.regions.specs.declared.row.Kind.TheVariants as kinds
@@ -54,6 +54,24 @@ object_pointers (Some s) = s.pointers
 unfoldable pub pointers_at : Table → ℕ → List (Option ℕ)
 pointers_at t a = object_pointers (object_at t a)
 
+-- an object's weak slots
+abbrev pub object_weaks : Option Stored → List (Option ℕ)
+object_weaks None = []
+object_weaks (Some s) = s.weaks
+
+-- the weak slots of the object at an address, none where there is no object
+unfoldable pub weaks_at : Table → ℕ → List (Option ℕ)
+weaks_at t a = object_weaks (object_at t a)
+
+-- an object's fields
+abbrev pub object_fields : Option Stored → List (Option ℕ)
+object_fields None = []
+object_fields (Some s) = fields s
+
+-- the fields of the object at an address, none where there is no object
+unfoldable pub fields_at : Table → ℕ → List (Option ℕ)
+fields_at t a = object_fields (object_at t a)
+
 -- the region with another object at the offset
 abbrev pub with_object : Region → ℕ → Stored → Region
 with_object Free o s = Free
@@ -70,7 +88,7 @@ put_object t a s = record {
 
 abbrev pub set_pointer_of : Table → ℕ → ℕ → Option ℕ → Option Stored → Table
 set_pointer_of t a i v None = t
-set_pointer_of t a i v (Some s) = put_object t a (record { name = s.name; pointers = slice_set s.pointers i v; values = s.values })
+set_pointer_of t a i v (Some s) = put_object t a (record s { pointers = slice_set s.pointers i v })
 
 -- the table with one pointer of the object at the address changed
 unfoldable pub set_pointer : Table → ℕ → ℕ → Option ℕ → Table
@@ -122,9 +140,25 @@ object_values (Some s) = s.values
 unfoldable pub values_at : Table → ℕ → List ℕ
 values_at t a = object_values (object_at t a)
 
+abbrev pub set_weak_of : Table → ℕ → ℕ → Option ℕ → Option Stored → Table
+set_weak_of t a i v None = t
+set_weak_of t a i v (Some s) = put_object t a (record s { weaks = slice_set s.weaks i v })
+
+-- the table with one weak slot of the object at the address changed
+unfoldable pub set_weak : Table → ℕ → ℕ → Option ℕ → Table
+set_weak t a i v = set_weak_of t a i v (object_at t a)
+
+abbrev pub set_field_of : Table → ℕ → ℕ → Option ℕ → Option Stored → Table
+set_field_of t a i v None = t
+set_field_of t a i v (Some s) = put_object t a (with_field s i v)
+
+-- the table with one field of the object at the address changed
+unfoldable pub set_field : Table → ℕ → ℕ → Option ℕ → Table
+set_field t a i v = set_field_of t a i v (object_at t a)
+
 abbrev pub set_value_of : Table → ℕ → ℕ → ℕ → Option Stored → Table
 set_value_of t a i v None = t
-set_value_of t a i v (Some s) = put_object t a (record { name = s.name; pointers = s.pointers; values = slice_set s.values i v })
+set_value_of t a i v (Some s) = put_object t a (record s { values = slice_set s.values i v })
 
 -- the table with one data word of the object at the address changed
 unfoldable pub set_value : Table → ℕ → ℕ → ℕ → Table
@@ -161,7 +195,7 @@ taken t (Some k) = with_region t k (Ordinary [])
 abbrev pub region_used : ℕ → Region → ℕ
 region_used size Free = 0
 region_used size (Ordinary ts) = total_size ts
-region_used size (First s) = min size (2 + length s.pointers + length s.values)
+region_used size (First s) = min size (2 + length s.pointers + length s.weaks + length s.values)
 region_used size (Rest n) = n
 
 -- region k, free past the end
@@ -183,9 +217,9 @@ region_with_tile (Rest n) t = Rest n
 unfoldable pub push_tile : Table → ℕ → Tile → Table
 push_tile t k tile = with_region t k (region_with_tile (region_number t k) tile)
 
--- an object just made, with p nil pointers and d zeros
-abbrev pub new_object : ℕ → ℕ → ℕ → Stored
-new_object name p d = record { name = name; pointers = replicate p None; values = replicate d 0 }
+-- an object just made, with p nil pointers, so many nil weak slots and d zeros
+abbrev pub new_object : ℕ → ℕ → ℕ → ℕ → Stored
+new_object name p weak d = record { name = name; pointers = replicate p None; weaks = replicate weak None; values = replicate d 0 }
 
 -- what a region is
 abbrev pub region_kind : Region → Kind

@@ -13,7 +13,7 @@ pub data Tile : Type 0 where
 
 -- the words of a tile
 abbrev pub tile_size : Tile → ℕ
-tile_size (Live s) = 2 + length s.pointers + length s.values
+tile_size (Live s) = 2 + length s.pointers + length s.weaks + length s.values
 tile_size (Gap n) = n
 tile_size (Moved to n) = n
 
@@ -34,21 +34,26 @@ replace o new [] = []
 replace zero new (t ∷ ts) = new ++ ts
 replace (suc o) new (t ∷ ts) = t ∷ replace (suc o - tile_size t) new ts
 
--- the object of a header with p pointers and d data words, the rest of its words first in ws
-abbrev pub stored_of : ℕ → ℕ → List ℕ → Stored
-stored_of p d ws = record { name = slice_index ws 0; pointers = map pointer_of (take p (drop 1 ws)); values = take d (drop (suc p) ws) }
+-- the object of a header with p pointers, so many weak slots and d data words, the rest of its words first in ws
+abbrev pub stored_of : ℕ → ℕ → ℕ → List ℕ → Stored
+stored_of p weak d ws = record {
+  name = slice_index ws 0;
+  pointers = map pointer_of (take p (drop 1 ws));
+  weaks = map pointer_of (take weak (drop (suc p) ws));
+  values = take d (drop (suc (p + weak)) ws);
+}
 
 -- the tile of a header, the rest of whose words are first in ws; sizes tells the size of the object at an address, for one that moved there
 abbrev pub tile_by : (ℕ → ℕ) → List ℕ → Option Header → Tile
 tile_by sizes ws None = Gap 1
-tile_by sizes ws (Some (Object p d)) = Live (stored_of p d ws)
+tile_by sizes ws (Some (Object p weak d)) = Live (stored_of p weak d ws)
 tile_by sizes ws (Some (Filler n)) = Gap n
 tile_by sizes ws (Some (Forwarded to)) = Moved to (sizes to)
 
 -- how many words the tile of a header has
 abbrev pub size_by : (ℕ → ℕ) → Option Header → ℕ
 size_by sizes None = 1
-size_by sizes (Some (Object p d)) = 2 + p + d
+size_by sizes (Some (Object p weak d)) = 2 + p + weak + d
 size_by sizes (Some (Filler n)) = n
 size_by sizes (Some (Forwarded to)) = sizes to
 

@@ -1,5 +1,5 @@
 -- A walk over a region's tiles.
-use Rattle.std.specs.Prelude.{◌≡◌, ℕ, zero, suc, ◌+◌, ◌-◌, ◌*◌, ◌<◌, ◌≤◌, ◌⊎◌, List, [], ◌∷◌, Some, length}
+use Rattle.std.specs.Prelude.{◌≡◌, ℕ, zero, suc, ◌+◌, ◌-◌, ◌*◌, ◌/◌, ◌<◌, ◌≤◌, ◌⊎◌, List, [], ◌∷◌, Option, Some, None, length}
 use Rattle.regions.specs.declared.row.Shape.{Shape}
 use Rattle.regions.specs.Shapes.{tile_shape}
 use Rattle.regions.specs.Tiles.{Tile, Live, tile_size, total_size, tile_at}
@@ -98,3 +98,19 @@ pub record IsRunStart (t : Table) (region first : ℕ) : Type 0 where
   pub below : first ≤ region
   pub rest : (k : ℕ) → first < k → k ≤ region → kind_of t k ≡ kinds.Rest
   pub start : kind_of t first ≡ kinds.Rest → first ≡ 0
+
+-- a tile starts at an address of region k
+pub record StartsIn (t : Table) (k a : ℕ) : Type 0 where
+  pub tile : Tile
+  pub tile_is : tile_in t a ≡ Some tile
+  pub region : a / t.words_per_region ≡ k
+
+-- the lowest address of region k at which a tile starts, none where there is none
+abbrev pub IsLowest : Table → ℕ → Option ℕ → Type 0
+IsLowest t k None = (b : ℕ) → StartsIn t k b → ⊥
+IsLowest t k (Some a) = StartsIn t k a × ((b : ℕ) → StartsIn t k b → a ≤ b)
+
+-- the next one above an address
+abbrev pub IsNextAfter : Table → ℕ → ℕ → Option ℕ → Type 0
+IsNextAfter t k a None = (b : ℕ) → StartsIn t k b → b ≤ a
+IsNextAfter t k a (Some n) = StartsIn t k n × (a < n) × ((b : ℕ) → StartsIn t k b → a < b → n ≤ b)

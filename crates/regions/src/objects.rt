@@ -1,8 +1,8 @@
 //! Reads and writes of objects: each is one access to a word or two, and no walk.
 ghost use Rattle.std.specs.Prelude.{◌≡◌, ◌<◌, length, slice_get, Some, IsSome, IfSome};
-ghost use Rattle.heap_words.specs.Contents.{header_at, pointer_count_at};
-ghost use Rattle.regions.specs.Table.{object_at, object_words, pointers_at, values_at, set_pointer, set_value, tile_in, moved_to};
-ghost use Rattle.regions.specs.Rows.{header_target, value_count};
+ghost use Rattle.heap_words.specs.Contents.{header_at, pointer_count_at, field_count_at};
+ghost use Rattle.regions.specs.Table.{object_at, object_words, pointers_at, weaks_at, fields_at, values_at, set_pointer, set_weak, set_field, set_value, tile_in, moved_to};
+ghost use Rattle.regions.specs.Rows.{header_target, weak_count, value_count};
 
 use crate::table::{RegionTable, size_at};
 use heap_words::addr::{Addr, Ptr};
@@ -16,6 +16,28 @@ fn pointers_in(words: &Words, at: Addr) -> u32
 {
     match words.object_at(at) {
         Some(counts) => counts.pointers.get(),
+        None => 0,
+    }
+}
+
+/// How many fields the object at an address has, 0 where there is none.
+fn fields_in(words: &Words, at: Addr) -> u32
+    requires { at < length words.now }
+    ensures { result ≡ field_count_at words.now at }
+{
+    match words.object_at(at) {
+        Some(counts) => counts.pointers.get() + u32::from(counts.weaks),
+        None => 0,
+    }
+}
+
+/// How many weak slots the object at an address has, 0 where there is none.
+fn weaks_in(words: &Words, at: Addr) -> u32
+    requires { at < length words.now }
+    ensures { result ≡ weak_count (header_at words.now at) }
+{
+    match words.object_at(at) {
+        Some(counts) => u32::from(counts.weaks),
         None => 0,
     }
 }
@@ -62,6 +84,22 @@ impl RegionTable {
         pointers_in(&self.words, object)
     }
 
+    /// How many weak slots the object at an address has.
+    pub fn weak_count(&self, object: Addr) -> u32
+        requires { IsSome (object_at self.now object) }
+        ensures { result ≡ length (weaks_at self.now object) }
+    {
+        weaks_in(&self.words, object)
+    }
+
+    /// How many fields the object at an address has: its pointers, and its weak slots behind them.
+    pub fn field_count(&self, object: Addr) -> u32
+        requires { IsSome (object_at self.now object) }
+        ensures { result ≡ length (fields_at self.now object) }
+    {
+        fields_in(&self.words, object)
+    }
+
     /// How many data words the object at an address has.
     pub fn value_count(&self, object: Addr) -> u32
         requires { IsSome (object_at self.now object) }
@@ -79,19 +117,53 @@ impl RegionTable {
     }
 
     /// A pointer of the object at an address.
-    pub fn get_ptr(&self, object: Addr, field: u32) -> Ptr
-        requires { field < length (pointers_at self.now object) }
-        ensures { slice_get (pointers_at self.now object) field ≡ Some result }
+    pub fn get_ptr(&self, object: Addr, index: u32) -> Ptr
+        requires { index < length (pointers_at self.now object) }
+        ensures { slice_get (pointers_at self.now object) index ≡ Some result }
     {
-        self.words.get_ptr(object, field)
+        self.words.get_field(object, index)
     }
 
     /// Stores a pointer in the object at an address.
-    pub fn set_ptr(&mut self, object: Addr, field: u32, target: Ptr)
-        requires { field < length (pointers_at self.old object) }
-        ensures { self.new ≡ set_pointer self.old object field target }
+    pub fn set_ptr(&mut self, object: Addr, index: u32, target: Ptr)
+        requires { index < length (pointers_at self.old object) }
+        ensures { self.new ≡ set_pointer self.old object index target }
     {
-        self.words.set_ptr(object, field, target);
+        self.words.set_field(object, index, target);
+    }
+
+    /// A weak slot of the object at an address.
+    pub fn get_weak(&self, object: Addr, slot: u32) -> Ptr
+        requires { slot < length (weaks_at self.now object) }
+        ensures { slice_get (weaks_at self.now object) slot ≡ Some result }
+    {
+        let place = pointers_in(&self.words, object) + slot;
+        self.words.get_field(object, place)
+    }
+
+    /// Stores a pointer in a weak slot of the object at an address.
+    pub fn set_weak(&mut self, object: Addr, slot: u32, target: Ptr)
+        requires { slot < length (weaks_at self.old object) }
+        ensures { self.new ≡ set_weak self.old object slot target }
+    {
+        let place = pointers_in(&self.words, object) + slot;
+        self.words.set_field(object, place, target);
+    }
+
+    /// A field of the object at an address.
+    pub fn get_field(&self, object: Addr, field: u32) -> Ptr
+        requires { field < length (fields_at self.now object) }
+        ensures { slice_get (fields_at self.now object) field ≡ Some result }
+    {
+        self.words.get_field(object, field)
+    }
+
+    /// Stores a pointer in a field of the object at an address.
+    pub fn set_field(&mut self, object: Addr, field: u32, target: Ptr)
+        requires { field < length (fields_at self.old object) }
+        ensures { self.new ≡ set_field self.old object field target }
+    {
+        self.words.set_field(object, field, target);
     }
 
     /// A data word of the object at an address.

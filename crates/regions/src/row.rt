@@ -30,12 +30,21 @@ pub(crate) struct Row {
 /// What a tile is. Sizes are in words.
 #[derive(Clone, Copy, Debug, PartialEq, Eq)]
 pub enum Shape {
-    /// An object, by its counts of pointers and data words.
-    Object { pointers: Count, values: Count },
+    /// An object, by its counts of pointers, weak slots and data words.
+    Object {
+        pointers: Count,
+        weaks: u8,
+        values: Count,
+    },
     /// Words that hold nothing.
-    Filler { size: u32 },
+    Filler {
+        size: u32,
+    },
     /// An object that went to an address.
-    Moved { to: Addr, size: u32 },
+    Moved {
+        to: Addr,
+        size: u32,
+    },
 }
 
 impl Shape {
@@ -44,7 +53,11 @@ impl Shape {
         ensures { result ≡ size_of_shape self.now }
     {
         match *self {
-            Shape::Object { pointers, values } => 2 + pointers.get() + values.get(),
+            Shape::Object {
+                pointers,
+                weaks,
+                values,
+            } => 2 + pointers.get() + u32::from(weaks) + values.get(),
             Shape::Filler { size } => size,
             Shape::Moved { size, .. } => size,
         }

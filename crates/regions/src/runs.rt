@@ -54,15 +54,15 @@ impl RegionTable {
     }
 
     /// Makes a humongous object at the bottom of the run of `count` free regions that `free_run` found.
-    /// Its pointers are nil and its data words 0, and it ends in the last of the regions.
+    /// Its pointers and weak slots are nil and its data words 0, and it ends in the last of the regions.
     pub fn make_run(&mut self, first: RegionNo, count: u32, name: u64, counts: Counts)
         requires positive { 0 < count }
         requires lowest { first_run region_is_free count self.old.regions ≡ Some first }
-        requires covers { 2 + counts.pointers + counts.values ≤ count * self.old.words_per_region }
-        requires tight { count * self.old.words_per_region < 2 + counts.pointers + counts.values + self.old.words_per_region }
-        ensures { self.new ≡ with_regions self.old first count (run_regions self.old.words_per_region (new_object name counts.pointers counts.values) count) }
+        requires covers { 2 + counts.pointers + counts.weaks + counts.values ≤ count * self.old.words_per_region }
+        requires tight { count * self.old.words_per_region < 2 + counts.pointers + counts.weaks + counts.values + self.old.words_per_region }
+        ensures { self.new ≡ with_regions self.old first count (run_regions self.old.words_per_region (new_object name counts.pointers counts.weaks counts.values) count) }
     {
-        let size = 2 + counts.pointers.get() + counts.values.get();
+        let size = 2 + counts.pointers.get() + u32::from(counts.weaks) + counts.values.get();
         let bottom = first.number() * self.words_per_region;
         self.words.write_object(Addr::new(bottom), name, counts);
         let at = first.number() as usize;
@@ -73,10 +73,10 @@ impl RegionTable {
     /// none where there is no such run, and then nothing changed.
     pub fn take_run(&mut self, count: u32, name: u64, counts: Counts) -> Option<RegionNo>
         requires positive { 0 < count }
-        requires covers { 2 + counts.pointers + counts.values ≤ count * self.old.words_per_region }
-        requires tight { count * self.old.words_per_region < 2 + counts.pointers + counts.values + self.old.words_per_region }
+        requires covers { 2 + counts.pointers + counts.weaks + counts.values ≤ count * self.old.words_per_region }
+        requires tight { count * self.old.words_per_region < 2 + counts.pointers + counts.weaks + counts.values + self.old.words_per_region }
         ensures lowest { result ≡ first_run region_is_free count self.old.regions }
-        ensures taken { self.new ≡ with_run self.old count (new_object name counts.pointers counts.values) (first_run region_is_free count self.old.regions) }
+        ensures taken { self.new ≡ with_run self.old count (new_object name counts.pointers counts.weaks counts.values) (first_run region_is_free count self.old.regions) }
     {
         let first = self.free_run(count)?;
         self.make_run(first, count, name, counts);

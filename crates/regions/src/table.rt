@@ -43,7 +43,9 @@ pub(crate) fn size_at(words: &Words, at: Addr) -> u32
     ensures { result ≡ sizes_in words.now at }
 {
     match words.object_at(at) {
-        Some(counts) => 2 + counts.pointers.get() + counts.values.get(),
+        Some(counts) => {
+            2 + counts.pointers.get() + u32::from(counts.weaks) + counts.values.get()
+        }
         None => 1,
     }
 }
@@ -56,8 +58,13 @@ pub(crate) fn shape_at(words: &Words, at: Addr) -> Shape
 {
     match words.header(at) {
         Some(header) => match header {
-            Header::Object { pointers, data } => Shape::Object {
+            Header::Object {
                 pointers,
+                weaks,
+                data,
+            } => Shape::Object {
+                pointers,
+                weaks,
                 values: data,
             },
             Header::Filler { size } => Shape::Filler { size: size.get() },

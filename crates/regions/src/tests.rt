@@ -13,10 +13,12 @@ fn counts(pointers: u32, values: u32) -> Counts
     requires pointers { pointers < 2 ^ 24 }
     requires values { values < 2 ^ 24 }
     ensures pointers_are { result.pointers ≡ pointers }
+    ensures weaks_are { result.weaks ≡ 0 }
     ensures values_are { result.values ≡ values }
 {
     Counts {
         pointers: Count::new(pointers),
+        weaks: 0,
         values: Count::new(values),
     }
 }

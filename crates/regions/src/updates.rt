@@ -117,14 +117,14 @@ impl RegionTable {
         Addr::new(behind)
     }
 
-    /// Makes an object at the start of a filler of `filler` words: its pointers are nil and its data words 0.
+    /// Makes an object at the start of a filler of `filler` words: its pointers and weak slots are nil and its data words 0.
     /// The rest is a filler again or nothing.
     pub fn make_object(&mut self, at: Addr, filler: FillerSize, name: u64, counts: Counts)
         requires there { tile_in self.old at ≡ Some (Gap filler) }
-        requires room { 2 + counts.pointers + counts.values ≤ filler }
-        ensures { self.new ≡ replace_tile self.old at (Live (new_object name counts.pointers counts.values) ∷ gap (filler - (2 + counts.pointers + counts.values))) }
+        requires room { 2 + counts.pointers + counts.weaks + counts.values ≤ filler }
+        ensures { self.new ≡ replace_tile self.old at (Live (new_object name counts.pointers counts.weaks counts.values) ∷ gap (filler - (2 + counts.pointers + counts.weaks + counts.values))) }
     {
-        let size = 2 + counts.pointers.get() + counts.values.get();
+        let size = 2 + counts.pointers.get() + u32::from(counts.weaks) + counts.values.get();
         self.words.write_object(at, name, counts);
         write_gap(&mut self.words, at.word() + size, filler.get() - size);
     }

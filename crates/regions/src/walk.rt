@@ -4,7 +4,7 @@ ghost use Rattle.std.specs.Iterator.{YieldsFirst, item_count};
 ghost use Rattle.regions.specs.Tiles.{total_size};
 ghost use Rattle.regions.specs.Table.{kind_of, tile_in, top_of};
 ghost use Rattle.regions.specs.declared.row.Kind.TheVariants as kinds;
-ghost use Rattle.regions.specs.Walks.{tiles_of, placed, walk_rest, IsCut, IsWalk, IsTileBehind, IsHolder, IsRunStart};
+ghost use Rattle.regions.specs.Walks.{tiles_of, placed, walk_rest, IsCut, IsWalk, IsTileBehind, IsHolder, IsRunStart, IsLowest, IsNextAfter};
 
 use crate::row::{Kind, Shape};
 use crate::table::{RegionTable, shape_at, size_at};
@@ -79,6 +79,38 @@ impl RegionTable {
             region,
             offset: at.word() % words,
             end,
+        }
+    }
+
+    /// The lowest address of a region at which a tile starts. With `next_tile` it goes over a region whose objects change
+    /// meanwhile.
+    pub fn lowest_tile(&self, region: RegionNo) -> Option<Addr>
+        requires { region < length self.now.regions }
+        ensures { IsLowest self.now region result }
+    {
+        self.law();
+        let bottom = region.number() * self.words_per_region();
+        if self.tile_words(region) == 0 {
+            return None;
+        }
+        Some(Addr::new(bottom))
+    }
+
+    /// The next address of the region at which a tile starts, behind the tile at an address.
+    pub fn next_tile(&self, at: Addr) -> Option<Addr>
+        requires { IsSome (tile_in self.now at) }
+        ensures { IsNextAfter self.now (at / self.now.words_per_region) at result }
+    {
+        self.law();
+        let words = self.words_per_region();
+        let region = RegionNo::new(at.word() / words);
+        let bottom = at.word() / words * words;
+        let end = bottom + self.tile_words(region);
+        let next = at.word() + self.tile(at).size();
+        if next < end {
+            Some(Addr::new(next))
+        } else {
+            None
         }
     }
 

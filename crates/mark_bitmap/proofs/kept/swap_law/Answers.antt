@@ -2,4 +2,4 @@ use Rattle.mark_bitmap.proofs.KeptLaws.{swap_kept}
 use Rattle.mark_bitmap.proofs.kept.swap_law.Goals as goal
 
 pub returns : goal.returns
-returns c = λ s t tops previous next scans logged roots newer i a. swap_kept s t tops previous next scans logged roots newer i a
+returns c = λ s t t' tops previous next scans logged roots newer i words clears a. swap_kept s t t' tops previous next scans logged roots newer i words clears a

@@ -9,18 +9,18 @@ pub returns-then-not-is_below_previous : goal.returns-then-not-is_below_previous
 returns-then-not-is_below_previous c =
     let tile = subst (λ (s : Shape). IsPlacedTile c.args.table.now c.args.at s) c.in-Object.is c.requires.tile in
     let above : below_previous c.args.table.now c.args.tams.now c.args.at ≡ false = cc in
-    kept_above c.args.table.now c.args.tams.now c.args.marks.now c.args.at above (shape_object c.args.table.now c.args.at _ _ tile)
+    kept_above c.args.table.now c.args.tams.now c.args.marks.now c.args.at above (shape_object c.args.table.now c.args.at _ _ _ tile)
 
 pub get-requires : goal.get-requires
 get-requires c =
     let tile = subst (λ (s : Shape). IsPlacedTile c.args.table.now c.args.at s) c.in-Object.is c.requires.tile in
-    shape_within c.args.table.now c.args.at _ _ _ c.law.ensures c.requires.marks tile
+    shape_within c.args.table.now c.args.at _ _ _ _ c.law.ensures c.requires.marks tile
 
 pub returns-else-not-is_below_previous : goal.returns-else-not-is_below_previous
 returns-else-not-is_below_previous c =
     let tile = subst (λ (s : Shape). IsPlacedTile c.args.table.now c.args.at s) c.in-Object.is c.requires.tile in
     let below : below_previous c.args.table.now c.args.tams.now c.args.at ≡ true = cc in
-    kept_marked c.args.table.now c.args.tams.now c.args.marks.now c.args.at c.get.result below c.get.ensures (shape_object c.args.table.now c.args.at _ _ tile)
+    kept_marked c.args.table.now c.args.tams.now c.args.marks.now c.args.at c.get.result below c.get.ensures (shape_object c.args.table.now c.args.at _ _ _ tile)
 
 pub returns-in-Filler : goal.returns-in-Filler
 returns-in-Filler c =

@@ -5,47 +5,47 @@ use Rattle.regions.proofs.tests.holds_a_run.Goals as goal
 pub take_run-requires-clause-covers : goal.take_run-requires-clause-covers
 take_run-requires-clause-covers g c =
     let t1 = fill_take _ _ c.in-Ok.ensures c.take_free.ensures.taken in
-    (run_fits _ _ _ t1 c.counts.ensures.pointers_are c.counts.ensures.values_are).0
+    (run_fits _ _ _ _ t1 c.counts.ensures.pointers_are c.counts.ensures.weaks_are c.counts.ensures.values_are).0
 
 pub take_run-requires-clause-tight : goal.take_run-requires-clause-tight
 take_run-requires-clause-tight g c =
     let t1 = fill_take _ _ c.in-Ok.ensures c.take_free.ensures.taken in
-    (run_fits _ _ _ t1 c.counts.ensures.pointers_are c.counts.ensures.values_are).1
+    (run_fits _ _ _ _ t1 c.counts.ensures.pointers_are c.counts.ensures.weaks_are c.counts.ensures.values_are).1
 
 pub release-requires-clause-releasable : goal.release-requires-clause-releasable
 release-requires-clause-releasable g c =
     let t1 = fill_take _ _ c.in-Ok.ensures c.take_free.ensures.taken in
-    let t2 = run_take _ _ _ _ t1 c.take_run.ensures.taken c.counts.ensures.pointers_are c.counts.ensures.values_are in
+    let t2 = run_take _ _ _ _ _ t1 c.take_run.ensures.taken c.counts.ensures.pointers_are c.counts.ensures.weaks_are c.counts.ensures.values_are in
     (releasable_run _ _ t2 c.new-first.ensures).releasable
 
 pub release-requires-clause-untargeted : goal.release-requires-clause-untargeted
 release-requires-clause-untargeted g c =
     let t1 = fill_take _ _ c.in-Ok.ensures c.take_free.ensures.taken in
-    let t2 = run_take _ _ _ _ t1 c.take_run.ensures.taken c.counts.ensures.pointers_are c.counts.ensures.values_are in
+    let t2 = run_take _ _ _ _ _ t1 c.take_run.ensures.taken c.counts.ensures.pointers_are c.counts.ensures.weaks_are c.counts.ensures.values_are in
     (releasable_run _ _ t2 c.new-first.ensures).untargeted
 
 pub kind-requires-3 : goal.kind-requires-3
 kind-requires-3 g c =
     let t1 = fill_take _ _ c.in-Ok.ensures c.take_free.ensures.taken in
-    let t2 = run_take _ _ _ _ t1 c.take_run.ensures.taken c.counts.ensures.pointers_are c.counts.ensures.values_are in
+    let t2 = run_take _ _ _ _ _ t1 c.take_run.ensures.taken c.counts.ensures.pointers_are c.counts.ensures.weaks_are c.counts.ensures.values_are in
     let t3 = run_release _ _ _ t2 c.release.ensures c.new-first.ensures in
     known_region _ _ _ _ t3 refl c.new-first.ensures (omega arith)
 
 pub kind-requires-4 : goal.kind-requires-4
 kind-requires-4 g c =
     let t1 = fill_take _ _ c.in-Ok.ensures c.take_free.ensures.taken in
-    let t2 = run_take _ _ _ _ t1 c.take_run.ensures.taken c.counts.ensures.pointers_are c.counts.ensures.values_are in
+    let t2 = run_take _ _ _ _ _ t1 c.take_run.ensures.taken c.counts.ensures.pointers_are c.counts.ensures.weaks_are c.counts.ensures.values_are in
     let t3 = run_release _ _ _ t2 c.release.ensures c.new-first.ensures in
     known_region _ _ _ _ t3 refl c.new-later.ensures (omega arith)
 
 pub first_tile-requires : goal.first_tile-requires
 first_tile-requires g c =
     let t1 = fill_take _ _ c.in-Ok.ensures c.take_free.ensures.taken in
-    let t2 = run_take _ _ _ _ t1 c.take_run.ensures.taken c.counts.ensures.pointers_are c.counts.ensures.values_are in
+    let t2 = run_take _ _ _ _ _ t1 c.take_run.ensures.taken c.counts.ensures.pointers_are c.counts.ensures.weaks_are c.counts.ensures.values_are in
     word_inside _ _ _ _ t2 refl c.new-4.ensures (omega arith)
 
 pub first_tile-requires-2 : goal.first_tile-requires-2
 first_tile-requires-2 g c =
     let t1 = fill_take _ _ c.in-Ok.ensures c.take_free.ensures.taken in
-    let t2 = run_take _ _ _ _ t1 c.take_run.ensures.taken c.counts.ensures.pointers_are c.counts.ensures.values_are in
+    let t2 = run_take _ _ _ _ _ t1 c.take_run.ensures.taken c.counts.ensures.pointers_are c.counts.ensures.weaks_are c.counts.ensures.values_are in
     word_inside _ _ _ _ t2 refl c.new-6.ensures (omega arith)

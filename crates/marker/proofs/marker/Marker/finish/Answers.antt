@@ -1,19 +1,37 @@
-use Rattle.std.proofs.Common.{refl, sym, ap, ◌∙◌}
+use Rattle.std.proofs.Common.{false, refl, sym, ap, subst, ◌∙◌}
+use Rattle.heap_model.specs.Marking.{Marking}
+use Rattle.marker.specs.Clears.{ClearsTable}
+use Rattle.marker.specs.declared.marker.Marker.{Marker}
 use Rattle.mark_bitmap.specs.Marks.{marked_count}
-use Rattle.marker.proofs.Ended.{over, done_count, exchanged_stands, ends_exactly}
+use Rattle.marker.proofs.Ended.{over, done_count, exchanged_stands, exchanged_marking, ends_exactly}
 use Rattle.marker.proofs.marker.Marker.finish.Goals as goal
+
+pub clear_weaks-requires : goal.clear_weaks-requires
+clear_weaks-requires c = c.mark.ensures.stands.next
 
 pub returns-clause-stands : goal.returns-clause-stands
 returns-clause-stands c =
     let p = over c.args.table.now c.args.self.now c.take_logs.new.self c.mark.new.self c.mark.result c.law.ensures c.requires.running c.take_logs.ensures.same c.take_logs.ensures.snapshots c.take_logs.ensures.emptied
     c.mark.ensures.stands c.mark.ensures.same c.mark.ensures.snapshots c.mark.ensures.logs c.mark.ensures.count c.mark.ensures.none_left in
-    exchanged_stands c.args.table.now c.mark.new.self _ p.stands p.done (record { previous = c.swap_roles.ensures.previous; next = c.swap_roles.ensures.next; tams = c.swap_roles-2.ensures; grey = refl; logs = refl; off = refl })
+    exchanged_stands c.args.table.now c.clear_weaks.new.table _ c.mark.new.self _ p.stands p.done c.clear_weaks.ensures (record { previous = c.swap_roles.ensures.previous; next = c.swap_roles.ensures.next; tams = c.swap_roles-2.ensures; grey = refl; logs = refl; off = refl })
 
 pub returns-clause-exact : goal.returns-clause-exact
 returns-clause-exact c =
     let p = over c.args.table.now c.args.self.now c.take_logs.new.self c.mark.new.self c.mark.result c.law.ensures c.requires.running c.take_logs.ensures.same c.take_logs.ensures.snapshots c.take_logs.ensures.emptied
     c.mark.ensures.stands c.mark.ensures.same c.mark.ensures.snapshots c.mark.ensures.logs c.mark.ensures.count c.mark.ensures.none_left in
-    ends_exactly c.args.table.now c.args.self.now c.mark.new.self _ _ p (record { previous = c.swap_roles.ensures.previous; next = c.swap_roles.ensures.next; tams = c.swap_roles-2.ensures; grey = refl; logs = refl; off = refl }) (done_count c.args.table.now c.mark.new.self p.stands p.running p.done)
+    ends_exactly c.args.table.now c.clear_weaks.new.table c.args.self.now c.mark.new.self _ _ p c.clear_weaks.ensures (record { previous = c.swap_roles.ensures.previous; next = c.swap_roles.ensures.next; tams = c.swap_roles-2.ensures; grey = refl; logs = refl; off = refl }) (done_count c.args.table.now c.mark.new.self p.stands p.running p.done)
+
+pub returns-clause-cleared : goal.returns-clause-cleared
+returns-clause-cleared c =
+    let last : Marker = record {
+      bitmaps = c.swap_roles.new.self;
+      tams = c.swap_roles-2.new.self;
+      grey = c.mark.new.self.grey;
+      logs = c.mark.new.self.logs;
+      running = false;
+      scans = c.mark.new.self.scans;
+    } in
+    subst (λ (m : Marking). ClearsTable m c.args.table.now c.clear_weaks.new.table) (sym (exchanged_marking c.args.table.now c.mark.new.self last (record { previous = c.swap_roles.ensures.previous; next = c.swap_roles.ensures.next; tams = c.swap_roles-2.ensures; grey = refl; logs = refl; off = refl }))) c.clear_weaks.ensures
 
 pub returns-clause-count : goal.returns-clause-count
 returns-clause-count c =

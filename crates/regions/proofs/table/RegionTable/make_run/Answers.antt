@@ -15,7 +15,7 @@ pub write_object-requires : goal.write_object-requires
 write_object-requires c =
     let e : first_run free c.args.count c.self.inside.rows.items ≡ Some c.args.first = sym (first_run-is _ _ _ _ c.args.count c.self.view_is) ∙ c.requires.lowest in
     let f = run_here_is _ _ _ _ _ c.self.invariant e in
-    let covers : 2 + c.args.counts.pointers + c.args.counts.values ≤ c.args.count * c.self.inside.words_per_region = rw (size_is_of _ _ _ _ c.self.view_is) c.requires.covers in
+    let covers : 2 + c.args.counts.pointers + c.args.counts.weaks + c.args.counts.values ≤ c.args.count * c.self.inside.words_per_region = rw (size_is_of _ _ _ _ c.self.view_is) c.requires.covers in
     rw (c.new.ensures, c.number.ensures) (omega (arith, f.ends, covers))
 
 pub write_run-requires-clause-within : goal.write_run-requires-clause-within
@@ -34,16 +34,16 @@ pub invariant_of-self : goal.invariant_of-self
 invariant_of-self c =
     let e : first_run free c.args.count c.self.inside.rows.items ≡ Some c.args.first = sym (first_run-is _ _ _ _ c.args.count c.self.view_is) ∙ c.requires.lowest in
     let number : c.self.inside.rows.len ≡ length c.self.inside.rows.items = omega arith in
-    let size : 2 + c.get.result + c.get-2.result ≡ 2 + c.args.counts.pointers + c.args.counts.values = omega (arith, c.get.ensures.value, c.get-2.ensures.value) in
+    let size : 2 + c.get.result + c.from.result + c.get-2.result ≡ 2 + c.args.counts.pointers + c.args.counts.weaks + c.args.counts.values = omega (arith, c.get.ensures.value, c.from.ensures, c.get-2.ensures.value) in
     let bottom : c.new.result ≡ c.args.first * c.self.inside.words_per_region = c.new.ensures ∙ ap (λ (k : ℕ). k * c.self.inside.words_per_region) c.number.ensures in
     let rows = rw (c.deref_mut.ensures.value, c.number-at.ensures) at c.write_run.ensures in
-    (run_taken _ _ _ _ _ _ c.args.name c.args.counts.pointers c.args.counts.values _ _ _ _ _ c.self.invariant c.self.view_is e c.requires.positive c.requires.covers c.requires.tight (omega (arith, c.get.ensures.value, c.get.ensures.small)) (omega (arith, c.get-2.ensures.value, c.get-2.ensures.small)) bottom size number c.write_object.ensures rows).is_table
+    (run_taken _ _ _ _ _ _ c.args.name c.args.counts.pointers c.args.counts.weaks c.args.counts.values _ _ _ _ _ c.self.invariant c.self.view_is e c.requires.positive c.requires.covers c.requires.tight (omega (arith, c.get.ensures.value, c.get.ensures.small)) (omega arith) (omega (arith, c.get-2.ensures.value, c.get-2.ensures.small)) bottom size number c.write_object.ensures rows).is_table
 
 pub returns : goal.returns
 returns c =
     let e : first_run free c.args.count c.self.inside.rows.items ≡ Some c.args.first = sym (first_run-is _ _ _ _ c.args.count c.self.view_is) ∙ c.requires.lowest in
     let number : c.self.inside.rows.len ≡ length c.self.inside.rows.items = omega arith in
-    let size : 2 + c.get.result + c.get-2.result ≡ 2 + c.args.counts.pointers + c.args.counts.values = omega (arith, c.get.ensures.value, c.get-2.ensures.value) in
+    let size : 2 + c.get.result + c.from.result + c.get-2.result ≡ 2 + c.args.counts.pointers + c.args.counts.weaks + c.args.counts.values = omega (arith, c.get.ensures.value, c.from.ensures, c.get-2.ensures.value) in
     let bottom : c.new.result ≡ c.args.first * c.self.inside.words_per_region = c.new.ensures ∙ ap (λ (k : ℕ). k * c.self.inside.words_per_region) c.number.ensures in
     let rows = rw (c.deref_mut.ensures.value, c.number-at.ensures) at c.write_run.ensures in
-    (run_taken _ _ _ _ _ _ c.args.name c.args.counts.pointers c.args.counts.values _ _ _ _ _ c.self.invariant c.self.view_is e c.requires.positive c.requires.covers c.requires.tight (omega (arith, c.get.ensures.value, c.get.ensures.small)) (omega (arith, c.get-2.ensures.value, c.get-2.ensures.small)) bottom size number c.write_object.ensures rows).table_is
+    (run_taken _ _ _ _ _ _ c.args.name c.args.counts.pointers c.args.counts.weaks c.args.counts.values _ _ _ _ _ c.self.invariant c.self.view_is e c.requires.positive c.requires.covers c.requires.tight (omega (arith, c.get.ensures.value, c.get.ensures.small)) (omega arith) (omega (arith, c.get-2.ensures.value, c.get-2.ensures.small)) bottom size number c.write_object.ensures rows).table_is

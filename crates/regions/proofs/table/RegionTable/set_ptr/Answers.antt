@@ -3,15 +3,15 @@ use Rattle.heap_words.specs.Headers.{pointer_word}
 use Rattle.regions.proofs.Access.{pointer_read, pointer_written}
 use Rattle.regions.proofs.table.RegionTable.set_ptr.Goals as goal
 
-pub set_ptr-requires : goal.set_ptr-requires
-set_ptr-requires c = (pointer_read _ _ _ _ _ _ c.self.invariant c.self.view_is c.requires).in_words
+pub set_field-requires : goal.set_field-requires
+set_field-requires c = (pointer_read _ _ _ _ _ _ c.self.invariant c.self.view_is c.requires).in_words
 
 pub invariant_of-self : goal.invariant_of-self
 invariant_of-self c =
     let w = pointer_written _ _ _ _ _ _ (pointer_word c.args.target) c.self.invariant c.self.view_is c.requires in
-    rw c.set_ptr.ensures.word w.is_table
+    rw c.set_field.ensures.word w.is_table
 
 pub returns : goal.returns
 returns c =
     let w = pointer_written _ _ _ _ _ _ (pointer_word c.args.target) c.self.invariant c.self.view_is c.requires in
-    rw c.set_ptr.ensures.word (w.table_is ∙ rw c.set_ptr.ensures.back refl)
+    rw c.set_field.ensures.word (w.table_is ∙ rw c.set_field.ensures.back refl)

@@ -1,0 +1,20 @@
+use Rattle.heap_model.proofs.Unreached.{unreached_begins, unreached_root, unreached_object, unreached_changed, unreached_written, unreached_touched}
+use Rattle.heap_model.proofs.weak.unreached_law.Goals as goal
+
+pub returns-clause-begins : goal.returns-clause-begins
+returns-clause-begins c = λ g k. unreached_begins g k
+
+pub returns-clause-root : goal.returns-clause-root
+returns-clause-root c = λ s g place v u. unreached_root s g u place v
+
+pub returns-clause-object : goal.returns-clause-object
+returns-clause-object c = λ s g o place u earlier. unreached_object s g u o place earlier
+
+pub returns-clause-changed : goal.returns-clause-changed
+returns-clause-changed c = λ s g n o p u e why. unreached_changed s g u n o p e why
+
+pub returns-clause-written : goal.returns-clause-written
+returns-clause-written c = λ s g n o p u e same. unreached_written s g u n o p e same
+
+pub returns-clause-touches : goal.returns-clause-touches
+returns-clause-touches c = λ s g v u. unreached_touched s g u v

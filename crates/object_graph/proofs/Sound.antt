@@ -1,0 +1,319 @@
+-- Every name that stands in a state's graphs is borne by an object: at the beginning, and after each event.
+use Rattle.std.proofs.Common.{◌≡◌, ℕ, zero, suc, ◌+◌, ◌-◌, ◌*◌, ◌<◌, ◌≤◌, List, ◌∷◌, [], ◌++◌, length, Option, Some, None, refl, sym, ap, ◌∙◌, subst, inl, inr, arith}
+use Rattle.std.specs.Prelude.{slice_get, slice_set, slice_index_or, replicate, nat_lt, ◌==◌, ◌^◌}
+use Rattle.heap_words.specs.declared.config.Config.{Config}
+use Rattle.heap_model.specs.Graph.{Graph, Object, next_name, object_fields, with_root, with_object, with_changed}
+use Rattle.heap_model.specs.Weak.{touched, IsClearedSlot, ClearsObject, Clears}
+use Rattle.heap_model.proofs.Lists.{AllZip-get_right, AllZip_length, get-set_cases, get-append_cases, get-append_left, get-append_right, get-push_cases, length-set, length-push}
+use Rattle.heap_model.proofs.Unreached.{touched_cases}
+use Rattle.object_graph.specs.State.{State, register_place, root_at, Occurs, AtRoot, AtField, IsNameOf, HoldsNames, IsEarlier, ForSnapshot, IsSoundState, first_graph, first_state}
+use Rattle.object_graph.specs.Machine.{Outcome, refused, on_contents, on_name, on_field, stored, act, outcome_of}
+use Rattle.object_graph.specs.Run.{snapshot_after, ClearsBy, Collects, Happens, IsRun}
+use Rattle.object_graph.specs.declared.step.Action.{Action}
+use Rattle.object_graph.specs.declared.step.Action.TheVariants as actions
+use Rattle.object_graph.specs.declared.step.Op.{Op}
+use Rattle.object_graph.specs.declared.step.Register.{Register}
+use Rattle.object_graph.specs.declared.step.CollectorStep.{CollectorStep}
+use Rattle.object_graph.specs.declared.step.Step.{Step}
+use Rattle.object_graph.specs.declared.step.Step.TheVariants as steps
+use Rattle.object_graph.specs.declared.step.Event.{Event}
+use Rattle.object_graph.specs.declared.step.Reply.{Reply}
+use Rattle.object_graph.specs.declared.step.Reply.TheVariants as replies
+use Rattle.object_graph.specs.declared.step.Refusal.TheVariants as refusals
+use Rattle.object_graph.proofs.MachineLaws.{cond_law, outcome_of-mutators}
+use Rattle.object_graph.proofs.Collected.{kind}
+
+-- a graph with more objects has the names
+more_names : (g h : Graph) → h.first_name ≡ g.first_name → next_name g ≤ next_name h → (n : ℕ) → IsNameOf g n → IsNameOf h n
+more_names g h f k n name = let a = name.0 in let b = name.1 in ((omega arith), (omega arith))
+
+-- a value is nil or a name of the graph
+abbrev IsValue : Graph → Option ℕ → Type 0
+IsValue g v = (n : ℕ) → v ≡ Some n → IsNameOf g n
+
+root_value : (g : Graph) → HoldsNames g → (j : ℕ) → IsValue g (root_at g j)
+root_value g k j n e = k n (AtRoot j (read_root g.roots j e))
+  where
+    read_root : (rs : List (Option ℕ)) (j : ℕ) → slice_index_or rs j None ≡ Some n → slice_get rs j ≡ Some (Some n)
+    read_root [] j e = cc
+    read_root (r ∷ rs) zero e = ap Some e
+    read_root (r ∷ rs) (suc j) e = read_root rs j e
+
+stored_value : (g : Graph) → HoldsNames g → (m : ℕ) (v : Option Register) → IsValue g (stored g m v)
+stored_value g k m None n e = cc
+stored_value g k m (Some r) n e = root_value g k (register_place m r.number) n e
+
+root_holds : (g : Graph) (j : ℕ) (v : Option ℕ) → HoldsNames g → IsValue g v → HoldsNames (with_root g j v)
+root_holds g j v k value n (AtRoot i e) = elim (get-set_cases g.roots j i v (Some n) e) [ inl q ↦ value n (sym q) | inr q ↦ k n (AtRoot i q) ]
+root_holds g j v k value n (AtField p i x at e) = k n (AtField p i x at e)
+
+-- fields that hold names of the graph
+abbrev AreValues : Graph → List (Option ℕ) → Type 0
+AreValues g vs = (i n : ℕ) → slice_get vs i ≡ Some (Some n) → IsNameOf g n
+
+object_holds : (g : Graph) (x : Object) (j : ℕ) → HoldsNames g → ((i n : ℕ) → slice_get (object_fields x) i ≡ Some (Some n) → ⊥) → HoldsNames (with_object g x j)
+object_holds g x j k nil n o = by_place n o
+  where
+    more : next_name (with_object g x j) ≡ suc (next_name g)
+    more = let e = length-push g.objects x in omega arith
+
+    on : (n : ℕ) → IsNameOf g n → IsNameOf (with_object g x j) n
+    on n name = more_names g (with_object g x j) refl (let e = more in omega arith) n name
+
+    by_place : (n : ℕ) → Occurs (with_object g x j) n → IsNameOf (with_object g x j) n
+    by_place n (AtRoot i e) = elim (get-set_cases g.roots j i (Some (next_name g)) (Some n) e) [
+      | inl q ↦ (let same : n ≡ next_name g = cc in let e1 = more in ((omega arith), (omega arith)))
+      | inr q ↦ on n (k n (AtRoot i q))
+    ]
+    by_place n (AtField p i y at e) = elim (get-push_cases g.objects x y p at) [
+      | inl q ↦ on n (k n (AtField p i y q e))
+      | inr q ↦ absurd (nil i n (subst (λ (z : Object). slice_get (object_fields z) i ≡ Some (Some n)) q.1 e))
+    ]
+
+changed_holds : (g : Graph) (name : ℕ) (y : Object) → HoldsNames g → AreValues g (object_fields y) → HoldsNames (with_changed g name y)
+changed_holds g name y k each n o = more_names g (with_changed g name y) refl (let e = length-set g.objects (name - g.first_name) y in omega arith) n (by_place n o)
+  where
+    by_place : (n : ℕ) → Occurs (with_changed g name y) n → IsNameOf g n
+    by_place n (AtRoot i e) = k n (AtRoot i e)
+    by_place n (AtField p i z at e) = elim (get-set_cases g.objects (name - g.first_name) p y z at) [
+      | inl q ↦ each i n (subst (λ (z : Object). slice_get (object_fields z) i ≡ Some (Some n)) q e)
+      | inr q ↦ k n (AtField p i z q e)
+    ]
+
+slot_was : (s : Graph) (v v' : Option ℕ) (k : ℕ) → IsClearedSlot s v v' → v' ≡ Some k → v ≡ Some k
+slot_was s None None k c e = cc
+slot_was s None (Some l) k c e = absurd c
+slot_was s (Some n) None k c e = cc
+slot_was s (Some n) (Some l) k c e = let same = c.0 in cc
+
+cleared_next : (s g g' : Graph) → Clears s g g' → next_name g' ≡ next_name g
+cleared_next s g g' c = let e1 = AllZip_length (ClearsObject s) g.objects g'.objects c.objects in let e2 = c.first_name in omega arith
+
+cleared_holds : (s g g' : Graph) → Clears s g g' → HoldsNames g → HoldsNames g'
+cleared_holds s g g' c k n o = more_names g g' c.first_name (let e = cleared_next s g g' c in omega arith) n (by_place o)
+  where
+    by_place : Occurs g' n → IsNameOf g n
+    by_place (AtRoot i e) = k n (AtRoot i (ap (λ r. slice_get r i) (sym c.roots) ∙ e))
+    by_place (AtField p i y at e) =
+        let (x, is, z) = AllZip-get_right (ClearsObject s) g.objects g'.objects c.objects p y at in
+        elim (get-append_cases y.pointers y.weaks i (Some n) e) [
+          | inl q ↦ k n (AtField p i x is (get-append_left x.pointers x.weaks i (Some n) (ap (λ l. slice_get l i) (sym z.pointers) ∙ q)))
+          | inr q ↦
+              let (v, was, slot) = AllZip-get_right (IsClearedSlot s) x.weaks y.weaks z.weaks q.0 (Some n) q.1 in
+              let (there, holds) = get-append_right x.pointers x.weaks q.0 (Some n) (was ∙ ap Some (slot_was s v (Some n) n slot refl)) in
+              k n (AtField p there x is holds)
+        ]
+
+touched_earlier : (s g : Graph) (v : Option ℕ) → IsEarlier s g → IsValue g v → IsEarlier (touched s v) g
+touched_earlier s g None k value = k
+touched_earlier s g (Some a) k value = elim (touched_cases s a) [
+  | inl c ↦ subst (λ (t : Graph). IsEarlier t g) (sym c.0) (record { holds = holds c.1; first_name = k.first_name; next_name = k.next_name })
+  | inr c ↦ subst (λ (t : Graph). IsEarlier t g) (sym c.0) k
+]
+  where
+    first_root : a < next_name s → (j n : ℕ) → slice_get (Some a ∷ s.roots) j ≡ Some (Some n) → IsNameOf s n
+    first_root below zero n e = let same : a ≡ n = cc in let low = (value a refl).0 in let f = k.first_name in ((omega arith), (omega arith))
+    first_root below (suc j) n e = k.holds n (AtRoot j e)
+
+    holds : a < next_name s → HoldsNames (record s { roots = Some a ∷ s.roots })
+    holds below n (AtRoot j e) = first_root below j n e
+    holds below n (AtField p i x at e) = k.holds n (AtField p i x at e)
+
+-- what a step of a mutator leaves, by its cases
+contents_law : (P : Outcome → Type 0) (g : Graph) (o : Option Object) (f : Object → Outcome) → P (refused g refusals.Nil) → ((x : Object) → o ≡ Some x → P (f x)) → P (on_contents g o f)
+contents_law P g None f nil each = nil
+contents_law P g (Some x) f nil each = each x refl
+
+name_law : (P : Outcome → Type 0) (g : Graph) (o : Option ℕ) (f : ℕ → Object → Outcome) → P (refused g refusals.Nil) → ((n : ℕ) (x : Object) → slice_get g.objects (n - g.first_name) ≡ Some x → P (f n x)) → P (on_name g o f)
+name_law P g None f nil each = nil
+name_law P g (Some n) f nil each = contents_law P g (slice_get g.objects (n - g.first_name)) (f n) nil (each n)
+
+field_law : {X : Type 0} (P : Outcome → Type 0) (g : Graph) (o : Option X) (f : X → Outcome) → P (refused g refusals.NoField) → ((x : X) → o ≡ Some x → P (f x)) → P (on_field g o f)
+field_law P g None f none each = none
+field_law P g (Some x) f none each = each x refl
+
+-- the graph after the step holds names, has the first name and no fewer objects, and a name that was replied is one of it
+record Goes (g : Graph) (out : Outcome) : Type 0 where
+  holds : HoldsNames out.1
+  first_name : out.1.first_name ≡ g.first_name
+  next_name : next_name g ≤ next_name out.1
+  replied : (v : Option ℕ) → out.0 ≡ replies.Named v → IsValue out.1 v
+
+nils : (n i k : ℕ) → slice_get (replicate n None) i ≡ Some (Some k) → ⊥
+nils zero i k e = cc
+nils (suc n) zero k e = cc
+nils (suc n) (suc i) k e = nils n i k e
+
+fresh_fields : (p w i k : ℕ) → slice_get (replicate p None ++ replicate w None) i ≡ Some (Some k) → ⊥
+fresh_fields p w i k e = elim (get-append_cases (replicate p None) (replicate w None) i (Some k) e) [ inl q ↦ nils p i k q | inr q ↦ nils w q.0 k q.1 ]
+
+fields_set : (g : Graph) (p w : List (Option ℕ)) (i : ℕ) (v : Option ℕ) → AreValues g (p ++ w) → IsValue g v → AreValues g (slice_set p i v ++ w)
+fields_set g p w i v each value j n e = elim (get-append_cases (slice_set p i v) w j (Some n) e) [
+  | inl q ↦ elim (get-set_cases p i j v (Some n) q) [ inl a ↦ value n (sym a) | inr a ↦ each j n (get-append_left p w j (Some n) a) ]
+  | inr q ↦ (let t = get-append_right p w q.0 (Some n) q.1 in each t.0 n t.1)
+]
+
+weaks_set : (g : Graph) (p w : List (Option ℕ)) (i : ℕ) (v : Option ℕ) → AreValues g (p ++ w) → IsValue g v → AreValues g (p ++ slice_set w i v)
+weaks_set g p w i v each value j n e = elim (get-append_cases p (slice_set w i v) j (Some n) e) [
+  | inl q ↦ each j n (get-append_left p w j (Some n) q)
+  | inr q ↦ elim (get-set_cases w i q.0 v (Some n) q.1) [ inl a ↦ value n (sym a) | inr a ↦ (let t = get-append_right p w q.0 (Some n) a in each t.0 n t.1) ]
+]
+
+module _ (g : Graph) (k : HoldsNames g) where
+  stays : (r : Reply) → ((v : Option ℕ) → r ≡ replies.Named v → ⊥) → Goes g (r, g)
+  stays r not = record { holds = k; first_name = refl; next_name = omega arith; replied = λ v e. absurd (not v e) }
+
+  rooted : (r : Reply) (j : ℕ) (v : Option ℕ) → IsValue g v → ((u : Option ℕ) → r ≡ replies.Named u → u ≡ v) → Goes g (r, with_root g j v)
+  rooted r j v value same = record { holds = root_holds g j v k value; first_name = refl; next_name = omega arith; replied = λ u e n q. value n (sym (same u e) ∙ q) }
+
+  added : (x : Object) (j : ℕ) → ((i n : ℕ) → slice_get (object_fields x) i ≡ Some (Some n) → ⊥) → Goes g (replies.Named (Some (next_name g)), with_object g x j)
+  added x j nil =
+      let e = length-push g.objects x in
+      record {
+        holds = object_holds g x j k nil;
+        first_name = refl;
+        next_name = omega arith;
+        replied = λ v q n r. let same : n ≡ next_name g = cc in ((omega arith), (omega arith));
+      }
+
+  changed : (name : ℕ) (y : Object) → AreValues g (object_fields y) → Goes g (replies.Done, with_changed g name y)
+  changed name y each =
+      let e = length-set g.objects (name - g.first_name) y in
+      record { holds = changed_holds g name y k each; first_name = refl; next_name = omega arith; replied = λ v q. cc }
+
+  values_at : (p : ℕ) (x : Object) → slice_get g.objects p ≡ Some x → AreValues g (object_fields x)
+  values_at p x at i n e = k n (AtField p i x at e)
+
+  pointer_value : (p : ℕ) (x : Object) (i : ℕ) (v : Option ℕ) → slice_get g.objects p ≡ Some x → slice_get x.pointers i ≡ Some v → IsValue g v
+  pointer_value p x i v at e n q = values_at p x at i n (get-append_left x.pointers x.weaks i (Some n) (e ∙ ap Some q))
+
+  weak_value : (p : ℕ) (x : Object) (i : ℕ) (v : Option ℕ) → slice_get g.objects p ≡ Some x → slice_get x.weaks i ≡ Some v → IsValue g v
+  weak_value p x i v at e n q = let t = get-append_right x.pointers x.weaks i (Some n) (e ∙ ap Some q) in values_at p x at t.0 n t.1
+
+  nil_stays : Goes g (refused g refusals.Nil)
+  nil_stays = stays (replies.Refused refusals.Nil) (λ v e. cc)
+
+  none_stays : Goes g (refused g refusals.NoField)
+  none_stays = stays (replies.Refused refusals.NoField) (λ v e. cc)
+
+  act_goes : (m : ℕ) (a : Action) → Goes g (act g m a)
+  act_goes m (actions.New to p d) =
+      cond_law (Goes g) (nat_lt g.room (2 + p + d)) (refused g refusals.TooBig) _ (stays (replies.Refused refusals.TooBig) (λ v e. cc))
+      (cond_law (Goes g) (next_name g == 2 ^ 64 - 1) (refused g refusals.NamesSpent) _ (stays (replies.Refused refusals.NamesSpent) (λ v e. cc))
+      (added (record { pointers = replicate p None; weaks = []; values = replicate d 0 }) (register_place m to.number) (λ i n e. fresh_fields p 0 i n e)))
+  act_goes m (actions.Get to object i) = name_law (Goes g) g (root_at g (register_place m object.number)) _ nil_stays (λ n x at. field_law (Goes g) g (slice_get x.pointers i) _ none_stays (λ v e. rooted (replies.Named v) (register_place m to.number) v (pointer_value (n - g.first_name) x i v at e) (λ u q. cc)))
+  act_goes m (actions.Put object i value) = name_law (Goes g) g (root_at g (register_place m object.number)) _ nil_stays (λ n x at. field_law (Goes g) g (slice_get x.pointers i) _ none_stays (λ v e. changed n (record x { pointers = slice_set x.pointers i (stored g m value) }) (fields_set g x.pointers x.weaks i (stored g m value) (values_at (n - g.first_name) x at) (stored_value g k m value))))
+  act_goes m (actions.Read object i) = name_law (Goes g) g (root_at g (register_place m object.number)) _ nil_stays (λ n x at. field_law (Goes g) g (slice_get x.values i) _ none_stays (λ v e. stays (replies.Word v) (λ u q. cc)))
+  act_goes m (actions.Write object i value) = name_law (Goes g) g (root_at g (register_place m object.number)) _ nil_stays (λ n x at. field_law (Goes g) g (slice_get x.values i) _ none_stays (λ v e. changed n (record x { values = slice_set x.values i value }) (values_at (n - g.first_name) x at)))
+  act_goes m (actions.Move to from) = rooted replies.Done (register_place m to.number) (root_at g (register_place m from.number)) (root_value g k (register_place m from.number)) (λ u q. cc)
+  act_goes m (actions.Drop register) = rooted replies.Done (register_place m register.number) None (λ n e. cc) (λ u q. cc)
+  act_goes m (actions.Load to from) = rooted (replies.Named (root_at g from.number)) (register_place m to.number) (root_at g from.number) (root_value g k from.number) (λ u q. cc)
+  act_goes m (actions.Save to from) = rooted replies.Done to.number (root_at g (register_place m from.number)) (root_value g k (register_place m from.number)) (λ u q. cc)
+  act_goes m (actions.Shape object) = name_law (Goes g) g (root_at g (register_place m object.number)) _ nil_stays (λ n x at. stays (replies.Shape (length x.pointers) (length x.values)) (λ u q. cc))
+  act_goes m (actions.NewWeak to p w d) =
+      cond_law (Goes g) (nat_lt g.room (2 + p + w + d)) (refused g refusals.TooBig) _ (stays (replies.Refused refusals.TooBig) (λ v e. cc))
+      (cond_law (Goes g) (next_name g == 2 ^ 64 - 1) (refused g refusals.NamesSpent) _ (stays (replies.Refused refusals.NamesSpent) (λ v e. cc))
+      (added (record { pointers = replicate p None; weaks = replicate w None; values = replicate d 0 }) (register_place m to.number) (λ i n e. fresh_fields p w i n e)))
+  act_goes m (actions.GetWeak to object i) = name_law (Goes g) g (root_at g (register_place m object.number)) _ nil_stays (λ n x at. field_law (Goes g) g (slice_get x.weaks i) _ none_stays (λ v e. rooted (replies.Named v) (register_place m to.number) v (weak_value (n - g.first_name) x i v at e) (λ u q. cc)))
+  act_goes m (actions.PutWeak object i value) = name_law (Goes g) g (root_at g (register_place m object.number)) _ nil_stays (λ n x at. field_law (Goes g) g (slice_get x.weaks i) _ none_stays (λ v e. changed n (record x { weaks = slice_set x.weaks i (stored g m value) }) (weaks_set g x.pointers x.weaks i (stored g m value) (values_at (n - g.first_name) x at) (stored_value g k m value))))
+  act_goes m (actions.Weaks object) = name_law (Goes g) g (root_at g (register_place m object.number)) _ nil_stays (λ n x at. stays (replies.Word (length x.weaks)) (λ u q. cc))
+
+-- the snapshot stays earlier as the graph goes on
+earlier_on : (s : Option Graph) (g h : Graph) → h.first_name ≡ g.first_name → next_name g ≤ next_name h → ForSnapshot s (λ t. IsEarlier t g) → ForSnapshot s (λ t. IsEarlier t h)
+earlier_on None g h f l k = tt
+earlier_on (Some s) g h f l k = let a = k.next_name in record { holds = k.holds; first_name = k.first_name ∙ sym f; next_name = omega arith }
+
+touch_on : (s : Option Graph) (g : Graph) (a : Action) (r : Reply) → ForSnapshot s (λ t. IsEarlier t g) → ((v : Option ℕ) → r ≡ replies.Named v → IsValue g v) → ForSnapshot (snapshot_after s a r) (λ t. IsEarlier t g)
+touch_on None g a r k value = tt
+touch_on (Some s) g (actions.GetWeak to object i) (replies.Named v) k value = touched_earlier s g v k (value v refl)
+touch_on (Some s) g (actions.GetWeak to object i) replies.Done k value = k
+touch_on (Some s) g (actions.GetWeak to object i) (replies.Word w) k value = k
+touch_on (Some s) g (actions.GetWeak to object i) (replies.Shape p d) k value = k
+touch_on (Some s) g (actions.GetWeak to object i) (replies.Marked n) k value = k
+touch_on (Some s) g (actions.GetWeak to object i) (replies.Reclaimed n) k value = k
+touch_on (Some s) g (actions.GetWeak to object i) (replies.Refined n) k value = k
+touch_on (Some s) g (actions.GetWeak to object i) (replies.Moved n w) k value = k
+touch_on (Some s) g (actions.GetWeak to object i) (replies.Refused why) k value = k
+touch_on (Some s) g (actions.New to p d) r k value = k
+touch_on (Some s) g (actions.Get to object i) r k value = k
+touch_on (Some s) g (actions.Put object i v) r k value = k
+touch_on (Some s) g (actions.Read object i) r k value = k
+touch_on (Some s) g (actions.Write object i v) r k value = k
+touch_on (Some s) g (actions.Move to from) r k value = k
+touch_on (Some s) g (actions.Drop register) r k value = k
+touch_on (Some s) g (actions.Load to from) r k value = k
+touch_on (Some s) g (actions.Save to from) r k value = k
+touch_on (Some s) g (actions.Shape object) r k value = k
+touch_on (Some s) g (actions.NewWeak to p w d) r k value = k
+touch_on (Some s) g (actions.PutWeak object i v) r k value = k
+touch_on (Some s) g (actions.Weaks object) r k value = k
+
+acts_sound : (old new : State) (o : Op) (r : Reply) → IsSoundState old → (r, new.graph) ≡ outcome_of old.graph o → new.snapshot ≡ snapshot_after old.snapshot o.action r → IsSoundState new
+acts_sound old new o r k e s =
+    let goes : Goes old.graph (r, new.graph) = subst (Goes old.graph) (sym e) (act_goes old.graph k.graph o.mutator o.action) in
+    record {
+      graph = goes.holds;
+      snapshot = subst (λ (t : Option Graph). ForSnapshot t (λ u. IsEarlier u new.graph)) (sym s)
+          (touch_on old.snapshot new.graph o.action r (earlier_on old.snapshot old.graph new.graph goes.first_name goes.next_name k.snapshot) goes.replied);
+    }
+
+same_sound : (old new : State) → IsSoundState old → new ≡ old → IsSoundState new
+same_sound old new k e = subst IsSoundState (sym e) k
+
+clears_sound : (s : Option Graph) (g h : Graph) → ClearsBy s g h → HoldsNames g → HoldsNames h
+clears_sound None g h c k = subst HoldsNames (sym c) k
+clears_sound (Some s) g h c k = cleared_holds s g h c k
+
+collects_sound : (old new : State) (k : CollectorStep) (r : Reply) → IsSoundState old → Collects old k r new → IsSoundState new
+collects_sound old new k r sound c = elim (kind old k r) [
+  | inl t ↦ subst IsSoundState (sym (t new c)) (record { graph = sound.graph; snapshot = record { holds = sound.graph; first_name = refl; next_name = omega arith } })
+  | inr u ↦ elim u [
+    | inl g ↦ record {
+      graph = clears_sound old.snapshot old.graph new.graph (g new c).1 sound.graph;
+      snapshot = subst (λ (t : Option Graph). ForSnapshot t (λ u. IsEarlier u new.graph)) (sym (g new c).0) tt;
+    }
+    | inr n ↦ same_sound old new sound (n new c)
+  ]
+]
+
+pub happens_sound : (old new : State) (s : Step) (r : Reply) → IsSoundState old → Happens old s r new → IsSoundState new
+happens_sound old new (steps.Mutator o) r k (inl h) = acts_sound old new o r k h.0 h.1
+happens_sound old new (steps.Mutator o) r k (inr h) = same_sound old new k h.2
+happens_sound old new (steps.Collector c) r k h = collects_sound old new c r k h.1
+
+pub run_sound : (es : List Event) (first last : State) → IsSoundState first → IsRun first es last → IsSoundState last
+run_sound [] first last k run = same_sound first last k run
+run_sound (e ∷ es) first last k run = run_sound es run.0 last (happens_sound first run.0 e.step e.reply k run.1) run.2
+
+pub first_sound : (c : Config) → IsSoundState (first_state c)
+first_sound c = record { graph = λ n o. absurd (nowhere n o); snapshot = tt }
+  where
+    nowhere : (n : ℕ) → Occurs (first_graph c) n → ⊥
+    nowhere n (AtRoot j e) = nils (16 + 8 * c.mutators) j n e
+    nowhere n (AtField p i x at e) = cc
+
+-- a run keeps the number of mutators
+same_mutators : (a b : State) → a ≡ b → a.graph.mutators ≡ b.graph.mutators
+same_mutators a b e = ap (λ (t : State). t.graph.mutators) e
+
+cleared_mutators : (s : Option Graph) (g h : Graph) → ClearsBy s g h → h.mutators ≡ g.mutators
+cleared_mutators None g h c = ap (λ (t : Graph). t.mutators) c
+cleared_mutators (Some s) g h c = c.mutators
+
+collects_mutators : (old new : State) (k : CollectorStep) (r : Reply) → Collects old k r new → new.graph.mutators ≡ old.graph.mutators
+collects_mutators old new k r c = elim (kind old k r) [
+  | inl t ↦ ap (λ (t : State). t.graph.mutators) (t new c)
+  | inr u ↦ elim u [
+    | inl g ↦ cleared_mutators old.snapshot old.graph new.graph (g new c).1
+    | inr n ↦ same_mutators new old (n new c)
+  ]
+]
+
+pub happens_mutators : (old new : State) (s : Step) (r : Reply) → Happens old s r new → new.graph.mutators ≡ old.graph.mutators
+happens_mutators old new (steps.Mutator o) r (inl h) = ap (λ (x : Outcome). x.1.mutators) h.0 ∙ outcome_of-mutators old.graph o
+happens_mutators old new (steps.Mutator o) r (inr h) = same_mutators new old h.2
+happens_mutators old new (steps.Collector c) r h = collects_mutators old new c r h.1
+
+pub run_mutators : (es : List Event) (first last : State) → IsRun first es last → last.graph.mutators ≡ first.graph.mutators
+run_mutators [] first last run = same_mutators last first run
+run_mutators (e ∷ es) first last run = run_mutators es run.0 last run.2 ∙ happens_mutators first run.0 e.step e.reply run.1

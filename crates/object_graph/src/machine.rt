@@ -1,0 +1,205 @@
+//! The graph with its snapshot, which takes events.
+
+ghost use Rattle.std.specs.Prelude.{◌≡◌, ◌<◌, ◌++◌, Some, None, reverse, IsTrue, IfOk, OnOk, ◌↔◌};
+ghost use Rattle.heap_model.specs.Graph as model;
+ghost use Rattle.heap_model.specs.Weak.{touched, AreReached};
+ghost use Rattle.object_graph.specs.State.{State, HoldsNames, IsSoundState, first_state};
+ghost use Rattle.object_graph.specs.Reached.{flag_of};
+ghost use Rattle.object_graph.specs.Run.{IsCollectorReply, Happens, Collects, ClearsBy, EventHappens, ForMutator, snapshot_after};
+
+use crate::graph::Graph;
+use crate::step::{Action, CollectorStep, Event, Op, Refusal, Reply, Step};
+use heap_words::config::Config;
+use std::alloc::{AllocError, Global};
+use std::marker::Model;
+
+/// The graph when marking began, and the names that were touched since then, last first.
+#[derive(Debug, Drop)]
+struct Snapshot {
+    graph: Graph,
+    touched: Vec<Option<u64>>,
+}
+
+impl Model for Snapshot {
+    ghost Value = { model.Graph };
+
+    ghost view = { λ s. record s.graph { roots = reverse s.touched.items ++ s.graph.roots } };
+}
+
+impl Snapshot {
+    /// The present graph, with nothing touched.
+    fn of(graph: &Graph, alloc: Global) -> Result<Snapshot, AllocError>
+        ensures { IfOk result (λ s. s ≡ graph.now) }
+    {
+        Ok(Snapshot {
+            graph: graph.copy()?,
+            touched: Vec::new(alloc),
+        })
+    }
+
+    /// A name that a getweak replied with is touched, if it is one of the snapshot's.
+    fn touch(&mut self, name: Option<u64>) -> Result<(), AllocError>
+        ensures { OnOk result (self.new ≡ touched self.old name) }
+    {
+        let Some(name) = name else {
+            return Ok(());
+        };
+        if name < self.graph.next_name() {
+            self.touched.push(Some(name))?;
+        }
+        Ok(())
+    }
+
+    /// A flag for each object: whether it is reachable from a root or a touched name.
+    fn reached(&self) -> Result<Vec<bool>, AllocError>
+        requires { HoldsNames self.now }
+        ensures { IfOk result (λ flags. AreReached self.now (flag_of self.now.first_name flags.items)) }
+    {
+        self.graph.search(self.touched.as_slice())
+    }
+}
+
+/// The graph, and while a snapshot is kept, that.
+#[derive(Debug, Drop)]
+pub(crate) struct Machine {
+    alloc: Global,
+    graph: Graph,
+    snapshot: Option<Snapshot>,
+}
+
+impl Model for Machine {
+    ghost Value = { State };
+
+    ghost view = { λ m. record { graph = m.graph; snapshot = m.snapshot } };
+}
+
+impl Machine {
+    /// The state of a new heap.
+    pub(crate) fn new(alloc: Global, config: &Config) -> Result<Machine, AllocError>
+        ensures { IfOk result (λ m. m ≡ first_state config.now) }
+    {
+        Ok(Machine {
+            alloc,
+            graph: Graph::new(alloc, config)?,
+            snapshot: None,
+        })
+    }
+
+    /// Takes the snapshot.
+    fn begin(&mut self) -> Result<(), AllocError>
+        ensures { OnOk result (self.new ≡ record { graph = self.old.graph; snapshot = Some self.old.graph }) }
+    {
+        let snapshot = Snapshot::of(&self.graph, self.alloc)?;
+        self.snapshot = Some(snapshot);
+        Ok(())
+    }
+
+    /// Clears weak slots by the snapshot, and gives it up.
+    fn remark(&mut self) -> Result<(), AllocError>
+        requires { IsSoundState self.old }
+        ensures cleared { OnOk result (ClearsBy self.old.snapshot self.old.graph self.new.graph) }
+        ensures given_up { OnOk result (self.new.snapshot ≡ None) }
+    {
+        let Some(snapshot) = self.snapshot.take() else {
+            return Ok(());
+        };
+        let flags = snapshot.reached()?;
+        let limit = snapshot.graph.next_name();
+        self.graph.clear(limit, flags.as_slice());
+        Ok(())
+    }
+
+    /// What a mutator's step does to the snapshot.
+    fn touch(&mut self, action: Action, reply: Reply) -> Result<(), AllocError>
+        ensures { OnOk result (self.new ≡ record self.old { snapshot = snapshot_after self.old.snapshot action reply }) }
+    {
+        let Action::GetWeak { .. } = action else {
+            return Ok(());
+        };
+        let Reply::Named(name) = reply else {
+            return Ok(());
+        };
+        let Some(snapshot) = &mut self.snapshot else {
+            return Ok(());
+        };
+        snapshot.touch(name)
+    }
+
+    fn collect(&mut self, step: CollectorStep, reply: Reply) -> Result<(), AllocError>
+        requires sound { IsSoundState self.old }
+        requires reply { IsCollectorReply step reply }
+        ensures { OnOk result (Collects self.old step reply self.new) }
+    {
+        match step {
+            CollectorStep::Begin => {
+                if reply == Reply::Done {
+                    self.begin()?;
+                }
+                Ok(())
+            }
+            CollectorStep::Remark => {
+                if let Reply::Marked(_) = reply {
+                    self.remark()?;
+                }
+                Ok(())
+            }
+            _ => Ok(()),
+        }
+    }
+
+    /// Takes an event, if it may happen: then the state is the one after it. Once an event may not happen or memory was
+    /// refused, the state is no longer that of the events.
+    pub(crate) fn take(&mut self, event: &Event) -> Result<bool, AllocError>
+        requires mutator { ForMutator event.now.step (λ o. o.mutator < self.old.graph.mutators) }
+        requires sound { IsSoundState self.old }
+        ensures yes { IfOk result (λ yes. IsTrue yes → EventHappens self.old event.now self.new) }
+        ensures no { IfOk result (λ yes. (after : State) → EventHappens self.old event.now after → IsTrue yes) }
+    {
+        match event.step {
+            Step::Collector(step) => {
+                if !is_collector_reply(step, event.reply) {
+                    return Ok(false);
+                }
+                self.collect(step, event.reply)?;
+                Ok(true)
+            }
+            Step::Mutator(op) => self.serve(op, event.reply),
+        }
+    }
+
+    /// The same of a mutator's step.
+    fn serve(&mut self, op: Op, reply: Reply) -> Result<bool, AllocError>
+        requires { op.mutator < self.old.graph.mutators }
+        ensures yes { IfOk result (λ yes. IsTrue yes → Happens self.old (Step.Mutator op) reply self.new) }
+        ensures no { IfOk result (λ yes. (after : State) → Happens self.old (Step.Mutator op) reply after → IsTrue yes) }
+    {
+        if reply == Reply::Refused(Refusal::Full) {
+            return Ok(self.graph.creates(op));
+        }
+        let given = self.graph.apply(op)?;
+        self.touch(op.action, reply)?;
+        Ok(given == reply)
+    }
+}
+
+/// Whether a step of the collector may have the reply.
+fn is_collector_reply(step: CollectorStep, reply: Reply) -> bool
+    ensures { IsTrue result ↔ IsCollectorReply step reply }
+{
+    match step {
+        CollectorStep::Begin => matches!(reply, Reply::Done | Reply::Refused(Refusal::MarkRunning)),
+        CollectorStep::Mark(_) => {
+            matches!(reply, Reply::Done | Reply::Refused(Refusal::NotMarking))
+        }
+        CollectorStep::Remark => matches!(
+            reply,
+            Reply::Marked(_) | Reply::Refused(Refusal::NotMarking)
+        ),
+        CollectorStep::Cleanup => matches!(
+            reply,
+            Reply::Reclaimed(_) | Reply::Refused(Refusal::MarkRunning)
+        ),
+        CollectorStep::Refine(_) => matches!(reply, Reply::Refined(_)),
+        CollectorStep::Pause(_) => matches!(reply, Reply::Moved { .. }),
+    }
+}

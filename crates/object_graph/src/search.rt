@@ -1,0 +1,98 @@
+//! The search for what is reachable: a flag for each object, and a queue of those to be looked at.
+
+ghost use Rattle.std.specs.Prelude.{◌≡◌, false, [], replicate, length, IfOk, OnOk};
+
+use crate::object::Object;
+use std::alloc::{AllocError, Global};
+use std::marker::Model;
+
+#[derive(Debug, Drop)]
+pub(crate) struct Search {
+    first_name: u64,
+    flags: Vec<bool>,
+    queue: Vec<usize>,
+}
+
+impl Model for Search {
+    ghost use Rattle.object_graph.specs.Reached as reached;
+
+    ghost Value = { reached.Search };
+
+    ghost view = { λ s. record { first_name = s.first_name; flags = s.flags.items; queue = s.queue.items } };
+}
+
+impl Search {
+    ghost use Rattle.object_graph.specs.Reached.{found, all_found, looked, searched};
+
+    /// Nothing is flagged.
+    pub(crate) fn new(alloc: Global, first_name: u64, count: usize) -> Result<Search, AllocError>
+        ensures { IfOk result (λ s. s ≡ record { first_name = first_name; flags = replicate count false; queue = [] }) }
+    {
+        Ok(Search {
+            first_name,
+            flags: vec![in alloc; false; count]?,
+            queue: Vec::new(alloc),
+        })
+    }
+
+    /// A name's object is flagged, and joins the queue if it wasn't.
+    fn find(&mut self, name: Option<u64>) -> Result<(), AllocError>
+        ensures { OnOk result (self.new ≡ found self.old name) }
+    {
+        let Some(name) = name else {
+            return Ok(());
+        };
+        if self.first_name > name {
+            return Ok(());
+        }
+        let place = (name - self.first_name) as usize;
+        let Some(flag) = self.flags.get(place).copied() else {
+            return Ok(());
+        };
+        if !flag {
+            self.flags[place] = true;
+            self.queue.push(place)?;
+        }
+        Ok(())
+    }
+
+    /// The same for each name of a list.
+    pub(crate) fn find_all(&mut self, names: &[Option<u64>]) -> Result<(), AllocError>
+        ensures { OnOk result (self.new ≡ all_found self.old names.now) }
+    {
+        for name in names {
+            self.find(*name)?;
+        }
+        Ok(())
+    }
+
+    /// What the pointers of the object name that stands in a place of the queue, if it has that place.
+    fn look(&mut self, objects: &[Object], next: usize) -> Result<(), AllocError>
+        ensures { OnOk result (self.new ≡ looked self.old objects.now next) }
+    {
+        let Some(place) = self.queue.get(next).copied() else {
+            return Ok(());
+        };
+        let Some(object) = objects.get(place) else {
+            return Ok(());
+        };
+        self.find_all(object.pointers.as_slice())
+    }
+
+    /// Every place of the queue is looked at, also those that join it.
+    pub(crate) fn look_at_all(&mut self, objects: &[Object]) -> Result<(), AllocError>
+        ensures { OnOk result (self.new ≡ searched self.old objects.now (length objects.now)) }
+    {
+        for next in 0..objects.len() {
+            self.look(objects, next)?;
+        }
+        Ok(())
+    }
+
+    /// The flags.
+    pub(crate) fn into_flags(self) -> Vec<bool>
+        ensures { result.items ≡ self.flags }
+    {
+        self.flags
+    }
+}

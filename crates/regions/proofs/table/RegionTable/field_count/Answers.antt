@@ -1,0 +1,14 @@
+use Rattle.std.proofs.Common.{arith, ◌∙◌}
+use Rattle.regions.proofs.ObjectWords.{object_there}
+use Rattle.regions.proofs.FieldAccess.{header_fields}
+use Rattle.regions.proofs.table.RegionTable.field_count.Goals as goal
+
+pub fields_in-requires : goal.fields_in-requires
+fields_in-requires c =
+    let o = object_there _ _ _ _ _ c.self.invariant c.self.view_is c.requires in
+    omega (arith, o.1.fits, o.1.large)
+
+pub returns : goal.returns
+returns c =
+    let o = object_there _ _ _ _ _ c.self.invariant c.self.view_is c.requires in
+    c.fields_in.ensures ∙ header_fields _ _ _ _ o.1

@@ -1,0 +1,16 @@
+use Rattle.std.proofs.Common.{◌≡◌, ◌*◌, ◌∙◌, arith, subst, ℕ}
+use Rattle.regions.specs.Walks.{IsLowest}
+use Rattle.std.proofs.Common.{Some, sym, refl}
+use Rattle.regions.proofs.Steps.{none_lowest, some_lowest}
+use Rattle.regions.proofs.table.RegionTable.lowest_tile.Goals as goal
+
+product : (x w k s : ℕ) → x ≡ k → w ≡ s → x * w ≡ k * s
+product x w k s e f = rw (e, f) refl
+
+pub returns-then-tile_words-eq0 : goal.returns-then-tile_words-eq0
+returns-then-tile_words-eq0 c = none_lowest _ _ _ c.tile_words.ensures c.if-tile_words-eq0.true
+
+pub returns : goal.returns
+returns c =
+    let at = c.new.ensures ∙ product _ _ _ _ c.number.ensures c.words_per_region.ensures in
+    subst (λ (n : ℕ). IsLowest c.args.self.now c.args.region (Some n)) (sym at) (some_lowest _ _ _ c.law.ensures c.tile_words.ensures (omega (arith, c.if-tile_words-eq0.false)))

@@ -1,0 +1,17 @@
+use Rattle.std.proofs.Common.{refl, ◌∙◌}
+use Rattle.heap_words.specs.Headers.{pointer_word}
+use Rattle.regions.proofs.FieldAccess.{field_read, field_written}
+use Rattle.regions.proofs.table.RegionTable.set_field.Goals as goal
+
+pub set_field-requires : goal.set_field-requires
+set_field-requires c = (field_read _ _ _ _ _ _ c.self.invariant c.self.view_is c.requires).in_words
+
+pub invariant_of-self : goal.invariant_of-self
+invariant_of-self c =
+    let w = field_written _ _ _ _ _ _ c.self.invariant c.self.view_is c.requires (pointer_word c.args.target) in
+    rw c.set_field.ensures.word w.is_table
+
+pub returns : goal.returns
+returns c =
+    let w = field_written _ _ _ _ _ _ c.self.invariant c.self.view_is c.requires (pointer_word c.args.target) in
+    rw c.set_field.ensures.word (w.table_is ∙ rw c.set_field.ensures.back refl)
