@@ -1,8 +1,8 @@
 -- What a placement changes.
-use Rattle.std.proofs.Common.{◌≡◌, ◌≢◌, ℕ, zero, suc, ◌+◌, ◌-◌, ◌*◌, ◌<◌, ◌≤◌, ◌⊎◌, Option, Some, None, List, ◌∷◌, length, refl, sym, ◌∙◌, ap, subst, arith, inl, inr}
+use Rattle.std.proofs.Common.{◌≡◌, ◌≢◌, ℕ, zero, suc, ◌+◌, ◌-◌, ◌*◌, ◌<◌, ◌≤◌, ◌⊎◌, Option, Some, None, List, [], ◌∷◌, length, refl, sym, ◌∙◌, ap, subst, arith, inl, inr}
 use Rattle.std.specs.Prelude.{slice_get, slice_set}
 use Rattle.std.proofs.lemmas.Bool.Decides.{leb_tells}
-use Rattle.std.proofs.lemmas.List.{length-set}
+use Rattle.std.proofs.lemmas.List.{length-set, get_or-set_other}
 use Rattle.std.proofs.lemmas.Option.{slice_get-get_or}
 use Rattle.std.proofs.Common.{get_or, replicate}
 use Rattle.std.proofs.lemmas.Bool.{cases_lt, cases_eq}
@@ -10,7 +10,7 @@ use Rattle.heap_model.proofs.Lists.{get-set_cases, get-set_same, get-set_other}
 use Rattle.regions.specs.Tiles.{Tile, Gap, tile_at, total_size}
 use Rattle.regions.specs.declared.row.Kind.TheVariants as kinds
 use Rattle.regions.specs.Walks.{AllPositive, AreFitting}
-use Rattle.regions.specs.Table.{Table, used_of, top_of, kind_of, first_free, taken, push_tile, replace_tile, gap, tile_in, object_at, HasNoMoved, EachMoved, tile_object}
+use Rattle.regions.specs.Table.{Table, Free, Ordinary, region_number, region_kind, used_of, top_of, kind_of, first_free, taken, push_tile, replace_tile, gap, tile_in, object_at, HasNoMoved, EachMoved, tile_object}
 use Rattle.regions.proofs.Placing.{Replaces, gap_replaced, Pushed, gap_push, region_taken}
 use Rattle.regions.proofs.Changes.{object_same}
 use Rattle.alloc_buffers.proofs.Above.{above_same, above_buffers, above_pushed, above_filler}
@@ -100,6 +100,7 @@ top_placed t t1 t2 b opens k w size a s none r p old count =
       words = refl;
       count = p.count ∙ r.count;
       in_use = λ j n h. r.in_use j n (sym (p.kinds_same j) ∙ h);
+      kinds_stay = λ j n. p.kinds_same j ∙ r.kinds_stay j n;
       above = λ limit h.
           let same = above_same t t1 b limit r.region_size r.count r.used h in
           let more = above_pushed t1 t2 b k a (Gap size) limit p same in
@@ -153,6 +154,7 @@ rest_placed t t2 t3 b b2 m k size rest a a2 s p z =
       words = s.words;
       count = p.count ∙ s.count;
       in_use = λ j n h. s.in_use j n (sym (p.kinds_same j) ∙ h);
+      kinds_stay = λ j n. p.kinds_same j ∙ s.kinds_stay j n;
       above = λ limit h.
           let first = s.above limit h in
           let more = above_pushed t2 t3 b2 k a2 (Gap rest) limit p first.1 in
@@ -164,6 +166,15 @@ rest_placed t t2 t3 b b2 m k size rest a a2 s p z =
             ]) more.1,
           );
     }
+
+-- a region that was in use stays what it is when another one is taken
+kind_taken : (t : Table) (k : ℕ) → first_free t ≡ Some k → (j : ℕ) → kind_of t j ≢ kinds.Free → kind_of (taken t (Some k)) j ≡ kind_of t j
+unfolding kind_of region_number
+kind_taken t k first j n =
+    elim (cases_eq j k) [
+      | inl e ↦ absurd (n (ap (kind_of t) e ∙ (region_taken t k first).was))
+      | inr e ↦ ap region_kind (get_or-set_other t.regions k j (Ordinary []) Free e)
+    ]
 
 pub fresh_is : (t t' : Table) (k n w : ℕ) → Some k ≡ first_free t → t' ≡ taken t (first_free t) → w ≤ t.words_per_region → n ≡ k → HasRoom t t' n w
 fresh_is t t' k n w first is small same =
@@ -177,6 +188,7 @@ fresh_is t t' k n w first is small same =
       unmoved = u.unmoved;
       kinds_same = u.kinds_same;
       in_use = u.in_use;
+      kinds_stay = kind_taken t k (sym first);
       count = u.count;
       tiles = u.others;
       used = u.used;
@@ -262,6 +274,7 @@ split_placed t t' b m size x s none z fitting here p le is =
       words = refl;
       count = w.count;
       in_use = λ j n h. n (sym (w.kinds_same j) ∙ h);
+      kinds_stay = λ j n. w.kinds_same j;
       above = λ limit h.
           let old : IsAbove t.words_per_region limit x.next = h.buffers m x here in
           let same = above_same t t' b limit w.size w.count w.used h in (

@@ -109,8 +109,9 @@ pub record IsPlaced (t t' : Table) (b b' : Buffers) (size a : ℕ) : Type 0 wher
   pub open_count : length b'.open_buffers ≡ length b.open_buffers
   pub words : b'.words ≡ b.words
   pub count : length t'.regions ≡ length t.regions
-  -- each region in use stays in use
+  -- each region in use stays in use, and what it is
   pub in_use : (j : ℕ) → kind_of t j ≢ kinds.Free → kind_of t' j ≢ kinds.Free
+  pub kinds_stay : (j : ℕ) → kind_of t j ≢ kinds.Free → kind_of t' j ≡ kind_of t j
   -- whatever limits all that was to be handed out lay above: so does the place, and all that is still to be handed out
   pub above : (limit : ℕ → ℕ) → AreAbove t b limit → IsAbove t.words_per_region limit a × AreAbove t' b' limit
 
@@ -123,6 +124,7 @@ pub record HasRoom (t t' : Table) (k w : ℕ) : Type 0 where
   pub unmoved : HasNoMoved t → HasNoMoved t'
   pub kinds_same : (j : ℕ) → kind_of t j ≡ kinds.Ordinary → kind_of t' j ≡ kinds.Ordinary
   pub in_use : (j : ℕ) → kind_of t j ≢ kinds.Free → kind_of t' j ≢ kinds.Free
+  pub kinds_stay : (j : ℕ) → kind_of t j ≢ kinds.Free → kind_of t' j ≡ kind_of t j
   pub count : length t'.regions ≡ length t.regions
   pub tiles : (y : ℕ) → tile_in t' y ≡ tile_in t y
   pub used : (j : ℕ) → used_of t' j ≡ used_of t j

@@ -182,6 +182,16 @@ impl AllocBuffers {
         forget(&mut self.open_buffers);
     }
 
+    /// All buffers are forgotten, and no region is current.
+    pub fn close_all(&mut self)
+        ensures closed { self.new ≡ closed self.old.words (length self.old.open_buffers) }
+        ensures stand { (t : Table) → BuffersStand t self.new }
+        ensures above { (t : Table) (limit : ℕ → ℕ) → ((k : ℕ) → k < length t.regions → limit k ≤ top_of t k) → AreAbove t self.new limit }
+    {
+        self.retire_all();
+        self.current = None;
+    }
+
     /// Whether a region is the one that buffers are cut from.
     pub fn is_current(&self, region: RegionNo) -> bool
         ensures { IsTrue result ↔ (self.now.current ≡ Some region) }

@@ -15,7 +15,7 @@ step_yet c (steps.Collector (collector.Mark k)) owned yet = tt
 step_yet c (steps.Collector collector.Remark) owned yet = tt
 step_yet c (steps.Collector collector.Cleanup) owned yet = tt
 step_yet c (steps.Collector (collector.Refine k)) owned yet = tt
-step_yet c (steps.Collector (collector.Pause k)) owned yet = absurd (cc)
+step_yet c (steps.Collector (collector.Pause k)) owned yet = tt
 
 pub steps_yet : (c : Config) (ss : List Step) → All (IsStep c) ss → All (λ s. IsTrue (is_step_yet s)) ss → All (IsStepYet c) ss
 steps_yet c ss owned yet = λ k d within. step_yet c _ (owned k d within) (yet k d within)

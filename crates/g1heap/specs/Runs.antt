@@ -7,11 +7,12 @@ use Rattle.object_graph.specs.State.{first_state}
 use Rattle.object_graph.specs.Run.{IsRun}
 use Rattle.script_text.specs.Lines.{script_of, FailsBy}
 use Rattle.script_text.specs.Records.{record_text}
-use Rattle.step_core.specs.Histories.{step_of, actor_in, actor_of, IsRunFault}
+use Rattle.step_core.specs.Histories.{step_of, actor_in, actor_of, IsRunFault, RunsFromNew}
 use Rattle.g1heap.specs.declared.script.ScriptFault.{ScriptFault}
 use Rattle.g1heap.specs.declared.script.ScriptFault.TheVariants.{Read, Line, Run, Write}
 
--- the input is a script, and the record has its heap line and its steps, each with its actor, and is a run of the graph
+-- the input is a script, and the record has its heap line and its steps, each with its actor. It is a run of the graph, and the events are
+-- those of a new heap's cores
 pub record IsScriptRun (input : List ℕ) (r : EventList) : Type 0 where
   pub plan : StepList
   pub read : script_of input ≡ Ok plan
@@ -20,6 +21,7 @@ pub record IsScriptRun (input : List ℕ) (r : EventList) : Type 0 where
   pub actors : map actor_in r.events ≡ map actor_of plan.steps
   pub last : Graph
   pub run : IsRun (first_state r.config) r.events last
+  pub history : RunsFromNew r.config r.events
 
 -- the text of such a record was written, and no more
 abbrev pub WritesRecord : List ℕ → Option (List ℕ) → Option (List ℕ) → Type 0

@@ -22,7 +22,7 @@ pub stands_step : (t : Table) (m m' : Marker) → MarkerStands t m → m.running
     → ((a : ℕ) → Contains (logged m'.logs) a → Contains (logged m.logs) a)
     → MarksObjects t m.tams.next m'.bitmaps.next → IsFinger m'.bitmaps.next m'.grey
     → ((a : ℕ) → is_marked m'.bitmaps.next a ≡ true → (is_marked m.bitmaps.next a ≡ true) ⊎ IsKept t m a)
-    → ((a : ℕ) → is_marked m'.grey.scanned a ≡ true → is_marked m'.bitmaps.next a ≡ true) → m'.scans ≡ marked_count m'.grey.scanned
+    → ((a : ℕ) → is_marked m'.grey.scanned a ≡ true → is_marked m'.bitmaps.next a ≡ true) → m'.scans.since ≡ marked_count m'.grey.scanned
     → MarkerStands t m'
 stands_step t m m' st run same scanned len logs next finger came scanned_marked counted =
     let f = st.follows run in

@@ -17,6 +17,7 @@ use Rattle.mark_bitmap.specs.Grey.{Scans, IsFinger, is_grey}
 use Rattle.mark_bitmap.proofs.Counts.{marked_count-set}
 use Rattle.satb_log.specs.Logs.{logged}
 use Rattle.marker.specs.Views.{heap_of, marking_of}
+use Rattle.marker.specs.Counts.{added}
 use Rattle.marker.specs.Stands.{MarkerStands, CanFollow, IsKept}
 use Rattle.marker.specs.Steps.{KeepsSnapshots, SameRoles, IsAmong}
 use Rattle.marker.specs.declared.marker.Marker.{Marker}
@@ -42,7 +43,7 @@ with_grey m g = record { bitmaps = m.bitmaps; tams = m.tams; grey = g; logs = m.
 
 -- and one scan more
 abbrev pub with_scan : Marker → Scans → Marker
-with_scan m g = record { bitmaps = m.bitmaps; tams = m.tams; grey = g; logs = m.logs; running = m.running; scans = m.scans + 1 }
+with_scan m g = record { bitmaps = m.bitmaps; tams = m.tams; grey = g; logs = m.logs; running = m.running; scans = added m.scans }
 
 -- where a pointer of a marked object leads is kept
 pub target_kept : (t : Table) (m : Marker) (object place a : ℕ) → CanFollow t m → is_marked m.bitmaps.next object ≡ true
@@ -66,7 +67,7 @@ grey_within t m object st grey =
     ]
 
 -- no more objects are scanned than there are addresses
-pub scans_fit : (t : Table) (m : Marker) → IsShaped t → MarkerStands t m → m.running ≡ true → m.scans < 2 ^ 32 - 1
+pub scans_fit : (t : Table) (m : Marker) → IsShaped t → MarkerStands t m → m.running ≡ true → m.scans.since < 2 ^ 32 - 1
 scans_fit t m shape st run =
     omega (arith, st.counted run, count_by-le-length (λ b. b) m.grey.scanned, st.scanned, st.next.each_word, shape.in_all)
 

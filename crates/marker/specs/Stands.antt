@@ -35,4 +35,4 @@ pub record MarkerStands (t : Table) (m : Marker) : Type 0 where
   pub idle : m.running ≡ false → logged m.logs ≡ []
   -- scanned objects are marked, and counted
   pub scanned_marked : m.running ≡ true → (a : ℕ) → is_marked m.grey.scanned a ≡ true → is_marked m.bitmaps.next a ≡ true
-  pub counted : m.running ≡ true → m.scans ≡ marked_count m.grey.scanned
+  pub counted : m.running ≡ true → m.scans.since ≡ marked_count m.grey.scanned

@@ -28,6 +28,7 @@
 //! call takes memory but `Marker::new`.
 #![tactic(auto)]
 
+pub mod counts;
 mod cycle;
 pub mod laws;
 pub mod marker;

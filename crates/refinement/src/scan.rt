@@ -27,7 +27,7 @@ use regions::{RegionTable, Shape};
 use remembered_sets::RememberedSets;
 
 /// Whether the tile at an address is a kept object.
-fn is_kept(table: &RegionTable, tams: &Tams, marks: &Marks, at: Addr, shape: Shape) -> bool
+pub fn is_kept(table: &RegionTable, tams: &Tams, marks: &Marks, at: Addr, shape: Shape) -> bool
     requires tile { IsPlacedTile table.now at shape }
     requires marks { length marks.now ≡ length table.now.regions * table.now.words_per_region }
     ensures { IsTrue result ↔ IsSome (kept_in table.now tams.now marks.now at) }

@@ -1,2 +1,3 @@
 pub mod Covered
+pub mod Flagging
 pub mod Laws

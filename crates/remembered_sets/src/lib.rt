@@ -19,6 +19,7 @@
 //! more than was added, never less, and no call but the making takes memory or fails.
 #![tactic(auto)]
 
+mod flags;
 mod set;
 pub mod sets;
 

@@ -1,8 +1,9 @@
 //! The remembered set of one region.
 
-ghost use Rattle.std.specs.Prelude.{◌≡◌, ◌<◌, IfOk, length};
+ghost use Rattle.std.specs.Prelude.{◌≡◌, ◌||◌, ◌<◌, ◌*◌, ◌/◌, ℕ, All, false, IfOk, length, slice_index_or};
 ghost use Rattle.remembered_sets.specs.Sets.{empty_set, set_covers, set_with};
 
+use crate::flags::{flag_each, flag_sources};
 use heap_words::addr::Card;
 use smallvec::SmallVec;
 use std::alloc::{AllocError, Global};
@@ -62,6 +63,18 @@ impl RememberedSet {
         } else {
             self.sources[source as usize] = true;
         }
+    }
+
+    /// Flags the cards that the set covers, and leaves the other flags.
+    pub(crate) fn mark(&self, cards_per_region: u32, flags: &mut [bool])
+        requires some_cards { 0 < cards_per_region }
+        requires known { All (λ c. c < length flags.old) self.now.inline }
+        requires each { length flags.old ≡ length self.now.sources * cards_per_region }
+        ensures flags { (c : ℕ) → slice_index_or flags.new c false ≡ (slice_index_or flags.old c false || set_covers self.now c (c / cards_per_region)) }
+        ensures len { length flags.new ≡ length flags.old }
+    {
+        flag_each(flags, self.inline.as_slice());
+        flag_sources(flags, &self.sources, cards_per_region);
     }
 
     /// The set is empty.

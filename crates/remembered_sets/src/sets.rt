@@ -6,7 +6,7 @@
 //!   sources     -     3            -     -        card c lies in region c / cards_per_region
 //! ```
 
-ghost use Rattle.std.specs.Prelude.{◌≡◌, ◌≢◌, ◌⊎◌, ◌/◌, ◌<◌, All, ℕ, false, true, IfOk, length, List};
+ghost use Rattle.std.specs.Prelude.{◌≡◌, ◌≢◌, ◌⊎◌, ◌||◌, ◌/◌, ◌<◌, All, ℕ, false, true, IfOk, length, slice_index_or, List};
 ghost use Rattle.remembered_sets.specs.Sets.{added, after_all, card_count, cleared, covers, empty_sets, set_of, Change, AreSets, LeavesSet, Sets};
 
 use crate::set::RememberedSet;
@@ -82,6 +82,18 @@ impl RememberedSets {
         let source = card.number() / self.cards_per_region;
         let set = &mut self.sets[region.number() as usize];
         set.add(card, source);
+    }
+
+    /// Flags the cards that the region's set covers, and leaves the other flags. It looks at the set's own cards and at
+    /// those of the regions that it marks.
+    pub fn mark_cards(&self, region: RegionNo, flags: &mut [bool])
+        requires region { region < length self.now.sets }
+        requires each { length flags.old ≡ card_count self.now }
+        ensures flags { (c : ℕ) → c < length flags.new → slice_index_or flags.new c false ≡ (slice_index_or flags.old c false || covers self.now region c) }
+        ensures len { length flags.new ≡ length flags.old }
+    {
+        let set = &self.sets[region.number() as usize];
+        set.mark(self.cards_per_region, flags);
     }
 
     /// The region's set is empty.

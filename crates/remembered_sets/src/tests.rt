@@ -83,3 +83,27 @@ fn keeps_sets_apart(rt: HostRuntime) -> Result<(), Fail> {
     assert!(rt; !sets.covers(first, Card::new(2)) && sets.covers(second, Card::new(5)));
     Ok(())
 }
+
+/// Marking flags what the set covers, inline and by whole regions, beside what was flagged before. Another region's set
+/// flags nothing.
+#[test]
+fn marks_cards(rt: HostRuntime) -> Result<(), Fail> {
+    let mut sets = filled(rt.alloc())?;
+    let region = RegionNo::new(7);
+    let mut flags = vec![in rt.alloc(); false; 128]?;
+    flags[127] = true;
+    sets.mark_cards(RegionNo::new(6), &mut flags);
+    for card in 0..128_usize {
+        assert_eq!(rt; flags[card], card == 127, "{card}");
+    }
+    sets.add(region, Card::new(50));
+    sets.mark_cards(region, &mut flags);
+    for card in 0..128_usize {
+        assert_eq!(rt;
+            flags[card],
+            card % 3 == 0 && card < 48 || card / 16 == 3 || card == 127,
+            "{card}"
+        );
+    }
+    Ok(())
+}

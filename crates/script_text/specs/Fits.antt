@@ -50,7 +50,7 @@ is_step_yet (steps.Collector (collector.Mark k)) = true
 is_step_yet (steps.Collector collector.Remark) = true
 is_step_yet (steps.Collector collector.Cleanup) = true
 is_step_yet (steps.Collector (collector.Refine k)) = true
-is_step_yet (steps.Collector (collector.Pause b)) = false
+is_step_yet (steps.Collector (collector.Pause b)) = true
 
 -- a script that has a text
 pub record IsScript (p : StepList) : Type 0 where

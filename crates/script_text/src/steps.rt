@@ -257,7 +257,7 @@ fn is_yet(step: &Step) -> bool
 {
     match step {
         Step::Mutator(_) => true,
-        Step::Collector(CollectorStep::Pause(_)) => false,
+        Step::Collector(CollectorStep::Pause(_)) => true,
         Step::Collector(_) => true,
     }
 }

@@ -23,8 +23,10 @@ use Rattle.marker.specs.declared.marker.Marker.{Marker}
 use Rattle.cards.specs.Cards.{clean_cards, is_dirty}
 use Rattle.remembered_sets.specs.Sets.{empty_sets, empty_set, covers}
 use Rattle.refinement.proofs.Remembered.{remembers_none}
-use Rattle.step_core.specs.Stands.{CoreState, kept_of, heap_of, card_words, CardsFit, ShowsGraph, Stands, IsCore}
+use Rattle.evacuation.specs.Rooms.{RoomSizes}
+use Rattle.step_core.specs.Stands.{IsRoomFor, CoreState, kept_of, heap_of, card_words, CardsFit, ShowsGraph, Stands, IsCore}
 use Rattle.step_core.proofs.Reading.{object_kept}
+use Rattle.step_core.proofs.Small.{words_none}
 
 all_free : (n k : ℕ) → get_or (replicate n Free) k Free ≡ Free
 all_free zero k = refl
@@ -43,26 +45,26 @@ nil_shown : (h : Heap) (p : ℕ) → AllZip (IsShown h) (replicate p None) (repl
 nil_shown h zero = tt
 nil_shown h (suc p) = (tt, nil_shown h p)
 
-abbrev pub first_core : Config → Marker → CoreState
-first_core g m = record { config = g; table = free_table g.regions g.words; buffers = closed g.buffer g.mutators; marker = m; cards = clean_cards (g.regions * (g.words / 8)) g.mutators; sets = empty_sets g.regions (g.words / 8); roots = replicate (16 + 8 * g.mutators) None; next = g.first_name }
+abbrev pub first_core : Config → Marker → RoomSizes → ℕ → CoreState
+first_core g m d r = record { config = g; table = free_table g.regions g.words; buffers = closed g.buffer g.mutators; marker = m; cards = clean_cards (g.regions * (g.words / 8)) g.mutators; sets = empty_sets g.regions (g.words / 8); room = d; row_room = r; roots = replicate (16 + 8 * g.mutators) None; next = g.first_name }
 
-none_kept : (g : Config) (m : Marker) (a : ℕ) (x : Stored) → kept_of (first_core g m) a ≡ Some x → ⊥
-none_kept g m a x e = let none = nothing_at g.regions g.words a in let is = object_kept (first_core g m) a x e in cc
+none_kept : (g : Config) (m : Marker) (d : RoomSizes) (r : ℕ) (a : ℕ) (x : Stored) → kept_of (first_core g m d r) a ≡ Some x → ⊥
+none_kept g m d r a x e = let none = nothing_at g.regions g.words a in let is = object_kept (first_core g m d r) a x e in cc
 
-pub first_shows : (g : Config) (m : Marker) → ShowsGraph (first_state g) (first_core g m)
-first_shows g m = record {
+pub first_shows : (g : Config) (m : Marker) (d : RoomSizes) (r : ℕ) → ShowsGraph (first_state g) (first_core g m d r)
+first_shows g m d r = record {
   room = refl;
   mutators = refl;
   next = omega arith;
   shows = record {
-    roots = nil_shown (heap_of (first_core g m)) (16 + 8 * g.mutators);
-    distinct = λ a b x y h k n. absurd (none_kept g m a x h);
-    objects = λ a x h. absurd (none_kept g m a x h);
+    roots = nil_shown (heap_of (first_core g m d r)) (16 + 8 * g.mutators);
+    distinct = λ a b x y h k n. absurd (none_kept g m d r a x h);
+    objects = λ a x h. absurd (none_kept g m d r a x h);
   };
 }
 
-pub first_stands : (g : Config) (m : Marker) → m.running ≡ false → Stands (first_state g) (first_state g) (first_core g m)
-first_stands g m idle = record { shows = first_shows g m; keeps = record { earlier = omega arith; marking = λ run. absurd cc } }
+pub first_stands : (g : Config) (m : Marker) (d : RoomSizes) (r : ℕ) → m.running ≡ false → Stands (first_state g) (first_state g) (first_core g m d r)
+first_stands g m d r idle = record { shows = first_shows g m d r; keeps = record { earlier = omega arith; marking = λ run. absurd cc } }
 
 no_buffer : (n m : ℕ) (x : Buffer) → slice_get (replicate {A = Option Buffer} n None) m ≡ Some (Some x) → ⊥
 no_buffer zero m x e = cc
@@ -86,8 +88,8 @@ none_by : (o : Option Stored) → ((x : Stored) → o ≡ Some x → ⊥) → o 
 none_by None f = refl
 none_by (Some x) f = absurd (f x refl)
 
-first_none : (g : Config) (m : Marker) (a : ℕ) → kept_of (first_core g m) a ≡ None
-first_none g m a = none_by (kept_of (first_core g m) a) (λ x e. none_kept g m a x e)
+first_none : (g : Config) (m : Marker) (d : RoomSizes) (r : ℕ) (a : ℕ) → kept_of (first_core g m d r) a ≡ None
+first_none g m d r a = none_by (kept_of (first_core g m d r) a) (λ x e. none_kept g m d r a x e)
 
 -- a number of two or more with one bit is even, and so is its half's case
 half : (n : ℕ) → count_ones n ≡ 1 → 2 ≤ n → (n % 2 ≡ 0) × (count_ones (n / 2) ≡ 1)
@@ -121,9 +123,9 @@ first_cards g suits = record {
   each_mutator = length-replicate g.mutators [];
 }
 
-pub first_is : (g : Config) (m : Marker) → ((t : Table) → BuffersStand t (closed g.buffer g.mutators)) → Suits g → g.first_name < 2 ^ 64 → m.running ≡ false → m.logs ≡ replicate g.mutators []
-    → ((t : Table) → length t.regions ≡ g.regions → t.words_per_region ≡ g.words → MarkerStands t m) → IsCore (first_core g m)
-first_is g m stand suits names idle logs stands =
+pub first_is : (g : Config) (m : Marker) (d : RoomSizes) (r : ℕ) → ((t : Table) → BuffersStand t (closed g.buffer g.mutators)) → Suits g → IsRoomFor g d → g.regions ≤ r → g.first_name < 2 ^ 64 → m.running ≡ false → m.logs ≡ replicate g.mutators []
+    → ((t : Table) → length t.regions ≡ g.regions → t.words_per_region ≡ g.words → MarkerStands t m) → IsCore (first_core g m d r)
+first_is g m d r stand suits to rows names idle logs stands =
     let t : Table = free_table g.regions g.words in
     let st : MarkerStands t m = stands t (count_is g.regions g.words) (size_is g.regions g.words) in
     record {
@@ -140,12 +142,17 @@ first_is g m stand suits names idle logs stands =
         above_previous = first_above t g.buffer g.mutators (slice_index m.tams.previous) st.previous.top;
         above_next = first_above t g.buffer g.mutators (slice_index m.tams.next) st.next.top;
         room = λ k. let none = ap (λ (ls : List (List ℕ)). length (log_of ls k)) logs ∙ ap (λ (l : List ℕ). length l) (no_logs g.mutators k) in omega arith;
+        halves = λ a x e o. absurd (let none = nothing_at g.regions g.words a in cc);
+        ends_previous = λ k a o i lt. let none = words_none t a (nothing_at g.regions g.words a) in omega (arith, none, lt);
+        ends_next = λ k a o i lt. let none = words_none t a (nothing_at g.regions g.words a) in omega (arith, none, lt);
       };
       cards = first_cards g suits;
-      remembers = remembers_none (first_core g m).table.words_per_region card_words (kept_of (first_core g m)) (is_dirty (first_core g m).cards) (covers (first_core g m).sets) (first_none g m);
+      remembers = remembers_none (first_core g m d r).table.words_per_region card_words (kept_of (first_core g m d r)) (is_dirty (first_core g m d r).cards) (covers (first_core g m d r).sets) (first_none g m d r);
+      room = to;
+      rows = rows;
       places = length-replicate (16 + 8 * g.mutators) None;
       names = names;
       graph = first_state g;
       snapshot = first_state g;
-      stands = first_stands g m idle;
+      stands = first_stands g m d r idle;
     }

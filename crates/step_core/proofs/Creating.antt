@@ -5,7 +5,7 @@ use Rattle.std.specs.Prelude.{slice_get, slice_set, slice_index, nat_lt}
 use Rattle.std.specs.List.{AllZip}
 use Rattle.std.proofs.lemmas.Grind.{common_steps}
 use Rattle.std.proofs.lemmas.Bool.Decides.{nat_tests}
-use Rattle.std.proofs.lemmas.List.{length-set, length-append}
+use Rattle.std.proofs.lemmas.List.{length-set, length-append, length-replicate}
 use Rattle.heap_model.specs.Graph.{Graph, Object, IsReachable, next_name, with_object}
 use Rattle.heap_model.specs.Heap.{Heap, Stored, IsShown, ObjectAdded}
 use Rattle.heap_model.specs.Kept.{kept_by}
@@ -13,8 +13,10 @@ use Rattle.heap_model.specs.Marking.{Marking, KeepsSnapshot}
 use Rattle.heap_model.proofs.Mutate.{object_added}
 use Rattle.heap_model.proofs.Changed.{object_added_shows}
 use Rattle.regions.specs.Walks.{AreFitting}
-use Rattle.regions.specs.Table.{Table, new_object, replace_tile, gap, object_at}
-use Rattle.regions.specs.Tiles.{Live}
+use Rattle.regions.specs.Table.{Table, kind_of, new_object, replace_tile, gap, object_at}
+use Rattle.regions.specs.declared.row.Kind.TheVariants as kinds
+use Rattle.regions.specs.Tiles.{Live, tile_size}
+use Rattle.step_core.proofs.Small.{halves_added, ends_added}
 use Rattle.object_graph.specs.State.{register_place}
 use Rattle.object_graph.specs.Machine.{act}
 use Rattle.object_graph.specs.declared.step.Action.TheVariants as actions
@@ -62,7 +64,8 @@ above_below words tops a z above = lt-not (above (a / words) (omega arith) (omeg
 
 module _ (k : CoreState) (m : ℕ) (to : Register) (t1 t2 : Table) (b1 : Buffers) (a n p d : ℕ)
     (core : IsCore k) (placed : IsPlaced k.table t1 k.buffers b1 n a) (z : 0 < t1.words_per_region) (fitting : AreFitting t1) (size : n ≡ 2 + p + d)
-    (is : t2 ≡ replace_tile t1 a (Live (new_object k.next p d) ∷ gap (n - (2 + p + d)))) (room : 2 + p + d ≤ k.config.regions * k.config.words) (names : k.next ≢ 2 ^ 64 - 1) where
+    (is : t2 ≡ replace_tile t1 a (Live (new_object k.next p d) ∷ gap (n - (2 + p + d)))) (room : 2 + p + d ≤ k.config.regions * k.config.words) (names : k.next ≢ 2 ^ 64 - 1)
+    (half : 2 * n ≤ k.config.words) where
   filled : Fills t1 t2 b1 a (new_object k.next p d)
   filled = fills t1 t2 b1 a n k.next p d z fitting placed.unmoved placed.filler size is placed.spare placed.stand
 
@@ -120,10 +123,19 @@ module _ (k : CoreState) (m : ℕ) (to : Register) (t1 t2 : Table) (b1 : Buffers
   }
 
   new_leaves_by : LeavesRegions k (with_new k t2 b1 (register_place m to.number) a)
-  new_leaves_by = record { config = refl; running = refl; scans = refl; in_use = λ j n h. placed.in_use j n (sym (filled.kinds j) ∙ h) }
+  new_leaves_by = record { config = refl; in_use = λ j n h. placed.in_use j n (sym (filled.kinds j) ∙ h) }
 
   pub new_leaves : (c : CoreState) → k ≡ c → LeavesRegions c (with_new k t2 b1 (register_place m to.number) a)
   new_leaves c e = subst (λ (d : CoreState). LeavesRegions d (with_new k t2 b1 (register_place m to.number) a)) e new_leaves_by
+
+  stay : (j : ℕ) → kind_of k.table j ≢ kinds.Free → kind_of t2 j ≡ kind_of k.table j
+  stay j used = filled.kinds j ∙ placed.kinds_stay j used
+
+  unchanged : (y : ℕ) → y ≢ a → object_at t2 y ≡ object_at k.table y
+  unchanged y ne = filled.others y ne ∙ placed.objects y
+
+  half_of : 2 * tile_size (Live (new_object k.next p d)) ≤ k.table.words_per_region
+  half_of = let is = core.layers.region_size in omega (arith, length-replicate {A = Option ℕ} p None, length-replicate {A = ℕ} d 0)
 
   pub new_kept : IsCore (with_new k t2 b1 (register_place m to.number) a)
   new_kept =
@@ -147,9 +159,14 @@ module _ (k : CoreState) (m : ℕ) (to : Register) (t1 t2 : Table) (b1 : Buffers
           above_previous = previous;
           above_next = next;
           room = core.layers.room;
+          halves = halves_added k.table t2 a (new_object k.next p d) words stay filled.is unchanged positive half_of core.layers.halves;
+          ends_previous = ends_added k.table t2 a (new_object k.next p d) words stay filled.is unchanged k.marker.tams.previous (placed.above (slice_index k.marker.tams.previous) core.layers.above_previous).0 core.layers.ends_previous;
+          ends_next = ends_added k.table t2 a (new_object k.next p d) words stay filled.is unchanged k.marker.tams.next (placed.above (slice_index k.marker.tams.next) core.layers.above_next).0 core.layers.ends_next;
         };
         cards = core.cards;
         remembers = remembers_new k (new (register_place m to.number)) a (new_object k.next p d) (register_place m to.number) words refl refl (added (register_place m to.number)) core.remembers;
+        room = core.room;
+        rows = core.rows;
         places = length-set k.roots (register_place m to.number) (Some a) ∙ core.places;
         names = (let old = core.names in omega arith);
         graph = (act core.graph m (actions.New to p d)).1;

@@ -16,10 +16,11 @@ use Rattle.object_graph.specs.declared.step.Register.{Register}
 use Rattle.object_graph.specs.declared.step.Reply.{Reply}
 use Rattle.object_graph.specs.declared.step.Reply.TheVariants as replies
 use Rattle.object_graph.specs.declared.step.Refusal.TheVariants as refusals
-use Rattle.step_core.specs.Stands.{CoreState, ShowsGraph, KeepsFrom, Stands, IsWhole}
+use Rattle.step_core.specs.Stands.{CoreState, ShowsGraph, KeepsFrom, Stands, IsCore, IsWhole}
+use Rattle.cards.specs.Cards.{ListsDirtyOnce}
 use Rattle.step_core.specs.Cycle.{Does}
-use Rattle.step_core.specs.Answers.{Acts, Follows, HasNoPlace, IsFull, RepliesFull, snapshot_after}
-use Rattle.step_core.specs.Histories.{IsHistory, Runs}
+use Rattle.step_core.specs.Answers.{Acts, Follows, HasNoPlace, IsFull, IsFullStep, RepliesFull, snapshot_after}
+use Rattle.step_core.specs.Histories.{IsHistory, Passes, Runs}
 
 -- a mutator's step as the graph's own, and what is kept of the snapshot
 pub acted : (g s : Graph) (o : Op) (m : ℕ) (a : Action) (reply : Reply) (c : CoreState) → o.mutator ≡ m → o.action ≡ a → Acts g m a reply c → KeepsFrom s c → Follows g s (steps.Mutator o) reply c
@@ -37,21 +38,30 @@ created g s o m p d to reply c c' em ea st (inr h) keeps =
 
 -- a history goes on by one event
 pub goes_on : (g s : Graph) (c : CoreState) (es : List Event) (e : Event) (mid c' : CoreState) → Runs g s c es mid → ((h r : Graph) → Stands h r mid → Follows h r e.step e.reply c')
-    → Does e.step e.reply mid c' → ((h r : Graph) → Stands h r c' → IsWhole h c') → Runs g s c (es ++ e ∷ []) c'
-goes_on g s c es e mid c' r f does whole =
+    → Does e.step e.reply mid c' → ((h r : Graph) → Stands h r mid → (e.reply ≡ replies.Refused refusals.Full) ↔ IsFullStep h e.step mid) → IsCore c' → ListsDirtyOnce c'.cards
+    → ((h r : Graph) → Stands h r c' → IsWhole h c') → Runs g s c (es ++ e ∷ []) c'
+goes_on g s c es e mid c' r f does full core listed whole =
     let n = f r.last r.snapshot r.stands in
-    record { last = n.after; snapshot = snapshot_after r.snapshot r.last e.step e.reply; stands = n.stands; history = more g s c es r.last r.snapshot r.history n }
+    record { last = n.after; snapshot = snapshot_after r.snapshot r.last e.step e.reply; stands = n.stands; history = more g s c es r.last r.snapshot r.history (full r.last r.snapshot r.stands) n }
   where
-    more : (g s : Graph) (c : CoreState) (es : List Event) (last snapshot : Graph) → IsHistory g s c es last snapshot mid → (n : Follows last snapshot e.step e.reply c')
-        → IsHistory g s c (es ++ e ∷ []) n.after (snapshot_after snapshot last e.step e.reply) c'
-    more g s c [] last snapshot h n = (c', first, subst (λ (d : CoreState). Does e.step e.reply d c') h.2 does, whole n.after (snapshot_after snapshot last e.step e.reply) n.stands, (refl, shots, refl))
+    more : (g s : Graph) (c : CoreState) (es : List Event) (last snapshot : Graph) → IsHistory g s c es last snapshot mid → (e.reply ≡ replies.Refused refusals.Full) ↔ IsFullStep last e.step mid
+        → (n : Follows last snapshot e.step e.reply c') → IsHistory g s c (es ++ e ∷ []) n.after (snapshot_after snapshot last e.step e.reply) c'
+    more g s c [] last snapshot h there n = (c', passes, (refl, shots, refl))
       where
         shots : snapshot_after snapshot last e.step e.reply ≡ snapshot_after s g e.step e.reply
         shots = rw (h.0, h.1) refl
 
-        first : Follows g s e.step e.reply c'
-        first = record { after = n.after; happens = subst (λ (u : Graph). Happens u e.step e.reply n.after) h.0 n.happens; stands = subst (λ (u : Graph). Stands n.after u c') shots n.stands }
-    more g s c (x ∷ es) last snapshot h n = (h.0, h.1, h.2, h.3, more h.1.after (snapshot_after s g x.step x.reply) h.0 es last snapshot h.4 n)
+        passes : Passes g s c e c'
+        passes = record {
+          follows = record { after = n.after; happens = subst (λ (u : Graph). Happens u e.step e.reply n.after) h.0 n.happens; stands = subst (λ (u : Graph). Stands n.after u c') shots n.stands };
+          does = subst (λ (d : CoreState). Does e.step e.reply d c') h.2 does;
+          full = subst (λ (d : CoreState). (e.reply ≡ replies.Refused refusals.Full) ↔ IsFullStep g e.step d) h.2
+              (subst (λ (u : Graph). (e.reply ≡ replies.Refused refusals.Full) ↔ IsFullStep u e.step mid) h.0 there);
+          core = core;
+          listed = listed;
+          whole = whole n.after (snapshot_after snapshot last e.step e.reply) n.stands;
+        }
+    more g s c (x ∷ es) last snapshot h there n = (h.0, h.1, more h.1.follows.after (snapshot_after s g x.step x.reply) h.0 es last snapshot h.2 there n)
 
 pub none_yet : (g s : Graph) (c : CoreState) → Stands g s c → Runs g s c [] c
 none_yet g s c st = record { last = g; snapshot = s; stands = st; history = (refl, refl, refl) }
@@ -84,4 +94,4 @@ grown_by {A} f h es e ss i s same lt is = grown f es e (map h ss) i (h s) same (
 -- the events of a history are a run of the graph
 pub history_is_run : (g s : Graph) (c : CoreState) (es : List Event) (last snapshot : Graph) (c' : CoreState) → IsHistory g s c es last snapshot c' → IsRun g es last
 history_is_run g s c [] last snapshot c' h = h.0
-history_is_run g s c (e ∷ es) last snapshot c' h = (h.1.after, h.1.happens, history_is_run h.1.after (snapshot_after s g e.step e.reply) h.0 es last snapshot c' h.4)
+history_is_run g s c (e ∷ es) last snapshot c' h = (h.1.follows.after, h.1.follows.happens, history_is_run h.1.follows.after (snapshot_after s g e.step e.reply) h.0 es last snapshot c' h.2)

@@ -27,7 +27,7 @@ core_of k c e core = subst (λ (d : CoreState). IsCore d) e core
 
 -- nothing happened to the regions
 pub leaves_self : (k c : CoreState) → k ≡ c → LeavesRegions c k
-leaves_self k c e = subst (λ (d : CoreState). LeavesRegions d k) e (record { config = refl; running = refl; scans = refl; in_use = λ n h. h })
+leaves_self k c e = subst (λ (d : CoreState). LeavesRegions d k) e (record { config = refl; in_use = λ n h. h })
 
 pub record RootFacts (c : CoreState) (place : ℕ) (w : Option ℕ) : Type 0 where
   pub word : IsWordOf (heap_of c) w
@@ -65,7 +65,7 @@ module _ (k c : CoreState) (place : ℕ) (w : Option ℕ) (e : k ≡ c) where
     root_remembers = core.remembers
 
     pub root_leaves : LeavesRegions c (with_root_word k place w)
-    root_leaves = subst (λ (d : CoreState). LeavesRegions d (with_root_word k place w)) e (record { config = refl; running = refl; scans = refl; in_use = λ n h. h })
+    root_leaves = subst (λ (d : CoreState). LeavesRegions d (with_root_word k place w)) e (record { config = refl; in_use = λ n h. h })
 
     pub root_kept : IsWordOf (heap_of c) w → IsCore (with_root_word k place w)
     root_kept word =
@@ -75,6 +75,8 @@ module _ (k c : CoreState) (place : ℕ) (w : Option ℕ) (e : k ≡ c) where
           layers = core.layers;
           cards = core.cards;
           remembers = root_remembers;
+          room = core.room;
+          rows = core.rows;
           places = length-set k.roots place w ∙ core.places;
           names = core.names;
           graph = with_root core.graph place word'.name;
@@ -126,7 +128,7 @@ module _ (k c : CoreState) (e : k ≡ c) (core : IsCore k) (m : ℕ) (object : R
   write_kept_from s f = keeps_by s (subst (λ (d : CoreState). KeepsFrom s d) (sym e) f)
 
   pub write_leaves : LeavesRegions c (record k { table = t })
-  write_leaves = subst (λ (d : CoreState). LeavesRegions d (record k { table = t })) e (record { config = refl; running = refl; scans = refl; in_use = λ j n u. n (sym (writes.kinds j) ∙ u) })
+  write_leaves = subst (λ (d : CoreState). LeavesRegions d (record k { table = t })) e (record { config = refl; in_use = λ j n u. n (sym (writes.kinds j) ∙ u) })
 
   pub write_kept : IsCore (record k { table = t })
   write_kept =
@@ -134,10 +136,12 @@ module _ (k c : CoreState) (e : k ≡ c) (core : IsCore k) (m : ℕ) (object : R
       let keeps = keeps_by core.snapshot core.stands.keeps in
       record {
         suits = core.suits;
-        layers = layers_writes k.config k.table t k.buffers k.marker a h.stored (with_value h.stored i v) writes core.layers (follows_of (record k { table = t }) _ core.snapshot shows keeps);
+        layers = layers_writes k.config k.table t k.buffers k.marker a h.stored (with_value h.stored i v) writes core.layers (follows_of (record k { table = t }) _ core.snapshot shows keeps) (ap (λ (n : ℕ). 2 + length h.stored.pointers + n) (length-set h.stored.values i v));
         cards = core.cards;
         remembers = remembers_on k (record k { table = t }) writes.size refl refl
             (written_fields (heap_of k) (heap_of (record k { table = t })) a h.stored (with_value h.stored i v) write_set refl) core.remembers;
+        room = core.room;
+        rows = core.rows;
         places = core.places;
         names = core.names;
         graph = (act core.graph m (actions.Write object i v)).1;

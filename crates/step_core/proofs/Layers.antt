@@ -5,7 +5,9 @@ use Rattle.heap_model.specs.Graph.{Graph}
 use Rattle.heap_model.specs.Heap.{Stored}
 use Rattle.heap_words.specs.declared.config.Config.{Config}
 use Rattle.regions.specs.Table.{Table, object_at, top_of}
+use Rattle.regions.specs.Tiles.{Live, tile_size}
 use Rattle.regions.proofs.Changes.{WritesObject, object_same}
+use Rattle.step_core.proofs.Small.{halves_same, ends_same, words_written}
 use Rattle.alloc_buffers.specs.Placement.{Buffers, AreAbove}
 use Rattle.alloc_buffers.proofs.Above.{above_same}
 use Rattle.satb_log.specs.Logs.{log_of}
@@ -46,8 +48,8 @@ marker_writes t t' b m a x y w previous next st follows =
 
 -- an object is written, and marking may have gone on: tops stay, and no log is full
 pub layers_changed : (config : Config) (t t' : Table) (b : Buffers) (m m' : Marker) (a : ℕ) (x y : Stored) → WritesObject t t' a x y → LayersFit config t b m → MarkerStands t' m'
-    → m'.tams ≡ m.tams → length m'.logs ≡ length m.logs → ((mutator : ℕ) → length (log_of m'.logs mutator) < 8) → LayersFit config t' b m'
-layers_changed config t t' b m m' a x y w l st tams logs room = record {
+    → m'.tams ≡ m.tams → length m'.logs ≡ length m.logs → ((mutator : ℕ) → length (log_of m'.logs mutator) < 8) → tile_size (Live y) ≡ tile_size (Live x) → LayersFit config t' b m'
+layers_changed config t t' b m m' a x y w l st tams logs room long = record {
   region_size = w.size ∙ l.region_size;
   region_count = w.count ∙ l.region_count;
   buffer_size = l.buffer_size;
@@ -59,13 +61,16 @@ layers_changed config t t' b m m' a x y w l st tams logs room = record {
   above_previous = rw tams (above_same t t' b (slice_index m.tams.previous) w.size w.count w.used l.above_previous);
   above_next = rw tams (above_same t t' b (slice_index m.tams.next) w.size w.count w.used l.above_next);
   room = room;
+  halves = halves_same t t' w.size w.kinds (words_written t t' a x y w long) l.halves;
+  ends_previous = rw tams (ends_same t t' w.size w.kinds (words_written t t' a x y w long) m.tams.previous l.ends_previous);
+  ends_next = rw tams (ends_same t t' w.size w.kinds (words_written t t' a x y w long) m.tams.next l.ends_next);
 }
 
 -- an object is written, and nothing else changed
 pub layers_writes : (config : Config) (t t' : Table) (b : Buffers) (m : Marker) (a : ℕ) (x y : Stored) → WritesObject t t' a x y → LayersFit config t b m
-    → (m.running ≡ true → CanFollow t' m) → LayersFit config t' b m
-layers_writes config t t' b m a x y w l follows =
-    layers_changed config t t' b m m a x y w l (marker_writes t t' b m a x y w l.above_previous l.above_next l.marker follows) refl refl l.room
+    → (m.running ≡ true → CanFollow t' m) → tile_size (Live y) ≡ tile_size (Live x) → LayersFit config t' b m
+layers_writes config t t' b m a x y w l follows long =
+    layers_changed config t t' b m m a x y w l (marker_writes t t' b m a x y w l.above_previous l.above_next l.marker follows) refl refl l.room long
 
 -- marking goes on: tops stay, and no log is full
 pub layers_marked : (config : Config) (t : Table) (b : Buffers) (m m' : Marker) → LayersFit config t b m → MarkerStands t m' → m'.tams ≡ m.tams → length m'.logs ≡ length m.logs
@@ -82,4 +87,7 @@ layers_marked config t b m m' l st tams logs room = record {
   above_previous = rw tams l.above_previous;
   above_next = rw tams l.above_next;
   room = room;
+  halves = l.halves;
+  ends_previous = rw tams l.ends_previous;
+  ends_next = rw tams l.ends_next;
 }

@@ -1,4 +1,7 @@
 pub mod Sizes
+pub mod Small
+pub mod Rows
+pub mod Chosen
 pub mod Reading
 pub mod Written
 pub mod Remembering
@@ -6,6 +9,7 @@ pub mod Added
 pub mod Layers
 pub mod Acting
 pub mod Keeping
+pub mod Overwritten
 pub mod Storing
 pub mod Stored
 pub mod Noting
@@ -13,5 +17,8 @@ pub mod Creating
 pub mod Cycling
 pub mod Cleaning
 pub mod Refined
+pub mod Ready
+pub mod CopiedNames
+pub mod Pausing
 pub mod Following
 pub mod Beginning

@@ -77,6 +77,8 @@ module _ (k : CoreState) (core : IsCore k) (m card : ℕ) (cs : Cards) (known : 
     };
     remembers = remembered.remembers_on k.table.words_per_region card_words (kept_of k) (kept_of k) (is_dirty k.cards) (is_dirty cs) (covers k.sets) (covers k.sets)
         (λ a i v x. inl x) stays (λ a i v c x e. e) core.remembers;
+    room = core.room;
+    rows = core.rows;
     places = core.places;
     names = core.names;
     graph = core.graph;

@@ -1,15 +1,18 @@
 -- Cards are refined in a core, one after another: k is the core by its fields.
-use Rattle.std.proofs.Common.{◌≡◌, ℕ, zero, suc, ◌+◌, ◌≤◌, Bool, true, false, List, [], ◌∷◌, length, drop, min, refl, sym, ◌∙◌, ap, subst, arith}
+use Rattle.std.proofs.Common.{◌≡◌, ℕ, zero, suc, ◌+◌, ◌*◌, ◌/◌, ◌<◌, ◌≤◌, ◌⊎◌, Bool, true, false, Some, List, [], ◌∷◌, length, take, drop, min, get_or, refl, sym, ◌∙◌, ap, subst, arith, inl, inr}
+use Rattle.std.specs.Prelude.{Contains, slice_get}
 use Rattle.heap_model.specs.Graph.{Graph}
 use Rattle.heap_model.proofs.Shown.{closed}
 use Rattle.mark_bitmap.specs.Kept.{kept_in}
 use Rattle.cards.specs.Cards.{Cards, is_dirty}
 use Rattle.remembered_sets.specs.Sets.{Sets, covers, card_count}
-use Rattle.refinement.specs.Remembering.{Remembers}
-use Rattle.refinement.specs.Refining.{CanScan, Refines}
+use Rattle.refinement.specs.Remembering.{Remembers, LeadsInto, LeadsInside}
+use Rattle.refinement.specs.Refining.{CanScan, Refines, AddsCard}
+use Rattle.refinement.proofs.Entered.{adds_gains}
+use Rattle.marker.proofs.Logs.{contained}
 use Rattle.refinement.proofs.Holders.{closed_inside}
-use Rattle.step_core.specs.Stands.{CoreState, kept_of, heap_of, ShowsGraph, KeepsFrom, IsCore}
-use Rattle.step_core.specs.Cycle.{KeepsAll, RefinesCard, HasRefined}
+use Rattle.step_core.specs.Stands.{CoreState, kept_of, heap_of, card_words, ShowsGraph, KeepsFrom, IsCore}
+use Rattle.step_core.specs.Cycle.{GainsCards, RefinesCard, HasRefined}
 
 abbrev pub with_cards : CoreState → Cards → Sets → CoreState
 with_cards c cs ss = record c { cards = cs; sets = ss }
@@ -54,6 +57,8 @@ module _ (k : CoreState) (core : IsCore k) (result : Bool) (cs : Cards) (ss : Se
       each_mutator = ap (λ (ls : List (List ℕ)). length ls) (logs_stay result refines) ∙ core.cards.each_mutator;
     };
     remembers = remembers core.remembers;
+    room = core.room;
+    rows = core.rows;
     places = core.places;
     names = core.names;
     graph = core.graph;
@@ -61,12 +66,22 @@ module _ (k : CoreState) (core : IsCore k) (result : Bool) (cs : Cards) (ss : Se
     stands = record { shows = cards_show core.graph core.stands.shows; keeps = cards_keep core.snapshot core.stands.keeps };
   }
 
-  all_kept : KeepsAll k (with_cards k cs ss)
+  -- what sets cover once the card was added
+  gains : (card : ℕ) → AddsCard k.table.words_per_region (kept_in k.table k.marker.tams k.marker.bitmaps.previous) 8 card k.sets ss → GainsCards (card ∷ []) k (with_cards k cs ss)
   unfolding kept_of
-  all_kept = record { config = refl; kept = λ a. refl; roots = refl; next = refl }
+  gains card adds =
+      let inside = subst (λ (n : ℕ). LeadsInside k.table.words_per_region n (kept_in k.table k.marker.tams k.marker.bitmaps.previous)) (core.layers.region_count ∙ sym core.cards.each_region) (can_scan k core).inside in
+      let g = adds_gains k.table.words_per_region (kept_in k.table k.marker.tams k.marker.bitmaps.previous) 8 card k.sets ss inside adds in
+      record {
+        stays = g.stays;
+        only = λ region c e. elim (g.only region c e) [ inl was ↦ inl was | inr new ↦ inr (card, contained (card ∷ []) 0 card refl, new.0, new.1) ];
+      }
 
   one_refined : (b : Bool) → Refines b k.table.words_per_region (kept_in k.table k.marker.tams k.marker.bitmaps.previous) 8 k.cards cs k.sets ss → RefinesCard b k (with_cards k cs ss)
-  one_refined true r = (r.card, record { all = all_kept; table = refl; buffers = refl; marker = refl; queue = r.taken.queue; logs = r.taken.logs })
+  one_refined true r = (r.card, record { same = refl; queue = r.taken.queue; logs = r.taken.logs; sets = gains r.card r.adds; cards_per_region = per_region })
+    where
+      per_region : ss.cards_per_region ≡ k.sets.cards_per_region
+      per_region = let new = scan.fit.whole_cards in let old = core.cards.whole_cards in let words = core.layers.region_size in omega (arith, new, old, words)
   one_refined false r = (r.0, same)
     where
       same : with_cards k cs ss ≡ k
@@ -75,18 +90,25 @@ module _ (k : CoreState) (core : IsCore k) (result : Bool) (cs : Cards) (ss : Se
   pub refined_from : (c : CoreState) → k ≡ c → RefinesCard result c (with_cards k cs ss)
   refined_from c e = subst (λ (d : CoreState). RefinesCard result d (with_cards k cs ss)) e (one_refined result refines)
 
+-- x is one of the first n
+pub record IsEarly (n : ℕ) (q : List ℕ) (x : ℕ) : Type 0 where
+  pub place : ℕ
+  pub front : place < n
+  pub is : slice_get q place ≡ Some x
+
 -- so many cards were refined
 pub record RefinesSome (i : ℕ) (c0 c : CoreState) : Type 0 where
-  pub all : KeepsAll c0 c
-  pub table : c.table ≡ c0.table
-  pub buffers : c.buffers ≡ c0.buffers
-  pub marker : c.marker ≡ c0.marker
+  pub same : c ≡ record c0 { cards = c.cards; sets = c.sets }
   pub few : i ≤ length c0.cards.queue
   pub queue : c.cards.queue ≡ drop i c0.cards.queue
   pub logs : c.cards.logs ≡ c0.cards.logs
+  pub stays : (region card : ℕ) → covers c0.sets region card ≡ true → covers c.sets region card ≡ true
+  pub only : (region card : ℕ) → covers c.sets region card ≡ true → (covers c0.sets region card ≡ true)
+      ⊎ ((x : ℕ) × IsEarly i c0.cards.queue x × LeadsInto c0.table.words_per_region (kept_of c0) card_words x region × (card / c0.sets.cards_per_region ≡ x / c0.sets.cards_per_region))
+  pub cards_per_region : c.sets.cards_per_region ≡ c0.sets.cards_per_region
 
 pub none_refined : (c : CoreState) → RefinesSome 0 c c
-none_refined c = record { all = record { config = refl; kept = λ a. refl; roots = refl; next = refl }; table = refl; buffers = refl; marker = refl; few = omega arith; queue = refl; logs = refl }
+none_refined c = record { same = refl; few = omega arith; queue = refl; logs = refl; stays = λ region card e. e; only = λ region card e. inl e; cards_per_region = refl }
 
 drop_next : (q rest : List ℕ) (i card : ℕ) → drop i q ≡ card ∷ rest → (i + 1 ≤ length q) × (rest ≡ drop (i + 1) q)
 drop_next [] rest zero card e = absurd (let f : [] ≡ card ∷ rest = e in cc)
@@ -101,21 +123,73 @@ drop_all [] i e = omega arith
 drop_all (x ∷ q) zero e = absurd cc
 drop_all (x ∷ q) (suc i) e = omega (arith, drop_all q i e)
 
+front_of : (q rest : List ℕ) (i card : ℕ) → drop i q ≡ card ∷ rest → slice_get q i ≡ Some card
+front_of [] rest zero card e = absurd (let f : [] ≡ card ∷ rest = e in cc)
+front_of [] rest (suc i) card e = absurd (let f : [] ≡ card ∷ rest = e in cc)
+front_of (x ∷ q) rest zero card e = (let f : x ∷ q ≡ card ∷ rest = e in cc)
+front_of (x ∷ q) rest (suc i) card e = front_of q rest i card e
+
+one_only : (n card : ℕ) → Contains (card ∷ []) n → n ≡ card
+one_only n card h = let (place, lt, is) = h in go place lt (sym is)
+  where
+    go : (place : ℕ) → place < 1 → n ≡ get_or (card ∷ []) place n → n ≡ card
+    go zero lt is = is
+    go (suc p) lt is = absurd (omega (arith, lt))
+
+-- other cards and sets change nothing of which fields lead where
+leads_same : (c : CoreState) (cs : Cards) (ss : Sets) (x region : ℕ) → LeadsInto c.table.words_per_region (kept_of (with_cards c cs ss)) card_words x region → LeadsInto c.table.words_per_region (kept_of c) card_words x region
+unfolding kept_of
+leads_same c cs ss x region l = l
+
 pub one_more : (i : ℕ) (c0 c c' : CoreState) → RefinesSome i c0 c → RefinesCard true c c' → RefinesSome (i + 1) c0 c'
 one_more i c0 c c' p (card, r) =
     let next = drop_next c0.cards.queue c'.cards.queue i card (sym p.queue ∙ r.queue) in
+    let there = front_of c0.cards.queue c'.cards.queue i card (sym p.queue ∙ r.queue) in
     record {
-      all = record { config = r.all.config ∙ p.all.config; kept = λ a. r.all.kept a ∙ p.all.kept a; roots = r.all.roots ∙ p.all.roots; next = r.all.next ∙ p.all.next };
-      table = r.table ∙ p.table;
-      buffers = r.buffers ∙ p.buffers;
-      marker = r.marker ∙ p.marker;
+      same = r.same ∙ ap (λ (d : CoreState). record d { cards = c'.cards; sets = c'.sets }) p.same;
       few = next.0;
       queue = next.1;
       logs = r.logs ∙ p.logs;
+      stays = λ region x e. r.sets.stays region x (p.stays region x e);
+      only = λ region x e. elim (r.sets.only region x e) [
+        | inl was ↦ elim (p.only region x was) [
+          | inl old ↦ inl old
+          | inr new ↦ inr (new.0, record { place = new.1.place; front = omega (arith, new.1.front); is = new.1.is }, new.2, new.3)
+        ]
+        | inr new ↦
+            let is : new.0 ≡ card = one_only new.0 card new.1 in
+            let leads : LeadsInto c0.table.words_per_region (kept_of (with_cards c0 c.cards c.sets)) card_words new.0 region
+            = subst (λ (d : CoreState). LeadsInto d.table.words_per_region (kept_of d) card_words new.0 region) p.same new.2 in
+            inr (
+              new.0,
+              record { place = i; front = omega arith; is = there ∙ ap Some (sym is) },
+              leads_same c0 c.cards c.sets new.0 region leads,
+              subst (λ (n : ℕ). x / n ≡ new.0 / n) p.cards_per_region new.3,
+            )
+      ];
+      cards_per_region = r.cards_per_region ∙ p.cards_per_region;
     }
 
+early_get : (n : ℕ) (q : List ℕ) (place x : ℕ) → place < n → slice_get q place ≡ Some x → slice_get (take n q) place ≡ Some x
+early_get zero q place x lt e = absurd (omega (arith, lt))
+early_get (suc n) [] place x lt e = e
+early_get (suc n) (y ∷ q) zero x lt e = e
+early_get (suc n) (y ∷ q) (suc place) x lt e = early_get n q place x (omega (arith, lt)) e
+
 has_refined : (k i : ℕ) (c0 c : CoreState) → RefinesSome i c0 c → i ≡ min k (length c0.cards.queue) → HasRefined k i c0 c
-has_refined k i c0 c p count = record { all = p.all; table = p.table; buffers = p.buffers; marker = p.marker; count = count; queue = p.queue; logs = p.logs }
+has_refined k i c0 c p count = record {
+  same = p.same;
+  count = count;
+  queue = p.queue;
+  logs = p.logs;
+  sets = record {
+    stays = p.stays;
+    only = λ region card e. elim (p.only region card e) [
+      | inl was ↦ inl was
+      | inr new ↦ inr (new.0, contained (take i c0.cards.queue) new.1.place new.0 (early_get i c0.cards.queue new.1.place new.0 new.1.front new.1.is), new.2, new.3)
+    ];
+  };
+}
 
 -- all were refined that were asked for
 pub all_refined : (k i : ℕ) (c0 c : CoreState) → RefinesSome i c0 c → i ≡ k → HasRefined k k c0 c

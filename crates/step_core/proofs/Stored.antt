@@ -85,11 +85,11 @@ module _ (k c : CoreState) (e : k ≡ c) (core : IsCore k) (a i : ℕ) (w : Opti
         → ShowsGraph (with_changed g y.name (record { pointers = slice_set o.pointers i v; values = o.values })) (with_store k t k.marker)
     idle_shows = store_shows k.marker (record { previous = refl; tams = refl; running = refl })
 
-    pub store_leaves : (m : Marker) → m.running ≡ k.marker.running → m.scans ≡ k.marker.scans → LeavesRegions c (with_store k t m)
-    store_leaves m running scans = subst (λ (d : CoreState). LeavesRegions d (with_store k t m)) e (storing.store_leaves k core a i w t root' within' held' is r' noted' m running scans)
+    pub store_leaves : (m : Marker) → LeavesRegions c (with_store k t m)
+    store_leaves m = subst (λ (d : CoreState). LeavesRegions d (with_store k t m)) e (storing.store_leaves k core a i w t root' within' held' is r' noted' m)
 
     pub idle_leaves : LeavesRegions c (with_store k t k.marker)
-    idle_leaves = store_leaves k.marker refl refl
+    idle_leaves = store_leaves k.marker
 
     pub idle_kept : k.marker.running ≡ false → IsCore (with_store k t k.marker)
     idle_kept = storing.idle_kept k core a i w t root' within' held' is r' noted'

@@ -1,5 +1,6 @@
 -- The write barrier: a store into a pointer of an object that a root names.
-use Rattle.std.proofs.Common.{◌≡◌, ℕ, ◌<◌, true, false, List, Option, Some, None, length, refl, sym, ◌∙◌, ap, subst, inl, inr}
+use Rattle.std.proofs.lemmas.List.{length-set}
+use Rattle.std.proofs.Common.{◌≡◌, ℕ, ◌+◌, ◌<◌, true, false, List, Option, Some, None, length, refl, sym, ◌∙◌, ap, subst, inl, inr}
 use Rattle.std.specs.Prelude.{slice_get, slice_set}
 use Rattle.std.specs.List.{AllZip}
 use Rattle.heap_model.specs.Graph.{Graph, Object, IsReachable, next_name, object_named, with_changed}
@@ -138,9 +139,11 @@ module _ (k : CoreState) (core : IsCore k) (a i : ℕ) (w : Option ℕ) (t : Tab
   pub idle_kept : k.marker.running ≡ false → IsCore (with_store k t k.marker)
   idle_kept idle = record {
     suits = core.suits;
-    layers = layers_writes k.config k.table t k.buffers k.marker a x (with_pointer x i w) writes core.layers (λ run. absurd cc);
+    layers = layers_writes k.config k.table t k.buffers k.marker a x (with_pointer x i w) writes core.layers (λ run. absurd cc) (ap (λ (n : ℕ). 2 + n + length x.values) (length-set x.pointers i w));
     cards = core.cards;
     remembers = store_remembers k.marker same_roles;
+    room = core.room;
+    rows = core.rows;
     places = core.places;
     names = core.names;
     graph = graph_after;
@@ -148,8 +151,8 @@ module _ (k : CoreState) (core : IsCore k) (a i : ℕ) (w : Option ℕ) (t : Tab
     stands = record { shows = shows_after k.marker same_roles; keeps = idle_keeps idle core.snapshot core.stands.keeps };
   }
 
-  pub store_leaves : (m : Marker) → m.running ≡ k.marker.running → m.scans ≡ k.marker.scans → LeavesRegions k (with_store k t m)
-  store_leaves m running scans = record { config = refl; running = running; scans = scans; in_use = λ j n u. n (sym (writes.kinds j) ∙ u) }
+  pub store_leaves : (m : Marker) → LeavesRegions k (with_store k t m)
+  store_leaves m = record { config = refl; in_use = λ j n u. n (sym (writes.kinds j) ∙ u) }
 
   -- the core between the store and the taking of a log: the old value was saved
   module _ (m : Marker) (same : SameRoles k.marker m) (was : Option ℕ) (there : slice_get (pointers_at k.table a) i ≡ Some was)
@@ -183,9 +186,11 @@ module _ (k : CoreState) (core : IsCore k) (a i : ℕ) (w : Option ℕ) (t : Tab
           let keeps = last_keeps run core.snapshot core.stands.keeps in
           record {
             suits = core.suits;
-            layers = layers_changed k.config k.table t k.buffers k.marker m2 a x (with_pointer x i w) writes core.layers st2 same2.tams logs room;
+            layers = layers_changed k.config k.table t k.buffers k.marker m2 a x (with_pointer x i w) writes core.layers st2 same2.tams logs room (ap (λ (n : ℕ). 2 + n + length x.values) (length-set x.pointers i w));
             cards = core.cards;
             remembers = store_remembers m2 same2;
+            room = core.room;
+            rows = core.rows;
             places = core.places;
             names = core.names;
             graph = graph_after;

@@ -60,6 +60,7 @@ fn run_on(alloc: Global, core: &mut Core, steps: &[Step]) -> Result<Record, Allo
     for step in steps {
         let reply = core.step(*step);
         core.whole();
+        core.remembers();
         done.push(Event {
             actor: actor_of(step),
             step: *step,

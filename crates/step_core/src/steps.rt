@@ -8,6 +8,7 @@ ghost use Rattle.object_graph.specs.declared.step.Reply.TheVariants as replies;
 ghost use Rattle.object_graph.specs.declared.step.Refusal.TheVariants as refusals;
 ghost use Rattle.step_core.specs.Stands.{ShowsGraph, KeepsFrom, Stands, heap_of, IsWordOf, IsRootWord};
 ghost use Rattle.step_core.specs.Answers.{Acts, HasNoPlace, IsFull, RepliesFull, Follows};
+ghost use Rattle.step_core.specs.Mutators.{ActsOn, value_of};
 ghost use Rattle.step_core.specs.Cycle.{LeavesRegions};
 
 use crate::heap::{Core, register_index};
@@ -24,6 +25,7 @@ impl Core {
         requires { mutator < self.old.config.mutators }
         ensures acts { (g : Graph) → ShowsGraph g self.old → Acts g mutator (actions.Get to object field) result self.new }
         ensures keeps { (s : Graph) → KeepsFrom s self.old → KeepsFrom s self.new }
+        ensures after { ActsOn mutator (actions.Get to object field) result self.old self.new }
         ensures leaves { LeavesRegions self.old self.new }
     {
         let Some(at) = self.register(mutator, object) else {
@@ -40,7 +42,8 @@ impl Core {
 
     fn read(&self, mutator: u32, object: Register, field: u32) -> Reply
         requires { mutator < self.now.config.mutators }
-        ensures { (g : Graph) → ShowsGraph g self.now → Acts g mutator (actions.Read object field) result self.now }
+        ensures acts { (g : Graph) → ShowsGraph g self.now → Acts g mutator (actions.Read object field) result self.now }
+        ensures after { ActsOn mutator (actions.Read object field) result self.now self.now }
     {
         let Some(at) = self.register(mutator, object) else {
             return Reply::Refused(Refusal::Nil);
@@ -54,6 +57,7 @@ impl Core {
     /// What `put` stores: nil, or what a register holds.
     fn stored(&self, mutator: u32, value: Option<Register>) -> Ptr
         requires { mutator < self.now.config.mutators }
+        ensures value { result ≡ value_of self.now mutator value }
         ensures word { IsWordOf (heap_of self.now) result }
         ensures rooted { IsRootWord (heap_of self.now) result }
         ensures shows { (g : Graph) → ShowsGraph g self.now → IsShown (heap_of self.now) result (stored g mutator value) }
@@ -68,6 +72,7 @@ impl Core {
         requires { mutator < self.old.config.mutators }
         ensures acts { (g : Graph) → ShowsGraph g self.old → Acts g mutator (actions.Put object field value) result self.new }
         ensures keeps { (s : Graph) → KeepsFrom s self.old → KeepsFrom s self.new }
+        ensures after { ActsOn mutator (actions.Put object field value) result self.old self.new }
         ensures leaves { LeavesRegions self.old self.new }
     {
         let Some(at) = self.register(mutator, object) else {
@@ -85,6 +90,7 @@ impl Core {
         requires { mutator < self.old.config.mutators }
         ensures acts { (g : Graph) → ShowsGraph g self.old → Acts g mutator (actions.Write object field value) result self.new }
         ensures keeps { (s : Graph) → KeepsFrom s self.old → KeepsFrom s self.new }
+        ensures after { ActsOn mutator (actions.Write object field value) result self.old self.new }
         ensures leaves { LeavesRegions self.old self.new }
     {
         let Some(at) = self.register(mutator, object) else {
@@ -101,6 +107,7 @@ impl Core {
         requires { mutator < self.old.config.mutators }
         ensures acts { (g : Graph) → ShowsGraph g self.old → Acts g mutator (actions.Move to from) result self.new }
         ensures keeps { (s : Graph) → KeepsFrom s self.old → KeepsFrom s self.new }
+        ensures after { ActsOn mutator (actions.Move to from) result self.old self.new }
         ensures leaves { LeavesRegions self.old self.new }
     {
         let value = self.register(mutator, from);
@@ -112,6 +119,7 @@ impl Core {
         requires { mutator < self.old.config.mutators }
         ensures acts { (g : Graph) → ShowsGraph g self.old → Acts g mutator (actions.Drop register) result self.new }
         ensures keeps { (s : Graph) → KeepsFrom s self.old → KeepsFrom s self.new }
+        ensures after { ActsOn mutator (actions.Drop register) result self.old self.new }
         ensures leaves { LeavesRegions self.old self.new }
     {
         self.set_register(mutator, register, None);
@@ -122,6 +130,7 @@ impl Core {
         requires { mutator < self.old.config.mutators }
         ensures acts { (g : Graph) → ShowsGraph g self.old → Acts g mutator (actions.Load to from) result self.new }
         ensures keeps { (s : Graph) → KeepsFrom s self.old → KeepsFrom s self.new }
+        ensures after { ActsOn mutator (actions.Load to from) result self.old self.new }
         ensures leaves { LeavesRegions self.old self.new }
     {
         let value = self.root(from.number as usize);
@@ -134,6 +143,7 @@ impl Core {
         requires { mutator < self.old.config.mutators }
         ensures acts { (g : Graph) → ShowsGraph g self.old → Acts g mutator (actions.Save to from) result self.new }
         ensures keeps { (s : Graph) → KeepsFrom s self.old → KeepsFrom s self.new }
+        ensures after { ActsOn mutator (actions.Save to from) result self.old self.new }
         ensures leaves { LeavesRegions self.old self.new }
     {
         let value = self.register(mutator, from);
@@ -143,7 +153,8 @@ impl Core {
 
     fn shape(&self, mutator: u32, object: Register) -> Reply
         requires { mutator < self.now.config.mutators }
-        ensures { (g : Graph) → ShowsGraph g self.now → Acts g mutator (actions.Shape object) result self.now }
+        ensures acts { (g : Graph) → ShowsGraph g self.now → Acts g mutator (actions.Shape object) result self.now }
+        ensures after { ActsOn mutator (actions.Shape object) result self.now self.now }
     {
         let Some(at) = self.register(mutator, object) else {
             return Reply::Refused(Refusal::Nil);
@@ -159,6 +170,7 @@ impl Core {
         ensures acts { (g : Graph) → ShowsGraph g self.old → Acts g mutator (actions.New to pointers values) result self.new
             ⊎ RepliesFull g mutator (actions.New to pointers values) self.old result self.new }
         ensures keeps { (s : Graph) → KeepsFrom s self.old → KeepsFrom s self.new }
+        ensures after { ActsOn mutator (actions.New to pointers values) result self.old self.new }
         ensures leaves { LeavesRegions self.old self.new }
         ensures full { HasNoPlace self.old mutator (2 + pointers + values) → (name : Option ℕ) → result ≢ replies.Named name }
     {
@@ -196,6 +208,7 @@ impl Core {
         requires { op.mutator < self.old.config.mutators }
         ensures follows { (g s : Graph) → Stands g s self.old → Follows g s (steps.Mutator op) result self.new }
         ensures full { (g s : Graph) → Stands g s self.old → (result ≡ replies.Refused refusals.Full) ↔ IsFull g op.mutator op.action self.old }
+        ensures after { ActsOn op.mutator op.action result self.old self.new }
         ensures leaves { LeavesRegions self.old self.new }
     {
         let mutator = op.mutator;

@@ -12,7 +12,7 @@ loop-step-preserved c =
     record {
       history = λ g s st. subst (λ (es : List Event). Runs g s c.args.core.now es c.step-reply.new.self) (sym events)
           (goes_on g s c.args.core.now c.loop-step.done.events _ c.loop-step.core c.step-reply.new.self (c.loop-step.invariant.history g s st)
-          c.step-reply.ensures.follows c.step-reply.ensures.does c.whole.ensures);
+          c.step-reply.ensures.follows c.step-reply.ensures.does c.step-reply.ensures.full c.remembers.ensures.core c.remembers.ensures.cards c.whole.ensures);
       steps = ap (λ (es : List Event). map step_of es) events ∙ grown step_of c.loop-step.done.events _ c.args.steps.now c.loop-step.step-index c.step-item.result c.loop-step.invariant.steps c.loop-step-test.true c.step-item.is;
       actors = ap (λ (es : List Event). map actor_in es) events
           ∙ grown_by actor_in actor_of c.loop-step.done.events _ c.args.steps.now c.loop-step.step-index c.step-item.result c.loop-step.invariant.actors c.loop-step-test.true (c.actor_of.ensures.actor ∙ ap actor_of c.step-item.is);

@@ -1,4 +1,4 @@
-use Rattle.std.proofs.Common.{◌+◌, ℕ, subst, sym, ap, arith, length}
+use Rattle.std.proofs.Common.{◌+◌, ◌<◌, ℕ, subst, sym, ap, arith, length}
 use Rattle.step_core.specs.Stands.{CoreState, ShowsGraph, KeepsFrom}
 use Rattle.step_core.specs.Cycle.{IsDead, HasReleased}
 use Rattle.step_core.proofs.Cleaning.{Cleans, one_left, one_cleaned, all_cleaned}

@@ -7,14 +7,14 @@ pub invariant_of-self-2 : goal.invariant_of-self-2
 invariant_of-self-2 c =
     let filled = rw (c.new.ensures, c.new-2.ensures, c.new-3.ensures) at c.make_object.ensures in
     let words : c.from-3.result * c.from-4.result ≡ c.self.inside.config.regions * c.self.inside.config.words = ap (λ (n : ℕ). n * c.from-4.result) c.from-3.ensures ∙ ap (λ (n : ℕ). c.self.inside.config.regions * n) c.from-4.ensures in
-    rw c.register_index.ensures (new_kept _ c.args.mutator c.args.to _ _ _ _ _ c.args.pointers c.args.values c.self.invariant c.in-Ok.ensures.placed c.law-2.ensures.positive c.law-2.ensures.fitting (omega (arith, c.from.ensures, c.from-2.ensures)) filled (omega (arith, words, c.from.ensures, c.from-2.ensures)) c.if-self.false)
+    rw c.register_index.ensures (new_kept _ c.args.mutator c.args.to _ _ _ _ _ c.args.pointers c.args.values c.self.invariant c.in-Ok.ensures.placed c.law-2.ensures.positive c.law-2.ensures.fitting (omega (arith, c.from.ensures, c.from-2.ensures)) filled (omega (arith, words, c.from.ensures, c.from-2.ensures)) c.if-self.false (omega (arith, c.from.ensures, c.from-2.ensures, c.from-5.ensures)))
 
 pub returns-clause-acts : goal.returns-clause-acts
 returns-clause-acts c = λ g s.
     let filled = rw (c.new.ensures, c.new-2.ensures, c.new-3.ensures) at c.make_object.ensures in
     let words : c.from-3.result * c.from-4.result ≡ c.self.inside.config.regions * c.self.inside.config.words = ap (λ (n : ℕ). n * c.from-4.result) c.from-3.ensures ∙ ap (λ (n : ℕ). c.self.inside.config.regions * n) c.from-4.ensures in
     let s' = subst (λ (d : CoreState). ShowsGraph g d) (sym c.self.view_is) s in
-    inl (rw c.register_index.ensures (new_acts _ c.args.mutator c.args.to _ _ _ _ _ c.args.pointers c.args.values c.self.invariant c.in-Ok.ensures.placed c.law-2.ensures.positive c.law-2.ensures.fitting (omega (arith, c.from.ensures, c.from-2.ensures)) filled (omega (arith, words, c.from.ensures, c.from-2.ensures)) c.if-self.false g s'))
+    inl (rw c.register_index.ensures (new_acts _ c.args.mutator c.args.to _ _ _ _ _ c.args.pointers c.args.values c.self.invariant c.in-Ok.ensures.placed c.law-2.ensures.positive c.law-2.ensures.fitting (omega (arith, c.from.ensures, c.from-2.ensures)) filled (omega (arith, words, c.from.ensures, c.from-2.ensures)) c.if-self.false (omega (arith, c.from.ensures, c.from-2.ensures, c.from-5.ensures)) g s'))
 
 pub returns-clause-full : goal.returns-clause-full
 returns-clause-full c = λ none name e.
@@ -25,10 +25,10 @@ returns-clause-keeps c = λ s f.
     let filled = rw (c.new.ensures, c.new-2.ensures, c.new-3.ensures) at c.make_object.ensures in
     let words : c.from-3.result * c.from-4.result ≡ c.self.inside.config.regions * c.self.inside.config.words = ap (λ (n : ℕ). n * c.from-4.result) c.from-3.ensures ∙ ap (λ (n : ℕ). c.self.inside.config.regions * n) c.from-4.ensures in
     let f' = subst (λ (d : CoreState). KeepsFrom s d) (sym c.self.view_is) f in
-    rw c.register_index.ensures (new_keeps _ c.args.mutator c.args.to _ _ _ _ _ c.args.pointers c.args.values c.self.invariant c.in-Ok.ensures.placed c.law-2.ensures.positive c.law-2.ensures.fitting (omega (arith, c.from.ensures, c.from-2.ensures)) filled (omega (arith, words, c.from.ensures, c.from-2.ensures)) c.if-self.false s f')
+    rw c.register_index.ensures (new_keeps _ c.args.mutator c.args.to _ _ _ _ _ c.args.pointers c.args.values c.self.invariant c.in-Ok.ensures.placed c.law-2.ensures.positive c.law-2.ensures.fitting (omega (arith, c.from.ensures, c.from-2.ensures)) filled (omega (arith, words, c.from.ensures, c.from-2.ensures)) c.if-self.false (omega (arith, c.from.ensures, c.from-2.ensures, c.from-5.ensures)) s f')
 
 pub returns-clause-leaves : goal.returns-clause-leaves
 returns-clause-leaves c =
     let filled = rw (c.new.ensures, c.new-2.ensures, c.new-3.ensures) at c.make_object.ensures in
     let words : c.from-3.result * c.from-4.result ≡ c.self.inside.config.regions * c.self.inside.config.words = ap (λ (n : ℕ). n * c.from-4.result) c.from-3.ensures ∙ ap (λ (n : ℕ). c.self.inside.config.regions * n) c.from-4.ensures in
-    rw c.register_index.ensures (new_leaves _ c.args.mutator c.args.to _ _ _ _ _ c.args.pointers c.args.values c.self.invariant c.in-Ok.ensures.placed c.law-2.ensures.positive c.law-2.ensures.fitting (omega (arith, c.from.ensures, c.from-2.ensures)) filled (omega (arith, words, c.from.ensures, c.from-2.ensures)) c.if-self.false _ c.self.view_is)
+    rw c.register_index.ensures (new_leaves _ c.args.mutator c.args.to _ _ _ _ _ c.args.pointers c.args.values c.self.invariant c.in-Ok.ensures.placed c.law-2.ensures.positive c.law-2.ensures.fitting (omega (arith, c.from.ensures, c.from-2.ensures)) filled (omega (arith, words, c.from.ensures, c.from-2.ensures)) c.if-self.false (omega (arith, c.from.ensures, c.from-2.ensures, c.from-5.ensures)) _ c.self.view_is)

@@ -38,4 +38,4 @@ returns-clause-released c =
     let known = to_fields _ _ c.self.view_is (λ d. c.args.region < length d.table.regions) c.requires.known in
     let dead = to_fields _ _ c.self.view_is (λ d. IsDead d c.args.region) c.requires.dead in
     let idle = to_fields _ _ c.self.view_is (λ d. d.marker.running ≡ false) c.requires.idle in
-    rw c.release.ensures (released_from _ c.self.invariant c.law.ensures c.args.region known dead idle _ f.stands f.running f.tops f.previous f.next f.logs _ c.clear.ensures _ c.self.view_is)
+    rw c.release.ensures (released_from _ c.self.invariant c.law.ensures c.args.region known dead idle _ f.stands f.running f.tops f.previous f.next f.logs _ c.clear.ensures f.grey f.scans _ c.self.view_is)
