@@ -1,5 +1,5 @@
 -- The sizes that a heap can have.
-use Rattle.std.specs.Prelude.{◌*◌, ◌^◌, ◌≤◌, IsTrue}
+use Rattle.std.specs.Prelude.{ℕ, ◌*◌, ◌^◌, ◌≤◌, IsTrue}
 use Rattle.std.specs.Int.{is_power_of_two}
 use Rattle.heap_words.specs.declared.config.Config.{Config}
 use Rattle.heap_words.specs.declared.config.NewFault.{NewFault}
@@ -23,6 +23,10 @@ pub record HasBuffer (c : Config) : Type 0 where
 pub record HasMutators (c : Config) : Type 0 where
   pub at_least : 1 ≤ c.mutators
   pub at_most : c.mutators ≤ 16
+
+-- how many words a card has
+abbrev pub card_words : Config → ℕ
+card_words c = 8
 
 -- a heap can have these sizes
 pub record Suits (c : Config) : Type 0 where

@@ -1,7 +1,7 @@
 //! The sizes of a heap, and whether they suit.
 
-ghost use Rattle.std.specs.Prelude.{◌↔◌, IsOk, IfErr};
-ghost use Rattle.heap_words.specs.Configs.{Suits, IsFirstFault};
+ghost use Rattle.std.specs.Prelude.{◌≡◌, ◌↔◌, IsOk, IfErr};
+ghost use Rattle.heap_words.specs.Configs.{card_words, Suits, IsFirstFault};
 
 use thiserror::Error;
 
@@ -63,6 +63,13 @@ impl Config {
             return Err(NewFault::BadMutators);
         }
         Ok(())
+    }
+
+    /// How many words a card has: a region is a whole number of cards.
+    pub fn card_words(&self) -> u32
+        ensures { result ≡ card_words self.now }
+    {
+        8
     }
 }
 

@@ -6,7 +6,7 @@ ghost use Rattle.heap_model.specs.Heap.{IsShown};
 ghost use Rattle.object_graph.specs.Machine.{stored};
 ghost use Rattle.object_graph.specs.declared.step.Reply.TheVariants as replies;
 ghost use Rattle.object_graph.specs.declared.step.Refusal.TheVariants as refusals;
-ghost use Rattle.step_core.specs.Stands.{ShowsGraph, KeepsFrom, Stands, heap_of, IsWordOf, IsRootWord};
+ghost use Rattle.step_core.specs.Stands.{ShowsGraph, KeepsFrom, State, Stands, heap_of, IsWordOf, IsRootWord};
 ghost use Rattle.step_core.specs.Answers.{Acts, HasNoPlace, IsFull, RepliesFull, Follows};
 ghost use Rattle.step_core.specs.Mutators.{ActsOn, value_of};
 ghost use Rattle.step_core.specs.Cycle.{LeavesRegions};
@@ -206,8 +206,8 @@ impl Core {
     /// Does a mutator's step.
     pub(crate) fn act(&mut self, op: Op) -> Reply
         requires { op.mutator < self.old.config.mutators }
-        ensures follows { (g s : Graph) → Stands g s self.old → Follows g s (steps.Mutator op) result self.new }
-        ensures full { (g s : Graph) → Stands g s self.old → (result ≡ replies.Refused refusals.Full) ↔ IsFull g op.mutator op.action self.old }
+        ensures follows { (s : State) → Stands s self.old → Follows s (steps.Mutator op) result self.new }
+        ensures full { (s : State) → Stands s self.old → (result ≡ replies.Refused refusals.Full) ↔ IsFull s.graph op.mutator op.action self.old }
         ensures after { ActsOn op.mutator op.action result self.old self.new }
         ensures leaves { LeavesRegions self.old self.new }
     {
