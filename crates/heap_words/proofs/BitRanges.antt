@@ -8,13 +8,13 @@ use Rattle.heap_words.specs.Bits.{is_between, has}
 use Rattle.heap_words.specs.BitWords.{bit_of, flags_of}
 use Rattle.heap_words.proofs.BitWords.{and-false, middle_mask, bit_at-middle_mask, bit_at-middle_mask_outside, bit_of-set_here, bit_of-set_there, length-flags_of, has-flags_of, has_past, div_ceil_reaches}
 
-between_yes : (from to a : ℕ) → from ≤ a → a < to → is_between from to a ≡ true
+pub between_yes : (from to a : ℕ) → from ≤ a → a < to → is_between from to a ≡ true
 between_yes from to a h k = rw (le-leb from a h, lt-ltb a to k) refl
 
-between_no_below : (from to a : ℕ) → a < from → is_between from to a ≡ false
+pub between_no_below : (from to a : ℕ) → a < from → is_between from to a ≡ false
 between_no_below from to a h = rw (lt-leb from a h) refl
 
-between_no_above : (from to a : ℕ) → to ≤ a → is_between from to a ≡ false
+pub between_no_above : (from to a : ℕ) → to ≤ a → is_between from to a ≡ false
 between_no_above from to a h = ap (λ b. leb from a && b) (le-ltb a to h) ∙ and-false (leb from a)
 
 between_same : (from to upto a : ℕ) → (a < to → a < upto) → (a < upto → a < to) → is_between from to a ≡ is_between from upto a

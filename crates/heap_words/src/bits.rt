@@ -10,7 +10,7 @@
 //! A set takes one bit a number, all reserved when it is made. To clear it, or a range of it, touches its words and not each
 //! number, and to go over its members costs the members and the words between them.
 
-ghost use Rattle.std.specs.Prelude.{◌≡◌, ℕ, ◌+◌, ◌*◌, ◌<◌, ◌≤◌, List, Bool, false, true, if◌then◌else◌, IfOk, IfSome, length, MatchOption, replicate, slice_set};
+ghost use Rattle.std.specs.Prelude.{◌≡◌, ℕ, ◌+◌, ◌*◌, ◌^◌, ◌<◌, ◌≤◌, List, Bool, false, true, if◌then◌else◌, IfOk, IfSome, length, MatchOption, replicate, slice_set};
 ghost use Rattle.std.specs.Int.{bit_at};
 ghost use Rattle.heap_words.specs.Bits.{has, has_alone, is_between, HasNone, IsLowest};
 
@@ -54,6 +54,13 @@ impl Bits {
     {
         let words = vec![in alloc; 0; count.div_ceil(64) as usize]?;
         Ok(Bits { words, len: count })
+    }
+
+    /// Tells a proof what is known of each set: its numbers are below 2 to the 32nd. It does nothing.
+    pub fn law(&self)
+        ensures { length self.now < 2 ^ 32 }
+    {
+        let _len = self.len;
     }
 
     /// How many numbers there are, in the set or not.
