@@ -1,7 +1,7 @@
 use Rattle.std.proofs.Common.{◌∙◌, sym, ◌≡◌}
 use Rattle.regions.specs.declared.row.Kind.TheVariants as kinds
-use Rattle.step_core.proofs.Rows.{kind_free, kind_used}
-use Rattle.step_core.proofs.candidates.region_is_free.Goals as goal
+use Rattle.regions.proofs.Counting.{kind_free, kind_used}
+use Rattle.regions.proofs.table.RegionTable.is_free.Goals as goal
 
 pub returns-in-Free : goal.returns-in-Free
 returns-in-Free c = kind_free _ _ (sym c.kind.ensures ∙ c.in-Free.is)
