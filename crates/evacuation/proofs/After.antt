@@ -3,7 +3,7 @@ use Rattle.std.proofs.Common.{◌≡◌, ℕ, get_or, ap, ◌+◌, ◌*◌, ◌/
 use Rattle.std.specs.Prelude.{slice_get}
 use Rattle.std.proofs.lemmas.Option.{slice_get-get_or}
 use Rattle.evacuation.proofs.Lists.{get_below}
-use Rattle.heap_model.specs.Heap.{Stored}
+use Rattle.heap_model.specs.Heap.{Stored, fields}
 use Rattle.object_copy.specs.Copies.{Places}
 use Rattle.evacuation.specs.Space.{Layout, Space, IsTaken, IsAfter, NewCrossing, IsObject, IsClean, IsNoted, IsSettled, IsUpdated, IsFieldClean, IsFieldSettled, IsObjectSettled, flag, set_of, field_at}
 
@@ -35,7 +35,7 @@ same_after l t s d = record {
   stays = λ b y o e. (y, e, refl);
   new_above = λ b y o e. inl (y, e);
   closed = λ k w n. (λ b y r e. (y, e), n);
-  fields = λ b y y' i w o e e' g. inl (let r : y ≡ y' = cc in subst (λ (z : Stored). slice_get z.pointers i ≡ Some w) (sym r) g);
+  fields = λ b y y' i w o e e' g. inl (let r : y ≡ y' = cc in subst (λ (z : Stored). slice_get (fields z) i ≡ Some w) (sym r) g);
 }
 
 -- more is noted, and nothing else changes
@@ -50,7 +50,7 @@ noted_after l t t' s d f n g = record {
   stays = λ b y o e. (y, e, refl);
   new_above = λ b y o e. inl (y, e);
   closed = λ k w n. (λ b y r e. (y, e), n);
-  fields = λ b y y' i w o e e' g. inl (let r : y ≡ y' = cc in subst (λ (z : Stored). slice_get z.pointers i ≡ Some w) (sym r) g);
+  fields = λ b y y' i w o e e' g. inl (let r : y ≡ y' = cc in subst (λ (z : Stored). slice_get (fields z) i ≡ Some w) (sym r) g);
 }
 
 above_more : (at a b c : ℕ) → at + b ≤ c → a ≤ b → at + a ≤ c
@@ -60,9 +60,9 @@ above_more at a b c h k = omega arith
 crossing_on : (l : Layout) (t t' t'' : List Bool) (s s' s'' : Space) (d d' d'' : Places) (c : ℕ) → IsAfter l t' t'' s' s'' d' d'' → NewCrossing l s s' d' c → NewCrossing l s s'' d'' c
 crossing_on l t t' t'' s s' s'' d d' d'' c b x =
     let (z, e, n) = b.stays x.at x.object x.outside x.here in
-    let within = get_below x.object.pointers x.index (Some x.target) x.field in
-    let w = get_or z.pointers x.index None in
-    let is : slice_get z.pointers x.index ≡ Some w = slice_get-get_or z.pointers x.index None (omega arith) in
+    let within = get_below (fields x.object) x.index (Some x.target) x.field in
+    let w = get_or (fields z) x.index None in
+    let is : slice_get (fields z) x.index ≡ Some w = slice_get-get_or (fields z) x.index None (omega arith) in
     record {
       at = x.at;
       index = x.index;

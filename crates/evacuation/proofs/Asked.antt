@@ -7,7 +7,7 @@ use Rattle.std.proofs.lemmas.Bool.Decides.{eqb_tells}
 use Rattle.std.proofs.lemmas.List.Sums.{count_by-le-length}
 use Rattle.std.proofs.lemmas.List.Recursion.{is_sum_by}
 use Rattle.std.proofs.lemmas.Nat.{mul-le}
-use Rattle.heap_model.specs.Heap.{Stored}
+use Rattle.heap_model.specs.Heap.{Stored, fields}
 use Rattle.regions.specs.Tiles.{Live}
 use Rattle.regions.specs.Table.{Table, is_free, kind_of, object_at, stored_size}
 use Rattle.regions.specs.Shaped.{IsShaped}
@@ -178,7 +178,7 @@ module _ (h : Layers) (rows : List LiveRow) (cw : ℕ) (can : CanEvacuate h rows
     pub all_visited : AllVisited (layout pause) (plan pause) visited
     all_visited b i a x at out e inside =
         let o = object b x at in
-        let n = get_below x.pointers i (Some a) e in
+        let n = get_below (fields x) i (Some a) e in
         let big = object_within h.table b x shaped o in
         let holder : IsHolder h.table b (field_at b i) = record { tile = Live x; tile_is = tile_of_object h.table b x o; low = omega arith; high = omega arith } in
         let leaves : a / words ≢ field_at b i / words = λ same. apart b (field_at b i) holder out (ap (flag flags) (sym same) ∙ inside) in

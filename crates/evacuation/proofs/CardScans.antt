@@ -3,7 +3,7 @@ use Rattle.std.proofs.Common.{◌≡◌, ℕ, ◌+◌, ◌*◌, ◌/◌, ◌<◌
 use Rattle.std.specs.Prelude.{IsSome}
 use Rattle.std.specs.List.{AllZip}
 use Rattle.std.proofs.lemmas.Bool.{cases_eq, cases_lt}
-use Rattle.heap_model.specs.Heap.{Stored}
+use Rattle.heap_model.specs.Heap.{Stored, fields}
 use Rattle.heap_model.specs.Evacuation.{IsWord, place_of}
 use Rattle.regions.specs.Tiles.{Live}
 use Rattle.regions.specs.Table.{Table, tile_in, top_of}
@@ -15,12 +15,13 @@ use Rattle.object_copy.specs.Copies.{Places}
 use Rattle.object_copy.proofs.Copied.{tile_of_object}
 use Rattle.evacuation.specs.Space.{IsField, IsFieldClean, IsObject, IsStill, IsVisited, AreClean, field_at, flag}
 use Rattle.evacuation.specs.Turns.{Pause, IsPause, IsTurn, After, in_set, kept_now, layout, plan, space}
-use Rattle.evacuation.specs.Cursors.{IsNext, IsLast, AreCleanBelow, IsCardClean}
+use Rattle.regions.specs.Walks.{IsNext, IsLast}
+use Rattle.evacuation.specs.Cursors.{AreCleanBelow, IsCardClean}
 use Rattle.mark_bitmap.specs.Tops.{Tops}
 use Rattle.mark_bitmap.specs.Kept.{kept_in}
 use Rattle.object_copy.proofs.Copied.{some_of}
 use Rattle.evacuation.proofs.Places.{is_some}
-use Rattle.evacuation.proofs.Scans.{some_tile}
+use Rattle.regions.proofs.Steps.{some_tile}
 use Rattle.evacuation.proofs.Keeps.{kept_object}
 use Rattle.evacuation.proofs.After.{clean_after}
 
@@ -31,10 +32,10 @@ zip_length place (x ∷ xs) [] z = absurd z
 zip_length place (x ∷ xs) (y ∷ ys) z = let k = zip_length place xs ys z.1 in omega arith
 
 -- an object that stood outside the set stands there still, with as many pointers
-pub outside_stands : (p : Pause) (t : Table) (d : Places) (b : ℕ) (x : Stored) → IsTurn p t d → (plan p).heap.kept b ≡ Some x → in_set p b ≡ false → IsStill (space p t) b (length x.pointers)
+pub outside_stands : (p : Pause) (t : Table) (d : Places) (b : ℕ) (x : Stored) → IsTurn p t d → (plan p).heap.kept b ≡ Some x → in_set p b ≡ false → IsStill (space p t) b (length (fields x))
 outside_stands p t d b x turn at out =
     let k = turn.copying.heap.objects b b x at (rw out refl) in
-    (k.part, k.at, zip_length (place_of (in_set p) (space p t).forward) x.pointers k.part.pointers k.pointers)
+    (k.part, k.at, zip_length (place_of (in_set p) (space p t).forward) (fields x) (fields k.part) k.pointers)
 
 pub visited_field : (p : Pause) (t : Table) (d : Places) (visited : List Bool) (b i : ℕ) → IsTurn p t d → IsVisited (layout p) (plan p) visited b i → IsField (space p t) b i
 visited_field p t d visited b i turn v = let (y, at, n) = outside_stands p t d b v.object turn v.at v.outside in let k = v.within in record { object = y; at = at; within = omega arith }

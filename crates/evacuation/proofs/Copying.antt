@@ -2,7 +2,7 @@
 use Rattle.std.proofs.Common.{◌≡◌, ◌≢◌, ℕ, suc, ◌+◌, ◌*◌, ◌/◌, ◌<◌, ◌≤◌, ◌⊎◌, Bool, false, List, [], ◌∷◌, ◌++◌, Option, Some, None, length, refl, sym, ap, ◌∙◌, subst, inl, inr, arith, length-append}
 use Rattle.std.specs.Prelude.{slice_get}
 use Rattle.std.proofs.lemmas.Bool.{cases_eq}
-use Rattle.heap_model.specs.Heap.{Heap, Stored}
+use Rattle.heap_model.specs.Heap.{Heap, Stored, fields}
 use Rattle.heap_model.specs.Evacuation.{IsEvacuating, Copies}
 use Rattle.heap_model.proofs.Lists.{get-push_last, get_kept-append}
 use Rattle.heap_model.proofs.Evacuated as evacuated
@@ -217,5 +217,5 @@ module _ (l : Layout) (p : Plan) (s s' : Space) (d d' : Places) (from to : ℕ) 
       λ b y r e. (y, back b y e (λ q. closed_stays j w m (sym r ∙ ap (λ (v : ℕ). v / l.words) q ∙ u.at_region))),
       λ e. closed_stays j w m (let z = u.last in cc),
     );
-    fields = λ b y y' i w o e e' g. inl (let q = frame b y o e in let r : y ≡ y' = cc in subst (λ (z : Stored). slice_get z.pointers i ≡ Some w) (sym r) g);
+    fields = λ b y y' i w o e e' g. inl (let q = frame b y o e in let r : y ≡ y' = cc in subst (λ (z : Stored). slice_get (fields z) i ≡ Some w) (sym r) g);
   }

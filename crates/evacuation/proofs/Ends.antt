@@ -3,7 +3,7 @@ use Rattle.std.proofs.Common.{◌≡◌, ℕ, ◌/◌, Bool, true, false, List, 
 use Rattle.std.specs.Prelude.{slice_get}
 use Rattle.std.specs.List.{AllZip}
 use Rattle.std.proofs.lemmas.Bool.{cases_Bool}
-use Rattle.heap_model.specs.Heap.{Heap, Stored}
+use Rattle.heap_model.specs.Heap.{Heap, Stored, fields}
 use Rattle.heap_model.specs.Relocation.{IsMoved, Relocates}
 use Rattle.heap_model.specs.Evacuation.{IsReached, ByRootWord, ByOutside, ByInside, place_of, IsWord, IsEvacuating, IsEvacuated, IsClean, released}
 use Rattle.heap_model.proofs.Lists.{AllZip-get_right}
@@ -71,23 +71,23 @@ module _ (p : Pause) (q : IsPause p) (noted visited : List Bool) (t : Table) (d 
   roots_clean i a e = let (w, is, m) = AllZip-get_right (IsMoved (place_of set forward)) p.roots roots moved i (Some a) e in clean_word a w m
 
   -- a field of an object that stood outside: where it named the set, it was visited
-  outside_clean : (b i a : ℕ) (y : Stored) → kept_now p t b ≡ Some y → set b ≡ false → (x : Stored) → (plan p).heap.kept b ≡ Some x → slice_get y.pointers i ≡ Some (Some a) → set a ≡ false
+  outside_clean : (b i a : ℕ) (y : Stored) → kept_now p t b ≡ Some y → set b ≡ false → (x : Stored) → (plan p).heap.kept b ≡ Some x → slice_get (fields y) i ≡ Some (Some a) → set a ≡ false
   outside_clean b i a y at out x here e = elim (cases_Bool (set a)) [
     | inl inside ↦
         let k = turn.copying.heap.objects b b x here (rw out refl) in
         let same : y ≡ k.part = let e1 = k.at in cc in
-        let e' = subst (λ (z : Stored). slice_get z.pointers i ≡ Some (Some a)) same e in
-        let (w, is, v) = AllZip-get_right (IsWord (place_of set forward)) x.pointers k.part.pointers k.pointers i (Some a) e' in
+        let e' = subst (λ (z : Stored). slice_get (fields z) i ≡ Some (Some a)) same e in
+        let (w, is, v) = AllZip-get_right (IsWord (place_of set forward)) (fields x) (fields k.part) k.pointers i (Some a) e' in
         let was = word_was set (plan p).heap forward (seen_as (space p t) (plan p).heap) turn.copying.heap w a v inside in
         let named = is ∙ ap Some was in
-        let within = get_below x.pointers i (Some a) named in
+        let within = get_below (fields x) i (Some a) named in
         let big = object_within p.start b x q.shaped (kept_object p p.start b x (start_kept p b ∙ here)) in
         let card = card_within p visited (field_at b i) p.card_words q refl each (omega arith) in
         outside b i (record { object = x; at = here; outside = out; within = within; card = remembered b i a x here out named inside }) card y (Some a) at e
     | inr k ↦ k
   ]
 
-  copy_clean : (b i a : ℕ) (y : Stored) → kept_now p t b ≡ Some y → IsTaken d (b / p.start.words_per_region) → slice_get y.pointers i ≡ Some (Some a) → set a ≡ false
+  copy_clean : (b i a : ℕ) (y : Stored) → kept_now p t b ≡ Some y → IsTaken d (b / p.start.words_per_region) → slice_get (fields y) i ≡ Some (Some a) → set a ≡ false
   copy_clean b i a y at w e = (copies (b / p.start.words_per_region) w b y refl at i y (Some a) at e).0
 
   pub evacuated : IsEvacuated set now

@@ -10,7 +10,7 @@ use Rattle.regions.specs.Tiles.{Tile, Live, Gap, Moved, tile_size, tile_at}
 use Rattle.regions.specs.Walks.{AllPositive, region_tiles, tiles_of}
 use Rattle.regions.proofs.Placing.{tile_at-back}
 use Rattle.regions.proofs.WalkFrom.{listed_tile}
-use Rattle.regions.specs.Table.{Region, Free, Ordinary, First, Rest, Table, EachMoved, EachMovedIn, HasNoMoved, kind_of, object_at, region_kind, region_number, region_tile, region_used, tile_in, tile_object, used_of}
+use Rattle.regions.specs.Table.{Region, Free, Ordinary, First, Rest, Table, EachMoved, EachMovedIn, HasNoMoved, kind_of, object_at, region_kind, region_number, region_tile, region_used, tile_in, tile_object, used_of, AreHalves}
 use Rattle.regions.specs.Shaped.{IsShaped}
 use Rattle.regions.specs.declared.row.Kind.TheVariants as kinds
 use Rattle.regions.proofs.RunLaws.{tile_of_region}
@@ -20,7 +20,7 @@ use Rattle.mark_bitmap.specs.Kept.{MarksObjects, kept_in}
 use Rattle.mark_bitmap.proofs.KeptLaws.{gone_kept}
 use Rattle.region_choice.specs.declared.LiveRow.{LiveRow}
 use Rattle.object_copy.specs.Copies.{Places}
-use Rattle.evacuation.specs.Evacuates.{AreHalves, AreReachedWords, CanEvacuate, Layers, MarksAfter, RegionsAfter, heap_of, is_chosen, set_by, IsNewCrossing}
+use Rattle.evacuation.specs.Evacuates.{AreReachedWords, CanEvacuate, Layers, MarksAfter, RegionsAfter, heap_of, is_chosen, set_by, IsNewCrossing}
 use Rattle.evacuation.specs.Space.{flag, NewCrossing}
 use Rattle.evacuation.specs.Turns.{Pause, IsTurn, in_set, kept_now, plan, space, layout}
 use Rattle.evacuation.specs.Releasing.{AreReleased}

@@ -2,7 +2,7 @@
 use Rattle.std.proofs.Common.{◌≡◌, ℕ, ◌+◌, ◌<◌, ◌≤◌, Bool, List, length, sym, ap, subst, inl, inr, arith}
 use Rattle.std.specs.Prelude.{false}
 use Rattle.std.proofs.lemmas.Bool.{cases_eq}
-use Rattle.heap_model.specs.Heap.{Stored}
+use Rattle.heap_model.specs.Heap.{Stored, fields}
 use Rattle.regions.specs.Table.{Table}
 use Rattle.object_copy.specs.Copies.{Places}
 use Rattle.evacuation.specs.Space.{IsField, IsFieldSettled, IsObject, IsObjectSettled, IsStill}
@@ -25,6 +25,6 @@ pub fields_all : (p : Pause) (noted : List Bool) (t : Table) (at m n : ℕ) → 
 fields_all p noted t at m n settled still h i y w e f =
     let (z, e1, count) = still in
     let same : z ≡ y = cc in
-    let within = get_below y.pointers i w f in
-    let c' = ap (λ (v : Stored). length v.pointers) same in
+    let within = get_below (fields y) i w f in
+    let c' = ap (λ (v : Stored). length (fields v)) same in
     settled i (omega arith) y w e f

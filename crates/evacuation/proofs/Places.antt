@@ -4,12 +4,12 @@ use Rattle.std.specs.Prelude.{IsSome, IfSome}
 use Rattle.std.proofs.lemmas.Bool.{cases_lt}
 use Rattle.heap_model.specs.Heap.{Stored}
 use Rattle.regions.specs.Tiles.{Tile, Live, tile_size}
-use Rattle.regions.specs.Table.{Table, kind_of, moved_to, object_at, object_words, tile_in, tile_object, EachMovedIn}
+use Rattle.regions.specs.Table.{Table, kind_of, moved_to, object_at, object_words, tile_in, tile_object, EachMovedIn, free_count}
 use Rattle.regions.specs.Shaped.{IsShaped}
 use Rattle.regions.specs.declared.row.Kind.TheVariants as kinds
 use Rattle.regions.proofs.Sizes.{EachMovedIn-imp}
 use Rattle.refinement.proofs.Holders.{object_within}
-use Rattle.object_copy.specs.Copies.{Places, CanPlace, Copies, CopiesObject, fill_of, free_count}
+use Rattle.object_copy.specs.Copies.{Places, CanPlace, Copies, CopiesObject, fill_of}
 use Rattle.object_copy.proofs.Copied as copied
 use Rattle.evacuation.specs.Space.{CopiesTo, HasRoom, IsNamed, filled}
 use Rattle.evacuation.specs.Turns.{Pause, IsPause, IsTurn, After, all_words, in_set, kept_now, layout, plan, space}

@@ -5,13 +5,13 @@ use Rattle.heap_model.specs.Heap.{Stored}
 use Rattle.heap_model.specs.Evacuation.{IsEvacuating}
 use Rattle.heap_model.proofs.Evacuated.{start}
 use Rattle.regions.specs.Tiles.{Tile, Live, Moved}
-use Rattle.regions.specs.Table.{Region, Free, Ordinary, First, Rest, Table, HasNoMoved, is_free, kind_of, moved_to, region_at, region_kind, region_number, region_tile, tile_in}
+use Rattle.regions.specs.Table.{Region, Free, Ordinary, First, Rest, Table, HasNoMoved, is_free, kind_of, moved_to, region_at, region_kind, region_number, region_tile, tile_in, free_count}
 use Rattle.regions.specs.Rows.{kind_is_free}
 use Rattle.regions.specs.Tiles.{Gap}
 use Rattle.regions.specs.declared.row.Kind.TheVariants as kinds
 use Rattle.regions.proofs.MovedLaws.{moved_in}
 use Rattle.regions.proofs.Sizes.{EachMovedIn-imp}
-use Rattle.object_copy.specs.Copies.{free_count, no_places}
+use Rattle.object_copy.specs.Copies.{no_places}
 use Rattle.object_copy.proofs.Frees.{free_by_kind}
 use Rattle.object_copy.proofs.Copied.{tile_of_object}
 use Rattle.evacuation.specs.Space.{IsTaken, flag}

@@ -3,12 +3,12 @@ use Rattle.std.proofs.Common.{◌≡◌, ℕ, ◌/◌, ◌⊎◌, Bool, true, fa
 use Rattle.std.specs.Prelude.{slice_get, slice_set}
 use Rattle.std.proofs.lemmas.Bool.{cases_eq}
 use Rattle.std.proofs.lemmas.List.{length-set}
-use Rattle.heap_model.specs.Heap.{Heap, Stored, IsClosed, ObjectSet}
+use Rattle.heap_model.specs.Heap.{Heap, Stored, IsClosed, ObjectSet, fields, with_field}
 use Rattle.heap_model.specs.Evacuation.{IsReached, ByRootWord, ByOutside, ByInside}
 use Rattle.heap_model.proofs.Lists.{get-set_same, get-set_other}
 use Rattle.heap_model.proofs.Evacuated.{field_reached, field_updated}
 use Rattle.object_copy.specs.Copies.{Places}
-use Rattle.evacuation.specs.Space.{Layout, Plan, Space, SetsPointer, IsPlan, IsCopying, IsNamed, IsAfter, IsObject, IsSettled, IsUpdated, IsFieldSettled, filled, flag, set_of, field_at, seen_as}
+use Rattle.evacuation.specs.Space.{Layout, Plan, Space, SetsField, IsPlan, IsCopying, IsNamed, IsAfter, IsObject, IsSettled, IsUpdated, IsFieldSettled, filled, flag, set_of, field_at, seen_as}
 use Rattle.evacuation.proofs.Copying.{same_evacuating, same_tally}
 
 -- what is reached stands there
@@ -18,7 +18,7 @@ reached_kept set h c a (ByOutside b d o p i) = c.field b p.field d p.object p.at
 reached_kept set h c a (ByInside b d o p i) = c.field b p.field d p.object p.at p.is
 
 module _ (l : Layout) (p : Plan) (s : Space) (d : Places) (q : IsPlan l p) (c : IsCopying l p s d)
-    (at i a : ℕ) (y : Stored) (out : set_of l at ≡ false) (here : s.object at ≡ Some y) (names : slice_get y.pointers i ≡ Some (Some a)) (inside : set_of l a ≡ true) where
+    (at i a : ℕ) (y : Stored) (out : set_of l at ≡ false) (here : s.object at ≡ Some y) (names : slice_get (fields y) i ≡ Some (Some a)) (inside : set_of l a ≡ true) where
   pub field_named : IsNamed l p a
   field_named =
       let r = field_reached (set_of l) p.heap s.forward (seen_as s p.heap) c.heap at i a y here out names inside in
@@ -26,10 +26,10 @@ module _ (l : Layout) (p : Plan) (s : Space) (d : Places) (q : IsPlan l p) (c : 
       record { object = x; at = k; inside = inside; reached = r }
 
 module _ (l : Layout) (p : Plan) (s s' : Space) (d : Places) (c : IsCopying l p s d)
-    (at i a b : ℕ) (y : Stored) (out : set_of l at ≡ false) (here : s.object at ≡ Some y) (names : slice_get y.pointers i ≡ Some (Some a)) (inside : set_of l a ≡ true)
-    (f : s.forward a ≡ Some b) (u : SetsPointer s s' at i (Some b) y) where
+    (at i a b : ℕ) (y : Stored) (out : set_of l at ≡ false) (here : s.object at ≡ Some y) (names : slice_get (fields y) i ≡ Some (Some a)) (inside : set_of l a ≡ true)
+    (f : s.forward a ≡ Some b) (u : SetsField s s' at i (Some b) y) where
   abbrev updated : Stored
-  updated = record { name = y.name; pointers = slice_set y.pointers i (Some b); values = y.values }
+  updated = with_field y i (Some b)
 
   change : ObjectSet (seen_as s p.heap) (seen_as s' p.heap) at y updated
   change = record { was = here; is = u.object; name = refl; others = u.others; roots = refl }
@@ -64,18 +64,18 @@ module _ (l : Layout) (p : Plan) (s s' : Space) (d : Places) (c : IsCopying l p 
     word_settled None e = cc
     word_settled (Some x) e = let k : b ≡ x = cc in subst (λ (m : ℕ). IsSettled l t' (field_at at i) (Some m)) k (new_outside, noted)
 
-    place_cases : (j : ℕ) (w : Option ℕ) → slice_get (slice_set y.pointers i (Some b)) j ≡ Some w → ((i ≡ j) × (w ≡ Some b)) ⊎ (slice_get y.pointers j ≡ Some w)
+    place_cases : (j : ℕ) (w : Option ℕ) → slice_get (slice_set (fields y) i (Some b)) j ≡ Some w → ((i ≡ j) × (w ≡ Some b)) ⊎ (slice_get (fields y) j ≡ Some w)
     place_cases j w e = elim (cases_eq i j) [
-      | inl k ↦ inl (k, (let g = get-set_same y.pointers i (Some b) (Some a) names in let e' = subst (λ (m : ℕ). slice_get (slice_set y.pointers i (Some b)) m ≡ Some w) (sym k) e in cc))
-      | inr n ↦ inr (sym (get-set_other y.pointers i j (Some b) n) ∙ e)
+      | inl k ↦ inl (k, (let g = get-set_same (fields y) i (Some b) (Some a) names in let e' = subst (λ (m : ℕ). slice_get (slice_set (fields y) i (Some b)) m ≡ Some w) (sym k) e in cc))
+      | inr n ↦ inr (sym (get-set_other (fields y) i j (Some b) n) ∙ e)
     ]
 
     pub updated_settled : IsFieldSettled l t' s' at i
     updated_settled z w e g =
         let o = u.object in
         let k : updated ≡ z = cc in
-        let g' : slice_get (slice_set y.pointers i (Some b)) i ≡ Some w = subst (λ (m : Stored). slice_get m.pointers i ≡ Some w) (sym k) g in
-        let h = get-set_same y.pointers i (Some b) (Some a) names in
+        let g' : slice_get (slice_set (fields y) i (Some b)) i ≡ Some w = subst (λ (m : Stored). slice_get (fields m) i ≡ Some w) (sym k) g in
+        let h = get-set_same (fields y) i (Some b) (Some a) names in
         word_settled w cc
 
     is_updated : (j : ℕ) (w : Option ℕ) → i ≡ j → w ≡ Some b → IsUpdated l t' (field_at at j) (Some a) w
@@ -94,18 +94,18 @@ module _ (l : Layout) (p : Plan) (s s' : Space) (d : Places) (c : IsCopying l p 
           object = updated;
           here = u.object;
           outside = out;
-          field = get-set_same y.pointers i (Some b) (Some a) names;
+          field = get-set_same (fields y) i (Some b) (Some a) names;
           clean = new_outside;
           in_card = sym o.0;
           leaves = o.1;
-          is_new = inr (λ z f. (a, (let k : y ≡ z = cc in subst (λ (m : Stored). slice_get m.pointers i ≡ Some (Some a)) k names), inside));
+          is_new = inr (λ z f. (a, (let k : y ≡ z = cc in subst (λ (m : Stored). slice_get (fields m) i ≡ Some (Some a)) k names), inside));
         })
       ];
       forward_grows = λ x z e. u.forward x ∙ e;
       taken_grows = λ j k e. e;
       used_grows = λ k. let e = u.used k in omega arith;
       stays = λ x z o e. elim (cases_eq x at) [
-        | inl k ↦ (updated, ap s'.object k ∙ u.object, length-set y.pointers i (Some b) ∙ ap (λ (m : Stored). length m.pointers) (let e1 = ap s.object k in let r : y ≡ z = cc in r))
+        | inl k ↦ (updated, ap s'.object k ∙ u.object, length-set (fields y) i (Some b) ∙ ap (λ (m : Stored). length (fields m)) (let e1 = ap s.object k in let r : y ≡ z = cc in r))
         | inr n ↦ (z, u.others x n ∙ e, refl)
       ];
       new_above = λ x z o e. inl (was x z e);
@@ -114,16 +114,16 @@ module _ (l : Layout) (p : Plan) (s s' : Space) (d : Places) (c : IsCopying l p 
         | inl k ↦
             let k1 : z ≡ y = let e1 = ap s.object k in cc in
             let k2 : z' ≡ updated = let e1 = ap s'.object k in let e2 = u.object in cc in
-            let g' : slice_get (slice_set y.pointers i (Some b)) j ≡ Some w = subst (λ (m : Stored). slice_get m.pointers j ≡ Some w) k2 g in
+            let g' : slice_get (slice_set (fields y) i (Some b)) j ≡ Some w = subst (λ (m : Stored). slice_get (fields m) j ≡ Some w) k2 g in
             elim (place_cases j w g') [
               | inl v ↦ inr (
                 Some a,
-                subst (λ (m : Stored). slice_get m.pointers j ≡ Some (Some a)) (sym k1) (subst (λ (m : ℕ). slice_get y.pointers m ≡ Some (Some a)) v.0 names),
+                subst (λ (m : Stored). slice_get (fields m) j ≡ Some (Some a)) (sym k1) (subst (λ (m : ℕ). slice_get (fields y) m ≡ Some (Some a)) v.0 names),
                 subst (λ (m : ℕ). IsUpdated l t' (field_at m j) (Some a) w) (sym k) (is_updated j w v.0 v.1),
               )
-              | inr v ↦ inl (subst (λ (m : Stored). slice_get m.pointers j ≡ Some w) (sym k1) v)
+              | inr v ↦ inl (subst (λ (m : Stored). slice_get (fields m) j ≡ Some w) (sym k1) v)
             ]
-        | inr n ↦ inl (let e1 = u.others x n in let k1 : z' ≡ z = cc in subst (λ (m : Stored). slice_get m.pointers j ≡ Some w) k1 g)
+        | inr n ↦ inl (let e1 = u.others x n in let k1 : z' ≡ z = cc in subst (λ (m : Stored). slice_get (fields m) j ≡ Some w) k1 g)
       ];
     }
       where

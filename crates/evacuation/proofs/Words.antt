@@ -4,20 +4,20 @@ use Rattle.std.specs.Prelude.{slice_get, slice_set}
 use Rattle.std.proofs.lemmas.Bool.{cases_eq, cases_lt}
 use Rattle.std.proofs.lemmas.Nat.{mul-le}
 use Rattle.std.proofs.lemmas.List.{get_or-set_same, get_or-set_other}
-use Rattle.heap_model.specs.Heap.{Stored}
-use Rattle.regions.specs.Table.{Table, pointers_at}
+use Rattle.heap_model.specs.Heap.{Stored, fields}
+use Rattle.regions.specs.Table.{Table, fields_at}
 use Rattle.regions.specs.Shaped.{IsShaped}
 use Rattle.refinement.proofs.Divides.{div_low, card_has_words}
-use Rattle.refinement.proofs.Holders.{pointers_of, object_within}
+use Rattle.refinement.proofs.Holders.{fields_of, object_within}
 use Rattle.evacuation.specs.Space.{IsField, flag}
 use Rattle.evacuation.specs.Turns.{Pause, IsPause, TableStays, EachCard, kept_now, space}
 use Rattle.evacuation.proofs.Keeps.{kept_object}
 
-pub field_pointer : (p : Pause) (t : Table) (at i : ℕ) → (f : IsField (space p t) at i) → i < length (pointers_at t at)
-field_pointer p t at i f = let e = pointers_of t at f.object (kept_object p t at f.object f.at) in let w = f.within in rw e w
+pub field_pointer : (p : Pause) (t : Table) (at i : ℕ) → (f : IsField (space p t) at i) → i < length (fields_at t at)
+field_pointer p t at i f = let e = fields_of t at f.object (kept_object p t at f.object f.at) in let w = f.within in rw e w
 
-pub pointer_is : (p : Pause) (t : Table) (at i : ℕ) (y : Stored) (w : Option ℕ) → kept_now p t at ≡ Some y → slice_get (pointers_at t at) i ≡ Some w → slice_get y.pointers i ≡ Some w
-pointer_is p t at i y w at_is e = let q = pointers_of t at y (kept_object p t at y at_is) in ap (λ (m : List (Option ℕ)). slice_get m i) (sym q) ∙ e
+pub pointer_is : (p : Pause) (t : Table) (at i : ℕ) (y : Stored) (w : Option ℕ) → kept_now p t at ≡ Some y → slice_get (fields_at t at) i ≡ Some w → slice_get (fields y) i ≡ Some w
+pointer_is p t at i y w at_is e = let q = fields_of t at y (kept_object p t at y at_is) in ap (λ (m : List (Option ℕ)). slice_get m i) (sym q) ∙ e
 
 -- a field's word lies in the heap
 pub word_within : (p : Pause) (t : Table) (at i : ℕ) → IsShaped t → TableStays p t → (f : IsField (space p t) at i) → at + 2 + i < length p.start.regions * p.start.words_per_region

@@ -1,38 +1,37 @@
--- A pointer is written, as copying sees it.
+-- A field is written, as copying sees it.
 use Rattle.std.proofs.Common.{◌≡◌, ℕ, ◌*◌, ◌<◌, ◌≤◌, false, Option, Some, length, sym, ap, ◌∙◌, subst, inl, inr, arith}
 use Rattle.std.proofs.lemmas.Bool.{cases_eq}
 use Rattle.std.proofs.lemmas.List.{length-set}
-use Rattle.heap_model.specs.Heap.{Stored}
+use Rattle.heap_model.specs.Heap.{Stored, fields, with_field}
 use Rattle.regions.specs.Tiles.{Live, tile_size}
-use Rattle.regions.specs.Table.{Table, kind_of, moved_to, object_at, set_pointer, tile_in, EachMovedIn}
+use Rattle.regions.specs.Table.{Table, kind_of, moved_to, object_at, set_field, tile_in, EachMovedIn}
 use Rattle.regions.specs.Rows.{kind_is_free}
 use Rattle.regions.specs.declared.row.Kind.TheVariants as kinds
-use Rattle.regions.proofs.Access.{set_pointer-is}
-use Rattle.regions.proofs.Changes.{WritesObject, pointer_put, object_same}
-use Rattle.regions.proofs.Fields.{with_pointer}
+use Rattle.regions.proofs.FieldAccess.{field_put, set_field-is}
+use Rattle.regions.proofs.Changes.{WritesObject, object_same}
 use Rattle.regions.proofs.Kept.{put_object-moved}
 use Rattle.object_copy.specs.Copies.{Places}
 use Rattle.object_copy.proofs.Frees.{free_by_kind, same_free}
 use Rattle.object_copy.proofs.Copied.{tile_of_object}
 use Rattle.evacuation.specs.Evacuates.{IsSameBut}
-use Rattle.evacuation.specs.Space.{SetsPointer, IsTaken}
+use Rattle.evacuation.specs.Space.{SetsField, IsTaken}
 use Rattle.evacuation.specs.Turns.{Pause, IsPause, IsTurn, TableStays, all_words, in_set, kept_now, space}
 use Rattle.evacuation.proofs.Lefts.{left_same}
 use Rattle.evacuation.proofs.Keeps.{kept_as, kept_object, kept_some}
 
 module _ (p : Pause) (q : IsPause p) (t t' : Table) (d : Places) (turn : IsTurn p t d) (positive : 0 < t.words_per_region) (at i : ℕ) (v : Option ℕ) (y : Stored)
-    (out : in_set p at ≡ false) (here : kept_now p t at ≡ Some y) (is : t' ≡ set_pointer t at i v) where
+    (out : in_set p at ≡ false) (here : kept_now p t at ≡ Some y) (is : t' ≡ set_field t at i v) where
   object : object_at t at ≡ Some y
   object = kept_object p t at y here
 
-  w : WritesObject t t' at y (with_pointer y i v)
-  w = subst (λ (u : Table). WritesObject t u at y (with_pointer y i v)) (sym is) (pointer_put t at i v y positive object)
+  w : WritesObject t t' at y (with_field y i v)
+  w = subst (λ (u : Table). WritesObject t u at y (with_field y i v)) (sym is) (field_put t at i v y positive object)
 
   other : (a : ℕ) → (a ≡ at → ⊥) → object_at t' a ≡ object_at t a
   other a n = object_same t t' a (w.others a n)
 
-  tile' : tile_in t' at ≡ Some (Live (with_pointer y i v))
-  tile' = tile_of_object t' at (with_pointer y i v) w.is
+  tile' : tile_in t' at ≡ Some (Live (with_field y i v))
+  tile' = tile_of_object t' at (with_field y i v) w.is
 
   tile : tile_in t at ≡ Some (Live y)
   tile = tile_of_object t at y object
@@ -40,8 +39,8 @@ module _ (p : Pause) (q : IsPause p) (t t' : Table) (d : Places) (turn : IsTurn 
   kept_other : (a : ℕ) → (a ≡ at → ⊥) → kept_now p t' a ≡ kept_now p t a
   kept_other a n = kept_as p t t' a w.size (other a n)
 
-  pub sets_pointer : SetsPointer (space p t) (space p t') at i v y
-  sets_pointer = record {
+  pub sets_field : SetsField (space p t) (space p t') at i v y
+  sets_field = record {
     object = kept_some p t t' at y here w.size ∙ w.is;
     others = kept_other;
     forward = λ a. elim (cases_eq a at) [
@@ -54,8 +53,8 @@ module _ (p : Pause) (q : IsPause p) (t t' : Table) (d : Places) (turn : IsTurn 
     left = left_same (kept_now p t) (kept_now p t') (in_set p) (all_words p) (λ a e. kept_other a (λ f. let g = ap (in_set p) f in let h = out in absurd cc));
   }
 
-  same : (x : Stored) → IsSameBut x y → IsSameBut x (with_pointer y i v)
-  same x s = record { name = s.name; values = s.values; count = length-set y.pointers i v ∙ s.count }
+  same : (x : Stored) → IsSameBut x y → IsSameBut x (with_field y i v)
+  same x s = record { name = s.name; values = s.values; count = length-set (fields y) i v ∙ s.count }
 
   pub write_stays : TableStays p t'
   write_stays =
@@ -74,7 +73,7 @@ module _ (p : Pause) (q : IsPause p) (t t' : Table) (d : Places) (turn : IsTurn 
                   let h = ap (object_at t) g in
                   let k = object in
                   let m : z ≡ y = cc in
-                  (with_pointer y i v, ap (object_at t') g ∙ w.is, same x (subst (IsSameBut x) m r))
+                  (with_field y i v, ap (object_at t') g ∙ w.is, same x (subst (IsSameBut x) m r))
               | inr n ↦ (z, other a n ∙ f, r)
             ];
         none = λ a o n e. other a (λ f. let g = s.none a o n e in let h = ap (object_at t) f in let k = object in absurd cc) ∙ s.none a o n e;
@@ -82,18 +81,18 @@ module _ (p : Pause) (q : IsPause p) (t t' : Table) (d : Places) (turn : IsTurn 
           | inl g ↦
               let h = ap (object_at t') g in
               let k = w.is in
-              let r : with_pointer y i v ≡ x = cc in
+              let r : with_field y i v ≡ x = cc in
               let before = s.small a y o f (ap (object_at t) g ∙ object) in
-              let n = length-set y.pointers i v in
+              let n = length-set (fields y) i v in
               subst (λ (m : Stored). 2 * tile_size (Live m) ≤ p.start.words_per_region) r (omega arith)
           | inr n ↦ s.small a x o f (sym (other a n) ∙ e)
         ];
         moved = λ a b n e. s.moved a b n (sym (w.others a (λ f. let g = ap (tile_in t') f in let h = tile' in absurd cc)) ∙ e);
         live = λ a u f e. elim (cases_eq a at) [
-          | inl g ↦ (with_pointer y i v, (let h = ap (tile_in t') g in let k = tile' in cc))
+          | inl g ↦ (with_field y i v, (let h = ap (tile_in t') g in let k = tile' in cc))
           | inr n ↦ s.live a u f (sym (w.others a n) ∙ e)
         ];
-        targets = subst (λ (u : Table). EachMovedIn (λ a. in_set p a ≡ false) u.regions) (sym (is ∙ set_pointer-is t at i v y object)) (put_object-moved (λ a. in_set p a ≡ false) t at (with_pointer y i v) s.targets);
+        targets = subst (λ (u : Table). EachMovedIn (λ a. in_set p a ≡ false) u.regions) (sym (is ∙ set_field-is t at i v y object)) (put_object-moved (λ a. in_set p a ≡ false) t at (with_field y i v) s.targets);
       }
 
   pub write_taken : (j : ℕ) → IsTaken d j → (kind_of p.start j ≡ kinds.Free) × (kind_of t' j ≡ kinds.Ordinary) × (j < length p.start.regions)

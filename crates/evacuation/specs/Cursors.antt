@@ -1,21 +1,9 @@
--- A cursor that goes over the tiles of a region, while they change.
-use Rattle.std.specs.Prelude.{◌≡◌, ℕ, ◌/◌, ◌<◌, Option, Some, IsSome, List, Bool, slice_get}
-use Rattle.heap_model.specs.Heap.{Stored}
-use Rattle.regions.specs.Tiles.{Tile}
-use Rattle.regions.specs.Table.{Table, tile_in}
+-- What is done so far of the fields of a region or of a card, while its tiles change.
+use Rattle.std.specs.Prelude.{◌≡◌, ℕ, ◌/◌, ◌<◌, Option, Some, List, Bool, slice_get}
+use Rattle.heap_model.specs.Heap.{Stored, fields}
+use Rattle.regions.specs.Table.{Table}
 use Rattle.evacuation.specs.Space.{IsFieldClean, IsObjectSettled, IsVisited, IsSettled, field_at}
 use Rattle.evacuation.specs.Turns.{Pause, layout, plan, space, kept_now}
-
--- the tile behind the one at an address
-pub record IsNext (t : Table) (at next : ℕ) : Type 0 where
-  pub tile : IsSome (tile_in t next)
-  pub above : at < next
-  pub region : next / t.words_per_region ≡ at / t.words_per_region
-  pub between : (b : ℕ) (u : Tile) → at < b → b < next → tile_in t b ≡ Some u → ⊥
-
--- none of the region's tiles stands behind the one at an address
-abbrev pub IsLast : Table → ℕ → Type 0
-IsLast t at = (b : ℕ) (u : Tile) → at < b → b / t.words_per_region ≡ at / t.words_per_region → tile_in t b ≡ Some u → ⊥
 
 -- the objects of region k below an address are settled
 abbrev pub AreSettledBelow : Pause → List Bool → Table → ℕ → ℕ → Type 0
@@ -23,7 +11,7 @@ AreSettledBelow p noted t k at = (b : ℕ) (y : Stored) → b / p.start.words_pe
 
 -- the fields below one of the object at an address are settled
 abbrev pub AreFieldsSettled : Pause → List Bool → Table → ℕ → ℕ → Type 0
-AreFieldsSettled p noted t at n = (i : ℕ) → i < n → (y : Stored) (w : Option ℕ) → kept_now p t at ≡ Some y → slice_get y.pointers i ≡ Some w → IsSettled (layout p) noted (field_at at i) w
+AreFieldsSettled p noted t at n = (i : ℕ) → i < n → (y : Stored) (w : Option ℕ) → kept_now p t at ≡ Some y → slice_get (fields y) i ≡ Some w → IsSettled (layout p) noted (field_at at i) w
 
 -- the fields of the object at an address that lie in a card are clean
 abbrev pub AreCardsFieldsClean : Pause → Table → ℕ → ℕ → Type 0

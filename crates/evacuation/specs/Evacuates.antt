@@ -1,12 +1,12 @@
 -- What evacuating a set of regions asks of a heap, and what it does to it.
-use Rattle.std.specs.Prelude.{◌≡◌, ◌≢◌, ◌⊎◌, ◌↔◌, ◌≤◌, ◌<◌, ℕ, ◌+◌, ◌*◌, ◌/◌, Bool, true, false, ◌==◌, List, [], ◌∷◌, Option, Some, None, All, count_by, length, slice_get, slice_index, if◌then◌else◌}
+use Rattle.std.specs.Prelude.{◌≡◌, ◌≢◌, ◌⊎◌, ◌↔◌, ◌≤◌, ◌<◌, ℕ, ◌+◌, ◌*◌, ◌/◌, Bool, true, false, ◌==◌, List, [], ◌∷◌, Option, Some, None, All, length, slice_get, slice_index, if◌then◌else◌}
 use Rattle.std.specs.List.{list_any}
 use Rattle.heap_model.specs.Heap.{Heap, Stored, IsClosed, fields}
 use Rattle.heap_model.specs.Marking.{Marking}
 use Rattle.heap_model.specs.Relocation.{Relocates, KeepsOld}
 use Rattle.heap_model.specs.Evacuation.{IsReached, place_of}
 use Rattle.regions.specs.Tiles.{Live, tile_size}
-use Rattle.regions.specs.Table.{Table, HasNoMoved, is_free, kind_of, object_at, used_of}
+use Rattle.regions.specs.Table.{Table, AreHalves, HasNoMoved, free_count, kind_of, object_at, used_of}
 use Rattle.regions.specs.declared.row.Kind.TheVariants as kinds
 use Rattle.mark_bitmap.specs.Marks.{is_marked}
 use Rattle.mark_bitmap.specs.Tops.{Tops, below_next}
@@ -48,10 +48,6 @@ set_in words rows a = is_chosen rows (a / words)
 abbrev pub set_by : Layers → List LiveRow → ℕ → Bool
 set_by h rows = set_in h.table.words_per_region rows
 
--- each object in an ordinary region has at most half of the region's words
-abbrev pub AreHalves : Table → Type 0
-AreHalves t = (a : ℕ) (object : Stored) → object_at t a ≡ Some object → kind_of t (a / t.words_per_region) ≡ kinds.Ordinary → 2 * tile_size (Live object) ≤ t.words_per_region
-
 -- a region that may be evacuated, with its live bound
 pub record IsRow (h : Layers) (row : LiveRow) : Type 0 where
   pub known : row.region < length h.table.regions
@@ -76,7 +72,7 @@ pub record CanEvacuate (h : Layers) (rows : List LiveRow) (card_words : ℕ) : T
   pub remembers : Remembers h.table.words_per_region (kept_of h) card_words (is_dirty h.cards) (covers h.sets)
   pub each_row : All (IsRow h) rows
   pub distinct : AreDistinct rows
-  pub room : 2 * live_sum rows ≤ count_by is_free h.table.regions * h.table.words_per_region
+  pub room : 2 * live_sum rows ≤ free_count h.table * h.table.words_per_region
 
 -- ---- what is copied
 abbrev pub stored_words : Option Stored → ℕ
@@ -100,7 +96,7 @@ pub record AreReachedWords (set : ℕ → Bool) (h : Heap) (words : ℕ) : Type 
 pub record IsSameBut (x y : Stored) : Type 0 where
   pub name : y.name ≡ x.name
   pub values : y.values ≡ x.values
-  pub count : length y.pointers ≡ length x.pointers
+  pub count : length (fields y) ≡ length (fields x)
 
 -- Chosen regions are free, and free ones free or ordinary. A region in use that isn't chosen is of its kind still, as many of its words
 -- are handed out, and its objects stand where they stood, the same but for pointers

@@ -1,6 +1,6 @@
 -- What copying sees of a heap, and what it keeps from one copied object to the next.
-use Rattle.std.specs.Prelude.{◌≡◌, ◌≢◌, ◌⊎◌, ◌≤◌, ◌<◌, ℕ, ◌+◌, ◌*◌, ◌/◌, ◌^◌, Bool, true, false, List, [], ◌∷◌, ◌++◌, Option, Some, None, slice_get, slice_set, slice_index_or, length, ⊤}
-use Rattle.heap_model.specs.Heap.{Heap, Stored, IsClosed}
+use Rattle.std.specs.Prelude.{◌≡◌, ◌≢◌, ◌⊎◌, ◌≤◌, ◌<◌, ℕ, ◌+◌, ◌*◌, ◌/◌, ◌^◌, Bool, true, false, List, [], ◌∷◌, ◌++◌, Option, Some, None, slice_get, slice_index_or, length, ⊤}
+use Rattle.heap_model.specs.Heap.{Heap, Stored, IsClosed, fields, with_field}
 use Rattle.heap_model.specs.Relocation.{IsMoved}
 use Rattle.heap_model.specs.Evacuation.{IsEvacuating, IsReached, place_of}
 use Rattle.regions.specs.Tiles.{Live, tile_size}
@@ -42,7 +42,7 @@ IsObject s a = (x : Stored) × (s.object a ≡ Some x)
 pub record IsField (s : Space) (a i : ℕ) : Type 0 where
   pub object : Stored
   pub at : s.object a ≡ Some object
-  pub within : i < length object.pointers
+  pub within : i < length (fields object)
 
 abbrev pub filled : Space → Option ℕ → Option ℕ
 filled s None = None
@@ -120,9 +120,9 @@ pub record IsUpdated (l : Layout) (noted : List Bool) (at : ℕ) (was is : Optio
   pub inside : set_of l target ≡ true
   pub settled : IsSettled l noted at is
 
--- an object of so many pointers stands here
+-- an object of so many fields stands here
 abbrev pub IsStill : Space → ℕ → ℕ → Type 0
-IsStill s b n = (y : Stored) × (s.object b ≡ Some y) × (length y.pointers ≡ n)
+IsStill s b n = (y : Stored) × (s.object b ≡ Some y) × (length (fields y) ≡ n)
 
 -- a field outside the set that leads to another region: a copy's, or one that named the set
 pub record NewCrossing (l : Layout) (s s' : Space) (d' : Places) (card : ℕ) : Type 0 where
@@ -132,11 +132,11 @@ pub record NewCrossing (l : Layout) (s s' : Space) (d' : Places) (card : ℕ) : 
   pub object : Stored
   pub here : s'.object at ≡ Some object
   pub outside : set_of l at ≡ false
-  pub field : slice_get object.pointers index ≡ Some (Some target)
+  pub field : slice_get (fields object) index ≡ Some (Some target)
   pub clean : set_of l target ≡ false
   pub in_card : field_at at index / l.card_words ≡ card
   pub leaves : target / l.words ≢ field_at at index / l.words
-  pub is_new : IsTaken d' (at / l.words) ⊎ ((y : Stored) → s.object at ≡ Some y → (v : ℕ) × (slice_get y.pointers index ≡ Some (Some v)) × (set_of l v ≡ true))
+  pub is_new : IsTaken d' (at / l.words) ⊎ ((y : Stored) → s.object at ≡ Some y → (v : ℕ) × (slice_get (fields y) index ≡ Some (Some v)) × (set_of l v ≡ true))
 
 -- Objects outside the set stay, and each of their fields is as it was or was updated. New ones stand above what was handed out
 -- before, and none in a closed destination
@@ -147,17 +147,17 @@ pub record IsAfter (l : Layout) (noted noted' : List Bool) (s s' : Space) (d d' 
   pub forward_grows : (a b : ℕ) → s.forward a ≡ Some b → s'.forward a ≡ Some b
   pub taken_grows : (i k : ℕ) → slice_get d.regions i ≡ Some k → slice_get d'.regions i ≡ Some k
   pub used_grows : (k : ℕ) → s.used k ≤ s'.used k
-  pub stays : (b : ℕ) (y : Stored) → set_of l b ≡ false → s.object b ≡ Some y → IsStill s' b (length y.pointers)
+  pub stays : (b : ℕ) (y : Stored) → set_of l b ≡ false → s.object b ≡ Some y → IsStill s' b (length (fields y))
   pub new_above : (b : ℕ) (y : Stored) → set_of l b ≡ false → s'.object b ≡ Some y → IsObject s b ⊎ (b / l.words * l.words + s.used (b / l.words) ≤ b)
   pub closed : (k : ℕ) → IsTaken d k → d.last ≢ Some k → ((b : ℕ) (y : Stored) → b / l.words ≡ k → s'.object b ≡ Some y → IsObject s b) × (d'.last ≢ Some k)
-  pub fields : (b : ℕ) (y y' : Stored) (i : ℕ) (w : Option ℕ) → set_of l b ≡ false → s.object b ≡ Some y → s'.object b ≡ Some y' → slice_get y'.pointers i ≡ Some w
-      → (slice_get y.pointers i ≡ Some w) ⊎ ((v : Option ℕ) × (slice_get y.pointers i ≡ Some v) × IsUpdated l noted' (field_at b i) v w)
+  pub fields : (b : ℕ) (y y' : Stored) (i : ℕ) (w : Option ℕ) → set_of l b ≡ false → s.object b ≡ Some y → s'.object b ≡ Some y' → slice_get (fields y') i ≡ Some w
+      → (slice_get (fields y) i ≡ Some w) ⊎ ((v : Option ℕ) × (slice_get (fields y) i ≡ Some v) × IsUpdated l noted' (field_at b i) v w)
 
 abbrev pub IsFieldClean : Layout → Space → ℕ → ℕ → Type 0
-IsFieldClean l s b i = (y : Stored) (w : Option ℕ) → s.object b ≡ Some y → slice_get y.pointers i ≡ Some w → IsClean l w
+IsFieldClean l s b i = (y : Stored) (w : Option ℕ) → s.object b ≡ Some y → slice_get (fields y) i ≡ Some w → IsClean l w
 
 abbrev pub IsFieldSettled : Layout → List Bool → Space → ℕ → ℕ → Type 0
-IsFieldSettled l noted s b i = (y : Stored) (w : Option ℕ) → s.object b ≡ Some y → slice_get y.pointers i ≡ Some w → IsSettled l noted (field_at b i) w
+IsFieldSettled l noted s b i = (y : Stored) (w : Option ℕ) → s.object b ≡ Some y → slice_get (fields y) i ≡ Some w → IsSettled l noted (field_at b i) w
 
 abbrev pub IsObjectSettled : Layout → List Bool → Space → ℕ → Type 0
 IsObjectSettled l noted s b = (i : ℕ) → IsFieldSettled l noted s b i
@@ -171,7 +171,7 @@ pub record IsVisited (l : Layout) (p : Plan) (visited : List Bool) (b i : ℕ) :
   pub object : Stored
   pub at : p.heap.kept b ≡ Some object
   pub outside : set_of l b ≡ false
-  pub within : i < length object.pointers
+  pub within : i < length (fields object)
   pub card : flag visited (field_at b i / l.card_words) ≡ true
 
 -- those of the cards below one are clean
@@ -180,7 +180,7 @@ AreClean l p visited s card = (b i : ℕ) → IsVisited l p visited b i → fiel
 
 -- a field outside the set that names the set lies in a card that is visited
 abbrev pub AllVisited : Layout → Plan → List Bool → Type 0
-AllVisited l p visited = (b i a : ℕ) (x : Stored) → p.heap.kept b ≡ Some x → set_of l b ≡ false → slice_get x.pointers i ≡ Some (Some a) → set_of l a ≡ true → flag visited (field_at b i / l.card_words) ≡ true
+AllVisited l p visited = (b i a : ℕ) (x : Stored) → p.heap.kept b ≡ Some x → set_of l b ≡ false → slice_get (fields x) i ≡ Some (Some a) → set_of l a ≡ true → flag visited (field_at b i / l.card_words) ≡ true
 
 -- ---- roots
 -- the word's target is where it is now
@@ -230,9 +230,9 @@ pub record CopiesTo (l : Layout) (s s' : Space) (d d' : Places) (from to : ℕ) 
   pub left : l.chosen region ≡ false → s'.left + words_of x ≡ s.left
   pub how : GoesOn l s s' d d' region ⊎ TakesNext l s s' d d' region (words_of x)
 
--- a pointer of the object is another one
-pub record SetsPointer (s s' : Space) (a i : ℕ) (w : Option ℕ) (x : Stored) : Type 0 where
-  pub object : s'.object a ≡ Some (record { name = x.name; pointers = slice_set x.pointers i w; values = x.values })
+-- a field of the object is another one
+pub record SetsField (s s' : Space) (a i : ℕ) (w : Option ℕ) (x : Stored) : Type 0 where
+  pub object : s'.object a ≡ Some (with_field x i w)
   pub others : (c : ℕ) → (c ≡ a → ⊥) → s'.object c ≡ s.object c
   pub forward : (c : ℕ) → s'.forward c ≡ s.forward c
   pub used : (k : ℕ) → s'.used k ≡ s.used k

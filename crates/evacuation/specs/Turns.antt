@@ -1,13 +1,13 @@
 -- A pause over the table, between two turns of its copying.
 use Rattle.std.specs.Prelude.{◌≡◌, ◌≢◌, ◌⊎◌, ◌≤◌, ◌<◌, ℕ, zero, suc, ◌+◌, ◌*◌, ◌/◌, Bool, true, false, List, Option, Some, None, length, slice_get, if◌then◌else◌}
-use Rattle.heap_model.specs.Heap.{Stored}
+use Rattle.heap_model.specs.Heap.{Stored, fields}
 use Rattle.regions.specs.Tiles.{Tile, Live, Moved, tile_size}
-use Rattle.regions.specs.Table.{Table, EachMovedIn, HasNoMoved, is_free, kind_of, moved_to, object_at, region_number, tile_in, used_of}
+use Rattle.regions.specs.Table.{Table, EachMovedIn, HasNoMoved, is_free, kind_of, moved_to, object_at, region_number, tile_in, used_of, free_count}
 use Rattle.regions.specs.Shaped.{IsShaped}
 use Rattle.regions.specs.declared.row.Kind.TheVariants as kinds
 use Rattle.mark_bitmap.specs.Tops.{Tops}
 use Rattle.mark_bitmap.specs.Kept.{MarksObjects, heap_in, kept_in}
-use Rattle.object_copy.specs.Copies.{Places, free_count}
+use Rattle.object_copy.specs.Copies.{Places}
 use Rattle.evacuation.specs.Evacuates.{IsSameBut, stored_words}
 use Rattle.evacuation.specs.Space.{Layout, Plan, Space, IsAfter, IsCopying, IsPlan, IsSettled, IsTaken, field_at, flag, set_of}
 
@@ -95,13 +95,13 @@ EachCard p noted = length noted ≡ length p.start.regions * p.cards_per_region
 
 -- a field of a kept object was this at the start
 abbrev pub WasField : Pause → ℕ → ℕ → Option ℕ → Type 0
-WasField p b i w = (x : Stored) × ((plan p).heap.kept b ≡ Some x) × (slice_get x.pointers i ≡ Some w)
+WasField p b i w = (x : Stored) × ((plan p).heap.kept b ≡ Some x) × (slice_get (fields x) i ≡ Some w)
 
 -- Once all is copied: a field outside the set is the one that stood there, or settled: it names nothing of the set, and where it
 -- leads to another region, its card is noted
 pub record AreFieldsNoted (p : Pause) (noted : List Bool) (t : Table) : Type 0 where
-  pub field : (b i : ℕ) (y : Stored) (w : Option ℕ) → kept_now p t b ≡ Some y → in_set p b ≡ false → slice_get y.pointers i ≡ Some w → WasField p b i w ⊎ IsSettled (layout p) noted (field_at b i) w
+  pub field : (b i : ℕ) (y : Stored) (w : Option ℕ) → kept_now p t b ≡ Some y → in_set p b ≡ false → slice_get (fields y) i ≡ Some w → WasField p b i w ⊎ IsSettled (layout p) noted (field_at b i) w
 
 -- no field outside the set names the set
 abbrev pub AreFieldsClean : Pause → Table → Type 0
-AreFieldsClean p t = (b i a : ℕ) (y : Stored) → kept_now p t b ≡ Some y → in_set p b ≡ false → slice_get y.pointers i ≡ Some (Some a) → in_set p a ≡ false
+AreFieldsClean p t = (b i a : ℕ) (y : Stored) → kept_now p t b ≡ Some y → in_set p b ≡ false → slice_get (fields y) i ≡ Some (Some a) → in_set p a ≡ false

@@ -4,7 +4,6 @@ ghost use Rattle.std.specs.Prelude.{◌≡◌, ◌<◌, ◌*◌, ◌/◌, ℕ, B
 ghost use Rattle.evacuation.specs.Space.{IsObject, IsObjectSettled, IsRegionSettled, IsTaken};
 ghost use Rattle.evacuation.specs.Turns.{Pause, IsPause, IsTurn, After, EachCard, in_set, layout, space};
 
-use crate::cursor::next_tile;
 use crate::fields::settle_field;
 use heap_words::addr::{Addr, RegionNo};
 use object_copy::Destinations;
@@ -33,7 +32,7 @@ fn settle_object(
     ensures each_card { EachCard pause noted.new }
     ensures settled { IsObjectSettled (layout pause) noted.new (space pause table.new) at }
 {
-    let count = table.pointer_count(at);
+    let count = table.field_count(at);
     for field in 0..count {
         settle_field(table, destinations, set, noted, card_words, at, field);
     }
@@ -69,7 +68,7 @@ fn settle_region(
     'tiles: loop {
         table.law();
         settle_object(table, destinations, set, noted, card_words, at);
-        let Some(next) = next_tile(table, at) else {
+        let Some(next) = table.next_tile(at) else {
             break 'tiles;
         };
         at = next;

@@ -117,7 +117,7 @@ pub(crate) fn update_field(
     ensures each_card { EachCard pause noted.new }
     ensures clean { IsFieldClean (layout pause) (space pause table.new) at field }
 {
-    let Some(target) = table.get_ptr(at, field) else {
+    let Some(target) = table.get_field(at, field) else {
         return;
     };
     if !is_inside(table, set, target) {
@@ -125,7 +125,7 @@ pub(crate) fn update_field(
     }
     let to = new_place(table, destinations, target);
     table.law();
-    table.set_ptr(at, field, Some(to));
+    table.set_field(at, field, Some(to));
     note(table, noted, card_words, at.word() + 2 + field, to);
 }
 
@@ -155,7 +155,7 @@ pub(crate) fn settle_field(
 {
     update_field(table, destinations, set, noted, card_words, at, field);
     table.law();
-    if let Some(target) = table.get_ptr(at, field) {
+    if let Some(target) = table.get_field(at, field) {
         note(table, noted, card_words, at.word() + 2 + field, target);
     }
 }

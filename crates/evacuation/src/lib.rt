@@ -13,8 +13,8 @@
 //!   released     | a: f -> c'|     |                    |    | c: g -> d' | d |
 //! ```
 //!
-//! `pause` has the whole, `visited` the cards to visit, `roots`, `outside` and `copied` the three loops in their order, `fields` one word, `cursor` the walk
-//! over tiles that change meanwhile, `release` the end, `room` what is made with the heap: no call takes memory but its making.
+//! `pause` has the whole, `visited` the cards to visit, `roots`, `outside` and `copied` the three loops in their order, `fields`
+//! one word, `release` the end, `room` what is made with the heap: no call takes memory but its making.
 //!
 //! Each object of the set has at most half a region's words, so a destination that is closed for want of room is more than half
 //! full: where twice the live bounds of the set are within the free regions' words, a free region is there whenever one is
@@ -25,7 +25,6 @@
 #![tactic(auto)]
 
 mod copied;
-mod cursor;
 mod fields;
 mod outside;
 mod pause;

@@ -11,7 +11,6 @@ ghost use Rattle.evacuation.specs.Space.{IsFieldClean, IsObject, IsVisited, fiel
 ghost use Rattle.evacuation.specs.Turns.{Pause, IsPause, IsTurn, After, EachCard, in_set, layout, plan, space};
 ghost use Rattle.evacuation.specs.Cursors.{AreCardsFieldsClean, IsCardClean};
 
-use crate::cursor::next_tile;
 use crate::fields::{is_inside, update_field};
 use heap_words::addr::Addr;
 use mark_bitmap::marks::Marks;
@@ -48,7 +47,7 @@ fn update_object(
     let first = at.word() + 2;
     let from = card * card_words;
     let to = from + card_words;
-    let count = table.pointer_count(at);
+    let count = table.field_count(at);
     let start = from.saturating_sub(first);
     let end = to.saturating_sub(first).min(count);
     for field in start..end {
@@ -101,7 +100,7 @@ fn update_tiles(
             card,
             at,
         );
-        let Some(next) = next_tile(table, at) else {
+        let Some(next) = table.next_tile(at) else {
             break 'tiles;
         };
         at = next;

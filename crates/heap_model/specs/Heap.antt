@@ -14,6 +14,10 @@ pub record Stored : Type 0 where
 abbrev pub fields : Stored → List (Option ℕ)
 fields x = x.pointers
 
+-- the object with another value in a field
+abbrev pub with_field : Stored → ℕ → Option ℕ → Stored
+with_field x i v = record { name = x.name; pointers = slice_set x.pointers i v; values = x.values }
+
 -- the kept object that starts at an address, and what each root place holds: nil or an address
 pub record Heap : Type 0 where
   pub kept : ℕ → Option Stored

@@ -1,3 +1,5 @@
 pub mod Headers
 pub mod Contents
 pub mod Configs
+pub mod Bits
+pub mod BitWords

@@ -4,7 +4,7 @@ use Rattle.std.specs.Prelude.{IsSome, IfSome}
 use Rattle.regions.specs.Shaped.{IsShaped}
 use Rattle.heap_model.specs.Heap.{Stored}
 use Rattle.regions.specs.Tiles.{Tile, Live, Moved, tile_size}
-use Rattle.regions.specs.Table.{Region, Free, Ordinary, First, Rest, Table, region_at, region_number, region_tile, region_used, region_replaced, region_with_tile, tile_in, tile_object, object_at, object_words, stored_size, kind_of, used_of, top_of, push_tile, replace_tile, IsOrdinary, EachMovedIn}
+use Rattle.regions.specs.Table.{Region, Free, Ordinary, First, Rest, Table, region_at, region_number, region_tile, region_used, region_replaced, region_with_tile, tile_in, tile_object, object_at, object_words, stored_size, kind_of, used_of, top_of, push_tile, replace_tile, IsOrdinary, EachMovedIn, free_count}
 use Rattle.regions.specs.Walks.{AreFitting}
 use Rattle.regions.specs.declared.row.Kind.TheVariants as kinds
 use Rattle.regions.proofs.Laws.{object_tile}
@@ -12,7 +12,7 @@ use Rattle.regions.proofs.Placing.{Pushed, gap_push, ordinary_at}
 use Rattle.regions.proofs.Sizes.{EachMovedIn-set, EachMovedIn-at, EachMoved-append, EachMoved-replace}
 use Rattle.regions.proofs.TileLaws.{Forwards, object_forwarded}
 use Rattle.regions.proofs.Totals.{used_same, total-replace}
-use Rattle.object_copy.specs.Copies.{Places, Opens, Copies, CopiesObject, free_count}
+use Rattle.object_copy.specs.Copies.{Places, Opens, Copies, CopiesObject}
 use Rattle.object_copy.proofs.Frees.{same_free}
 use Rattle.object_copy.proofs.Opened.{Opened, opened, opened_moved}
 

@@ -5,9 +5,8 @@ use Rattle.std.proofs.lemmas.Bool.{lt-ltb}
 use Rattle.std.proofs.lemmas.List.Quantifiers.{position-Some}
 use Rattle.std.proofs.lemmas.List.Recursion.{is_count_by, is_position_or_len}
 use Rattle.std.proofs.lemmas.List.Sums.{sum_by-set}
-use Rattle.regions.specs.Table.{Region, Free, Ordinary, First, Rest, Table, is_free, first_free, taken, kind_of, region_kind, region_number}
+use Rattle.regions.specs.Table.{Region, Free, Ordinary, First, Rest, Table, is_free, first_free, taken, kind_of, region_kind, region_number, free_count}
 use Rattle.regions.specs.Rows.{kind_is_free}
-use Rattle.object_copy.specs.Copies.{free_count}
 
 abbrev frees : List Region → ℕ
 frees [] = 0

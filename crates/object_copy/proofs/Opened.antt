@@ -2,11 +2,11 @@
 use Rattle.std.proofs.Common.{◌≡◌, ◌≢◌, ℕ, ◌+◌, ◌<◌, ◌≤◌, ◌⊎◌, [], Some, length, refl, sym, ap, ◌∙◌, subst, inl, inr, arith}
 use Rattle.std.specs.Prelude.{IfSome}
 use Rattle.std.proofs.lemmas.List.{get_or-set_other}
-use Rattle.regions.specs.Table.{Region, Free, Ordinary, Table, first_free, taken, tile_in, kind_of, region_kind, region_number, used_of, EachMovedIn, with_region}
+use Rattle.regions.specs.Table.{Region, Free, Ordinary, Table, first_free, taken, tile_in, kind_of, region_kind, region_number, used_of, EachMovedIn, with_region, free_count}
 use Rattle.regions.specs.declared.row.Kind.TheVariants as kinds
 use Rattle.regions.proofs.Placing.{region_taken}
 use Rattle.regions.proofs.Sizes.{EachMovedIn-set}
-use Rattle.object_copy.specs.Copies.{Places, Opens, Takes, fill_of, free_count}
+use Rattle.object_copy.specs.Copies.{Places, Opens, Takes, fill_of}
 use Rattle.object_copy.proofs.Frees.{fewer_free}
 
 -- what that changes: a free region may be ordinary now

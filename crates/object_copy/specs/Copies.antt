@@ -1,8 +1,8 @@
 -- The regions that copies go to, and what a copy changes.
-use Rattle.std.specs.Prelude.{◌≡◌, ◌≢◌, ◌⊎◌, ◌≤◌, ◌<◌, ℕ, ◌+◌, List, [], ◌∷◌, ◌++◌, Option, Some, None, count_by, length}
+use Rattle.std.specs.Prelude.{◌≡◌, ◌≢◌, ◌⊎◌, ◌≤◌, ◌<◌, ℕ, ◌+◌, List, [], ◌∷◌, ◌++◌, Option, Some, None, length}
 use Rattle.heap_model.specs.Heap.{Stored}
 use Rattle.regions.specs.Tiles.{Live, Moved, tile_size}
-use Rattle.regions.specs.Table.{Table, is_free, first_free, kind_of, taken, tile_in, used_of, top_of, push_tile, replace_tile}
+use Rattle.regions.specs.Table.{Table, first_free, free_count, kind_of, taken, tile_in, used_of, top_of, push_tile, replace_tile}
 use Rattle.regions.specs.declared.row.Kind.TheVariants as kinds
 
 -- the destinations
@@ -19,9 +19,6 @@ pub record Places : Type 0 where
 -- no region is a destination, and there is room for so many
 abbrev pub no_places : ℕ → Places
 no_places room = record { regions = []; last = None; room = room; words = 0 }
-
-abbrev pub free_count : Table → ℕ
-free_count t = count_by is_free t.regions
 
 -- how many words of the open destination are handed out
 abbrev pub fill_of : Table → Option ℕ → Option ℕ

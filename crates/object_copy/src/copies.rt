@@ -2,9 +2,9 @@
 
 ghost use Rattle.std.specs.Prelude.{◌≡◌, ◌≢◌, ℕ, ◌≤◌, ◌<◌, ◌+◌, ◌/◌, ◌^◌, IfSome, IsSome, Some, length};
 ghost use Rattle.heap_model.specs.Heap.{Stored};
-ghost use Rattle.regions.specs.Table.{kind_of, object_at, object_words, EachMovedIn};
+ghost use Rattle.regions.specs.Table.{kind_of, object_at, object_words, EachMovedIn, free_count};
 ghost use Rattle.regions.specs.declared.row.Kind.TheVariants as kinds;
-ghost use Rattle.object_copy.specs.Copies.{free_count, fill_of, CanPlace, Takes, Opens, Copies, CopiesObject};
+ghost use Rattle.object_copy.specs.Copies.{fill_of, CanPlace, Takes, Opens, Copies, CopiesObject};
 
 use crate::destinations::Destinations;
 use heap_words::addr::{Addr, RegionNo};

@@ -3,14 +3,14 @@ use Rattle.std.proofs.Common.{inl, inr, ◌≡◌, ◌≢◌, ℕ, ◌+◌, ◌-
 use Rattle.std.specs.Prelude.{slice_get}
 use Rattle.std.proofs.lemmas.Bool.{cases_lt}
 use Rattle.std.proofs.lemmas.Option.{slice_get_within, slice_get-get_or}
-use Rattle.heap_model.specs.Heap.{Stored}
-use Rattle.regions.specs.Table.{Table, object_at, pointers_at}
+use Rattle.heap_model.specs.Heap.{Stored, fields}
+use Rattle.regions.specs.Table.{Table, object_at, fields_at}
 use Rattle.remembered_sets.specs.Sets.{Sets, covers, card_count}
 use Rattle.refinement.specs.Remembering.{field_word, field_card, IsCrossing}
-use Rattle.refinement.specs.Refining.{AddsCard, IsScanned, PointsInside, SetsFit, with_field}
+use Rattle.refinement.specs.Refining.{AddsCard, IsScanned, FieldsInside, SetsFit, with_field}
 use Rattle.refinement.proofs.Divides.{card_within, div_is, div_low, div_high}
 use Rattle.refinement.proofs.Entered.{adds_none, adds_more, adds_sets, field_adds, field_grows}
-use Rattle.refinement.proofs.Holders.{field_at, pointers_of}
+use Rattle.refinement.proofs.Holders.{field_at, fields_of}
 
 -- the fields of an object from one on up to another are done
 pub record IsPartly (words : ℕ) (kept : ℕ → Option Stored) (len card at start field : ℕ) (old new : Sets) : Type 0 where
@@ -20,18 +20,18 @@ pub record IsPartly (words : ℕ) (kept : ℕ → Option Stored) (len card at st
 pub partly_first : (words : ℕ) (kept : ℕ → Option Stored) (len card at start : ℕ) (s : Sets) → IsPartly words kept len card at start start s s
 partly_first words kept len card at start s = record { adds = adds_none words kept len card s; done = λ i v l h x. absurd (omega arith) }
 
-pub partly_next : (t : Table) (kept : ℕ → Option Stored) (len card at start field next : ℕ) (old mid new : Sets) → kept at ≡ object_at t at → PointsInside t at → length mid.sets ≡ length t.regions
-    → field < length (pointers_at t at) → field_card len at field ≡ card → next ≡ field + 1
-    → ((target : Option ℕ) → slice_get (pointers_at t at) field ≡ Some target → new ≡ with_field t.words_per_region card (field_word at field) target mid)
-    → ((target : ℕ) → slice_get (pointers_at t at) field ≡ Some (Some target) → target / t.words_per_region ≢ field_word at field / t.words_per_region → covers new (target / t.words_per_region) card ≡ true)
+pub partly_next : (t : Table) (kept : ℕ → Option Stored) (len card at start field next : ℕ) (old mid new : Sets) → kept at ≡ object_at t at → FieldsInside t at → length mid.sets ≡ length t.regions
+    → field < length (fields_at t at) → field_card len at field ≡ card → next ≡ field + 1
+    → ((target : Option ℕ) → slice_get (fields_at t at) field ≡ Some target → new ≡ with_field t.words_per_region card (field_word at field) target mid)
+    → ((target : ℕ) → slice_get (fields_at t at) field ≡ Some (Some target) → target / t.words_per_region ≢ field_word at field / t.words_per_region → covers new (target / t.words_per_region) card ≡ true)
     → IsPartly t.words_per_region kept len card at start field old mid → IsPartly t.words_per_region kept len card at start next old new
 partly_next t kept len card at start field next old mid new same inside count known in_card n after covered p =
     let f = field_at t at field known in
     let s : Stored = f.object in
-    let target : Option ℕ = get_or s.pointers field None in
-    let there : slice_get s.pointers field ≡ Some target = slice_get-get_or s.pointers field None f.within in
-    let pointers : pointers_at t at ≡ s.pointers = pointers_of t at s f.is in
-    let read : slice_get (pointers_at t at) field ≡ Some target = ap (λ (l : List (Option ℕ)). slice_get l field) pointers ∙ there in
+    let target : Option ℕ = get_or (fields s) field None in
+    let there : slice_get (fields s) field ≡ Some target = slice_get-get_or (fields s) field None f.within in
+    let pointers : fields_at t at ≡ (fields s) = fields_of t at s f.is in
+    let read : slice_get (fields_at t at) field ≡ Some target = ap (λ (l : List (Option ℕ)). slice_get l field) pointers ∙ there in
     let kept_is : kept at ≡ Some s = same ∙ f.is in
     let step = after target read in
     let grows = field_grows t.words_per_region card (field_word at field) (length t.regions) target mid new (λ v e. let h = inside field v (read ∙ ap Some e) in omega (arith, h, count)) step in
@@ -43,7 +43,7 @@ partly_next t kept len card at start field next old mid new same inside count kn
             let e : i ≡ field = omega arith in
             let k = x.kept_is in
             let o : x.object ≡ s = cc in
-            let now : slice_get (pointers_at t at) field ≡ Some (Some v) = ap (λ (l : List (Option ℕ)). slice_get l field) pointers ∙ ap (λ (q : Stored). slice_get q.pointers field) (sym o) ∙ ap (λ (j : ℕ). slice_get x.object.pointers j) (sym e) ∙ x.field_is in
+            let now : slice_get (fields_at t at) field ≡ Some (Some v) = ap (λ (l : List (Option ℕ)). slice_get l field) pointers ∙ ap (λ (q : Stored). slice_get (fields q) field) (sym o) ∙ ap (λ (j : ℕ). slice_get (fields x.object) j) (sym e) ∙ x.field_is in
             covered v now (subst (λ (j : ℕ). v / t.words_per_region ≢ field_word at j / t.words_per_region) e x.leaves)
       ];
     }
@@ -66,14 +66,14 @@ fields_in_card len card at count w n start upto end z f g h u e =
           (omega (arith, low), omega (arith, high));
     }
 
-pub partly_last : (t : Table) (kept : ℕ → Option Stored) (len card at count start end field : ℕ) (old new : Sets) → kept at ≡ object_at t at → count ≡ length (pointers_at t at) → AreInCard len card at count start end → end ≤ field
+pub partly_last : (t : Table) (kept : ℕ → Option Stored) (len card at count start end field : ℕ) (old new : Sets) → kept at ≡ object_at t at → count ≡ length (fields_at t at) → AreInCard len card at count start end → end ≤ field
     → IsPartly t.words_per_region kept len card at start field old new → IsScanned t.words_per_region kept len card at old new
 partly_last t kept len card at count start end field old new same e r past p = record {
   adds = p.adds;
   covered = record {
     each = λ i v x y.
-        let inside = slice_get_within x.object.pointers i (Some v) x.field_is in
-        let pointers = pointers_of t at x.object (sym same ∙ x.kept_is) in
+        let inside = slice_get_within (fields x.object) i (Some v) x.field_is in
+        let pointers = fields_of t at x.object (sym same ∙ x.kept_is) in
         let q = r.all i (omega (arith, inside, e, ap (λ (l : List (Option ℕ)). length l) pointers)) y in
         p.done i v q.0 (omega (arith, q.1)) x;
   };

@@ -7,7 +7,7 @@ use Rattle.std.proofs.lemmas.Option.{slice_get_within}
 use Rattle.heap_model.specs.Heap.{Stored, IsClosed, fields}
 use Rattle.heap_words.specs.declared.addr.Addr.{Addr}
 use Rattle.regions.specs.Tiles.{Tile, Live, Gap, Moved, tile_size, tile_at, total_size}
-use Rattle.regions.specs.Table.{Table, Region, Free, Ordinary, First, Rest, region_number, kind_of, tile_in, tile_object, object_at, object_pointers, pointers_at, top_of}
+use Rattle.regions.specs.Table.{Table, Region, Free, Ordinary, First, Rest, region_number, kind_of, tile_in, tile_object, object_at, object_fields, fields_at, top_of}
 use Rattle.regions.specs.Shapes.{tile_shape}
 use Rattle.regions.specs.Walks.{tiles_of, tiles_from, placed, walk_rest, IsHolder, IsRunStart, IsPlacedTile}
 use Rattle.regions.specs.Shaped.{IsShaped}
@@ -25,7 +25,7 @@ use Rattle.mark_bitmap.specs.Tops.{Tops, below_previous}
 use Rattle.mark_bitmap.specs.Marks.{is_marked}
 use Rattle.mark_bitmap.specs.Kept.{heap_in, kept_in}
 use Rattle.refinement.specs.Remembering.{field_word, IsCrossing, LeadsInside}
-use Rattle.refinement.specs.Refining.{PointsInside}
+use Rattle.refinement.specs.Refining.{FieldsInside}
 use Rattle.refinement.proofs.Divides.{div_is}
 
 spread : (a b c n : ℕ) → a + b ≡ c → a * n + b * n ≡ c * n
@@ -178,9 +178,9 @@ closed_inside t tops previous roots closed = record {
       object_known t v there.0 (kept_object t tops previous v there.0 there.1);
 }
 
-pub pointers_of : (t : Table) (a : ℕ) (s : Stored) → object_at t a ≡ Some s → pointers_at t a ≡ s.pointers
-unfolding pointers_at
-pointers_of t a s e = ap object_pointers e
+pub fields_of : (t : Table) (a : ℕ) (s : Stored) → object_at t a ≡ Some s → fields_at t a ≡ (fields s)
+unfolding fields_at
+fields_of t a s e = ap object_fields e
 
 -- a filler and what has moved are no objects
 pub shape_object : (t : Table) (a p d : ℕ) → IsPlacedTile t a (Object p d) → IsSome (object_at t a)
@@ -226,17 +226,17 @@ shape_within t a p d n g e h = go (object_at t a) refl (shape_object t a p d h)
 pub record IsFieldAt (t : Table) (a i : ℕ) : Type 0 where
   pub object : Stored
   pub is : object_at t a ≡ Some object
-  pub within : i < length object.pointers
+  pub within : i < length (fields object)
 
-pub field_at : (t : Table) (a i : ℕ) → i < length (pointers_at t a) → IsFieldAt t a i
-unfolding pointers_at
+pub field_at : (t : Table) (a i : ℕ) → i < length (fields_at t a) → IsFieldAt t a i
+unfolding fields_at
 field_at t a i h = go (object_at t a) refl
   where
     go : (o : Option Stored) → object_at t a ≡ o → IsFieldAt t a i
-    go None e = absurd (omega (arith, h, ap (λ (x : Option Stored). length (object_pointers x)) e))
-    go (Some s) e = record { object = s; is = e; within = omega (arith, h, ap (λ (x : Option Stored). length (object_pointers x)) e) }
+    go None e = absurd (omega (arith, h, ap (λ (x : Option Stored). length (object_fields x)) e))
+    go (Some s) e = record { object = s; is = e; within = omega (arith, h, ap (λ (x : Option Stored). length (object_fields x)) e) }
 
-pub field_inside : (t : Table) (a i : ℕ) → IsShaped t → i < length (pointers_at t a) → a + 2 + i < length t.regions * t.words_per_region
+pub field_inside : (t : Table) (a i : ℕ) → IsShaped t → i < length (fields_at t a) → a + 2 + i < length t.regions * t.words_per_region
 field_inside t a i g h =
     let f = field_at t a i h in
     let w = object_within t a f.object g f.is in
@@ -282,12 +282,12 @@ same_object t kept a stands h = go (kept a) refl h
     go None e x = cc
     go (Some s) e x = e ∙ sym (stands a s e)
 
-pub points_inside : (t : Table) (kept : ℕ → Option Stored) (a : ℕ) → Stands t kept → LeadsInside t.words_per_region (length t.regions) kept → IsSome (kept a) → PointsInside t a
-points_inside t kept a stands inside h i v f = go (kept a) refl h
+pub fields_inside : (t : Table) (kept : ℕ → Option Stored) (a : ℕ) → Stands t kept → LeadsInside t.words_per_region (length t.regions) kept → IsSome (kept a) → FieldsInside t a
+fields_inside t kept a stands inside h i v f = go (kept a) refl h
   where
     go : (o : Option Stored) → kept a ≡ o → IsSome o → v / t.words_per_region < length t.regions
     go None e x = cc
-    go (Some s) e x = inside.each a i v s e (ap (λ (l : List (Option ℕ)). slice_get l i) (sym (pointers_of t a s (stands a s e))) ∙ f)
+    go (Some s) e x = inside.each a i v s e (ap (λ (l : List (Option ℕ)). slice_get l i) (sym (fields_of t a s (stands a s e))) ∙ f)
 
 pub not_kept : (kept : ℕ → Option Stored) (a : ℕ) (r : Bool) → (IsSome (kept a) → IsTrue r) → r ≡ false → kept a ≡ None
 not_kept kept a r f e = go (kept a) refl

@@ -24,6 +24,7 @@ use Rattle.remembered_sets.specs.Sets.{Sets}
 use Rattle.refinement.specs.Refining.{CanScan}
 use Rattle.refinement.specs.Samples.{IsSample}
 use Rattle.refinement.proofs.Divides.{div_is}
+use Rattle.regions.proofs.FieldAccess.{fields_pointers}
 use Rattle.refinement.proofs.Holders.{field_at, kept_object}
 use Rattle.refinement.proofs.Remembered.{set_here, set_there}
 
@@ -56,7 +57,7 @@ take_sample t t' (Some k) f e s =
 -- a field is set to an address of the heap
 pub link_sample : (t t' : Table) (a i b : ℕ) → 0 < t.words_per_region → i < length (pointers_at t a) → b < 64 → t' ≡ set_pointer t a i (Some b) → IsSample t → IsSample t'
 link_sample t t' a i b z known small e s =
-    let f = field_at t a i known in
+    let f = field_at t a i (subst (λ (l : List (Option ℕ)). i < length l) (sym (fields_pointers t a)) known) in
     let u : Table = set_pointer t a i (Some b) in
     let w = pointer_put t a i (Some b) f.object z f.is in
     let near : b / t.words_per_region < length t.regions = rw (s.count, s.words) (div_below b 16 4 (omega arith) small) in

@@ -1,7 +1,7 @@
 -- What scanning a card and refining one do.
 use Rattle.std.specs.Prelude.{◌≡◌, ℕ, ◌*◌, ◌/◌, ◌<◌, ◌≤◌, ◌==◌, Bool, true, false, All, List, [], ◌∷◌, length, Option, Some, None, if◌then◌else◌, slice_get, slice_set}
 use Rattle.heap_model.specs.Heap.{Stored}
-use Rattle.regions.specs.Table.{Table, pointers_at}
+use Rattle.regions.specs.Table.{Table, fields_at}
 use Rattle.mark_bitmap.specs.Tops.{Tops}
 use Rattle.mark_bitmap.specs.Kept.{kept_in}
 use Rattle.cards.specs.Cards.{Cards}
@@ -59,9 +59,9 @@ abbrev pub AreObjectsCovered : Table → (ℕ → Option Stored) → ℕ → ℕ
 AreObjectsCovered t kept card_words card covered first =
     (at : ℕ) → first ≤ at → at / t.words_per_region ≡ first / t.words_per_region → IsObjectCovered t.words_per_region kept card_words card covered at
 
--- the pointers of the object at an address lead into regions of the table
-abbrev pub PointsInside : Table → ℕ → Type 0
-PointsInside t at = (index target : ℕ) → slice_get (pointers_at t at) index ≡ Some (Some target) → target / t.words_per_region < length t.regions
+-- the fields of the object at an address lead into regions of the table
+abbrev pub FieldsInside : Table → ℕ → Type 0
+FieldsInside t at = (index target : ℕ) → slice_get (fields_at t at) index ≡ Some (Some target) → target / t.words_per_region < length t.regions
 
 -- the sets once a field was looked at: the card is added where the field leads into another region than its word's
 abbrev pub with_field : ℕ → ℕ → ℕ → Option ℕ → Sets → Sets

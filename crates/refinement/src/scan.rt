@@ -13,12 +13,12 @@
 
 ghost use Rattle.std.specs.Prelude.{◌≡◌, ◌≢◌, ◌↔◌, true, ℕ, ◌+◌, ◌*◌, ◌/◌, ◌<◌, ◌≤◌, Option, Some, IsSome, IsTrue, length, slice_get};
 ghost use Rattle.heap_model.specs.Heap.{Stored};
-ghost use Rattle.regions.specs.Table.{object_at, pointers_at, tile_in};
+ghost use Rattle.regions.specs.Table.{object_at, fields_at, tile_in};
 ghost use Rattle.regions.specs.Walks.{IsPlacedTile};
 ghost use Rattle.mark_bitmap.specs.Kept.{kept_in};
 ghost use Rattle.remembered_sets.specs.Sets.{card_count, covers};
 ghost use Rattle.refinement.specs.Remembering.{field_word, Gains, IsCovered};
-ghost use Rattle.refinement.specs.Refining.{with_field, AddsCard, AreObjectsCovered, CanScan, IsScanned, PointsInside, SetsFit};
+ghost use Rattle.refinement.specs.Refining.{with_field, AddsCard, AreObjectsCovered, CanScan, IsScanned, FieldsInside, SetsFit};
 
 use heap_words::addr::{Addr, Card, RegionNo};
 use mark_bitmap::marks::Marks;
@@ -46,19 +46,19 @@ pub fn is_kept(table: &RegionTable, tams: &Tams, marks: &Marks, at: Addr, shape:
 
 /// Adds the card to the set of the region that a field leads into, if its word lies in another one.
 fn scan_field(table: &RegionTable, sets: &mut RememberedSets, card: Card, object: Addr, field: u32)
-    requires field { field < length (pointers_at table.now object) }
-    requires inside { PointsInside table.now object }
+    requires field { field < length (fields_at table.now object) }
+    requires inside { FieldsInside table.now object }
     requires regions { length sets.old.sets ≡ length table.now.regions }
     requires card { card < card_count sets.old }
-    ensures after { (target : Option ℕ) → slice_get (pointers_at table.now object) field ≡ Some target
+    ensures after { (target : Option ℕ) → slice_get (fields_at table.now object) field ≡ Some target
         → sets.new ≡ with_field table.now.words_per_region card (field_word object field) target sets.old }
-    ensures covered { (target : ℕ) → slice_get (pointers_at table.now object) field ≡ Some (Some target)
+    ensures covered { (target : ℕ) → slice_get (fields_at table.now object) field ≡ Some (Some target)
         → target / table.now.words_per_region ≢ field_word object field / table.now.words_per_region → covers sets.new (target / table.now.words_per_region) card ≡ true }
 {
     table.law();
     let words = table.words_per_region();
     let home = (object.word() + 2 + field) / words;
-    let Some(target) = table.get_ptr(object, field) else {
+    let Some(target) = table.get_field(object, field) else {
         return;
     };
     let region = target.word() / words;
@@ -76,7 +76,7 @@ fn scan_object(
     object: Addr,
 )
     requires object { IsSome (object_at table.now object) }
-    requires inside { PointsInside table.now object }
+    requires inside { FieldsInside table.now object }
     requires fit { SetsFit table.now card_words sets.old }
     requires card { card < card_count sets.old }
     ensures { (kept : ℕ → Option Stored) → kept object ≡ object_at table.now object
@@ -86,7 +86,7 @@ fn scan_object(
     let first = object.word() + 2;
     let from = card.number() * card_words;
     let to = from + card_words;
-    let count = table.pointer_count(object);
+    let count = table.field_count(object);
     let start = from.saturating_sub(first);
     let end = to.saturating_sub(first).min(count);
     for field in start..end {

@@ -43,3 +43,6 @@ pub mod Fronts
 pub mod WalkTiles
 pub mod InUse
 pub mod Released
+pub mod Steps
+pub mod Counting
+pub mod FieldAccess

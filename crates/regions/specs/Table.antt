@@ -1,6 +1,6 @@
 -- A table of regions, as callers see it: regions of tiles, and no words.
-use Rattle.std.specs.Prelude.{◌≡◌, ℕ, zero, suc, ◌+◌, ◌-◌, ◌*◌, ◌/◌, ◌%◌, Option, Some, None, List, [], ◌∷◌, ◌++◌, length, slice_index_or, slice_set, replicate, min, position, Bool, true, false, take, drop, if◌then◌else◌, nat_le}
-use Rattle.heap_model.specs.Heap.{Stored}
+use Rattle.std.specs.Prelude.{◌≡◌, ℕ, zero, suc, ◌+◌, ◌-◌, ◌*◌, ◌/◌, ◌%◌, ◌≤◌, Option, Some, None, List, [], ◌∷◌, ◌++◌, length, slice_index_or, slice_set, replicate, min, position, count_by, Bool, true, false, take, drop, if◌then◌else◌, nat_le}
+use Rattle.heap_model.specs.Heap.{Stored, fields, with_field}
 use Rattle.regions.specs.Tiles.{Tile, Live, Gap, Moved, tile_size, tile_at, replace, total_size}
 use Rattle.regions.specs.declared.row.Kind.{Kind}
 use Rattle.regions.specs.declared.row.Kind.TheVariants as kinds
@@ -54,6 +54,15 @@ object_pointers (Some s) = s.pointers
 unfoldable pub pointers_at : Table → ℕ → List (Option ℕ)
 pointers_at t a = object_pointers (object_at t a)
 
+-- an object's fields: what holds addresses, in address order
+abbrev pub object_fields : Option Stored → List (Option ℕ)
+object_fields None = []
+object_fields (Some s) = fields s
+
+-- the fields of the object at an address, none where there is no object
+unfoldable pub fields_at : Table → ℕ → List (Option ℕ)
+fields_at t a = object_fields (object_at t a)
+
 -- the region with another object at the offset
 abbrev pub with_object : Region → ℕ → Stored → Region
 with_object Free o s = Free
@@ -75,6 +84,14 @@ set_pointer_of t a i v (Some s) = put_object t a (record { name = s.name; pointe
 -- the table with one pointer of the object at the address changed
 unfoldable pub set_pointer : Table → ℕ → ℕ → Option ℕ → Table
 set_pointer t a i v = set_pointer_of t a i v (object_at t a)
+
+abbrev pub set_field_of : Table → ℕ → ℕ → Option ℕ → Option Stored → Table
+set_field_of t a i v None = t
+set_field_of t a i v (Some s) = put_object t a (with_field s i v)
+
+-- the table with one field of the object at the address changed
+unfoldable pub set_field : Table → ℕ → ℕ → Option ℕ → Table
+set_field t a i v = set_field_of t a i v (object_at t a)
 
 -- the new place of each moved object is so
 abbrev pub EachMoved : (ℕ → Type 0) → List Tile → Type 0
@@ -148,6 +165,10 @@ is_free (Rest n) = false
 abbrev pub first_free : Table → Option ℕ
 first_free t = position is_free t.regions
 
+-- how many regions are free
+abbrev pub free_count : Table → ℕ
+free_count t = count_by is_free t.regions
+
 -- the table with another region in place of region k
 abbrev pub with_region : Table → ℕ → Region → Table
 with_region t k r = record { words_per_region = t.words_per_region; regions = slice_set t.regions k r }
@@ -197,6 +218,10 @@ region_kind (Rest n) = kinds.Rest
 -- what region k is
 unfoldable pub kind_of : Table → ℕ → Kind
 kind_of t k = region_kind (region_number t k)
+
+-- each object in an ordinary region has at most half of the region's words
+abbrev pub AreHalves : Table → Type 0
+AreHalves t = (a : ℕ) (object : Stored) → object_at t a ≡ Some object → kind_of t (a / t.words_per_region) ≡ kinds.Ordinary → 2 * tile_size (Live object) ≤ t.words_per_region
 
 -- so many free regions of so many words
 unfoldable pub free_table : ℕ → ℕ → Table

@@ -1,5 +1,5 @@
 -- A walk over a region's tiles.
-use Rattle.std.specs.Prelude.{◌≡◌, ℕ, zero, suc, ◌+◌, ◌-◌, ◌*◌, ◌<◌, ◌≤◌, ◌⊎◌, List, [], ◌∷◌, Some, length}
+use Rattle.std.specs.Prelude.{◌≡◌, ℕ, zero, suc, ◌+◌, ◌-◌, ◌*◌, ◌/◌, ◌<◌, ◌≤◌, ◌⊎◌, List, [], ◌∷◌, Some, IsSome, length}
 use Rattle.regions.specs.declared.row.Shape.{Shape}
 use Rattle.regions.specs.Shapes.{tile_shape}
 use Rattle.regions.specs.Tiles.{Tile, Live, tile_size, total_size, tile_at}
@@ -98,3 +98,14 @@ pub record IsRunStart (t : Table) (region first : ℕ) : Type 0 where
   pub below : first ≤ region
   pub rest : (k : ℕ) → first < k → k ≤ region → kind_of t k ≡ kinds.Rest
   pub start : kind_of t first ≡ kinds.Rest → first ≡ 0
+
+-- the tile behind the one at an address
+pub record IsNext (t : Table) (at next : ℕ) : Type 0 where
+  pub tile : IsSome (tile_in t next)
+  pub above : at < next
+  pub region : next / t.words_per_region ≡ at / t.words_per_region
+  pub between : (b : ℕ) (u : Tile) → at < b → b < next → tile_in t b ≡ Some u → ⊥
+
+-- none of the region's tiles stands behind the one at an address
+abbrev pub IsLast : Table → ℕ → Type 0
+IsLast t at = (b : ℕ) (u : Tile) → at < b → b / t.words_per_region ≡ at / t.words_per_region → tile_in t b ≡ Some u → ⊥

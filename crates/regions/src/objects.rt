@@ -1,7 +1,7 @@
 //! Reads and writes of objects: each is one access to a word or two, and no walk.
 ghost use Rattle.std.specs.Prelude.{◌≡◌, ◌<◌, length, slice_get, Some, IsSome, IfSome};
 ghost use Rattle.heap_words.specs.Contents.{header_at, pointer_count_at};
-ghost use Rattle.regions.specs.Table.{object_at, object_words, pointers_at, values_at, set_pointer, set_value, tile_in, moved_to};
+ghost use Rattle.regions.specs.Table.{object_at, object_words, pointers_at, fields_at, values_at, set_pointer, set_field, set_value, tile_in, moved_to};
 ghost use Rattle.regions.specs.Rows.{header_target, value_count};
 
 use crate::table::{RegionTable, size_at};
@@ -62,6 +62,14 @@ impl RegionTable {
         pointers_in(&self.words, object)
     }
 
+    /// How many fields the object at an address has, fields being what holds addresses.
+    pub fn field_count(&self, object: Addr) -> u32
+        requires { IsSome (object_at self.now object) }
+        ensures { result ≡ length (fields_at self.now object) }
+    {
+        self.pointer_count(object)
+    }
+
     /// How many data words the object at an address has.
     pub fn value_count(&self, object: Addr) -> u32
         requires { IsSome (object_at self.now object) }
@@ -92,6 +100,22 @@ impl RegionTable {
         ensures { self.new ≡ set_pointer self.old object field target }
     {
         self.words.set_ptr(object, field, target);
+    }
+
+    /// A field of the object at an address, by its place among the fields in address order.
+    pub fn get_field(&self, object: Addr, field: u32) -> Ptr
+        requires { field < length (fields_at self.now object) }
+        ensures { slice_get (fields_at self.now object) field ≡ Some result }
+    {
+        self.get_ptr(object, field)
+    }
+
+    /// Stores an address, or nil, in a field of the object at an address.
+    pub fn set_field(&mut self, object: Addr, field: u32, target: Ptr)
+        requires { field < length (fields_at self.old object) }
+        ensures { self.new ≡ set_field self.old object field target }
+    {
+        self.set_ptr(object, field, target);
     }
 
     /// A data word of the object at an address.

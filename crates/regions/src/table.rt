@@ -2,7 +2,7 @@
 ghost use Rattle.std.specs.Prelude.{◌≡◌, ◌+◌, ◌<◌, length, nat_le, IsOk, IfOk, IfErr, IsSome, IfSome};
 ghost use Rattle.heap_words.specs.Configs.{Suits, IsNewFault};
 ghost use Rattle.heap_words.specs.Contents.{header_at};
-ghost use Rattle.regions.specs.Table.{free_table, HasNoMoved, kind_of, used_of, top_of, tile_in};
+ghost use Rattle.regions.specs.Table.{free_count, free_table, is_free, region_number, HasNoMoved, kind_of, used_of, top_of, tile_in};
 ghost use Rattle.regions.specs.Rows.{sizes_in, IsBelow, header_target};
 ghost use Rattle.regions.specs.Shapes.{tile_shape, shape_by};
 ghost use Rattle.regions.specs.Shaped.{IsShaped};
@@ -121,6 +121,32 @@ impl RegionTable {
         ensures { result ≡ kind_of self.now region }
     {
         self.rows[region.number() as usize].kind
+    }
+
+    /// How many regions are free.
+    pub fn free_count(&self) -> u32
+        ensures { result ≡ free_count self.now }
+    {
+        let mut count = 0;
+        for number in 0..self.region_count() {
+            if self.is_free(RegionNo::new(number)) {
+                count += 1;
+            }
+        }
+        count
+    }
+
+    /// Whether a region is free.
+    fn is_free(&self, region: RegionNo) -> bool
+        requires { region < length self.now.regions }
+        ensures { result ≡ is_free (region_number self.now region) }
+    {
+        match self.kind(region) {
+            Kind::Free => true,
+            Kind::Ordinary => false,
+            Kind::First => false,
+            Kind::Rest => false,
+        }
     }
 
     /// The address behind the words of a region that are handed out: a free region's bottom, an ordinary one's

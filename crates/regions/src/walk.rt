@@ -1,10 +1,10 @@
-//! Walks over a region's tiles, and the tile that holds a word.
-ghost use Rattle.std.specs.Prelude.{◌≡◌, ◌↔◌, ◌+◌, ◌*◌, ◌/◌, ◌%◌, ◌<◌, length, IsSome, IsTrue, IfSome};
+//! Walks over a region's tiles, the tile behind another one, and the tile that holds a word.
+ghost use Rattle.std.specs.Prelude.{◌≡◌, ◌↔◌, ◌+◌, ◌*◌, ◌/◌, ◌%◌, ◌<◌, length, IsSome, IsTrue, IfSome, IfNone};
 ghost use Rattle.std.specs.Iterator.{YieldsFirst, item_count};
 ghost use Rattle.regions.specs.Tiles.{total_size};
 ghost use Rattle.regions.specs.Table.{kind_of, tile_in, top_of};
 ghost use Rattle.regions.specs.declared.row.Kind.TheVariants as kinds;
-ghost use Rattle.regions.specs.Walks.{tiles_of, placed, walk_rest, IsCut, IsWalk, IsTileBehind, IsHolder, IsRunStart};
+ghost use Rattle.regions.specs.Walks.{tiles_of, placed, walk_rest, IsCut, IsWalk, IsTileBehind, IsHolder, IsRunStart, IsNext, IsLast};
 
 use crate::row::{Kind, Shape};
 use crate::table::{RegionTable, shape_at, size_at};
@@ -79,6 +79,28 @@ impl RegionTable {
             region,
             offset: at.word() % words,
             end,
+        }
+    }
+
+    /// Where the tile behind the one at an address starts, none where that is its region's last, as the one object of a
+    /// run is. With it a region is gone through while its tiles change and more come.
+    pub fn next_tile(&self, at: Addr) -> Option<Addr>
+        requires { IsSome (tile_in self.now at) }
+        ensures next { IfSome result (IsNext self.now at) }
+        ensures last { IfNone result (IsLast self.now at) }
+    {
+        self.law();
+        let region = RegionNo::new(at.word() / self.words_per_region());
+        let next = at.word() + self.tile(at).size();
+        match self.kind(region) {
+            Kind::Ordinary => {
+                if next < self.top(region).word() {
+                    Some(Addr::new(next))
+                } else {
+                    None
+                }
+            }
+            Kind::Free | Kind::First | Kind::Rest => None,
         }
     }
 

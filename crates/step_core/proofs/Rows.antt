@@ -18,35 +18,6 @@ use Rattle.evacuation.specs.Evacuates.{is_chosen}
 use Rattle.step_core.specs.Pause.{IsRowOf}
 use Rattle.step_core.specs.Pause.{IsCandidate, IsCandidateRow, AreCandidates, IsChosen}
 
-kind_free_by : (r : Region) → region_kind r ≡ kinds.Free → true ≡ is_free r
-kind_free_by Free e = refl
-kind_free_by (Ordinary ts) e = absurd cc
-kind_free_by (First s) e = absurd cc
-kind_free_by (Rest n) e = absurd cc
-
-kind_used_by : (r : Region) → region_kind r ≢ kinds.Free → false ≡ is_free r
-kind_used_by Free e = absurd (e refl)
-kind_used_by (Ordinary ts) e = refl
-kind_used_by (First s) e = refl
-kind_used_by (Rest n) e = refl
-
-pub kind_free : (t : Table) (k : ℕ) → kind_of t k ≡ kinds.Free → true ≡ is_free (region_number t k)
-unfolding kind_of
-kind_free t k e = kind_free_by (region_number t k) e
-
-pub kind_used : (t : Table) (k : ℕ) → kind_of t k ≢ kinds.Free → false ≡ is_free (region_number t k)
-unfolding kind_of
-kind_used t k e = kind_used_by (region_number t k) e
-
--- one region more is counted
-pub free_more : (t : Table) (i n m : ℕ) → i < length t.regions → n ≡ count_by is_free (take i t.regions) → is_free (region_number t i) ≡ true → m ≡ n + 1 → m ≡ count_by is_free (take (i + 1) t.regions)
-unfolding region_number
-free_more t i n m lt e free more = omega (arith, e, more, count_by_more_yes is_free t.regions i Free lt free)
-
-pub free_passed : (t : Table) (i n : ℕ) → i < length t.regions → n ≡ count_by is_free (take i t.regions) → is_free (region_number t i) ≡ false → n ≡ count_by is_free (take (i + 1) t.regions)
-unfolding region_number
-free_passed t i n lt e used = omega (arith, e, count_by_more_no is_free t.regions i Free lt used)
-
 abbrev bit : ℕ → LiveRow → ℕ
 bit k row = cond (eqb row.region k) 1 0
 

@@ -6,7 +6,7 @@ use Rattle.std.proofs.lemmas.List.{get_or_past}
 use Rattle.std.proofs.lemmas.Bool.{cases_lt}
 use Rattle.heap_model.specs.Heap.{Stored}
 use Rattle.regions.specs.Tiles.{Live, tile_size}
-use Rattle.regions.specs.Table.{Table, Region, Free, Ordinary, First, Rest, region_kind, region_number, region_at, region_tile, tile_in, tile_object, kind_of, object_at, object_words, stored_size, top_of}
+use Rattle.regions.specs.Table.{Table, Region, Free, Ordinary, First, Rest, region_kind, region_number, region_at, region_tile, tile_in, tile_object, kind_of, object_at, object_words, stored_size, top_of, AreHalves}
 use Rattle.regions.specs.Shaped.{IsShaped}
 use Rattle.regions.specs.declared.row.Kind.{Kind}
 use Rattle.regions.specs.declared.row.Kind.TheVariants as kinds
@@ -16,7 +16,6 @@ use Rattle.mark_bitmap.proofs.Ranges as ranges
 use Rattle.mark_bitmap.proofs.LiveWords.{in_region, region_low, region_high}
 use Rattle.mark_bitmap.proofs.Spans.{spans, option_cases}
 use Rattle.alloc_buffers.specs.Placement.{IsAbove}
-use Rattle.evacuation.specs.Evacuates.{AreHalves}
 use Rattle.step_core.specs.Stands.{EndsBelow}
 
 pub words_by : (t t' : Table) (a : ℕ) → object_at t' a ≡ object_at t a → object_words t' a ≡ object_words t a

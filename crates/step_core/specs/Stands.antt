@@ -7,7 +7,7 @@ use Rattle.heap_model.specs.Graph.{Graph, Object, next_name, object_named, IsRea
 use Rattle.heap_model.specs.Heap.{Heap, Stored, Shows, IsShown, IsRoot, StandsOnce}
 use Rattle.heap_model.specs.Marking.{Marking, KeepsSnapshot}
 use Rattle.regions.specs.Tiles.{Live, tile_size}
-use Rattle.regions.specs.Table.{Table, object_at, object_words, kind_of, HasNoMoved}
+use Rattle.regions.specs.Table.{Table, object_at, object_words, kind_of, HasNoMoved, AreHalves}
 use Rattle.regions.specs.declared.row.Kind.TheVariants as kinds
 use Rattle.regions.specs.Shaped.{AreInUse}
 use Rattle.alloc_buffers.specs.Placement.{Buffers, BuffersStand, AreAbove}
@@ -21,7 +21,6 @@ use Rattle.cards.specs.Cards.{Cards, is_dirty}
 use Rattle.remembered_sets.specs.Sets.{Sets, card_count, covers}
 use Rattle.refinement.specs.Remembering.{Remembers}
 use Rattle.evacuation.specs.Rooms.{RoomSizes}
-use Rattle.evacuation.specs.Evacuates.{AreHalves}
 use Rattle.object_graph.specs.State.{root_at}
 
 pub record CoreState : Type 0 where

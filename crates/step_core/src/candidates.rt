@@ -74,31 +74,6 @@ pub(crate) fn find_candidates(
     }
 }
 
-fn region_is_free(table: &RegionTable, region: RegionNo) -> bool
-    requires { region < length table.now.regions }
-    ensures { result ≡ is_free (region_number table.now region) }
-{
-    match table.kind(region) {
-        Kind::Free => true,
-        Kind::Ordinary => false,
-        Kind::First => false,
-        Kind::Rest => false,
-    }
-}
-
-/// How many regions are free.
-fn free_count(table: &RegionTable) -> u32
-    ensures { result ≡ count_by is_free table.now.regions }
-{
-    let mut count = 0;
-    for number in 0..table.region_count() {
-        if region_is_free(table, RegionNo::new(number)) {
-            count += 1;
-        }
-    }
-    count
-}
-
 /// Puts the best of the rows to the front, and answers how many.
 fn choose_rows(rows: &mut Vec<LiveRow>, words: u32, budget: u32, free: u32) -> usize
     requires { All (λ row. row.live_bound < words) rows.old.items }
@@ -131,5 +106,5 @@ pub(crate) fn choose_regions(
     ensures room { vec_capacity rows.new ≡ vec_capacity rows.old }
 {
     find_candidates(table, tams, previous, running, rows);
-    choose_rows(rows, table.words_per_region(), budget, free_count(table))
+    choose_rows(rows, table.words_per_region(), budget, table.free_count())
 }

@@ -1,5 +1,5 @@
 use Rattle.std.proofs.Common.{◌∙◌, sym, ap, arith, length, ◌/◌}
-use Rattle.refinement.proofs.Holders.{pointers_of}
+use Rattle.refinement.proofs.Holders.{fields_of}
 use Rattle.evacuation.specs.Turns.{layout, space}
 use Rattle.evacuation.proofs.After.{after_after, same_after, taken_after}
 use Rattle.evacuation.proofs.Keeps.{kept_object}
@@ -7,8 +7,8 @@ use Rattle.evacuation.proofs.Places.{is_some}
 use Rattle.evacuation.proofs.ObjectFields.{fields_more, fields_all, still_field}
 use Rattle.evacuation.proofs.copied.settle_object.Goals as goal
 
-pub pointer_count-count-requires : goal.pointer_count-count-requires
-pointer_count-count-requires g c =
+pub field_count-count-requires : goal.field_count-count-requires
+field_count-count-requires g c =
     let (premises, (turn, (flags, (card, (each, (outside, (object, taken))))))) = c.requires in
     is_some _ object.0 (kept_object g.pause c.args.table.now c.args.at object.0 object.1)
 
@@ -19,7 +19,7 @@ loop-field-init g c =
       turn = turn;
       after = same_after (layout g.pause) c.args.noted.now (space g.pause c.args.table.now) c.args.destinations.now;
       each = each;
-      still = (object.0, object.1, sym (c.pointer_count-count.ensures ∙ ap length (pointers_of c.args.table.now c.args.at object.0 (kept_object g.pause c.args.table.now c.args.at object.0 object.1))));
+      still = (object.0, object.1, sym (c.field_count-count.ensures ∙ ap length (fields_of c.args.table.now c.args.at object.0 (kept_object g.pause c.args.table.now c.args.at object.0 object.1))));
       settled = λ i h. absurd (omega arith);
     }
 
@@ -27,7 +27,7 @@ pub settle_field-requires : goal.settle_field-requires
 settle_field-requires g c =
     let (premises, (turn, (flags, (card, (each, (outside, (object, taken))))))) = c.requires in
     let v = c.loop-field.invariant in
-    (premises, (v.turn, (flags, (card, (v.each, (outside, (still_field g.pause c.loop-field.table c.args.at c.pointer_count-count.result c.loop-field.field v.still c.loop-field-test.true, taken_after (layout g.pause) c.args.noted.now c.loop-field.noted (space g.pause c.args.table.now) (space g.pause c.loop-field.table) c.args.destinations.now c.loop-field.destinations (c.args.at / g.pause.start.words_per_region) v.after taken)))))))
+    (premises, (v.turn, (flags, (card, (v.each, (outside, (still_field g.pause c.loop-field.table c.args.at c.field_count-count.result c.loop-field.field v.still c.loop-field-test.true, taken_after (layout g.pause) c.args.noted.now c.loop-field.noted (space g.pause c.args.table.now) (space g.pause c.loop-field.table) c.args.destinations.now c.loop-field.destinations (c.args.at / g.pause.start.words_per_region) v.after taken)))))))
 
 pub loop-field-preserved : goal.loop-field-preserved
 loop-field-preserved g c =
@@ -44,4 +44,4 @@ loop-field-preserved g c =
     }
 
 pub returns-clause-settled : goal.returns-clause-settled
-returns-clause-settled g c = fields_all g.pause c.loop-field.noted c.loop-field.table c.args.at c.pointer_count-count.result c.loop-field.field c.loop-field.invariant.settled c.loop-field.invariant.still (omega (arith, c.loop-field-test.false))
+returns-clause-settled g c = fields_all g.pause c.loop-field.noted c.loop-field.table c.args.at c.field_count-count.result c.loop-field.field c.loop-field.invariant.settled c.loop-field.invariant.still (omega (arith, c.loop-field-test.false))

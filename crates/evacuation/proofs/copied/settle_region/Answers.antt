@@ -8,6 +8,7 @@ use Rattle.regions.specs.Table.{tile_in, used_of}
 use Rattle.refinement.proofs.Divides.{div_is, div_low, div_high}
 use Rattle.evacuation.specs.Turns.{layout, space}
 use Rattle.evacuation.proofs.After.{after_after, same_after, taken_after}
+use Rattle.regions.proofs.Steps as steps
 use Rattle.evacuation.proofs.Scans as scans
 use Rattle.evacuation.proofs.copied.settle_region.Goals as goal
 
@@ -62,7 +63,7 @@ tiles-init g c =
     let at = c.new-at.ensures in
     let z = premises.shaped.positive in
     let used : 0 < used_of c.args.table.now c.args.region = filled c.word.result (c.number.result * c.words_per_region.result) (used_of c.args.table.now c.args.region) a (omega (arith, e, b, t)) in
-    let (u, there) = scans.bottom_tile c.args.table.now c.args.region c.law.ensures (turn.taken c.args.region destination).1 used in
+    let (u, there) = steps.bottom_tile c.args.table.now c.args.region c.law.ensures (turn.taken c.args.region destination).1 used in
     let region : c.new-at.result / g.pause.start.words_per_region ≡ c.args.region = div_is c.new-at.result g.pause.start.words_per_region c.args.region (omega (arith, f, at)) (omega (arith, f, at, z)) in
     record {
       turn = turn;
@@ -70,7 +71,7 @@ tiles-init g c =
       each = each;
       region = region;
       object = scans.copy_object g.pause premises c.args.table.now c.args.destinations.now turn c.law.ensures c.args.region destination c.new-at.result region
-          (scans.some_tile (tile_in c.args.table.now c.new-at.result) u (ap (tile_in c.args.table.now) (at ∙ e) ∙ there));
+          (steps.some_tile (tile_in c.args.table.now c.new-at.result) u (ap (tile_in c.args.table.now) (at ∙ e) ∙ there));
       done = λ x y r low k. absurd (below_bottom x g.pause.start.words_per_region c.args.region z r (omega (arith, f, at, low)));
     }
 
@@ -89,7 +90,7 @@ next_tile-requires g c =
     let w = taken_after (layout g.pause) c.args.noted.now c.tiles.noted (space g.pause c.args.table.now) (space g.pause c.tiles.table) c.args.destinations.now c.tiles.destinations c.args.region v.after destination in
     let out = scans.copy_outside g.pause premises c.tiles.table c.tiles.destinations v.turn c.law-in-tiles.ensures c.args.region w c.tiles.at v.region in
     let (y, here, n) = c.settle_object.ensures.after.stays c.tiles.at v.object.0 out v.object.1 in
-    scans.some_tile (tile_in c.settle_object.new.table c.tiles.at) (Live y) (tile_of_object c.settle_object.new.table c.tiles.at y (kept_object g.pause c.settle_object.new.table c.tiles.at y here))
+    steps.some_tile (tile_in c.settle_object.new.table c.tiles.at) (Live y) (tile_of_object c.settle_object.new.table c.tiles.at y (kept_object g.pause c.settle_object.new.table c.tiles.at y here))
 
 pub tiles-smaller : goal.tiles-smaller
 tiles-smaller g c =

@@ -6,8 +6,8 @@ use Rattle.evacuation.proofs.Updates.{noted_settled, field_after}
 use Rattle.evacuation.proofs.Words.{field_pointer, pointer_is, word_within, all_small}
 use Rattle.evacuation.proofs.fields.settle_field.Goals as goal
 
-pub get_ptr-requires : goal.get_ptr-requires
-get_ptr-requires g c =
+pub get_field-requires : goal.get_field-requires
+get_field-requires g c =
     let (premises, (turn, (flags, (card, (each, (outside, (field, taken))))))) = c.requires in
     field_pointer g.pause c.update_field.new.table c.args.at c.args.field (field_after g.pause c.args.noted.now c.update_field.new.noted c.args.table.now c.update_field.new.table c.args.destinations.now c.update_field.new.destinations c.args.at c.args.field c.update_field.ensures.after outside field)
 

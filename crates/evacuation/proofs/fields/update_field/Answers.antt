@@ -5,8 +5,8 @@ use Rattle.evacuation.proofs.Updates as updates
 use Rattle.evacuation.proofs.Words.{field_pointer, word_within, all_small}
 use Rattle.evacuation.proofs.fields.update_field.Goals as goal
 
-pub get_ptr-requires : goal.get_ptr-requires
-get_ptr-requires g c = let (premises, (turn, (flags, (card, (each, (outside, field)))))) = c.requires in field_pointer g.pause c.args.table.now c.args.at c.args.field field
+pub get_field-requires : goal.get_field-requires
+get_field-requires g c = let (premises, (turn, (flags, (card, (each, (outside, field)))))) = c.requires in field_pointer g.pause c.args.table.now c.args.at c.args.field field
 
 pub returns-in_default-clause-clean : goal.returns-in_default-clause-clean
 returns-in_default-clause-clean g c =
@@ -23,8 +23,8 @@ new_place-to-requires g c =
     let (premises, (turn, (flags, (card, (each, (outside, field)))))) = c.requires in
     (premises, (turn, updates.named g.pause premises c.args.table.now c.args.destinations.now turn c.args.at c.args.field outside field c.in-Some.target c.in-Some.ensures (sym c.is_inside.ensures ∙ c.if-not-is_inside.false)))
 
-pub set_ptr-requires : goal.set_ptr-requires
-set_ptr-requires g c =
+pub set_field-requires : goal.set_field-requires
+set_field-requires g c =
     let (premises, (turn, (flags, (card, (each, (outside, field)))))) = c.requires in
     field_pointer g.pause c.new_place-to.new.table c.args.at c.args.field
     (updates.there g.pause premises c.args.table.now c.args.destinations.now turn c.args.at c.args.field outside field c.new_place-to.new.table c.new_place-to.new.table c.new_place-to.new.destinations c.new_place-to.ensures.turn c.new_place-to.ensures.after c.new_place-to.ensures.frame
@@ -55,28 +55,28 @@ note-requires g c =
     (updates.there g.pause premises c.args.table.now c.args.destinations.now turn c.args.at c.args.field outside field c.new_place-to.new.table c.new_place-to.new.table c.new_place-to.new.destinations c.new_place-to.ensures.turn c.new_place-to.ensures.after c.new_place-to.ensures.frame
     c.in-Some.target c.new_place-to.result c.in-Some.ensures (sym c.is_inside.ensures ∙ c.if-not-is_inside.false) c.new_place-to.ensures.place) in
     let n = all_small g.pause premises in
-    let t = updates.update_turn g.pause premises c.args.table.now c.args.destinations.now turn c.args.at c.args.field outside field c.new_place-to.new.table c.set_ptr.new.self c.new_place-to.new.destinations c.new_place-to.ensures.turn c.new_place-to.ensures.after c.new_place-to.ensures.frame
-    c.in-Some.target c.new_place-to.result c.in-Some.ensures (sym c.is_inside.ensures ∙ c.if-not-is_inside.false) c.new_place-to.ensures.place c.law.ensures.positive c.set_ptr.ensures in
+    let t = updates.update_turn g.pause premises c.args.table.now c.args.destinations.now turn c.args.at c.args.field outside field c.new_place-to.new.table c.set_field.new.self c.new_place-to.new.destinations c.new_place-to.ensures.turn c.new_place-to.ensures.after c.new_place-to.ensures.frame
+    c.in-Some.target c.new_place-to.result c.in-Some.ensures (sym c.is_inside.ensures ∙ c.if-not-is_inside.false) c.new_place-to.ensures.place c.law.ensures.positive c.set_field.ensures in
     (premises, (t.table.size, (card, (each, rw c.word.ensures w))))
 
 pub returns-clause-turn : goal.returns-clause-turn
 returns-clause-turn g c =
     let (premises, (turn, (flags, (card, (each, (outside, field)))))) = c.requires in
-    updates.update_turn g.pause premises c.args.table.now c.args.destinations.now turn c.args.at c.args.field outside field c.new_place-to.new.table c.set_ptr.new.self c.new_place-to.new.destinations c.new_place-to.ensures.turn c.new_place-to.ensures.after c.new_place-to.ensures.frame
-    c.in-Some.target c.new_place-to.result c.in-Some.ensures (sym c.is_inside.ensures ∙ c.if-not-is_inside.false) c.new_place-to.ensures.place c.law.ensures.positive c.set_ptr.ensures
+    updates.update_turn g.pause premises c.args.table.now c.args.destinations.now turn c.args.at c.args.field outside field c.new_place-to.new.table c.set_field.new.self c.new_place-to.new.destinations c.new_place-to.ensures.turn c.new_place-to.ensures.after c.new_place-to.ensures.frame
+    c.in-Some.target c.new_place-to.result c.in-Some.ensures (sym c.is_inside.ensures ∙ c.if-not-is_inside.false) c.new_place-to.ensures.place c.law.ensures.positive c.set_field.ensures
 
 pub returns-clause-after : goal.returns-clause-after
 returns-clause-after g c =
     let (premises, (turn, (flags, (card, (each, (outside, field)))))) = c.requires in
     let only = subst (λ (n : ℕ). (k : ℕ) → flag c.note.new.noted k ≡ true → (flag c.args.noted.now k ≡ true) ⊎ ((k ≡ (n + 2 + c.args.field) / g.pause.card_words) × (c.new_place-to.result / g.pause.start.words_per_region ≢ (n + 2 + c.args.field) / g.pause.start.words_per_region))) c.word.ensures c.note.ensures.only in
     let noted : IsNoted (layout g.pause) c.note.new.noted (field_at c.args.at c.args.field) (Some c.new_place-to.result) = subst (λ (n : ℕ). IsNoted (layout g.pause) c.note.new.noted (n + 2 + c.args.field) (Some c.new_place-to.result)) c.word.ensures c.note.ensures.noted in
-    updates.update_after g.pause premises c.args.table.now c.args.destinations.now turn c.args.at c.args.field outside field c.new_place-to.new.table c.set_ptr.new.self c.new_place-to.new.destinations c.new_place-to.ensures.turn c.new_place-to.ensures.after c.new_place-to.ensures.frame
-    c.in-Some.target c.new_place-to.result c.in-Some.ensures (sym c.is_inside.ensures ∙ c.if-not-is_inside.false) c.new_place-to.ensures.place c.law.ensures.positive c.set_ptr.ensures c.args.noted.now c.note.new.noted noted c.note.ensures.grows (c.note.ensures.each_card ∙ sym each) only
+    updates.update_after g.pause premises c.args.table.now c.args.destinations.now turn c.args.at c.args.field outside field c.new_place-to.new.table c.set_field.new.self c.new_place-to.new.destinations c.new_place-to.ensures.turn c.new_place-to.ensures.after c.new_place-to.ensures.frame
+    c.in-Some.target c.new_place-to.result c.in-Some.ensures (sym c.is_inside.ensures ∙ c.if-not-is_inside.false) c.new_place-to.ensures.place c.law.ensures.positive c.set_field.ensures c.args.noted.now c.note.new.noted noted c.note.ensures.grows (c.note.ensures.each_card ∙ sym each) only
 
 pub returns-clause-clean : goal.returns-clause-clean
 returns-clause-clean g c =
     let (premises, (turn, (flags, (card, (each, (outside, field)))))) = c.requires in
     let only = subst (λ (n : ℕ). (k : ℕ) → flag c.note.new.noted k ≡ true → (flag c.args.noted.now k ≡ true) ⊎ ((k ≡ (n + 2 + c.args.field) / g.pause.card_words) × (c.new_place-to.result / g.pause.start.words_per_region ≢ (n + 2 + c.args.field) / g.pause.start.words_per_region))) c.word.ensures c.note.ensures.only in
     let noted : IsNoted (layout g.pause) c.note.new.noted (field_at c.args.at c.args.field) (Some c.new_place-to.result) = subst (λ (n : ℕ). IsNoted (layout g.pause) c.note.new.noted (n + 2 + c.args.field) (Some c.new_place-to.result)) c.word.ensures c.note.ensures.noted in
-    updates.update_clean g.pause premises c.args.table.now c.args.destinations.now turn c.args.at c.args.field outside field c.new_place-to.new.table c.set_ptr.new.self c.new_place-to.new.destinations c.new_place-to.ensures.turn c.new_place-to.ensures.after c.new_place-to.ensures.frame
-    c.in-Some.target c.new_place-to.result c.in-Some.ensures (sym c.is_inside.ensures ∙ c.if-not-is_inside.false) c.new_place-to.ensures.place c.law.ensures.positive c.set_ptr.ensures c.args.noted.now c.note.new.noted noted c.note.ensures.grows (c.note.ensures.each_card ∙ sym each) only
+    updates.update_clean g.pause premises c.args.table.now c.args.destinations.now turn c.args.at c.args.field outside field c.new_place-to.new.table c.set_field.new.self c.new_place-to.new.destinations c.new_place-to.ensures.turn c.new_place-to.ensures.after c.new_place-to.ensures.frame
+    c.in-Some.target c.new_place-to.result c.in-Some.ensures (sym c.is_inside.ensures ∙ c.if-not-is_inside.false) c.new_place-to.ensures.place c.law.ensures.positive c.set_field.ensures c.args.noted.now c.note.new.noted noted c.note.ensures.grows (c.note.ensures.each_card ∙ sym each) only

@@ -1,10 +1,10 @@
 use Rattle.std.proofs.Common.{◌≡◌, ◌∙◌, ℕ, sym, ap, refl, subst, inl, inr, arith, ◌<◌, ◌/◌, length}
 use Rattle.std.proofs.lemmas.Bool.{cases_eq}
-use Rattle.heap_model.specs.Heap.{Stored}
+use Rattle.heap_model.specs.Heap.{Stored, fields}
 use Rattle.refinement.specs.Remembering.{field_card, field_word}
 use Rattle.refinement.proofs.Divides.{card_has_words}
 use Rattle.refinement.proofs.Fields.{fields_in_card}
-use Rattle.refinement.proofs.Holders.{pointers_of, object_within}
+use Rattle.refinement.proofs.Holders.{fields_of, object_within}
 use Rattle.evacuation.specs.Space.{IsFieldClean}
 use Rattle.evacuation.specs.Turns.{layout, space}
 use Rattle.evacuation.proofs.Lists.{get_below}
@@ -38,8 +38,8 @@ overflow_add-to g c =
     let n = all_small g.pause premises in
     rw card (omega (arith, a, n))
 
-pub pointer_count-count-requires : goal.pointer_count-count-requires
-pointer_count-count-requires g c =
+pub field_count-count-requires : goal.field_count-count-requires
+field_count-count-requires g c =
     let (premises, (turn, (flags, (card, (each, (known, (outside, object))))))) = c.requires in
     is_some _ object.0 (kept_object g.pause c.args.table.now c.args.at object.0 object.1)
 
@@ -50,7 +50,7 @@ loop-field-init g c =
       turn = turn;
       after = same_after (layout g.pause) c.args.noted.now (space g.pause c.args.table.now) c.args.destinations.now;
       each = each;
-      still = (object.0, object.1, sym (c.pointer_count-count.ensures ∙ ap length (pointers_of c.args.table.now c.args.at object.0 (kept_object g.pause c.args.table.now c.args.at object.0 object.1))));
+      still = (object.0, object.1, sym (c.field_count-count.ensures ∙ ap length (fields_of c.args.table.now c.args.at object.0 (kept_object g.pause c.args.table.now c.args.at object.0 object.1))));
       clean = λ i l h. absurd (omega arith);
     }
 
@@ -58,7 +58,7 @@ pub update_field-requires : goal.update_field-requires
 update_field-requires g c =
     let (premises, (turn, (flags, (card, (each, (known, (outside, object))))))) = c.requires in
     let v = c.loop-field.invariant in
-    (premises, (v.turn, (flags, (card, (v.each, (outside, still_field g.pause c.loop-field.table c.args.at c.pointer_count-count.result c.loop-field.field v.still (let t = c.loop-field-test.true in let m = c.min-end.ensures in omega arith)))))))
+    (premises, (v.turn, (flags, (card, (v.each, (outside, still_field g.pause c.loop-field.table c.args.at c.field_count-count.result c.loop-field.field v.still (let t = c.loop-field-test.true in let m = c.min-end.ensures in omega arith)))))))
 
 pub loop-field-preserved : goal.loop-field-preserved
 loop-field-preserved g c =
@@ -83,13 +83,13 @@ returns-clause-clean g c =
     let v = c.loop-field.invariant in
     let z = card_has_words g.pause.card_words g.pause.start.words_per_region g.pause.cards_per_region premises.shaped.positive premises.whole_cards in
     let z' : 0 < c.args.card_words = omega arith in
-    let k = fields_in_card c.args.card_words c.args.card c.args.at c.pointer_count-count.result c.word-first.result c.args.card c.saturating_sub-start.result c.saturating_sub.result c.min-end.result z' c.word-first.ensures refl
+    let k = fields_in_card c.args.card_words c.args.card c.args.at c.field_count-count.result c.word-first.result c.args.card c.saturating_sub-start.result c.saturating_sub.result c.min-end.result z' c.word-first.ensures refl
     c.saturating_sub-start.ensures c.saturating_sub.ensures c.min-end.ensures in
     λ i e y w here f.
     let (x, at, count) = v.still in
     let same : x ≡ y = cc in
-    let n = ap (λ (m : Stored). length m.pointers) same in
-    let low = get_below y.pointers i w f in
+    let n = ap (λ (m : Stored). length (fields m)) same in
+    let low = get_below (fields y) i w f in
     let e' : field_card c.args.card_words c.args.at i ≡ c.args.card = ap (λ (m : ℕ). field_word c.args.at i / m) card ∙ e in
     let (a, b) = k.all i (omega (arith, n, count, low)) e' in
     v.clean i a (let t = c.loop-field-test.false in omega (arith, b, t)) y w here f

@@ -5,7 +5,7 @@ use Rattle.refinement.proofs.Divides.{div_high}
 use Rattle.evacuation.specs.Turns.{layout, space}
 use Rattle.evacuation.proofs.After.{after_after, same_after}
 use Rattle.evacuation.proofs.CardScans.{card_small, onward, clean_next, clean_last, clean_past, region_by}
-use Rattle.evacuation.proofs.Scans.{some_tile}
+use Rattle.regions.proofs.Steps.{some_tile}
 use Rattle.evacuation.proofs.Words.{all_small}
 use Rattle.evacuation.proofs.outside.update_tiles.Goals as goal
 

@@ -37,13 +37,13 @@ pub loop-field-preserved : goal.loop-field-preserved
 loop-field-preserved c = λ kept same.
     let p = c.loop-field.invariant kept same in
     let z = card_has_words c.args.card_words c.args.table.now.words_per_region c.args.sets.now.cards_per_region c.law.ensures.positive c.requires.fit.whole_cards in
-    let r = fields_in_card c.args.card_words c.args.card c.args.object c.pointer_count-count.result c.word-first.result c.number.result c.saturating_sub-start.result c.saturating_sub.result c.min-end.result z c.word-first.ensures c.number.ensures c.saturating_sub-start.ensures c.saturating_sub.ensures c.min-end.ensures in
+    let r = fields_in_card c.args.card_words c.args.card c.args.object c.field_count-count.result c.word-first.result c.number.result c.saturating_sub-start.result c.saturating_sub.result c.min-end.result z c.word-first.ensures c.number.ensures c.saturating_sub-start.ensures c.saturating_sub.ensures c.min-end.ensures in
     partly_next c.args.table.now kept c.args.card_words c.args.card c.args.object c.saturating_sub-start.result c.loop-field.field (c.loop-field.field + 1) c.args.sets.now c.loop-field.sets c.scan_field.new.sets same c.requires.inside
     (adds_fit c.args.table.now kept c.args.card_words c.args.card c.args.sets.now c.loop-field.sets c.requires.fit p.adds).0.each_region
-    (omega (arith, r.within, c.pointer_count-count.ensures, c.loop-field-test.true)) (r.in_card c.loop-field.field (c.loop-field.auto.field) c.loop-field-test.true) refl c.scan_field.ensures.after c.scan_field.ensures.covered p
+    (omega (arith, r.within, c.field_count-count.ensures, c.loop-field-test.true)) (r.in_card c.loop-field.field (c.loop-field.auto.field) c.loop-field-test.true) refl c.scan_field.ensures.after c.scan_field.ensures.covered p
 
 pub returns : goal.returns
 returns c = λ kept same.
     let z = card_has_words c.args.card_words c.args.table.now.words_per_region c.args.sets.now.cards_per_region c.law.ensures.positive c.requires.fit.whole_cards in
-    let r = fields_in_card c.args.card_words c.args.card c.args.object c.pointer_count-count.result c.word-first.result c.number.result c.saturating_sub-start.result c.saturating_sub.result c.min-end.result z c.word-first.ensures c.number.ensures c.saturating_sub-start.ensures c.saturating_sub.ensures c.min-end.ensures in
-    partly_last c.args.table.now kept c.args.card_words c.args.card c.args.object c.pointer_count-count.result c.saturating_sub-start.result c.min-end.result c.loop-field.field c.args.sets.now c.loop-field.sets same c.pointer_count-count.ensures r c.loop-field-test.false (c.loop-field.invariant kept same)
+    let r = fields_in_card c.args.card_words c.args.card c.args.object c.field_count-count.result c.word-first.result c.number.result c.saturating_sub-start.result c.saturating_sub.result c.min-end.result z c.word-first.ensures c.number.ensures c.saturating_sub-start.ensures c.saturating_sub.ensures c.min-end.ensures in
+    partly_last c.args.table.now kept c.args.card_words c.args.card c.args.object c.field_count-count.result c.saturating_sub-start.result c.min-end.result c.loop-field.field c.args.sets.now c.loop-field.sets same c.field_count-count.ensures r c.loop-field-test.false (c.loop-field.invariant kept same)

@@ -5,7 +5,7 @@ use Rattle.refinement.specs.Remembering.{LeadsInside}
 use Rattle.refinement.proofs.Divides.{card_has_words}
 use Rattle.refinement.proofs.Entered.{adds_none, adds_more, adds_grows}
 use Rattle.refinement.proofs.Fields.{adds_fit, card_end}
-use Rattle.refinement.proofs.Holders.{kept_object, not_kept, points_inside, same_object, tile_there}
+use Rattle.refinement.proofs.Holders.{kept_object, not_kept, fields_inside, same_object, tile_there}
 use Rattle.refinement.proofs.Scanned.{covered_dead, turn_first, turn_last, turn_next, turn_past, turn_placed}
 use Rattle.refinement.proofs.scan.scan_tiles.Goals as goal
 
@@ -47,7 +47,7 @@ is_kept-requires-clause-tile c =
 
 pub scan_object-requires-clause-inside : goal.scan_object-requires-clause-inside
 scan_object-requires-clause-inside c =
-    points_inside c.args.table.now (kept_in c.args.table.now c.args.tams.now c.args.marks.now) c.in-Some.at (kept_object c.args.table.now c.args.tams.now c.args.marks.now) c.requires.stands.inside (c.is_kept.ensures.0 c.if-is_kept.true)
+    fields_inside c.args.table.now (kept_in c.args.table.now c.args.tams.now c.args.marks.now) c.in-Some.at (kept_object c.args.table.now c.args.tams.now c.args.marks.now) c.requires.stands.inside (c.is_kept.ensures.0 c.if-is_kept.true)
 
 pub scan_object-requires-clause-fit : goal.scan_object-requires-clause-fit
 scan_object-requires-clause-fit c =
