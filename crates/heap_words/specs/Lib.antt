@@ -3,3 +3,4 @@ pub mod Contents
 pub mod Configs
 pub mod Bits
 pub mod BitWords
+pub mod Sizes

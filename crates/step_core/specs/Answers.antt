@@ -1,5 +1,6 @@
 -- What a step answers, in the words of the graph.
 use Rattle.std.specs.Prelude.{◌≡◌, ℕ, ◌+◌, ◌*◌, ◌<◌, ◌⊎◌, Some, None}
+use Rattle.heap_words.specs.Sizes.{size_of}
 use Rattle.heap_model.specs.Graph.{Graph, next_name}
 use Rattle.object_graph.specs.Machine.{act}
 use Rattle.object_graph.specs.Run.{Happens}
@@ -25,7 +26,7 @@ HasNoPlace c m size = (c.table.words_per_region < 2 * size) ⊎ (place_of c.tabl
 
 -- the graph creates an object, and the heap has no place for it
 abbrev pub IsFull : Graph → ℕ → Action → CoreState → Type 0
-IsFull g m (actions.New to p d) c = ((act g m (actions.New to p d)).0 ≡ replies.Named (Some (next_name g))) × HasNoPlace c m (2 + p + d)
+IsFull g m (actions.New to p d) c = ((act g m (actions.New to p d)).0 ≡ replies.Named (Some (next_name g))) × HasNoPlace c m (size_of p d)
 IsFull g m _ c = ⊥
 
 -- the same of a step: the collector creates nothing

@@ -1,5 +1,6 @@
 -- What each step of a mutator does to a core, exactly.
 use Rattle.std.specs.Prelude.{◌≡◌, ℕ, ◌+◌, ◌/◌, ◌==◌, Option, Some, None, [], ◌∷◌, if◌then◌else◌, slice_index_or, slice_set, unwrap_or}
+use Rattle.heap_words.specs.Sizes.{size_of}
 use Rattle.heap_words.specs.Configs.{card_words}
 use Rattle.regions.specs.Tiles.{Live}
 use Rattle.regions.specs.Table.{pointers_at, set_pointer, set_value, replace_tile, new_object}
@@ -60,7 +61,7 @@ with_made c place p d (Some x) = record c {
 
 -- the core after a step that isn't refused, but for its marker
 abbrev pub core_after : CoreState → ℕ → Action → CoreState
-core_after c m (actions.New to p d) = with_made c (register_place m to.number) p d (place_of c.table c.buffers m (2 + p + d))
+core_after c m (actions.New to p d) = with_made c (register_place m to.number) p d (place_of c.table c.buffers m (size_of p d))
 core_after c m (actions.Get to object i) = with_root_word c (register_place m to.number) (pointer_of c (object_of c m object) i)
 core_after c m (actions.Put object i value) = with_pointer c m (object_of c m object) i (value_of c m value)
 core_after c m (actions.Read object i) = c

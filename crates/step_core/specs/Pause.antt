@@ -1,5 +1,6 @@
 -- What a pause does to a core, exactly.
 use Rattle.std.specs.Prelude.{◌≡◌, ◌↔◌, ℕ, ◌==◌, ◌+◌, ◌*◌, ◌<◌, ◌≤◌, All, Bool, true, false, Option, None, List, [], ◌∷◌, IsSorted, Some, length, take, count_by, slice_get, slice_index}
+use Rattle.heap_words.specs.Sizes.{size_of}
 use Rattle.heap_words.specs.Configs.{card_words}
 use Rattle.heap_model.specs.Graph.{Graph, Object, object_named}
 use Rattle.heap_model.specs.Heap.{Heap, Stored}
@@ -73,7 +74,7 @@ pub record IsCopied (set : ℕ → Bool) (h : Heap) (n : ℕ) : Type 0 where
 -- the words of an object of the graph, and of the objects of these names
 abbrev pub named_words : Option Object → ℕ
 named_words None = 0
-named_words (Some o) = 2 + length o.pointers + length o.values
+named_words (Some o) = size_of (length o.pointers) (length o.values)
 
 abbrev pub words_of : Graph → List ℕ → ℕ
 words_of g [] = 0

@@ -1,6 +1,7 @@
 //! The mutator's steps.
 
 ghost use Rattle.std.specs.Prelude.{◌≡◌, ℕ, ◌<◌, ◌≤◌, ◌+◌, ◌*◌, ◌↔◌, ◌≢◌, ◌⊎◌, Option, Some, None};
+ghost use Rattle.heap_words.specs.Sizes.{size_of};
 ghost use Rattle.heap_model.specs.Graph.{Graph, next_name};
 ghost use Rattle.heap_model.specs.Heap.{IsShown};
 ghost use Rattle.object_graph.specs.Machine.{stored};
@@ -172,7 +173,7 @@ impl Core {
         ensures keeps { (s : Graph) → KeepsFrom s self.old → KeepsFrom s self.new }
         ensures after { ActsOn mutator (actions.New to pointers values) result self.old self.new }
         ensures leaves { LeavesRegions self.old self.new }
-        ensures full { HasNoPlace self.old mutator (2 + pointers + values) → (name : Option ℕ) → result ≢ replies.Named name }
+        ensures full { HasNoPlace self.old mutator (size_of pointers values) → (name : Option ℕ) → result ≢ replies.Named name }
     {
         let size = 2 + u64::from(pointers) + u64::from(values);
         let Config { regions, words, .. } = self.config;

@@ -2,6 +2,8 @@
 
 ghost use Rattle.std.specs.Prelude.{◌≡◌, ◌<◌};
 
+mod pauses;
+
 use crate::{Core, RunFault, run};
 use heap_words::addr::{Card, RegionNo};
 use heap_words::config::{Config, NewFault};
