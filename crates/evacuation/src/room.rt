@@ -2,6 +2,7 @@
 
 ghost use Rattle.std.specs.Prelude.{◌≡◌, ◌≢◌, ◌<◌, ◌&&◌, ◌/◌, ◌*◌, ◌==◌, ◌^◌, ℕ, All, Bool, true, false, List, IfOk, if◌then◌else◌, length, replicate};
 ghost use Rattle.std.specs.List.{list_any};
+ghost use Rattle.std.specs.List.Sorted.{IsStrictlyIncreasing};
 ghost use Rattle.cards.specs.Cards.{Cards, is_dirty};
 ghost use Rattle.remembered_sets.specs.Sets.{card_count, covers};
 ghost use Rattle.regions.specs.Table.{kind_of};
@@ -86,8 +87,10 @@ pub(crate) fn dirty_noted(cards: &mut CardTable, noted: &[bool])
     requires few { length noted.now < 2 ^ 32 }
     ensures dirty { (card : ℕ) → is_dirty cards.new card ≡ flag noted.now card }
     ensures logs { cards.new.logs ≡ cards.old.logs }
+    ensures queue { IsStrictlyIncreasing cards.new.queue }
     ensures len { length cards.new.dirty ≡ length cards.old.dirty }
 {
+    cards.law();
     for card in 0..noted.len() as u32 {
         if noted[card as usize] {
             cards.append(Card::new(card));
