@@ -2,6 +2,7 @@
 use Rattle.evacuation.proofs.Starts.{no_tile}
 use Rattle.std.proofs.Common.{◌≡◌, ◌≢◌, ℕ, suc, zero, ◌+◌, ◌-◌, ◌*◌, ◌/◌, ◌%◌, ◌<◌, ◌≤◌, Bool, true, false, List, [], ◌∷◌, Option, Some, None, length, get_or, refl, sym, ap, ◌∙◌, subst, inl, inr, arith}
 use Rattle.std.specs.Prelude.{nat_lt, ◌↔◌, if◌then◌else◌}
+use Rattle.std.specs.List.Sorted.{IsStrictlyIncreasing}
 use Rattle.std.proofs.lemmas.Bool.{cases_lt, cases_Bool}
 use Rattle.heap_model.specs.Heap.{Stored}
 use Rattle.heap_model.specs.Relocation.{Relocates}
@@ -10,7 +11,7 @@ use Rattle.regions.specs.Tiles.{Tile, Live, Gap, Moved, tile_size, tile_at}
 use Rattle.regions.specs.Walks.{AllPositive, region_tiles, tiles_of}
 use Rattle.regions.proofs.Placing.{tile_at-back}
 use Rattle.regions.proofs.WalkFrom.{listed_tile}
-use Rattle.regions.specs.Table.{Region, Free, Ordinary, First, Rest, Table, EachMoved, EachMovedIn, HasNoMoved, kind_of, object_at, region_kind, region_number, region_tile, region_used, tile_in, tile_object, used_of, AreHalves}
+use Rattle.regions.specs.Table.{Region, Free, Ordinary, First, Rest, Table, EachMoved, EachMovedIn, HasNoMoved, kind_of, moved_to, object_at, region_kind, region_number, region_tile, region_used, tile_in, tile_object, used_of, AreHalves}
 use Rattle.regions.specs.Shaped.{IsShaped}
 use Rattle.regions.specs.declared.row.Kind.TheVariants as kinds
 use Rattle.regions.proofs.RunLaws.{tile_of_region}
@@ -60,6 +61,12 @@ kind_free t k e = ap region_kind e
 object_by : (t : Table) (a : ℕ) (u : Option Tile) → tile_in t a ≡ u → object_at t a ≡ tile_object u
 unfolding object_at
 object_by t a u e = ap tile_object e
+
+moved_tile : (o : Option Tile) (b : ℕ) → moved_to o ≡ Some b → (n : ℕ) × (o ≡ Some (Moved b n))
+moved_tile None b e = absurd cc
+moved_tile (Some (Live s)) b e = absurd cc
+moved_tile (Some (Gap m)) b e = absurd cc
+moved_tile (Some (Moved to n)) b e = (n, let same : to ≡ b = cc in ap (λ (k : ℕ). Some (Moved k n)) same)
 
 -- where no tile is moved, no tile of the regions is
 next_tile : (t : Tile) (ts : List Tile) (o : ℕ) → 0 < tile_size t → tile_at (tile_size t + o) (t ∷ ts) ≡ tile_at o ts
@@ -149,6 +156,12 @@ module _ (h : Layers) (rows : List LiveRow) (cw : ℕ) (can : CanEvacuate h rows
     count = rel.count ∙ turn.table.count;
     chosen = λ k e. kind_free t2 k (rel.gone k e);
     was_free = λ k f. let s = kind_by t1 t2 k (rel.others k (not_chosen k f)) in elim (turn.table.was_free k f) [ inl e ↦ inl (s ∙ e) | inr e ↦ inr (s ∙ e) ];
+    filled = λ k f o.
+        let out = rel.others k (not_chosen k f) in
+        let b = turn.table.filled k f (sym (kind_by t1 t2 k out) ∙ o) in
+        let u = used_by t1 t2 k rel.size out in
+        omega arith;
+    live = λ a u f e. turn.table.live a u f (sym (tile_outside a (off (a / words) (not_chosen (a / words) f))) ∙ e);
     kinds_same = λ k e n. kind_by t1 t2 k (rel.others k e) ∙ turn.table.kinds_same k (off k e) n;
     used = λ k e n. used_by t1 t2 k rel.size (rel.others k e) ∙ turn.table.used k (off k e) n;
     objects = λ a x o e. let (y, f, s) = turn.table.objects a x (off (a / words) o) e in (y, outside a (off (a / words) o) ∙ f, s);
@@ -222,7 +235,7 @@ module _ (h : Layers) (rows : List LiveRow) (cw : ℕ) (can : CanEvacuate h rows
   -- ---- all together
   module _ (tams' : Tops) (previous' next' : List Bool) (cards' : Cards) (sets' : Sets) (roots' : List (Option ℕ)) (noted : List Bool) (g : IsShaped t2)
       (previous : MarksAfter words rows h.tams.previous tams'.previous h.previous previous') (next : MarksAfter words rows h.tams.next tams'.next h.next next')
-      (cleared : AreCleared rows h.sets sets') (dirty : (card : ℕ) → is_dirty cards' card ≡ flag noted card) (logs : cards'.logs ≡ h.cards.logs) (each : length cards'.dirty ≡ length h.cards.dirty)
+      (cleared : AreCleared rows h.sets sets') (dirty : (card : ℕ) → is_dirty cards' card ≡ flag noted card) (logs : cards'.logs ≡ h.cards.logs) (rising : IsStrictlyIncreasing cards'.queue) (each : length cards'.dirty ≡ length h.cards.dirty)
       (moved : Relocates (place_of (in_set p) (space p t1).forward) (plan p).heap (released (in_set p) (record { kept = kept_now p t1; roots = roots' })))
       (reached : (a : ℕ) → IsReached (in_set p) (plan p).heap a → (b : ℕ) × ((space p t1).forward a ≡ Some b))
       (copied_words : AreReachedWords (in_set p) (plan p).heap d1.words) (fields : AreFieldsNoted p noted t1) (clean : AreFieldsClean p t1)
@@ -333,15 +346,21 @@ module _ (h : Layers) (rows : List LiveRow) (cw : ℕ) (can : CanEvacuate h rows
         stood_free : (a : ℕ) (y : Stored) → kind_of h.table (a / words) ≡ kinds.Free → object_at h.table a ≡ Some y → ⊥
         stood_free a y f e' = let t = no_tile h.table a f in let q = object_by h.table a None t in absurd cc
 
+    -- a copy stands in a destination
+    place_free : (a b : ℕ) → forward a ≡ Some b → kind_of h.table (b / words) ≡ kinds.Free
+    place_free a b e = let (n, f) = moved_tile (tile_in t1 a) b e in (turn.taken (b / words) (turn.copying.placed a b (turn.table.moved a b n f) e)).0
+
     pub evacuated : HasEvacuated rows cw d1.words h h'
     evacuated = record {
       forward = forward;
+      placed = λ a b e. place_free a b e;
       relocates = relocates;
       copied = copied;
       keeps_old = keeps_old;
       words_are = subst (λ (s : ℕ → Bool). AreReachedWords s (heap_of h) d1.words) (sym sets_same) copied_words;
       within = (let a = turn.copying.limit in let b = asked.within_bounds h rows cw can shaped flags flags_are len in omega (arith, a, b));
       regions = regions;
+      unkept = λ a o n e. tile_outside a (off (a / words) o) ∙ turn.table.unkept a (off (a / words) o) n (ap (λ (k : ℕ → Option Stored). k a) (kept_now_is p h.table) ∙ e);
       unmoved = unmoved g;
       halves = halves;
       previous = previous;
@@ -352,6 +371,7 @@ module _ (h : Layers) (rows : List LiveRow) (cw : ℕ) (can : CanEvacuate h rows
       fit = record { whole_cards = size ∙ can.fit.whole_cards ∙ ap (λ (n : ℕ). n * cw) (sym cleared.cards); each_region = cleared.count ∙ can.fit.each_region ∙ sym regions.count };
       each_card = each ∙ can.each_card ∙ sym (let a = cleared.count in let b = cleared.cards in rw (a, b) refl);
       logs = logs;
+      queue = rising;
       dirty = new_crossing;
       cleared = cleared.cleared;
       sets_same = cleared.others;

@@ -10,6 +10,7 @@ pub mod Lefts
 pub mod Lists
 pub mod ObjectFields
 pub mod Places
+pub mod Queues
 pub mod RootWords
 pub mod Scans
 pub mod Spaces

@@ -4,7 +4,7 @@ use Rattle.std.specs.Prelude.{slice_get}
 use Rattle.std.proofs.lemmas.Bool.{cases_eq}
 use Rattle.heap_model.specs.Heap.{Stored}
 use Rattle.regions.specs.Tiles.{Live, Moved, tile_size}
-use Rattle.regions.specs.Table.{Table, is_free, kind_of, moved_to, object_at, region_number, tile_in}
+use Rattle.regions.specs.Table.{Table, is_free, kind_of, moved_to, object_at, region_number, tile_in, used_of}
 use Rattle.regions.specs.Rows.{kind_is_free}
 use Rattle.regions.specs.Shaped.{IsShaped}
 use Rattle.regions.specs.declared.row.Kind.TheVariants as kinds
@@ -173,6 +173,11 @@ module _ (p : Pause) (q : IsPause p) (t t' : Table) (d d' : Places) (turn : IsTu
         used = λ j i n. w.used_same j (λ e. n (ap (kind_of p.start) e ∙ fresh.0)) ∙ s.used j i n;
         objects = λ a y out e. let (z, f, same) = s.objects a y out e in (z, outside_same a z out f, same);
         none = λ a out n e. other a (λ f. let g = ap (in_set p) f in let h = inside in absurd cc) (λ f. n (ap (λ (m : ℕ). kind_of p.start (m / p.start.words_per_region)) f ∙ ap (kind_of p.start) at_region ∙ fresh.0)) ∙ s.none a out n e;
+        unkept = λ a out n e. w.others a (λ f. let g = ap (in_set p) f in let h = inside in absurd cc) (λ f. n (ap (λ (m : ℕ). kind_of p.start (m / p.start.words_per_region)) f ∙ ap (kind_of p.start) at_region ∙ fresh.0)) ∙ s.unkept a out n e;
+        filled = λ j f o. elim (cases_eq j k) [
+          | inl e ↦ subst (λ (m : ℕ). 0 < used_of t' m) (sym e) (let u = w.used in omega arith)
+          | inr e ↦ (let u = w.used_same j e in let b = s.filled j f (sym (w.kinds_same j e) ∙ o) in omega arith)
+        ];
         small = λ a y out f e. elim (cases_eq a to) [
           | inl g ↦ (let h = ap (object_at t') g in let i = object_of t' to (Some (Live x)) w.copy in let r : x ≡ y = cc in subst (λ (m : Stored). 2 * tile_size (Live m) ≤ p.start.words_per_region) r small)
           | inr g ↦ s.small a y out f (sym (other a (λ h. let j = ap (in_set p) h in let i = inside in absurd cc) g) ∙ e)

@@ -66,6 +66,8 @@ module _ (p : Pause) (q : IsPause p) (room : 2 * (space p p.start).left ≤ free
     used = λ k e m. refl;
     objects = λ a x o e. (x, e, record { name = refl; values = refl; count = refl });
     none = λ a o m e. e;
+    unkept = λ a o m e. refl;
+    filled = λ k f o. absurd (let n : kinds.Free ≡ kinds.Ordinary = sym f ∙ o in cc);
     small = λ a x o f e. absurd (let g = tile_of_object p.start a x e in let h = no_tile p.start a f in cc);
     moved = λ a to m e. absurd (let g = not_moved p.start a q.unmoved in let h = ap moved_to e in cc);
     live = λ a u f e. absurd (let g = no_tile p.start a f in cc);

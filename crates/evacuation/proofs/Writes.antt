@@ -1,5 +1,5 @@
 -- A field is written, as copying sees it.
-use Rattle.std.proofs.Common.{◌≡◌, ℕ, ◌*◌, ◌<◌, ◌≤◌, false, Option, Some, length, sym, ap, ◌∙◌, subst, inl, inr, arith}
+use Rattle.std.proofs.Common.{◌≡◌, ℕ, ◌*◌, ◌/◌, ◌<◌, ◌≤◌, ◌≢◌, false, None, Option, Some, length, sym, ap, ◌∙◌, subst, inl, inr, arith}
 use Rattle.std.proofs.lemmas.Bool.{cases_eq}
 use Rattle.std.proofs.lemmas.List.{length-set}
 use Rattle.heap_model.specs.Heap.{Stored, fields, with_field}
@@ -77,6 +77,8 @@ module _ (p : Pause) (q : IsPause p) (t t' : Table) (d : Places) (turn : IsTurn 
               | inr n ↦ (z, other a n ∙ f, r)
             ];
         none = λ a o n e. other a (λ f. let g = s.none a o n e in let h = ap (object_at t) f in let k = object in absurd cc) ∙ s.none a o n e;
+        unkept = λ a o n e. w.others a (λ f. stood a o n e f) ∙ s.unkept a o n e;
+        filled = λ k f o. let b = s.filled k f (sym (w.kinds k) ∙ o) in let u = w.used k in omega arith;
         small = λ a x o f e. elim (cases_eq a at) [
           | inl g ↦
               let h = ap (object_at t') g in
@@ -94,6 +96,15 @@ module _ (p : Pause) (q : IsPause p) (t t' : Table) (d : Places) (turn : IsTurn 
         ];
         targets = subst (λ (u : Table). EachMovedIn (λ a. in_set p a ≡ false) u.regions) (sym (is ∙ set_field-is t at i v y object)) (put_object-moved (λ a. in_set p a ≡ false) t at (with_field y i v) s.targets);
       }
+    where
+      -- what is written was kept at the start
+      stood : (a : ℕ) → in_set p a ≡ false → kind_of p.start (a / p.start.words_per_region) ≢ kinds.Free → kept_now p p.start a ≡ None → a ≡ at → ⊥
+      stood a o n e f =
+          let now : kept_now p t a ≡ Some y = ap (kept_now p t) f ∙ here in
+          let start = kept_some p t p.start a y now (sym turn.table.size) in
+          let none = turn.table.none a o n (sym start ∙ e) in
+          let some = ap (object_at t) f ∙ object in
+          cc
 
   pub write_taken : (j : ℕ) → IsTaken d j → (kind_of p.start j ≡ kinds.Free) × (kind_of t' j ≡ kinds.Ordinary) × (j < length p.start.regions)
   write_taken j k = let r = turn.taken j k in (r.0, w.kinds j ∙ r.1, r.2)

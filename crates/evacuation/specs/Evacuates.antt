@@ -1,12 +1,13 @@
 -- What evacuating a set of regions asks of a heap, and what it does to it.
 use Rattle.std.specs.Prelude.{◌≡◌, ◌≢◌, ◌⊎◌, ◌↔◌, ◌≤◌, ◌<◌, ℕ, ◌+◌, ◌*◌, ◌/◌, Bool, true, false, ◌==◌, List, [], ◌∷◌, Option, Some, None, All, length, slice_get, slice_index, if◌then◌else◌}
 use Rattle.std.specs.List.{list_any}
+use Rattle.std.specs.List.Sorted.{IsStrictlyIncreasing}
 use Rattle.heap_model.specs.Heap.{Heap, Stored, IsClosed, fields}
 use Rattle.heap_model.specs.Marking.{Marking}
 use Rattle.heap_model.specs.Relocation.{Relocates, KeepsOld}
 use Rattle.heap_model.specs.Evacuation.{IsReached, place_of}
-use Rattle.regions.specs.Tiles.{Live, tile_size}
-use Rattle.regions.specs.Table.{Table, AreHalves, HasNoMoved, free_count, kind_of, object_at, used_of}
+use Rattle.regions.specs.Tiles.{Tile, Live, tile_size}
+use Rattle.regions.specs.Table.{Table, AreHalves, HasNoMoved, free_count, kind_of, object_at, tile_in, used_of}
 use Rattle.regions.specs.declared.row.Kind.TheVariants as kinds
 use Rattle.mark_bitmap.specs.Marks.{is_marked}
 use Rattle.mark_bitmap.specs.Tops.{Tops, below_next}
@@ -92,19 +93,22 @@ pub record AreReachedWords (set : ℕ → Bool) (h : Heap) (words : ℕ) : Type 
   pub total : words_at h.kept addresses ≡ words
 
 -- ---- what becomes of the regions
--- at b stands the same object, but that some of its pointers are others
+-- the same object, but that some of its fields are others
 pub record IsSameBut (x y : Stored) : Type 0 where
   pub name : y.name ≡ x.name
   pub values : y.values ≡ x.values
   pub count : length (fields y) ≡ length (fields x)
 
--- Chosen regions are free, and free ones free or ordinary. A region in use that isn't chosen is of its kind still, as many of its words
--- are handed out, and its objects stand where they stood, the same but for pointers
+-- Chosen regions are free, and free ones free or ordinary; what was free and is ordinary isn't empty, and holds live objects alone. A
+-- region in use that isn't chosen is of its kind still, as many of its words are handed out, and its objects stand where they stood, the
+-- same but for fields
 pub record RegionsAfter (rows : List LiveRow) (t t' : Table) : Type 0 where
   pub size : t'.words_per_region ≡ t.words_per_region
   pub count : length t'.regions ≡ length t.regions
   pub chosen : (k : ℕ) → is_chosen rows k ≡ true → kind_of t' k ≡ kinds.Free
   pub was_free : (k : ℕ) → kind_of t k ≡ kinds.Free → (kind_of t' k ≡ kinds.Free) ⊎ (kind_of t' k ≡ kinds.Ordinary)
+  pub filled : (k : ℕ) → kind_of t k ≡ kinds.Free → kind_of t' k ≡ kinds.Ordinary → 0 < used_of t' k
+  pub live : (a : ℕ) (tile : Tile) → kind_of t (a / t.words_per_region) ≡ kinds.Free → tile_in t' a ≡ Some tile → (x : Stored) × (tile ≡ Live x)
   pub kinds_same : (k : ℕ) → is_chosen rows k ≡ false → kind_of t k ≢ kinds.Free → kind_of t' k ≡ kind_of t k
   pub used : (k : ℕ) → is_chosen rows k ≡ false → kind_of t k ≢ kinds.Free → used_of t' k ≡ used_of t k
   pub objects : (a : ℕ) (x : Stored) → set_in t.words_per_region rows a ≡ false → object_at t a ≡ Some x → (y : Stored) × (object_at t' a ≡ Some y) × IsSameBut x y
@@ -135,14 +139,17 @@ IsNewSet h rows = All (λ row. slice_index h.tams.next row.region ≡ row.region
 
 -- What is reached of the set is copied out of it, once, and what named it names its copy; then the set's regions are free
 pub record HasEvacuated (rows : List LiveRow) (card_words words : ℕ) (h h' : Layers) : Type 0 where
-  -- where the copies stand
+  -- where the copies stand: in regions that were free
   pub forward : ℕ → Option ℕ
+  pub placed : (a b : ℕ) → forward a ≡ Some b → kind_of h.table (b / h.table.words_per_region) ≡ kinds.Free
   pub relocates : Relocates (place_of (set_by h rows) forward) (heap_of h) (heap_of h')
   pub copied : (a : ℕ) → IsReached (set_by h rows) (heap_of h) a ↔ ((set_by h rows a ≡ true) × (b : ℕ) × (forward a ≡ Some b))
   pub keeps_old : IsNewSet h rows → (m : Marking) → ((a : ℕ) → m.old a ≡ below_next h.table h.tams a) → KeepsOld (place_of (set_by h rows) forward) (heap_of h) m
   pub words_are : AreReachedWords (set_by h rows) (heap_of h) words
   pub within : words ≤ live_sum rows
   pub regions : RegionsAfter rows h.table h'.table
+  -- a filler outside the set, and an object there that isn't kept, is as it was
+  pub unkept : (a : ℕ) → set_by h rows a ≡ false → kind_of h.table (a / h.table.words_per_region) ≢ kinds.Free → kept_of h a ≡ None → tile_in h'.table a ≡ tile_in h.table a
   pub unmoved : HasNoMoved h'.table
   pub halves : AreHalves h'.table
   pub previous : MarksAfter h.table.words_per_region rows h.tams.previous h'.tams.previous h.previous h'.previous
@@ -153,6 +160,8 @@ pub record HasEvacuated (rows : List LiveRow) (card_words words : ℕ) (h h' : L
   pub fit : SetsFit h'.table card_words h'.sets
   pub each_card : length h'.cards.dirty ≡ card_count h'.sets
   pub logs : h'.cards.logs ≡ h.cards.logs
+  -- no card is dirty before, so the dirty cards are those of the queue now
+  pub queue : IsStrictlyIncreasing h'.cards.queue
   -- a card is dirty only where a field was updated or copied that leads to another region
   pub dirty : (card : ℕ) → is_dirty h'.cards card ≡ true → IsNewCrossing h h' card_words card
   pub cleared : (k : ℕ) → is_chosen rows k ≡ true → set_of h'.sets k ≡ empty_set (length h.sets.sets)

@@ -66,7 +66,8 @@ pub record IsPause (p : Pause) : Type 0 where
   pub ordinary : (k : ℕ) → flag p.chosen k ≡ true → kind_of p.start k ≡ kinds.Ordinary
 
 -- What became of the table so far. Chosen regions are ordinary, with objects that stood there and such as moved out of the set;
--- a region in use that isn't chosen has its objects, the same but for pointers; and a region that was free has copies alone
+-- a region in use that isn't chosen has its objects, the same but for the fields of kept ones; and a region that was free and isn't has
+-- copies alone, one at least
 pub record TableStays (p : Pause) (t : Table) : Type 0 where
   pub size : t.words_per_region ≡ p.start.words_per_region
   pub count : length t.regions ≡ length p.start.regions
@@ -76,6 +77,8 @@ pub record TableStays (p : Pause) (t : Table) : Type 0 where
   pub used : (k : ℕ) → flag p.chosen k ≡ false → kind_of p.start k ≢ kinds.Free → used_of t k ≡ used_of p.start k
   pub objects : (a : ℕ) (x : Stored) → in_set p a ≡ false → object_at p.start a ≡ Some x → (y : Stored) × (object_at t a ≡ Some y) × IsSameBut x y
   pub none : (a : ℕ) → in_set p a ≡ false → kind_of p.start (a / p.start.words_per_region) ≢ kinds.Free → object_at p.start a ≡ None → object_at t a ≡ None
+  pub unkept : (a : ℕ) → in_set p a ≡ false → kind_of p.start (a / p.start.words_per_region) ≢ kinds.Free → kept_now p p.start a ≡ None → tile_in t a ≡ tile_in p.start a
+  pub filled : (k : ℕ) → kind_of p.start k ≡ kinds.Free → kind_of t k ≡ kinds.Ordinary → 0 < used_of t k
   pub small : (a : ℕ) (x : Stored) → in_set p a ≡ false → kind_of p.start (a / p.start.words_per_region) ≡ kinds.Free → object_at t a ≡ Some x → 2 * tile_size (Live x) ≤ p.start.words_per_region
   pub moved : (a to n : ℕ) → tile_in t a ≡ Some (Moved to n) → in_set p a ≡ true
   pub live : (a : ℕ) (u : Tile) → kind_of p.start (a / p.start.words_per_region) ≡ kinds.Free → tile_in t a ≡ Some u → (x : Stored) × (u ≡ Live x)
