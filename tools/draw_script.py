@@ -37,13 +37,18 @@ class Drawer:
         self.random = random.Random(seed)
         self.chance = self.random.random
         self.steps = steps
+        # What a script may have many of at once: cards that lead into one region, or deletions while marking runs.
+        self.burst = self.pick((None, None, None, None, None, None, None, "many_cards", "many_deletions"))
+        self.large = self.chance() < 0.4 if large is None else large
         self.words = words or self.pick((16, 16, 16, 32, 32, 64))
         # Few regions for the steps that there are, so that the heap is nearly full at times.
         self.regions = regions or self.number(3, 4 + max(2, steps * 96 // (self.words * 20)))
+        if self.burst == "many_cards" and words is None:
+            self.words = 16 if self.large and self.chance() < 0.5 else 256
+            self.regions = regions or (self.number(20, 40) if self.words == 16 else self.number(3, 6))
         self.regions = min(self.regions, 1024, 1048576 // self.words)
-        self.buffer = buffer or self.number(4, self.words // 2)
+        self.buffer = buffer or self.number(4, self.words // 2 if self.chance() < 0.5 else min(16, self.words // 2))
         self.mutators = mutators or self.pick((1, 1, 1, 1, 2, 2, 3, 5, 1, 1, 2, 2, 16))
-        self.large = self.chance() < 0.4 if large is None else large
         self.first_name = self.pick((0, 0, 0, 0, 0, 1, 1000000, 2 ** 63, 2 ** 64 - 3, 2 ** 64 - 20, 2 ** 64 - 60))
         # Some scripts pause often, some mark for long, some lose many objects.
         self.weights = dict(WEIGHTS)
@@ -101,9 +106,16 @@ class Drawer:
         names = list(self.weights)
         limit = self.steps + 1
         kinds = self.random.choices(names, [self.weights[name] for name in names], k=self.steps)
+        if self.burst:
+            for first in range(0, self.steps, 200):
+                kinds[self.number(first, min(first + 30, self.steps - 1))] = self.burst
         for kind in kinds:
             if kind in COLLECTOR_STEPS:
                 self.collector_step(kind)
+            elif kind == "many_cards":
+                self.many_cards()
+            elif kind == "many_deletions":
+                self.many_deletions()
             else:
                 self.mutator_step(kind)
             if len(self.lines) >= limit:
@@ -120,6 +132,54 @@ class Drawer:
         if kind not in ("new", "load") and self.chance() < 0.9 and not any(registers):
             kind = "load" if self.chance() < 0.4 and any(self.globals) else "new"
         getattr(self, kind)(mutator, registers)
+
+    def make(self, mutator, register, pointers, data):
+        self.say(f"{mutator} new r{register} {pointers} {data}")
+        self.roots[mutator][register] = Object(pointers, data)
+
+    def fill(self, mutator, holder, place, source):
+        self.say(f"{mutator} put r{holder} {place} " + ("nil" if source is None else f"r{source}"))
+        registers = self.roots[mutator]
+        registers[holder].pointers[place] = None if source is None else registers[source]
+
+    def many_cards(self):
+        """An object that is named from more cards than a remembered set holds one by one."""
+        mutator = int(self.chance() * self.mutators)
+        if self.words < 128 and self.large:
+            sizes = [self.number(120, 220)]
+        else:
+            sizes = [self.words // 2] * self.pick((1, 2, 2, 3))
+        for place, size in enumerate(sizes):
+            self.make(mutator, place, size - 2, 0)
+            self.say(f"{mutator} save g{place} r{place}")
+            self.globals[place] = self.roots[mutator][place]
+        self.make(mutator, 7, self.number(0, 2), self.number(0, 2))
+        for place, size in enumerate(sizes):
+            for field in range(self.number(0, 7), size - 2, 8):
+                self.fill(mutator, place, field, 7)
+        if self.chance() < 0.7:
+            self.drop(mutator, self.roots[mutator], 7)
+        if self.chance() < 0.5:
+            self.say("gc refine 1000")
+        if self.chance() < 0.8:
+            self.pause()
+
+    def many_deletions(self):
+        """An object that names many others, which marking can find by the deleted pointers alone."""
+        mutator = int(self.chance() * self.mutators)
+        count = min(self.number(8, 14), self.words - 2 if self.large else self.words // 2 - 2)
+        if self.marking:
+            self.mark_step("remark")
+        self.make(mutator, 0, count, 0)
+        for place in range(count):
+            self.make(mutator, 1, self.number(0, 1), self.number(0, 1))
+            self.fill(mutator, 0, place, 1)
+        self.drop(mutator, self.roots[mutator], 1)
+        self.mark_step("begin")
+        for place in range(count):
+            self.fill(mutator, 0, place, None)
+            if self.chance() < 0.05:
+                self.mark_step("mark")
 
     def shape_to_make(self):
         chance = self.chance()
@@ -188,8 +248,9 @@ class Drawer:
         self.say(f"{mutator} move r{target} r{source}")
         registers[target] = registers[source]
 
-    def drop(self, mutator, registers):
-        register = self.register(registers)
+    def drop(self, mutator, registers, register=None):
+        if register is None:
+            register = self.register(registers)
         self.say(f"{mutator} drop r{register}")
         registers[register] = None
 
