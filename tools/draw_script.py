@@ -37,8 +37,10 @@ class Drawer:
         self.random = random.Random(seed)
         self.chance = self.random.random
         self.steps = steps
-        # What a script may have many of at once: cards that lead into one region, or deletions while marking runs.
-        self.burst = self.pick((None, None, None, None, None, None, None, "many_cards", "many_deletions"))
+        # What a script may have many of at once: cards that lead into one region, deletions while marking runs,
+        # objects that one pause copies, or dirty cards in regions that are reclaimed and taken again.
+        self.burst = self.pick((None, None, None, None, None, None, "many_cards", "many_deletions", "many_copies",
+                                "many_copies", "many_reuses"))
         self.large = self.chance() < 0.4 if large is None else large
         self.words = words or self.pick((16, 16, 16, 32, 32, 64))
         # Few regions for the steps that there are, so that the heap is nearly full at times.
@@ -46,13 +48,16 @@ class Drawer:
         if self.burst == "many_cards" and words is None:
             self.words = 16 if self.large and self.chance() < 0.5 else 256
             self.regions = regions or (self.number(20, 40) if self.words == 16 else self.number(3, 6))
+        if self.burst == "many_copies" and regions is None:
+            self.regions = max(self.regions, self.number(8, 16))
         self.regions = min(self.regions, 1024, 1048576 // self.words)
         self.buffer = buffer or self.number(4, self.words // 2 if self.chance() < 0.5 else min(16, self.words // 2))
         self.mutators = mutators or self.pick((1, 1, 1, 1, 2, 2, 3, 5, 1, 1, 2, 2, 16))
         self.first_name = self.pick((0, 0, 0, 0, 0, 1, 1000000, 2 ** 63, 2 ** 64 - 3, 2 ** 64 - 20, 2 ** 64 - 60))
         # Some scripts pause often, some mark for long, some lose many objects.
         self.weights = dict(WEIGHTS)
-        self.weights["pause"] *= self.pick((0.3, 1, 1, 2))
+        self.weights["pause"] *= self.pick((0.05, 0.3, 1, 1, 1, 2))
+        self.weights["refine"] *= self.pick((0.1, 1, 1, 2))
         self.weights["remark"] *= self.pick((0.3, 0.6, 1, 2))
         self.weights["mark"] *= self.pick((0.2, 1, 2))
         loss = self.pick((0.3, 1, 1, 2, 4))
@@ -112,10 +117,8 @@ class Drawer:
         for kind in kinds:
             if kind in COLLECTOR_STEPS:
                 self.collector_step(kind)
-            elif kind == "many_cards":
-                self.many_cards()
-            elif kind == "many_deletions":
-                self.many_deletions()
+            elif kind.startswith("many_"):
+                getattr(self, kind)()
             else:
                 self.mutator_step(kind)
             if len(self.lines) >= limit:
@@ -125,6 +128,11 @@ class Drawer:
 
     def say(self, line):
         self.lines.append(line)
+
+    def collect(self, step, number):
+        """A step of the collector; one of weight 0 never comes."""
+        if self.weights[step] > 0:
+            self.say(f"gc {step} {number}")
 
     def mutator_step(self, kind):
         mutator = int(self.chance() * self.mutators) if self.mutators > 1 else 0
@@ -160,7 +168,7 @@ class Drawer:
         if self.chance() < 0.7:
             self.drop(mutator, self.roots[mutator], 7)
         if self.chance() < 0.5:
-            self.say("gc refine 1000")
+            self.collect("refine", 1000)
         if self.chance() < 0.8:
             self.pause()
 
@@ -181,11 +189,57 @@ class Drawer:
             if self.chance() < 0.05:
                 self.mark_step("mark")
 
+    def many_copies(self):
+        """A tree of objects of many sizes, held by its root alone."""
+        mutator = int(self.chance() * self.mutators)
+        registers = self.roots[mutator]
+        self.make(mutator, 0, self.number(3, min(6, self.words // 2 - 2)), 0)
+        for place in range(self.number(6, 14)):
+            pointers = self.number(0, 4)
+            self.make(mutator, 4, pointers, self.number(0, self.words // 2 - 2 - pointers))
+            parents = [register for register in range(4)
+                       if registers[register] is not None and None in registers[register].pointers]
+            if parents:
+                parent = self.pick(parents)
+                self.fill(mutator, parent, registers[parent].pointers.index(None), 4)
+            if pointers:
+                self.move(mutator, registers, 1 + place % 3, 4)
+        for register in (4, 3, 2, 1)[:self.number(2, 4)]:
+            self.drop(mutator, registers, register)
+        for _ in range(self.number(1, 3)):
+            self.collect("pause", 1000)
+            self.refine_after_pause()
+            self.get(mutator, registers)
+
+    def many_reuses(self):
+        """Objects with pointers into another region that are lost and reclaimed; then others in their place."""
+        mutator = int(self.chance() * self.mutators)
+        registers = self.roots[mutator]
+        pointers, stride = self.words // 2 - 2, self.pick((2, 3, 6))
+        self.make(mutator, 1, 0, 1)
+        if self.marking:
+            self.mark_step("remark")
+        for number in range(2):
+            for _ in range(2):
+                self.make(mutator, 0, pointers, 0)
+                for place in range(0, min(pointers, 24), stride):
+                    self.fill(mutator, 0, place, 1)
+            if number == 0:
+                self.drop(mutator, registers, 0)
+                # These take another region, so that the objects before don't lie in the current one.
+                self.make(mutator, 2, pointers, 0)
+                self.make(mutator, 2, pointers, 0)
+                self.mark_step("begin")
+                self.mark_step("remark")
+                self.mark_step("cleanup")
+        self.collect("refine", 1000)
+
     def shape_to_make(self):
         chance = self.chance()
         if chance < 0.01:
-            return self.pick(((0, 4294967295), (4294967295, 0), (self.regions * self.words, 0),
-                              (3, self.regions * self.words - 5), (1, self.regions * self.words - 4)))
+            heap = self.regions * self.words
+            return self.pick(((0, 4294967295), (4294967295, 0), (heap, 0), (1, heap - 2))
+                             + (((3, heap - 5), (1, heap - 4)) if self.large else ()))
         if self.large and chance < 0.12:
             size = self.number(self.words // 2 + 1, self.words * self.pick((1, 2, 2, 3, 5)))
         elif chance < 0.4:
@@ -243,8 +297,9 @@ class Drawer:
         if target and place < len(target.pointers):
             registers[register] = target.pointers[place]
 
-    def move(self, mutator, registers):
-        target, source = int(self.chance() * 8), self.register(registers)
+    def move(self, mutator, registers, target=None, source=None):
+        if target is None:
+            target, source = int(self.chance() * 8), self.register(registers)
         self.say(f"{mutator} move r{target} r{source}")
         registers[target] = registers[source]
 
@@ -282,7 +337,7 @@ class Drawer:
 
     def collector_step(self, kind):
         if kind == "refine":
-            self.say(f"gc refine {self.pick((0, 1, 1, 2, 3, 1000))}")
+            self.collect("refine", self.pick((0, 1, 1, 2, 3, 1000)))
         elif kind == "pause":
             self.pause()
         elif kind == "wrong":
@@ -297,7 +352,9 @@ class Drawer:
 
     def mark_step(self, kind):
         if kind == "mark":
-            self.say(f"gc mark {self.pick((0, 1, 1, 2, 3, 5, 1000))}")
+            self.collect("mark", self.pick((0, 1, 1, 2, 3, 5, 1000)))
+            return
+        if self.weights[kind] == 0:
             return
         self.say(f"gc {kind}")
         if kind == "begin":
@@ -306,19 +363,22 @@ class Drawer:
             self.marked_once = self.marked_once or self.marking
             self.marking = False
             if self.chance() < 0.6:
-                self.say("gc cleanup")
+                self.mark_step("cleanup")
 
     def pause(self):
         budget = self.pick((0, self.number(1, 12), self.words // 2, self.words, self.number(0, 4 * self.words), 1000, 1000,
                             4294967295))
-        self.say(f"gc pause {budget}")
-        # How long the queue is then shows in replies to `refine` alone.
+        self.collect("pause", budget)
+        self.refine_after_pause()
+
+    def refine_after_pause(self):
+        # How long the queue is after a pause shows in the replies to `refine` alone.
         chance = self.chance()
         if chance < 0.2:
             for _ in range(self.number(1, 5)):
-                self.say("gc refine 1")
+                self.collect("refine", 1)
         elif chance < 0.5:
-            self.say("gc refine 1000")
+            self.collect("refine", 1000)
 
 
 def draw(seed, **options):
@@ -349,7 +409,7 @@ def add_options(parser):
     parser.add_argument("--large", choices=("yes", "no"), help="with objects of more than half a region, or without")
     for name in COLLECTOR_STEPS + ("new", "drop", "put"):
         parser.add_argument(f"--{name}", type=float, metavar="WEIGHT",
-                            help=f"how often `{name}` comes ({WEIGHTS[name]})" if name != "wrong" else
+                            help=f"how often `{name}` comes ({WEIGHTS[name]}); 0: never" if name != "wrong" else
                             f"how often a marking step comes out of place ({WEIGHTS[name]})")
 
 
