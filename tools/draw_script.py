@@ -19,6 +19,7 @@ WEIGHTS = {
 ORDERS = [[(start + place) % 8 for place in range(8)] for start in range(8)]
 MARK_STEPS = ("begin", "mark", "remark", "cleanup")
 COLLECTOR_STEPS = MARK_STEPS + ("refine", "pause", "wrong")
+WEIGHT_OPTIONS = COLLECTOR_STEPS + ("new", "drop", "put")
 
 
 class Object:
@@ -407,15 +408,15 @@ def add_options(parser):
     parser.add_argument("--buffer", type=int, help="words a buffer")
     parser.add_argument("--mutators", type=int, help="mutators")
     parser.add_argument("--large", choices=("yes", "no"), help="with objects of more than half a region, or without")
-    for name in COLLECTOR_STEPS + ("new", "drop", "put"):
+    for name in WEIGHT_OPTIONS:
+        never = "; 0: never" if name in COLLECTOR_STEPS else ""
+        step = "a marking step out of place" if name == "wrong" else f"`{name}`"
         parser.add_argument(f"--{name}", type=float, metavar="WEIGHT",
-                            help=f"how often `{name}` comes ({WEIGHTS[name]}); 0: never" if name != "wrong" else
-                            f"how often a marking step comes out of place ({WEIGHTS[name]})")
+                            help=f"how often {step} comes ({WEIGHTS[name]}{never})")
 
 
 def options_of(words):
-    weights = {name: getattr(words, name) for name in COLLECTOR_STEPS + ("new", "drop", "put")
-               if getattr(words, name) is not None}
+    weights = {name: getattr(words, name) for name in WEIGHT_OPTIONS if getattr(words, name) is not None}
     return {"steps": words.steps, "regions": words.regions, "words": words.words, "buffer": words.buffer,
             "mutators": words.mutators, "large": None if words.large is None else words.large == "yes",
             "weights": weights}

@@ -104,7 +104,7 @@ all_clean : (c c' : CoreState) → IsCore c → IsCore c' → c'.config ≡ c.co
     → c'.cards ≡ clean_cards (length c.cards.dirty) (length c.cards.logs)
 all_clean c c' core core' same once queue logs =
     let dirty : c'.cards.dirty ≡ replicate (length c.cards.dirty) false
-        = all_clear c'.cards.dirty (λ card. none_dirty c'.cards (length c.cards.logs) card once queue logs) ∙ ap (λ (n : ℕ). replicate n false) (cards_stay c c' core core' same) in
+    = all_clear c'.cards.dirty (λ card. none_dirty c'.cards (length c.cards.logs) card once queue logs) ∙ ap (λ (n : ℕ). replicate n false) (cards_stay c c' core core' same) in
     cards_are c'.cards (replicate (length c.cards.dirty) false) (replicate (length c.cards.logs) []) [] dirty logs queue
 
 -- other buffers and cards change nothing of which fields lead where

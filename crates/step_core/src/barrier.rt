@@ -52,7 +52,8 @@ impl Core {
         let words = self.table.words_per_region();
         let word = object.word() + 2 + field;
         if to.word() / words != word / words {
-            self.cards.dirty(mutator, Card::new(word / self.config.card_words()));
+            self.cards
+                .dirty(mutator, Card::new(word / self.config.card_words()));
         }
     }
 

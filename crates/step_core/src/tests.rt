@@ -130,10 +130,7 @@ fn every_action(rt: HostRuntime) -> Result<(), Fail> {
     assert_eq!(rt; core.config(), CONFIG);
     for (mutator, action, reply) in rows {
         assert!(rt; mutator < core.config().mutators);
-        assert_eq!(rt;
-            core.step(Step::Mutator(Op { mutator, action })),
-            reply
-        );
+        assert_eq!(rt; core.step(Step::Mutator(Op { mutator, action })), reply);
     }
     Ok(())
 }
@@ -239,14 +236,8 @@ fn reclaims_regions(rt: HostRuntime) -> Result<(), Fail> {
                 Some(Reply::Named(Some(7 + 6 * round + place)))
             );
         }
-        assert_eq!(rt;
-            collect(&mut core, CollectorStep::Begin),
-            Reply::Done
-        );
-        assert_eq!(rt;
-            collect(&mut core, CollectorStep::Remark),
-            Reply::Marked(1)
-        );
+        assert_eq!(rt; collect(&mut core, CollectorStep::Begin), Reply::Done);
+        assert_eq!(rt; collect(&mut core, CollectorStep::Remark), Reply::Marked(1));
         assert_eq!(rt;
             collect(&mut core, CollectorStep::Cleanup),
             Reply::Reclaimed(if round == 0 { 2 } else { 3 })
@@ -282,10 +273,7 @@ fn a_card_log_fills(rt: HostRuntime) -> Result<(), Fail> {
         value: Some(Register { number: 4 }),
     };
     for (number, field) in [(0, 0), (0, 1), (1, 0), (2, 0)] {
-        assert_eq!(rt;
-            act(&mut core, 0, put(number, field)),
-            Some(Reply::Done)
-        );
+        assert_eq!(rt; act(&mut core, 0, put(number, field)), Some(Reply::Done));
     }
     assert_eq!(rt;
         collect(&mut core, CollectorStep::Refine(9)),

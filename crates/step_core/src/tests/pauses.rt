@@ -125,7 +125,11 @@ fn check(
         }
     }
     for number in 0..8u8 {
-        assert_eq!(rt; place_of(&core, number), places[number as usize], "r{number}");
+        assert_eq!(rt;
+            place_of(&core, number),
+            places[number as usize],
+            "r{number}"
+        );
     }
     Ok(())
 }
