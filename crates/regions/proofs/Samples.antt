@@ -3,7 +3,7 @@ use Rattle.std.proofs.Common.{◌≡◌, ◌≢◌, ℕ, ◌+◌, ◌-◌, ◌*�
 use Rattle.std.specs.Prelude.{IsSome}
 use Rattle.heap_model.specs.Heap.{Stored}
 use Rattle.regions.specs.Tiles.{Live, Gap, Moved}
-use Rattle.regions.specs.Table.{Table, Region, Free, Ordinary, First, Rest, region_at, tile_in, object_at, pointers_at, values_at, put_object, set_pointer, set_value, EachMovedIn, object_words, IsOrdinary, is_free, first_free, taken, region_number, used_of, push_tile, new_object, kind_of, free_table, replace_tile, gap, first_run, with_run, IsReleasable, released}
+use Rattle.regions.specs.Table.{Table, Region, Free, Ordinary, First, Rest, region_at, tile_in, object_at, pointers_at, fields_at, values_at, put_object, set_pointer, set_field, set_value, EachMovedIn, object_words, IsOrdinary, is_free, first_free, taken, region_number, used_of, push_tile, new_object, kind_of, free_table, replace_tile, gap, first_run, with_run, IsReleasable, released}
 use Rattle.regions.specs.declared.row.Kind.TheVariants as kinds
 
 abbrev pub sample : List Region → Table
@@ -198,3 +198,43 @@ run_fits t p d e h i = rw (e, h, i) (omega arith, omega arith)
 
 pub known_region : (rs : List Region) (t : Table) (k n : ℕ) → t ≡ sample rs → length rs ≡ 4 → k ≡ n → n < 4 → k < length t.regions
 known_region rs t k n e l p h = rw (e, l, p) h
+
+-- from tile to tile
+abbrev pub stepped2 : Table
+stepped2 = sample (Ordinary (Gap 6 ∷ []) ∷ Free ∷ Free ∷ Free ∷ [])
+
+abbrev pub stepped : Option ℕ → Table
+stepped p = sample (Ordinary (Live (sample_object p 0) ∷ Gap 2 ∷ []) ∷ Free ∷ Free ∷ Free ∷ [])
+
+pub step_push : (t t' : Table) (k n : ℕ) → t ≡ filled1 → t' ≡ push_tile t k (Gap n) → k ≡ 0 → n ≡ 6 → t' ≡ stepped2
+unfolding push_tile region_number
+step_push t t' k n e f p q = rw (f, e, p, q) refl
+
+pub step_make : (t t' : Table) (a n p d : ℕ) → t ≡ stepped2 → t' ≡ replace_tile t a (Live (new_object 7 p d) ∷ gap (n - (2 + p + d))) → a ≡ 0 → n ≡ 6 → p ≡ 1 → d ≡ 1 → t' ≡ stepped None
+unfolding replace_tile region_at
+step_make t t' a n p d e f h i j k = rw (f, e, h, i, j, k) refl
+
+pub step_field : (t t' : Table) (a to : ℕ) → t ≡ stepped None → t' ≡ set_field t a 0 (Some to) → a ≡ 0 → to ≡ 4 → t' ≡ stepped (Some 4)
+unfolding set_field object_at tile_in region_at put_object
+step_field t t' a to e f p q = rw (f, e, p, q) refl
+
+pub filler_stepped : (t : Table) (a n : ℕ) → t ≡ stepped2 → a ≡ 0 → n ≡ 6 → tile_in t a ≡ Some (Gap n)
+unfolding tile_in region_at
+filler_stepped t a n e p q = rw (e, p, q) refl
+
+pub usable_step : (t : Table) (k n : ℕ) → t ≡ filled1 → k ≡ 0 → n ≡ 6 → IsUsable t k n
+unfolding kind_of region_number used_of
+usable_step t k n e p q = rw (e, p, q) (record { known = omega arith; ordinary = refl; room = omega arith })
+
+pub record IsStepped (t : Table) (a : ℕ) : Type 0 where
+  pub object : IsSome (object_at t a)
+  pub tile : IsSome (tile_in t a)
+  pub fields : 0 < length (fields_at t a)
+
+pub stepped_is : (p : Option ℕ) (t : Table) (a : ℕ) → t ≡ stepped p → a ≡ 0 → IsStepped t a
+unfolding object_at tile_in region_at fields_at
+stepped_is p t a e h = rw (e, h) (record { object = refl; tile = refl; fields = omega arith })
+
+pub stepped_rest : (p : Option ℕ) (t : Table) (a : ℕ) → t ≡ stepped p → a ≡ 4 → IsSome (tile_in t a)
+unfolding tile_in region_at
+stepped_rest p t a e h = rw (e, h) refl

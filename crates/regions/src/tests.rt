@@ -123,6 +123,28 @@ fn fills_a_region(rt: HostRuntime) -> Result<(), Fail> {
     Ok(())
 }
 
+/// Free regions are counted, a field names a filler, and the filler is the tile behind the field's object.
+#[test]
+fn steps_over_tiles(rt: HostRuntime) -> Result<(), Fail> {
+    let Ok(mut table) = small_table(rt.alloc()) else {
+        return Err(Fail::from("a table is made"));
+    };
+    let region = RegionNo::new(0);
+    let object = Addr::new(0);
+    let rest = Addr::new(4);
+    assert_eq!(rt; table.free_count(), 4);
+    assert_eq!(rt; table.take_free(), Some(region));
+    assert_eq!(rt; table.free_count(), 3);
+    assert_eq!(rt; table.push_filler(region, FillerSize::new(6)), object);
+    table.make_object(object, FillerSize::new(6), 7, counts(1, 1));
+    table.set_field(object, 0, Some(rest));
+    assert_eq!(rt; table.field_count(object), 1);
+    assert_eq!(rt; table.get_field(object, 0), Some(rest));
+    assert_eq!(rt; table.next_tile(object), Some(rest));
+    assert_eq!(rt; table.next_tile(rest), None);
+    Ok(())
+}
+
 /// An object is copied to another region and forwarded, and its old region released.
 #[test]
 fn moves_an_object(rt: HostRuntime) -> Result<(), Fail> {
