@@ -31,7 +31,6 @@ use Rattle.evacuation.specs.Turns.{Pause, IsPause, IsTurn, kept_now, layout, lef
 use Rattle.evacuation.proofs.Keeps.{kept_object}
 use Rattle.evacuation.proofs.Lists.{get_below}
 use Rattle.evacuation.proofs.Starts.{no_tile, start_turn}
-use Rattle.evacuation.proofs.Words.{cards_few, card_within}
 use Rattle.evacuation.proofs.Lefts.{left_window, words_from, left_two, left_zero}
 
 -- live bounds, added up row by row
@@ -171,10 +170,7 @@ module _ (h : Layers) (rows : List LiveRow) (cw : ℕ) (can : CanEvacuate h rows
   pub cards_are : (n : ℕ) → n ≡ card_count h.sets → n ≡ length h.table.regions * (words / cw)
   cards_are n e = e ∙ ap (λ (m : ℕ). m * h.sets.cards_per_region) can.fit.each_region ∙ ap (λ (m : ℕ). length h.table.regions * m) (sym per_region)
 
-  pub few_cards : (n : ℕ) → n ≡ card_count h.sets → n < 2 ^ 32
-  few_cards n e = let a = cards_few pause is_pause in let b = cards_are n e in omega (arith, a, b)
-
-  module _ (visited : List Bool) (each : length visited ≡ card_count h.sets) (marked : (card : ℕ) → card < length visited → kind_of h.table (card * cw / words) ≢ kinds.Free → flag visited card ≡ list_any (λ row. covers h.sets row.region card) rows) where
+  module _ (visited : List Bool) (marked : (card : ℕ) → kind_of h.table (card * cw / words) ≢ kinds.Free → flag visited card ≡ list_any (λ row. covers h.sets row.region card) rows) where
     pub all_visited : AllVisited (layout pause) (plan pause) visited
     all_visited b i a x at out e inside =
         let o = object b x at in
@@ -186,8 +182,7 @@ module _ (h : Layers) (rows : List LiveRow) (cw : ℕ) (can : CanEvacuate h rows
         let (j, row, f, g, r) = row_of (a / words) inside in
         let same_region = card_region (field_at b i) cw words h.sets.cards_per_region (field_at b i / cw) shaped.positive can.fit.whole_cards refl in
         let in_use : kind_of h.table (field_at b i / cw * cw / words) ≢ kinds.Free = λ f. used b (field_at b i) holder (ap (kind_of h.table) same_region ∙ f) in
-        let card = card_within pause visited (field_at b i) cw is_pause refl (cards_are (length visited) each) (omega arith) in
-        marked (field_at b i / cw) card in_use ∙ any_of (λ r'. covers h.sets r'.region (field_at b i / cw)) rows j row f
+        marked (field_at b i / cw) in_use ∙ any_of (λ r'. covers h.sets r'.region (field_at b i / cw)) rows j row f
         (elim (can.remembers.each b i a crossing) [
           | inl d ↦ absurd (let c = can.clean (field_at b i / cw) in cc)
           | inr d ↦ ap (λ (k : ℕ). covers h.sets k (field_at b i / cw)) g ∙ d

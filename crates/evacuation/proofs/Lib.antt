@@ -12,6 +12,7 @@ pub mod ObjectFields
 pub mod Places
 pub mod Queues
 pub mod RootWords
+pub mod Samples
 pub mod Scans
 pub mod Spaces
 pub mod Starts

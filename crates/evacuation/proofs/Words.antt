@@ -47,17 +47,5 @@ card_within p noted word len q e n h =
 pub flag_set : (noted : List Bool) (c d : ℕ) → c < length noted → c ≡ d → flag (slice_set noted c true) d ≡ true
 flag_set noted c d h e = subst (λ (m : ℕ). flag (slice_set noted c true) m ≡ true) e (get_or-set_same noted c true false h)
 
-pub flag_grows : (noted : List Bool) (c d : ℕ) → c < length noted → flag noted d ≡ true → flag (slice_set noted c true) d ≡ true
-flag_grows noted c d h e = elim (cases_eq d c) [ inl q ↦ flag_set noted c d h (sym q) | inr q ↦ get_or-set_other noted c d true false q ∙ e ]
-
--- there are fewer cards than words
-pub cards_few : (p : Pause) → IsPause p → length p.start.regions * p.cards_per_region ≤ 2 ^ 20
-cards_few p q =
-    let z = card_has_words p.card_words p.start.words_per_region p.cards_per_region q.shaped.positive q.whole_cards in
-    let a = mul-le (p.cards_per_region) 1 p.cards_per_region p.card_words (omega arith) z in
-    let b = mul-le (length p.start.regions) p.cards_per_region (length p.start.regions) p.start.words_per_region (omega arith) (let e = q.whole_cards in omega (arith, a)) in
-    let c = q.shaped.in_all in
-    omega (arith, b)
-
 pub flag_only : (noted : List Bool) (c d : ℕ) → flag (slice_set noted c true) d ≡ true → (flag noted d ≡ true) ⊎ (d ≡ c)
 flag_only noted c d e = elim (cases_eq d c) [ inl q ↦ inr q | inr q ↦ inl (sym (get_or-set_other noted c d true false q) ∙ e) ]

@@ -10,25 +10,18 @@
 //!
 //! Sets of cards are bits, so that a pause goes from one member to the next, and clears a set by words of 64 cards.
 
-ghost use Rattle.std.specs.Prelude.{◌≡◌, ◌≢◌, ◌<◌, ◌&&◌, ◌/◌, ◌*◌, ◌==◌, ◌^◌, ℕ, All, Bool, true, false, List, IfOk, if◌then◌else◌, length, replicate};
-ghost use Rattle.std.specs.List.{list_any};
+ghost use Rattle.std.specs.Prelude.{◌≡◌, ◌<◌, ℕ, All, false, IfOk, length};
 ghost use Rattle.std.specs.List.Sorted.{IsStrictlyIncreasing};
-ghost use Rattle.cards.specs.Cards.{Cards, is_dirty};
-ghost use Rattle.remembered_sets.specs.Sets.{card_count, covers};
-ghost use Rattle.regions.specs.Table.{kind_of};
-ghost use Rattle.regions.specs.declared.row.Kind.TheVariants as kinds;
-ghost use Rattle.refinement.specs.Refining.{SetsFit};
+ghost use Rattle.cards.specs.Cards.{is_dirty};
 ghost use Rattle.evacuation.specs.Evacuates.{is_chosen};
 ghost use Rattle.evacuation.specs.Space.{flag};
 ghost use Rattle.evacuation.specs.Rooms.{RoomSizes};
 
 use cards::CardTable;
-use heap_words::addr::{Card, RegionNo};
+use heap_words::addr::Card;
 use heap_words::bits::Bits;
 use object_copy::Destinations;
 use region_choice::LiveRow;
-use regions::{Kind, RegionTable};
-use remembered_sets::RememberedSets;
 use std::alloc::{AllocError, Global};
 use std::marker::Model;
 

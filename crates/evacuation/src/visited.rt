@@ -19,7 +19,7 @@ use remembered_sets::RememberedSets;
 fn flag_covered(visited: &mut Bits, sets: &RememberedSets, rows: &[LiveRow])
     requires rows { All (λ row. row.region < length sets.now.sets) rows.now }
     requires cards { length visited.old ≡ card_count sets.now }
-    ensures flags { (card : ℕ) → card < length visited.new → flag visited.new card ≡ list_any (λ row. covers sets.now row.region card) rows.now }
+    ensures flags { (card : ℕ) → flag visited.new card ≡ list_any (λ row. covers sets.now row.region card) rows.now }
     ensures len { length visited.new ≡ length visited.old }
 {
     visited.clear();
@@ -45,7 +45,7 @@ fn clear_free(visited: &mut Bits, table: &RegionTable, cards_per_region: u32)
     requires some_cards { 0 < cards_per_region }
     requires each { length visited.old ≡ length table.now.regions * cards_per_region }
     ensures in_use { (card : ℕ) → kind_of table.now (card / cards_per_region) ≢ kinds.Free → flag visited.new card ≡ flag visited.old card }
-    ensures free { (card : ℕ) → card < length visited.new → kind_of table.now (card / cards_per_region) ≡ kinds.Free → flag visited.new card ≡ false }
+    ensures free { (card : ℕ) → kind_of table.now (card / cards_per_region) ≡ kinds.Free → flag visited.new card ≡ false }
     ensures len { length visited.new ≡ length visited.old }
 {
     visited.law();
@@ -68,9 +68,9 @@ pub(crate) fn flag_visited(
     requires rows { All (λ row. row.region < length sets.now.sets) rows.now }
     requires cards { length visited.old ≡ card_count sets.now }
     requires fit { SetsFit table.now card_words sets.now }
-    ensures flags { (card : ℕ) → card < length visited.new → kind_of table.now (card * card_words / table.now.words_per_region) ≢ kinds.Free
+    ensures flags { (card : ℕ) → kind_of table.now (card * card_words / table.now.words_per_region) ≢ kinds.Free
         → flag visited.new card ≡ list_any (λ row. covers sets.now row.region card) rows.now }
-    ensures free { (card : ℕ) → card < length visited.new → kind_of table.now (card * card_words / table.now.words_per_region) ≡ kinds.Free
+    ensures free { (card : ℕ) → kind_of table.now (card * card_words / table.now.words_per_region) ≡ kinds.Free
         → flag visited.new card ≡ false }
     ensures len { length visited.new ≡ length visited.old }
 {

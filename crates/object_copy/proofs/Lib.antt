@@ -1,3 +1,4 @@
 pub mod Frees
 pub mod Opened
 pub mod Copied
+pub mod Samples

@@ -20,3 +20,6 @@ pub mod destinations;
 
 pub use copies::copy;
 pub use destinations::Destinations;
+
+#[cfg(test)]
+mod tests;

@@ -37,7 +37,7 @@ copy_reached-requires c =
                   refl,
                   (
                     asked.cards_are h c.args.chosen.now c.args.card_words c.requires.can c.law.ensures c.flag_chosen.new.set c.flag_chosen.ensures.flags (c.flag_chosen.ensures.len ∙ c.requires.each_region) (length c.flag_visited.new.visited) each,
-                    (asked.all_visited h c.args.chosen.now c.args.card_words c.requires.can c.law.ensures c.flag_chosen.new.set c.flag_chosen.ensures.flags (c.flag_chosen.ensures.len ∙ c.requires.each_region) c.flag_visited.new.visited each c.flag_visited.ensures.flags, (refl, refl)),
+                    (asked.all_visited h c.args.chosen.now c.args.card_words c.requires.can c.law.ensures c.flag_chosen.new.set c.flag_chosen.ensures.flags (c.flag_chosen.ensures.len ∙ c.requires.each_region) c.flag_visited.new.visited c.flag_visited.ensures.flags, (refl, refl)),
                   ),
                 ),
               ),

@@ -1,4 +1,4 @@
-use Rattle.std.proofs.Common.{◌≡◌, ◌<◌, ◌∙◌, ◌*◌, ◌/◌, ℕ, sym, ap, arith}
+use Rattle.std.proofs.Common.{◌≡◌, ◌<◌, ◌∙◌, ◌*◌, ◌/◌, ℕ, sym, ap}
 use Rattle.std.proofs.Math.Nat.{mul-div_cancel, mul-div-mul_right}
 use Rattle.regions.specs.Table.{Table, kind_of}
 use Rattle.remembered_sets.specs.Sets.{Sets}
@@ -20,11 +20,11 @@ clear_free-requires-clause-each c =
     rw c.words_per_region.ensures rw q rw (sym c.requires.fit.each_region) (c.flag_covered.ensures.len ∙ c.requires.cards)
 
 pub returns-clause-flags : goal.returns-clause-flags
-returns-clause-flags c card h used =
+returns-clause-flags c card used =
     let q = region_is c.args.table.now c.args.card_words card c.args.sets.now c.law.ensures.positive c.requires.fit ∙ ap (λ (n : ℕ). card / (n / c.args.card_words)) (sym c.words_per_region.ensures) in
-    c.clear_free.ensures.in_use card (λ f. used (ap (kind_of c.args.table.now) q ∙ f)) ∙ c.flag_covered.ensures.flags card (omega (arith, c.clear_free.ensures.len, h))
+    c.clear_free.ensures.in_use card (λ f. used (ap (kind_of c.args.table.now) q ∙ f)) ∙ c.flag_covered.ensures.flags card
 
 pub returns-clause-free : goal.returns-clause-free
-returns-clause-free c card h free =
+returns-clause-free c card free =
     let q = region_is c.args.table.now c.args.card_words card c.args.sets.now c.law.ensures.positive c.requires.fit ∙ ap (λ (n : ℕ). card / (n / c.args.card_words)) (sym c.words_per_region.ensures) in
-    c.clear_free.ensures.free card h (ap (kind_of c.args.table.now) (sym q) ∙ free)
+    c.clear_free.ensures.free card (ap (kind_of c.args.table.now) (sym q) ∙ free)
