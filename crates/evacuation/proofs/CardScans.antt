@@ -114,6 +114,13 @@ cards_more p t t' d d' noted noted' visited n turn after clean card b i v h = el
   | inr o ↦ let f = visited_field p t d visited b i turn v in clean_after (layout p) noted noted' (space p t) (space p t') d d' b i after v.outside (f.object, f.at) (clean b i v (omega arith))
 ]
 
+-- cards that aren't visited are passed over
+pub cards_skipped : (p : Pause) (t : Table) (visited : List Bool) (n m : ℕ) → AreClean (layout p) (plan p) visited (space p t) n → ((a : ℕ) → n ≤ a → a < m → flag visited a ≡ false) → AreClean (layout p) (plan p) visited (space p t) m
+cards_skipped p t visited n m clean none b i v h = elim (cases_lt (field_at b i / p.card_words) n) [
+  | inl low ↦ clean b i v low
+  | inr high ↦ absurd (let on = v.card in let off = none (field_at b i / p.card_words) high h in cc)
+]
+
 -- a card's words lie in the heap
 pub card_small : (p : Pause) (card : ℕ) → IsPause p → card < length p.start.regions * p.cards_per_region → card * p.card_words + p.card_words ≤ length p.start.regions * p.start.words_per_region
 card_small p card q h = card_within card p.card_words p.start.words_per_region p.cards_per_region (length p.start.regions) q.whole_cards h
@@ -136,9 +143,6 @@ object_tile p t at o = some_tile (tile_in t at) (Live o.0) (tile_of_object t at 
 -- regions of the start are those of each table
 pub region_by : (a b m n : ℕ) → m ≡ n → a / n ≡ b / n → a / m ≡ b / m
 region_by a b m n e f = subst (λ (k : ℕ). a / k ≡ b / k) (sym e) f
-
-pub not_asked : (p : Pause) (visited : List Bool) (t : Table) (card : ℕ) → flag visited card ≡ false → IsCardClean p visited t card
-not_asked p visited t card off b i v e = absurd (let k = v.card in let f = ap (flag visited) e in cc)
 
 pub clean_on : (p : Pause) (t t' : Table) (d d' : Places) (noted noted' visited : List Bool) (n : ℕ) → IsTurn p t d → After p noted noted' t t' d d' → AreClean (layout p) (plan p) visited (space p t) n → AreClean (layout p) (plan p) visited (space p t') n
 clean_on p t t' d d' noted noted' visited n turn after clean b i v h =

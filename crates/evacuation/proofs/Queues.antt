@@ -1,5 +1,5 @@
 -- A queue to which rising numbers are appended.
-use Rattle.std.proofs.Common.{◌≡◌, ℕ, zero, suc, ◌+◌, ◌<◌, false, List, [], ◌∷◌, ◌++◌, length, get_or, cond, eqb, refl, sym, ap, subst, add-one, arith}
+use Rattle.std.proofs.Common.{◌≡◌, ℕ, zero, suc, ◌+◌, ◌<◌, ◌≤◌, false, List, [], ◌∷◌, ◌++◌, length, get_or, cond, eqb, refl, sym, ap, subst, add-one, arith}
 use Rattle.std.specs.Prelude.{All, if◌then◌else◌}
 use Rattle.std.specs.List.Sorted.{IsStrictlyIncreasing}
 use Rattle.std.proofs.lemmas.Bool.{eq-eqb}
@@ -38,8 +38,8 @@ below_push (x ∷ xs) n b (suc k) d h = below_push xs n (λ j e g. b (suc j) e (
 pub rise_push : (n : ℕ) (xs : List ℕ) → RiseBelow n xs → RiseBelow (n + 1) (xs ++ n ∷ [])
 rise_push n xs r = record { rising = rising_push xs n r.rising r.below; below = below_push xs n r.below }
 
-pub rise_on : (n : ℕ) (xs : List ℕ) → RiseBelow n xs → RiseBelow (n + 1) xs
-rise_on n xs r = record { rising = r.rising; below = λ k d h. let b = r.below k d h in omega arith }
+pub rise_to : (n m : ℕ) (xs : List ℕ) → n ≤ m → RiseBelow n xs → RiseBelow m xs
+rise_to n m xs le r = record { rising = r.rising; below = λ k d h. let b = r.below k d h in omega arith }
 
 -- where no card is dirty, none is queued
 pub none_queued : (t : Cards) → ListsDirtyOnce t → ((card : ℕ) → is_dirty t card ≡ false) → t.queue ≡ []

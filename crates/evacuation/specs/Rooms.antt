@@ -8,8 +8,8 @@ pub record RoomSizes : Type 0 where
   pub cards : ℕ
 
 abbrev pub sizes_of : Inside → RoomSizes
-sizes_of r = record { regions = vec_len r.chosen; cards = vec_len r.noted }
+sizes_of r = record { regions = vec_len r.chosen; cards = length r.noted }
 
 pub record IsSound (r : Inside) : Type 0 where
-  pub each_card : vec_len r.visited ≡ vec_len r.noted
+  pub each_card : length r.visited ≡ length r.noted
   pub each_region : length r.destinations.regions + r.destinations.room ≡ vec_len r.chosen

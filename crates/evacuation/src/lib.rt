@@ -21,7 +21,8 @@
 //! needed.
 //!
 //! A pause costs the words copied, the roots, what the remembered sets of the chosen regions hold, the tiles and fields of the
-//! cards that they cover, and a few looks at each region and at each card.
+//! cards that they cover, the cards that it notes, and a few looks at each region and at each word of bits, which stands for 64
+//! cards.
 #![tactic(auto)]
 
 mod copied;

@@ -13,6 +13,7 @@ ghost use Rattle.evacuation.specs.Cursors.{AreCardsFieldsClean, IsCardClean};
 
 use crate::fields::{is_inside, update_field};
 use heap_words::addr::Addr;
+use heap_words::bits::Bits;
 use mark_bitmap::marks::Marks;
 use mark_bitmap::tams::Tams;
 use object_copy::Destinations;
@@ -24,7 +25,7 @@ fn update_object(
     table: &mut RegionTable,
     destinations: &mut Destinations,
     set: &[bool],
-    noted: &mut [bool],
+    noted: &mut Bits,
     card_words: u32,
     card: u32,
     at: Addr,
@@ -60,7 +61,7 @@ fn update_tiles(
     table: &mut RegionTable,
     destinations: &mut Destinations,
     set: &[bool],
-    noted: &mut [bool],
+    noted: &mut Bits,
     card_words: u32,
     tams: &Tams,
     marks: &Marks,
@@ -112,7 +113,7 @@ fn update_card(
     table: &mut RegionTable,
     destinations: &mut Destinations,
     set: &[bool],
-    noted: &mut [bool],
+    noted: &mut Bits,
     card_words: u32,
     tams: &Tams,
     marks: &Marks,
@@ -153,7 +154,7 @@ fn update_tile(
     table: &mut RegionTable,
     destinations: &mut Destinations,
     set: &[bool],
-    noted: &mut [bool],
+    noted: &mut Bits,
     card_words: u32,
     tams: &Tams,
     marks: &Marks,
@@ -186,57 +187,16 @@ fn update_tile(
     }
 }
 
-/// The fields of one card, if it is to be visited.
-fn visit_card(
-    table: &mut RegionTable,
-    destinations: &mut Destinations,
-    set: &[bool],
-    noted: &mut [bool],
-    card_words: u32,
-    tams: &Tams,
-    marks: &Marks,
-    visited: &[bool],
-    card: u32,
-)
-    ghost pause: { Pause }
-    requires premises { IsPause pause }
-    requires turn { IsTurn pause table.old destinations.old }
-    requires flags { set.now ≡ pause.chosen }
-    requires card { card_words ≡ pause.card_words }
-    requires each_card { EachCard pause noted.old }
-    requires tams { tams.now ≡ pause.tams }
-    requires marks { marks.now ≡ pause.previous }
-    requires visited { EachCard pause visited.now }
-    requires known { card < length visited.now }
-    ensures turn { IsTurn pause table.new destinations.new }
-    ensures after { After pause noted.old noted.new table.old table.new destinations.old destinations.new }
-    ensures each_card { EachCard pause noted.new }
-    ensures clean { IsCardClean pause visited.now table.new card }
-{
-    if visited[card as usize] {
-        update_card(
-            table,
-            destinations,
-            set,
-            noted,
-            card_words,
-            tams,
-            marks,
-            card,
-        );
-    }
-}
-
 /// The fields of all cards that are to be visited, by rising number.
 pub(crate) fn update_cards(
     table: &mut RegionTable,
     destinations: &mut Destinations,
     set: &[bool],
-    noted: &mut [bool],
+    noted: &mut Bits,
     card_words: u32,
     tams: &Tams,
     marks: &Marks,
-    visited: &[bool],
+    visited: &Bits,
 )
     ghost pause: { Pause }
     requires premises { IsPause pause }
@@ -252,8 +212,10 @@ pub(crate) fn update_cards(
     ensures each_card { EachCard pause noted.new }
     ensures clean { AreClean (layout pause) (plan pause) visited.now (space pause table.new) (length visited.now) }
 {
-    for card in 0..visited.len() as u32 {
-        visit_card(
+    visited.law();
+    let mut start = 0;
+    while let Some(card) = visited.next(start) {
+        update_card(
             table,
             destinations,
             set,
@@ -261,8 +223,8 @@ pub(crate) fn update_cards(
             card_words,
             tams,
             marks,
-            visited,
             card,
         );
+        start = card + 1;
     }
 }

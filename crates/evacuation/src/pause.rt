@@ -12,11 +12,12 @@ ghost use Rattle.evacuation.specs.Evacuates.{Layers, CanEvacuate, HasEvacuated};
 use crate::copied::settle_copies;
 use crate::outside::update_cards;
 use crate::release::release_chosen;
-use crate::room::{PauseRoom, clear_flags, dirty_noted, flag_chosen};
+use crate::room::{PauseRoom, dirty_noted, flag_chosen};
 use crate::roots::update_roots;
 use crate::visited::flag_visited;
 use cards::CardTable;
 use heap_words::addr::Ptr;
+use heap_words::bits::Bits;
 use mark_bitmap::bitmaps::Bitmaps;
 use mark_bitmap::marks::Marks;
 use mark_bitmap::tams::Tams;
@@ -37,11 +38,11 @@ fn copy_reached(
     table: &mut RegionTable,
     destinations: &mut Destinations,
     set: &[bool],
-    noted: &mut [bool],
+    noted: &mut Bits,
     card_words: u32,
     tams: &Tams,
     marks: &Marks,
-    visited: &[bool],
+    visited: &Bits,
     roots: &mut [Ptr],
 )
     ghost pause: { Pause }
@@ -58,6 +59,7 @@ fn copy_reached(
     requires roots { roots.old ≡ pause.roots }
     ensures turn { IsTurn pause table.new destinations.new }
     ensures each_card { EachCard pause noted.new }
+    ensures len { length noted.new ≡ length noted.old }
     ensures moved { Relocates (place_of (in_set pause) (space pause table.new).forward) (plan pause).heap (released (in_set pause) (record { kept = kept_now pause table.new; roots = roots.new })) }
     ensures reached { (a : ℕ) → IsReached (in_set pause) (plan pause).heap a → (b : ℕ) × ((space pause table.new).forward a ≡ Some b) }
     ensures words { AreReachedWords (in_set pause) (plan pause).heap destinations.new.words }
@@ -89,8 +91,8 @@ fn evacuate_in(
     roots: &mut [Ptr],
     destinations: &mut Destinations,
     set: &mut [bool],
-    visited: &mut [bool],
-    noted: &mut [bool],
+    visited: &mut Bits,
+    noted: &mut Bits,
     chosen: &[LiveRow],
     card_words: u32,
 ) -> Moved
@@ -111,7 +113,7 @@ fn evacuate_in(
     table.law();
     flag_chosen(set, chosen);
     flag_visited(visited, table, sets, chosen, card_words);
-    clear_flags(noted);
+    noted.clear();
     destinations.close();
     copy_reached(
         table,

@@ -1,4 +1,14 @@
 //! Room for a pause, which is made with the heap.
+//!
+//! ```text
+//!                  in a pause                                    one entry for
+//!   destinations   where copies go                               a region
+//!   chosen         whether a region is evacuated                 a region
+//!   visited        cards to look at, in regions in use           a card, as a bit
+//!   noted          cards with a field that crosses regions now   a card, as a bit
+//! ```
+//!
+//! Sets of cards are bits, so that a pause goes from one member to the next, and clears a set by words of 64 cards.
 
 ghost use Rattle.std.specs.Prelude.{◌≡◌, ◌≢◌, ◌<◌, ◌&&◌, ◌/◌, ◌*◌, ◌==◌, ◌^◌, ℕ, All, Bool, true, false, List, IfOk, if◌then◌else◌, length, replicate};
 ghost use Rattle.std.specs.List.{list_any};
@@ -14,6 +24,7 @@ ghost use Rattle.evacuation.specs.Rooms.{RoomSizes};
 
 use cards::CardTable;
 use heap_words::addr::{Card, RegionNo};
+use heap_words::bits::Bits;
 use object_copy::Destinations;
 use region_choice::LiveRow;
 use regions::{Kind, RegionTable};
@@ -21,14 +32,14 @@ use remembered_sets::RememberedSets;
 use std::alloc::{AllocError, Global};
 use std::marker::Model;
 
-/// The destinations, a flag for each region that is evacuated, and flags for the cards that are visited and noted. What it holds
+/// The destinations, a flag for each region that is evacuated, and the sets of the cards that are visited and noted. What it holds
 /// counts within a pause alone: clauses see how many regions and cards it has room for.
 #[derive(Drop)]
 pub struct PauseRoom {
     pub(crate) destinations: Destinations,
     pub(crate) chosen: Vec<bool>,
-    pub(crate) visited: Vec<bool>,
-    pub(crate) noted: Vec<bool>,
+    pub(crate) visited: Bits,
+    pub(crate) noted: Bits,
 }
 
 impl Model for PauseRoom {
@@ -55,17 +66,10 @@ impl PauseRoom {
         Ok(PauseRoom {
             destinations: Destinations::new(alloc, regions)?,
             chosen: flags(alloc, regions)?,
-            visited: flags(alloc, cards)?,
-            noted: flags(alloc, cards)?,
+            visited: Bits::new(alloc, cards)?,
+            noted: Bits::new(alloc, cards)?,
         })
     }
-}
-
-/// Clears each flag.
-pub(crate) fn clear_flags(flags: &mut [bool])
-    ensures { flags.new ≡ replicate (length flags.old) false }
-{
-    flags.fill(false);
 }
 
 /// Flags the rows' regions, and no others.
@@ -81,19 +85,19 @@ pub(crate) fn flag_chosen(set: &mut [bool], rows: &[LiveRow])
 }
 
 /// The noted cards become dirty at the queue's end, by rising number.
-pub(crate) fn dirty_noted(cards: &mut CardTable, noted: &[bool])
+pub(crate) fn dirty_noted(cards: &mut CardTable, noted: &Bits)
     requires clean { (card : ℕ) → is_dirty cards.old card ≡ false }
     requires len { length noted.now ≡ length cards.old.dirty }
-    requires few { length noted.now < 2 ^ 32 }
     ensures dirty { (card : ℕ) → is_dirty cards.new card ≡ flag noted.now card }
     ensures logs { cards.new.logs ≡ cards.old.logs }
     ensures queue { IsStrictlyIncreasing cards.new.queue }
     ensures len { length cards.new.dirty ≡ length cards.old.dirty }
 {
     cards.law();
-    for card in 0..noted.len() as u32 {
-        if noted[card as usize] {
-            cards.append(Card::new(card));
-        }
+    noted.law();
+    let mut start = 0;
+    while let Some(card) = noted.next(start) {
+        cards.append(Card::new(card));
+        start = card + 1;
     }
 }

@@ -10,33 +10,21 @@ ghost use Rattle.refinement.specs.Refining.{SetsFit};
 ghost use Rattle.evacuation.specs.Space.{flag};
 
 use heap_words::addr::RegionNo;
+use heap_words::bits::Bits;
 use region_choice::LiveRow;
 use regions::{Kind, RegionTable};
 use remembered_sets::RememberedSets;
 
 /// Flags the cards that the rows' regions cover, and no others.
-fn flag_covered(visited: &mut [bool], sets: &RememberedSets, rows: &[LiveRow])
+fn flag_covered(visited: &mut Bits, sets: &RememberedSets, rows: &[LiveRow])
     requires rows { All (λ row. row.region < length sets.now.sets) rows.now }
     requires cards { length visited.old ≡ card_count sets.now }
     ensures flags { (card : ℕ) → card < length visited.new → flag visited.new card ≡ list_any (λ row. covers sets.now row.region card) rows.now }
     ensures len { length visited.new ≡ length visited.old }
 {
-    visited.fill(false);
+    visited.clear();
     for row in rows {
         sets.mark_cards(row.region, visited);
-    }
-}
-
-/// Clears the flags from one number up to another.
-fn clear_range(flags: &mut [bool], from: usize, to: usize)
-    requires { to ≤ length flags.old }
-    ensures inside { (k : ℕ) → from ≤ k → k < to → flag flags.new k ≡ false }
-    ensures below { (k : ℕ) → k < from → flag flags.new k ≡ flag flags.old k }
-    ensures above { (k : ℕ) → to ≤ k → flag flags.new k ≡ flag flags.old k }
-    ensures len { length flags.new ≡ length flags.old }
-{
-    for place in from..to {
-        flags[place] = false;
     }
 }
 
@@ -53,25 +41,25 @@ fn is_free(table: &RegionTable, region: RegionNo) -> bool
 }
 
 /// Clears the flags of the cards of free regions.
-fn clear_free(visited: &mut [bool], table: &RegionTable, cards_per_region: u32)
+fn clear_free(visited: &mut Bits, table: &RegionTable, cards_per_region: u32)
     requires some_cards { 0 < cards_per_region }
     requires each { length visited.old ≡ length table.now.regions * cards_per_region }
     ensures in_use { (card : ℕ) → kind_of table.now (card / cards_per_region) ≢ kinds.Free → flag visited.new card ≡ flag visited.old card }
     ensures free { (card : ℕ) → card < length visited.new → kind_of table.now (card / cards_per_region) ≡ kinds.Free → flag visited.new card ≡ false }
     ensures len { length visited.new ≡ length visited.old }
 {
-    let cards = cards_per_region as usize;
+    visited.law();
     for region in 0..table.region_count() {
         if is_free(table, RegionNo::new(region)) {
-            let from = region as usize * cards;
-            clear_range(visited, from, from + cards);
+            let from = region * cards_per_region;
+            visited.clear_range(from, from + cards_per_region);
         }
     }
 }
 
 /// Flags the cards of regions in use that the rows' regions cover, and no others.
 pub(crate) fn flag_visited(
-    visited: &mut [bool],
+    visited: &mut Bits,
     table: &RegionTable,
     sets: &RememberedSets,
     rows: &[LiveRow],

@@ -1,6 +1,6 @@
 -- A script that is read, and the record that is written.
-use Rattle.std.specs.Prelude.{◌≡◌, ℕ, ◌<◌, List, Option, Ok, length, take, map}
-use Rattle.std.specs.Io.KnownBytes.{Appends, Keeps}
+use Rattle.std.specs.Prelude.{◌≡◌, ℕ, ◌<◌, ⊤, List, Option, Result, Ok, Err, length, take, map}
+use Rattle.std.specs.Io.KnownBytes.{Appends, Keeps, Consumes, IsAtEnd}
 use Rattle.heap_model.specs.Graph.{Graph}
 use Rattle.object_graph.specs.Actors.{StepList, EventList}
 use Rattle.object_graph.specs.State.{first_state}
@@ -8,6 +8,8 @@ use Rattle.object_graph.specs.Run.{IsRun}
 use Rattle.script_text.specs.Lines.{script_of, FailsBy}
 use Rattle.script_text.specs.Records.{record_text}
 use Rattle.step_core.specs.Histories.{step_of, actor_in, actor_of, IsRunFault, RunsFromNew}
+use Rattle.script_text.specs.declared.fault.WriteFault.TheVariants as writes
+use Rattle.g1heap.specs.FaultLines.{TellsLine}
 use Rattle.g1heap.specs.declared.script.ScriptFault.{ScriptFault}
 use Rattle.g1heap.specs.declared.script.ScriptFault.TheVariants.{Read, Line, Run, Write}
 
@@ -31,9 +33,26 @@ WritesRecord input old new = (r : EventList) × IsScriptRun input r × Appends o
 abbrev pub WritesBeginning : List ℕ → Option (List ℕ) → Option (List ℕ) → Type 0
 WritesBeginning input old new = (r : EventList) × (n : ℕ) × IsScriptRun input r × (n < length (record_text r)) × Appends old new (take n (record_text r))
 
--- what a fault says of the input, and what was written
-abbrev pub Explains : List ℕ → Option (List ℕ) → Option (List ℕ) → ScriptFault → Type 0
-Explains input old new (Read fault) = Keeps old new
-Explains input old new (Line fault) = FailsBy fault.kind fault (script_of input) × Keeps old new
-Explains input old new (Run fault) = ((plan : StepList) × (script_of input ≡ Ok plan) × IsRunFault plan.config fault) × Keeps old new
-Explains input old new (Write fault) = WritesBeginning input old new
+-- the reader gave these bytes, and is at its end
+abbrev pub GivesAll : Option (List ℕ) → Option (List ℕ) → List ℕ → Type 0
+GivesAll given left input = Consumes given left input × IsAtEnd left
+
+-- How a script's run ended: what the reader gave, of which `given` stood before and `left` stands after, and what the writer took, from
+-- `old` to `new`. A record is written at Ok alone; a beginning of it where a write failed; otherwise nothing.
+abbrev pub Ends : Option (List ℕ) → Option (List ℕ) → Option (List ℕ) → Option (List ℕ) → Result ⊤ ScriptFault → Type 0
+Ends given left old new (Ok done) = (input : List ℕ) × GivesAll given left input × WritesRecord input old new
+Ends given left old new (Err (Read fault)) = ((some : List ℕ) × Consumes given left some) × Keeps old new
+Ends given left old new (Err (Line fault)) = (input : List ℕ) × GivesAll given left input × FailsBy fault.kind fault input (script_of input) × Keeps old new
+Ends given left old new (Err (Run fault)) = (input : List ℕ) × GivesAll given left input × ((plan : StepList) × (script_of input ≡ Ok plan) × IsRunFault plan.config fault) × Keeps old new
+Ends given left old new (Err (Write fault)) = (input : List ℕ) × GivesAll given left input × WritesBeginning input old new × (fault ≡ writes.NoMemory → Keeps old new)
+
+-- the status that tells how a run ended, and what standard error took: nothing where the job is done, else the fault's line
+abbrev pub Tells : Option (List ℕ) → Option (List ℕ) → Result ⊤ ScriptFault → ℕ → Type 0
+Tells old new (Ok done) status = (status ≡ 0) × Keeps old new
+Tells old new (Err fault) status = (status ≡ 1) × TellsLine fault old new
+
+-- A run ended so, and its end was told so. The status is 0 exactly where it ended well.
+pub record Performs (given left old new err err' : Option (List ℕ)) (status : ℕ) : Type 0 where
+  pub outcome : Result ⊤ ScriptFault
+  pub ends : Ends given left old new outcome
+  pub tells : Tells err err' outcome status

@@ -2,7 +2,7 @@
 
 use clap::error::ErrorKind;
 use clap::{Arg, ArgAction, Command, Error};
-use std::alloc::Global;
+use std::alloc::{AllocError, Global};
 
 /// What is done with the file.
 #[derive(Clone, Copy, Debug, PartialEq, Eq)]
@@ -29,14 +29,14 @@ impl<'a> Job<'a> {
     }
 }
 
-fn with_file<'a>(alloc: Global, name: &'a str, about: &'a str) -> Result<Command<'a>, Error> {
+fn with_file<'a>(alloc: Global, name: &'a str, about: &'a str) -> Result<Command<'a>, AllocError> {
     let file = Arg::new(alloc, "FILE")
         .required(true)
         .action(ArgAction::Set);
     Ok(Command::new(alloc, name).about(about).arg(file)?)
 }
 
-fn command<'a>(alloc: Global) -> Result<Command<'a>, Error> {
+fn command<'a>(alloc: Global) -> Result<Command<'a>, AllocError> {
     let run = with_file(
         alloc,
         "run",
@@ -64,4 +64,17 @@ pub fn read_words<'a>(alloc: Global, words: &'a [String]) -> Result<Job<'a>, Err
         file,
         task: Task::Run,
     })
+}
+
+/// The text for the user where a word isn't UTF-8.
+pub fn misspelt(alloc: Global) -> Error {
+    match misspelt_words(alloc) {
+        Ok(error) => error,
+        Err(error) => Error::from(error),
+    }
+}
+
+fn misspelt_words(alloc: Global) -> Result<Error, AllocError> {
+    let mut command = command(alloc)?;
+    command.error(ErrorKind::InvalidValue, "a word isn't UTF-8")
 }

@@ -1,28 +1,28 @@
 //! What the program does with a job.
 
-ghost use Rattle.std.specs.Prelude.{◌≡◌, ◌≤◌, IfSome};
-ghost use Rattle.g1heap.specs.Runs.{WritesRecord};
+ghost use Rattle.g1heap.specs.Runs.{Tells, Performs};
 
+use crate::faults::tell;
 use crate::job::{Job, Task};
 use crate::script::{ScriptFault, run_script};
-use script_text::WriteFault;
 use std::alloc::Global;
 use std::io::{Read, Write};
-use step_core::RunFault;
 
-/// The line on standard error for a fault. A fault in writing it changes nothing.
-fn tell<E: Write>(fault: ScriptFault, err: &mut E) {
-    let _ = match fault {
-        ScriptFault::Run(RunFault::Heap(heap)) => writeln!(err, "g1heap: heap: {heap}"),
-        ScriptFault::Write(WriteFault::NoMemory) => {
-            let memory = RunFault::NoMemory;
-            writeln!(err, "g1heap: run: {memory}")
+/// Tells how a job ended, and answers the program's status: 0 where it is done, else 1, with the fault's line on standard error. That a
+/// write of this line fails changes nothing.
+pub fn conclude<E: Write>(outcome: Result<(), ScriptFault>, err: &mut E) -> u8
+    ensures { Tells (E.contents err.old) (E.contents err.new) outcome result }
+{
+    match outcome {
+        Ok(()) => 0,
+        Err(fault) => {
+            let _ = tell(fault, err);
+            1
         }
-        other => writeln!(err, "g1heap: {other}"),
-    };
+    }
 }
 
-/// Does the job, and answers the program's status: 0 where it is done, 1 for a fault.
+/// Does the job, and answers the program's status.
 pub fn perform<R: Read, W: Write, E: Write>(
     alloc: Global,
     job: &Job,
@@ -30,17 +30,10 @@ pub fn perform<R: Read, W: Write, E: Write>(
     out: &mut W,
     err: &mut E,
 ) -> u8
-    ensures status { result ≤ 1 }
-    ensures done { result ≡ 0 → IfSome (R.remaining reader.old) (λ input. WritesRecord input (W.contents out.old) (W.contents out.new)) }
+    ensures { Performs (R.remaining reader.old) (R.remaining reader.new) (W.contents out.old) (W.contents out.new) (E.contents err.old) (E.contents err.new) result }
 {
     let outcome = match job.task() {
         Task::Run => run_script(alloc, reader, out),
     };
-    match outcome {
-        Ok(()) => 0,
-        Err(fault) => {
-            tell(fault, err);
-            1
-        }
-    }
+    conclude(outcome, err)
 }

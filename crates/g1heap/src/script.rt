@@ -1,8 +1,6 @@
 //! A script that is read, run and answered by its record.
 
-ghost use Rattle.std.specs.Prelude.{◌≡◌, OnOk, IfSome, IfErr, All};
-ghost use Rattle.std.specs.Io.KnownBytes.{Keeps};
-ghost use Rattle.g1heap.specs.Runs.{WritesRecord, Explains};
+ghost use Rattle.g1heap.specs.Runs.{Ends};
 
 use script_text::{LineFault, ReadFault, WriteFault, parse, read_text, write_record};
 use std::alloc::Global;
@@ -30,8 +28,7 @@ pub fn run_script<R: Read, W: Write>(
     reader: &mut R,
     writer: &mut W,
 ) -> Result<(), ScriptFault>
-    ensures record { OnOk result (IfSome (R.remaining reader.old) (λ input. WritesRecord input (W.contents writer.old) (W.contents writer.new))) }
-    ensures fault { IfErr result (λ f. IfSome (R.remaining reader.old) (λ input. Explains input (W.contents writer.old) (W.contents writer.new) f)) }
+    ensures { Ends (R.remaining reader.old) (R.remaining reader.new) (W.contents writer.old) (W.contents writer.new) result }
 {
     let text = match read_text(alloc, reader) {
         Ok(text) => text,

@@ -2,17 +2,23 @@
 
 mod cases;
 mod drawn;
+mod programs;
 mod records;
 
-use crate::job::read_words;
-use crate::perform::perform;
+use crate::faults::tell;
+use crate::job::{Task, read_words};
+use crate::perform::{conclude, perform};
+use crate::script::ScriptFault;
 use cases::CASES;
+use heap_words::config::NewFault;
 use records::RECORDS;
+use script_text::{Kind, LineFault, ReadFault, WriteFault};
 use std::alloc::Global;
 use std::io;
 use std::io::{Read, Write};
 use std::process::Abort;
 use std::test::Fail;
+use step_core::RunFault;
 
 /// What a job answered and wrote.
 #[derive(Drop)]
@@ -89,6 +95,24 @@ fn whole_records(rt: HostRuntime) -> Result<(), Fail> {
         let outcome = run(rt.alloc(), script.as_str())?;
         assert_outcome(&rt, name, &outcome, 0, record, "");
     }
+    Ok(())
+}
+
+/// A script of 10,000 steps and more than 128 KiB.
+#[test]
+fn long_script(rt: HostRuntime) -> Result<(), Fail> {
+    let alloc = rt.alloc();
+    let mut script = String::from_str(alloc, "heap 4 16 8 1 0\n0 new r0 0 1\n")?;
+    let mut record = String::from_str(alloc, "heap 4 16 8 1 0\n1 0 new r0 0 1 = #0\n")?;
+    for count in 2..10_001u64 {
+        write!(script, "0 write r0 0 {count}\n")?;
+        write!(record, "{count} 0 write r0 0 {count} = ok\n")?;
+    }
+    assert!(rt; script.len() > 131_072);
+    let outcome = run(alloc, script.as_str())?;
+    assert_eq!(rt; outcome.status, 0);
+    assert!(rt; outcome.out.as_slice() == record.as_bytes());
+    assert!(rt; outcome.err.is_empty());
     Ok(())
 }
 
@@ -240,6 +264,69 @@ fn broken_writer(rt: HostRuntime) -> Result<(), Fail> {
             beginning,
             "g1heap: cannot write\n",
         );
+    }
+    Ok(())
+}
+
+/// The line and the status of each fault.
+#[test]
+fn fault_lines(rt: HostRuntime) -> Result<(), Fail> {
+    let alloc = rt.alloc();
+    let line = LineFault {
+        line: 18_446_744_073_709_551_615,
+        kind: Kind::LongLine,
+    };
+    let faults = [
+        (ScriptFault::Read(ReadFault::CannotRead), "cannot read"),
+        (ScriptFault::Read(ReadFault::NoMemory), "cannot read"),
+        (
+            ScriptFault::Line(line),
+            "line 18446744073709551615: 2 LongLine",
+        ),
+        (ScriptFault::Run(RunFault::BadWorkers), "run: 1 BadWorkers"),
+        (ScriptFault::Run(RunFault::NoMemory), "run: 2 NoMemory"),
+        (ScriptFault::Run(RunFault::NoWorker), "run: 3 NoWorker"),
+        (ScriptFault::Run(RunFault::Unfinished), "run: 4 Unfinished"),
+        (
+            ScriptFault::Run(RunFault::Heap(NewFault::BadRegions)),
+            "heap: 1 BadRegions",
+        ),
+        (
+            ScriptFault::Run(RunFault::Heap(NewFault::BadWords)),
+            "heap: 2 BadWords",
+        ),
+        (
+            ScriptFault::Run(RunFault::Heap(NewFault::BadBuffer)),
+            "heap: 3 BadBuffer",
+        ),
+        (
+            ScriptFault::Run(RunFault::Heap(NewFault::BadMutators)),
+            "heap: 4 BadMutators",
+        ),
+        (ScriptFault::Write(WriteFault::CannotWrite), "cannot write"),
+        (ScriptFault::Write(WriteFault::NoMemory), "run: 2 NoMemory"),
+    ];
+    for (fault, words) in faults {
+        let mut err = Vec::new(alloc);
+        assert_eq!(rt; tell(fault, &mut err), Ok(()));
+        assert_eq!(rt; conclude(Err(fault), &mut err), 1);
+        let twice = format!(in alloc; "g1heap: {words}\ng1heap: {words}\n")?;
+        assert_eq!(rt; err.as_slice(), twice.as_bytes());
+    }
+    Ok(())
+}
+
+/// The file is the very one that the words name.
+#[test]
+fn files_of_jobs(rt: HostRuntime) -> Result<(), Fail> {
+    let alloc = rt.alloc();
+    for file in ["script.heap", "run", "./a folder/b.heap", "/", "é", "0"] {
+        let words = words(alloc, &["run", file])?;
+        let Ok(job) = read_words(alloc, words.as_slice()) else {
+            return Err(Fail::from("the words are understood"));
+        };
+        assert_eq!(rt; job.file(), file);
+        assert_eq!(rt; job.task(), Task::Run);
     }
     Ok(())
 }

@@ -1,2 +1,5 @@
 pub mod Codec
 pub mod Blocks
+pub mod BitWords
+pub mod LowestBits
+pub mod BitRanges

@@ -1,19 +1,29 @@
 -- The sizes that a heap can have.
-use Rattle.std.specs.Prelude.{◌*◌, ◌^◌, ◌≤◌, IsTrue}
+use Rattle.std.specs.Prelude.{ℕ, ◌*◌, ◌^◌, ◌≤◌, IsTrue}
 use Rattle.std.specs.Int.{is_power_of_two}
 use Rattle.heap_words.specs.declared.config.Config.{Config}
 use Rattle.heap_words.specs.declared.config.NewFault.{NewFault}
 use Rattle.heap_words.specs.declared.config.NewFault.TheVariants.{BadRegions, BadWords, BadBuffer, BadMutators, NoMemory}
 
+-- the most regions that a heap has, the most words of a region, and of a heap
+abbrev pub max_regions : ℕ
+max_regions = 1024
+
+abbrev pub max_region_words : ℕ
+max_region_words = 4096
+
+abbrev pub max_words : ℕ
+max_words = 2 ^ 20
+
 pub record HasRegions (c : Config) : Type 0 where
   pub at_least : 2 ≤ c.regions
-  pub at_most : c.regions ≤ 1024
+  pub at_most : c.regions ≤ max_regions
 
 pub record HasWords (c : Config) : Type 0 where
   pub power : IsTrue (is_power_of_two c.words)
   pub at_least : 16 ≤ c.words
-  pub at_most : c.words ≤ 4096
-  pub in_all : c.regions * c.words ≤ 2 ^ 20
+  pub at_most : c.words ≤ max_region_words
+  pub in_all : c.regions * c.words ≤ max_words
 
 -- a buffer is at most half a region
 pub record HasBuffer (c : Config) : Type 0 where
@@ -23,6 +33,10 @@ pub record HasBuffer (c : Config) : Type 0 where
 pub record HasMutators (c : Config) : Type 0 where
   pub at_least : 1 ≤ c.mutators
   pub at_most : c.mutators ≤ 16
+
+-- how many words a card has
+abbrev pub card_words : Config → ℕ
+card_words c = 8
 
 -- a heap can have these sizes
 pub record Suits (c : Config) : Type 0 where

@@ -1,9 +1,18 @@
 //! The sizes of a heap, and whether they suit.
 
-ghost use Rattle.std.specs.Prelude.{◌↔◌, IsOk, IfErr};
-ghost use Rattle.heap_words.specs.Configs.{Suits, IsFirstFault};
+ghost use Rattle.std.specs.Prelude.{◌≡◌, ◌↔◌, IsOk, IfErr};
+ghost use Rattle.heap_words.specs.Configs.{card_words, Suits, IsFirstFault};
 
 use thiserror::Error;
+
+/// The most regions that a heap has.
+const MAX_REGIONS: u32 = 1024;
+
+/// The most words that a region has.
+const MAX_REGION_WORDS: u32 = 4096;
+
+/// The most words that a heap has.
+const MAX_WORDS: u32 = 1 << 20;
 
 /// The sizes of a heap, as a heap line gives them.
 #[derive(Clone, Copy, Debug, PartialEq, Eq)]
@@ -47,13 +56,13 @@ impl Config {
         ensures suits { IsOk result ↔ Suits self.now }
         ensures first { IfErr result (IsFirstFault self.now) }
     {
-        if self.regions < 2 || 1024 < self.regions {
+        if self.regions < 2 || MAX_REGIONS < self.regions {
             return Err(NewFault::BadRegions);
         }
-        if !self.words.is_power_of_two() || self.words < 16 || 4096 < self.words {
+        if !self.words.is_power_of_two() || self.words < 16 || MAX_REGION_WORDS < self.words {
             return Err(NewFault::BadWords);
         }
-        if 1 << 20 < self.regions * self.words {
+        if MAX_WORDS < self.regions * self.words {
             return Err(NewFault::BadWords);
         }
         if self.buffer < 4 || self.words / 2 < self.buffer {
@@ -63,6 +72,13 @@ impl Config {
             return Err(NewFault::BadMutators);
         }
         Ok(())
+    }
+
+    /// How many words a card has: a region is a whole number of cards.
+    pub fn card_words(&self) -> u32
+        ensures { result ≡ card_words self.now }
+    {
+        8
     }
 }
 

@@ -8,6 +8,7 @@
 //! ```
 
 ghost use Rattle.std.specs.Prelude.{◌≡◌, ◌+◌, ◌<◌, ◌≤◌, ◌∷◌, length, replicate, slice_index, slice_set, take, drop, IfOk};
+ghost use Rattle.heap_words.specs.Sizes.{size_of};
 ghost use Rattle.heap_words.specs.Headers.{header_of, header_word, pointer_of, pointer_word};
 ghost use Rattle.heap_words.specs.Contents.{put, header_at, counts_of, pointer_count_at};
 ghost use Rattle.heap_words.specs.declared.header.Header.TheVariants as headers;
@@ -161,7 +162,7 @@ impl Words {
 
     /// Writes an object whose pointers are nil and whose data words are 0.
     pub fn write_object(&mut self, at: Addr, name: u64, counts: Counts)
-        requires { at + (2 + counts.pointers + counts.values) ≤ length self.old }
+        requires { at + size_of counts.pointers counts.values ≤ length self.old }
         ensures { self.new ≡ put self.old at (header_word (headers.Object counts.pointers counts.values) ∷ name ∷ replicate (counts.pointers + counts.values) 0) }
     {
         let Counts { pointers, values } = counts;

@@ -1,5 +1,3 @@
-pub mod Bits
-pub mod Lowest
 pub mod Counts
 pub mod Ranges
 pub mod KeptLaws

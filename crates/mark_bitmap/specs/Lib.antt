@@ -1,5 +1,4 @@
 pub mod Marks
-pub mod Words
 pub mod Tops
 pub mod Grey
 pub mod Kept

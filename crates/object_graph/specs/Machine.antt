@@ -1,6 +1,7 @@
 -- What a mutator's step replies, and the graph after it. The graph alone gives both: there is no heap here, and
 -- nothing is ever freed or moved.
 use Rattle.std.specs.Prelude.{ℕ, ◌+◌, ◌-◌, ◌^◌, Option, Some, None, length, slice_get, slice_set, replicate, nat_lt, ◌==◌, if◌then◌else◌}
+use Rattle.heap_words.specs.Sizes.{size_of}
 use Rattle.heap_model.specs.Graph.{Object, Graph, next_name, with_root, with_object, with_changed}
 use Rattle.object_graph.specs.State.{register_place, root_at}
 use Rattle.object_graph.specs.declared.step.Action.{Action}
@@ -47,7 +48,7 @@ stored g mutator (Some register) = root_at g (register_place mutator register.nu
 -- the ten steps of a mutator
 abbrev pub act : Graph → ℕ → Action → Outcome
 act g m (actions.New to p d) =
-    if nat_lt g.room (2 + p + d) then refused g refusals.TooBig
+    if nat_lt g.room (size_of p d) then refused g refusals.TooBig
     else if next_name g == 2 ^ 64 - 1 then refused g refusals.NamesSpent
     else (replies.Named (Some (next_name g)), with_object g (record { pointers = replicate p None; values = replicate d 0 }) (register_place m to.number))
 act g m (actions.Get to object i) = on_object g m object (λ name x. on_field g (slice_get x.pointers i) (λ value. (replies.Named value, with_root g (register_place m to.number) value)))

@@ -1,5 +1,7 @@
 -- How the words of the heap are read as regions.
 use Rattle.std.specs.Prelude.{◌≡◌, ℕ, zero, suc, ◌+◌, ◌-◌, ◌*◌, ◌^◌, ◌<◌, ◌≤◌, min, Bool, true, false, Option, Some, None, List, [], ◌∷◌, length, take, drop, slice_index, slice_set}
+use Rattle.heap_words.specs.Sizes.{size_of}
+use Rattle.heap_words.specs.Configs.{max_words}
 use Rattle.heap_words.specs.declared.header.Header.{Header}
 use Rattle.heap_words.specs.declared.header.Header.TheVariants.{Object, Filler, Forwarded}
 use Rattle.heap_words.specs.Headers.{header_of, header_word}
@@ -13,7 +15,7 @@ use Rattle.regions.specs.declared.row.Kind.TheVariants as kinds
 -- how many words the object of a header has, 1 where it is no object's
 abbrev pub object_size : Option Header → ℕ
 object_size None = 1
-object_size (Some (Object p d)) = 2 + p + d
+object_size (Some (Object p d)) = size_of p d
 object_size (Some (Filler n)) = 1
 object_size (Some (Forwarded to)) = 1
 
@@ -102,14 +104,14 @@ table_by f size words rows = record { words_per_region = size; regions = regions
 pub record IsTableBy (f : ℕ → ℕ) (size : ℕ) (words : List ℕ) (rows : List Row) : Type 0 where
   pub region_size : (0 < size) × (size ≤ 2 ^ 12)
   pub covers : length words ≡ length rows * size
-  pub small : length words ≤ 2 ^ 20
+  pub small : length words ≤ max_words
   pub rows_right : AreRows f size 0 words rows
 
 -- words and rows are a table's
 pub record IsTable (size : ℕ) (words : List ℕ) (rows : List Row) : Type 0 where
   pub region_size : (0 < size) × (size ≤ 2 ^ 12)
   pub covers : length words ≡ length rows * size
-  pub small : length words ≤ 2 ^ 20
+  pub small : length words ≤ max_words
   pub rows_right : AreRows (sizes_in words) size 0 words rows
   pub targets : HasTargets (table_of size words rows)
 

@@ -182,7 +182,7 @@ taken t (Some k) = with_region t k (Ordinary [])
 abbrev pub region_used : ℕ → Region → ℕ
 region_used size Free = 0
 region_used size (Ordinary ts) = total_size ts
-region_used size (First s) = min size (2 + length s.pointers + length s.values)
+region_used size (First s) = min size (tile_size (Live s))
 region_used size (Rest n) = n
 
 -- region k, free past the end

@@ -1,5 +1,6 @@
 -- Tiles: what the words of a region say, from its bottom to its top.
 use Rattle.std.specs.Prelude.{◌≡◌, ℕ, zero, suc, ◌+◌, ◌-◌, ◌<◌, Option, Some, None, List, [], ◌∷◌, ◌++◌, length, take, drop, map, slice_index, if◌then◌else◌, nat_le, IsSome}
+use Rattle.heap_words.specs.Sizes.{size_of}
 use Rattle.heap_model.specs.Heap.{Stored}
 use Rattle.heap_words.specs.declared.header.Header.{Header}
 use Rattle.heap_words.specs.declared.header.Header.TheVariants.{Object, Filler, Forwarded}
@@ -13,7 +14,7 @@ pub data Tile : Type 0 where
 
 -- the words of a tile
 abbrev pub tile_size : Tile → ℕ
-tile_size (Live s) = 2 + length s.pointers + length s.values
+tile_size (Live s) = size_of (length s.pointers) (length s.values)
 tile_size (Gap n) = n
 tile_size (Moved to n) = n
 
@@ -48,7 +49,7 @@ tile_by sizes ws (Some (Forwarded to)) = Moved to (sizes to)
 -- how many words the tile of a header has
 abbrev pub size_by : (ℕ → ℕ) → Option Header → ℕ
 size_by sizes None = 1
-size_by sizes (Some (Object p d)) = 2 + p + d
+size_by sizes (Some (Object p d)) = size_of p d
 size_by sizes (Some (Filler n)) = n
 size_by sizes (Some (Forwarded to)) = sizes to
 

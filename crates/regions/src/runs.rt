@@ -1,5 +1,6 @@
 //! Runs: adjacent regions that hold one humongous object.
 ghost use Rattle.std.specs.Prelude.{◌≡◌, ◌+◌, ◌*◌, ◌<◌, ◌≤◌, ◌^◌, length, Some};
+ghost use Rattle.heap_words.specs.Sizes.{size_of};
 ghost use lib.Seq.{paste};
 ghost use Rattle.regions.specs.Table.{first_run, is_free as region_is_free, new_object, run_regions, with_regions, with_run};
 ghost use Rattle.regions.specs.Rows.{kind_is_free, run_rows};
@@ -58,8 +59,8 @@ impl RegionTable {
     pub fn make_run(&mut self, first: RegionNo, count: u32, name: u64, counts: Counts)
         requires positive { 0 < count }
         requires lowest { first_run region_is_free count self.old.regions ≡ Some first }
-        requires covers { 2 + counts.pointers + counts.values ≤ count * self.old.words_per_region }
-        requires tight { count * self.old.words_per_region < 2 + counts.pointers + counts.values + self.old.words_per_region }
+        requires covers { size_of counts.pointers counts.values ≤ count * self.old.words_per_region }
+        requires tight { count * self.old.words_per_region < size_of counts.pointers counts.values + self.old.words_per_region }
         ensures { self.new ≡ with_regions self.old first count (run_regions self.old.words_per_region (new_object name counts.pointers counts.values) count) }
     {
         let size = 2 + counts.pointers.get() + counts.values.get();
@@ -73,8 +74,8 @@ impl RegionTable {
     /// none where there is no such run, and then nothing changed.
     pub fn take_run(&mut self, count: u32, name: u64, counts: Counts) -> Option<RegionNo>
         requires positive { 0 < count }
-        requires covers { 2 + counts.pointers + counts.values ≤ count * self.old.words_per_region }
-        requires tight { count * self.old.words_per_region < 2 + counts.pointers + counts.values + self.old.words_per_region }
+        requires covers { size_of counts.pointers counts.values ≤ count * self.old.words_per_region }
+        requires tight { count * self.old.words_per_region < size_of counts.pointers counts.values + self.old.words_per_region }
         ensures lowest { result ≡ first_run region_is_free count self.old.regions }
         ensures taken { self.new ≡ with_run self.old count (new_object name counts.pointers counts.values) (first_run region_is_free count self.old.regions) }
     {

@@ -1,5 +1,6 @@
 //! Changes of regions and tiles.
 ghost use Rattle.std.specs.Prelude.{◌≡◌, ◌≢◌, ◌+◌, ◌-◌, ◌/◌, ◌<◌, ◌≤◌, ◌^◌, ◌∷◌, [], length, drop, position, replicate, Some, IsSome};
+ghost use Rattle.heap_words.specs.Sizes.{size_of};
 ghost use lib.Seq.{paste};
 ghost use Rattle.heap_model.specs.Heap.{Stored};
 ghost use Rattle.regions.specs.Tiles.{Live, Gap, Moved};
@@ -121,8 +122,8 @@ impl RegionTable {
     /// The rest is a filler again or nothing.
     pub fn make_object(&mut self, at: Addr, filler: FillerSize, name: u64, counts: Counts)
         requires there { tile_in self.old at ≡ Some (Gap filler) }
-        requires room { 2 + counts.pointers + counts.values ≤ filler }
-        ensures { self.new ≡ replace_tile self.old at (Live (new_object name counts.pointers counts.values) ∷ gap (filler - (2 + counts.pointers + counts.values))) }
+        requires room { size_of counts.pointers counts.values ≤ filler }
+        ensures { self.new ≡ replace_tile self.old at (Live (new_object name counts.pointers counts.values) ∷ gap (filler - size_of counts.pointers counts.values)) }
     {
         let size = 2 + counts.pointers.get() + counts.values.get();
         self.words.write_object(at, name, counts);

@@ -1,3 +1,2 @@
 pub mod Covered
-pub mod Flagging
 pub mod Laws

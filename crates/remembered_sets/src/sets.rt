@@ -6,11 +6,13 @@
 //!   sources     -     3            -     -        card c lies in region c / cards_per_region
 //! ```
 
-ghost use Rattle.std.specs.Prelude.{◌≡◌, ◌≢◌, ◌⊎◌, ◌||◌, ◌/◌, ◌<◌, All, ℕ, false, true, IfOk, length, slice_index_or, List};
+ghost use Rattle.std.specs.Prelude.{◌≡◌, ◌≢◌, ◌⊎◌, ◌||◌, ◌/◌, ◌<◌, All, ℕ, false, true, IfOk, length, List};
+ghost use Rattle.heap_words.specs.Bits.{has};
 ghost use Rattle.remembered_sets.specs.Sets.{added, after_all, card_count, cleared, covers, empty_sets, set_of, Change, AreSets, LeavesSet, Sets};
 
 use crate::set::RememberedSet;
 use heap_words::addr::{Card, RegionNo};
+use heap_words::bits::Bits;
 use std::alloc::{AllocError, Global};
 use std::marker::Model;
 
@@ -84,12 +86,12 @@ impl RememberedSets {
         set.add(card, source);
     }
 
-    /// Flags the cards that the region's set covers, and leaves the other flags. It looks at the set's own cards and at
-    /// those of the regions that it marks.
-    pub fn mark_cards(&self, region: RegionNo, flags: &mut [bool])
+    /// Flags the cards that the region's set covers, and leaves the other flags. It costs the set's own cards and the regions
+    /// that it marks, and for both a look at words that hold 64 flags each.
+    pub fn mark_cards(&self, region: RegionNo, flags: &mut Bits)
         requires region { region < length self.now.sets }
         requires each { length flags.old ≡ card_count self.now }
-        ensures flags { (c : ℕ) → c < length flags.new → slice_index_or flags.new c false ≡ (slice_index_or flags.old c false || covers self.now region c) }
+        ensures flags { (c : ℕ) → has flags.new c ≡ (has flags.old c || covers self.now region c) }
         ensures len { length flags.new ≡ length flags.old }
     {
         let set = &self.sets[region.number() as usize];

@@ -4,6 +4,7 @@ ghost use Rattle.std.specs.Prelude.{◌≡◌, IfOk, length};
 
 use crate::RememberedSets;
 use heap_words::addr::{Card, RegionNo};
+use heap_words::bits::Bits;
 use std::alloc::{AllocError, Global};
 use std::test::Fail;
 
@@ -90,17 +91,21 @@ fn keeps_sets_apart(rt: HostRuntime) -> Result<(), Fail> {
 fn marks_cards(rt: HostRuntime) -> Result<(), Fail> {
     let mut sets = filled(rt.alloc())?;
     let region = RegionNo::new(7);
-    let mut flags = vec![in rt.alloc(); false; 128]?;
-    flags[127] = true;
+    let mut flags = Bits::new(rt.alloc(), 128)?;
+    assert!(rt; flags.len() == 128);
+    flags.set(127);
+    assert!(rt; flags.len() == 128);
     sets.mark_cards(RegionNo::new(6), &mut flags);
-    for card in 0..128_usize {
-        assert_eq!(rt; flags[card], card == 127, "{card}");
+    assert!(rt; flags.len() == 128);
+    for card in 0..128 {
+        assert_eq!(rt; flags.get(card), card == 127, "{card}");
     }
     sets.add(region, Card::new(50));
     sets.mark_cards(region, &mut flags);
-    for card in 0..128_usize {
+    assert!(rt; flags.len() == 128);
+    for card in 0..128 {
         assert_eq!(rt;
-            flags[card],
+            flags.get(card),
             card % 3 == 0 && card < 48 || card / 16 == 3 || card == 127,
             "{card}"
         );

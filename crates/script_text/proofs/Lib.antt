@@ -9,6 +9,7 @@ pub mod Seven
 pub mod Splitting
 pub mod Pieces
 pub mod ReadOn
+pub mod Stops
 pub mod RecordLaws
 pub mod Actions
 pub mod WriteLaws

@@ -5,10 +5,10 @@ use Rattle.std.specs.Prelude.{nat_lt, false}
 use Rattle.heap_words.specs.declared.config.Config.{Config}
 use Rattle.script_text.specs.declared.fault.Kind.TheVariants as kinds
 use Rattle.script_text.specs.Reading.{action_of, collection_of, heap_of}
-use Rattle.script_text.specs.Lines.{words_of, any_step_of, step_of, heap_line_of, step_line_of}
+use Rattle.script_text.specs.Lines.{words_of, step_of, heap_line_of, step_line_of}
 
 step_of_seven : (c : Config) (ws : List (List ℕ)) → step_of c (take 7 ws) ≡ step_of c ws
-unfolding step_of any_step_of action_of collection_of
+unfolding step_of action_of collection_of
 step_of_seven c [] = refl
 step_of_seven c (a ∷ []) = refl
 step_of_seven c (a ∷ b ∷ []) = refl

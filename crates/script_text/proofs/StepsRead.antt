@@ -14,9 +14,9 @@ use Rattle.object_graph.specs.declared.step.Step.TheVariants as steps
 use Rattle.script_text.specs.declared.fault.Kind.{Kind}
 use Rattle.script_text.specs.declared.fault.Kind.TheVariants as kinds
 use Rattle.script_text.specs.Reading.{number_of, small, action_of, collection_of, heap_of}
-use Rattle.script_text.specs.Fits.{StepFits, ConfigFits, is_step_yet}
+use Rattle.script_text.specs.Fits.{StepFits, ConfigFits}
 use Rattle.script_text.specs.Spelling.{action_words, collection_words, step_words, heap_words, spaced}
-use Rattle.script_text.specs.Lines.{◌>>=◌, or_fault, words_of, mutator_of, any_step_of, step_of, step_line_of, heap_line_of}
+use Rattle.script_text.specs.Lines.{◌>>=◌, or_fault, words_of, mutator_of, step_of, step_of, step_line_of, heap_line_of}
 use Rattle.script_text.proofs.Numbers.{number_of_is}
 use Rattle.script_text.proofs.Actions.{action_is}
 use Rattle.script_text.proofs.Collections.{collection_is, heap_is}
@@ -87,10 +87,10 @@ mutator_read c actor rest s e =
       fits = action.1;
     })
 
-any_step_is : (c : Config) (ws : List (List ℕ)) (s : Step) → any_step_of c ws ≡ Ok s → IsRead c ws s
-unfolding any_step_of
-any_step_is c [] s e = absurd cc
-any_step_is c (actor ∷ rest) s e =
+step_is : (c : Config) (ws : List (List ℕ)) (s : Step) → step_of c ws ≡ Ok s → IsRead c ws s
+unfolding step_of
+step_is c [] s e = absurd cc
+step_is c (actor ∷ rest) s e =
     elim (either (bytes_eq actor (codes "gc")) (or_fault (collection_of rest) kinds.BadStep >>= λ k. Ok (steps.Collector k)) (mutator_of c actor >>= λ m. or_fault (action_of rest) kinds.BadStep >>= λ a. Ok (mutator_step m a)) s e) [
       | inl h ↦ collector_read c actor rest s h.0 h.1
       | inr h ↦ mutator_read c actor rest s h.1
@@ -101,18 +101,14 @@ pub record IsLine (c : Config) (text : List ℕ) (s : Step) : Type 0 where
   pub spelled : text ≡ spaced (step_words s)
   pub owned : IsStep c s
   pub fits : StepFits s
-  pub yet : is_step_yet s ≡ true
 
 joined : (text : List ℕ) (ws : List (List ℕ)) → words_of text ≡ ws → text ≡ spaced ws
 joined text ws e = sym (join_with_byte-slice_split 32 text) ∙ ap spaced e
 
 words_line : (c : Config) (text : List ℕ) (s : Step) → step_of c (words_of text) ≡ Ok s → IsLine c text s
-unfolding step_of
 words_line c text s e =
-    let read = result_bind (any_step_of c (words_of text)) (λ t. cond (is_step_yet t) (Ok t) (Err kinds.BadStep)) s e in
-    let step = any_step_is c (words_of text) read.0 read.1 in
-    let yet = guarded (is_step_yet read.0) read.0 s kinds.BadStep read.2 in
-    subst (IsLine c text) yet.1 (record { spelled = joined text (step_words read.0) step.spelled; owned = step.owned; fits = step.fits; yet = yet.0 })
+    let step = step_is c (words_of text) s e in
+    record { spelled = joined text (step_words s) step.spelled; owned = step.owned; fits = step.fits }
 
 too_long : {A : Type 0} (b : Bool) (k : Kind) (r : Result A Kind) (x : A) → cond b (Err k) r ≡ Ok x → r ≡ Ok x
 too_long true k r x e = absurd cc

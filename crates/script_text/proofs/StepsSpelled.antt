@@ -17,9 +17,9 @@ use Rattle.object_graph.specs.declared.step.Step.{Step}
 use Rattle.object_graph.specs.declared.step.Step.TheVariants as steps
 use Rattle.script_text.specs.declared.fault.Kind.TheVariants as kinds
 use Rattle.script_text.specs.Reading.{small, large, collection_of, heap_of}
-use Rattle.script_text.specs.Fits.{Fits, CollectionFits, StepFits, ConfigFits, is_step_yet}
+use Rattle.script_text.specs.Fits.{Fits, CollectionFits, StepFits, ConfigFits}
 use Rattle.script_text.specs.Spelling.{action_words, collection_words, step_words, heap_words, spaced}
-use Rattle.script_text.specs.Lines.{or_fault, words_of, mutator_of, any_step_of, step_of, step_line_of, heap_line_of}
+use Rattle.script_text.specs.Lines.{or_fault, words_of, mutator_of, step_of, step_line_of, heap_line_of}
 use Rattle.script_text.proofs.Numbers.{number_of_some, first_is_digit}
 use Rattle.script_text.proofs.Actions.{action_again}
 use Rattle.script_text.proofs.Spelled.{IsWord, AreWords, literal, number_word, small_word, register_is_word, global_is_word, value_is_word, word1, word2, word3, word4, words_again, spaced_short, no_feed}
@@ -89,14 +89,10 @@ mutator_again : (c : Config) (m : ℕ) → m < c.mutators → c.mutators ≤ sma
 unfolding mutator_of
 mutator_again c m known fits = rw (number_of_some small (decimal m) m (omega arith) refl (omega arith), lt-ltb m c.mutators known) refl
 
-any_step_again : (c : Config) (s : Step) → c.mutators ≤ small → IsStep c s → StepFits s → any_step_of c (step_words s) ≡ Ok s
-unfolding any_step_of
-any_step_again c (steps.Mutator o) few known fits = rw (not_gc o.mutator (omega arith), mutator_again c o.mutator known few, action_again o.action fits) refl
-any_step_again c (steps.Collector k) few known fits = rw (collection_again k fits) refl
-
-step_again : (c : Config) (s : Step) → c.mutators ≤ small → IsStep c s → StepFits s → is_step_yet s ≡ true → step_of c (step_words s) ≡ Ok s
+step_again : (c : Config) (s : Step) → c.mutators ≤ small → IsStep c s → StepFits s → step_of c (step_words s) ≡ Ok s
 unfolding step_of
-step_again c s few known fits yet = rw (any_step_again c s few known fits, yet) refl
+step_again c (steps.Mutator o) few known fits = rw (not_gc o.mutator (omega arith), mutator_again c o.mutator known few, action_again o.action fits) refl
+step_again c (steps.Collector k) few known fits = rw (collection_again k fits) refl
 
 step_is_words : (c : Config) (s : Step) → c.mutators ≤ small → IsStep c s → StepFits s → AreWords (step_words s)
 step_is_words c (steps.Mutator o) few known fits = All-cons IsWord (decimal o.mutator) (action_words o.action) (small_word o.mutator (omega arith)) (action_is_words o.action fits)
@@ -118,10 +114,10 @@ step_words_again c (steps.Mutator o) few known fits = words_again (decimal o.mut
 step_words_again c (steps.Collector k) few known fits = words_again (codes "gc") (collection_words k) (step_is_words c (steps.Collector k) few known fits)
 
 -- the line of a step is read as that step
-pub step_line_again : (c : Config) (s : Step) → c.mutators ≤ small → IsStep c s → StepFits s → is_step_yet s ≡ true → step_line_of c (spaced (step_words s)) ≡ Ok s
+pub step_line_again : (c : Config) (s : Step) → c.mutators ≤ small → IsStep c s → StepFits s → step_line_of c (spaced (step_words s)) ≡ Ok s
 unfolding step_line_of
-step_line_again c s few known fits yet =
-    rw (le-ltb 120 (length (spaced (step_words s))) (step_short c s few known fits)) (ap (step_of c) (step_words_again c s few known fits) ∙ step_again c s few known fits yet)
+step_line_again c s few known fits =
+    rw (le-ltb 120 (length (spaced (step_words s))) (step_short c s few known fits)) (ap (step_of c) (step_words_again c s few known fits) ∙ step_again c s few known fits)
 
 -- no line feed stands in the line of a step
 pub step_no_feed : (c : Config) (s : Step) → c.mutators ≤ small → IsStep c s → StepFits s → All (λ b. eqb b 10 ≡ false) (spaced (step_words s))

@@ -1,5 +1,5 @@
 -- The scripts that have a text.
-use Rattle.std.specs.Prelude.{◌≤◌, Bool, true, false, All, IsTrue}
+use Rattle.std.specs.Prelude.{◌≤◌, All}
 use Rattle.heap_words.specs.declared.config.Config.{Config}
 use Rattle.object_graph.specs.Actors.{StepList, AreSteps}
 use Rattle.object_graph.specs.declared.step.Action.{Action}
@@ -42,19 +42,8 @@ pub record ConfigFits (c : Config) : Type 0 where
   pub mutators : c.mutators ≤ small
   pub first_name : c.first_name ≤ large
 
--- the steps that a script may have yet: all but a pause
-abbrev pub is_step_yet : Step → Bool
-is_step_yet (steps.Mutator o) = true
-is_step_yet (steps.Collector collector.Begin) = true
-is_step_yet (steps.Collector (collector.Mark k)) = true
-is_step_yet (steps.Collector collector.Remark) = true
-is_step_yet (steps.Collector collector.Cleanup) = true
-is_step_yet (steps.Collector (collector.Refine k)) = true
-is_step_yet (steps.Collector (collector.Pause b)) = true
-
 -- a script that has a text
 pub record IsScript (p : StepList) : Type 0 where
   pub config : ConfigFits p.config
   pub owned : AreSteps p.config p.steps
   pub fits : All StepFits p.steps
-  pub yet : All (λ s. IsTrue (is_step_yet s)) p.steps

@@ -16,7 +16,7 @@ pub(crate) fn put_byte(buffer: &mut [u8], at: usize, byte: u8) -> usize
 }
 
 /// Puts a text behind the first `at` bytes, and answers where it ends.
-pub(crate) fn put_text(buffer: &mut [u8], at: usize, text: &[u8]) -> usize
+pub fn put_text(buffer: &mut [u8], at: usize, text: &[u8]) -> usize
     requires { at + length text.now ≤ length buffer.old }
     ensures put { take result buffer.new ≡ take at buffer.old ++ text.now }
     ensures end { result ≡ at + length text.now }

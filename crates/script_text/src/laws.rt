@@ -18,7 +18,7 @@ pub fn spelled_is_read()
     ensures { (p : StepList) → IsScript p → script_of (script_text p) ≡ Ok p }
 {}
 
-/// Of any mutator's step, a script's yet or not: its words are read as that step, and no others are.
+/// Of any mutator's step: its words are read as that step, and no others are.
 pub fn action_is_read()
     ensures again { (a : Action) → Fits a → action_of (action_words a) ≡ Some a }
     ensures only { (ws : List (List ℕ)) (a : Action) → action_of ws ≡ Some a → (ws ≡ action_words a) × Fits a }

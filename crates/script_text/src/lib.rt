@@ -13,6 +13,8 @@
 //!   What is read of a text is spelled so in the whole of it, and each script's text is read as that script.
 //! - `write_record` appends the text of a record and no more, or a beginning of it and a fault. It holds one
 //!   buffer, however long the record is.
+//! - `put_text`, `put_fault` and `write_bytes` are for other lines of a program: they put texts into a buffer, and write
+//!   bytes in their order.
 #![tactic(auto)]
 
 mod bytes;
@@ -27,8 +29,9 @@ mod tests;
 mod words;
 mod writing;
 
-pub use fault::{Kind, LineFault, ReadFault, WriteFault};
+pub use bytes::put_text;
+pub use fault::{Kind, LineFault, ReadFault, WriteFault, put_fault};
 pub use input::read_text;
 pub use laws::{action_is_read, read_is_spelled, spelled_is_read};
 pub use script::parse;
-pub use writing::write_record;
+pub use writing::{write_bytes, write_record};

@@ -68,9 +68,10 @@ fn step_line(config: &Config, line: &Line) -> Result<Step, Kind>
     step(config, line.words())
 }
 
-/// The plan that a script's text spells, or the first fault of the text.
+/// The plan that a script's text spells, or the first fault of the text. Where memory is refused, the line at which it was wanted: no
+/// line up to that one has a fault.
 pub fn parse(alloc: Global, text: &[u8]) -> Result<Plan, LineFault>
-    ensures { Gives (λ p. p) result (script_of text.now) }
+    ensures { Gives result text.now (script_of text.now) }
 {
     let Some(first) = first_line(text) else {
         if text.is_empty() {

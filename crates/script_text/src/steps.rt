@@ -2,8 +2,7 @@
 
 ghost use Rattle.std.specs.Prelude.{◌≡◌, ◌<◌, map, IfOk};
 ghost use Rattle.script_text.specs.Reading.{number_of, small, register_of, global_of, value_of, new_of, get_of, put_of, write_of, read_of, move_of, drop_of, load_of, save_of, shape_of, long_action_of, pair_action_of, lone_action_of, action_of, collection_of};
-ghost use Rattle.script_text.specs.Lines.{mutator_of, any_step_of, step_of};
-ghost use Rattle.script_text.specs.Fits.{is_step_yet};
+ghost use Rattle.script_text.specs.Lines.{mutator_of, step_of};
 ghost use Rattle.object_graph.specs.Actors.{IsStep};
 
 use crate::fault::Kind;
@@ -230,9 +229,9 @@ fn mutator(config: &Config, word: &[u8]) -> Result<u32, Kind>
 }
 
 /// A step of its actor.
-#[tactic(auto, unfolding(crate::specs::Lines::any_step_of))]
-fn any_step(config: &Config, words: &[&[u8]]) -> Result<Step, Kind>
-    ensures exact { result ≡ any_step_of config.now (map (λ w. w.now) words.now) }
+#[tactic(auto, unfolding(crate::specs::Lines::step_of))]
+pub(crate) fn step(config: &Config, words: &[&[u8]]) -> Result<Step, Kind>
+    ensures exact { result ≡ step_of config.now (map (λ w. w.now) words.now) }
     ensures known { IfOk result (IsStep config.now) }
 {
     let [actor, rest @ ..] = words else {
@@ -249,29 +248,4 @@ fn any_step(config: &Config, words: &[&[u8]]) -> Result<Step, Kind>
         return Err(Kind::BadStep);
     };
     Ok(Step::Mutator(Op { mutator, action }))
-}
-
-/// Whether a script may have this step yet.
-fn is_yet(step: &Step) -> bool
-    ensures { result ≡ is_step_yet step.now }
-{
-    match step {
-        Step::Mutator(_) => true,
-        Step::Collector(CollectorStep::Pause(_)) => true,
-        Step::Collector(_) => true,
-    }
-}
-
-/// A step of its actor that a script may have.
-#[tactic(auto, unfolding(crate::specs::Lines::step_of))]
-pub(crate) fn step(config: &Config, words: &[&[u8]]) -> Result<Step, Kind>
-    ensures exact { result ≡ step_of config.now (map (λ w. w.now) words.now) }
-    ensures known { IfOk result (IsStep config.now) }
-{
-    let step = any_step(config, words)?;
-    if is_yet(&step) {
-        Ok(step)
-    } else {
-        Err(Kind::BadStep)
-    }
 }

@@ -20,7 +20,8 @@ const CONFIG: Config = Config {
 
 #[test]
 fn good_script(rt: HostRuntime) -> Result<(), Fail> {
-    let text = b"heap 4 16 8 2 0\n0 new r0 1 4294967295\n1 get r7 r0 0\n0 read r1 10\n";
+    let text =
+        b"heap 4 16 8 2 0\n0 new r0 1 4294967295\n1 get r7 r0 0\n0 read r1 10\ngc pause 4294967295\n";
     let Ok(plan) = parse(rt.alloc(), text) else {
         return Err(Fail::from("this is a script"));
     };
@@ -49,6 +50,7 @@ fn good_script(rt: HostRuntime) -> Result<(), Fail> {
                 field: 10,
             },
         }),
+        Step::Collector(CollectorStep::Pause(4_294_967_295)),
     ];
     assert_eq!(rt; plan.steps(), steps.as_slice());
     Ok(())
@@ -65,7 +67,7 @@ fn fault_of(alloc: Global, text: &[u8]) -> Option<LineFault> {
 #[test]
 fn faults(rt: HostRuntime) -> Result<(), Fail> {
     let alloc = rt.alloc();
-    let rows: [(&str, u64, Kind); 22] = [
+    let rows: [(&str, u64, Kind); 24] = [
         ("", 1, Kind::BadHeap),
         ("\n", 1, Kind::BadHeap),
         ("heap 4 16 8 1 0", 1, Kind::Cut),
@@ -86,6 +88,8 @@ fn faults(rt: HostRuntime) -> Result<(), Fail> {
         ("heap 4 16 8 1 0\nm0 mark 4\n", 2, Kind::BadActor),
         ("heap 4 16 8 1 0\n0 begin\n", 2, Kind::BadStep),
         ("heap 4 16 8 1 0\n\n", 2, Kind::BadActor),
+        ("heap 4 16 8 1 0\ngc pause\n", 2, Kind::BadStep),
+        ("heap 4 16 8 1 0\ngc pause 4294967296\n", 2, Kind::BadStep),
         ("heap 4 16 8 1 0\n0 read r0 0\nx\ny\n", 3, Kind::BadActor),
         ("heap 4 16 8 1 0\nx\n0 read r0 0", 2, Kind::BadActor),
     ];

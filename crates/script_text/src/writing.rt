@@ -14,7 +14,7 @@ use std::io::Write;
 const ROOM: usize = 8192;
 
 /// Writes bytes in their order. Where it fails, a beginning of them is written.
-fn write_bytes<W: Write>(writer: &mut W, bytes: &[u8]) -> Result<(), WriteFault>
+pub fn write_bytes<W: Write>(writer: &mut W, bytes: &[u8]) -> Result<(), WriteFault>
     ensures ok { OnOk result (Appends (W.contents writer.old) (W.contents writer.new) bytes.now) }
     ensures err { OnErr result ((n : ℕ) × (n < length bytes.now) × Appends (W.contents writer.old) (W.contents writer.new) (take n bytes.now)) }
     ensures memory { result ≢ Err WriteFault.NoMemory }

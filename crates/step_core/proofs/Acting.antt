@@ -52,8 +52,8 @@ values_there c a x e = ap object_values (object_kept c a x e)
 
 pub field_word : (c : CoreState) (place a i : ℕ) (w : Option ℕ) → IsCore c → Leads c place (Some a) → slice_get (pointers_at c.table a) i ≡ Some w → IsWordOf (heap_of c) w
 field_word c place a i w k l e =
-    let h = l k.graph k.stands.shows in
-    let f = field_shown k.graph c place a i w h (ap (λ (ps : List (Option ℕ)). slice_get ps i) (sym (pointers_there c a h.stored h.at)) ∙ e) in
+    let h = l k.state.graph k.stands.shows in
+    let f = field_shown k.state.graph c place a i w h (ap (λ (ps : List (Option ℕ)). slice_get ps i) (sym (pointers_there c a h.stored h.at)) ∙ e) in
     record { name = f.name; shown = f.shown }
 
 -- the core with another object of the same name at an address

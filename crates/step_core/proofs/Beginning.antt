@@ -24,7 +24,9 @@ use Rattle.cards.specs.Cards.{clean_cards, is_dirty}
 use Rattle.remembered_sets.specs.Sets.{empty_sets, empty_set, covers}
 use Rattle.refinement.proofs.Remembered.{remembers_none}
 use Rattle.evacuation.specs.Rooms.{RoomSizes}
-use Rattle.step_core.specs.Stands.{IsRoomFor, CoreState, kept_of, heap_of, card_words, CardsFit, ShowsGraph, Stands, IsCore}
+use Rattle.heap_words.specs.Configs.{card_words}
+use Rattle.step_core.specs.Fresh.{fresh_state}
+use Rattle.step_core.specs.Stands.{IsRoomFor, CoreState, kept_of, heap_of, CardsFit, ShowsGraph, Stands, IsCore}
 use Rattle.step_core.proofs.Reading.{object_kept}
 use Rattle.step_core.proofs.Small.{words_none}
 
@@ -63,7 +65,7 @@ first_shows g m d r = record {
   };
 }
 
-pub first_stands : (g : Config) (m : Marker) (d : RoomSizes) (r : ℕ) → m.running ≡ false → Stands (first_state g) (first_state g) (first_core g m d r)
+pub first_stands : (g : Config) (m : Marker) (d : RoomSizes) (r : ℕ) → m.running ≡ false → Stands (fresh_state g) (first_core g m d r)
 first_stands g m d r idle = record { shows = first_shows g m d r; keeps = record { earlier = omega arith; marking = λ run. absurd cc } }
 
 no_buffer : (n m : ℕ) (x : Buffer) → slice_get (replicate {A = Option Buffer} n None) m ≡ Some (Some x) → ⊥
@@ -147,12 +149,11 @@ first_is g m d r stand suits to rows names idle logs stands =
         ends_next = λ k a o i lt. let none = words_none t a (nothing_at g.regions g.words a) in omega (arith, none, lt);
       };
       cards = first_cards g suits;
-      remembers = remembers_none (first_core g m d r).table.words_per_region card_words (kept_of (first_core g m d r)) (is_dirty (first_core g m d r).cards) (covers (first_core g m d r).sets) (first_none g m d r);
+      remembers = remembers_none (first_core g m d r).table.words_per_region (card_words g) (kept_of (first_core g m d r)) (is_dirty (first_core g m d r).cards) (covers (first_core g m d r).sets) (first_none g m d r);
       room = to;
       rows = rows;
       places = length-replicate (16 + 8 * g.mutators) None;
       names = names;
-      graph = first_state g;
-      snapshot = first_state g;
+      state = record { graph = first_state g; snapshot = first_state g };
       stands = first_stands g m d r idle;
     }

@@ -28,7 +28,8 @@ use Rattle.refinement.proofs.Remembered.{remembers_cleared, none_leads}
 use Rattle.heap_model.proofs.Shown.{closed}
 use Rattle.step_core.proofs.Remembering.{same_fields}
 use Rattle.step_core.proofs.Small.{halves_left, ends_left, words_by, ordinary_known}
-use Rattle.step_core.specs.Stands.{CoreState, kept_of, heap_of, card_words, RemembersFields, CardsFit, ShowsGraph, KeepsFrom, IsCore}
+use Rattle.heap_words.specs.Configs.{card_words}
+use Rattle.step_core.specs.Stands.{CoreState, kept_of, heap_of, RemembersFields, CardsFit, ShowsGraph, KeepsFrom, IsCore}
 use Rattle.step_core.specs.Reclaimed.{IsReclaimed}
 use Rattle.step_core.specs.Cycle.{IsDead, IsAsNew, IsAsBefore, ChangesRegions, HasReleased, HasCleaned}
 
@@ -153,15 +154,15 @@ module _ (k : CoreState) (core : IsCore k) (shaped : IsShaped k.table) (n : ℕ)
 
   remembers_after : RemembersFields after
   remembers_after =
-      let shows = release_shows core.graph core.stands.shows in
-      let none = none_leads k.table.words_per_region n (heap_of after) shaped.positive (closed core.graph (heap_of after) shows.shows) none_there in
-      subst (λ (w : ℕ). Remembers w (kept_of after) card_words (is_dirty k.cards) (covers ss)) (sym releases.size)
-      (remembers_cleared k.table.words_per_region card_words n (kept_of k) (kept_of after) (is_dirty k.cards) (covers k.sets) (covers ss)
+      let shows = release_shows core.state.graph core.stands.shows in
+      let none = none_leads k.table.words_per_region n (heap_of after) shaped.positive (closed core.state.graph (heap_of after) shows.shows) none_there in
+      subst (λ (w : ℕ). Remembers w (kept_of after) (card_words k.config) (is_dirty k.cards) (covers ss)) (sym releases.size)
+      (remembers_cleared k.table.words_per_region (card_words k.config) n (kept_of k) (kept_of after) (is_dirty k.cards) (covers k.sets) (covers ss)
       (same_fields (kept_of k) (kept_of after) kept_same) none covers_others core.remembers)
 
   cards_fit : CardsFit k.config k.cards ss
   cards_fit = record {
-    whole_cards = core.cards.whole_cards ∙ ap (λ (x : Sets). x.cards_per_region * card_words) (sym empty);
+    whole_cards = core.cards.whole_cards ∙ ap (λ (x : Sets). x.cards_per_region * card_words k.config) (sym empty);
     each_region = ap (λ (x : Sets). length x.sets) empty ∙ length-set k.sets.sets n (empty_set (length k.sets.sets)) ∙ core.cards.each_region;
     each_card = core.cards.each_card ∙ ap (λ (c : ℕ). c * k.sets.cards_per_region) (sym (length-set k.sets.sets n (empty_set (length k.sets.sets)))) ∙ sym (ap (λ (x : Sets). card_count x) empty);
     each_mutator = core.cards.each_mutator;
@@ -208,9 +209,8 @@ module _ (k : CoreState) (core : IsCore k) (shaped : IsShaped k.table) (n : ℕ)
         rows = core.rows;
         places = core.places;
         names = core.names;
-        graph = core.graph;
-        snapshot = core.snapshot;
-        stands = record { shows = release_shows core.graph core.stands.shows; keeps = release_keeps core.snapshot core.stands.keeps };
+        state = core.state;
+        stands = record { shows = release_shows core.state.graph core.stands.shows; keeps = release_keeps core.state.snapshot core.stands.keeps };
       }
 
   -- the live bounds of the other regions

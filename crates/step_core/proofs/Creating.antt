@@ -139,8 +139,8 @@ module _ (k : CoreState) (m : ℕ) (to : Register) (t1 t2 : Table) (b1 : Buffers
 
   pub new_kept : IsCore (with_new k t2 b1 (register_place m to.number) a)
   new_kept =
-      let shows = (new_acts core.graph core.stands.shows).shows in
-      let keeps = new_keeps core.snapshot core.stands.keeps in
+      let shows = (new_acts core.state.graph core.stands.shows).shows in
+      let keeps = new_keeps core.state.snapshot core.stands.keeps in
       let previous = above_after (slice_index k.marker.tams.previous) core.layers.above_previous in
       let next = above_after (slice_index k.marker.tams.next) core.layers.above_next in
       record {
@@ -155,7 +155,7 @@ module _ (k : CoreState) (m : ℕ) (to : Register) (t1 t2 : Table) (b1 : Buffers
           unmoved = filled.unmoved;
           marker = stands_over k.table t2 k.marker core.layers.marker (filled.region_count ∙ placed.count) words
               (λ j lt. previous.tops j (rw (filled.region_count, placed.count) lt)) (λ j lt. next.tops j (rw (filled.region_count, placed.count) lt)) still
-              (follows_of (new (register_place m to.number)) _ core.snapshot shows keeps);
+              (follows_of (new (register_place m to.number)) _ core.state.snapshot shows keeps);
           above_previous = previous;
           above_next = next;
           room = core.layers.room;
@@ -169,8 +169,7 @@ module _ (k : CoreState) (m : ℕ) (to : Register) (t1 t2 : Table) (b1 : Buffers
         rows = core.rows;
         places = length-set k.roots (register_place m to.number) (Some a) ∙ core.places;
         names = (let old = core.names in omega arith);
-        graph = (act core.graph m (actions.New to p d)).1;
-        snapshot = core.snapshot;
+        state = record { graph = (act core.state.graph m (actions.New to p d)).1; snapshot = core.state.snapshot };
         stands = record { shows = shows; keeps = keeps };
       }
     where

@@ -36,7 +36,7 @@ to_fields k c e P p = subst P (sym e) p
 -- marking can begin
 pub can_begin : (k : CoreState) → IsCore k → IsClosed (views.heap_of k.table k.roots k.marker)
 unfolding kept_of
-can_begin k core = closed core.graph (heap_of k) core.stands.shows.shows
+can_begin k core = closed core.state.graph (heap_of k) core.stands.shows.shows
 
 -- the same heap is shown
 shows_same : (c : CoreState) (b : Buffers) (m : Marker) → views.heap_of c.table c.roots m ≡ views.heap_of c.table c.roots c.marker → (g : Graph) → ShowsGraph g c → ShowsGraph g (with_marker c b m)
@@ -105,9 +105,8 @@ module _ (k : CoreState) (core : IsCore k) (b : Buffers) (m : Marker) (retires :
     rows = core.rows;
     places = core.places;
     names = core.names;
-    graph = core.graph;
-    snapshot = core.graph;
-    stands = record { shows = begun_shows core.graph core.stands.shows; keeps = begun_keeps core.graph core.stands.shows };
+    state = record { graph = core.state.graph; snapshot = core.state.graph };
+    stands = record { shows = begun_shows core.state.graph core.stands.shows; keeps = begun_keeps core.state.graph core.stands.shows };
   }
 
 -- marking goes on
@@ -121,7 +120,7 @@ module _ (k : CoreState) (core : IsCore k) (run : k.marker.running ≡ true) (m 
 
   pub marked_keeps : (s : Graph) → KeepsFrom s k → KeepsFrom s (with_marker k k.buffers m)
   unfolding kept_of
-  marked_keeps s f = record { earlier = f.earlier; marking = λ on. snapshots s core.graph k.roots core.stands.shows.shows (f.marking run) }
+  marked_keeps s f = record { earlier = f.earlier; marking = λ on. snapshots s core.state.graph k.roots core.stands.shows.shows (f.marking run) }
 
   has_marked : (units n : ℕ) → n ≤ units → (n < units → HasNone (is_grey m.bitmaps.next m.grey) 0) → IsMore k.marker.scans m.scans n
       → marked_count m.grey.scanned ≡ marked_count k.marker.grey.scanned + n → Grows k.marker m → HasMarked units k (with_marker k k.buffers m)
@@ -151,9 +150,8 @@ module _ (k : CoreState) (core : IsCore k) (run : k.marker.running ≡ true) (m 
     rows = core.rows;
     places = core.places;
     names = core.names;
-    graph = core.graph;
-    snapshot = core.snapshot;
-    stands = record { shows = marked_shows core.graph core.stands.shows; keeps = marked_keeps core.snapshot core.stands.keeps };
+    state = core.state;
+    stands = record { shows = marked_shows core.state.graph core.stands.shows; keeps = marked_keeps core.state.snapshot core.stands.keeps };
   }
 
 -- logs that hold nothing together are empty
@@ -172,14 +170,14 @@ module _ (k : CoreState) (core : IsCore k) (run : k.marker.running ≡ true) (m 
     room = s.room;
     mutators = s.mutators;
     next = s.next;
-    shows = (exact.ends core.snapshot g k.roots s.shows (core.stands.keeps.marking run)).shows;
+    shows = (exact.ends core.state.snapshot g k.roots s.shows (core.stands.keeps.marking run)).shows;
   }
 
   -- what is kept then was kept before
   remarked_remembers : RemembersFields (with_marker k k.buffers m)
   unfolding kept_of
   remarked_remembers =
-      let ends = exact.ends core.snapshot core.graph k.roots core.stands.shows.shows (core.stands.keeps.marking run) in
+      let ends = exact.ends core.state.snapshot core.state.graph k.roots core.stands.shows.shows (core.stands.keeps.marking run) in
       remembers_on k (with_marker k k.buffers m) refl refl refl (λ a o e. (o, ends.kept a o e, refl)) core.remembers
 
   pub remarked_keeps : (s : Graph) → KeepsFrom s k → KeepsFrom s (with_marker k k.buffers m)
@@ -192,7 +190,7 @@ module _ (k : CoreState) (core : IsCore k) (run : k.marker.running ≡ true) (m 
     has_remarked = record {
       same = refl;
       over = over;
-      ends = λ g s stands. exact.ends s g k.roots stands.shows.shows (stands.keeps.marking run);
+      ends = λ s stands. exact.ends s.snapshot s.graph k.roots stands.shows.shows (stands.keeps.marking run);
       quiet = λ g stands. exact.quiet g k.roots stands.shows.shows (stands.keeps.marking run);
       scans = scans;
       counted = counted;
@@ -230,7 +228,6 @@ module _ (k : CoreState) (core : IsCore k) (run : k.marker.running ≡ true) (m 
     rows = core.rows;
     places = core.places;
     names = core.names;
-    graph = core.graph;
-    snapshot = core.snapshot;
-    stands = record { shows = remarked_shows core.graph core.stands.shows; keeps = remarked_keeps core.snapshot core.stands.keeps };
+    state = core.state;
+    stands = record { shows = remarked_shows core.state.graph core.stands.shows; keeps = remarked_keeps core.state.snapshot core.stands.keeps };
   }

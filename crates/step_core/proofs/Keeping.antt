@@ -58,7 +58,7 @@ module _ (k c : CoreState) (place : ℕ) (w : Option ℕ) (e : k ≡ c) where
     held' = subst (λ (d : CoreState). IsHeld (heap_of d) w) (sym e) held
 
     pub root_kept_from : (s : Graph) → KeepsFrom s c → KeepsFrom s (with_root_word k place w)
-    root_kept_from s = subst (λ (d : CoreState). KeepsFrom s d → KeepsFrom s (with_root_word k place w)) e (root_keeps core.graph s k place w _ core.stands.shows held' refl)
+    root_kept_from s = subst (λ (d : CoreState). KeepsFrom s d → KeepsFrom s (with_root_word k place w)) e (root_keeps core.state.graph s k place w _ core.stands.shows held' refl)
 
     root_remembers : RemembersFields (with_root_word k place w)
     unfolding kept_of
@@ -79,11 +79,10 @@ module _ (k c : CoreState) (place : ℕ) (w : Option ℕ) (e : k ≡ c) where
           rows = core.rows;
           places = length-set k.roots place w ∙ core.places;
           names = core.names;
-          graph = with_root core.graph place word'.name;
-          snapshot = core.snapshot;
+          state = record { graph = with_root core.state.graph place word'.name; snapshot = core.state.snapshot };
           stands = record {
-            shows = root_shows core.graph k place w word'.name core.stands.shows word'.shown;
-            keeps = root_keeps core.graph core.snapshot k place w _ core.stands.shows held' refl core.stands.keeps;
+            shows = root_shows core.state.graph k place w word'.name core.stands.shows word'.shown;
+            keeps = root_keeps core.state.graph core.state.snapshot k place w _ core.stands.shows held' refl core.stands.keeps;
           };
         }
 
@@ -112,8 +111,8 @@ module _ (k c : CoreState) (e : k ≡ c) (core : IsCore k) (m : ℕ) (object : R
   pub write_after : (g : Graph) → ShowsGraph g c → Acts g m (actions.Write object i v) replies.Done (record k { table = t })
   write_after g s = write_by g (subst (λ (d : CoreState). ShowsGraph g d) (sym e) s)
 
-  h : HasObject core.graph k (register_place m object.number) a
-  h = subst (λ (d : CoreState). Leads d (register_place m object.number) (Some a)) (sym e) l core.graph core.stands.shows
+  h : HasObject core.state.graph k (register_place m object.number) a
+  h = subst (λ (d : CoreState). Leads d (register_place m object.number) (Some a)) (sym e) l core.state.graph core.stands.shows
 
   writes : WritesObject k.table t a h.stored (with_value h.stored i v)
   writes = subst (λ (u : Table). WritesObject k.table u a h.stored (with_value h.stored i v)) (sym is) (value_put k.table a i v h.stored (some_words k core) (object_kept k a h.stored h.at))
@@ -132,11 +131,11 @@ module _ (k c : CoreState) (e : k ≡ c) (core : IsCore k) (m : ℕ) (object : R
 
   pub write_kept : IsCore (record k { table = t })
   write_kept =
-      let shows = (write_by core.graph core.stands.shows).shows in
-      let keeps = keeps_by core.snapshot core.stands.keeps in
+      let shows = (write_by core.state.graph core.stands.shows).shows in
+      let keeps = keeps_by core.state.snapshot core.stands.keeps in
       record {
         suits = core.suits;
-        layers = layers_writes k.config k.table t k.buffers k.marker a h.stored (with_value h.stored i v) writes core.layers (follows_of (record k { table = t }) _ core.snapshot shows keeps) (ap (λ (n : ℕ). 2 + length h.stored.pointers + n) (length-set h.stored.values i v));
+        layers = layers_writes k.config k.table t k.buffers k.marker a h.stored (with_value h.stored i v) writes core.layers (follows_of (record k { table = t }) _ core.state.snapshot shows keeps) (ap (λ (n : ℕ). 2 + length h.stored.pointers + n) (length-set h.stored.values i v));
         cards = core.cards;
         remembers = remembers_on k (record k { table = t }) writes.size refl refl
             (written_fields (heap_of k) (heap_of (record k { table = t })) a h.stored (with_value h.stored i v) write_set refl) core.remembers;
@@ -144,8 +143,7 @@ module _ (k c : CoreState) (e : k ≡ c) (core : IsCore k) (m : ℕ) (object : R
         rows = core.rows;
         places = core.places;
         names = core.names;
-        graph = (act core.graph m (actions.Write object i v)).1;
-        snapshot = core.snapshot;
+        state = record { graph = (act core.state.graph m (actions.Write object i v)).1; snapshot = core.state.snapshot };
         stands = record { shows = shows; keeps = keeps };
       }
 
@@ -162,5 +160,5 @@ field_of k c place a i w e core l is = field_word c place a i w (core_of k c e c
 -- what the field of an object that a register names holds, can be stored
 pub field_can_be_stored : (k c : CoreState) (place a i : ℕ) (w : Option ℕ) → k ≡ c → IsCore k → Leads c place (Some a) → IsRoot (heap_of c) a → slice_get (pointers_at k.table a) i ≡ Some w → IsHeld (heap_of c) w
 field_can_be_stored k c place a i w e core l root is =
-    let h = l core.graph (subst (λ (d : CoreState). ShowsGraph core.graph d) e core.stands.shows) in
+    let h = l core.state.graph (subst (λ (d : CoreState). ShowsGraph core.state.graph d) e core.stands.shows) in
     field_held c a i h.stored w root h.at (ap (λ (ps : List (Option ℕ)). slice_get ps i) (sym (pointers_there c a h.stored h.at) ∙ sym (pointers_of k c a e)) ∙ is)

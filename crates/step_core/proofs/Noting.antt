@@ -14,7 +14,8 @@ use Rattle.std.proofs.lemmas.Bool.Decides.{nat_tests}
 use Rattle.remembered_sets.specs.Sets.{covers}
 use Rattle.refinement.specs.Remembering.{field_word, IsNoted}
 use Rattle.refinement.proofs.Remembered as remembered
-use Rattle.step_core.specs.Stands.{CoreState, kept_of, heap_of, card_words, ShowsGraph, KeepsFrom, IsCore}
+use Rattle.heap_words.specs.Configs.{card_words}
+use Rattle.step_core.specs.Stands.{CoreState, kept_of, heap_of, ShowsGraph, KeepsFrom, IsCore}
 use Rattle.step_core.proofs.Reading.{object_kept, pointers_there}
 use Rattle.step_core.proofs.Storing.{rooted}
 
@@ -36,7 +37,7 @@ below word n cards lt =
     omega (arith, same, lt)
 
 -- and its card is one of the cards
-pub card_inside : (k : CoreState) (word : ℕ) → IsCore k → word < length k.table.regions * k.table.words_per_region → word / card_words < length k.cards.dirty
+pub card_inside : (k : CoreState) (word : ℕ) → IsCore k → word < length k.table.regions * k.table.words_per_region → word / card_words k.config < length k.cards.dirty
 card_inside k word core lt =
     let fit = core.cards in
     let words : k.table.words_per_region ≡ k.sets.cards_per_region * 8 = core.layers.region_size ∙ fit.whole_cards in
@@ -60,8 +61,8 @@ module _ (k : CoreState) (core : IsCore k) (m card : ℕ) (cs : Cards) (known : 
   pub now_dirty : is_dirty cs card ≡ true
   now_dirty = ap (λ (x : Cards). is_dirty x card) is ∙ dirty_after k.cards m card card known ∙ same_card card (is_dirty k.cards card)
 
-  pub noted_so : (a i : ℕ) (target : Option ℕ) (to : ℕ) → target ≡ Some to → card ≡ field_word a i / 8 → IsNoted k.table.words_per_region card_words (is_dirty cs) (field_word a i) target
-  noted_so a i target to e at = subst (λ (t : Option ℕ). IsNoted k.table.words_per_region card_words (is_dirty cs) (field_word a i) t) (sym e)
+  pub noted_so : (a i : ℕ) (target : Option ℕ) (to : ℕ) → target ≡ Some to → card ≡ field_word a i / 8 → IsNoted k.table.words_per_region (card_words k.config) (is_dirty cs) (field_word a i) target
+  noted_so a i target to e at = subst (λ (t : Option ℕ). IsNoted k.table.words_per_region (card_words k.config) (is_dirty cs) (field_word a i) t) (sym e)
       (inr (ap (is_dirty cs) (sym at) ∙ now_dirty))
 
   pub dirtied_kept : IsCore (record k { cards = cs })
@@ -75,15 +76,14 @@ module _ (k : CoreState) (core : IsCore k) (m card : ℕ) (cs : Cards) (known : 
       each_card = cards ∙ core.cards.each_card;
       each_mutator = mutators ∙ core.cards.each_mutator;
     };
-    remembers = remembered.remembers_on k.table.words_per_region card_words (kept_of k) (kept_of k) (is_dirty k.cards) (is_dirty cs) (covers k.sets) (covers k.sets)
+    remembers = remembered.remembers_on k.table.words_per_region (card_words k.config) (kept_of k) (kept_of k) (is_dirty k.cards) (is_dirty cs) (covers k.sets) (covers k.sets)
         (λ a i v x. inl x) stays (λ a i v c x e. e) core.remembers;
     room = core.room;
     rows = core.rows;
     places = core.places;
     names = core.names;
-    graph = core.graph;
-    snapshot = core.snapshot;
-    stands = record { shows = shows_too core.graph core.stands.shows; keeps = keeps_too core.snapshot core.stands.keeps };
+    state = core.state;
+    stands = record { shows = shows_too core.state.graph core.stands.shows; keeps = keeps_too core.state.snapshot core.stands.keeps };
   }
     where
       shows_too : (g : Graph) → ShowsGraph g k → ShowsGraph g (record k { cards = cs })

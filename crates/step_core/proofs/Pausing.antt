@@ -33,9 +33,10 @@ use Rattle.marker.specs.declared.marker.Marker.{Marker}
 use Rattle.region_choice.specs.declared.LiveRow.{LiveRow}
 use Rattle.evacuation.specs.Rooms.{RoomSizes}
 use Rattle.evacuation.specs.Evacuates.{Layers, CanEvacuate, HasEvacuated, IsRow, IsNewSet, IsSameBut, MarksAfter, is_chosen, set_in}
-use Rattle.step_core.specs.Stands.{CoreState, kept_of, heap_of, marking_of, card_words, EndsBelow, ShowsGraph, KeepsFrom, LayersFit, IsCore}
+use Rattle.heap_words.specs.Configs.{card_words}
+use Rattle.step_core.specs.Stands.{CoreState, kept_of, heap_of, marking_of, EndsBelow, ShowsGraph, KeepsFrom, LayersFit, IsCore}
 use Rattle.step_core.specs.Reclaimed.{IsReclaimed}
-use Rattle.step_core.specs.Pause.{IsChosen, IsRowOf, IsCandidateRow, IsReady, HasPaused}
+use Rattle.step_core.specs.Pause.{IsChosen, IsRowOf, IsCandidateRow, IsReady, EvacuatesBest, HasPaused, layers_of}
 use Rattle.heap_words.specs.declared.config.Config.{Config}
 use Rattle.step_core.proofs.CopiedNames.{copied_names}
 use Rattle.step_core.proofs.Layers.{follows_of}
@@ -44,10 +45,6 @@ use Rattle.step_core.proofs.Refined.{can_scan}
 use Rattle.step_core.proofs.Sizes.{some_words}
 use Rattle.step_core.proofs.Small.{option_is, free_region, words_are, words_none, kind_cases, ordinary_known}
 use Rattle.step_core.proofs.Chosen.{chosen_rows, chosen_candidates, chosen_distinct, chosen_room, chosen_within, chosen_ordinary, chosen_new}
-
--- the layers of a core that a pause works on
-abbrev pub layers_of : CoreState → Layers
-layers_of c = record { table = c.table; tams = c.marker.tams; previous = c.marker.bitmaps.previous; next = c.marker.bitmaps.next; cards = c.cards; sets = c.sets; roots = c.roots }
 
 -- there is a flag for each card
 pub cards_room : (k : CoreState) → IsCore k → k.room.cards ≡ card_count k.sets
@@ -71,13 +68,13 @@ module _ (k : CoreState) (core : IsCore k) (budget : ℕ) (chosen : List LiveRow
   row_of : (x : LiveRow) → IsRowOf k.table k.marker.tams.previous k.marker.bitmaps.previous x → IsRow (layers_of k) x
   row_of x r = record { known = r.known; ordinary = r.ordinary; live_bound = r.bound }
 
-  pub can_evacuate : CanEvacuate (layers_of k) chosen card_words
+  pub can_evacuate : CanEvacuate (layers_of k) chosen (card_words k.config)
   unfolding kept_of
   can_evacuate = record {
     unmoved = core.layers.unmoved;
     previous = core.layers.marker.previous;
     next = core.layers.marker.next;
-    closed = closed core.graph (heap_of k) core.stands.shows.shows;
+    closed = closed core.state.graph (heap_of k) core.stands.shows.shows;
     halves = core.layers.halves;
     fit = (can_scan k core).fit;
     each_card = core.cards.each_card;
@@ -90,7 +87,7 @@ module _ (k : CoreState) (core : IsCore k) (budget : ℕ) (chosen : List LiveRow
   }
 
   module _ (t : Table) (tams : Tops) (bm : Bitmaps) (cs : Cards) (ss : Sets) (roots : List (Option ℕ)) (w : ℕ) (r : RoomSizes) (n : ℕ)
-      (ev : HasEvacuated chosen card_words w (layers_of k) (record { table = t; tams = tams; previous = bm.previous; next = bm.next; cards = cs; sets = ss; roots = roots })) where
+      (ev : HasEvacuated chosen (card_words k.config) w (layers_of k) (record { table = t; tams = tams; previous = bm.previous; next = bm.next; cards = cs; sets = ss; roots = roots })) where
     abbrev marker : Marker
     marker = record { bitmaps = bm; tams = tams; grey = k.marker.grey; logs = k.marker.logs; running = k.marker.running; scans = k.marker.scans }
 
@@ -173,7 +170,7 @@ module _ (k : CoreState) (core : IsCore k) (budget : ℕ) (chosen : List LiveRow
       earlier = f.earlier;
       marking = λ run.
           let keeps : KeepsOld place (heap_of k) (marking_of k) = ev.keeps_old (all_new run) (marking_of k) (λ a. refl) in
-          let moved = relocated_invariant place core.graph (heap_of k) (heap_of after) core.stands.shows.shows ev.relocates (IsReachable s) (next_name s) (marking_of k) (f.marking run) keeps in
+          let moved = relocated_invariant place core.state.graph (heap_of k) (heap_of after) core.stands.shows.shows ev.relocates (IsReachable s) (next_name s) (marking_of k) (f.marking run) keeps in
           same_invariant (IsReachable s) (next_name s) (heap_of after) (heap_of after) (marking_of k) (marking_of after) (record { kept = λ a. refl; roots = refl }) (same_marking run) moved;
     }
 
@@ -198,7 +195,7 @@ module _ (k : CoreState) (core : IsCore k) (budget : ℕ) (chosen : List LiveRow
       scanned = core.layers.marker.scanned ∙ sym ev.next.each_word;
       finger = λ run a lt. ap (λ (b : Bool). b && not (is_marked k.marker.grey.scanned a)) (marks_same run a) ∙ core.layers.marker.finger run a lt;
       newer = newer;
-      follows = λ run. follows_of after core.graph core.snapshot (paused_shows core.graph core.stands.shows) (paused_keeps core.snapshot core.stands.keeps) run;
+      follows = λ run. follows_of after core.state.graph core.state.snapshot (paused_shows core.state.graph core.stands.shows) (paused_keeps core.state.snapshot core.stands.keeps) run;
       idle = core.layers.marker.idle;
       scanned_marked = λ run a e. marks_same run a ∙ core.layers.marker.scanned_marked run a e;
       counted = core.layers.marker.counted;
@@ -274,9 +271,8 @@ module _ (k : CoreState) (core : IsCore k) (budget : ℕ) (chosen : List LiveRow
         rows = rw rows_same core.rows;
         places = places ∙ core.places;
         names = core.names;
-        graph = core.graph;
-        snapshot = core.snapshot;
-        stands = record { shows = paused_shows core.graph core.stands.shows; keeps = paused_keeps core.snapshot core.stands.keeps };
+        state = core.state;
+        stands = record { shows = paused_shows core.state.graph core.stands.shows; keeps = paused_keeps core.state.snapshot core.stands.keeps };
       }
 
       -- exactly the chosen regions are reclaimed
@@ -289,25 +285,22 @@ module _ (k : CoreState) (core : IsCore k) (budget : ℕ) (chosen : List LiveRow
         λ inside. record { used = λ free. (let ordinary = chosen_ordinary k.table k.marker.tams k.marker.bitmaps.previous k.marker.running budget chosen choice j inside in cc); free = ev.regions.chosen j inside },
       )
 
-      has_paused : r ≡ k.room → n ≡ k.row_room → (m : ℕ) → m ≡ length chosen → HasPaused budget m w k after
+      evacuates_best : r ≡ k.room → n ≡ k.row_room → (m : ℕ) → m ≡ length chosen → EvacuatesBest budget m w k k after
       unfolding kept_of
-      has_paused room_same rows_same m count = record {
-        same = rw (sym closed_all, room_same, rows_same) refl;
-        marker = refl;
+      evacuates_best room_same rows_same m count = record {
         chosen = chosen;
         choice = choice;
         regions = count;
-        words = ev.words_are;
-        names = λ g s. copied_names g (heap_of k) s.shows (set_in k.table.words_per_region chosen) w ev.words_are;
         within = (let most = ev.within in let le = chosen_within k.table k.marker.tams k.marker.bitmaps.previous k.marker.running budget chosen choice in omega (arith, most, le));
-        forward = ev.forward;
-        relocates = ev.relocates;
-        copied = ev.copied;
+        names = λ g s. copied_names g (heap_of k) s.shows (set_in k.table.words_per_region chosen) w ev.words_are;
         reclaimed = reclaimed;
+        same = rw (room_same, rows_same) refl;
+        marker = refl;
+        evacuated = ev;
       }
 
-      pub paused_from : r ≡ k.room → n ≡ k.row_room → (c : CoreState) → k ≡ c → (m : ℕ) → m ≡ length chosen → HasPaused budget m w c after
-      paused_from room_same rows_same c e m count = subst (λ (d : CoreState). HasPaused budget m w d after) e (has_paused room_same rows_same m count)
+      pub evacuates_from : r ≡ k.room → n ≡ k.row_room → (c : CoreState) → k ≡ c → (m : ℕ) → m ≡ length chosen → EvacuatesBest budget m w c c after
+      evacuates_from room_same rows_same c e m count = subst (λ (d : CoreState). EvacuatesBest budget m w d d after) e (evacuates_best room_same rows_same m count)
 
 -- what was made ready shows what it showed
 still_shows : (c k : CoreState) → IsReady c k → (g : Graph) → ShowsGraph g c → ShowsGraph g k
@@ -320,26 +313,20 @@ still_shows c k ready g s = record {
 }
 
 -- a pause after all was made ready is a pause
-pub paused_ready : (c k c' : CoreState) (budget n w : ℕ) → IsReady c k → HasPaused budget n w k c' → HasPaused budget n w c c'
+pub paused_ready : (c k c' : CoreState) (budget n w : ℕ) → IsReady c k → EvacuatesBest budget n w k k c' → HasPaused budget n w c c'
 unfolding kept_of
 paused_ready c k c' budget n w ready p = record {
-  same = p.same
-      ∙ ap (λ (d : CoreState). record d { table = c'.table; buffers = placement.closed k.buffers.words (length k.buffers.open_buffers); marker = c'.marker; cards = c'.cards; sets = c'.sets; roots = c'.roots }) ready.same
-      ∙ ap (λ (b : Buffers). record c { table = c'.table; buffers = b; marker = c'.marker; cards = c'.cards; sets = c'.sets; roots = c'.roots }) (again k.buffers c.buffers.words (length c.buffers.open_buffers) (ready_buffers c k ready));
-  marker = p.marker ∙ ap (λ (m : Marker). record m { tams = c'.marker.tams; bitmaps = c'.marker.bitmaps }) (ready_marker c k ready);
-  chosen = p.chosen;
-  choice = rw (ready_table c k ready, ready_marker c k ready) at p.choice;
-  regions = p.regions;
-  words = rw (ready_table c k ready, ready_marker c k ready, ready_roots c k ready) at p.words;
-  names = λ g s. rw (ready_table c k ready, ready_marker c k ready, ready_roots c k ready) at (p.names g (still_shows c k ready g s));
-  within = p.within;
-  forward = p.forward;
-  relocates = rw (ready_table c k ready, ready_marker c k ready, ready_roots c k ready) at p.relocates;
-  copied = λ a. rw (ready_table c k ready, ready_marker c k ready, ready_roots c k ready) at (p.copied a);
-  reclaimed = λ j. rw (ready_table c k ready) at (p.reclaimed j);
+  ready = k;
+  is_ready = ready;
+  evacuates = record {
+    chosen = p.chosen;
+    choice = rw (ready_table c k ready, ready_marker c k ready) at p.choice;
+    regions = p.regions;
+    within = p.within;
+    names = λ g s. rw (ready_table c k ready, ready_marker c k ready, ready_roots c k ready) at (p.names g (still_shows c k ready g s));
+    reclaimed = λ j. rw (ready_table c k ready) at (p.reclaimed j);
+    same = p.same;
+    marker = p.marker;
+    evacuated = p.evacuated;
+  };
 }
-  where
-    again : (b : Buffers) (words m : ℕ) → b ≡ placement.closed words m → placement.closed b.words (length b.open_buffers) ≡ placement.closed words m
-    again b words m e =
-        ap (λ (x : Buffers). placement.closed x.words (length x.open_buffers)) e
-        ∙ ap (λ (n : ℕ). placement.closed words n) (length-replicate {A = Option Buffer} m None)

@@ -11,8 +11,9 @@ use Rattle.refinement.specs.Refining.{CanScan, Refines, AddsCard}
 use Rattle.refinement.proofs.Entered.{adds_gains}
 use Rattle.marker.proofs.Logs.{contained}
 use Rattle.refinement.proofs.Holders.{closed_inside}
-use Rattle.step_core.specs.Stands.{CoreState, kept_of, heap_of, card_words, ShowsGraph, KeepsFrom, IsCore}
-use Rattle.step_core.specs.Cycle.{GainsCards, RefinesCard, HasRefined}
+use Rattle.heap_words.specs.Configs.{card_words}
+use Rattle.step_core.specs.Stands.{CoreState, kept_of, heap_of, ShowsGraph, KeepsFrom, IsCore}
+use Rattle.step_core.specs.Refining.{GainsCards, RefinesCard, HasRefined}
 
 abbrev pub with_cards : CoreState → Cards → Sets → CoreState
 with_cards c cs ss = record c { cards = cs; sets = ss }
@@ -26,7 +27,7 @@ can_scan k core = record {
     each_region = core.cards.each_region ∙ sym core.layers.region_count;
   };
   each_word = core.layers.marker.previous.each_word;
-  inside = closed_inside k.table k.marker.tams k.marker.bitmaps.previous k.roots (closed core.graph (heap_of k) core.stands.shows.shows);
+  inside = closed_inside k.table k.marker.tams k.marker.bitmaps.previous k.roots (closed core.state.graph (heap_of k) core.stands.shows.shows);
 }
 
 module _ (k : CoreState) (core : IsCore k) (result : Bool) (cs : Cards) (ss : Sets) (scan : CanScan k.table k.marker.tams k.marker.bitmaps.previous 8 ss) (count : length cs.dirty ≡ card_count ss)
@@ -61,9 +62,8 @@ module _ (k : CoreState) (core : IsCore k) (result : Bool) (cs : Cards) (ss : Se
     rows = core.rows;
     places = core.places;
     names = core.names;
-    graph = core.graph;
-    snapshot = core.snapshot;
-    stands = record { shows = cards_show core.graph core.stands.shows; keeps = cards_keep core.snapshot core.stands.keeps };
+    state = core.state;
+    stands = record { shows = cards_show core.state.graph core.stands.shows; keeps = cards_keep core.state.snapshot core.stands.keeps };
   }
 
   -- what sets cover once the card was added
@@ -104,7 +104,7 @@ pub record RefinesSome (i : ℕ) (c0 c : CoreState) : Type 0 where
   pub logs : c.cards.logs ≡ c0.cards.logs
   pub stays : (region card : ℕ) → covers c0.sets region card ≡ true → covers c.sets region card ≡ true
   pub only : (region card : ℕ) → covers c.sets region card ≡ true → (covers c0.sets region card ≡ true)
-      ⊎ ((x : ℕ) × IsEarly i c0.cards.queue x × LeadsInto c0.table.words_per_region (kept_of c0) card_words x region × (card / c0.sets.cards_per_region ≡ x / c0.sets.cards_per_region))
+      ⊎ ((x : ℕ) × IsEarly i c0.cards.queue x × LeadsInto c0.table.words_per_region (kept_of c0) (card_words c0.config) x region × (card / c0.sets.cards_per_region ≡ x / c0.sets.cards_per_region))
   pub cards_per_region : c.sets.cards_per_region ≡ c0.sets.cards_per_region
 
 pub none_refined : (c : CoreState) → RefinesSome 0 c c
@@ -137,7 +137,7 @@ one_only n card h = let (place, lt, is) = h in go place lt (sym is)
     go (suc p) lt is = absurd (omega (arith, lt))
 
 -- other cards and sets change nothing of which fields lead where
-leads_same : (c : CoreState) (cs : Cards) (ss : Sets) (x region : ℕ) → LeadsInto c.table.words_per_region (kept_of (with_cards c cs ss)) card_words x region → LeadsInto c.table.words_per_region (kept_of c) card_words x region
+leads_same : (c : CoreState) (cs : Cards) (ss : Sets) (x region : ℕ) → LeadsInto c.table.words_per_region (kept_of (with_cards c cs ss)) (card_words c.config) x region → LeadsInto c.table.words_per_region (kept_of c) (card_words c.config) x region
 unfolding kept_of
 leads_same c cs ss x region l = l
 
@@ -158,8 +158,8 @@ one_more i c0 c c' p (card, r) =
         ]
         | inr new ↦
             let is : new.0 ≡ card = one_only new.0 card new.1 in
-            let leads : LeadsInto c0.table.words_per_region (kept_of (with_cards c0 c.cards c.sets)) card_words new.0 region
-            = subst (λ (d : CoreState). LeadsInto d.table.words_per_region (kept_of d) card_words new.0 region) p.same new.2 in
+            let leads : LeadsInto c0.table.words_per_region (kept_of (with_cards c0 c.cards c.sets)) (card_words c0.config) new.0 region
+            = subst (λ (d : CoreState). LeadsInto d.table.words_per_region (kept_of d) (card_words d.config) new.0 region) p.same new.2 in
             inr (
               new.0,
               record { place = i; front = omega arith; is = there ∙ ap Some (sym is) },

@@ -14,7 +14,8 @@ use Rattle.marker.specs.Views as views
 use Rattle.marker.specs.Stands.{MarkerStands, IsKept}
 use Rattle.marker.specs.Steps.{SameRoles, KeepsSnapshots}
 use Rattle.marker.specs.declared.marker.Marker.{Marker}
-use Rattle.step_core.specs.Stands.{CoreState, kept_of, heap_of, card_words, ShowsGraph, KeepsFrom, IsCore}
+use Rattle.heap_words.specs.Configs.{card_words}
+use Rattle.step_core.specs.Stands.{CoreState, kept_of, heap_of, ShowsGraph, KeepsFrom, IsCore}
 use Rattle.step_core.specs.Cycle.{LeavesRegions}
 use Rattle.cards.specs.Cards.{is_dirty}
 use Rattle.refinement.specs.Remembering.{field_word, IsNoted}
@@ -70,9 +71,9 @@ module _ (k c : CoreState) (e : k ≡ c) (core : IsCore k) (a i : ℕ) (w : Opti
   pub was_kept : (was : Option ℕ) → slice_get (pointers_at k.table a) i ≡ Some was → (b : ℕ) → was ≡ Some b → IsKept k.table k.marker b
   was_kept was is b there = overwritten_kept k a i b was core r' is there
 
-  module _ (noted : IsNoted c.table.words_per_region card_words (is_dirty c.cards) (field_word a i) w) (t : Table) (is : t ≡ set_pointer k.table a i w) where
-    noted' : IsNoted k.table.words_per_region card_words (is_dirty k.cards) (field_word a i) w
-    noted' = subst (λ (d : CoreState). IsNoted d.table.words_per_region card_words (is_dirty d.cards) (field_word a i) w) (sym e) noted
+  module _ (noted : IsNoted c.table.words_per_region (card_words c.config) (is_dirty c.cards) (field_word a i) w) (t : Table) (is : t ≡ set_pointer k.table a i w) where
+    noted' : IsNoted k.table.words_per_region (card_words k.config) (is_dirty k.cards) (field_word a i) w
+    noted' = subst (λ (d : CoreState). IsNoted d.table.words_per_region (card_words d.config) (is_dirty d.cards) (field_word a i) w) (sym e) noted
 
     pub store_shows : (m : Marker) → SameRoles k.marker m → (g : Graph) (y : Stored) (o : Object) (v : Option ℕ) → ShowsGraph g c → kept_of c a ≡ Some y → object_named g y.name ≡ Some o → IsShown (heap_of c) w v
         → ShowsGraph (with_changed g y.name (record { pointers = slice_set o.pointers i v; values = o.values })) (with_store k t m)

@@ -18,7 +18,8 @@ use Rattle.marker.specs.Views as views
 use Rattle.marker.specs.Stands.{MarkerStands, CanFollow, IsKept}
 use Rattle.marker.specs.Steps.{SameRoles, KeepsSnapshots}
 use Rattle.marker.specs.declared.marker.Marker.{Marker}
-use Rattle.step_core.specs.Stands.{CoreState, kept_of, heap_of, marking_of, card_words, RemembersFields, ShowsGraph, KeepsFrom, IsCore}
+use Rattle.heap_words.specs.Configs.{card_words}
+use Rattle.step_core.specs.Stands.{CoreState, kept_of, heap_of, marking_of, RemembersFields, ShowsGraph, KeepsFrom, IsCore}
 use Rattle.step_core.specs.Cycle.{LeavesRegions}
 use Rattle.step_core.proofs.Sizes.{some_words}
 use Rattle.step_core.proofs.Remembering.{remembers_stored}
@@ -35,7 +36,7 @@ pub record Rooted (c : CoreState) (a : ℕ) : Type 0 where
   pub at : kept_of c a ≡ Some stored
 
 pub rooted : (c : CoreState) (a : ℕ) → IsCore c → IsRoot (heap_of c) a → Rooted c a
-rooted c a core r = let (x, at) = (closed core.graph (heap_of c) core.stands.shows.shows).root r.place a r.is in record { stored = x; at = at }
+rooted c a core r = let (x, at) = (closed core.state.graph (heap_of c) core.stands.shows.shows).root r.place a r.is in record { stored = x; at = at }
 
 pub is_kept : (c : CoreState) (a : ℕ) (x : Stored) → kept_of c a ≡ Some x → IsKept c.table c.marker a
 unfolding kept_of
@@ -44,7 +45,7 @@ is_kept c a x e = record { object = x; is = e }
 -- what the field held is kept
 pub overwritten_kept : (c : CoreState) (a i b : ℕ) (w : Option ℕ) → IsCore c → Rooted c a → slice_get (pointers_at c.table a) i ≡ Some w → w ≡ Some b → IsKept c.table c.marker b
 overwritten_kept c a i b w core r is e =
-    let all = closed core.graph (heap_of c) core.stands.shows.shows in
+    let all = closed core.state.graph (heap_of c) core.stands.shows.shows in
     let there : slice_get r.stored.pointers i ≡ Some (Some b) = ap (λ (ps : List (Option ℕ)). slice_get ps i) (sym (pointers_there c a r.stored r.at)) ∙ is ∙ ap Some e in
     let (x, at) = all.field a i b r.stored r.at there in
     is_kept c b x at
@@ -59,7 +60,7 @@ same_keeping c t m same = record { tams = ap (λ tams. Tops.previous tams) same.
 
 module _ (k : CoreState) (core : IsCore k) (a i : ℕ) (w : Option ℕ) (t : Table) (root : IsRoot (heap_of k) a) (within : i < length (pointers_at k.table a))
     (held : IsHeld (heap_of k) w) (is : t ≡ set_pointer k.table a i w) (r : Rooted k a)
-    (noted : IsNoted k.table.words_per_region card_words (is_dirty k.cards) (field_word a i) w) where
+    (noted : IsNoted k.table.words_per_region (card_words k.config) (is_dirty k.cards) (field_word a i) w) where
   abbrev pub x : Stored
   x = r.stored
 
@@ -97,7 +98,7 @@ module _ (k : CoreState) (core : IsCore k) (a i : ℕ) (w : Option ℕ) (t : Tab
     store_keeps was there saved s f = record {
       earlier = f.earlier;
       marking = λ run. subst (λ (marks : Marking). KeepsSnapshot s (heap_of after) marks) (sym (marking_same k.table t m writes.size))
-          (object_set (IsReachable s) (next_name s) core.graph (heap_of k) (marking_of k) core.stands.shows.shows (f.marking (sym same.running ∙ run)) (heap_of after) (views.marking_of k.table m)
+          (object_set (IsReachable s) (next_name s) core.state.graph (heap_of k) (marking_of k) core.stands.shows.shows (f.marking (sym same.running ∙ run)) (heap_of after) (views.marking_of k.table m)
           a x (with_pointer x i w) i was w root held (ap (λ (ps : List (Option ℕ)). slice_get ps i) (sym (pointers_there k a x at)) ∙ there) set_in refl saved);
     }
 
@@ -122,18 +123,18 @@ module _ (k : CoreState) (core : IsCore k) (a i : ℕ) (w : Option ℕ) (t : Tab
       name : (u : Option ℕ) → IsHeld (heap_of k) u → (v : Option ℕ) × IsShown (heap_of k) u v
       name None h = (None, tt)
       name (Some b) (inl r) = let o = rooted k b core r in all b o.stored o.at
-      name (Some b) (inr p) = let (z, e) = (closed core.graph (heap_of k) core.stands.shows.shows).field p.0 p.2.field b p.2.object p.2.at p.2.is in all b z e
+      name (Some b) (inr p) = let (z, e) = (closed core.state.graph (heap_of k) core.stands.shows.shows).field p.0 p.2.field b p.2.object p.2.at p.2.is in all b z e
 
   -- the graph that the invariant knows, with the field changed
   abbrev pub graph_after : Graph
   graph_after =
       let o = core.stands.shows.shows.objects a x at in
-      with_changed core.graph x.name (record { pointers = slice_set o.object.pointers i held_name.0; values = o.object.values })
+      with_changed core.state.graph x.name (record { pointers = slice_set o.object.pointers i held_name.0; values = o.object.values })
 
   pub shows_after : (m : Marker) (same : SameRoles k.marker m) → ShowsGraph graph_after (with_store k t m)
   shows_after m same =
       let o = core.stands.shows.shows.objects a x at in
-      store_shows m same core.graph x o.object held_name.0 core.stands.shows at o.named held_name.1
+      store_shows m same core.state.graph x o.object held_name.0 core.stands.shows at o.named held_name.1
 
   -- the core after a store while marking doesn't run
   pub idle_kept : k.marker.running ≡ false → IsCore (with_store k t k.marker)
@@ -146,9 +147,8 @@ module _ (k : CoreState) (core : IsCore k) (a i : ℕ) (w : Option ℕ) (t : Tab
     rows = core.rows;
     places = core.places;
     names = core.names;
-    graph = graph_after;
-    snapshot = core.snapshot;
-    stands = record { shows = shows_after k.marker same_roles; keeps = idle_keeps idle core.snapshot core.stands.keeps };
+    state = record { graph = graph_after; snapshot = core.state.snapshot };
+    stands = record { shows = shows_after k.marker same_roles; keeps = idle_keeps idle core.state.snapshot core.stands.keeps };
   }
 
   pub store_leaves : (m : Marker) → LeavesRegions k (with_store k t m)
@@ -161,7 +161,7 @@ module _ (k : CoreState) (core : IsCore k) (a i : ℕ) (w : Option ℕ) (t : Tab
     mid_keeps = store_keeps m same was there saved
 
     pub mid_follows : m.running ≡ true → CanFollow t m
-    mid_follows = follows_of (with_store k t m) graph_after core.snapshot (shows_after m same) (mid_keeps core.snapshot core.stands.keeps)
+    mid_follows = follows_of (with_store k t m) graph_after core.state.snapshot (shows_after m same) (mid_keeps core.state.snapshot core.stands.keeps)
 
     pub mid_stands : MarkerStands t m
     mid_stands =
@@ -183,7 +183,7 @@ module _ (k : CoreState) (core : IsCore k) (a i : ℕ) (w : Option ℕ) (t : Tab
 
       pub last_kept : m.running ≡ true → IsCore (with_store k t m2)
       last_kept run =
-          let keeps = last_keeps run core.snapshot core.stands.keeps in
+          let keeps = last_keeps run core.state.snapshot core.stands.keeps in
           record {
             suits = core.suits;
             layers = layers_changed k.config k.table t k.buffers k.marker m2 a x (with_pointer x i w) writes core.layers st2 same2.tams logs room (ap (λ (n : ℕ). 2 + n + length x.values) (length-set x.pointers i w));
@@ -193,7 +193,6 @@ module _ (k : CoreState) (core : IsCore k) (a i : ℕ) (w : Option ℕ) (t : Tab
             rows = core.rows;
             places = core.places;
             names = core.names;
-            graph = graph_after;
-            snapshot = core.snapshot;
+            state = record { graph = graph_after; snapshot = core.state.snapshot };
             stands = record { shows = shows_after m2 same2; keeps = keeps };
           }

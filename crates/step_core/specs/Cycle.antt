@@ -13,8 +13,7 @@ use Rattle.mark_bitmap.specs.Live.{live_bound_of}
 use Rattle.marker.specs.Ends.{EndsMarking}
 use Rattle.marker.specs.Counts.{IsMore, restarted}
 use Rattle.marker.specs.Steps.{Grows, SameRoles, ScansMore}
-use Rattle.remembered_sets.specs.Sets.{covers, empty_set, set_of}
-use Rattle.refinement.specs.Remembering.{LeadsInto}
+use Rattle.remembered_sets.specs.Sets.{empty_set, set_of}
 use Rattle.object_graph.specs.declared.step.CollectorStep.{CollectorStep}
 use Rattle.object_graph.specs.declared.step.CollectorStep.TheVariants as collector
 use Rattle.object_graph.specs.declared.step.Step.{Step}
@@ -22,11 +21,12 @@ use Rattle.object_graph.specs.declared.step.Step.TheVariants as steps
 use Rattle.object_graph.specs.declared.step.Reply.{Reply}
 use Rattle.object_graph.specs.declared.step.Reply.TheVariants as replies
 use Rattle.object_graph.specs.declared.step.Refusal.TheVariants as refusals
-use Rattle.step_core.specs.Stands.{CoreState, kept_of, heap_of, marking_of, card_words, Stands}
+use Rattle.step_core.specs.Stands.{CoreState, kept_of, heap_of, marking_of, State, Stands}
 use Rattle.step_core.specs.Mutators.{ActsOn}
 use Rattle.region_choice.specs.declared.LiveRow.{LiveRow}
 use Rattle.evacuation.specs.Evacuates.{is_chosen}
 use Rattle.step_core.specs.Reclaimed.{IsReclaimed}
+use Rattle.step_core.specs.Refining.{HasRefined}
 use Rattle.step_core.specs.Pause.{HasPaused, IsChosen}
 
 -- what a region can be reclaimed for: nothing in it is live. It is an ordinary one, and no objects are cut from it now
@@ -64,8 +64,8 @@ pub record HasMarked (k : ℕ) (c c' : CoreState) : Type 0 where
 pub record HasRemarked (n : ℕ) (c c' : CoreState) : Type 0 where
   pub same : c' ≡ record c { marker = c'.marker }
   pub over : c'.marker.running ≡ false
-  pub ends : (g s : Graph) → Stands g s c → EndsMarking s g c.table c.roots c.marker c'.marker n
-  pub quiet : (g : Graph) → Stands g g c → (a : ℕ) (x : Stored) → kept_of c' a ≡ Some x → IsReachable g x.name
+  pub ends : (s : State) → Stands s c → EndsMarking s.snapshot s.graph c.table c.roots c.marker c'.marker n
+  pub quiet : (g : Graph) → Stands (record { graph = g; snapshot = g }) c → (a : ℕ) (x : Stored) → kept_of c' a ≡ Some x → IsReachable g x.name
   pub scans : c'.marker.scans.since ≡ n
   pub counted : c'.marker.scans.since ≡ marked_count c'.marker.grey.scanned
   pub work : ScansMore c.marker c'.marker
@@ -122,35 +122,6 @@ pub record HasCleaned (n : ℕ) (c c' : CoreState) : Type 0 where
   pub reclaimed : (k : ℕ) → IsReclaimed c.table c'.table k ↔ IsDead c k
   pub dead : (k : ℕ) → IsDead c k → IsAsNew c' k
   pub others : (k : ℕ) → (IsDead c k → ⊥) → IsAsBefore c c' k
-
--- what is covered stays so, and what is newly covered are cards of refined cards' regions, in regions that their fields lead into
-pub record GainsCards (cards : List ℕ) (c c' : CoreState) : Type 0 where
-  pub stays : (region card : ℕ) → covers c.sets region card ≡ true → covers c'.sets region card ≡ true
-  pub only : (region card : ℕ) → covers c'.sets region card ≡ true → (covers c.sets region card ≡ true)
-      ⊎ ((x : ℕ) × Contains cards x × LeadsInto c.table.words_per_region (kept_of c) card_words x region × (card / c.sets.cards_per_region ≡ x / c.sets.cards_per_region))
-
--- the card was the queue's front, and isn't in it now
-pub record HasTaken (card : ℕ) (c c' : CoreState) : Type 0 where
-  pub same : c' ≡ record c { cards = c'.cards; sets = c'.sets }
-  pub queue : c.cards.queue ≡ card ∷ c'.cards.queue
-  pub logs : c'.cards.logs ≡ c.cards.logs
-  pub sets : GainsCards (card ∷ []) c c'
-  pub cards_per_region : c'.sets.cards_per_region ≡ c.sets.cards_per_region
-
--- the front of the queue was refined, and nothing else of the core changed but what sets cover; or the queue is empty, and
--- nothing changed
-abbrev pub RefinesCard : Bool → CoreState → CoreState → Type 0
-RefinesCard true c c' = (card : ℕ) × HasTaken card c c'
-RefinesCard false c c' = (c.cards.queue ≡ []) × (c' ≡ c)
-
--- the first n cards of the queue were refined, k at most, and fewer only if there are no more; the rest of the queue stays, and
--- what stands in the logs
-pub record HasRefined (k n : ℕ) (c c' : CoreState) : Type 0 where
-  pub same : c' ≡ record c { cards = c'.cards; sets = c'.sets }
-  pub count : n ≡ min k (length c.cards.queue)
-  pub queue : c'.cards.queue ≡ drop n c.cards.queue
-  pub logs : c'.cards.logs ≡ c.cards.logs
-  pub sets : GainsCards (take n c.cards.queue) c c'
 
 -- a step of the collector is done, or refused, which changes nothing. Begin and cleanup are refused while marking runs,
 -- mark and remark while it doesn't

@@ -3,6 +3,7 @@ pub mod Fresh
 pub mod Answers
 pub mod Mutators
 pub mod Reclaimed
+pub mod Refining
 pub mod Pause
 pub mod Cycle
 pub mod Histories

@@ -1,5 +1,7 @@
 -- What each step of a mutator does to a core, exactly.
 use Rattle.std.specs.Prelude.{◌≡◌, ℕ, ◌+◌, ◌/◌, ◌==◌, Option, Some, None, [], ◌∷◌, if◌then◌else◌, slice_index_or, slice_set, unwrap_or}
+use Rattle.heap_words.specs.Sizes.{size_of}
+use Rattle.heap_words.specs.Configs.{card_words}
 use Rattle.regions.specs.Tiles.{Live}
 use Rattle.regions.specs.Table.{pointers_at, set_pointer, set_value, replace_tile, new_object}
 use Rattle.alloc_buffers.specs.Placement.{Placement, place_of}
@@ -13,7 +15,7 @@ use Rattle.object_graph.specs.declared.step.Action.TheVariants as actions
 use Rattle.object_graph.specs.declared.step.Register.{Register}
 use Rattle.object_graph.specs.declared.step.Reply.{Reply}
 use Rattle.object_graph.specs.declared.step.Reply.TheVariants as replies
-use Rattle.step_core.specs.Stands.{CoreState, card_words}
+use Rattle.step_core.specs.Stands.{CoreState}
 
 -- what a root place holds, what a mutator's register holds, and where the object starts that it names
 abbrev pub root_of : CoreState → ℕ → Option ℕ
@@ -41,7 +43,7 @@ with_root_word c place w = record c { roots = slice_set c.roots place w }
 -- the cards once a pointer is stored in a word: the word's card is dirty if it leads into another region than the word's
 abbrev pub noted : CoreState → ℕ → ℕ → Option ℕ → Cards
 noted c m word None = c.cards
-noted c m word (Some target) = if target / c.table.words_per_region == word / c.table.words_per_region then c.cards else dirtied c.cards m (word / card_words)
+noted c m word (Some target) = if target / c.table.words_per_region == word / c.table.words_per_region then c.cards else dirtied c.cards m (word / card_words c.config)
 
 -- the core with a pointer of an object changed
 abbrev pub with_pointer : CoreState → ℕ → ℕ → ℕ → Option ℕ → CoreState
@@ -59,7 +61,7 @@ with_made c place p d (Some x) = record c {
 
 -- the core after a step that isn't refused, but for its marker
 abbrev pub core_after : CoreState → ℕ → Action → CoreState
-core_after c m (actions.New to p d) = with_made c (register_place m to.number) p d (place_of c.table c.buffers m (2 + p + d))
+core_after c m (actions.New to p d) = with_made c (register_place m to.number) p d (place_of c.table c.buffers m (size_of p d))
 core_after c m (actions.Get to object i) = with_root_word c (register_place m to.number) (pointer_of c (object_of c m object) i)
 core_after c m (actions.Put object i value) = with_pointer c m (object_of c m object) i (value_of c m value)
 core_after c m (actions.Read object i) = c

@@ -1,20 +1,22 @@
 -- What a pause does to a core, exactly.
 use Rattle.std.specs.Prelude.{◌≡◌, ◌↔◌, ℕ, ◌==◌, ◌+◌, ◌*◌, ◌<◌, ◌≤◌, All, Bool, true, false, Option, None, List, [], ◌∷◌, IsSorted, Some, length, take, count_by, slice_get, slice_index}
+use Rattle.heap_words.specs.Sizes.{size_of}
+use Rattle.heap_words.specs.Configs.{card_words}
 use Rattle.heap_model.specs.Graph.{Graph, Object, object_named}
 use Rattle.heap_model.specs.Heap.{Heap, Stored}
-use Rattle.heap_model.specs.Relocation.{Relocates}
-use Rattle.heap_model.specs.Evacuation.{IsReached, place_of}
+use Rattle.heap_model.specs.Evacuation.{IsReached}
 use Rattle.regions.specs.Table.{Table, is_free, kind_of}
 use Rattle.regions.specs.declared.row.Kind.TheVariants as kinds
 use Rattle.alloc_buffers.specs.Placement.{closed}
 use Rattle.mark_bitmap.specs.Tops.{Tops}
 use Rattle.mark_bitmap.specs.Live.{live_bound_of}
-use Rattle.cards.specs.Cards.{is_dirty}
+use Rattle.cards.specs.Cards.{clean_cards, flushed}
 use Rattle.region_choice.specs.declared.LiveRow.{LiveRow}
 use Rattle.region_choice.specs.Choice.{copy_limit, live_sum, row_cmp, IsBestWithin}
-use Rattle.evacuation.specs.Evacuates.{is_chosen, set_in, AreReachedWords}
+use Rattle.evacuation.specs.Evacuates.{Layers, HasEvacuated, is_chosen, set_in}
 use Rattle.step_core.specs.Stands.{CoreState, heap_of, ShowsGraph}
 use Rattle.step_core.specs.Reclaimed.{IsReclaimed}
+use Rattle.step_core.specs.Refining.{GainsCards}
 
 -- the row of an ordinary region, with its live bound
 pub record IsRowOf (t : Table) (tops : List ℕ) (marks : List Bool) (row : LiveRow) : Type 0 where
@@ -55,10 +57,11 @@ pub record IsChosen (t : Table) (tams : Tops) (previous : List Bool) (running : 
   pub next : (row : LiveRow) → slice_get rows (length chosen) ≡ Some row → copy_limit t.words_per_region budget (count_by is_free t.regions) < live_sum chosen + row.live_bound
   pub best : IsBestWithin t.words_per_region (copy_limit t.words_per_region budget (count_by is_free t.regions)) rows chosen
 
--- no buffer is open and no region current, no card is dirty, and else nothing changed but cards and what sets cover
+-- No buffer is open and no region current. Every listed card is refined: no card is dirty, and the sets gained what these cards lead into.
+-- Nothing else changed
 pub record IsReady (c c' : CoreState) : Type 0 where
-  pub same : c' ≡ record c { buffers = closed c.buffers.words (length c.buffers.open_buffers); cards = c'.cards; sets = c'.sets }
-  pub clean : (card : ℕ) → is_dirty c'.cards card ≡ false
+  pub same : c' ≡ record c { buffers = closed c.buffers.words (length c.buffers.open_buffers); cards = clean_cards (length c.cards.dirty) (length c.cards.logs); sets = c'.sets }
+  pub sets : GainsCards (flushed c.cards).queue c c'
 
 -- an object of this name is reached in the set: from a root, or from a field of an object outside the set, by fields within it
 pub record IsCopied (set : ℕ → Bool) (h : Heap) (n : ℕ) : Type 0 where
@@ -71,7 +74,7 @@ pub record IsCopied (set : ℕ → Bool) (h : Heap) (n : ℕ) : Type 0 where
 -- the words of an object of the graph, and of the objects of these names
 abbrev pub named_words : Option Object → ℕ
 named_words None = 0
-named_words (Some o) = 2 + length o.pointers + length o.values
+named_words (Some o) = size_of (length o.pointers) (length o.values)
 
 abbrev pub words_of : Graph → List ℕ → ℕ
 words_of g [] = 0
@@ -85,19 +88,25 @@ pub record AreCopiedNames (g : Graph) (set : ℕ → Bool) (h : Heap) (w : ℕ) 
   pub each : (n : ℕ) → IsCopied set h n → (i : ℕ) × (slice_get names i ≡ Some n)
   pub total : words_of g names ≡ w
 
--- The chosen regions, n of them, are the best within the limit; what is reached in them, w words, at most the budget, was moved, and nothing
--- else; these regions are reclaimed, and no others
-pub record HasPaused (budget n w : ℕ) (c c' : CoreState) : Type 0 where
-  pub same : c' ≡ record c { table = c'.table; buffers = closed c.buffers.words (length c.buffers.open_buffers); marker = c'.marker; cards = c'.cards; sets = c'.sets; roots = c'.roots }
-  pub marker : c'.marker ≡ record c.marker { tams = c'.marker.tams; bitmaps = c'.marker.bitmaps }
+-- the layers of a core that evacuation works on
+abbrev pub layers_of : CoreState → Layers
+layers_of c = record { table = c.table; tams = c.marker.tams; previous = c.marker.bitmaps.previous; next = c.marker.bitmaps.next; cards = c.cards; sets = c.sets; roots = c.roots }
+
+-- The chosen regions, n of them, are the best within the limit, and are reclaimed, and no others. What is reached in them, w words, at most
+-- the budget, is evacuated from the core that was made ready, and nothing else of it changes
+pub record EvacuatesBest (budget n w : ℕ) (c ready c' : CoreState) : Type 0 where
   pub chosen : List LiveRow
   pub choice : IsChosen c.table c.marker.tams c.marker.bitmaps.previous c.marker.running budget chosen
   pub regions : n ≡ length chosen
-  pub words : AreReachedWords (set_in c.table.words_per_region chosen) (heap_of c) w
-  pub names : (g : Graph) → ShowsGraph g c → AreCopiedNames g (set_in c.table.words_per_region chosen) (heap_of c) w
   pub within : w ≤ budget
-  -- where each reached object of the set went
-  pub forward : ℕ → Option ℕ
-  pub relocates : Relocates (place_of (set_in c.table.words_per_region chosen) forward) (heap_of c) (heap_of c')
-  pub copied : (a : ℕ) → IsReached (set_in c.table.words_per_region chosen) (heap_of c) a ↔ ((set_in c.table.words_per_region chosen a ≡ true) × (b : ℕ) × (forward a ≡ Some b))
+  pub names : (g : Graph) → ShowsGraph g c → AreCopiedNames g (set_in c.table.words_per_region chosen) (heap_of c) w
   pub reclaimed : (k : ℕ) → IsReclaimed c.table c'.table k ↔ (is_chosen chosen k ≡ true)
+  pub same : c' ≡ record ready { table = c'.table; marker = c'.marker; cards = c'.cards; sets = c'.sets; roots = c'.roots }
+  pub marker : c'.marker ≡ record ready.marker { tams = c'.marker.tams; bitmaps = c'.marker.bitmaps }
+  pub evacuated : HasEvacuated chosen (card_words c.config) w (layers_of ready) (layers_of c')
+
+-- a pause: all is made ready, then the best regions are evacuated
+pub record HasPaused (budget n w : ℕ) (c c' : CoreState) : Type 0 where
+  pub ready : CoreState
+  pub is_ready : IsReady c ready
+  pub evacuates : EvacuatesBest budget n w c ready c'

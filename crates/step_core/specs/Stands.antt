@@ -2,7 +2,7 @@
 use Rattle.std.specs.Prelude.{◌≡◌, ℕ, ◌+◌, ◌-◌, ◌*◌, ◌/◌, ◌^◌, ◌<◌, ◌≤◌, ⊤, List, Option, Some, None, length, slice_get, slice_index, true}
 use Rattle.std.specs.List.{AllZip}
 use Rattle.heap_words.specs.declared.config.Config.{Config}
-use Rattle.heap_words.specs.Configs.{Suits}
+use Rattle.heap_words.specs.Configs.{Suits, card_words}
 use Rattle.heap_model.specs.Graph.{Graph, Object, next_name, object_named, IsReachable}
 use Rattle.heap_model.specs.Heap.{Heap, Stored, Shows, IsShown, IsRoot, StandsOnce}
 use Rattle.heap_model.specs.Marking.{Marking, KeepsSnapshot}
@@ -52,14 +52,10 @@ heap_of c = record { kept = kept_of c; roots = c.roots }
 abbrev pub marking_of : CoreState → Marking
 marking_of c = views.marking_of c.table c.marker
 
--- how many words a card has
-abbrev pub card_words : ℕ
-card_words = 8
-
 -- cross-region pointers are remembered: the card of each field of a kept object that leads into another region than
 -- its word's is dirty, or the other region's set covers it
 abbrev pub RemembersFields : CoreState → Type 0
-RemembersFields c = Remembers c.table.words_per_region (kept_of c) card_words (is_dirty c.cards) (covers c.sets)
+RemembersFields c = Remembers c.table.words_per_region (kept_of c) (card_words c.config) (is_dirty c.cards) (covers c.sets)
 
 -- the heap shows the graph, whose next name is the core's
 pub record ShowsGraph (g : Graph) (c : CoreState) : Type 0 where
@@ -73,10 +69,15 @@ pub record KeepsFrom (s : Graph) (c : CoreState) : Type 0 where
   pub earlier : next_name s ≤ c.next
   pub marking : c.marker.running ≡ true → KeepsSnapshot s (heap_of c) (marking_of c)
 
--- the core stands for the present graph g and the snapshot s, the graph when marking last began
-pub record Stands (g s : Graph) (c : CoreState) : Type 0 where
-  pub shows : ShowsGraph g c
-  pub keeps : KeepsFrom s c
+-- what a core stands for: the present graph, and the snapshot, the graph when marking last began
+pub record State : Type 0 where
+  pub graph : Graph
+  pub snapshot : Graph
+
+-- the core shows the graph, and keeps what the snapshot needs
+pub record Stands (s : State) (c : CoreState) : Type 0 where
+  pub shows : ShowsGraph s.graph c
+  pub keeps : KeepsFrom s.snapshot c
 
 -- each name that a root reaches is borne by one kept object, which has the graph's contents; and every word of
 -- a kept object lies in a region that isn't free
@@ -109,7 +110,7 @@ pub record LayersFit (config : Config) (t : Table) (b : Buffers) (m : Marker) : 
 
 -- a region is a whole number of cards, and each mutator has a card log, each region a set
 pub record CardsFit (config : Config) (cards : Cards) (sets : Sets) : Type 0 where
-  pub whole_cards : config.words ≡ sets.cards_per_region * card_words
+  pub whole_cards : config.words ≡ sets.cards_per_region * card_words config
   pub each_region : length sets.sets ≡ config.regions
   pub each_card : length cards.dirty ≡ card_count sets
   pub each_mutator : length cards.logs ≡ config.mutators
@@ -117,9 +118,9 @@ pub record CardsFit (config : Config) (cards : Cards) (sets : Sets) : Type 0 whe
 -- a pause has room for each region and each card
 pub record IsRoomFor (config : Config) (room : RoomSizes) : Type 0 where
   pub regions : room.regions ≡ config.regions
-  pub cards : room.cards ≡ config.regions * (config.words / card_words)
+  pub cards : room.cards ≡ config.regions * (config.words / card_words config)
 
--- What every core keeps. There is a graph that it stands for, and a snapshot: so each root is the start of an object
+-- What every core keeps. There is a state that it stands for: so each root is the start of an object
 pub record IsCore (c : CoreState) : Type 0 where
   pub suits : Suits c.config
   pub layers : LayersFit c.config c.table c.buffers c.marker
@@ -129,9 +130,8 @@ pub record IsCore (c : CoreState) : Type 0 where
   pub rows : c.config.regions ≤ c.row_room
   pub places : length c.roots ≡ 16 + 8 * c.config.mutators
   pub names : c.next < 2 ^ 64
-  pub graph : Graph
-  pub snapshot : Graph
-  pub stands : Stands graph snapshot c
+  pub state : State
+  pub stands : Stands state c
 
 -- a word that shows something: nil, or the start of a kept object
 pub record IsWordOf (h : Heap) (w : Option ℕ) : Type 0 where

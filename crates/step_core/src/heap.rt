@@ -4,10 +4,10 @@ ghost use Rattle.std.specs.Prelude.{◌≡◌, ℕ, ◌<◌, ◌≤◌, ◌+◌,
 ghost use Rattle.heap_words.specs.Configs.{Suits, IsNewFault};
 ghost use Rattle.heap_model.specs.Graph.{Graph};
 ghost use Rattle.heap_model.specs.Heap.{IsShown, IsHeld};
-ghost use Rattle.object_graph.specs.State.{first_state, register_place, with_root, root_at};
-ghost use Rattle.step_core.specs.Stands.{ShowsGraph, KeepsFrom, Stands, IsCore, IsWhole, heap_of, IsWordOf, IsRootWord, Leads, name_in, RemembersFields};
+ghost use Rattle.object_graph.specs.State.{register_place, with_root, root_at};
+ghost use Rattle.step_core.specs.Stands.{ShowsGraph, KeepsFrom, State, Stands, IsCore, IsWhole, heap_of, IsWordOf, IsRootWord, Leads, name_in, RemembersFields};
 ghost use Rattle.cards.specs.Cards.{ListsDirtyOnce};
-ghost use Rattle.step_core.specs.Fresh.{fresh_core};
+ghost use Rattle.step_core.specs.Fresh.{fresh_core, fresh_state};
 ghost use Rattle.step_core.specs.Mutators.{register_of, with_root_word};
 ghost use Rattle.step_core.specs.Cycle.{LeavesRegions};
 
@@ -23,9 +23,6 @@ use regions::RegionTable;
 use remembered_sets::RememberedSets;
 use std::alloc::{AllocError, Global};
 use std::marker::Model;
-
-/// How many words a card has.
-pub(crate) const CARD_WORDS: u32 = 8;
 
 /// A heap: its table of regions, its allocation buffers, its marker, its dirty cards and remembered sets, the room that a pause
 /// uses, its roots and the name of its next object.
@@ -72,7 +69,7 @@ impl Core {
     pub fn new(alloc: Global, config: &Config) -> Result<Core, NewFault>
         ensures fresh { IfOk result (λ c. c ≡ fresh_core config.now) }
         ensures core { IfOk result IsCore }
-        ensures stands { IfOk result (Stands (first_state config.now) (first_state config.now)) }
+        ensures stands { IfOk result (Stands (fresh_state config.now)) }
         ensures config { IfOk result (λ c. c.config ≡ config.now) }
         ensures suits { OnOk result (Suits config.now) }
         ensures fault { IfErr result (IsNewFault config.now) }
@@ -87,7 +84,7 @@ impl Core {
         let Ok(marker) = Marker::new(alloc, config) else {
             return Err(NewFault::NoMemory);
         };
-        let cards_per_region = config.words / CARD_WORDS;
+        let cards_per_region = config.words / config.card_words();
         let Ok(cards) = CardTable::new(alloc, config.regions * cards_per_region, config.mutators)
         else {
             return Err(NewFault::NoMemory);
@@ -161,7 +158,7 @@ impl Core {
     /// Tells a proof that each object that a root reaches stands, whole and once, in regions in use. It
     /// does nothing.
     pub fn whole(&self)
-        ensures { (g s : Graph) → Stands g s self.now → IsWhole g self.now }
+        ensures { (s : State) → Stands s self.now → IsWhole s.graph self.now }
     {
         self.table.law();
     }

@@ -12,10 +12,10 @@ ghost use Rattle.heap_model.specs.Graph.{Graph};
 ghost use Rattle.alloc_buffers.specs.Placement.{closed};
 ghost use Rattle.cards.specs.Cards.{is_dirty};
 ghost use Rattle.step_core.specs.Stands.{ShowsGraph, KeepsFrom};
-ghost use Rattle.step_core.specs.Pause.{IsReady, HasPaused};
+ghost use Rattle.step_core.specs.Pause.{IsReady, EvacuatesBest, HasPaused};
 
 use crate::candidates::choose_regions;
-use crate::heap::{CARD_WORDS, Core};
+use crate::heap::Core;
 use evacuation::{Moved, evacuate};
 
 impl Core {
@@ -38,7 +38,7 @@ impl Core {
         requires closed { self.old.buffers ≡ closed self.old.buffers.words (length self.old.buffers.open_buffers) }
         ensures shows { (g : Graph) → ShowsGraph g self.old → ShowsGraph g self.new }
         ensures keeps { (s : Graph) → KeepsFrom s self.old → KeepsFrom s self.new }
-        ensures paused { HasPaused budget result.regions result.words self.old self.new }
+        ensures evacuates { EvacuatesBest budget result.regions result.words self.old self.old self.new }
         ensures few { result.regions < 2 ^ 32 }
     {
         self.table.law();
@@ -59,7 +59,7 @@ impl Core {
             self.roots.as_mut_slice(),
             &mut self.room,
             &self.rows[..count],
-            CARD_WORDS,
+            self.config.card_words(),
         )
     }
 

@@ -1,12 +1,13 @@
 //! The mutator's steps.
 
 ghost use Rattle.std.specs.Prelude.{◌≡◌, ℕ, ◌<◌, ◌≤◌, ◌+◌, ◌*◌, ◌↔◌, ◌≢◌, ◌⊎◌, Option, Some, None};
+ghost use Rattle.heap_words.specs.Sizes.{size_of};
 ghost use Rattle.heap_model.specs.Graph.{Graph, next_name};
 ghost use Rattle.heap_model.specs.Heap.{IsShown};
 ghost use Rattle.object_graph.specs.Machine.{stored};
 ghost use Rattle.object_graph.specs.declared.step.Reply.TheVariants as replies;
 ghost use Rattle.object_graph.specs.declared.step.Refusal.TheVariants as refusals;
-ghost use Rattle.step_core.specs.Stands.{ShowsGraph, KeepsFrom, Stands, heap_of, IsWordOf, IsRootWord};
+ghost use Rattle.step_core.specs.Stands.{ShowsGraph, KeepsFrom, State, Stands, heap_of, IsWordOf, IsRootWord};
 ghost use Rattle.step_core.specs.Answers.{Acts, HasNoPlace, IsFull, RepliesFull, Follows};
 ghost use Rattle.step_core.specs.Mutators.{ActsOn, value_of};
 ghost use Rattle.step_core.specs.Cycle.{LeavesRegions};
@@ -172,7 +173,7 @@ impl Core {
         ensures keeps { (s : Graph) → KeepsFrom s self.old → KeepsFrom s self.new }
         ensures after { ActsOn mutator (actions.New to pointers values) result self.old self.new }
         ensures leaves { LeavesRegions self.old self.new }
-        ensures full { HasNoPlace self.old mutator (2 + pointers + values) → (name : Option ℕ) → result ≢ replies.Named name }
+        ensures full { HasNoPlace self.old mutator (size_of pointers values) → (name : Option ℕ) → result ≢ replies.Named name }
     {
         let size = 2 + u64::from(pointers) + u64::from(values);
         let Config { regions, words, .. } = self.config;
@@ -206,8 +207,8 @@ impl Core {
     /// Does a mutator's step.
     pub(crate) fn act(&mut self, op: Op) -> Reply
         requires { op.mutator < self.old.config.mutators }
-        ensures follows { (g s : Graph) → Stands g s self.old → Follows g s (steps.Mutator op) result self.new }
-        ensures full { (g s : Graph) → Stands g s self.old → (result ≡ replies.Refused refusals.Full) ↔ IsFull g op.mutator op.action self.old }
+        ensures follows { (s : State) → Stands s self.old → Follows s (steps.Mutator op) result self.new }
+        ensures full { (s : State) → Stands s self.old → (result ≡ replies.Refused refusals.Full) ↔ IsFull s.graph op.mutator op.action self.old }
         ensures after { ActsOn op.mutator op.action result self.old self.new }
         ensures leaves { LeavesRegions self.old self.new }
     {

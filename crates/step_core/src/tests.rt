@@ -2,11 +2,12 @@
 
 ghost use Rattle.std.specs.Prelude.{◌≡◌, ◌<◌};
 
+mod pauses;
+
 use crate::{Core, RunFault, run};
 use heap_words::addr::{Card, RegionNo};
 use heap_words::config::{Config, NewFault};
 use object_graph::{Action, CollectorStep, GlobalRoot, Op, Refusal, Register, Reply, Step};
-use std::process::Abort;
 use std::test::Fail;
 
 const CONFIG: Config = Config {
@@ -130,35 +131,22 @@ fn every_action(rt: HostRuntime) -> Result<(), Fail> {
     for (mutator, action, reply) in rows {
         assert!(rt; mutator < core.config().mutators);
         assert_eq!(rt;
-            core.step(&rt, Step::Mutator(Op { mutator, action })),
+            core.step(Step::Mutator(Op { mutator, action })),
             reply
         );
     }
     Ok(())
 }
 
-/// A step of the collector that the heap does, None for another one.
-fn collect(rt: &impl Abort, core: &mut Core, step: CollectorStep) -> Option<Reply> {
-    match step {
-        CollectorStep::Begin => Some(core.step(rt, Step::Collector(CollectorStep::Begin))),
-        CollectorStep::Mark(units) => Some(core.step(
-            rt,
-            Step::Collector(CollectorStep::Mark(units)),
-        )),
-        CollectorStep::Remark => Some(core.step(rt, Step::Collector(CollectorStep::Remark))),
-        CollectorStep::Cleanup => Some(core.step(rt, Step::Collector(CollectorStep::Cleanup))),
-        CollectorStep::Refine(cards) => Some(core.step(
-            rt,
-            Step::Collector(CollectorStep::Refine(cards)),
-        )),
-        CollectorStep::Pause(_) => None,
-    }
+/// A step of the collector.
+fn collect(core: &mut Core, step: CollectorStep) -> Reply {
+    core.step(Step::Collector(step))
 }
 
 /// A mutator's action, None for a mutator that isn't there.
-fn act(rt: &impl Abort, core: &mut Core, mutator: u32, action: Action) -> Option<Reply> {
+fn act(core: &mut Core, mutator: u32, action: Action) -> Option<Reply> {
     if mutator < core.config().mutators {
-        Some(core.step(rt, Step::Mutator(Op { mutator, action })))
+        Some(core.step(Step::Mutator(Op { mutator, action })))
     } else {
         None
     }
@@ -193,7 +181,7 @@ fn a_marking_cycle(rt: HostRuntime) -> Result<(), Fail> {
         Action::Drop { register: r1 },
     ];
     for action in made {
-        assert!(rt; act(&rt, &mut core, 0, action).is_some());
+        assert!(rt; act(&mut core, 0, action).is_some());
     }
     let refused = Reply::Refused(Refusal::MarkRunning);
     let idle = Reply::Refused(Refusal::NotMarking);
@@ -215,7 +203,7 @@ fn a_marking_cycle(rt: HostRuntime) -> Result<(), Fail> {
         (CollectorStep::Cleanup, Reply::Reclaimed(0), false, 1),
     ];
     for (step, reply, marking, scans) in before {
-        assert_eq!(rt; collect(&rt, &mut core, step), Some(reply));
+        assert_eq!(rt; collect(&mut core, step), reply);
         assert!(rt; core.marking() == marking && core.scans() == scans);
     }
     let deleted = Action::Put {
@@ -223,9 +211,9 @@ fn a_marking_cycle(rt: HostRuntime) -> Result<(), Fail> {
         field: 0,
         value: None,
     };
-    assert_eq!(rt; act(&rt, &mut core, 0, deleted), Some(Reply::Done));
+    assert_eq!(rt; act(&mut core, 0, deleted), Some(Reply::Done));
     for (step, reply, marking, scans) in after {
-        assert_eq!(rt; collect(&rt, &mut core, step), Some(reply));
+        assert_eq!(rt; collect(&mut core, step), reply);
         assert!(rt; core.marking() == marking && core.scans() == scans);
     }
     Ok(())
@@ -247,21 +235,21 @@ fn reclaims_regions(rt: HostRuntime) -> Result<(), Fail> {
     for round in 0..3u64 {
         for place in 0..6u64 {
             assert_eq!(rt;
-                act(&rt, &mut core, 0, half),
+                act(&mut core, 0, half),
                 Some(Reply::Named(Some(7 + 6 * round + place)))
             );
         }
         assert_eq!(rt;
-            collect(&rt, &mut core, CollectorStep::Begin),
-            Some(Reply::Done)
+            collect(&mut core, CollectorStep::Begin),
+            Reply::Done
         );
         assert_eq!(rt;
-            collect(&rt, &mut core, CollectorStep::Remark),
-            Some(Reply::Marked(1))
+            collect(&mut core, CollectorStep::Remark),
+            Reply::Marked(1)
         );
         assert_eq!(rt;
-            collect(&rt, &mut core, CollectorStep::Cleanup),
-            Some(Reply::Reclaimed(if round == 0 { 2 } else { 3 }))
+            collect(&mut core, CollectorStep::Cleanup),
+            Reply::Reclaimed(if round == 0 { 2 } else { 3 })
         );
     }
     Ok(())
@@ -286,7 +274,7 @@ fn a_card_log_fills(rt: HostRuntime) -> Result<(), Fail> {
             pointers: if number < 4 { 4 } else { 2 },
             values: 2,
         };
-        assert!(rt; act(&rt, &mut core, 0, action).is_some());
+        assert!(rt; act(&mut core, 0, action).is_some());
     }
     let put = |number: u8, field: u32| Action::Put {
         object: Register { number: number % 8 },
@@ -295,28 +283,28 @@ fn a_card_log_fills(rt: HostRuntime) -> Result<(), Fail> {
     };
     for (number, field) in [(0, 0), (0, 1), (1, 0), (2, 0)] {
         assert_eq!(rt;
-            act(&rt, &mut core, 0, put(number, field)),
+            act(&mut core, 0, put(number, field)),
             Some(Reply::Done)
         );
     }
     assert_eq!(rt;
-        collect(&rt, &mut core, CollectorStep::Refine(9)),
-        Some(Reply::Refined(0))
+        collect(&mut core, CollectorStep::Refine(9)),
+        Reply::Refined(0)
     );
-    assert_eq!(rt; act(&rt, &mut core, 0, put(3, 0)), Some(Reply::Done));
+    assert_eq!(rt; act(&mut core, 0, put(3, 0)), Some(Reply::Done));
     assert_eq!(rt; core.queued(), 4);
     assert_eq!(rt;
-        collect(&rt, &mut core, CollectorStep::Refine(3)),
-        Some(Reply::Refined(3))
+        collect(&mut core, CollectorStep::Refine(3)),
+        Reply::Refined(3)
     );
     assert_eq!(rt;
-        collect(&rt, &mut core, CollectorStep::Refine(9)),
-        Some(Reply::Refined(1))
+        collect(&mut core, CollectorStep::Refine(9)),
+        Reply::Refined(1)
     );
-    assert_eq!(rt; act(&rt, &mut core, 0, put(0, 2)), Some(Reply::Done));
+    assert_eq!(rt; act(&mut core, 0, put(0, 2)), Some(Reply::Done));
     assert_eq!(rt;
-        collect(&rt, &mut core, CollectorStep::Refine(9)),
-        Some(Reply::Refined(0))
+        collect(&mut core, CollectorStep::Refine(9)),
+        Reply::Refined(0)
     );
     for card in 0..8u32 {
         for region in 0..4u32 {
@@ -361,11 +349,11 @@ fn faults(rt: HostRuntime) -> Result<(), Fail> {
         regions: 1,
         ..CONFIG
     };
-    match run(rt.alloc(), &rt, &small, &[]) {
+    match run(rt.alloc(), &small, &[]) {
         Err(fault) => assert_eq!(rt; fault, RunFault::Heap(NewFault::BadRegions)),
         Ok(_) => return Err(Fail::from("a heap of one region")),
     }
-    match run(rt.alloc(), &rt, &CONFIG, &[]) {
+    match run(rt.alloc(), &CONFIG, &[]) {
         Err(_) => return Err(Fail::from("a run of no steps")),
         Ok(record) => assert_eq!(rt; record.config(), CONFIG),
     }

@@ -9,7 +9,7 @@ pub(super) struct Case {
     pub err: &'static str,
 }
 
-pub(super) static CASES: [Case; 66] = [
+pub(super) static CASES: [Case; 67] = [
     Case {
         name: "words-not-a-power-of-two",
         script: "heap 4 24 8 1 0\n",
@@ -464,6 +464,13 @@ pub(super) static CASES: [Case; 66] = [
         status: 1,
         out: "",
         err: "g1heap: line 2: 4 BadActor\n",
+    },
+    Case {
+        name: "numbers-at-their-limits-are-steps",
+        script: "heap 4 16 8 1 0\n0 new r0 4294967295 4294967295\n0 write r0 4294967295 18446744073709551615\ngc pause 4294967295\n",
+        status: 0,
+        out: "heap 4 16 8 1 0\n1 0 new r0 4294967295 4294967295 = refused 4 TooBig\n2 0 write r0 4294967295 18446744073709551615 = refused 1 Nil\n3 gc pause 4294967295 = moved 0 0\n",
+        err: "",
     },
     Case {
         name: "weak-slots-256",

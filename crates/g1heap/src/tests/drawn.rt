@@ -1,12 +1,11 @@
-//! 20,000 scripts drawn at random: each runs without a fault, and its record is a run of the graph.
+//! 50,000 scripts drawn at random: each runs without a fault, and its record is a run of the graph.
 
 ghost use Rattle.std.specs.Prelude.{◌≡◌, ◌<◌, All, IfOk};
-ghost use Rattle.step_core.specs.Histories.{IsStepYet};
-ghost use Rattle.step_core.specs.Cycle.{IsCycleStep};
+ghost use Rattle.object_graph.specs.Actors.{IsStep};
 
 use heap_words::config::Config;
 use object_graph::{
-    Action, CollectorStep, GlobalRoot, Op, Refusal, Register, Reply, Step, Verdict, check,
+    Action, CollectorStep, Event, GlobalRoot, Op, Refusal, Register, Reply, Step, Verdict, check,
 };
 use rand_core::utils::NextWord;
 use rand_pcg::Lcg64Xsh32;
@@ -87,21 +86,30 @@ fn action(draw: &mut Lcg64Xsh32) -> Action {
     }
 }
 
-fn collection(draw: &mut Lcg64Xsh32) -> CollectorStep
-    ensures { IsCycleStep result }
-{
-    match below(draw, 7) {
-        5..=6 => CollectorStep::Refine(below(draw, 5)),
-        0 => CollectorStep::Begin,
-        1 => CollectorStep::Mark(below(draw, 3)),
-        2..=3 => CollectorStep::Remark,
-        _ => CollectorStep::Cleanup,
+/// None, a few words, many, or more than any heap has.
+fn budget(draw: &mut Lcg64Xsh32) -> u32 {
+    match below(draw, 4) {
+        0 => below(draw, 2) * below(draw, 8),
+        1 => below(draw, 32),
+        2 => below(draw, 200),
+        _ => u32::MAX - below(draw, 2),
+    }
+}
+
+fn collection(draw: &mut Lcg64Xsh32) -> CollectorStep {
+    match below(draw, 10) {
+        0..=1 => CollectorStep::Begin,
+        2 => CollectorStep::Mark(below(draw, 3)),
+        3..=4 => CollectorStep::Remark,
+        5 => CollectorStep::Cleanup,
+        6..=7 => CollectorStep::Refine(below(draw, 5)),
+        _ => CollectorStep::Pause(budget(draw)),
     }
 }
 
 fn step(config: &Config, draw: &mut Lcg64Xsh32) -> Step
     requires { 0 < config.now.mutators }
-    ensures { IsStepYet config.now result }
+    ensures { IsStep config.now result }
 {
     if below(draw, 4) == 0 {
         return Step::Collector(collection(draw));
@@ -118,7 +126,7 @@ fn script(
     count: u32,
 ) -> Result<Vec<Step>, AllocError>
     requires { 0 < config.now.mutators }
-    ensures { IfOk result (λ steps. All (IsStepYet config.now) steps.items) }
+    ensures { IfOk result (λ steps. All (IsStep config.now) steps.items) }
 {
     let mut steps = Vec::new(alloc);
     for _ in 0..count {
@@ -141,40 +149,72 @@ fn sizes(draw: &mut Lcg64Xsh32) -> Config
     }
 }
 
-/// What happened in all records together: how many regions were reclaimed, objects marked, cards refined, and steps refused
-/// for want of room.
+/// What happened in all records together.
 #[derive(Drop)]
 struct Tally {
+    /// Whether marking runs, in the present record.
+    marking: bool,
+    /// Regions that a cleanup reclaimed.
     reclaimed: u64,
+    /// Objects that were marked.
     marked: u64,
+    /// Steps that were refused for want of room.
     full: u64,
+    /// Cards that were refined.
     refined: u64,
+    /// Pauses that copied something.
+    copying: u64,
+    /// Those of them while marking ran.
+    copying_while_marking: u64,
+    /// Regions that a pause reclaimed.
+    evacuated: u64,
 }
 
 impl Tally {
-    fn count(&mut self, reply: Reply) {
-        match reply {
+    fn count(&mut self, event: &Event) {
+        if event.step == Step::Collector(CollectorStep::Begin) && event.reply == Reply::Done {
+            self.marking = true;
+        }
+        match event.reply {
             Reply::Reclaimed(count) => {
                 self.reclaimed = self.reclaimed.saturating_add(u64::from(count));
             }
-            Reply::Marked(count) => self.marked = self.marked.saturating_add(u64::from(count)),
+            Reply::Marked(count) => {
+                self.marking = false;
+                self.marked = self.marked.saturating_add(u64::from(count));
+            }
             Reply::Refined(count) => self.refined = self.refined.saturating_add(u64::from(count)),
+            Reply::Moved { regions, words } => self.count_pause(regions, words),
             Reply::Refused(Refusal::Full) => self.full = self.full.saturating_add(1),
             _ => {}
         }
     }
+
+    fn count_pause(&mut self, regions: u32, words: u32) {
+        self.evacuated = self.evacuated.saturating_add(u64::from(regions));
+        if words > 0 {
+            self.copying = self.copying.saturating_add(1);
+            if self.marking {
+                self.copying_while_marking = self.copying_while_marking.saturating_add(1);
+            }
+        }
+    }
 }
 
-/// 5,000 scripts of 80 steps, drawn from these seeds on. Many objects are marked, regions are reclaimed, often a heap is full,
-/// and cards are refined.
+/// 10,000 scripts of 80 steps, drawn from these seeds on. Many objects are marked, regions are reclaimed by cleanups and by pauses,
+/// pauses copy, while marking runs too, often a heap is full, and cards are refined.
 fn drawn_from(rt: &impl Abort, alloc: Global, first: u64) -> Result<(), Fail> {
     let mut tally = Tally {
+        marking: false,
         reclaimed: 0,
         marked: 0,
         full: 0,
         refined: 0,
+        copying: 0,
+        copying_while_marking: 0,
+        evacuated: 0,
     };
-    for place in 0..5_000u64 {
+    for place in 0..10_000u64 {
         let seed = first.wrapping_add(place);
         let mut draw = Lcg64Xsh32::new(seed, 54);
         let config = sizes(&mut draw);
@@ -184,12 +224,15 @@ fn drawn_from(rt: &impl Abort, alloc: Global, first: u64) -> Result<(), Fail> {
         };
         let verdict = check(alloc, &record)?;
         assert_eq!(rt; verdict, Verdict::Yes(80), "seed {seed}");
+        tally.marking = false;
         for event in record.events() {
-            tally.count(event.reply);
+            tally.count(event);
         }
     }
-    assert!(rt; tally.reclaimed > 1_000 && tally.marked > 20_000);
-    assert!(rt; tally.full > 4_500 && tally.refined > 80);
+    assert!(rt; tally.reclaimed > 1_000 && tally.marked > 40_000);
+    assert!(rt; tally.full > 13_000 && tally.refined > 400);
+    assert!(rt; tally.copying > 15_000 && tally.copying_while_marking > 4_500);
+    assert!(rt; tally.evacuated > 28_000);
     Ok(())
 }
 
@@ -199,16 +242,21 @@ fn drawn_scripts(rt: HostRuntime) -> Result<(), Fail> {
 }
 
 #[test]
-fn more_drawn_scripts(rt: HostRuntime) -> Result<(), Fail> {
-    drawn_from(&rt, rt.alloc(), 5_000)
-}
-
-#[test]
-fn third_drawn_scripts(rt: HostRuntime) -> Result<(), Fail> {
+fn second_drawn_scripts(rt: HostRuntime) -> Result<(), Fail> {
     drawn_from(&rt, rt.alloc(), 10_000)
 }
 
 #[test]
+fn third_drawn_scripts(rt: HostRuntime) -> Result<(), Fail> {
+    drawn_from(&rt, rt.alloc(), 20_000)
+}
+
+#[test]
+fn fourth_drawn_scripts(rt: HostRuntime) -> Result<(), Fail> {
+    drawn_from(&rt, rt.alloc(), 30_000)
+}
+
+#[test]
 fn last_drawn_scripts(rt: HostRuntime) -> Result<(), Fail> {
-    drawn_from(&rt, rt.alloc(), 15_000)
+    drawn_from(&rt, rt.alloc(), 40_000)
 }

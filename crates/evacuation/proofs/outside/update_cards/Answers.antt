@@ -1,15 +1,8 @@
-use Rattle.std.proofs.Common.{arith}
+use Rattle.std.proofs.Common.{arith, length}
 use Rattle.evacuation.specs.Turns.{layout, space}
 use Rattle.evacuation.proofs.After.{after_after, same_after}
-use Rattle.evacuation.proofs.CardScans.{cards_none, cards_more}
-use Rattle.evacuation.proofs.Words.{cards_few}
+use Rattle.evacuation.proofs.CardScans.{cards_none, cards_more, cards_skipped}
 use Rattle.evacuation.proofs.outside.update_cards.Goals as goal
-
-pub overflow_cast-card-end : goal.overflow_cast-card-end
-overflow_cast-card-end g c =
-    let (premises, (turn, (flags, (card, (each, (tams, (marks, visited))))))) = c.requires in
-    let n = cards_few g.pause premises in
-    omega (arith, n, visited)
 
 pub loop-card-init : goal.loop-card-init
 loop-card-init g c =
@@ -18,24 +11,27 @@ loop-card-init g c =
       turn = turn;
       after = same_after (layout g.pause) c.args.noted.now (space g.pause c.args.table.now) c.args.destinations.now;
       each = each;
+      inside = omega arith;
       clean = cards_none g.pause c.args.visited.now c.args.table.now;
     }
 
-pub visit_card-requires : goal.visit_card-requires
-visit_card-requires g c =
+pub update_card-requires : goal.update_card-requires
+update_card-requires g c =
     let (premises, (turn, (flags, (card, (each, (tams, (marks, visited))))))) = c.requires in
     let v = c.loop-card.invariant in
-    (premises, (v.turn, (flags, (card, (v.each, (tams, (marks, (visited, c.loop-card-test.true))))))))
+    (premises, (v.turn, (flags, (card, (v.each, (tams, (marks, omega (arith, visited, c.in-Some.ensures.within))))))))
 
 pub loop-card-preserved : goal.loop-card-preserved
 loop-card-preserved g c =
     let v = c.loop-card.invariant in
+    let before = cards_skipped g.pause c.loop-card.table c.args.visited.now c.loop-card.start c.in-Some.card v.clean c.in-Some.ensures.lowest.lowest in
     record {
-      turn = c.visit_card.ensures.turn;
-      after = after_after (layout g.pause) c.args.noted.now c.loop-card.noted c.visit_card.new.noted _ _ _ _ _ _ v.after c.visit_card.ensures.after;
-      each = c.visit_card.ensures.each_card;
-      clean = cards_more g.pause c.loop-card.table c.visit_card.new.table c.loop-card.destinations c.visit_card.new.destinations c.loop-card.noted c.visit_card.new.noted c.args.visited.now c.loop-card.card v.turn c.visit_card.ensures.after v.clean c.visit_card.ensures.clean;
+      turn = c.update_card.ensures.turn;
+      after = after_after (layout g.pause) c.args.noted.now c.loop-card.noted c.update_card.new.noted _ _ _ _ _ _ v.after c.update_card.ensures.after;
+      each = c.update_card.ensures.each_card;
+      inside = omega (arith, c.in-Some.ensures.within);
+      clean = cards_more g.pause c.loop-card.table c.update_card.new.table c.loop-card.destinations c.update_card.new.destinations c.loop-card.noted c.update_card.new.noted c.args.visited.now c.in-Some.card v.turn c.update_card.ensures.after before (c.update_card.ensures.clean c.args.visited.now);
     }
 
 pub returns-clause-clean : goal.returns-clause-clean
-returns-clause-clean g c = λ b i v h. c.loop-card.invariant.clean b i v (let t = c.loop-card-test.false in omega (arith, t, h))
+returns-clause-clean g c = cards_skipped g.pause c.loop-card.table c.args.visited.now c.loop-card.start (length c.args.visited.now) c.loop-card.invariant.clean (λ a h k. c.in_default.ensures.lowest a h)

@@ -19,6 +19,7 @@ returns g c =
     let whole = (subst (λ (t : Table). After g.pause c.args.noted.now c.settle_copies.new.noted t c.settle_copies.new.table c.args.destinations.now c.settle_copies.new.destinations) start after) in
     record {
       only = whole.noted_for;
+      len = whole.noted_length;
       turn = c.settle_copies.ensures.turn;
       each_card = c.settle_copies.ensures.each_card;
       moved = ends.relocated g.pause premises c.settle_copies.new.noted c.args.visited.now c.settle_copies.new.table c.settle_copies.new.destinations c.update_roots.new.roots c.settle_copies.ensures.turn moved c.settle_copies.ensures.settled visited clean all;

@@ -1,5 +1,6 @@
 use Rattle.evacuation.specs.Space.{flag}
 use Rattle.std.proofs.Common.{◌≡◌, ◌∙◌, ℕ, sym, ap, refl, subst, ◌+◌, ◌/◌, length, false, zero, suc, inl, inr, true, List, Bool, replicate}
+use Rattle.std.proofs.lemmas.List.{length-replicate}
 use Rattle.regions.proofs.Sizes.{EachMovedIn-imp}
 use Rattle.remembered_sets.specs.Sets.{card_count}
 use Rattle.object_copy.specs.Copies.{Places}
@@ -29,7 +30,7 @@ copy_reached-requires c =
           (
             refl,
             (
-              asked.cards_are h c.args.chosen.now c.args.card_words c.requires.can c.law.ensures c.flag_chosen.new.set c.flag_chosen.ensures.flags (c.flag_chosen.ensures.len ∙ c.requires.each_region) (length c.clear_flags.new.flags) (c.clear_flags.auto.flags ∙ c.requires.each_noted),
+              asked.cards_are h c.args.chosen.now c.args.card_words c.requires.can c.law.ensures c.flag_chosen.new.set c.flag_chosen.ensures.flags (c.flag_chosen.ensures.len ∙ c.requires.each_region) (length c.clear.new.self) (ap length c.clear.ensures ∙ length-replicate (length c.args.noted.now) false ∙ c.requires.each_noted),
               (
                 refl,
                 (
@@ -63,5 +64,5 @@ returns-clause-evacuated c =
     c.release_chosen.new.tams c.release_chosen.new.bitmaps.previous c.release_chosen.new.bitmaps.next c.dirty_noted.new.cards c.release_chosen.new.sets c.copy_reached.new.roots c.copy_reached.new.noted c.law-2.ensures
     previous next c.release_chosen.ensures.sets c.dirty_noted.ensures.dirty c.dirty_noted.ensures.logs c.dirty_noted.ensures.queue c.dirty_noted.ensures.len
     c.copy_reached.ensures.moved c.copy_reached.ensures.reached c.copy_reached.ensures.words c.copy_reached.ensures.noted c.copy_reached.ensures.clean
-    (λ k e. elim (c.copy_reached.ensures.only k e) [ inl o ↦ absurd (none_noted (length c.args.noted.now) k (ap (λ (m : List Bool). flag m k) (sym c.clear_flags.ensures) ∙ o)) | inr x ↦ x ]) in
+    (λ k e. elim (c.copy_reached.ensures.only k e) [ inl o ↦ absurd (none_noted (length c.args.noted.now) k (ap (λ (m : List Bool). flag m k) (sym c.clear.ensures) ∙ o)) | inr x ↦ x ]) in
     subst (λ (n : ℕ). HasEvacuated c.args.chosen.now c.args.card_words n h (record { table = c.release_chosen.new.table; tams = c.release_chosen.new.tams; previous = c.release_chosen.new.bitmaps.previous; next = c.release_chosen.new.bitmaps.next; cards = c.dirty_noted.new.cards; sets = c.release_chosen.new.sets; roots = c.copy_reached.new.roots })) (sym c.words.ensures) all

@@ -14,7 +14,7 @@ loop-region-preserved c =
     elim c.if-is_free.branch [
       | then-is_free t ↦ let free : kind_of c.args.table.now n ≡ kinds.Free = ap (kind_of c.args.table.now) (sym c.new.ensures) ∙ c.is_free.ensures.yes t.if-is_free.true in record {
         flags = subst (λ (f : List Bool). AreCleared c.args.table.now c.args.visited.now f w (n + 1)) (sym t.visited-is)
-            (cleared c.args.table.now c.args.visited.now c.loop-region.visited t.clear_range.new.flags w n some i.flags free t.clear_range.ensures.inside t.clear_range.ensures.below t.clear_range.ensures.above);
+            (cleared c.args.table.now c.args.visited.now c.loop-region.visited t.clear_range.new.self w n some i.flags free t.clear_range.ensures.flags);
         len = ap (λ (f : List Bool). length f) t.visited-is ∙ t.clear_range.ensures.len ∙ i.len;
       }
       | else-is_free t ↦ let used : kind_of c.args.table.now n ≢ kinds.Free = λ f. c.is_free.ensures.no t.if-is_free.false (ap (kind_of c.args.table.now) c.new.ensures ∙ f) in record {

@@ -10,8 +10,8 @@ loop-step-preserved c =
     let pushed = c.in_ok-push.ensures.ok in
     let events = ap (λ (r : EventList). r.events) pushed in
     record {
-      history = λ g s st. subst (λ (es : List Event). Runs g s c.args.core.now es c.step-reply.new.self) (sym events)
-          (goes_on g s c.args.core.now c.loop-step.done.events _ c.loop-step.core c.step-reply.new.self (c.loop-step.invariant.history g s st)
+      history = λ s st. subst (λ (es : List Event). Runs s c.args.core.now es c.step-reply.new.self) (sym events)
+          (goes_on s c.args.core.now c.loop-step.done.events _ c.loop-step.core c.step-reply.new.self (c.loop-step.invariant.history s st)
           c.step-reply.ensures.follows c.step-reply.ensures.does c.step-reply.ensures.full c.remembers.ensures.core c.remembers.ensures.cards c.whole.ensures);
       steps = ap (λ (es : List Event). map step_of es) events ∙ grown step_of c.loop-step.done.events _ c.args.steps.now c.loop-step.step-index c.step-item.result c.loop-step.invariant.steps c.loop-step-test.true c.step-item.is;
       actors = ap (λ (es : List Event). map actor_in es) events

@@ -1,6 +1,6 @@
 use Rattle.std.proofs.Common.{sym}
 use Rattle.cards.specs.Cards.{ListsDirtyOnce}
-use Rattle.step_core.specs.Stands.{ShowsGraph, KeepsFrom}
+use Rattle.step_core.specs.Stands.{ShowsGraph, KeepsFrom, IsCore}
 use Rattle.step_core.proofs.Cycling.{to_fields}
 use Rattle.step_core.proofs.Ready.{closed_shows, closed_keeps, closed_kept, is_ready}
 use Rattle.step_core.proofs.heap.Core.make_ready.Goals as goal
@@ -16,4 +16,4 @@ returns-clause-keeps c = λ s f. c.refine.ensures.keeps s (closed_keeps _ _ _ s 
 
 pub returns-clause-ready : goal.returns-clause-ready
 returns-clause-ready c = is_ready _ _ _ _ _ _ _ c.self.view_is c.close_all.ensures.closed c.flush_all.ensures c.queued-queued.ensures c.refine.ensures.refined
-    (to_fields _ _ (sym c.self-2.view_is) (λ d. ListsDirtyOnce d.cards) c.law.ensures.listed)
+    (to_fields _ _ (sym c.self-2.view_is) (λ d. ListsDirtyOnce d.cards) c.law.ensures.listed) c.self.invariant (to_fields _ _ (sym c.self-2.view_is) (λ d. IsCore d) c.self-2.invariant)

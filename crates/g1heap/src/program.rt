@@ -1,0 +1,84 @@
+//! The whole program: its words, the file that they name, and the status.
+
+ghost use Rattle.std.specs.Prelude.{◌≡◌, ◌≢◌, ◌≤◌, ◌⊎◌, List, ℕ, Option};
+ghost use Rattle.std.specs.Io.KnownBytes.{Keeps};
+ghost use Rattle.clap.specs.Values.{kind_of};
+ghost use Rattle.g1heap.specs.FaultLines.{TellsLine};
+ghost use Rattle.g1heap.specs.Runs.{Performs};
+
+use crate::job::{Job, misspelt, read_words};
+use crate::perform::{conclude, perform};
+use crate::script::ScriptFault;
+use clap::Error;
+use clap::error::ErrorKind;
+use script_text::ReadFault;
+use std::alloc::Global;
+use std::env::Env;
+use std::fs::Files;
+use std::io::Write;
+use std::{env, fs, io};
+use step_core::RunFault;
+
+/// Opens the job's file and does the job, and answers the program's status.
+pub fn open_and_perform<F: Files, W: Write, E: Write>(
+    files: &F,
+    alloc: Global,
+    job: &Job,
+    out: &mut W,
+    err: &mut E,
+) -> u8
+    ensures { (given left : Option (List ℕ)) × Performs given left (W.contents out.old) (W.contents out.new) (E.contents err.old) (E.contents err.new) result }
+{
+    match fs::open(files, job.file()) {
+        Ok(mut file) => perform(alloc, job, &mut file, out, err),
+        Err(_) => conclude(Err(ScriptFault::Read(ReadFault::CannotRead)), err),
+    }
+}
+
+/// Answers words that ask for no job: status 0 for help, which goes to standard output, and 2 for a mistake, whose text goes to
+/// standard error; 1 where memory was refused.
+pub fn refuse<W: Write, E: Write>(error: &Error, out: &mut W, err: &mut E) -> u8
+    ensures memory { kind_of error.now ≡ ErrorKind.OutOfMemory → (result ≡ 1) × Keeps (W.contents out.old) (W.contents out.new) × TellsLine (ScriptFault.Run RunFault.NoMemory) (E.contents err.old) (E.contents err.new) }
+    ensures mistake { kind_of error.now ≢ ErrorKind.OutOfMemory → kind_of error.now ≢ ErrorKind.DisplayHelp → kind_of error.now ≢ ErrorKind.DisplayVersion → (result ≡ 2) × Keeps (W.contents out.old) (W.contents out.new) }
+    ensures help { (kind_of error.now ≡ ErrorKind.DisplayHelp) ⊎ (kind_of error.now ≡ ErrorKind.DisplayVersion) → (result ≡ 0) × Keeps (E.contents err.old) (E.contents err.new) }
+{
+    if error.kind() == ErrorKind::OutOfMemory {
+        return conclude(Err(ScriptFault::Run(RunFault::NoMemory)), err);
+    }
+    if error.use_stderr() {
+        let _ = write!(err, "{error}");
+        2
+    } else {
+        let _ = write!(out, "{error}");
+        0
+    }
+}
+
+/// The words of the command line, the program's name first. A fault is want of memory, or a word that isn't text.
+fn words<R: Env + AllocGlobal>(rt: &R) -> io::Result<Vec<String>> {
+    let args = env::args(rt)?;
+    Ok(args.collect(rt.alloc())?)
+}
+
+/// Does what the command line asks for, and answers the program's status.
+pub fn program<R: Env + Files + AllocGlobal, W: Write, E: Write>(
+    rt: &R,
+    out: &mut W,
+    err: &mut E,
+) -> u8
+    ensures { result ≤ 2 }
+{
+    let words = match words(rt) {
+        Ok(words) => words,
+        Err(error) => {
+            if error.kind() == io::ErrorKind::OutOfMemory {
+                return conclude(Err(ScriptFault::Run(RunFault::NoMemory)), err);
+            }
+            return refuse(&misspelt(rt.alloc()), out, err);
+        }
+    };
+    match read_words(rt.alloc(), words.as_slice()) {
+        Ok(job) => open_and_perform(rt, rt.alloc(), &job, out, err),
+        Err(error) => refuse(&error, out, err),
+    }
+}

@@ -1,0 +1,219 @@
+//! The whole program, on words and a file that a test makes.
+
+ghost use Rattle.std.specs.Prelude.{◌≡◌};
+
+use crate::program::program;
+use std::alloc::{Allocator, Global};
+use std::env::{Env, FillError};
+use std::fs::{Files, Metadata, OpenFile, OpenOptions};
+use std::io;
+use std::io::{ErrorKind, Read, Seek, SeekFrom, Write};
+use std::test::Fail;
+
+/// A file that can be read.
+#[derive(Drop)]
+struct TextFile<'a> {
+    rest: &'a [u8],
+}
+
+fn refused() -> io::Error {
+    io::Error::from(ErrorKind::Unsupported)
+}
+
+impl Read for TextFile<'_> {
+    fn read(&mut self, buf: &mut [u8]) -> io::Result<usize> {
+        self.rest.read(buf)
+    }
+}
+
+impl Write for TextFile<'_> {
+    fn write(&mut self, _buf: &[u8]) -> io::Result<usize> {
+        Err(refused())
+    }
+
+    fn flush(&mut self) -> io::Result<()> {
+        Ok(())
+    }
+}
+
+impl Seek for TextFile<'_> {
+    fn seek(&mut self, _to: SeekFrom) -> io::Result<u64> {
+        Err(refused())
+    }
+}
+
+impl OpenFile for TextFile<'_> {
+    fn metadata(&self) -> io::Result<Metadata> {
+        Err(refused())
+    }
+
+    fn set_len(&self, _size: u64) -> io::Result<()> {
+        Err(refused())
+    }
+
+    fn sync_all(&self) -> io::Result<()> {
+        Err(refused())
+    }
+
+    fn sync_data(&self) -> io::Result<()> {
+        Err(refused())
+    }
+}
+
+/// A system with the words of a command line and one file.
+#[derive(Drop)]
+struct System<'a> {
+    words: &'a [&'a [u8]],
+    path: &'a str,
+    text: &'a [u8],
+}
+
+impl Env for System<'_> {
+    fn arg(&self, i: usize, buf: &mut [u8]) -> Result<usize, FillError> {
+        let Some(word) = self.words.get(i) else {
+            return Err(FillError::NotPresent);
+        };
+        if buf.len() < word.len() {
+            return Err(FillError::TooLong);
+        }
+        buf[..word.len()].copy_from_slice(word);
+        Ok(word.len())
+    }
+
+    fn var(&self, _name: &str, _buf: &mut [u8]) -> Result<usize, FillError> {
+        Err(FillError::NotPresent)
+    }
+
+    fn var_at(&self, _i: usize, _buf: &mut [u8]) -> Result<usize, FillError> {
+        Err(FillError::NotPresent)
+    }
+}
+
+impl<'a> Files for System<'a> {
+    type File = TextFile<'a>;
+
+    type Dir = TextFile<'a>;
+
+    fn open_file(&self, _how: &OpenOptions, path: &str) -> io::Result<TextFile<'a>> {
+        if path == self.path {
+            Ok(TextFile { rest: self.text })
+        } else {
+            Err(io::Error::from(ErrorKind::NotFound))
+        }
+    }
+
+    fn open_dir(&self, _path: &str) -> io::Result<TextFile<'a>> {
+        Err(refused())
+    }
+
+    fn metadata(&self, _path: &str) -> io::Result<Metadata> {
+        Err(refused())
+    }
+
+    fn symlink_metadata(&self, _path: &str) -> io::Result<Metadata> {
+        Err(refused())
+    }
+
+    fn copy(&self, _from: &str, _to: &str) -> io::Result<u64> {
+        Err(refused())
+    }
+
+    fn rename(&self, _from: &str, _to: &str) -> io::Result<()> {
+        Err(refused())
+    }
+
+    fn remove_file(&self, _path: &str) -> io::Result<()> {
+        Err(refused())
+    }
+
+    fn create_dir(&self, _path: &str) -> io::Result<()> {
+        Err(refused())
+    }
+
+    fn remove_dir(&self, _path: &str) -> io::Result<()> {
+        Err(refused())
+    }
+
+    fn remove_dir_all<B: Allocator>(&self, _alloc: B, _path: &str) -> io::Result<()> {
+        Err(refused())
+    }
+}
+
+const SCRIPT: &[u8] = b"heap 4 16 8 1 0\n0 new r0 1 1\n";
+
+const RECORD: &str = "heap 4 16 8 1 0\n1 0 new r0 1 1 = #0\n";
+
+/// What the program answers and writes where the file `given.heap` holds a text.
+fn outcome(
+    alloc: Global,
+    words: &[&[u8]],
+    text: &[u8],
+    out: &mut Vec<u8>,
+    err: &mut Vec<u8>,
+) -> u8 {
+    let system = System {
+        words,
+        path: "given.heap",
+        text,
+    };
+    program(&(system, alloc), out, err)
+}
+
+/// Each line is done, or refused with its status, and the lines of faults go to standard error.
+#[test]
+fn jobs(rt: HostRuntime) -> Result<(), Fail> {
+    let alloc = rt.alloc();
+    let rows: [(&[u8], &[u8], u8, &str, &str); 6] = [
+        (b"given.heap", SCRIPT, 0, RECORD, ""),
+        (b"other.heap", SCRIPT, 1, "", "g1heap: cannot read\n"),
+        (b"given.hea", SCRIPT, 1, "", "g1heap: cannot read\n"),
+        (b"given.heap", b"", 1, "", "g1heap: line 1: 3 BadHeap\n"),
+        (
+            b"given.heap",
+            b"heap 4 16 8 1 0\nx\n",
+            1,
+            "",
+            "g1heap: line 2: 4 BadActor\n",
+        ),
+        (
+            b"given.heap",
+            b"heap 4 24 8 1 0\n",
+            1,
+            "",
+            "g1heap: heap: 2 BadWords\n",
+        ),
+    ];
+    for (file, text, status, record, line) in rows {
+        let mut out = Vec::new(alloc);
+        let mut err = Vec::new(alloc);
+        let words: [&[u8]; 3] = [b"g1heap", b"run", file];
+        assert_eq!(rt; outcome(alloc, &words, text, &mut out, &mut err), status);
+        assert_eq!(rt; out.as_slice(), record.as_bytes());
+        assert_eq!(rt; err.as_slice(), line.as_bytes());
+    }
+    Ok(())
+}
+
+/// Words that ask for no job: help goes to standard output with status 0, a mistake to standard error with status 2. A word that isn't
+/// UTF-8 is a mistake.
+#[test]
+fn refusals(rt: HostRuntime) -> Result<(), Fail> {
+    let alloc = rt.alloc();
+    let rows: [(&[&[u8]], u8); 7] = [
+        (&[b"g1heap", b"--help"], 0),
+        (&[b"g1heap", b"run", b"--help"], 0),
+        (&[b"g1heap"], 2),
+        (&[], 2),
+        (&[b"g1heap", b"walk", b"given.heap"], 2),
+        (&[b"g1heap", b"run"], 2),
+        (&[b"g1heap", b"run", b"given.heap\xff"], 2),
+    ];
+    for (words, status) in rows {
+        let mut out = Vec::new(alloc);
+        let mut err = Vec::new(alloc);
+        assert_eq!(rt; outcome(alloc, words, SCRIPT, &mut out, &mut err), status);
+        assert_eq!(rt; out.is_empty(), status == 2);
+        assert_eq!(rt; err.is_empty(), status == 0);
+    }
+    Ok(())
+}
