@@ -7,6 +7,7 @@
 #include <algorithm>
 #include <cstdint>
 #include <cstring>
+#include <functional>
 #include <memory>
 #include <utility>
 #include <vector>
@@ -180,6 +181,7 @@ public:
             free_regions_.add(region);
         }
         rows_.reserve(sizes.regions);
+        chosen_.reserve(sizes.regions);
         destinations_.reserve(sizes.regions);
     }
 
@@ -326,7 +328,7 @@ public:
         for (Number mutator = 0; mutator < sizes_.mutators; ++mutator) flush_card_log(mutator);
         while (queue_count_ != 0) refine_first();
         choose(budget);
-        if (rows_.empty()) return reply(Form::Moved);
+        if (chosen_.empty()) return reply(Form::Moved);
         return evacuate();
     }
 
@@ -587,7 +589,8 @@ private:
 
     // The pause.
 
-    // Leaves the collection set in rows_: live bound and region, the least live first, within the copy limit.
+    // Leaves the collection set in chosen_: the least live regions first, by number where they are alike, within the
+    // copy limit. A row is a live bound and a region in one word.
     void choose(Number budget) {
         Word limit = std::min(Word(budget), Word(free_count_) * sizes_.words / 2);
         rows_.clear();
@@ -598,19 +601,24 @@ private:
             // A region that by itself is over the limit is never taken.
             if (bound < sizes_.words && bound <= limit) rows_.push_back(Word(bound) << 32 | number);
         }
-        std::sort(rows_.begin(), rows_.end());
-        std::size_t count = 0;
+        // Mostly a few of many rows are taken, so that a heap of rows is cheaper than sorting them all.
+        std::make_heap(rows_.begin(), rows_.end(), std::greater<Word>());
+        chosen_.clear();
         Word sum = 0;
-        while (count < rows_.size() && sum + (rows_[count] >> 32) <= limit) sum += rows_[count++] >> 32;
-        rows_.resize(count);
+        while (!rows_.empty() && sum + (rows_.front() >> 32) <= limit) {
+            sum += rows_.front() >> 32;
+            std::pop_heap(rows_.begin(), rows_.end(), std::greater<Word>());
+            chosen_.push_back(Number(rows_.back()));
+            rows_.pop_back();
+        }
     }
 
     Reply evacuate() {
         copied_ = 0;
         destinations_.clear();
-        for (Word row : rows_) {
-            regions_[Number(row)].role = Role::Chosen;
-            gather_covered(Number(row));
+        for (Number number : chosen_) {
+            regions_[number].role = Role::Chosen;
+            gather_covered(number);
         }
         for (Word& pointer : roots_)
             if (pointer != 0) pointer = moved(pointer);
@@ -629,13 +637,13 @@ private:
             for (Address at = bottom(number); at < regions_[number].top; at += object_size(words_[at]))
                 settle_fields(at, number);
         }
-        for (Word row : rows_) release(Number(row));
+        for (Number number : chosen_) release(number);
         for (Number number : destinations_) regions_[number].role = Role::None;
         noted_.drain([&](Number card) {
             dirty_[card] = 1;
             enqueue(card);
         });
-        return reply(Form::Moved, rows_.size(), copied_);
+        return reply(Form::Moved, chosen_.size(), copied_);
     }
 
     // Leads the fields of a copy to the new places of what they name.
@@ -708,6 +716,7 @@ private:
 
     CardSet covered_, noted_;
     std::vector<Word> rows_;
+    std::vector<Number> chosen_;
     std::vector<Number> destinations_;
     Word copied_ = 0;
 };
