@@ -1,14 +1,13 @@
 -- The heap that a test evacuates.
-use Rattle.std.proofs.Common.{◌≡◌, ◌≢◌, ◌∙◌, ℕ, zero, suc, ◌+◌, ◌-◌, ◌*◌, ◌/◌, ◌%◌, ◌<◌, ◌≤◌, Bool, true, false, List, [], ◌∷◌, Option, Some, None, length, get_or, replicate, refl, sym, ap, subst, arith}
+use Rattle.std.proofs.Common.{◌≡◌, ◌∙◌, ℕ, zero, suc, ◌+◌, ◌-◌, ◌*◌, ◌/◌, ◌%◌, ◌<◌, ◌≤◌, Bool, true, false, List, [], ◌∷◌, Option, Some, None, length, get_or, refl, sym, ap, subst, arith}
 use Rattle.std.specs.Prelude.{All, slice_get, nat_le, if◌then◌else◌}
 use Rattle.std.proofs.lemmas.List.{length-replicate}
-use Rattle.heap_model.specs.Heap.{Stored, IsClosed, fields}
+use Rattle.heap_model.specs.Heap.{Stored, fields}
 use Rattle.regions.specs.Tiles.{Live, Gap, tile_size, tile_at}
-use Rattle.regions.specs.Table.{Table, Region, Free, Ordinary, AreHalves, HasNoMoved, fields_at, free_count, kind_of, object_at, put_object, push_tile, region_at, region_number, region_tile, replace_tile, set_field, tile_in, tile_object, used_of, new_object, gap}
+use Rattle.regions.specs.Table.{Table, Free, Ordinary, AreHalves, HasNoMoved, fields_at, free_count, kind_of, object_at, put_object, push_tile, region_at, region_number, region_tile, replace_tile, set_field, tile_in, tile_object, used_of, new_object, gap}
 use Rattle.regions.specs.declared.row.Kind.TheVariants as kinds
 use Rattle.regions.proofs.Samples.{sample, filled1, IsUsable}
-use Rattle.mark_bitmap.specs.Tops.{Tops, bottoms, is_below}
-use Rattle.mark_bitmap.specs.Kept.{MarksObjects, kept_in}
+use Rattle.mark_bitmap.specs.Tops.{bottoms, is_below}
 use Rattle.mark_bitmap.specs.Live.{live_bound_of}
 use Rattle.mark_bitmap.proofs.ObjectLaws.{none_marked}
 use Rattle.mark_bitmap.proofs.Samples.{fresh_objects}
@@ -18,7 +17,7 @@ use Rattle.remembered_sets.specs.Sets.{Sets, card_count, empty_set}
 use Rattle.region_choice.specs.Choice.{live_sum}
 use Rattle.region_choice.specs.declared.LiveRow.{LiveRow}
 use Rattle.refinement.proofs.Holders.{kept_object}
-use Rattle.evacuation.specs.Evacuates.{Layers, CanEvacuate, IsRow, heap_of, kept_of}
+use Rattle.evacuation.specs.Evacuates.{Layers, CanEvacuate, IsRow, kept_of}
 use Rattle.evacuation.specs.Samples.{IsFresh, NamesItself, selfish}
 
 abbrev whole : Table

@@ -1,5 +1,5 @@
 -- The heap that a test evacuates.
-use Rattle.std.specs.Prelude.{◌≡◌, ℕ, false, List, Option, Some, [], ◌∷◌, replicate}
+use Rattle.std.specs.Prelude.{◌≡◌, false, Some, [], ◌∷◌, replicate}
 use Rattle.heap_model.specs.Heap.{Stored}
 use Rattle.regions.specs.Tiles.{Live}
 use Rattle.regions.specs.Table.{Table, Free, Ordinary}

@@ -1,11 +1,10 @@
 -- The table that the tests copy from.
-use Rattle.std.proofs.Common.{◌≡◌, ◌∙◌, ℕ, ◌+◌, ◌-◌, ◌*◌, ◌/◌, ◌<◌, ◌≤◌, None, [], ◌∷◌, length, refl, arith}
+use Rattle.std.proofs.Common.{◌≡◌, ℕ, ◌+◌, ◌-◌, ◌/◌, [], ◌∷◌, length, refl, arith}
 use Rattle.std.specs.Prelude.{IsSome, Some}
 use Rattle.regions.specs.Tiles.{Live, Gap}
 use Rattle.regions.specs.Table.{Table, Free, Ordinary, gap, kind_of, new_object, object_at, object_words, push_tile, region_at, region_number, replace_tile, tile_in, used_of}
 use Rattle.regions.specs.declared.row.Kind.TheVariants as kinds
 use Rattle.regions.proofs.Samples.{sample, filled1, IsUsable}
-use Rattle.object_copy.specs.Copies.{Places, no_places}
 use Rattle.object_copy.specs.Samples.{IsCopyable, copied}
 
 abbrev pub pushed : Table
