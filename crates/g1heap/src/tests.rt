@@ -268,48 +268,49 @@ fn broken_writer(rt: HostRuntime) -> Result<(), Fail> {
     Ok(())
 }
 
+/// The words of each fault's line.
+static FAULTS: [(ScriptFault, &str); 13] = [
+    (ScriptFault::Read(ReadFault::CannotRead), "cannot read"),
+    (ScriptFault::Read(ReadFault::NoMemory), "cannot read"),
+    (
+        ScriptFault::Line(LineFault {
+            line: 18_446_744_073_709_551_615,
+            kind: Kind::LongLine,
+        }),
+        "line 18446744073709551615: 2 LongLine",
+    ),
+    (ScriptFault::Run(RunFault::BadWorkers), "run: 1 BadWorkers"),
+    (ScriptFault::Run(RunFault::NoMemory), "run: 2 NoMemory"),
+    (ScriptFault::Run(RunFault::NoWorker), "run: 3 NoWorker"),
+    (ScriptFault::Run(RunFault::Unfinished), "run: 4 Unfinished"),
+    (
+        ScriptFault::Run(RunFault::Heap(NewFault::BadRegions)),
+        "heap: 1 BadRegions",
+    ),
+    (
+        ScriptFault::Run(RunFault::Heap(NewFault::BadWords)),
+        "heap: 2 BadWords",
+    ),
+    (
+        ScriptFault::Run(RunFault::Heap(NewFault::BadBuffer)),
+        "heap: 3 BadBuffer",
+    ),
+    (
+        ScriptFault::Run(RunFault::Heap(NewFault::BadMutators)),
+        "heap: 4 BadMutators",
+    ),
+    (ScriptFault::Write(WriteFault::CannotWrite), "cannot write"),
+    (ScriptFault::Write(WriteFault::NoMemory), "run: 2 NoMemory"),
+];
+
 /// The line and the status of each fault.
 #[test]
 fn fault_lines(rt: HostRuntime) -> Result<(), Fail> {
     let alloc = rt.alloc();
-    let line = LineFault {
-        line: 18_446_744_073_709_551_615,
-        kind: Kind::LongLine,
-    };
-    let faults = [
-        (ScriptFault::Read(ReadFault::CannotRead), "cannot read"),
-        (ScriptFault::Read(ReadFault::NoMemory), "cannot read"),
-        (
-            ScriptFault::Line(line),
-            "line 18446744073709551615: 2 LongLine",
-        ),
-        (ScriptFault::Run(RunFault::BadWorkers), "run: 1 BadWorkers"),
-        (ScriptFault::Run(RunFault::NoMemory), "run: 2 NoMemory"),
-        (ScriptFault::Run(RunFault::NoWorker), "run: 3 NoWorker"),
-        (ScriptFault::Run(RunFault::Unfinished), "run: 4 Unfinished"),
-        (
-            ScriptFault::Run(RunFault::Heap(NewFault::BadRegions)),
-            "heap: 1 BadRegions",
-        ),
-        (
-            ScriptFault::Run(RunFault::Heap(NewFault::BadWords)),
-            "heap: 2 BadWords",
-        ),
-        (
-            ScriptFault::Run(RunFault::Heap(NewFault::BadBuffer)),
-            "heap: 3 BadBuffer",
-        ),
-        (
-            ScriptFault::Run(RunFault::Heap(NewFault::BadMutators)),
-            "heap: 4 BadMutators",
-        ),
-        (ScriptFault::Write(WriteFault::CannotWrite), "cannot write"),
-        (ScriptFault::Write(WriteFault::NoMemory), "run: 2 NoMemory"),
-    ];
-    for (fault, words) in faults {
+    for (fault, words) in &FAULTS {
         let mut err = Vec::new(alloc);
-        assert_eq!(rt; tell(fault, &mut err), Ok(()));
-        assert_eq!(rt; conclude(Err(fault), &mut err), 1);
+        assert_eq!(rt; tell(*fault, &mut err), Ok(()));
+        assert_eq!(rt; conclude(Err(*fault), &mut err), 1);
         let twice = format!(in alloc; "g1heap: {words}\ng1heap: {words}\n")?;
         assert_eq!(rt; err.as_slice(), twice.as_bytes());
     }
