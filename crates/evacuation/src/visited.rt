@@ -48,12 +48,14 @@ fn clear_free(visited: &mut Bits, table: &RegionTable, cards_per_region: u32)
     ensures free { (card : ℕ) → kind_of table.now (card / cards_per_region) ≡ kinds.Free → flag visited.new card ≡ false }
     ensures len { length visited.new ≡ length visited.old }
 {
+    table.law();
     visited.law();
-    for region in 0..table.region_count() {
-        if is_free(table, RegionNo::new(region)) {
-            let from = region * cards_per_region;
-            visited.clear_range(from, from + cards_per_region);
+    let mut start = 0;
+    while let Some(card) = visited.next(start) {
+        if is_free(table, RegionNo::new(card / cards_per_region)) {
+            visited.clear_range(card, card + 1);
         }
+        start = card + 1;
     }
 }
 

@@ -121,8 +121,12 @@ impl Bits {
         ensures within { IfSome result (λ found. found < length self.now) }
     {
         for index in from / 64..self.len.div_ceil(64) {
+            let all = self.words[index as usize];
+            if all == 0 {
+                continue;
+            }
             let low = from.saturating_sub(64 * index);
-            let word = self.words[index as usize] & u64::MAX << low;
+            let word = all & u64::MAX << low;
             if word != 0 {
                 let found = 64 * index + word.trailing_zeros();
                 return if found < self.len { Some(found) } else { None };

@@ -1,9 +1,13 @@
-use Rattle.std.proofs.Common.{◌≡◌, length}
+use Rattle.std.proofs.Common.{◌≡◌, ◌≤◌, ◌-◌, length}
 use Rattle.evacuation.proofs.Visiting.{AreCleared}
 use Rattle.evacuation.proofs.visited.clear_free.Given as goal
 
-abbrev pub invariant-loop-region : goal.invariant-loop-region
-invariant-loop-region l = record {
-  flags : AreCleared l.table l.initial.visited l.visited l.cards_per_region l.region;
+abbrev pub invariant-loop-card : goal.invariant-loop-card
+invariant-loop-card l = record {
+  flags : AreCleared l.table l.initial.visited l.visited l.cards_per_region l.start;
+  inside : l.start ≤ length l.visited;
   len : length l.visited ≡ length l.initial.visited;
 }
+
+abbrev pub decreases-loop-card : goal.decreases-loop-card
+decreases-loop-card l = length l.visited - l.start

@@ -10,15 +10,15 @@ loop-index-init c = λ a h k. absurd (omega arith)
 pub loop-index-preserved : goal.loop-index-preserved
 loop-index-preserved c =
     let low : ℕ = c.saturating_sub-low.result in
-    let w : IsWord (bit_of c.self.inside.words.items) c.args.from c.loop-index.index (bit_and c.index.result.now (high_mask low)) =
-    bits_word c.self.inside.words.items c.self.inside.len c.args.from c.loop-index.index low c.index.result.now _ c.self.inside.words.ok.0 c.self.invariant (omega (arith, c.div_ceil-index-end.ensures)) c.index.ensures (omega (arith, c.saturating_sub-low.ensures)) (omega (arith, c.saturating_sub-low.ensures)) in
+    let w : IsWord (bit_of c.self.inside.words.items) c.args.from c.loop-index.index (bit_and c.index-all.result.now (high_mask low)) =
+    bits_word c.self.inside.words.items c.self.inside.len c.args.from c.loop-index.index low c.index-all.result.now _ c.self.inside.words.ok.0 c.self.invariant (omega (arith, c.div_ceil-index-end.ensures)) c.index-all.ensures (omega (arith, c.saturating_sub-low.ensures)) (omega (arith, c.saturating_sub-low.ensures)) in
     none_in_word _ _ _ _ w c.loop-index.invariant c.if-word-ne0.false
 
 pub returns-then-found-self : goal.returns-then-found-self
 returns-then-found-self c =
     let low : ℕ = c.saturating_sub-low.result in
-    let w : IsWord (bit_of c.self.inside.words.items) c.args.from c.loop-index.index (bit_and c.index.result.now (high_mask low)) =
-    bits_word c.self.inside.words.items c.self.inside.len c.args.from c.loop-index.index low c.index.result.now _ c.self.inside.words.ok.0 c.self.invariant (omega (arith, c.div_ceil-index-end.ensures)) c.index.ensures (omega (arith, c.saturating_sub-low.ensures)) (omega (arith, c.saturating_sub-low.ensures)) in
+    let w : IsWord (bit_of c.self.inside.words.items) c.args.from c.loop-index.index (bit_and c.index-all.result.now (high_mask low)) =
+    bits_word c.self.inside.words.items c.self.inside.len c.args.from c.loop-index.index low c.index-all.result.now _ c.self.inside.words.ok.0 c.self.invariant (omega (arith, c.div_ceil-index-end.ensures)) c.index-all.ensures (omega (arith, c.saturating_sub-low.ensures)) (omega (arith, c.saturating_sub-low.ensures)) in
     record {
       lowest = found_inside _ _ c.self.inside.len _ _ _ (bits_agree _ _ _ c.self.view_is) w c.loop-index.invariant (omega arith) c.if-found-self.true;
       within = omega (arith, c.if-found-self.true, length-flags_of c.self.inside.words.items c.self.inside.len, ap length c.self.view_is);
@@ -27,8 +27,8 @@ returns-then-found-self c =
 pub returns-else-found-self : goal.returns-else-found-self
 returns-else-found-self c =
     let low : ℕ = c.saturating_sub-low.result in
-    let w : IsWord (bit_of c.self.inside.words.items) c.args.from c.loop-index.index (bit_and c.index.result.now (high_mask low)) =
-    bits_word c.self.inside.words.items c.self.inside.len c.args.from c.loop-index.index low c.index.result.now _ c.self.inside.words.ok.0 c.self.invariant (omega (arith, c.div_ceil-index-end.ensures)) c.index.ensures (omega (arith, c.saturating_sub-low.ensures)) (omega (arith, c.saturating_sub-low.ensures)) in
+    let w : IsWord (bit_of c.self.inside.words.items) c.args.from c.loop-index.index (bit_and c.index-all.result.now (high_mask low)) =
+    bits_word c.self.inside.words.items c.self.inside.len c.args.from c.loop-index.index low c.index-all.result.now _ c.self.inside.words.ok.0 c.self.invariant (omega (arith, c.div_ceil-index-end.ensures)) c.index-all.ensures (omega (arith, c.saturating_sub-low.ensures)) (omega (arith, c.saturating_sub-low.ensures)) in
     record {
       lowest = found_past _ _ c.self.inside.len _ _ _ (bits_agree _ _ _ c.self.view_is) w c.loop-index.invariant (omega arith) c.if-found-self.false;
       within = tt;
