@@ -1,5 +1,7 @@
 //! The command line.
 
+ghost use Rattle.std.specs.Prelude.{◌≡◌};
+
 use clap::error::ErrorKind;
 use clap::{Arg, ArgAction, Command, Error};
 use std::alloc::{AllocError, Global};
@@ -20,11 +22,16 @@ pub struct Job<'a> {
 
 impl<'a> Job<'a> {
     /// The path of the script or record.
-    pub fn file(&self) -> &'a str {
+    pub fn file(&self) -> &'a str
+        ensures { result.now ≡ self.now.file.now }
+    {
         self.file
     }
 
-    pub fn task(&self) -> Task {
+    /// What is done with it.
+    pub fn task(&self) -> Task
+        ensures { result ≡ self.now.task }
+    {
         self.task
     }
 }
