@@ -1,6 +1,6 @@
 //! A heap as it is seen from outside: every object, every region and every root.
 
-ghost use Rattle.std.specs.Prelude.{◌≡◌, ◌<◌, IsSome};
+ghost use Rattle.std.specs.Prelude.{◌<◌, IsSome};
 ghost use Rattle.regions.specs.Table.{object_at, tile_in};
 
 use crate::Core;
