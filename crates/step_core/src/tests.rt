@@ -3,6 +3,7 @@
 ghost use Rattle.std.specs.Prelude.{◌≡◌, ◌<◌};
 
 mod pauses;
+mod places;
 
 use crate::{Core, RunFault, run};
 use heap_words::addr::{Card, RegionNo};
@@ -317,6 +318,30 @@ fn remembers(core: &Core, region: u32, card: u32) -> Option<(bool, bool)> {
     }
     let covered = core.sets.covers(RegionNo::new(region), Card::new(card));
     Some((covered, core.cards.is_dirty(Card::new(card))))
+}
+
+/// A run of two steps has an event for each, and the calls that tell a proof something change nothing.
+#[test]
+fn a_run(rt: HostRuntime) -> Result<(), Fail> {
+    let steps = [
+        Step::Collector(CollectorStep::Begin),
+        Step::Collector(CollectorStep::Remark),
+    ];
+    let Ok(record) = run(rt.alloc(), &CONFIG, &steps) else {
+        return Err(Fail::from("a run of two steps"));
+    };
+    let replies = [Reply::Done, Reply::Marked(0)];
+    assert_eq!(rt; record.events().len(), 2);
+    for (event, reply) in record.events().iter().zip(replies) {
+        assert_eq!(rt; event.reply, reply);
+    }
+    let Ok(core) = Core::new(rt.alloc(), &CONFIG) else {
+        return Err(Fail::from("a core"));
+    };
+    core.remembers();
+    core.whole();
+    assert!(rt; core.queued() == 0 && !core.marking());
+    Ok(())
 }
 
 /// The faults of a run print as they are told.
