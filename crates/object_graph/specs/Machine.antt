@@ -47,10 +47,10 @@ stored g mutator (Some register) = root_at g (register_place mutator register.nu
 
 -- the ten steps of a mutator
 abbrev pub act : Graph → ℕ → Action → Outcome
-act g m (actions.New to p d) =
-    if nat_lt g.room (size_of p d) then refused g refusals.TooBig
+act g m (actions.New to counts) =
+    if nat_lt g.room (size_of counts.pointers counts.values) then refused g refusals.TooBig
     else if next_name g == 2 ^ 64 - 1 then refused g refusals.NamesSpent
-    else (replies.Named (Some (next_name g)), with_object g (record { pointers = replicate p None; values = replicate d 0 }) (register_place m to.number))
+    else (replies.Named (Some (next_name g)), with_object g (record { pointers = replicate counts.pointers None; values = replicate counts.values 0 }) (register_place m to.number))
 act g m (actions.Get to object i) = on_object g m object (λ name x. on_field g (slice_get x.pointers i) (λ value. (replies.Named value, with_root g (register_place m to.number) value)))
 act g m (actions.Put object i value) = on_object g m object (λ name x. on_field g (slice_get x.pointers i) (λ old. (replies.Done, with_changed g name (record x { pointers = slice_set x.pointers i (stored g m value) }))))
 act g m (actions.Read object j) = on_object g m object (λ name x. on_field g (slice_get x.values j) (λ word. (replies.Word word, g)))

@@ -30,7 +30,7 @@ IsCollectorReply _ _ = ⊥
 
 -- the action asks for an object
 abbrev pub IsNew : Action → Type 0
-IsNew (actions.New to p d) = Unit {0}
+IsNew (actions.New to counts) = Unit {0}
 IsNew _ = ⊥
 
 -- the step would create an object

@@ -4,7 +4,9 @@ ghost use Rattle.std.specs.Prelude.{◌≡◌, ◌<◌, ◌≤◌, ◌+◌, ◌*
 ghost use Rattle.object_graph.specs.Run.{IsCollectorReply};
 
 use crate::object::Object;
-use crate::step::{Action, CollectorStep, Event, GlobalRoot, Op, Refusal, Register, Reply, Step};
+use crate::step::{
+    Action, CollectorStep, Counts, Event, GlobalRoot, Op, Refusal, Register, Reply, Step,
+};
 use heap_words::config::Config;
 use std::alloc::{AllocError, Global};
 use std::marker::Model;
@@ -70,15 +72,14 @@ impl Graph {
         &mut self,
         mutator: u32,
         to: Register,
-        pointers: u32,
-        values: u32,
+        counts: Counts,
     ) -> Result<Reply, AllocError>
         requires { mutator < self.old.mutators }
-        ensures ok { IfOk result (λ reply. (reply, self.new) ≡ act self.old mutator (Action.New to pointers values)) }
+        ensures ok { IfOk result (λ reply. (reply, self.new) ≡ act self.old mutator (Action.New to counts)) }
         ensures err { OnErr result (self.new ≡ self.old) }
-        ensures memory { ((act self.old mutator (Action.New to pointers values)).0 ≢ Reply.Named (Some (next_name self.old))) → IsOk result }
+        ensures memory { ((act self.old mutator (Action.New to counts)).0 ≢ Reply.Named (Some (next_name self.old))) → IsOk result }
     {
-        if self.room < 2 + u64::from(pointers) + u64::from(values) {
+        if self.room < counts.size() {
             return Ok(Reply::Refused(Refusal::TooBig));
         }
         let name = self.first_name + self.objects.len() as u64;
@@ -87,8 +88,8 @@ impl Graph {
         }
         let alloc = *self.objects.allocator();
         let object = Object {
-            pointers: vec![in alloc; None; pointers as usize]?,
-            values: vec![in alloc; 0; values as usize]?,
+            pointers: vec![in alloc; None; counts.pointers as usize]?,
+            values: vec![in alloc; 0; counts.values as usize]?,
         };
         self.objects.push(object)?;
         self.roots[16 + 8 * mutator as usize + to.number as usize] = Some(name);
@@ -224,11 +225,7 @@ impl Graph {
     {
         let mutator = op.mutator;
         match op.action {
-            Action::New {
-                to,
-                pointers,
-                values,
-            } => self.new_object(mutator, to, pointers, values),
+            Action::New { to, counts } => self.new_object(mutator, to, counts),
             Action::Get { to, object, field } => Ok(self.get(mutator, to, object, field)),
             Action::Put {
                 object,
@@ -257,12 +254,8 @@ impl Graph {
         ensures { IsTrue result ↔ Creates self.now op }
     {
         match op.action {
-            Action::New {
-                pointers,
-                values,
-                ..
-            } => {
-                self.room >= 2 + u64::from(pointers) + u64::from(values)
+            Action::New { counts, .. } => {
+                self.room >= counts.size()
                     && self.first_name + self.objects.len() as u64 != u64::MAX
             }
             _ => false,

@@ -30,5 +30,5 @@ pub use judge::{Verdict, check, judged_once, run_once};
 pub use object::Object;
 pub use record::{Plan, Record};
 pub use step::{
-    Action, Actor, CollectorStep, Event, GlobalRoot, Op, Refusal, Register, Reply, Step,
+    Action, Actor, CollectorStep, Counts, Event, GlobalRoot, Op, Refusal, Register, Reply, Step,
 };

@@ -8,7 +8,7 @@ use crate::graph::Graph;
 use crate::judge::{Verdict, check};
 use crate::record::{Plan, Record};
 use crate::step::{
-    Action, Actor, CollectorStep, Event, GlobalRoot, Op, Refusal, Register, Reply, Step,
+    Action, Actor, CollectorStep, Counts, Event, GlobalRoot, Op, Refusal, Register, Reply, Step,
 };
 use heap_words::config::Config;
 use std::alloc::AllocError;
@@ -38,8 +38,7 @@ fn new(to: u8, pointers: u32, values: u32) -> Action
 {
     Action::New {
         to: r(to),
-        pointers,
-        values,
+        counts: Counts { pointers, values },
     }
 }
 

@@ -25,7 +25,7 @@ use Rattle.script_text.proofs.Actions.{action_again}
 use Rattle.script_text.proofs.Spelled.{IsWord, AreWords, literal, number_word, small_word, register_is_word, global_is_word, value_is_word, word1, word2, word3, word4, words_again, spaced_short, no_feed}
 
 action_is_words : (a : Action) → Fits a → AreWords (action_words a)
-action_is_words (actions.New to p d) fits = word4 _ _ _ _ (literal (codes "new") refl refl) (register_is_word to) (small_word p fits.0) (small_word d fits.1)
+action_is_words (actions.New to counts) fits = word4 _ _ _ _ (literal (codes "new") refl refl) (register_is_word to) (small_word counts.pointers fits.0) (small_word counts.values fits.1)
 action_is_words (actions.Get to object i) fits = word4 _ _ _ _ (literal (codes "get") refl refl) (register_is_word to) (register_is_word object) (small_word i fits)
 action_is_words (actions.Put object i value) fits = word4 _ _ _ _ (literal (codes "put") refl refl) (register_is_word object) (small_word i fits) (value_is_word value)
 action_is_words (actions.Read object j) fits = word3 _ _ _ (literal (codes "read") refl refl) (register_is_word object) (small_word j fits)
@@ -37,7 +37,7 @@ action_is_words (actions.Save to from) fits = word3 _ _ _ (literal (codes "save"
 action_is_words (actions.Shape object) fits = word2 _ _ (literal (codes "shape") refl refl) (register_is_word object)
 
 few_action_words : (a : Action) → length (action_words a) ≤ 4
-few_action_words (actions.New to p d) = omega arith
+few_action_words (actions.New to counts) = omega arith
 few_action_words (actions.Get to object i) = omega arith
 few_action_words (actions.Put object i value) = omega arith
 few_action_words (actions.Read object j) = omega arith

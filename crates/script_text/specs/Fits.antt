@@ -12,7 +12,7 @@ use Rattle.script_text.specs.Reading.{small, large}
 
 -- the numbers of an action are those of its type
 abbrev pub Fits : Action → Type 0
-Fits (actions.New to p d) = (p ≤ small) × (d ≤ small)
+Fits (actions.New to counts) = (counts.pointers ≤ small) × (counts.values ≤ small)
 Fits (actions.Get to object i) = i ≤ small
 Fits (actions.Put object i value) = i ≤ small
 Fits (actions.Read object j) = j ≤ small

@@ -54,7 +54,7 @@ new_of a b c = do
   to ← register_of a
   p ← number_of small b
   d ← number_of small c
-  Some (actions.New to p d)
+  Some (actions.New to (record { pointers = p; values = d }))
 
 unfoldable pub get_of : List ℕ → List ℕ → List ℕ → Option Action
 get_of a b c = do

@@ -24,7 +24,7 @@ value_word None = codes "nil"
 value_word (Some r) = register_word r
 
 abbrev pub action_words : Action → List (List ℕ)
-action_words (actions.New to p d) = codes "new" ∷ register_word to ∷ decimal p ∷ decimal d ∷ []
+action_words (actions.New to counts) = codes "new" ∷ register_word to ∷ decimal counts.pointers ∷ decimal counts.values ∷ []
 action_words (actions.Get to object i) = codes "get" ∷ register_word to ∷ register_word object ∷ decimal i ∷ []
 action_words (actions.Put object i value) = codes "put" ∷ register_word object ∷ decimal i ∷ value_word value ∷ []
 action_words (actions.Read object j) = codes "read" ∷ register_word object ∷ decimal j ∷ []

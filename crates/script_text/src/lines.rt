@@ -115,13 +115,9 @@ fn put_action(buffer: &mut [u8], at: usize, action: Action) -> usize
     ensures end { result ≤ at + 48 }
 {
     match action {
-        Action::New {
-            to,
-            pointers,
-            values,
-        } => {
-            let at = put_field(buffer, at, b"new ", to, pointers);
-            put_count(buffer, at, b" ", values)
+        Action::New { to, counts } => {
+            let at = put_field(buffer, at, b"new ", to, counts.pointers);
+            put_count(buffer, at, b" ", counts.values)
         }
         Action::Get { to, object, field } => {
             let at = put_named(buffer, at, b"get ", to);

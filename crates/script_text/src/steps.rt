@@ -8,7 +8,7 @@ ghost use Rattle.object_graph.specs.Actors.{IsStep};
 use crate::fault::Kind;
 use crate::words::{global, number, register, small_number, value};
 use heap_words::config::Config;
-use object_graph::{Action, CollectorStep, Op, Step};
+use object_graph::{Action, CollectorStep, Counts, Op, Step};
 
 #[tactic(auto, unfolding(crate::specs::Reading::new_of))]
 fn new_action(to: &[u8], pointers: &[u8], values: &[u8]) -> Option<Action>
@@ -17,11 +17,8 @@ fn new_action(to: &[u8], pointers: &[u8], values: &[u8]) -> Option<Action>
     let to = register(to)?;
     let pointers = small_number(pointers)?;
     let values = small_number(values)?;
-    Some(Action::New {
-        to,
-        pointers,
-        values,
-    })
+    let counts = Counts { pointers, values };
+    Some(Action::New { to, counts })
 }
 
 #[tactic(auto, unfolding(crate::specs::Reading::get_of))]

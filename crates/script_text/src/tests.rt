@@ -3,7 +3,8 @@
 use crate::{Kind, LineFault, ReadFault, WriteFault, parse, read_text, write_record};
 use heap_words::config::Config;
 use object_graph::{
-    Action, Actor, CollectorStep, Event, GlobalRoot, Op, Record, Refusal, Register, Reply, Step,
+    Action, Actor, CollectorStep, Counts, Event, GlobalRoot, Op, Record, Refusal, Register, Reply,
+    Step,
 };
 use std::alloc::Global;
 use std::io;
@@ -31,8 +32,10 @@ fn good_script(rt: HostRuntime) -> Result<(), Fail> {
             mutator: 0,
             action: Action::New {
                 to: Register { number: 0 },
-                pointers: 1,
-                values: 4_294_967_295,
+                counts: Counts {
+                    pointers: 1,
+                    values: 4_294_967_295,
+                },
             },
         }),
         Step::Mutator(Op {
@@ -212,8 +215,10 @@ fn many_forms(alloc: Global) -> Result<Record, Fail> {
         (
             Action::New {
                 to: a,
-                pointers: 4,
-                values: 4_294_967_295,
+                counts: Counts {
+                    pointers: 4,
+                    values: 4_294_967_295,
+                },
             },
             Reply::Named(Some(18_446_744_073_709_551_615)),
         ),

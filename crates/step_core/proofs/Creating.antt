@@ -38,7 +38,7 @@ use Rattle.alloc_buffers.proofs.Above.{above_same}
 abbrev fresh : ℕ → ℕ → Object
 fresh p d = record { pointers = replicate p None; values = replicate d 0 }
 
-act_new : (g : Graph) (m p d : ℕ) (to : Register) → 2 + p + d ≤ g.room → next_name g ≢ 2 ^ 64 - 1 → act g m (actions.New to p d) ≡ (replies.Named (Some (next_name g)), with_object g (fresh p d) (register_place m to.number))
+act_new : (g : Graph) (m p d : ℕ) (to : Register) → 2 + p + d ≤ g.room → next_name g ≢ 2 ^ 64 - 1 → act g m (actions.New to (record { pointers = p; values = d })) ≡ (replies.Named (Some (next_name g)), with_object g (fresh p d) (register_place m to.number))
 act_new g m p d to h n = grind (arith, common_steps, nat_tests)
 
 nil_shown : (h : Heap) (p : ℕ) → AllZip (IsShown h) (replicate p None) (replicate p None)
@@ -101,12 +101,12 @@ module _ (k : CoreState) (m : ℕ) (to : Register) (t1 t2 : Table) (b1 : Buffers
       below : is_below k.table.words_per_region k.marker.tams.previous a ≡ false
       below = new_below k.marker.tams.previous core.layers.above_previous
 
-  pub new_acts : (g : Graph) → ShowsGraph g k → Acts g m (actions.New to p d) (replies.Named (Some k.next)) (with_new k t2 b1 (register_place m to.number) a)
+  pub new_acts : (g : Graph) → ShowsGraph g k → Acts g m (actions.New to (record { pointers = p; values = d })) (replies.Named (Some k.next)) (with_new k t2 b1 (register_place m to.number) a)
   new_acts g s =
       let next = s.next in
       let fits : 2 + p + d ≤ g.room = rw s.room room in
       let there : next_name g ≢ 2 ^ 64 - 1 = λ h. names (sym next ∙ h) in
-      acts_by g m (actions.New to p d) (replies.Named (Some k.next)) (with_new k t2 b1 (register_place m to.number) a) (replies.Named (Some (next_name g)), with_object g (fresh p d) (register_place m to.number))
+      acts_by g m (actions.New to (record { pointers = p; values = d })) (replies.Named (Some k.next)) (with_new k t2 b1 (register_place m to.number) a) (replies.Named (Some (next_name g)), with_object g (fresh p d) (register_place m to.number))
       (act_new g m p d to fits there) (ap (λ (j : ℕ). replies.Named (Some j)) (sym next)) (record {
         room = s.room;
         mutators = s.mutators;
@@ -169,7 +169,7 @@ module _ (k : CoreState) (m : ℕ) (to : Register) (t1 t2 : Table) (b1 : Buffers
         rows = core.rows;
         places = length-set k.roots (register_place m to.number) (Some a) ∙ core.places;
         names = (let old = core.names in omega arith);
-        state = record { graph = (act core.state.graph m (actions.New to p d)).1; snapshot = core.state.snapshot };
+        state = record { graph = (act core.state.graph m (actions.New to (record { pointers = p; values = d }))).1; snapshot = core.state.snapshot };
         stands = record { shows = shows; keeps = keeps };
       }
     where

@@ -12,6 +12,8 @@ use Rattle.object_graph.specs.declared.step.Action.{Action}
 use Rattle.object_graph.specs.declared.step.Action.TheVariants as actions
 use Rattle.object_graph.specs.declared.step.Step.TheVariants as steps
 use Rattle.object_graph.specs.declared.step.Event.{Event}
+use Rattle.heap_words.specs.Sizes.{size_of}
+use Rattle.object_graph.specs.declared.step.Counts.{Counts}
 use Rattle.object_graph.specs.declared.step.Register.{Register}
 use Rattle.object_graph.specs.declared.step.Reply.{Reply}
 use Rattle.object_graph.specs.declared.step.Reply.TheVariants as replies
@@ -29,12 +31,12 @@ acted s o m a reply c em ea h keeps =
     let same : act g m a ≡ act g o.mutator o.action = ap (λ (n : ℕ). act g n a) (sym em) ∙ ap (act g o.mutator) (sym ea) in
     record { after = (act g m a).1; happens = inl (ap (λ (r : Reply). (r, (act g m a).1)) h.reply_is ∙ same); stands = record { shows = h.shows; keeps = keeps } }
 
-pub created : (s : State) (o : Op) (m p d : ℕ) (to : Register) (reply : Reply) (c c' : CoreState) → o.mutator ≡ m → o.action ≡ actions.New to p d → Stands s c
-    → Acts s.graph m (actions.New to p d) reply c' ⊎ RepliesFull s.graph m (actions.New to p d) c reply c' → KeepsFrom s.snapshot c' → Follows s (steps.Mutator o) reply c'
-created s o m p d to reply c c' em ea st (inl h) keeps = acted s o m (actions.New to p d) reply c' em ea h keeps
-created s o m p d to reply c c' em ea st (inr h) keeps =
+pub created : (s : State) (o : Op) (m : ℕ) (counts : Counts) (to : Register) (reply : Reply) (c c' : CoreState) → o.mutator ≡ m → o.action ≡ actions.New to counts → Stands s c
+    → Acts s.graph m (actions.New to counts) reply c' ⊎ RepliesFull s.graph m (actions.New to counts) c reply c' → KeepsFrom s.snapshot c' → Follows s (steps.Mutator o) reply c'
+created s o m counts to reply c c' em ea st (inl h) keeps = acted s o m (actions.New to counts) reply c' em ea h keeps
+created s o m counts to reply c c' em ea st (inr h) keeps =
     let g = s.graph in
-    let same : act g m (actions.New to p d) ≡ act g o.mutator o.action = ap (λ (n : ℕ). act g n (actions.New to p d)) (sym em) ∙ ap (act g o.mutator) (sym ea) in
+    let same : act g m (actions.New to counts) ≡ act g o.mutator o.action = ap (λ (n : ℕ). act g n (actions.New to counts)) (sym em) ∙ ap (act g o.mutator) (sym ea) in
     let new : IsNew o.action = subst IsNew (sym ea) tt in
     record { after = g; happens = inr ((new, sym (ap (λ (x : Outcome). x.0) same) ∙ h.full.0), h.reply_is, refl); stands = record { shows = subst (λ (d : CoreState). ShowsGraph g d) (sym h.same) st.shows; keeps = keeps } }
 
@@ -73,12 +75,12 @@ pub acts_not_full : (g : Graph) (m : ℕ) (a : Action) (reply : Reply) (c : Core
 acts_not_full g m a reply c h is = act-not_full g m a (sym h.reply_is ∙ is)
 
 -- a new object, or the reply Full: Full exactly where there is no place
-pub full_exactly : (g : Graph) (m p d : ℕ) (to : Register) (reply : Reply) (c c' : CoreState)
-    → Acts g m (actions.New to p d) reply c' ⊎ RepliesFull g m (actions.New to p d) c reply c'
-    → (HasNoPlace c m (2 + p + d) → (name : Option ℕ) → reply ≡ replies.Named name → ⊥)
-    → (reply ≡ replies.Refused refusals.Full) ↔ IsFull g m (actions.New to p d) c
-full_exactly g m p d to reply c c' (inl h) none = (λ is. absurd (acts_not_full g m (actions.New to p d) reply c' h is), λ full. absurd (none full.1 _ (h.reply_is ∙ full.0)))
-full_exactly g m p d to reply c c' (inr h) none = (λ is. h.full, λ full. h.reply_is)
+pub full_exactly : (g : Graph) (m : ℕ) (counts : Counts) (to : Register) (reply : Reply) (c c' : CoreState)
+    → Acts g m (actions.New to counts) reply c' ⊎ RepliesFull g m (actions.New to counts) c reply c'
+    → (HasNoPlace c m (size_of counts.pointers counts.values) → (name : Option ℕ) → reply ≡ replies.Named name → ⊥)
+    → (reply ≡ replies.Refused refusals.Full) ↔ IsFull g m (actions.New to counts) c
+full_exactly g m counts to reply c c' (inl h) none = (λ is. absurd (acts_not_full g m (actions.New to counts) reply c' h is), λ full. absurd (none full.1 _ (h.reply_is ∙ full.0)))
+full_exactly g m counts to reply c c' (inr h) none = (λ is. h.full, λ full. h.reply_is)
 
 one_more : {A : Type 0} (f : Event → A) (es : List Event) (e : Event) → map f (es ++ e ∷ []) ≡ map f es ++ f e ∷ []
 one_more f [] e = refl

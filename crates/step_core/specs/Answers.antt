@@ -26,7 +26,7 @@ HasNoPlace c m size = (c.table.words_per_region < 2 * size) ⊎ (place_of c.tabl
 
 -- the graph creates an object, and the heap has no place for it
 abbrev pub IsFull : Graph → ℕ → Action → CoreState → Type 0
-IsFull g m (actions.New to p d) c = ((act g m (actions.New to p d)).0 ≡ replies.Named (Some (next_name g))) × HasNoPlace c m (size_of p d)
+IsFull g m (actions.New to counts) c = ((act g m (actions.New to counts)).0 ≡ replies.Named (Some (next_name g))) × HasNoPlace c m (size_of counts.pointers counts.values)
 IsFull g m _ c = ⊥
 
 -- the same of a step: the collector creates nothing

@@ -12,6 +12,7 @@ use Rattle.refinement.specs.Remembering.{field_word}
 use Rattle.object_graph.specs.State.{register_place}
 use Rattle.object_graph.specs.declared.step.Action.{Action}
 use Rattle.object_graph.specs.declared.step.Action.TheVariants as actions
+use Rattle.object_graph.specs.declared.step.Counts.{Counts}
 use Rattle.object_graph.specs.declared.step.Register.{Register}
 use Rattle.object_graph.specs.declared.step.Reply.{Reply}
 use Rattle.object_graph.specs.declared.step.Reply.TheVariants as replies
@@ -50,10 +51,10 @@ abbrev pub with_pointer : CoreState → ℕ → ℕ → ℕ → Option ℕ → C
 with_pointer c m a i w = record c { table = set_pointer c.table a i w; cards = noted c m (field_word a i) w }
 
 -- the core with a new object in its place, which a root place names
-abbrev pub with_made : CoreState → ℕ → ℕ → ℕ → Option Placement → CoreState
-with_made c place p d None = c
-with_made c place p d (Some x) = record c {
-  table = replace_tile x.table x.at (Live (new_object c.next p d) ∷ []);
+abbrev pub with_made : CoreState → ℕ → Counts → Option Placement → CoreState
+with_made c place counts None = c
+with_made c place counts (Some x) = record c {
+  table = replace_tile x.table x.at (Live (new_object c.next counts.pointers counts.values) ∷ []);
   buffers = x.buffers;
   roots = slice_set c.roots place (Some x.at);
   next = c.next + 1;
@@ -61,7 +62,7 @@ with_made c place p d (Some x) = record c {
 
 -- the core after a step that isn't refused, but for its marker
 abbrev pub core_after : CoreState → ℕ → Action → CoreState
-core_after c m (actions.New to p d) = with_made c (register_place m to.number) p d (place_of c.table c.buffers m (size_of p d))
+core_after c m (actions.New to counts) = with_made c (register_place m to.number) counts (place_of c.table c.buffers m (size_of counts.pointers counts.values))
 core_after c m (actions.Get to object i) = with_root_word c (register_place m to.number) (pointer_of c (object_of c m object) i)
 core_after c m (actions.Put object i value) = with_pointer c m (object_of c m object) i (value_of c m value)
 core_after c m (actions.Read object i) = c

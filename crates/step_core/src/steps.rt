@@ -15,8 +15,9 @@ ghost use Rattle.step_core.specs.Cycle.{LeavesRegions};
 use crate::heap::{Core, register_index};
 use heap_words::addr::Ptr;
 use heap_words::config::Config;
-use heap_words::header::{Count, Counts, FillerSize};
-use object_graph::{Action, GlobalRoot, Op, Refusal, Register, Reply};
+use heap_words::header;
+use heap_words::header::{Count, FillerSize};
+use object_graph::{Action, Counts, GlobalRoot, Op, Refusal, Register, Reply};
 
 impl Core {
     ghost use Rattle.object_graph.specs.declared.step.Action.TheVariants as actions;
@@ -166,16 +167,16 @@ impl Core {
         }
     }
 
-    fn new_object(&mut self, mutator: u32, to: Register, pointers: u32, values: u32) -> Reply
+    fn new_object(&mut self, mutator: u32, to: Register, counts: Counts) -> Reply
         requires { mutator < self.old.config.mutators }
-        ensures acts { (g : Graph) → ShowsGraph g self.old → Acts g mutator (actions.New to pointers values) result self.new
-            ⊎ RepliesFull g mutator (actions.New to pointers values) self.old result self.new }
+        ensures acts { (g : Graph) → ShowsGraph g self.old → Acts g mutator (actions.New to counts) result self.new
+            ⊎ RepliesFull g mutator (actions.New to counts) self.old result self.new }
         ensures keeps { (s : Graph) → KeepsFrom s self.old → KeepsFrom s self.new }
-        ensures after { ActsOn mutator (actions.New to pointers values) result self.old self.new }
+        ensures after { ActsOn mutator (actions.New to counts) result self.old self.new }
         ensures leaves { LeavesRegions self.old self.new }
-        ensures full { HasNoPlace self.old mutator (size_of pointers values) → (name : Option ℕ) → result ≢ replies.Named name }
+        ensures full { HasNoPlace self.old mutator (size_of counts.pointers counts.values) → (name : Option ℕ) → result ≢ replies.Named name }
     {
-        let size = 2 + u64::from(pointers) + u64::from(values);
+        let size = counts.size();
         let Config { regions, words, .. } = self.config;
         if u64::from(regions) * u64::from(words) < size {
             return Reply::Refused(Refusal::TooBig);
@@ -193,9 +194,9 @@ impl Core {
         };
         let name = self.next;
         self.table.law();
-        let counts = Counts {
-            pointers: Count::new(pointers),
-            values: Count::new(values),
+        let counts = header::Counts {
+            pointers: Count::new(counts.pointers),
+            values: Count::new(counts.values),
         };
         self.table
             .make_object(at, FillerSize::new(size as u32), name, counts);
@@ -214,11 +215,7 @@ impl Core {
     {
         let mutator = op.mutator;
         match op.action {
-            Action::New {
-                to,
-                pointers,
-                values,
-            } => self.new_object(mutator, to, pointers, values),
+            Action::New { to, counts } => self.new_object(mutator, to, counts),
             Action::Get { to, object, field } => self.get(mutator, to, object, field),
             Action::Put {
                 object,

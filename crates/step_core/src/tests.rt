@@ -8,7 +8,7 @@ mod places;
 use crate::{Core, RunFault, run};
 use heap_words::addr::{Card, RegionNo};
 use heap_words::config::{Config, NewFault};
-use object_graph::{Action, CollectorStep, GlobalRoot, Op, Refusal, Register, Reply, Step};
+use object_graph::{Action, CollectorStep, Counts, GlobalRoot, Op, Refusal, Register, Reply, Step};
 use std::test::Fail;
 
 const CONFIG: Config = Config {
@@ -37,8 +37,10 @@ fn every_action(rt: HostRuntime) -> Result<(), Fail> {
             0,
             Action::New {
                 to: r0,
-                pointers: 2,
-                values: 1,
+                counts: Counts {
+                    pointers: 2,
+                    values: 1,
+                },
             },
             Reply::Named(Some(7)),
         ),
@@ -46,8 +48,10 @@ fn every_action(rt: HostRuntime) -> Result<(), Fail> {
             0,
             Action::New {
                 to: r1,
-                pointers: 0,
-                values: 1,
+                counts: Counts {
+                    pointers: 0,
+                    values: 1,
+                },
             },
             Reply::Named(Some(8)),
         ),
@@ -119,8 +123,10 @@ fn every_action(rt: HostRuntime) -> Result<(), Fail> {
             1,
             Action::New {
                 to: r0,
-                pointers: 9,
-                values: 0,
+                counts: Counts {
+                    pointers: 9,
+                    values: 0,
+                },
             },
             Reply::Refused(Refusal::Full),
         ),
@@ -163,13 +169,17 @@ fn a_marking_cycle(rt: HostRuntime) -> Result<(), Fail> {
     let made = [
         Action::New {
             to: r0,
-            pointers: 1,
-            values: 0,
+            counts: Counts {
+                pointers: 1,
+                values: 0,
+            },
         },
         Action::New {
             to: r1,
-            pointers: 0,
-            values: 1,
+            counts: Counts {
+                pointers: 0,
+                values: 1,
+            },
         },
         Action::Put {
             object: r0,
@@ -227,8 +237,10 @@ fn reclaims_regions(rt: HostRuntime) -> Result<(), Fail> {
     };
     let half = Action::New {
         to: r0,
-        pointers: 3,
-        values: 3,
+        counts: Counts {
+            pointers: 3,
+            values: 3,
+        },
     };
     for round in 0..3u64 {
         for place in 0..6u64 {
@@ -263,8 +275,10 @@ fn a_card_log_fills(rt: HostRuntime) -> Result<(), Fail> {
     for number in 0..5u8 {
         let action = Action::New {
             to: register(number),
-            pointers: if number < 4 { 4 } else { 2 },
-            values: 2,
+            counts: Counts {
+                pointers: if number < 4 { 4 } else { 2 },
+                values: 2,
+            },
         };
         assert!(rt; act(&mut core, 0, action).is_some());
     }

@@ -5,7 +5,8 @@ ghost use Rattle.object_graph.specs.Actors.{IsStep};
 
 use heap_words::config::Config;
 use object_graph::{
-    Action, CollectorStep, Event, GlobalRoot, Op, Refusal, Register, Reply, Step, Verdict, check,
+    Action, CollectorStep, Counts, Event, GlobalRoot, Op, Refusal, Register, Reply, Step, Verdict,
+    check,
 };
 use rand_core::utils::NextWord;
 use rand_pcg::Lcg64Xsh32;
@@ -46,8 +47,10 @@ fn action(draw: &mut Lcg64Xsh32) -> Action {
     match below(draw, 16) {
         0..=3 => Action::New {
             to: register(draw),
-            pointers: below(draw, 5),
-            values: below(draw, 3),
+            counts: Counts {
+                pointers: below(draw, 5),
+                values: below(draw, 3),
+            },
         },
         4 => Action::Get {
             to: register(draw),

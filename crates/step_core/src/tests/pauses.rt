@@ -5,7 +5,7 @@ ghost use Rattle.std.specs.Prelude.{◌≡◌, ◌<◌};
 use super::{act, collect, register};
 use crate::Core;
 use heap_words::config::Config;
-use object_graph::{Action, CollectorStep, Reply};
+use object_graph::{Action, CollectorStep, Counts, Reply};
 use std::alloc::Global;
 use std::process::Abort;
 use std::test::Fail;
@@ -22,8 +22,7 @@ fn make(to: u8, pointers: u32, values: u32) -> Line
 {
     Line::Act(Action::New {
         to: register(to),
-        pointers,
-        values,
+        counts: Counts { pointers, values },
     })
 }
 

@@ -3,7 +3,7 @@
 ghost use Rattle.std.specs.Prelude.{◌<◌};
 
 use heap_words::config::Config;
-use object_graph::{Action, CollectorStep, GlobalRoot, Register};
+use object_graph::{Action, CollectorStep, Counts, GlobalRoot, Register};
 use rand_core::utils::NextWord;
 use rand_pcg::Lcg64Xsh32;
 
@@ -65,8 +65,10 @@ pub(crate) fn action(draw: &mut Lcg64Xsh32) -> Action {
     match below(draw, 20) {
         0..=5 => Action::New {
             to: register(draw),
-            pointers: below(draw, 5),
-            values: below(draw, 3),
+            counts: Counts {
+                pointers: below(draw, 5),
+                values: below(draw, 3),
+            },
         },
         6 => Action::Move {
             to: register(draw),
@@ -93,8 +95,10 @@ pub(crate) fn growth(draw: &mut Lcg64Xsh32) -> [Action; 3] {
     let pointers = 1 + below(draw, 4);
     let made = Action::New {
         to,
-        pointers,
-        values: below(draw, 3),
+        counts: Counts {
+            pointers,
+            values: below(draw, 3),
+        },
     };
     let first = Action::Put {
         object: to,

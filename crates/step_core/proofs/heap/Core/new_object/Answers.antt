@@ -6,29 +6,29 @@ use Rattle.step_core.proofs.heap.Core.new_object.Goals as goal
 pub invariant_of-self-2 : goal.invariant_of-self-2
 invariant_of-self-2 c =
     let filled = rw (c.new.ensures, c.new-2.ensures, c.new-3.ensures) at c.make_object.ensures in
-    let words : c.from-3.result * c.from-4.result ≡ c.self.inside.config.regions * c.self.inside.config.words = ap (λ (n : ℕ). n * c.from-4.result) c.from-3.ensures ∙ ap (λ (n : ℕ). c.self.inside.config.regions * n) c.from-4.ensures in
-    rw c.register_index.ensures (new_kept _ c.args.mutator c.args.to _ _ _ _ _ c.args.pointers c.args.values c.self.invariant c.in-Ok.ensures.placed c.law-2.ensures.positive c.law-2.ensures.fitting (omega (arith, c.from.ensures, c.from-2.ensures)) filled (omega (arith, words, c.from.ensures, c.from-2.ensures)) c.if-self.false (omega (arith, c.from.ensures, c.from-2.ensures, c.from-5.ensures)))
+    let words : c.from.result * c.from-2.result ≡ c.self.inside.config.regions * c.self.inside.config.words = ap (λ (n : ℕ). n * c.from-2.result) c.from.ensures ∙ ap (λ (n : ℕ). c.self.inside.config.regions * n) c.from-2.ensures in
+    rw c.register_index.ensures (new_kept _ c.args.mutator c.args.to _ _ _ _ _ c.args.counts.pointers c.args.counts.values c.self.invariant c.in-Ok.ensures.placed c.law-2.ensures.positive c.law-2.ensures.fitting (omega (arith, c.size-size.ensures)) filled (omega (arith, words, c.size-size.ensures)) c.if-self.false (omega (arith, c.size-size.ensures, c.from-3.ensures)))
 
 pub returns-clause-acts : goal.returns-clause-acts
 returns-clause-acts c = λ g s.
     let filled = rw (c.new.ensures, c.new-2.ensures, c.new-3.ensures) at c.make_object.ensures in
-    let words : c.from-3.result * c.from-4.result ≡ c.self.inside.config.regions * c.self.inside.config.words = ap (λ (n : ℕ). n * c.from-4.result) c.from-3.ensures ∙ ap (λ (n : ℕ). c.self.inside.config.regions * n) c.from-4.ensures in
+    let words : c.from.result * c.from-2.result ≡ c.self.inside.config.regions * c.self.inside.config.words = ap (λ (n : ℕ). n * c.from-2.result) c.from.ensures ∙ ap (λ (n : ℕ). c.self.inside.config.regions * n) c.from-2.ensures in
     let s' = subst (λ (d : CoreState). ShowsGraph g d) (sym c.self.view_is) s in
-    inl (rw c.register_index.ensures (new_acts _ c.args.mutator c.args.to _ _ _ _ _ c.args.pointers c.args.values c.self.invariant c.in-Ok.ensures.placed c.law-2.ensures.positive c.law-2.ensures.fitting (omega (arith, c.from.ensures, c.from-2.ensures)) filled (omega (arith, words, c.from.ensures, c.from-2.ensures)) c.if-self.false (omega (arith, c.from.ensures, c.from-2.ensures, c.from-5.ensures)) g s'))
+    inl (rw c.register_index.ensures (new_acts _ c.args.mutator c.args.to _ _ _ _ _ c.args.counts.pointers c.args.counts.values c.self.invariant c.in-Ok.ensures.placed c.law-2.ensures.positive c.law-2.ensures.fitting (omega (arith, c.size-size.ensures)) filled (omega (arith, words, c.size-size.ensures)) c.if-self.false (omega (arith, c.size-size.ensures, c.from-3.ensures)) g s'))
 
 pub returns-clause-full : goal.returns-clause-full
 returns-clause-full c = λ none name e.
-    has_place _ _ c.args.mutator _ _ c.self.view_is c.self.invariant (omega (arith, c.from.ensures, c.from-2.ensures)) (omega (arith, c.from.ensures, c.from-2.ensures, c.from-5.ensures)) _ c.in-Ok.ensures.place none
+    has_place _ _ c.args.mutator _ _ c.self.view_is c.self.invariant (omega (arith, c.size-size.ensures)) (omega (arith, c.size-size.ensures, c.from-3.ensures)) _ c.in-Ok.ensures.place none
 
 pub returns-clause-keeps : goal.returns-clause-keeps
 returns-clause-keeps c = λ s f.
     let filled = rw (c.new.ensures, c.new-2.ensures, c.new-3.ensures) at c.make_object.ensures in
-    let words : c.from-3.result * c.from-4.result ≡ c.self.inside.config.regions * c.self.inside.config.words = ap (λ (n : ℕ). n * c.from-4.result) c.from-3.ensures ∙ ap (λ (n : ℕ). c.self.inside.config.regions * n) c.from-4.ensures in
+    let words : c.from.result * c.from-2.result ≡ c.self.inside.config.regions * c.self.inside.config.words = ap (λ (n : ℕ). n * c.from-2.result) c.from.ensures ∙ ap (λ (n : ℕ). c.self.inside.config.regions * n) c.from-2.ensures in
     let f' = subst (λ (d : CoreState). KeepsFrom s d) (sym c.self.view_is) f in
-    rw c.register_index.ensures (new_keeps _ c.args.mutator c.args.to _ _ _ _ _ c.args.pointers c.args.values c.self.invariant c.in-Ok.ensures.placed c.law-2.ensures.positive c.law-2.ensures.fitting (omega (arith, c.from.ensures, c.from-2.ensures)) filled (omega (arith, words, c.from.ensures, c.from-2.ensures)) c.if-self.false (omega (arith, c.from.ensures, c.from-2.ensures, c.from-5.ensures)) s f')
+    rw c.register_index.ensures (new_keeps _ c.args.mutator c.args.to _ _ _ _ _ c.args.counts.pointers c.args.counts.values c.self.invariant c.in-Ok.ensures.placed c.law-2.ensures.positive c.law-2.ensures.fitting (omega (arith, c.size-size.ensures)) filled (omega (arith, words, c.size-size.ensures)) c.if-self.false (omega (arith, c.size-size.ensures, c.from-3.ensures)) s f')
 
 pub returns-clause-leaves : goal.returns-clause-leaves
 returns-clause-leaves c =
     let filled = rw (c.new.ensures, c.new-2.ensures, c.new-3.ensures) at c.make_object.ensures in
-    let words : c.from-3.result * c.from-4.result ≡ c.self.inside.config.regions * c.self.inside.config.words = ap (λ (n : ℕ). n * c.from-4.result) c.from-3.ensures ∙ ap (λ (n : ℕ). c.self.inside.config.regions * n) c.from-4.ensures in
-    rw c.register_index.ensures (new_leaves _ c.args.mutator c.args.to _ _ _ _ _ c.args.pointers c.args.values c.self.invariant c.in-Ok.ensures.placed c.law-2.ensures.positive c.law-2.ensures.fitting (omega (arith, c.from.ensures, c.from-2.ensures)) filled (omega (arith, words, c.from.ensures, c.from-2.ensures)) c.if-self.false (omega (arith, c.from.ensures, c.from-2.ensures, c.from-5.ensures)) _ c.self.view_is)
+    let words : c.from.result * c.from-2.result ≡ c.self.inside.config.regions * c.self.inside.config.words = ap (λ (n : ℕ). n * c.from-2.result) c.from.ensures ∙ ap (λ (n : ℕ). c.self.inside.config.regions * n) c.from-2.ensures in
+    rw c.register_index.ensures (new_leaves _ c.args.mutator c.args.to _ _ _ _ _ c.args.counts.pointers c.args.counts.values c.self.invariant c.in-Ok.ensures.placed c.law-2.ensures.positive c.law-2.ensures.fitting (omega (arith, c.size-size.ensures)) filled (omega (arith, words, c.size-size.ensures)) c.if-self.false (omega (arith, c.size-size.ensures, c.from-3.ensures)) _ c.self.view_is)
