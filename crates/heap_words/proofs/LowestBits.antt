@@ -1,17 +1,13 @@
 -- The lowest number of a set, word by word.
 use Rattle.std.proofs.Common.{◌≡◌, ℕ, ◌+◌, ◌-◌, ◌*◌, ◌/◌, ◌%◌, ◌^◌, ◌<◌, ◌≤◌, ◌⊎◌, Bool, true, false, List, length, slice_index, get_or, eqb, min, bit_and, w64, not, inl, inr, refl, sym, ap, ◌∙◌, ⊎_elim, arith}
-use Rattle.std.specs.Prelude.{◌&&◌}
+use Rattle.std.specs.Prelude.{◌&&◌, Option, Some, None, MatchOption}
 use Rattle.std.specs.Int.{bit_at, trailing_zeros, div_ceil}
 use Rattle.std.proofs.lemmas.Bool.{cases_lt, eqb-true, eqb-false, ne_eqb}
 use Rattle.std.proofs.lemmas.List.{get_or_read}
 use Rattle.std.proofs.lemmas.Nat.Bits.{bit_at-zero, bit_at-lt, bit_at_and, bit_at_not, bit_at-trailing_zeros}
-use Rattle.heap_words.specs.Bits.{has, has_alone, HasNone, IsLowest}
+use Rattle.heap_words.specs.Bits.{has, has_alone, HasNone, HasNoneBelow, IsLowest}
 use Rattle.heap_words.specs.BitWords.{bit_of, flags_of}
 use Rattle.heap_words.proofs.BitWords.{high_mask, bit_at-high_part, bit_at-high_part_below, part_fits, has-flags_of, length-flags_of, has_past, div_ceil_inside}
-
--- no number of the set from `from` up to `upto`
-abbrev pub NoneTo : (ℕ → Bool) → ℕ → ℕ → Type 0
-NoneTo has from upto = (a : ℕ) → from ≤ a → a < upto → has a ≡ false
 
 -- m has the numbers of word i from `from` on, the word's first `low` ones lying below that
 pub record IsWord (has : ℕ → Bool) (from i m : ℕ) : Type 0 where
@@ -23,16 +19,16 @@ pub record IsWord (has : ℕ → Bool) (from i m : ℕ) : Type 0 where
   pub below : (j : ℕ) → j < low → bit_at m j ≡ 0
 
 module _ (has : ℕ → Bool) (from i m : ℕ) (w : IsWord has from i m) where
-  none_with : NoneTo has from (64 * i) → (t : ℕ) → t ≤ 64 → ((j : ℕ) → j < t → bit_at m j ≡ 0) → NoneTo has from (64 * i + t)
+  none_with : HasNoneBelow has from (64 * i) → (t : ℕ) → t ≤ 64 → ((j : ℕ) → j < t → bit_at m j ≡ 0) → HasNoneBelow has from (64 * i + t)
   none_with before t short none a h k =
       let early : a < 64 * i → has a ≡ false = λ b. before a h b in
       let here : 64 * i ≤ a → has a ≡ false = λ b. w.same a h (omega arith) ∙ ap (λ x. eqb x 1) (none (a % 64) (omega arith)) in
       ⊎_elim early here (cases_lt a (64 * i))
 
-  pub none_in_word : NoneTo has from (64 * i) → m ≡ 0 → NoneTo has from (64 * (i + 1))
+  pub none_in_word : HasNoneBelow has from (64 * i) → m ≡ 0 → HasNoneBelow has from (64 * (i + 1))
   none_in_word before none a h k = none_with before 64 (omega arith) (λ j b. ap (λ v. bit_at v j) none ∙ bit_at-zero j) a h (omega arith)
 
-  none_before : NoneTo has from (64 * i) → 0 < m → NoneTo has from (64 * i + trailing_zeros w64 m)
+  none_before : HasNoneBelow has from (64 * i) → 0 < m → HasNoneBelow has from (64 * i + trailing_zeros w64 m)
   none_before before some =
       let lowest = bit_at-trailing_zeros w64 m some w.fits in
       none_with before (trailing_zeros w64 m) (omega (arith, lowest.0)) lowest.2
@@ -57,24 +53,30 @@ pub record Agree (is_in has : ℕ → Bool) (n : ℕ) : Type 0 where
   pub inside : (a : ℕ) → a < n → is_in a ≡ has a
   pub past : (a : ℕ) → n ≤ a → is_in a ≡ false
 
-pub none_left : (is_in has : ℕ → Bool) (n from upto : ℕ) → Agree is_in has n → NoneTo has from upto → n ≤ upto → HasNone is_in from
-none_left is_in has n from upto g none all a h =
+-- from `from` up to `to` it is looked through as far as the flags go
+pub none_left : (is_in has : ℕ → Bool) (n from to upto : ℕ) → Agree is_in has n → HasNoneBelow has from upto → min to n ≤ upto → HasNoneBelow is_in from to
+none_left is_in has n from to upto g none all a h k =
     ⊎_elim (λ b. g.inside a b ∙ none a h (omega arith)) (λ b. g.past a b) (cases_lt a n)
 
-pub found_past : (is_in has : ℕ → Bool) (n from i m : ℕ) → Agree is_in has n → IsWord has from i m → NoneTo has from (64 * i) → 0 < m → n ≤ 64 * i + trailing_zeros w64 m → HasNone is_in from
-found_past is_in has n from i m g w before some far = none_left is_in has n from _ g (none_before has from i m w before some) far
+pub found_past : (is_in has : ℕ → Bool) (n from to i m : ℕ) → Agree is_in has n → IsWord has from i m → HasNoneBelow has from (64 * i) → 0 < m → min to n ≤ 64 * i + trailing_zeros w64 m → HasNoneBelow is_in from to
+found_past is_in has n from to i m g w before some far = none_left is_in has n from to _ g (none_before has from i m w before some) far
 
-pub found_inside : (is_in has : ℕ → Bool) (n from i m : ℕ) → Agree is_in has n → IsWord has from i m → NoneTo has from (64 * i) → 0 < m → 64 * i + trailing_zeros w64 m < n → IsLowest is_in from (64 * i + trailing_zeros w64 m)
+pub found_inside : (is_in has : ℕ → Bool) (n from i m : ℕ) → Agree is_in has n → IsWord has from i m → HasNoneBelow has from (64 * i) → 0 < m → 64 * i + trailing_zeros w64 m < n → IsLowest is_in from (64 * i + trailing_zeros w64 m)
 found_inside is_in has n from i m g w before some inside = record {
   at_least = from_le has from i m w some;
   is_in = g.inside _ inside ∙ has_lowest has from i m w some;
   lowest = λ a h k. g.inside a (omega arith) ∙ none_before has from i m w before some a h k;
 }
 
+-- none below the length is none at all
+pub none_at_all : (flags : List Bool) (from n : ℕ) (found : Option ℕ) → n ≡ length flags → MatchOption found (HasNoneBelow (has flags) from n) (IsLowest (has flags) from) → MatchOption found (HasNone (has flags) from) (IsLowest (has flags) from)
+none_at_all flags from n None e none = λ a h. ⊎_elim (λ b. none a h (omega arith)) (λ b. has_past flags a (omega arith)) (cases_lt a n)
+none_at_all flags from n (Some found) e lowest = lowest
+
 -- ---- one set of bits
-pub bits_word : (ws : List ℕ) (n from i low w k : ℕ) → k ≡ length ws → n ≤ 64 * k → i < div_ceil n 64 → w ≡ get_or ws i w → low ≡ from - 64 * i → low < 64 → IsWord (bit_of ws) from i (bit_and w (high_mask low))
-bits_word ws n from i low w k long len end read start near =
-    let inside : i < k = div_ceil_inside n i k n len (omega arith) end in
+pub bits_word : (ws : List ℕ) (n from end i low w k : ℕ) → k ≡ length ws → n ≤ 64 * k → end ≤ n → i < div_ceil end 64 → w ≡ get_or ws i w → low ≡ from - 64 * i → low < 64 → IsWord (bit_of ws) from i (bit_and w (high_mask low))
+bits_word ws n from end i low w k long len short before read start near =
+    let inside : i < k = div_ceil_inside end i k n len short before in
     let word : w ≡ slice_index ws i = get_or_read ws i w (omega arith) read 0 in
     record {
       low = low;
@@ -120,11 +122,11 @@ only_in_word ws vs from i low w v read other fits start near a h e =
     ∙ ap (λ x. min (bit_at w j) x) (bit_at_not w64 v j fits (omega arith)) in
     rw (ws_bit, vs_bit) (sym (and_not_bits (bit_at w j) (bit_at v j) (bit_at (left_part w v low) j) (bit_at-lt w j) (bit_at-lt v j) part))
 
-pub left_word : (ws vs : List ℕ) (n from i low w v k l : ℕ) → k ≡ length ws → l ≡ length vs → n ≤ 64 * k → n ≤ 64 * l → i < div_ceil n 64 → w ≡ get_or ws i w → v ≡ get_or vs i v → v < 2 ^ 64 → low ≡ from - 64 * i → low < 64
+pub left_word : (ws vs : List ℕ) (n from end i low w v k l : ℕ) → k ≡ length ws → l ≡ length vs → n ≤ 64 * k → n ≤ 64 * l → end ≤ n → i < div_ceil end 64 → w ≡ get_or ws i w → v ≡ get_or vs i v → v < 2 ^ 64 → low ≡ from - 64 * i → low < 64
     → IsWord (only ws vs) from i (left_part w v low)
-left_word ws vs n from i low w v k l long other_long len other_len end read other_read v_fits start near =
-    let inside : i < k = div_ceil_inside n i k n len (omega arith) end in
-    let other_inside : i < l = div_ceil_inside n i l n other_len (omega arith) end in
+left_word ws vs n from end i low w v k l long other_long len other_len short before read other_read v_fits start near =
+    let inside : i < k = div_ceil_inside end i k n len short before in
+    let other_inside : i < l = div_ceil_inside end i l n other_len short before in
     let word : w ≡ slice_index ws i = get_or_read ws i w (omega arith) read 0 in
     let other_word : v ≡ slice_index vs i = get_or_read vs i v (omega arith) other_read 0 in
     record {

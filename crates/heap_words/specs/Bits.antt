@@ -17,6 +17,10 @@ is_between from to number = nat_le from number && nat_lt number to
 abbrev pub HasNone : (ℕ → Bool) → ℕ → Type 0
 HasNone test from = (a : ℕ) → from ≤ a → test a ≡ false
 
+-- no number that passes the test is at or above from and below to
+abbrev pub HasNoneBelow : (ℕ → Bool) → ℕ → ℕ → Type 0
+HasNoneBelow test from to = (a : ℕ) → from ≤ a → a < to → test a ≡ false
+
 -- the lowest number at or above from that passes the test
 pub record IsLowest (test : ℕ → Bool) (from found : ℕ) : Type 0 where
   pub at_least : from ≤ found

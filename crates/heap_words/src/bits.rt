@@ -5,6 +5,7 @@
 //!   bit       0  1  0 ..   1 |  0  0 ..    0 |   1 ..
 //!             word 0         | word 1: none  | word 2
 //!                next(2) = 63                next(64) = 128, without a look at each number
+//!                                            next_below(64, 128): none, without a look at word 2
 //! ```
 //!
 //! A set takes one bit a number, all reserved when it is made. To clear it, or a range of it, touches its words and not each
@@ -12,7 +13,7 @@
 
 ghost use Rattle.std.specs.Prelude.{◌≡◌, ℕ, ◌+◌, ◌*◌, ◌^◌, ◌<◌, ◌≤◌, List, Bool, false, true, if◌then◌else◌, IfOk, IfSome, length, MatchOption, replicate, slice_set};
 ghost use Rattle.std.specs.Int.{bit_at};
-ghost use Rattle.heap_words.specs.Bits.{has, has_alone, is_between, HasNone, IsLowest};
+ghost use Rattle.heap_words.specs.Bits.{has, has_alone, is_between, HasNone, HasNoneBelow, IsLowest};
 
 use std::alloc::{AllocError, Global};
 use std::marker::Model;
@@ -86,6 +87,15 @@ impl Bits {
         self.words[number as usize / 64] |= 1 << (number % 64);
     }
 
+    /// A number is not in the set.
+    pub fn remove(&mut self, number: u32)
+        requires { number < length self.old }
+        ensures { self.new ≡ slice_set self.old number false }
+    {
+        self.law();
+        self.clear_range(number, number + 1);
+    }
+
     /// The set is empty.
     pub fn clear(&mut self)
         ensures { self.new ≡ replicate (length self.old) false }
@@ -120,7 +130,17 @@ impl Bits {
         ensures lowest { MatchOption result (HasNone (has self.now) from) (IsLowest (has self.now) from) }
         ensures within { IfSome result (λ found. found < length self.now) }
     {
-        for index in from / 64..self.len.div_ceil(64) {
+        self.next_below(from, self.len)
+    }
+
+    /// The lowest number of the set at or above `from` and below `to`. It looks at the words of this range alone.
+    pub fn next_below(&self, from: u32, to: u32) -> Option<u32>
+        ensures lowest { MatchOption result (HasNoneBelow (has self.now) from to) (IsLowest (has self.now) from) }
+        ensures below { IfSome result (λ found. found < to) }
+        ensures within { IfSome result (λ found. found < length self.now) }
+    {
+        let end = to.min(self.len);
+        for index in from / 64..end.div_ceil(64) {
             let all = self.words[index as usize];
             if all == 0 {
                 continue;
@@ -129,24 +149,27 @@ impl Bits {
             let word = all & u64::MAX << low;
             if word != 0 {
                 let found = 64 * index + word.trailing_zeros();
-                return if found < self.len { Some(found) } else { None };
+                return if found < end { Some(found) } else { None };
             }
         }
         None
     }
 
-    /// The lowest number at or above `from` that is in this set and not in `other`.
-    pub fn next_without(&self, other: &Bits, from: u32) -> Option<u32>
+    /// The lowest number at or above `from` and below `to` that is in this set and not in `other`. It looks at the words
+    /// of this range alone.
+    pub fn next_without(&self, other: &Bits, from: u32, to: u32) -> Option<u32>
         requires { length other.now ≡ length self.now }
-        ensures lowest { MatchOption result (HasNone (has_alone self.now other.now) from) (IsLowest (has_alone self.now other.now) from) }
+        ensures lowest { MatchOption result (HasNoneBelow (has_alone self.now other.now) from to) (IsLowest (has_alone self.now other.now) from) }
+        ensures below { IfSome result (λ found. found < to) }
         ensures within { IfSome result (λ found. found < length self.now) }
     {
-        for index in from / 64..self.len.div_ceil(64) {
+        let end = to.min(self.len);
+        for index in from / 64..end.div_ceil(64) {
             let low = from.saturating_sub(64 * index);
             let word = self.words[index as usize] & !other.words[index as usize] & u64::MAX << low;
             if word != 0 {
                 let found = 64 * index + word.trailing_zeros();
-                return if found < self.len { Some(found) } else { None };
+                return if found < end { Some(found) } else { None };
             }
         }
         None
@@ -201,6 +224,18 @@ mod tests {
         ] {
             assert_eq!(rt; bits.next(from), found, "from {from}");
         }
+        for (from, to, found) in [
+            (0, 1, Some(0)),
+            (1, 63, None),
+            (1, 64, Some(63)),
+            (64, 64, None),
+            (65, 128, Some(127)),
+            (129, 199, None),
+            (129, 4_000_000_000, Some(199)),
+            (199, 3, None),
+        ] {
+            assert_eq!(rt; bits.next_below(from, to), found, "from {from} to {to}");
+        }
         let none = Bits::new(rt.alloc(), 0)?;
         assert!(rt; none.len() == 0 && are(&none, &[]));
         Ok(())
@@ -212,8 +247,18 @@ mod tests {
         let bits = set_of(rt.alloc(), &[0, 63, 64, 128])?;
         let other = set_of(rt.alloc(), &[0, 64, 65, 191])?;
         if bits.len() == other.len() {
-            for (from, found) in [(0, Some(63)), (63, Some(63)), (64, Some(128)), (129, None)] {
-                assert_eq!(rt; bits.next_without(&other, from), found, "from {from}");
+            for (from, to, found) in [
+                (0, 63, None),
+                (0, 64, Some(63)),
+                (64, 200, Some(128)),
+                (64, 128, None),
+                (129, 200, None),
+            ] {
+                assert_eq!(rt;
+                    bits.next_without(&other, from, to),
+                    found,
+                    "from {from} to {to}"
+                );
             }
         }
         Ok(())

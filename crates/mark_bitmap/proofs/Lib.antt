@@ -5,5 +5,7 @@ pub mod ObjectLaws
 pub mod Listed
 pub mod Spans
 pub mod LiveWords
+pub mod Summaries
+pub mod Fingers
 pub mod LiveBounds
 pub mod Samples

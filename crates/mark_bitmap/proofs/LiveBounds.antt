@@ -132,6 +132,9 @@ marked_split t marks (suc n) m (suc whole) a b e f = omega (arith, marked_split 
 abbrev pub words_between : Table → List Bool → ℕ → ℕ → ℕ
 words_between t marks from to = marked_words t marks from (to - from)
 
+pub words_start : (t : Table) (marks : List Bool) (from at : ℕ) → at ≡ from → 0 ≡ words_between t marks from at
+words_start t marks from at e = let none : at - from ≡ 0 = omega (arith, e) in sym (ap (marked_words t marks from) none)
+
 pub words_stay : (t : Table) (marks : List Bool) (from at to : ℕ) → from ≤ at → at ≤ to → ((a : ℕ) → at ≤ a → a < to → is_marked marks a ≡ false) → words_between t marks from to ≡ words_between t marks from at
 words_stay t marks from at to low high none =
     let split = marked_split t marks (at - from) (to - at) (to - from) from at (omega (arith, low, high)) (omega (arith, low)) in

@@ -1,6 +1,7 @@
 -- The words of marked and of kept objects.
-use Rattle.std.proofs.Common.{inl, inr, ◌≡◌, ◌≢◌, ◌↔◌, ℕ, zero, suc, ◌+◌, ◌-◌, ◌*◌, ◌/◌, ◌%◌, ◌<◌, ◌≤◌, Bool, true, false, not, eqb, List, None, length, get_or, refl, sym, ap, ◌∙◌, arith}
-use Rattle.std.specs.Prelude.{if◌then◌else◌}
+use Rattle.std.proofs.Common.{inl, inr, ◌≡◌, ◌≢◌, ◌↔◌, ℕ, zero, suc, ◌+◌, ◌-◌, ◌*◌, ◌/◌, ◌%◌, ◌<◌, ◌≤◌, Bool, true, false, not, eqb, List, Option, Some, None, length, get_or, refl, sym, ap, ◌∙◌, arith}
+use Rattle.std.specs.Prelude.{if◌then◌else◌, MatchOption, IfSome, IsTrue}
+use Rattle.std.specs.Option.{is_some}
 use Rattle.std.proofs.lemmas.Bool.{cases_lt, cases_eq, cases_Bool, eq-eqb, ne_eqb, le-leb, lt-ltb, le-ltb, and_parts, ltb-true, leb-true}
 use Rattle.std.proofs.lemmas.List.{get_or_past}
 use Rattle.regions.specs.Tiles.{total_size}
@@ -8,7 +9,7 @@ use Rattle.regions.specs.Table.{Table, Region, Free, Ordinary, First, Rest, regi
 use Rattle.regions.specs.Walks.{region_tiles, tiles_of}
 use Rattle.regions.specs.Shaped.{IsShaped}
 use Rattle.regions.specs.declared.row.Kind.TheVariants as kinds
-use Rattle.mark_bitmap.specs.Marks.{is_marked, HasNone, IsLowest}
+use Rattle.mark_bitmap.specs.Marks.{is_marked, HasNoneBelow, IsLowest}
 use Rattle.mark_bitmap.specs.Tops.{Tops, is_in_region}
 use Rattle.mark_bitmap.specs.Kept.{MarksObjects, kept_in}
 use Rattle.mark_bitmap.specs.Live.{marked_words, live_bound_of}
@@ -150,19 +151,19 @@ not_dead t tops marks k top start m known top_is start_is differ zero_is =
     let e : eqb top start ≡ true = eq-eqb top start same in
     cc
 
--- no marks from the bottom on
-pub none_found : (t : Table) (tops : List ℕ) (marks : List Bool) (k bottom : ℕ) → get_or tops k 0 ≡ top_of t k → bottom ≡ k * t.words_per_region → HasNone (is_marked marks) bottom → live_bound_of t tops marks k ≡ 0
-none_found t tops marks k bottom top low none = zero_of_dead t tops marks k (record { top = top; none = λ a h _. none a (omega (arith, h, low)) })
-
--- the lowest mark from the bottom on decides
-pub lowest_found : (t : Table) (tops : List ℕ) (marks : List Bool) (k bottom found : ℕ) → MarksObjects t tops marks → k < length t.regions → get_or tops k 0 ≡ top_of t k → bottom ≡ k * t.words_per_region
-    → IsLowest (is_marked marks) bottom found → (get_or tops k 0 ≤ found) ↔ (live_bound_of t tops marks k ≡ 0)
-lowest_found t tops marks k bottom found m known top low l = (
-  λ far. zero_of_dead t tops marks k (record { top = top; none = λ a h under. l.lowest a (omega (arith, h, low)) (omega (arith, under, far)) }),
-  λ zero_is. elim (cases_lt found (get_or tops k 0)) [
-    | inl under ↦ absurd (let e = (dead_of_zero t tops marks k m known zero_is).none found (omega (arith, low, l.at_least)) under in let f = l.is_in in cc)
-    | inr far ↦ far
-  ],
+-- a search below the top at mark start decides
+pub dead_found : (t : Table) (tops : List ℕ) (marks : List Bool) (k bottom start : ℕ) (found : Option ℕ) (is_none : Bool) → MarksObjects t tops marks → k < length t.regions → get_or tops k 0 ≡ top_of t k
+    → bottom ≡ k * t.words_per_region → start ≡ get_or tops k 0 → MatchOption found (HasNoneBelow (is_marked marks) bottom start) (IsLowest (is_marked marks) bottom) → IfSome found (λ x. x < start)
+    → is_some found ≡ not is_none → IsTrue is_none ↔ (live_bound_of t tops marks k ≡ 0)
+dead_found t tops marks k bottom start None true m known top low end none below e = (
+  λ yes. zero_of_dead t tops marks k (record { top = top; none = λ a h under. none a (omega (arith, h, low)) (omega (arith, under, end)) }),
+  λ zero_is. refl,
+)
+dead_found t tops marks k bottom start None false m known top low end none below e = absurd (cc)
+dead_found t tops marks k bottom start (Some found) true m known top low end l below e = absurd (cc)
+dead_found t tops marks k bottom start (Some found) false m known top low end l below e = (
+  λ yes. absurd (cc),
+  λ zero_is. absurd (let f = (dead_of_zero t tops marks k m known zero_is).none found (omega (arith, low, l.at_least)) (omega (arith, below, end)) in let g = l.is_in in cc),
 )
 
 pub same_tops : (t : Table) (tops : List ℕ) (k top start : ℕ) → top ≡ top_of t k → start ≡ get_or tops k 0 → not (eqb top start) ≡ false → get_or tops k 0 ≡ top_of t k

@@ -3,3 +3,4 @@ pub mod Tops
 pub mod Grey
 pub mod Kept
 pub mod Live
+pub mod Summary

@@ -26,6 +26,7 @@ pub mod kept;
 pub mod live;
 pub mod marks;
 pub mod objects;
+pub mod summary;
 pub mod tams;
 #[cfg(test)]
 mod tests;

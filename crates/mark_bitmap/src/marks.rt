@@ -10,9 +10,9 @@
 //! Over a marking cycle a set is cleared, then grows as objects are marked, and then stays, but that a region that
 //! is released loses its part of it. It is kept as bits, one an address.
 
-ghost use Rattle.std.specs.Prelude.{◌≡◌, ℕ, ◌+◌, ◌*◌, ◌<◌, ◌≤◌, List, Bool, false, true, if◌then◌else◌, IfOk, IfSome, length, MatchOption, replicate, slice_set};
+ghost use Rattle.std.specs.Prelude.{◌≡◌, ℕ, ◌+◌, ◌*◌, ◌^◌, ◌<◌, ◌≤◌, List, Bool, false, true, if◌then◌else◌, IfOk, IfSome, length, MatchOption, replicate, slice_set};
 ghost use Rattle.heap_model.specs.Count.{ListsMarked};
-ghost use Rattle.mark_bitmap.specs.Marks.{is_between, is_marked, is_only, marked_count, HasNone, IsLowest};
+ghost use Rattle.mark_bitmap.specs.Marks.{is_between, is_marked, is_only, marked_count, HasNone, HasNoneBelow, IsLowest};
 
 use heap_words::addr::Addr;
 use heap_words::bits::Bits;
@@ -41,6 +41,13 @@ impl Marks {
         Ok(Marks {
             bits: Bits::new(alloc, count)?,
         })
+    }
+
+    /// Tells a proof what is known of each set: its addresses are below 2 to the 32nd. It does nothing.
+    pub fn law(&self)
+        ensures { length self.now < 2 ^ 32 }
+    {
+        self.bits.law();
     }
 
     /// How many addresses there are, marked or not.
@@ -91,14 +98,25 @@ impl Marks {
         self.bits.next(from.word()).map(Addr::new)
     }
 
-    /// The lowest address at or above `from` that is marked here and not in `other`.
-    pub fn next_without(&self, other: &Marks, from: Addr) -> Option<Addr>
+    /// The lowest marked address at or above `from` and below `to`. It looks at the bits of this range alone.
+    pub fn next_below(&self, from: Addr, to: Addr) -> Option<Addr>
+        ensures lowest { MatchOption result (HasNoneBelow (is_marked self.now) from to) (IsLowest (is_marked self.now) from) }
+        ensures below { IfSome result (λ found. found < to) }
+        ensures within { IfSome result (λ found. found < length self.now) }
+    {
+        self.bits.next_below(from.word(), to.word()).map(Addr::new)
+    }
+
+    /// The lowest address at or above `from` and below `to` that is marked here and not in `other`. It looks at the bits
+    /// of this range alone.
+    pub fn next_without(&self, other: &Marks, from: Addr, to: Addr) -> Option<Addr>
         requires { length other.now ≡ length self.now }
-        ensures lowest { MatchOption result (HasNone (is_only self.now other.now) from) (IsLowest (is_only self.now other.now) from) }
+        ensures lowest { MatchOption result (HasNoneBelow (is_only self.now other.now) from to) (IsLowest (is_only self.now other.now) from) }
+        ensures below { IfSome result (λ found. found < to) }
         ensures within { IfSome result (λ found. found < length self.now) }
     {
         self.bits
-            .next_without(&other.bits, from.word())
+            .next_without(&other.bits, from.word(), to.word())
             .map(Addr::new)
     }
 }
@@ -147,8 +165,9 @@ mod tests {
         assert_eq!(rt; count_marked(&marks), 3);
         assert_eq!(rt; marks.next(Addr::new(0)), Some(Addr::new(63)));
         assert_eq!(rt; marks.next(Addr::new(65)), Some(Addr::new(199)));
+        assert_eq!(rt; marks.next_below(Addr::new(65), Addr::new(199)), None);
         assert_eq!(rt;
-            marks.next_without(&other, Addr::new(0)),
+            marks.next_without(&other, Addr::new(0), Addr::new(200)),
             Some(Addr::new(64))
         );
         marks.clear_range(Addr::new(60), Addr::new(64));

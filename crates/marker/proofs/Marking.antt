@@ -3,21 +3,18 @@ use Rattle.std.proofs.Common.{inl, inr, ◌≡◌, ℕ, ◌+◌, ◌%◌, ◌^�
 use Rattle.std.proofs.lemmas.Bool.{cases_eq, cases_lt}
 use Rattle.std.proofs.lemmas.List.{get_or-set_same, get_or-set_other, get_or_past}
 use Rattle.heap_model.specs.Heap.{Heap, Shows}
-use Rattle.heap_model.specs.Marking.{KeepsSnapshot}
 use Rattle.regions.specs.Table.{Table}
-use Rattle.mark_bitmap.specs.Marks.{is_marked, marked_count, HasNone}
-use Rattle.mark_bitmap.specs.Tops.{below_next}
-use Rattle.mark_bitmap.specs.Grey.{Scans, IsFinger, is_grey}
+use Rattle.mark_bitmap.specs.Marks.{is_marked, marked_count}
+use Rattle.mark_bitmap.specs.Grey.{is_grey}
 use Rattle.mark_bitmap.proofs.Counts.{marked_count-set}
-use Rattle.satb_log.specs.Logs.{logged}
 use Rattle.marker.specs.Views.{heap_of}
 use Rattle.marker.specs.Counts.{ScanTotals, IsMore, added}
 use Rattle.marker.specs.Stands.{MarkerStands}
 use Rattle.marker.specs.Steps.{KeepsSnapshots, SameRoles, Grows}
 use Rattle.marker.specs.declared.marker.Marker.{Marker}
 use Rattle.marker.proofs.Views.{same_heap}
-use Rattle.marker.proofs.Reached.{stands_step, same_trans}
-use Rattle.marker.proofs.Scanned.{grey_is, with_grey}
+use Rattle.marker.proofs.Reached.{same_trans}
+use Rattle.marker.proofs.Scanned.{grey_is}
 
 -- n objects were scanned
 pub record HasScanned (t : Table) (m m' : Marker) (n : ℕ) : Type 0 where
@@ -41,24 +38,6 @@ snapshots_trans t m m' m'' same p q = λ s g roots shows keeps. q s g roots (sub
 
 pub none_scanned : (t : Table) (m : Marker) → MarkerStands t m → m.running ≡ true → HasScanned t m m 0
 none_scanned t m st run = record { stands = st; running = run; snapshots = snapshots_refl t m; count = omega arith; scans = record { since = omega arith; total = ap (λ (k : ℕ). k % 2 ^ 64) (let zero_more : m.scans.total ≡ m.scans.total + 0 = omega arith in zero_more) }; same = same_refl m; logs = refl; grows = record { marked = λ a k. k; scanned = λ a k. k } }
-
-finger_snapshots : (t : Table) (m : Marker) (g : Scans) → g.scanned ≡ m.grey.scanned → KeepsSnapshots t m (with_grey m g)
-finger_snapshots t m g e = λ s graph roots shows keeps.
-    subst (λ (b : List Bool). KeepsSnapshot s (heap_of t roots m) (record { old = below_next t m.tams; marked = is_marked m.bitmaps.next; scanned = is_marked b; logged = logged m.logs })) (sym e) keeps
-
--- the finger moves
-pub finger_moved : (t : Table) (m m' : Marker) (n : ℕ) (g : Scans) → HasScanned t m m' n → g.scanned ≡ m'.grey.scanned → IsFinger m'.bitmaps.next g → HasScanned t m (with_grey m' g) n
-finger_moved t m m' n g p e finger = record {
-  stands = stands_step t m' (with_grey m' g) p.stands p.running (record { previous = refl; tams = refl; running = refl }) (ap length e) refl (λ a l. l) p.stands.next finger (λ a k. inl k)
-      (λ a k. p.stands.scanned_marked p.running a (ap (λ (b : List Bool). is_marked b a) (sym e) ∙ k)) (p.stands.counted p.running ∙ ap marked_count (sym e));
-  running = p.running;
-  snapshots = snapshots_trans t m m' (with_grey m' g) p.same p.snapshots (finger_snapshots t m' g e);
-  count = ap marked_count e ∙ p.count;
-  scans = p.scans;
-  same = record { previous = p.same.previous; tams = p.same.tams; running = p.same.running };
-  logs = p.logs;
-  grows = record { marked = p.grows.marked; scanned = λ a k. ap (λ (b : List Bool). is_marked b a) e ∙ p.grows.scanned a k };
-}
 
 more_one : (s s' s'' : ScanTotals) (n : ℕ) → IsMore s s' n → s'' ≡ added s' → IsMore s s'' (n + 1)
 more_one s s' s'' n p is = record {
@@ -97,7 +76,3 @@ one_scanned t m m' m'' n object p grey inside st keeps scanned counted same logs
         scanned = λ a k. ap (λ (b : List Bool). is_marked b a) scanned ∙ more_marked m'.grey.scanned object a (p.grows.scanned a k);
       };
     }
-
--- no grey object is left, wherever the finger is
-pub none_left : (marks : List Bool) (g g' : Scans) → g'.scanned ≡ g.scanned → HasNone (is_grey marks g) 0 → HasNone (is_grey marks g') 0
-none_left marks g g' e none = λ a h. ap (λ (b : List Bool). is_grey marks (record { scanned = b; finger = 0 }) a) e ∙ none a h

@@ -13,7 +13,7 @@ use Rattle.regions.specs.Table.{Table, pointers_at}
 use Rattle.regions.specs.Shaped.{IsShaped}
 use Rattle.mark_bitmap.specs.Marks.{is_marked, marked_count}
 use Rattle.mark_bitmap.specs.Tops.{Tops, below_next}
-use Rattle.mark_bitmap.specs.Grey.{Scans, IsFinger, is_grey}
+use Rattle.mark_bitmap.specs.Grey.{Scans, HasFingers, is_grey}
 use Rattle.mark_bitmap.proofs.Counts.{marked_count-set}
 use Rattle.satb_log.specs.Logs.{logged}
 use Rattle.marker.specs.Views.{heap_of, marking_of}
@@ -73,7 +73,7 @@ scans_fit t m shape st run =
 
 pub scan_stands : (t : Table) (m m' : Marker) (object : ℕ) (g : Scans) → MarkerStands t m → m.running ≡ true
     → is_grey m.bitmaps.next m.grey object ≡ true → Reached t (all_pointers t object) m m'
-    → g.scanned ≡ set m'.grey.scanned object true → IsFinger m'.bitmaps.next g → MarkerStands t (with_scan m' g)
+    → g.scanned ≡ set m'.grey.scanned object true → HasFingers m'.bitmaps.next g → MarkerStands t (with_scan m' g)
 scan_stands t m m' object g st run grey p scanned finger =
     let is = grey_is m.bitmaps.next m.grey object grey in
     let on = p.same.running ∙ run in

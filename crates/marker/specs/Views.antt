@@ -1,5 +1,6 @@
 -- What the theory of marking sees of a table, the root words and a marker.
 use Rattle.std.specs.Prelude.{ℕ, ◌*◌, List, [], Option, false, replicate}
+use Rattle.std.specs.Int.{div_ceil}
 use Rattle.heap_words.specs.declared.config.Config.{Config}
 use Rattle.heap_model.specs.Heap.{Heap}
 use Rattle.heap_model.specs.Marking.{Marking}
@@ -26,7 +27,7 @@ abbrev pub fresh_marker : Config → Marker
 fresh_marker c = record {
   bitmaps = record { previous = replicate (c.regions * c.words) false; next = replicate (c.regions * c.words) false };
   tams = record { previous = bottoms c.regions c.words; next = bottoms c.regions c.words };
-  grey = record { scanned = replicate (c.regions * c.words) false; finger = 0 };
+  grey = record { scanned = replicate (c.regions * c.words) false; fingers = replicate (div_ceil (c.regions * c.words) 64) false };
   logs = replicate c.mutators [];
   running = false;
   scans = record { since = 0; total = 0 };

@@ -61,7 +61,7 @@ impl Marker {
             let target = table.get_ptr(object, field);
             self.reach(table, target);
         }
-        self.grey.remove(object);
+        self.grey.remove(&self.bitmaps.next, object);
         self.scans.add();
     }
 
