@@ -1,8 +1,8 @@
 #!/usr/bin/env python3
 """Writes the scripts whose times are wanted into a folder: tools/cost_scripts.py FOLDER.
 
-No script has an object of more than half a region. All heaps but those of `pause_of_nothing_256` have 1,024 regions
-of 1,024 words, the largest that a heap line allows.
+No script has an object of more than half a region. All heaps but those that a name gives 256 or 512 regions have 1,024
+regions of 1,024 words, the largest that a heap line allows.
 
 | Script | What it is |
 |---|---|
@@ -16,6 +16,10 @@ of 1,024 words, the largest that a heap line allows.
 | covered_cards_N | pauses whose one chosen region of 56 words is named from N outside cards, up to 20,000 pauses |
 | candidates_N | 5,000 pauses with N candidates, of which the first, of 100 words, is taken and copied |
 | roots_16 | 2,000 pauses with 16 mutators, where each register and each global names an object of its own |
+| cleanups_256, _512, _1024 | 20 times: all regions but one are filled with garbage, which a marking cycle finds and `cleanup` reclaims |
+| chain_in_order | 100 marking cycles over a list of 10,000 objects, each of which names the next one behind it |
+| chain_apart | the same, and every other object lies in the other half of the heap |
+| chain_in_order_base, chain_apart_base | the same without their marking cycles |
 
 A pause copies at most half of the free words, so never more than a third of the heap, here 349,525 words.
 """
@@ -28,6 +32,10 @@ WORDS = 1024
 HALF = WORDS // 2
 LONG_PAUSES = 50
 LONG_WORDS = 341348
+# Ten objects fill a region, so that a chain of two halves takes 1,000 regions.
+CHAIN_WORDS = 102
+CHAIN_HALF = 5000
+CHAIN_CYCLES = 100
 
 
 def heap(buffer, mutators=1, regions=REGIONS):
@@ -197,6 +205,33 @@ def roots_16():
     return lines + ["gc pause 2000"] * 2000
 
 
+def cleanups(regions):
+    lines = [heap(8, 1, regions)]
+    for _ in range(20):
+        lines += full_regions(regions - 1) + ["0 drop r0", "gc begin", "gc remark", "gc cleanup"]
+    return lines
+
+
+def chain_in_order(cycles):
+    lines = [heap(8), f"0 new r0 {shape(CHAIN_WORDS, 2)}", "0 save g0 r0"]
+    for _ in range(2 * CHAIN_HALF - 1):
+        lines += [f"0 new r1 {shape(CHAIN_WORDS, 2)}", "0 put r0 0 r1", "0 move r0 r1"]
+    return lines + ["0 drop r0", "0 drop r1"] + ["gc begin", "gc remark"] * cycles
+
+
+def chain_apart(cycles):
+    lines = [heap(8), f"0 new r0 {shape(CHAIN_WORDS, 2)}", "0 save g0 r0"]
+    # The lower half: each object's second pointer names the next one, until the upper half is there.
+    for _ in range(CHAIN_HALF - 1):
+        lines += [f"0 new r1 {shape(CHAIN_WORDS, 2)}", "0 put r0 1 r1", "0 move r0 r1"]
+    # The upper half: one object between each two.
+    lines.append("0 load r0 g0")
+    for _ in range(CHAIN_HALF):
+        lines += [f"0 new r1 {shape(CHAIN_WORDS, 2)}", "0 put r0 0 r1", "0 get r2 r0 1", "0 put r1 0 r2",
+                  "0 put r0 1 nil", "0 move r0 r2"]
+    return lines + [f"0 drop r{register}" for register in range(3)] + ["gc begin", "gc remark"] * cycles
+
+
 SCRIPTS = {
     "no_steps": no_steps,
     "pauses": pauses,
@@ -210,6 +245,11 @@ SCRIPTS = {
     **{f"covered_cards_{count}": lambda count=count: covered_cards(count) for count in (16, 100, 1000, 10000, 50000)},
     **{f"candidates_{count}": lambda count=count: candidates(count) for count in (16, 64, 256, 1000)},
     "roots_16": roots_16,
+    **{f"cleanups_{regions}": lambda regions=regions: cleanups(regions) for regions in (256, 512, 1024)},
+    "chain_in_order": lambda: chain_in_order(CHAIN_CYCLES),
+    "chain_in_order_base": lambda: chain_in_order(0),
+    "chain_apart": lambda: chain_apart(CHAIN_CYCLES),
+    "chain_apart_base": lambda: chain_apart(0),
 }
 
 

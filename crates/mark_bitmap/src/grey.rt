@@ -17,12 +17,11 @@
 //! `remove` take one grey object after another, until none is left. Each of the three costs a few words, however many
 //! objects there are and wherever they lie.
 
-ghost use Rattle.std.specs.Prelude.{◌≡◌, ◌≢◌, ℕ, ◌/◌, ◌<◌, List, Bool, true, false, IfOk, IfSome, length, MatchOption, replicate, slice_set};
-ghost use Rattle.std.specs.Int.{div_ceil};
+ghost use Rattle.std.specs.Prelude.{◌≡◌, ◌≢◌, ℕ, ◌<◌, List, Bool, true, false, IfOk, IfSome, length, MatchOption, replicate, slice_set};
 ghost use Rattle.heap_words.specs.Bits.{has};
 ghost use Rattle.mark_bitmap.specs.Marks.{is_marked, HasNone, IsLowest};
 ghost use Rattle.mark_bitmap.specs.Summary.{HasMember};
-ghost use Rattle.mark_bitmap.specs.Grey.{Scans, is_grey, HasFingers};
+ghost use Rattle.mark_bitmap.specs.Grey.{finger_of, is_grey, nothing_scanned, HasFingers, Scans};
 
 use crate::marks::Marks;
 use crate::summary::Summary;
@@ -51,8 +50,9 @@ impl Model for Grey {
 
 impl Grey {
     /// Nothing is scanned of the addresses below `count`, and no finger is set. No call takes memory afterwards.
+    #[tactic(auto, unfolding(crate::specs::Grey::nothing_scanned))]
     pub fn new(alloc: Global, count: u32) -> Result<Grey, AllocError>
-        ensures none { IfOk result (λ grey. grey ≡ record { scanned = replicate count false; fingers = replicate (div_ceil count 64) false }) }
+        ensures none { IfOk result (λ grey. grey ≡ nothing_scanned count) }
         ensures fingers { IfOk result (λ grey. (marks : List Bool) → ((a : ℕ) → is_marked marks a ≡ false) → HasFingers marks grey) }
     {
         Ok(Grey {
@@ -71,15 +71,17 @@ impl Grey {
     }
 
     /// An object is marked, which makes it grey: its finger is set.
+    #[tactic(auto, unfolding(crate::specs::Grey::finger_of))]
     pub fn add(&mut self, object: Addr)
         requires { object < length self.old.scanned }
-        ensures added { self.new ≡ record { scanned = self.old.scanned; fingers = slice_set self.old.fingers (object / 64) true } }
+        ensures added { self.new ≡ record { scanned = self.old.scanned; fingers = slice_set self.old.fingers (finger_of object) true } }
         ensures fingers { (marks : List Bool) → HasFingers marks self.old → HasFingers (slice_set marks object true) self.new }
     {
         self.fingers.set(object.word() / 64);
     }
 
     /// The lowest grey object.
+    #[tactic(auto, unfolding(crate::specs::Grey::finger_of))]
     pub fn any(&self, marks: &Marks) -> Option<Addr>
         requires even { length marks.now ≡ length self.now.scanned }
         requires fingers { HasFingers marks.now self.now }
@@ -93,12 +95,13 @@ impl Grey {
 
     /// An object is scanned: it is no longer grey. Its finger is still set only if a grey object is left at one of the
     /// finger's addresses.
+    #[tactic(auto, unfolding(crate::specs::Grey::finger_of))]
     pub fn remove(&mut self, marks: &Marks, object: Addr)
         requires even { length marks.now ≡ length self.old.scanned }
         requires known { object < length self.old.scanned }
         ensures scanned { self.new.scanned ≡ slice_set self.old.scanned object true }
-        ensures left { has self.new.fingers (object / 64) ≡ true → HasMember (is_grey marks.now self.new) (object / 64) }
-        ensures others { (i : ℕ) → i ≢ object / 64 → has self.new.fingers i ≡ has self.old.fingers i }
+        ensures left { has self.new.fingers (finger_of object) ≡ true → HasMember (is_grey marks.now self.new) (finger_of object) }
+        ensures others { (i : ℕ) → i ≢ finger_of object → has self.new.fingers i ≡ has self.old.fingers i }
         ensures fingers { HasFingers marks.now self.old → HasFingers marks.now self.new }
     {
         marks.law();
@@ -107,10 +110,9 @@ impl Grey {
         let first = 64 * finger;
         let from = Addr::new(first);
         let to = Addr::new(first.saturating_add(64));
-        let Some(_) = marks.next_without(&self.scanned, from, to) else {
+        if marks.next_without(&self.scanned, from, to).is_none() {
             self.fingers.remove(finger);
-            return;
-        };
+        }
     }
 
     /// Whether an object is scanned.

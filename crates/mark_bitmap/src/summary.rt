@@ -63,10 +63,9 @@ fn leave(set: &Bits, groups: &mut Bits, group: u32)
     ensures others { (i : ℕ) → i ≢ group → has groups.new i ≡ has groups.old i }
     ensures summary { IsSummary (has set.now) groups.new }
 {
-    let Some(_) = lowest_of(set, group) else {
+    if lowest_of(set, group).is_none() {
         groups.remove(group);
-        return;
-    };
+    }
 }
 
 impl Summary {

@@ -7,7 +7,6 @@ use Rattle.regions.specs.Table.{Table}
 use Rattle.mark_bitmap.specs.Marks.{is_marked, marked_count}
 use Rattle.mark_bitmap.specs.Grey.{is_grey}
 use Rattle.mark_bitmap.proofs.Counts.{marked_count-set}
-use Rattle.marker.specs.Views.{heap_of}
 use Rattle.marker.specs.Counts.{ScanTotals, IsMore, added}
 use Rattle.marker.specs.Stands.{MarkerStands}
 use Rattle.marker.specs.Steps.{KeepsSnapshots, SameRoles, Grows}

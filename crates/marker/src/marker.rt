@@ -35,6 +35,7 @@ pub struct Marker {
 impl Marker {
     /// A marker for a heap of these sizes: it doesn't run, nothing is marked, and every object is kept. No call takes
     /// memory afterwards.
+    #[tactic(auto, unfolding(crate::specs::Views::fresh_marker))]
     pub fn new(alloc: Global, config: &Config) -> Result<Marker, AllocError>
         requires { Suits config.now }
         ensures fresh { IfOk result (λ marker. marker ≡ fresh_marker config.now) }

@@ -33,3 +33,8 @@ pub returns-clause-snapshots : goal.returns-clause-snapshots
 returns-clause-snapshots c =
     let p = all_reached c.args.table.now c.args.self.now c.loop-field.self c.args.object c.loop-field.field c.pointer_count-count.result c.pointer_count-count.ensures c.loop-field-test.false c.loop-field.auto.field-end c.loop-field.invariant in
     scan_keeps c.args.table.now c.args.self.now c.loop-field.self c.args.object c.remove.new.self c.requires.stands c.requires.running c.requires.grey p c.remove.ensures.scanned
+
+pub returns-clause-marks : goal.returns-clause-marks
+returns-clause-marks c =
+    let p = all_reached c.args.table.now c.args.self.now c.loop-field.self c.args.object c.loop-field.field c.pointer_count-count.result c.pointer_count-count.ensures c.loop-field-test.false c.loop-field.auto.field-end c.loop-field.invariant in
+    record { stays = p.marks.stays; only = p.marks.only; each = p.marks.each }
