@@ -6,7 +6,7 @@ ghost use Rattle.evacuation.specs.Turns.{Pause, IsPause, IsTurn, After, EachCard
 
 use crate::fields::settle_field;
 use heap_words::addr::{Addr, RegionNo};
-use heap_words::bits::Bits;
+use heap_words::bounded::BoundedBits;
 use object_copy::Destinations;
 use regions::RegionTable;
 
@@ -15,7 +15,7 @@ fn settle_object(
     table: &mut RegionTable,
     destinations: &mut Destinations,
     set: &[bool],
-    noted: &mut Bits,
+    noted: &mut BoundedBits,
     card_words: u32,
     at: Addr,
 )
@@ -44,7 +44,7 @@ fn settle_region(
     table: &mut RegionTable,
     destinations: &mut Destinations,
     set: &[bool],
-    noted: &mut Bits,
+    noted: &mut BoundedBits,
     card_words: u32,
     region: RegionNo,
 )
@@ -81,7 +81,7 @@ pub(crate) fn settle_copies(
     table: &mut RegionTable,
     destinations: &mut Destinations,
     set: &[bool],
-    noted: &mut Bits,
+    noted: &mut BoundedBits,
     card_words: u32,
 )
     ghost pause: { Pause }

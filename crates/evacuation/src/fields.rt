@@ -7,7 +7,7 @@ ghost use Rattle.evacuation.specs.Space.{flag, set_of, field_at, IsField, IsName
 ghost use Rattle.evacuation.specs.Turns.{Pause, IsPause, IsTurn, After, EachCard, in_set, layout, plan, space, kept_now};
 
 use heap_words::addr::{Addr, Ptr};
-use heap_words::bits::Bits;
+use heap_words::bounded::BoundedBits;
 use object_copy::{Destinations, copy};
 use regions::RegionTable;
 
@@ -75,7 +75,7 @@ pub(crate) fn new_word(
 }
 
 /// Notes a word's card where the word's target lies in another region.
-fn note(table: &RegionTable, noted: &mut Bits, card_words: u32, word: u32, target: Addr)
+fn note(table: &RegionTable, noted: &mut BoundedBits, card_words: u32, word: u32, target: Addr)
     ghost pause: { Pause }
     requires premises { IsPause pause }
     requires words { table.now.words_per_region ≡ pause.start.words_per_region }
@@ -100,7 +100,7 @@ pub(crate) fn update_field(
     table: &mut RegionTable,
     destinations: &mut Destinations,
     set: &[bool],
-    noted: &mut Bits,
+    noted: &mut BoundedBits,
     card_words: u32,
     at: Addr,
     field: u32,
@@ -135,7 +135,7 @@ pub(crate) fn settle_field(
     table: &mut RegionTable,
     destinations: &mut Destinations,
     set: &[bool],
-    noted: &mut Bits,
+    noted: &mut BoundedBits,
     card_words: u32,
     at: Addr,
     field: u32,

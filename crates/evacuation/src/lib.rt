@@ -21,8 +21,8 @@
 //! needed.
 //!
 //! A pause costs the words copied, the roots, what the remembered sets of the chosen regions hold, the tiles and fields of the
-//! cards that they cover, the cards that it notes, and a few looks at each region and at each word of bits, which stands for 64
-//! cards.
+//! cards that they cover, the cards that it notes, and a few looks at each region. Cards are flagged in sets of bits that are looked
+//! at between the lowest and the highest of them alone.
 #![tactic(auto)]
 
 mod copied;

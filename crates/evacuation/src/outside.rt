@@ -13,7 +13,7 @@ ghost use Rattle.evacuation.specs.Cursors.{AreCardsFieldsClean, IsCardClean};
 
 use crate::fields::{is_inside, update_field};
 use heap_words::addr::Addr;
-use heap_words::bits::Bits;
+use heap_words::bounded::BoundedBits;
 use mark_bitmap::marks::Marks;
 use mark_bitmap::tams::Tams;
 use object_copy::Destinations;
@@ -25,7 +25,7 @@ fn update_object(
     table: &mut RegionTable,
     destinations: &mut Destinations,
     set: &[bool],
-    noted: &mut Bits,
+    noted: &mut BoundedBits,
     card_words: u32,
     card: u32,
     at: Addr,
@@ -61,7 +61,7 @@ fn update_tiles(
     table: &mut RegionTable,
     destinations: &mut Destinations,
     set: &[bool],
-    noted: &mut Bits,
+    noted: &mut BoundedBits,
     card_words: u32,
     tams: &Tams,
     marks: &Marks,
@@ -113,7 +113,7 @@ fn update_card(
     table: &mut RegionTable,
     destinations: &mut Destinations,
     set: &[bool],
-    noted: &mut Bits,
+    noted: &mut BoundedBits,
     card_words: u32,
     tams: &Tams,
     marks: &Marks,
@@ -154,7 +154,7 @@ fn update_tile(
     table: &mut RegionTable,
     destinations: &mut Destinations,
     set: &[bool],
-    noted: &mut Bits,
+    noted: &mut BoundedBits,
     card_words: u32,
     tams: &Tams,
     marks: &Marks,
@@ -192,11 +192,11 @@ pub(crate) fn update_cards(
     table: &mut RegionTable,
     destinations: &mut Destinations,
     set: &[bool],
-    noted: &mut Bits,
+    noted: &mut BoundedBits,
     card_words: u32,
     tams: &Tams,
     marks: &Marks,
-    visited: &Bits,
+    visited: &BoundedBits,
 )
     ghost pause: { Pause }
     requires premises { IsPause pause }

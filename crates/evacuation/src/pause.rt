@@ -17,7 +17,7 @@ use crate::roots::update_roots;
 use crate::visited::flag_visited;
 use cards::CardTable;
 use heap_words::addr::Ptr;
-use heap_words::bits::Bits;
+use heap_words::bounded::BoundedBits;
 use mark_bitmap::bitmaps::Bitmaps;
 use mark_bitmap::marks::Marks;
 use mark_bitmap::tams::Tams;
@@ -38,11 +38,11 @@ fn copy_reached(
     table: &mut RegionTable,
     destinations: &mut Destinations,
     set: &[bool],
-    noted: &mut Bits,
+    noted: &mut BoundedBits,
     card_words: u32,
     tams: &Tams,
     marks: &Marks,
-    visited: &Bits,
+    visited: &BoundedBits,
     roots: &mut [Ptr],
 )
     ghost pause: { Pause }
@@ -91,8 +91,8 @@ fn evacuate_in(
     roots: &mut [Ptr],
     destinations: &mut Destinations,
     set: &mut [bool],
-    visited: &mut Bits,
-    noted: &mut Bits,
+    visited: &mut BoundedBits,
+    noted: &mut BoundedBits,
     chosen: &[LiveRow],
     card_words: u32,
 ) -> Moved

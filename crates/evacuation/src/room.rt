@@ -19,7 +19,7 @@ ghost use Rattle.evacuation.specs.Rooms.{RoomSizes};
 
 use cards::CardTable;
 use heap_words::addr::Card;
-use heap_words::bits::Bits;
+use heap_words::bounded::BoundedBits;
 use object_copy::Destinations;
 use region_choice::LiveRow;
 use std::alloc::{AllocError, Global};
@@ -31,8 +31,8 @@ use std::marker::Model;
 pub struct PauseRoom {
     pub(crate) destinations: Destinations,
     pub(crate) chosen: Vec<bool>,
-    pub(crate) visited: Bits,
-    pub(crate) noted: Bits,
+    pub(crate) visited: BoundedBits,
+    pub(crate) noted: BoundedBits,
 }
 
 impl Model for PauseRoom {
@@ -59,8 +59,8 @@ impl PauseRoom {
         Ok(PauseRoom {
             destinations: Destinations::new(alloc, regions)?,
             chosen: flags(alloc, regions)?,
-            visited: Bits::new(alloc, cards)?,
-            noted: Bits::new(alloc, cards)?,
+            visited: BoundedBits::new(alloc, cards)?,
+            noted: BoundedBits::new(alloc, cards)?,
         })
     }
 }
@@ -78,7 +78,7 @@ pub(crate) fn flag_chosen(set: &mut [bool], rows: &[LiveRow])
 }
 
 /// The noted cards become dirty at the queue's end, by rising number.
-pub(crate) fn dirty_noted(cards: &mut CardTable, noted: &Bits)
+pub(crate) fn dirty_noted(cards: &mut CardTable, noted: &BoundedBits)
     requires clean { (card : ℕ) → is_dirty cards.old card ≡ false }
     requires len { length noted.now ≡ length cards.old.dirty }
     ensures dirty { (card : ℕ) → is_dirty cards.new card ≡ flag noted.now card }

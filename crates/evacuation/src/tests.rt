@@ -10,7 +10,7 @@ use crate::visited::flag_visited;
 use crate::{Moved, PauseRoom, evacuate};
 use cards::CardTable;
 use heap_words::addr::{Addr, Card, Ptr, RegionNo};
-use heap_words::bits::Bits;
+use heap_words::bounded::BoundedBits;
 use heap_words::config::Config;
 use heap_words::header::{Count, Counts, FillerSize};
 use mark_bitmap::bitmaps::Bitmaps;
@@ -62,7 +62,7 @@ fn visits_no_card_of_a_free_region(rt: HostRuntime) -> Result<(), Fail> {
         region,
         live_bound: 0,
     }];
-    let mut visited = Bits::new(rt.alloc(), 8)?;
+    let mut visited = BoundedBits::new(rt.alloc(), 8)?;
     visited.set_range(0, 8);
     flag_visited(&mut visited, &table, &sets, &rows, 8);
     assert!(rt; visited.len() == 8);

@@ -10,13 +10,13 @@ ghost use Rattle.refinement.specs.Refining.{SetsFit};
 ghost use Rattle.evacuation.specs.Space.{flag};
 
 use heap_words::addr::RegionNo;
-use heap_words::bits::Bits;
+use heap_words::bounded::BoundedBits;
 use region_choice::LiveRow;
 use regions::{Kind, RegionTable};
 use remembered_sets::RememberedSets;
 
 /// Flags the cards that the rows' regions cover, and no others.
-fn flag_covered(visited: &mut Bits, sets: &RememberedSets, rows: &[LiveRow])
+fn flag_covered(visited: &mut BoundedBits, sets: &RememberedSets, rows: &[LiveRow])
     requires rows { All (λ row. row.region < length sets.now.sets) rows.now }
     requires cards { length visited.old ≡ card_count sets.now }
     ensures flags { (card : ℕ) → flag visited.new card ≡ list_any (λ row. covers sets.now row.region card) rows.now }
@@ -41,7 +41,7 @@ fn is_free(table: &RegionTable, region: RegionNo) -> bool
 }
 
 /// Clears the flags of the cards of free regions.
-fn clear_free(visited: &mut Bits, table: &RegionTable, cards_per_region: u32)
+fn clear_free(visited: &mut BoundedBits, table: &RegionTable, cards_per_region: u32)
     requires some_cards { 0 < cards_per_region }
     requires each { length visited.old ≡ length table.now.regions * cards_per_region }
     ensures in_use { (card : ℕ) → kind_of table.now (card / cards_per_region) ≢ kinds.Free → flag visited.new card ≡ flag visited.old card }
@@ -61,7 +61,7 @@ fn clear_free(visited: &mut Bits, table: &RegionTable, cards_per_region: u32)
 
 /// Flags the cards of regions in use that the rows' regions cover, and no others.
 pub(crate) fn flag_visited(
-    visited: &mut Bits,
+    visited: &mut BoundedBits,
     table: &RegionTable,
     sets: &RememberedSets,
     rows: &[LiveRow],

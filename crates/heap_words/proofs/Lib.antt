@@ -3,3 +3,4 @@ pub mod Blocks
 pub mod BitWords
 pub mod LowestBits
 pub mod BitRanges
+pub mod Bounds

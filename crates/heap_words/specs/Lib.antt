@@ -4,3 +4,4 @@ pub mod Configs
 pub mod Bits
 pub mod BitWords
 pub mod Sizes
+pub mod Bounded

@@ -10,6 +10,7 @@
 
 pub mod addr;
 pub mod bits;
+pub mod bounded;
 pub mod config;
 pub mod header;
 pub mod words;

@@ -11,9 +11,10 @@ ghost use Rattle.std.specs.List.{list_any};
 ghost use Rattle.heap_words.specs.Bits.{has};
 
 use heap_words::bits::Bits;
+use heap_words::bounded::BoundedBits;
 
 /// Flags the cards of a list.
-pub(crate) fn flag_each(flags: &mut Bits, cards: &[u32])
+pub(crate) fn flag_each(flags: &mut BoundedBits, cards: &[u32])
     requires { All (λ c. c < length flags.old) cards.now }
     ensures flags { (c : ℕ) → has flags.new c ≡ (has flags.old c || list_any (λ x. x == c) cards.now) }
     ensures len { length flags.new ≡ length flags.old }
@@ -24,7 +25,7 @@ pub(crate) fn flag_each(flags: &mut Bits, cards: &[u32])
 }
 
 /// Flags the cards of the regions that are marked, and goes from one marked region to the next.
-pub(crate) fn flag_sources(flags: &mut Bits, sources: &Bits, cards_per_region: u32)
+pub(crate) fn flag_sources(flags: &mut BoundedBits, sources: &Bits, cards_per_region: u32)
     requires some_cards { 0 < cards_per_region }
     requires each { length flags.old ≡ length sources.now * cards_per_region }
     ensures flags { (c : ℕ) → has flags.new c ≡ (has flags.old c || has sources.now (c / cards_per_region)) }

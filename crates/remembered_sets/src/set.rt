@@ -7,6 +7,7 @@ ghost use Rattle.remembered_sets.specs.Sets.{empty_set, set_covers, set_with};
 use crate::flags::{flag_each, flag_sources};
 use heap_words::addr::Card;
 use heap_words::bits::Bits;
+use heap_words::bounded::BoundedBits;
 use smallvec::SmallVec;
 use std::alloc::{AllocError, Global};
 use std::marker::Model;
@@ -68,7 +69,7 @@ impl RememberedSet {
     }
 
     /// Flags the cards that the set covers, and leaves the other flags.
-    pub(crate) fn mark(&self, cards_per_region: u32, flags: &mut Bits)
+    pub(crate) fn mark(&self, cards_per_region: u32, flags: &mut BoundedBits)
         requires some_cards { 0 < cards_per_region }
         requires known { All (λ c. c < length flags.old) self.now.inline }
         requires each { length flags.old ≡ length self.now.sources * cards_per_region }

@@ -12,7 +12,7 @@ ghost use Rattle.remembered_sets.specs.Sets.{added, after_all, card_count, clear
 
 use crate::set::RememberedSet;
 use heap_words::addr::{Card, RegionNo};
-use heap_words::bits::Bits;
+use heap_words::bounded::BoundedBits;
 use std::alloc::{AllocError, Global};
 use std::marker::Model;
 
@@ -88,7 +88,7 @@ impl RememberedSets {
 
     /// Flags the cards that the region's set covers, and leaves the other flags. It costs the set's own cards and the regions
     /// that it marks, and for both a look at words that hold 64 flags each.
-    pub fn mark_cards(&self, region: RegionNo, flags: &mut Bits)
+    pub fn mark_cards(&self, region: RegionNo, flags: &mut BoundedBits)
         requires region { region < length self.now.sets }
         requires each { length flags.old ≡ card_count self.now }
         ensures flags { (c : ℕ) → has flags.new c ≡ (has flags.old c || covers self.now region c) }

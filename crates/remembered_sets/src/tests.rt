@@ -4,7 +4,7 @@ ghost use Rattle.std.specs.Prelude.{◌≡◌, IfOk, length};
 
 use crate::RememberedSets;
 use heap_words::addr::{Card, RegionNo};
-use heap_words::bits::Bits;
+use heap_words::bounded::BoundedBits;
 use std::alloc::{AllocError, Global};
 use std::test::Fail;
 
@@ -91,7 +91,7 @@ fn keeps_sets_apart(rt: HostRuntime) -> Result<(), Fail> {
 fn marks_cards(rt: HostRuntime) -> Result<(), Fail> {
     let mut sets = filled(rt.alloc())?;
     let region = RegionNo::new(7);
-    let mut flags = Bits::new(rt.alloc(), 128)?;
+    let mut flags = BoundedBits::new(rt.alloc(), 128)?;
     assert!(rt; flags.len() == 128);
     flags.set(127);
     assert!(rt; flags.len() == 128);
