@@ -163,8 +163,8 @@ start_low t w first g s =
     let b = mul-le first t.words_per_region (w / t.words_per_region) t.words_per_region s.below (omega arith) in
     omega (arith, a.0, b)
 
-pub start_of : (t : Table) (w word words first : ℕ) → IsRunStart t (word / words) first → word ≡ w → words ≡ t.words_per_region → IsRunStart t (w / t.words_per_region) first
-start_of t w word words first s e f = subst (λ (n : ℕ). IsRunStart t (w / n) first) f (subst (λ (v : ℕ). IsRunStart t (v / words) first) e s)
+pub start_of : (t : Table) (w k first : ℕ) → IsRunStart t k first → k ≡ w / t.words_per_region → IsRunStart t (w / t.words_per_region) first
+start_of t w k first s e = subst (λ (n : ℕ). IsRunStart t n first) e s
 
 -- the item whose tile holds the word
 pub found_holder : (t : Table) (k word : ℕ) (left rest : List (Addr × Shape)) (x : Addr) (shape : Shape) → IsShaped t → IsSearch t k word left → left ≡ (x, shape) ∷ rest → word < x + size_of_shape shape → IsHolder t x word

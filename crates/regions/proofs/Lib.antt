@@ -46,3 +46,5 @@ pub mod Released
 pub mod Steps
 pub mod Counting
 pub mod FieldAccess
+pub mod UsedBelow
+pub mod Sound

@@ -1,5 +1,5 @@
 -- How the words of the heap are read as regions.
-use Rattle.std.specs.Prelude.{◌≡◌, ℕ, zero, suc, ◌+◌, ◌-◌, ◌*◌, ◌^◌, ◌<◌, ◌≤◌, min, Bool, true, false, Option, Some, None, List, [], ◌∷◌, length, take, drop, slice_index, slice_set}
+use Rattle.std.specs.Prelude.{◌≡◌, ℕ, zero, suc, ◌+◌, ◌-◌, ◌*◌, ◌^◌, ◌<◌, ◌≤◌, min, Bool, true, false, Option, Some, None, List, [], ◌∷◌, length, take, drop, slice_index, slice_set, slice_index_or}
 use Rattle.heap_words.specs.Sizes.{size_of}
 use Rattle.heap_words.specs.Configs.{max_words}
 use Rattle.heap_words.specs.declared.header.Header.{Header}
@@ -125,6 +125,17 @@ kind_is_free kinds.Rest = false
 -- the row of a free region
 abbrev pub free_row : Row
 free_row = record { kind = kinds.Free; used = 0 }
+
+-- no row below n is free
+abbrev pub AreUsedBelow : ℕ → List Row → Type 0
+AreUsedBelow n rows = (k : ℕ) → k < n → kind_is_free (slice_index_or rows k free_row).kind ≡ false
+
+-- words and rows are a table's, with 2 ^ shift words a region, and no row below `lowest` is free
+pub record IsSound (size shift lowest : ℕ) (words : List ℕ) (rows : List Row) : Type 0 where
+  pub table : IsTable size words rows
+  pub power : size ≡ 2 ^ shift
+  pub narrow : shift < 32
+  pub used_below : AreUsedBelow lowest rows
 
 -- the kind of a run's i-th region
 abbrev pub run_kind : ℕ → Kind

@@ -1,5 +1,5 @@
 //! The table: making it, and what is asked of its regions.
-ghost use Rattle.std.specs.Prelude.{◌≡◌, ◌+◌, ◌<◌, length, nat_le, IsOk, IfOk, IfErr, IsSome, IfSome};
+ghost use Rattle.std.specs.Prelude.{◌≡◌, ◌+◌, ◌/◌, ◌<◌, length, nat_le, IsOk, IfOk, IfErr, IsSome, IfSome};
 ghost use Rattle.heap_words.specs.Configs.{Suits, IsNewFault};
 ghost use Rattle.heap_words.specs.Contents.{header_at};
 ghost use Rattle.regions.specs.Table.{free_count, free_table, is_free, region_number, HasNoMoved, kind_of, used_of, top_of, tile_in};
@@ -22,6 +22,10 @@ pub struct RegionTable {
     pub(crate) words: Words,
     pub(crate) rows: Vec<Row>,
     pub(crate) words_per_region: u32,
+    /// The exponent of the words of a region, which are a power of two: so a region is found by a shift.
+    pub(crate) shift: u32,
+    /// No region below this one is free: so a search for a free one begins here.
+    pub(crate) lowest: usize,
 }
 
 impl Model for RegionTable {
@@ -29,11 +33,11 @@ impl Model for RegionTable {
 
     ghost Value = { Table };
 
-    ghost use Rattle.regions.specs.Rows.{table_of, IsTable};
+    ghost use Rattle.regions.specs.Rows.{table_of, IsSound};
 
     ghost view = { λ a. table_of a.words_per_region a.words a.rows.items };
 
-    ghost invariant = { λ a. IsTable a.words_per_region a.words a.rows.items };
+    ghost invariant = { λ a. IsSound a.words_per_region a.shift a.lowest a.words a.rows.items };
 }
 
 /// The size of the object at an address, 1 where there is none.
@@ -91,6 +95,8 @@ impl RegionTable {
             words,
             rows,
             words_per_region: config.words,
+            shift: config.words.ilog2(),
+            lowest: 0,
         })
     }
 
@@ -106,6 +112,13 @@ impl RegionTable {
         ensures { result ≡ self.now.words_per_region }
     {
         self.words_per_region
+    }
+
+    /// The region of an address.
+    pub fn region_of(&self, at: Addr) -> RegionNo
+        ensures { result ≡ at / self.now.words_per_region }
+    {
+        RegionNo::new(at.word() >> self.shift)
     }
 
     /// How many regions there are.

@@ -71,13 +71,12 @@ impl RegionTable {
         ensures { result ≡ walk_rest self.now (at / self.now.words_per_region) (at % self.now.words_per_region) }
     {
         self.law();
-        let words = self.words_per_region();
-        let region = RegionNo::new(at.word() / words);
+        let region = self.region_of(at);
         let end = self.tile_words(region);
         Walk {
             table: self,
             region,
-            offset: at.word() % words,
+            offset: at.word() - region.number() * self.words_per_region(),
             end,
         }
     }
@@ -90,7 +89,7 @@ impl RegionTable {
         ensures last { IfNone result (IsLast self.now at) }
     {
         self.law();
-        let region = RegionNo::new(at.word() / self.words_per_region());
+        let region = self.region_of(at);
         let next = at.word() + self.tile(at).size();
         match self.kind(region) {
             Kind::Ordinary => {
@@ -112,7 +111,7 @@ impl RegionTable {
         ensures holder { IfSome result (λ a. IsHolder self.now a word) }
     {
         self.law();
-        let region = self.run_start(word.word() / self.words_per_region());
+        let region = self.run_start(self.region_of(word).number());
         for (at, shape) in self.walk(RegionNo::new(region)) {
             if word.word() < at.word() + shape.size() {
                 return Some(at);

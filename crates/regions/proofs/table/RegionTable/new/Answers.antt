@@ -2,13 +2,25 @@ use Rattle.std.proofs.Common.{arith, sym, subst, ◌≡◌, ◌*◌, length, ℕ
 use Rattle.std.proofs.lemmas.List.{length-replicate}
 use Rattle.regions.specs.Table.{HasNoMoved}
 use Rattle.regions.proofs.Making.{new_table, free_table-unmoved}
+use Rattle.regions.proofs.Sound.{power_is}
+use Rattle.regions.proofs.UsedBelow.{used_none}
 use Rattle.regions.proofs.table.RegionTable.new.Goals as goal
+
+pub ilog2-requires : goal.ilog2-requires
+ilog2-requires c =
+    let s = c.in_ok-check.ensures.suits.0 refl in
+    omega (arith, s.words.at_least)
 
 pub invariant_of-result : goal.invariant_of-result
 invariant_of-result c =
     let s = c.in_ok-check.ensures.suits.0 refl in
     let long : length c.in-Ok.words ≡ c.args.config.now.regions * c.args.config.now.words = ap (λ (ws : List ℕ). length ws) c.in-Ok.ensures ∙ length-replicate {A = ℕ} _ 0 in
-    (new_table c.args.config.now.words c.args.config.now.regions _ _ (omega (arith, s.words.at_least)) (omega (arith, s.words.at_most)) long s.words.in_all c.in-Ok-free_rows.ensures).is_table
+    record {
+      table = (new_table c.args.config.now.words c.args.config.now.regions _ _ (omega (arith, s.words.at_least)) (omega (arith, s.words.at_most)) long s.words.in_all c.in-Ok-free_rows.ensures).is_table;
+      power = power_is c.args.config.now.words c.ilog2.result s.words.power c.ilog2.ensures.power_le c.ilog2.ensures.next_power_gt;
+      narrow = c.ilog2.ensures.bound;
+      used_below = used_none _;
+    }
 
 pub returns-clause-made : goal.returns-clause-made
 returns-clause-made c =
