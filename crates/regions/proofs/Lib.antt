@@ -48,3 +48,8 @@ pub mod Counting
 pub mod FieldAccess
 pub mod UsedBelow
 pub mod Sound
+pub mod Divides
+pub mod Holders
+pub mod CardStarts
+pub mod FirstTiles
+pub mod Entries

@@ -1,22 +1,11 @@
--- What is known of a table's fields, kept by each change.
-use Rattle.std.proofs.Common.{◌≡◌, ℕ, zero, suc, ◌+◌, ◌*◌, ◌/◌, ◌%◌, ◌^◌, ◌<◌, ◌≤◌, ◌++◌, IsTrue, false, true, List, length, take, drop, set, refl, sym, ap, ◌∙◌, subst, arith, inl, inr}
+-- The words of a region are a power of two, and whole cards.
+use Rattle.std.proofs.Common.{◌≡◌, ℕ, zero, suc, ◌*◌, ◌/◌, ◌%◌, ◌^◌, ◌<◌, ◌≤◌, IsTrue, arith, inl, inr}
 use Rattle.std.specs.Int.{is_power_of_two}
 use Rattle.std.specs.Int.RustNames.{count_ones}
 use Rattle.std.proofs.Math.Nat.{pow-succ'}
 use lib.Count.{ones_step}
 use Rattle.std.proofs.lemmas.Nat.{zero_from_ones, pow_pos}
 use Rattle.std.proofs.lemmas.Bool.{eqb-true, cases_lt}
-use Rattle.regions.specs.Rows.{IsTable, IsSound, AreUsedBelow, kind_is_free}
-use Rattle.regions.specs.declared.row.Row.{Row}
-use Rattle.regions.proofs.UsedBelow.{used_none, used_set}
-
--- words change and no row
-pub sound_words : (size shift lowest : ℕ) (words new : List ℕ) (rows : List Row) → IsSound size shift lowest words rows → IsTable size new rows → IsSound size shift lowest new rows
-sound_words size shift lowest words new rows s t = record { table = t; power = s.power; narrow = s.narrow; used_below = s.used_below }
-
--- rows change too
-pub sound_rows : (size shift lowest low : ℕ) (words new : List ℕ) (rows others : List Row) → IsSound size shift lowest words rows → IsTable size new others → AreUsedBelow low others → IsSound size shift low new others
-sound_rows size shift lowest low words new rows others s t u = record { table = t; power = s.power; narrow = s.narrow; used_below = u }
 
 -- one bit is set: the number is a power of two
 one_bit : (r n : ℕ) → count_ones n ≡ 1 → 2 ^ r ≤ n → n < 2 * 2 ^ r → n ≡ 2 ^ r
@@ -31,3 +20,17 @@ one_bit (suc r) n e l h =
 
 pub power_is : (n r : ℕ) → IsTrue (is_power_of_two n) → 2 ^ r ≤ n → n < 2 * 2 ^ r → n ≡ 2 ^ r
 power_is n r p l h = one_bit r n (eqb-true _ _ p) l h
+
+-- so it is a whole number of eights, from eight on
+pub eights : (n r : ℕ) → n ≡ 2 ^ r → 8 ≤ n → (k : ℕ) × (n ≡ k * 8)
+eights n zero e l = absurd (omega arith)
+eights n (suc zero) e l = absurd (let p : 2 ^ suc zero ≡ 2 * 2 ^ zero = pow-succ' 2 zero in omega arith)
+eights n (suc (suc zero)) e l = absurd (let p : 2 ^ suc (suc zero) ≡ 2 * 2 ^ suc zero = pow-succ' 2 (suc zero) in let q : 2 ^ suc zero ≡ 2 * 2 ^ zero = pow-succ' 2 zero in omega arith)
+eights n (suc (suc (suc r))) e l =
+    let a : 2 ^ suc (suc (suc r)) ≡ 2 * 2 ^ suc (suc r) = pow-succ' 2 (suc (suc r)) in
+    let b : 2 ^ suc (suc r) ≡ 2 * 2 ^ suc r = pow-succ' 2 (suc r) in
+    let d : 2 ^ suc r ≡ 2 * 2 ^ r = pow-succ' 2 r in
+    (2 ^ r, omega arith)
+
+pub whole_starts : (r w k : ℕ) → w ≡ k * 8 → r * w / 8 * 8 ≡ r * w
+whole_starts r w k e = let f : r * w ≡ r * k * 8 = rw e (omega arith) in omega arith

@@ -1,11 +1,11 @@
 -- The number below which no row is free: the search for free rows begins there.
-use Rattle.std.proofs.Common.{◌≡◌, ℕ, zero, suc, ◌+◌, ◌<◌, ◌≤◌, ◌++◌, Bool, true, false, Some, None, List, [], ◌∷◌, length, take, drop, get_or, set, refl, sym, ap, ◌∙◌, subst, arith, position, not, inl, inr, ⊎_elim, add-zero}
+use Rattle.std.proofs.Common.{◌≡◌, ℕ, zero, suc, ◌+◌, ◌<◌, ◌≤◌, ◌++◌, true, false, Some, None, List, [], ◌∷◌, length, take, drop, get_or, set, refl, sym, ap, ◌∙◌, subst, arith, position, not, inl, inr, ⊎_elim, add-zero}
 use Rattle.std.proofs.lemmas.Bool.{cases_lt, cases_eq, lt-ltb, le-ltb}
 use Rattle.std.proofs.lemmas.List.{get_or-set_same, get_or-set_other, get_or-take, get_or-drop, get_or_append_left, length-take, length-append}
 use Rattle.std.proofs.lemmas.List.Sums.{prefix_len_is}
 use Rattle.std.specs.List.{position_or_len}
 use lib.Seq.{paste}
-use Rattle.regions.specs.Rows.{kind_is_free, free_row, AreUsedBelow}
+use Rattle.regions.specs.Rows.{free_row, AreUsedBelow}
 use Rattle.regions.specs.declared.row.Row.{Row}
 use Rattle.regions.proofs.RunRows.{FreeFront}
 use Rattle.regions.proofs.Search.{free, IsScanned, scan_init, scan_past}

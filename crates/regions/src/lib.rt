@@ -20,6 +20,7 @@
 //! A field is read or written by its address in constant time. Nothing but `RegionTable::new` takes memory.
 #![tactic(auto)]
 
+mod first_tiles;
 mod objects;
 pub mod row;
 mod runs;

@@ -67,6 +67,7 @@ impl RegionTable {
         let size = 2 + counts.pointers.get() + counts.values.get();
         let bottom = first.number() * self.words_per_region;
         self.words.write_object(Addr::new(bottom), name, counts);
+        self.first_tiles.put_object(bottom, size);
         let at = first.number() as usize;
         write_run(&mut self.rows, at, count, self.words_per_region, size);
     }

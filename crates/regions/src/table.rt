@@ -8,6 +8,7 @@ ghost use Rattle.regions.specs.Shapes.{tile_shape, shape_by};
 ghost use Rattle.regions.specs.Shaped.{IsShaped};
 ghost use Rattle.regions.specs.declared.row.Kind.TheVariants as kinds;
 
+use crate::first_tiles::FirstTiles;
 use crate::row::{Kind, Row, Shape, free_rows};
 use heap_words::addr::{Addr, RegionNo};
 use heap_words::config::{Config, NewFault};
@@ -26,6 +27,8 @@ pub struct RegionTable {
     pub(crate) shift: u32,
     /// No region below this one is free: so a search for a free one begins here.
     pub(crate) lowest: usize,
+    /// Where the tile of each card's first word starts.
+    pub(crate) first_tiles: FirstTiles,
 }
 
 impl Model for RegionTable {
@@ -37,7 +40,7 @@ impl Model for RegionTable {
 
     ghost view = { λ a. table_of a.words_per_region a.words a.rows.items };
 
-    ghost invariant = { λ a. IsSound a.words_per_region a.shift a.lowest a.words a.rows.items };
+    ghost invariant = { λ a. IsSound a.words_per_region a.shift a.lowest a.first_tiles a.words a.rows.items };
 }
 
 /// The size of the object at an address, 1 where there is none.
@@ -91,12 +94,16 @@ impl RegionTable {
         let Ok(rows) = free_rows(alloc, config.regions as usize) else {
             return Err(NewFault::NoMemory);
         };
+        let Ok(first_tiles) = FirstTiles::new(alloc, count as u32, config.card_words()) else {
+            return Err(NewFault::NoMemory);
+        };
         Ok(RegionTable {
             words,
             rows,
             words_per_region: config.words,
             shift: config.words.ilog2(),
             lowest: 0,
+            first_tiles,
         })
     }
 

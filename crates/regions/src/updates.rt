@@ -103,6 +103,7 @@ impl RegionTable {
         let more = size.get();
         let at = self.top(region);
         self.words.write_filler(at, size);
+        self.first_tiles.put_filler(at.word(), more);
         let number = region.number() as usize;
         let used = self.rows[number].used;
         self.rows[number] = Row {
@@ -124,6 +125,9 @@ impl RegionTable {
         self.words.write_filler(at, size);
         let behind = at.word() + kept;
         write_gap(&mut self.words, behind, filler.get() - kept);
+        self.first_tiles.put_filler(at.word(), kept);
+        self.first_tiles
+            .move_filler(behind, at.word() + filler.get());
         Addr::new(behind)
     }
 
@@ -137,6 +141,9 @@ impl RegionTable {
         let size = 2 + counts.pointers.get() + counts.values.get();
         self.words.write_object(at, name, counts);
         write_gap(&mut self.words, at.word() + size, filler.get() - size);
+        self.first_tiles.put_object(at.word(), size);
+        self.first_tiles
+            .move_filler(at.word() + size, at.word() + filler.get());
     }
 
     /// The object at `from` becomes forwarded to its copy at `to`.
@@ -160,15 +167,16 @@ impl RegionTable {
         ensures at { result ≡ top_of self.old region }
         ensures pushed { (s : Stored) → object_at self.old from ≡ Some s → self.new ≡ push_tile self.old region (Live s) }
     {
-        let at = self.top(region);
+        let to = self.top(region);
         let size = self.object_size(from);
-        self.words.copy(from, at, size);
+        self.words.copy(from, to, size);
+        self.first_tiles.put_object(to.word(), size);
         let number = region.number() as usize;
         let used = self.rows[number].used;
         self.rows[number] = Row {
             kind: Kind::Ordinary,
             used: used + size,
         };
-        at
+        to
     }
 }

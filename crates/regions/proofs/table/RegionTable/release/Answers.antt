@@ -2,8 +2,8 @@ use Rattle.std.proofs.Common.{arith, ◌≡◌, ℕ, suc, List, ◌+◌, length,
 use Rattle.regions.specs.declared.row.Row.{Row}
 use Rattle.regions.specs.Table.{front_count}
 use Rattle.regions.proofs.RunGone.{rest, release_by, release_room, rows_small}
-use Rattle.regions.proofs.Sound.{sound_rows}
 use Rattle.regions.proofs.UsedBelow.{used_written}
+use Rattle.regions.proofs.Entries.{release_sound}
 use Rattle.regions.proofs.table.RegionTable.release.Goals as goal
 
 pub rests_from-rests-requires : goal.rests_from-rests-requires
@@ -34,7 +34,8 @@ invariant_of-self c =
     let rows = rw c.deref_mut.ensures.value at c.write_free.ensures in
     let room = release_room _ _ _ _ _ c.self.invariant.table c.self.view_is c.requires.known c.requires.releasable c.requires.untargeted in
     let low = c.min-self-inside.ensures in
-    sound_rows _ _ _ _ _ _ _ _ c.self.invariant (release_by _ _ _ _ _ _ _ _ _ c.self.invariant.table c.self.view_is c.requires.known c.requires.releasable c.requires.untargeted c.number-at.ensures total number rows).is_table (used_written c.self.inside.rows.items _ _ c.self.inside.lowest c.number-at.result (c.rests_from-rests.result + 1) c.min-self-inside.result _ c.self.invariant.used_below (omega (arith, room, count, c.number-at.ensures)) (omega (arith, low)) (omega (arith, low)) number rows)
+    let w = release_by _ _ _ _ _ _ _ _ _ c.self.invariant.table c.self.view_is c.requires.known c.requires.releasable c.requires.untargeted c.number-at.ensures total number rows in
+    release_sound _ _ _ _ _ _ _ c.self.invariant c.self.view_is _ _ _ c.args.region c.requires.known c.requires.releasable (used_written c.self.inside.rows.items _ _ c.self.inside.lowest c.number-at.result (c.rests_from-rests.result + 1) c.min-self-inside.result _ c.self.invariant.used_below (omega (arith, room, count, c.number-at.ensures)) (omega (arith, low)) (omega (arith, low)) number rows) w
 
 pub returns : goal.returns
 returns c =
