@@ -21,8 +21,9 @@ use Rattle.region_choice.specs.declared.LiveRow.{LiveRow}
 use Rattle.regions.specs.Walks.{IsHolder}
 use Rattle.remembered_sets.specs.Sets.{card_count, covers}
 use Rattle.refinement.specs.Remembering.{IsCrossing}
-use Rattle.refinement.proofs.Divides.{card_has_words, card_region, div_is, div_low, div_high}
-use Rattle.refinement.proofs.Holders.{holder_start, object_within}
+use Rattle.regions.proofs.Divides.{card_has_words, card_region, div_is, div_low, div_high}
+use Rattle.regions.proofs.Holders.{holder_start}
+use Rattle.refinement.proofs.Holders.{object_within}
 use Rattle.object_copy.specs.Copies.{no_places}
 use Rattle.object_copy.proofs.Copied.{tile_of_object}
 use Rattle.evacuation.specs.Evacuates.{Layers, CanEvacuate, IsRow, is_chosen, stored_words}

@@ -9,8 +9,8 @@ use Rattle.regions.specs.Tiles.{Live}
 use Rattle.regions.specs.Table.{Table, tile_in, top_of}
 use Rattle.regions.specs.Walks.{IsHolder}
 use Rattle.regions.specs.Shaped.{IsShaped}
-use Rattle.refinement.proofs.Divides.{card_has_words, card_within, card_region, div_low, div_high}
-use Rattle.refinement.proofs.Holders.{holder_onward, holder_below}
+use Rattle.regions.proofs.Divides.{card_has_words, card_within, card_region, div_low, div_high}
+use Rattle.regions.proofs.Holders.{holder_onward, holder_below}
 use Rattle.object_copy.specs.Copies.{Places}
 use Rattle.object_copy.proofs.Copied.{tile_of_object}
 use Rattle.evacuation.specs.Space.{IsField, IsFieldClean, IsObject, IsStill, IsVisited, AreClean, field_at, flag}

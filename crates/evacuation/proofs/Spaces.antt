@@ -8,7 +8,7 @@ use Rattle.regions.specs.Table.{Table, is_free, kind_of, moved_to, object_at, re
 use Rattle.regions.specs.Rows.{kind_is_free}
 use Rattle.regions.specs.Shaped.{IsShaped}
 use Rattle.regions.specs.declared.row.Kind.TheVariants as kinds
-use Rattle.refinement.proofs.Divides.{div_is}
+use Rattle.regions.proofs.Divides.{div_is}
 use Rattle.refinement.proofs.Holders.{object_within}
 use Rattle.object_copy.specs.Copies.{Places, Copies, CopiesObject, Takes, fill_of}
 use Rattle.object_copy.proofs.Frees.{free_by_kind}

@@ -18,8 +18,7 @@ pub(crate) fn is_inside(table: &RegionTable, set: &[bool], at: Addr) -> bool
     requires words { table.now.words_per_region ≡ pause.start.words_per_region }
     ensures { result ≡ in_set pause at }
 {
-    table.law();
-    let region = (at.word() / table.words_per_region()) as usize;
+    let region = table.region_of(at).number() as usize;
     if region < set.len() {
         set[region]
     } else {
@@ -87,9 +86,7 @@ fn note(table: &RegionTable, noted: &mut BoundedBits, card_words: u32, word: u32
     ensures only { (c : ℕ) → flag noted.new c ≡ true → (flag noted.old c ≡ true) ⊎ ((c ≡ word / pause.card_words) × (target / pause.start.words_per_region ≢ word / pause.start.words_per_region)) }
     ensures each_card { EachCard pause noted.new }
 {
-    table.law();
-    let words = table.words_per_region();
-    if target.word() / words != word / words {
+    if table.region_of(target).number() != table.region_of(Addr::new(word)).number() {
         noted.set(word / card_words);
     }
 }

@@ -1,4 +1,3 @@
-pub mod Divides
 pub mod Entered
 pub mod Remembered
 pub mod Holders

@@ -6,7 +6,7 @@ use Rattle.std.proofs.lemmas.Option.{slice_get_within, slice_get_read, get_or_fr
 use Rattle.heap_model.specs.Heap.{Heap, IsClosed, Stored, fields}
 use Rattle.mark_bitmap.specs.Tops.{is_in_region}
 use Rattle.refinement.specs.Remembering.{field_word, field_card, IsCrossing, Remembers, KeepsFields, IsNoted, SetsField, AddsNil, NoneLeadsInto}
-use Rattle.refinement.proofs.Divides.{div_low, div_high}
+use Rattle.regions.proofs.Divides.{div_low, div_high}
 
 pub crossing_kept : (words : ℕ) (kept kept' : ℕ → Option Stored) (a i v : ℕ) → KeepsFields kept kept' → IsCrossing words kept' a i v → IsCrossing words kept a i v
 crossing_kept words kept kept' a i v f x =

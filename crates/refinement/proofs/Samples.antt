@@ -23,7 +23,7 @@ use Rattle.mark_bitmap.specs.Tops.{Tops}
 use Rattle.remembered_sets.specs.Sets.{Sets}
 use Rattle.refinement.specs.Refining.{CanScan}
 use Rattle.refinement.specs.Samples.{IsSample}
-use Rattle.refinement.proofs.Divides.{div_is}
+use Rattle.regions.proofs.Divides.{div_is}
 use Rattle.regions.proofs.FieldAccess.{fields_pointers}
 use Rattle.refinement.proofs.Holders.{field_at, kept_object}
 use Rattle.refinement.proofs.Remembered.{set_here, set_there}

@@ -68,7 +68,7 @@ pub value_put : (t : Table) (x i v : ℕ) (s : Stored) → 0 < t.words_per_regio
 value_put t x i v s z h =
     subst (λ (u : Table). WritesObject t u x s (with_value s i v)) (sym (set_value-is t x i v s h)) (object_put t x s (with_value s i v) z h (ap (λ n. 2 + length s.pointers + n) (length-set s.values i v)))
 
-object_of_tile : (t : Table) (y : ℕ) → object_at t y ≡ tile_object (tile_in t y)
+pub object_of_tile : (t : Table) (y : ℕ) → object_at t y ≡ tile_object (tile_in t y)
 unfolding object_at
 object_of_tile t y = refl
 

@@ -1,5 +1,5 @@
 -- The search for the tile that holds a word.
-use Rattle.std.proofs.Common.{◌≡◌, ℕ, ◌+◌, ◌-◌, ◌*◌, ◌/◌, ◌^◌, ◌<◌, ◌≤◌, min, Some, List, [], ◌∷◌, inl, inr, refl, sym, ap, subst, ◌∙◌, arith}
+use Rattle.std.proofs.Common.{◌≡◌, ℕ, ◌+◌, ◌-◌, ◌*◌, ◌/◌, ◌^◌, ◌<◌, ◌≤◌, min, Some, List, [], ◌∷◌, inl, inr, refl, sym, ap, ◌∙◌, arith}
 use Rattle.std.proofs.lemmas.Bool.{cases_lt}
 use Rattle.std.proofs.lemmas.Nat.{mul-le}
 use Rattle.heap_words.specs.declared.addr.Addr.{Addr}
@@ -22,6 +22,12 @@ pub record IsSearch (t : Table) (k word : ℕ) (left : List (Addr × Shape)) : T
   pub cut : IsCut offset (tiles_of t k)
   pub within : offset ≤ total_size (tiles_of t k)
   pub low : k * t.words_per_region + offset ≤ word
+
+-- the same in the region where the word's run begins
+pub record IsSearching (t : Table) (word : ℕ) (left : List (Addr × Shape)) : Type 0 where
+  pub first : ℕ
+  pub start : IsRunStart t (word / t.words_per_region) first
+  pub search : IsSearch t first word left
 
 -- what the next item is
 pub record IsNext (t : Table) (k o : ℕ) (x : Addr) (shape : Shape) (rest : List (Addr × Shape)) : Type 0 where
@@ -61,17 +67,6 @@ search_step t k word left rest x shape g s e =
           let none = ap (placed (k * t.words_per_region + s.offset)) (cut_none s.offset (tiles_of t k) s.cut le fitting.positive) in
           absurd (let z : (x, shape) ∷ rest ≡ [] = sym e ∙ s.left_is ∙ none in cc)
     ]
-
-pub search_first : (t : Table) (k word n : ℕ) (left : List (Addr × Shape)) → k * t.words_per_region ≤ word → n ≡ k → left ≡ placed (n * t.words_per_region) (tiles_of t n) → IsSearch t k word left
-search_first t k word n left low same e =
-    let start : k * t.words_per_region ≡ k * t.words_per_region + 0 = omega arith in
-    record {
-      offset = 0;
-      left_is = e ∙ ap (λ (j : ℕ). placed (j * t.words_per_region) (tiles_of t j)) same ∙ ap (λ (a : ℕ). placed a (tiles_of t k)) start;
-      cut = tt;
-      within = omega arith;
-      low = omega arith;
-    }
 
 pub search_fits : (t : Table) (k word : ℕ) (left rest : List (Addr × Shape)) (x : Addr) (shape : Shape) → IsShaped t → IsSearch t k word left → left ≡ (x, shape) ∷ rest → x + size_of_shape shape ≤ 2 ^ 20
 search_fits t k word left rest x shape g s e =
@@ -156,15 +151,6 @@ reach t k first w g s low high = go (region_number t k) refl
 -- where a word's region lies
 word_region : (w size : ℕ) → 0 < size → (w / size * size ≤ w) × (w < w / size * size + size)
 word_region w size z = (omega arith, omega arith)
-
-pub start_low : (t : Table) (w first : ℕ) → IsShaped t → IsRunStart t (w / t.words_per_region) first → first * t.words_per_region ≤ w
-start_low t w first g s =
-    let a = word_region w t.words_per_region g.positive in
-    let b = mul-le first t.words_per_region (w / t.words_per_region) t.words_per_region s.below (omega arith) in
-    omega (arith, a.0, b)
-
-pub start_of : (t : Table) (w word words first : ℕ) → IsRunStart t (word / words) first → word ≡ w → words ≡ t.words_per_region → IsRunStart t (w / t.words_per_region) first
-start_of t w word words first s e f = subst (λ (n : ℕ). IsRunStart t (w / n) first) f (subst (λ (v : ℕ). IsRunStart t (v / words) first) e s)
 
 -- the item whose tile holds the word
 pub found_holder : (t : Table) (k word : ℕ) (left rest : List (Addr × Shape)) (x : Addr) (shape : Shape) → IsShaped t → IsSearch t k word left → left ≡ (x, shape) ∷ rest → word < x + size_of_shape shape → IsHolder t x word

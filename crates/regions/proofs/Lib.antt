@@ -46,3 +46,10 @@ pub mod Released
 pub mod Steps
 pub mod Counting
 pub mod FieldAccess
+pub mod UsedBelow
+pub mod Sound
+pub mod Divides
+pub mod Holders
+pub mod CardStarts
+pub mod FirstTiles
+pub mod Entries

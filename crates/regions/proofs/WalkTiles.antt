@@ -20,7 +20,7 @@ among_above : (ts : List Tile) (b a : ℕ) → IsAmong a (placed b ts) → b ≤
 among_above [] b a h = absurd h
 among_above (t ∷ ts) b a h = ⊎_elim (λ e. omega arith) (λ q. let i = among_above ts (b + tile_size t) a q in omega arith) h
 
-tile_behind : (t : Tile) (ts : List Tile) (p n : ℕ) (u : Tile) → 0 < tile_size t → n ≡ tile_size t + p → tile_at p ts ≡ Some u → tile_at n (t ∷ ts) ≡ Some u
+pub tile_behind : (t : Tile) (ts : List Tile) (p n : ℕ) (u : Tile) → 0 < tile_size t → n ≡ tile_size t + p → tile_at p ts ≡ Some u → tile_at n (t ∷ ts) ≡ Some u
 tile_behind t ts p zero u z e f = absurd (omega arith)
 tile_behind t ts p (suc n) u z e f =
     let q : suc n - tile_size t ≡ p = omega arith in

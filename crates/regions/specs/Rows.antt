@@ -1,5 +1,5 @@
 -- How the words of the heap are read as regions.
-use Rattle.std.specs.Prelude.{◌≡◌, ℕ, zero, suc, ◌+◌, ◌-◌, ◌*◌, ◌^◌, ◌<◌, ◌≤◌, min, Bool, true, false, Option, Some, None, List, [], ◌∷◌, length, take, drop, slice_index, slice_set}
+use Rattle.std.specs.Prelude.{◌≡◌, ℕ, zero, suc, ◌-◌, ◌*◌, ◌^◌, ◌<◌, ◌≤◌, min, Bool, true, false, Option, Some, None, List, [], ◌∷◌, length, take, drop, slice_index, slice_set, slice_index_or}
 use Rattle.heap_words.specs.Sizes.{size_of}
 use Rattle.heap_words.specs.Configs.{max_words}
 use Rattle.heap_words.specs.declared.header.Header.{Header}
@@ -8,6 +8,7 @@ use Rattle.heap_words.specs.Headers.{header_of, header_word}
 use Rattle.heap_model.specs.Heap.{Stored}
 use Rattle.regions.specs.Tiles.{stored_of, tiles, IsTiled}
 use Rattle.regions.specs.Table.{Region, Free, Ordinary, First, Rest, Table, HasTargets}
+use Rattle.regions.specs.FirstTiles.{Entries, AreEntries}
 use Rattle.regions.specs.declared.row.Row.{Row}
 use Rattle.regions.specs.declared.row.Kind.{Kind}
 use Rattle.regions.specs.declared.row.Kind.TheVariants as kinds
@@ -125,6 +126,21 @@ kind_is_free kinds.Rest = false
 -- the row of a free region
 abbrev pub free_row : Row
 free_row = record { kind = kinds.Free; used = 0 }
+
+-- no row below n is free
+abbrev pub AreUsedBelow : ℕ → List Row → Type 0
+AreUsedBelow n rows = (k : ℕ) → k < n → kind_is_free (slice_index_or rows k free_row).kind ≡ false
+
+-- words and rows are a table's, with 2 ^ shift words a region, which are whole cards; no row below `lowest` is free; and each card
+-- has its entry
+pub record IsSound (size shift lowest : ℕ) (entries : Entries) (words : List ℕ) (rows : List Row) : Type 0 where
+  pub table : IsTable size words rows
+  pub power : size ≡ 2 ^ shift
+  pub narrow : shift < 32
+  pub used_below : AreUsedBelow lowest rows
+  pub whole_cards : (cards : ℕ) × (size ≡ cards * entries.card_words)
+  pub each_card : length words ≡ length entries.starts * entries.card_words
+  pub first_tiles : AreEntries (table_of size words rows) entries
 
 -- the kind of a run's i-th region
 abbrev pub run_kind : ℕ → Kind

@@ -1,5 +1,5 @@
 -- A table of regions, as callers see it: regions of tiles, and no words.
-use Rattle.std.specs.Prelude.{◌≡◌, ℕ, zero, suc, ◌+◌, ◌-◌, ◌*◌, ◌/◌, ◌%◌, ◌≤◌, Option, Some, None, List, [], ◌∷◌, ◌++◌, length, slice_index_or, slice_set, replicate, min, position, count_by, Bool, true, false, take, drop, if◌then◌else◌, nat_le}
+use Rattle.std.specs.Prelude.{◌≡◌, ℕ, zero, suc, ◌+◌, ◌-◌, ◌*◌, ◌/◌, ◌%◌, ◌≤◌, Option, Some, None, List, [], ◌∷◌, ◌++◌, slice_index_or, slice_set, replicate, min, position, count_by, Bool, true, false, take, drop, if◌then◌else◌, nat_le}
 use Rattle.heap_model.specs.Heap.{Stored, fields, with_field}
 use Rattle.regions.specs.Tiles.{Tile, Live, Gap, Moved, tile_size, tile_at, replace, total_size}
 use Rattle.regions.specs.declared.row.Kind.{Kind}

@@ -3,20 +3,21 @@ ghost use Rattle.std.specs.Prelude.{◌≡◌, ◌+◌, ◌*◌, ◌<◌, ◌≤
 ghost use Rattle.heap_words.specs.Sizes.{size_of};
 ghost use lib.Seq.{paste};
 ghost use Rattle.regions.specs.Table.{first_run, is_free as region_is_free, new_object, run_regions, with_regions, with_run};
-ghost use Rattle.regions.specs.Rows.{kind_is_free, run_rows};
+ghost use Rattle.regions.specs.Rows.{kind_is_free, run_rows, AreUsedBelow};
 
 use crate::row::{Kind, Row, is_free};
 use crate::table::RegionTable;
 use heap_words::addr::{Addr, RegionNo};
 use heap_words::header::Counts;
 
-/// The lowest place from which `count` rows are free.
-fn lowest_run(rows: &[Row], count: usize) -> Option<usize>
-    requires { 0 < count }
+/// The lowest place from which `count` rows are free, where no row below `from` is.
+fn lowest_run(rows: &[Row], count: usize, from: usize) -> Option<usize>
+    requires some { 0 < count }
+    requires used { AreUsedBelow from rows.now }
     ensures { result ≡ first_run (λ row. kind_is_free row.kind) count rows.now }
 {
-    let mut start = 0;
-    for i in 0..rows.len() {
+    let mut start = from;
+    for i in from..rows.len() {
         if is_free(&rows[i]) {
             if i + 1 - start == count {
                 return Some(start);
@@ -50,7 +51,7 @@ impl RegionTable {
         requires { 0 < count }
         ensures { result ≡ first_run region_is_free count self.now.regions }
     {
-        let at = lowest_run(&self.rows, count as usize)?;
+        let at = lowest_run(&self.rows, count as usize, self.lowest)?;
         Some(RegionNo::new(at as u32))
     }
 
@@ -66,6 +67,7 @@ impl RegionTable {
         let size = 2 + counts.pointers.get() + counts.values.get();
         let bottom = first.number() * self.words_per_region;
         self.words.write_object(Addr::new(bottom), name, counts);
+        self.first_tiles.put_object(bottom, size);
         let at = first.number() as usize;
         write_run(&mut self.rows, at, count, self.words_per_region, size);
     }

@@ -5,7 +5,7 @@ ghost use lib.Seq.{paste};
 ghost use Rattle.heap_model.specs.Heap.{Stored};
 ghost use Rattle.regions.specs.Tiles.{Live, Gap, Moved};
 ghost use Rattle.regions.specs.Table.{first_free, taken, kind_of, used_of, top_of, region_at, IsOrdinary, IsReleasable, released, EachMovedIn, tile_in, object_at, object_words, push_tile, replace_tile, new_object, front_count, gap};
-ghost use Rattle.regions.specs.Rows.{kind_is_free, kind_is_rest, free_row, put_gap};
+ghost use Rattle.regions.specs.Rows.{kind_is_free, kind_is_rest, free_row, put_gap, AreUsedBelow};
 ghost use Rattle.regions.specs.declared.row.Kind.TheVariants as kinds;
 
 use crate::row::{Kind, Row, is_free, is_rest};
@@ -14,10 +14,17 @@ use heap_words::addr::{Addr, RegionNo};
 use heap_words::header::{Counts, FillerSize};
 use heap_words::words::Words;
 
-fn lowest_free(rows: &[Row]) -> Option<usize>
+/// The lowest free row, where none below `from` is free.
+fn lowest_free(rows: &[Row], from: usize) -> Option<usize>
+    requires { AreUsedBelow from rows.now }
     ensures { result ≡ position (λ row. kind_is_free row.kind) rows.now }
 {
-    rows.iter().position(is_free)
+    for i in from..rows.len() {
+        if is_free(&rows[i]) {
+            return Some(i);
+        }
+    }
+    None
 }
 
 /// How many rows from one on are of a run's later regions.
@@ -63,11 +70,12 @@ impl RegionTable {
         ensures lowest { result ≡ first_free self.old }
         ensures taken { self.new ≡ taken self.old (first_free self.old) }
     {
-        let at = lowest_free(&self.rows)?;
+        let at = lowest_free(&self.rows, self.lowest)?;
         self.rows[at] = Row {
             kind: Kind::Ordinary,
             used: 0,
         };
+        self.lowest = at + 1;
         Some(RegionNo::new(at as u32))
     }
 
@@ -81,6 +89,7 @@ impl RegionTable {
         let at = region.number() as usize;
         let rests = rests_from(&self.rows, at + 1);
         write_free(&mut self.rows, at, rests + 1);
+        self.lowest = self.lowest.min(at);
     }
 
     /// Puts a filler at the top of an ordinary region, and says where it starts.
@@ -94,6 +103,7 @@ impl RegionTable {
         let more = size.get();
         let at = self.top(region);
         self.words.write_filler(at, size);
+        self.first_tiles.put_filler(at.word(), more);
         let number = region.number() as usize;
         let used = self.rows[number].used;
         self.rows[number] = Row {
@@ -115,6 +125,9 @@ impl RegionTable {
         self.words.write_filler(at, size);
         let behind = at.word() + kept;
         write_gap(&mut self.words, behind, filler.get() - kept);
+        self.first_tiles.put_filler(at.word(), kept);
+        self.first_tiles
+            .move_filler(behind, at.word() + filler.get());
         Addr::new(behind)
     }
 
@@ -128,6 +141,9 @@ impl RegionTable {
         let size = 2 + counts.pointers.get() + counts.values.get();
         self.words.write_object(at, name, counts);
         write_gap(&mut self.words, at.word() + size, filler.get() - size);
+        self.first_tiles.put_object(at.word(), size);
+        self.first_tiles
+            .move_filler(at.word() + size, at.word() + filler.get());
     }
 
     /// The object at `from` becomes forwarded to its copy at `to`.
@@ -151,15 +167,16 @@ impl RegionTable {
         ensures at { result ≡ top_of self.old region }
         ensures pushed { (s : Stored) → object_at self.old from ≡ Some s → self.new ≡ push_tile self.old region (Live s) }
     {
-        let at = self.top(region);
+        let to = self.top(region);
         let size = self.object_size(from);
-        self.words.copy(from, at, size);
+        self.words.copy(from, to, size);
+        self.first_tiles.put_object(to.word(), size);
         let number = region.number() as usize;
         let used = self.rows[number].used;
         self.rows[number] = Row {
             kind: Kind::Ordinary,
             used: used + size,
         };
-        at
+        to
     }
 }

@@ -4,17 +4,19 @@ ghost use Rattle.std.specs.Prelude.{◌≡◌, ◌<◌};
 
 use super::{act, collect, register};
 use crate::Core;
+use heap_words::addr::Addr;
 use heap_words::config::Config;
 use object_graph::{Action, CollectorStep, Counts, Reply};
 use std::alloc::Global;
 use std::process::Abort;
 use std::test::Fail;
 
-/// A mutator's action, or a step of the collector with its reply.
+/// A mutator's action, a step of the collector with its reply, or where the tile of a card's first word starts.
 #[derive(Clone, Copy)]
 enum Line {
     Act(Action),
     Collect(CollectorStep, Reply),
+    FirstTile(u32, Option<u32>),
 }
 
 fn make(to: u8, pointers: u32, values: u32) -> Line
@@ -85,6 +87,19 @@ fn refine(cards: u32, refined: u32) -> Line {
     Line::Collect(CollectorStep::Refine(cards), Reply::Refined(refined))
 }
 
+/// Where the tile of a card's first word starts, none above the region's top.
+fn first_tile(core: &Core, card: u32) -> Option<u32> {
+    core.table.law();
+    let words = core.table.region_count() * core.table.words_per_region();
+    if words / 8 <= card {
+        return None;
+    }
+    match core.table.first_tile(Addr::new(card * 8)) {
+        Some(at) => Some(at.word()),
+        None => None,
+    }
+}
+
 /// Where the object starts that a register of mutator 0 names.
 fn place_of(core: &Core, number: u8) -> Option<u32>
     requires { number < 8 }
@@ -121,6 +136,7 @@ fn check(
         match line {
             Line::Act(action) => assert!(rt; act(&mut core, 0, *action).is_some()),
             Line::Collect(step, reply) => assert_eq!(rt; collect(&mut core, *step), *reply),
+            Line::FirstTile(card, at) => assert_eq!(rt; first_tile(&core, *card), *at),
         }
     }
     for number in 0..8u8 {
@@ -209,7 +225,7 @@ fn updates_a_field_outside(rt: HostRuntime) -> Result<(), Fail> {
     check(&rt, rt.alloc(), 4, 4, &lines, &places)
 }
 
-/// A dead object's pointer isn't followed, whatever stands now where it leads.
+/// A dead object's pointer isn't followed, whatever stands now where it leads. The cards know their first tiles.
 #[test]
 fn follows_no_dead_object(rt: HostRuntime) -> Result<(), Fail> {
     let lines = [
@@ -218,6 +234,11 @@ fn follows_no_dead_object(rt: HostRuntime) -> Result<(), Fail> {
         make(2, 1, 1),
         make(3, 2, 2),
         make(4, 4, 2),
+        Line::FirstTile(0, Some(0)),
+        Line::FirstTile(1, Some(8)),
+        Line::FirstTile(2, Some(16)),
+        Line::FirstTile(3, Some(22)),
+        Line::FirstTile(4, None),
         put(1, 0, 4),
         make(5, 4, 2),
         forget(1),
@@ -229,6 +250,8 @@ fn follows_no_dead_object(rt: HostRuntime) -> Result<(), Fail> {
         make(6, 4, 2),
         make(7, 4, 2),
         pause(100, 1, 8),
+        Line::FirstTile(6, Some(48)),
+        Line::FirstTile(7, None),
     ];
     let places = [
         Some(0),

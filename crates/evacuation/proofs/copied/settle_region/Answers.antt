@@ -5,7 +5,7 @@ use Rattle.regions.specs.Tiles.{Live}
 use Rattle.object_copy.proofs.Copied.{tile_of_object}
 use Rattle.evacuation.proofs.Keeps.{kept_object}
 use Rattle.regions.specs.Table.{tile_in, used_of}
-use Rattle.refinement.proofs.Divides.{div_is, div_low, div_high}
+use Rattle.regions.proofs.Divides.{div_is, div_low, div_high}
 use Rattle.evacuation.specs.Turns.{layout, space}
 use Rattle.evacuation.proofs.After.{after_after, same_after, taken_after}
 use Rattle.regions.proofs.Steps as steps

@@ -2,7 +2,7 @@ use Rattle.std.proofs.Common.{◌≡◌, ◌∙◌, ◌*◌, ◌<◌, ℕ, ap, s
 use Rattle.mark_bitmap.specs.Kept.{kept_in}
 use Rattle.remembered_sets.specs.Sets.{covers}
 use Rattle.refinement.specs.Remembering.{LeadsInside}
-use Rattle.refinement.proofs.Divides.{card_has_words}
+use Rattle.regions.proofs.Divides.{card_has_words}
 use Rattle.refinement.proofs.Entered.{adds_none, adds_more, adds_grows}
 use Rattle.refinement.proofs.Fields.{adds_fit, card_end}
 use Rattle.refinement.proofs.Holders.{kept_object, not_kept, fields_inside, same_object, tile_there}

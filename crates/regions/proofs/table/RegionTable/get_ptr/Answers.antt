@@ -3,7 +3,7 @@ use Rattle.regions.proofs.Access.{pointer_read}
 use Rattle.regions.proofs.table.RegionTable.get_ptr.Goals as goal
 
 pub get_ptr-requires : goal.get_ptr-requires
-get_ptr-requires c = (pointer_read _ _ _ _ _ _ c.self.invariant c.self.view_is c.requires).in_words
+get_ptr-requires c = (pointer_read _ _ _ _ _ _ c.self.invariant.table c.self.view_is c.requires).in_words
 
 pub returns : goal.returns
-returns c = (pointer_read _ _ _ _ _ _ c.self.invariant c.self.view_is c.requires).value ∙ ap Some (sym c.get_ptr.ensures)
+returns c = (pointer_read _ _ _ _ _ _ c.self.invariant.table c.self.view_is c.requires).value ∙ ap Some (sym c.get_ptr.ensures)

@@ -1,14 +1,38 @@
-use Rattle.std.proofs.Common.{arith, sym, subst, ◌≡◌, ◌*◌, length, ℕ, List, refl, ap, ◌∙◌}
+use Rattle.std.proofs.Common.{arith, sym, subst, ◌≡◌, ◌*◌, ◌/◌, replicate, length, ℕ, List, refl, ap, ◌∙◌}
 use Rattle.std.proofs.lemmas.List.{length-replicate}
-use Rattle.regions.specs.Table.{HasNoMoved}
+use Rattle.regions.specs.Table.{Table, HasNoMoved}
+use Rattle.regions.specs.FirstTiles.{Entries, AreEntries}
+use Rattle.regions.proofs.Entries.{free_entries}
 use Rattle.regions.proofs.Making.{new_table, free_table-unmoved}
+use Rattle.regions.proofs.Sound.{power_is, eights, whole_starts}
+use Rattle.regions.proofs.UsedBelow.{used_none}
 use Rattle.regions.proofs.table.RegionTable.new.Goals as goal
+
+pub ilog2-requires : goal.ilog2-requires
+ilog2-requires c =
+    let s = c.in_ok-check.ensures.suits.0 refl in
+    omega (arith, s.words.at_least)
 
 pub invariant_of-result : goal.invariant_of-result
 invariant_of-result c =
     let s = c.in_ok-check.ensures.suits.0 refl in
     let long : length c.in-Ok.words ≡ c.args.config.now.regions * c.args.config.now.words = ap (λ (ws : List ℕ). length ws) c.in-Ok.ensures ∙ length-replicate {A = ℕ} _ 0 in
-    (new_table c.args.config.now.words c.args.config.now.regions _ _ (omega (arith, s.words.at_least)) (omega (arith, s.words.at_most)) long s.words.in_all c.in-Ok-free_rows.ensures).is_table
+    let made = new_table c.args.config.now.words c.args.config.now.regions _ _ (omega (arith, s.words.at_least)) (omega (arith, s.words.at_most)) long s.words.in_all c.in-Ok-free_rows.ensures in
+    let power = power_is c.args.config.now.words c.ilog2.result s.words.power c.ilog2.ensures.power_le c.ilog2.ensures.next_power_gt in
+    let whole = eights c.args.config.now.words c.ilog2.result power (omega (arith, s.words.at_least)) in
+    let tiles : c.in-Ok-new.first_tiles ≡ record { card_words = c.card_words.result; starts = replicate (c.args.config.now.regions * c.args.config.now.words / c.card_words.result) 0 } = c.in-Ok-new.ensures in
+    let len : c.in-Ok-new.first_tiles.card_words ≡ 8 = ap (λ (f : Entries). f.card_words) tiles ∙ c.card_words.ensures in
+    let count : length c.in-Ok-new.first_tiles.starts ≡ c.args.config.now.regions * c.args.config.now.words / 8 =
+    ap (λ (f : Entries). length f.starts) tiles ∙ length-replicate {A = ℕ} _ 0 ∙ ap (λ (n : ℕ). c.args.config.now.regions * c.args.config.now.words / n) c.card_words.ensures in
+    record {
+      table = made.is_table;
+      power = power;
+      narrow = c.ilog2.ensures.bound;
+      used_below = used_none _;
+      whole_cards = rw len whole;
+      each_card = rw (len, count) (long ∙ sym (whole_starts c.args.config.now.regions c.args.config.now.words whole.0 whole.1));
+      first_tiles = subst (λ (t : Table). AreEntries t c.in-Ok-new.first_tiles) (sym made.table_is) (free_entries _ _ _);
+    }
 
 pub returns-clause-made : goal.returns-clause-made
 returns-clause-made c =

@@ -1,17 +1,18 @@
 use Rattle.std.proofs.Common.{refl, ◌∙◌}
-use Rattle.heap_words.specs.Headers.{pointer_word}
+use Rattle.heap_words.specs.Headers.{pointer_word, pointer_of}
 use Rattle.regions.proofs.Access.{pointer_read, pointer_written}
+use Rattle.regions.proofs.Entries.{pointer_sound}
 use Rattle.regions.proofs.table.RegionTable.set_ptr.Goals as goal
 
 pub set_ptr-requires : goal.set_ptr-requires
-set_ptr-requires c = (pointer_read _ _ _ _ _ _ c.self.invariant c.self.view_is c.requires).in_words
+set_ptr-requires c = (pointer_read _ _ _ _ _ _ c.self.invariant.table c.self.view_is c.requires).in_words
 
 pub invariant_of-self : goal.invariant_of-self
 invariant_of-self c =
-    let w = pointer_written _ _ _ _ _ _ (pointer_word c.args.target) c.self.invariant c.self.view_is c.requires in
-    rw c.set_ptr.ensures.word w.is_table
+    let w = pointer_written _ _ _ _ _ _ (pointer_word c.args.target) c.self.invariant.table c.self.view_is c.requires in
+    rw c.set_ptr.ensures.word (pointer_sound _ _ _ _ _ _ _ c.self.invariant c.self.view_is _ c.args.object c.args.field (pointer_of (pointer_word c.args.target)) c.requires w)
 
 pub returns : goal.returns
 returns c =
-    let w = pointer_written _ _ _ _ _ _ (pointer_word c.args.target) c.self.invariant c.self.view_is c.requires in
+    let w = pointer_written _ _ _ _ _ _ (pointer_word c.args.target) c.self.invariant.table c.self.view_is c.requires in
     rw c.set_ptr.ensures.word (w.table_is ∙ rw c.set_ptr.ensures.back refl)
