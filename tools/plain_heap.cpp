@@ -1,9 +1,9 @@
 // plain_heap: does the lines of a heap script in order and prints the record, as `g1heap run` does.
 //
 //   g++ -O2 -std=c++17 -o plain_heap tools/plain_heap.cpp
-//   plain_heap run [--no-humongous] FILE
+//   plain_heap run FILE
 //
-// FILE may be - for standard input. With --no-humongous an object of more than half a region is refused as Full.
+// FILE may be - for standard input.
 // Faults are printed as g1heap prints them, with its name, so that the two programs' outputs can be compared.
 
 #include <cerrno>
@@ -338,8 +338,8 @@ Reply do_step(Heap& heap, const Step& step) {
 }
 
 // Does all steps and prints the record: each step is spelled as in the script, since it can be spelled in one way alone.
-bool print_record(const std::string& text, const Script& script, bool places_large) {
-    Heap heap(script.sizes, places_large);
+bool print_record(const std::string& text, const Script& script) {
+    Heap heap(script.sizes);
     Output output;
     const char* at = text.data();
     output.text(at, script.heap_line + 1);
@@ -384,24 +384,23 @@ int fault(const std::string& text) {
     return 1;
 }
 
-int run(const char* path, bool places_large) {
+int run(const char* path) {
     std::string text;
     if (!read_file(path, text)) return fault("cannot read");
     Script script;
     LineFault line_fault = read_script(text, script);
     if (line_fault.line != 0) return fault("line " + std::to_string(line_fault.line) + ": " + line_fault.name);
     if (const char* name = size_fault(script.sizes)) return fault(std::string("heap: ") + name);
-    return print_record(text, script, places_large) ? 0 : fault("cannot write");
+    return print_record(text, script) ? 0 : fault("cannot write");
 }
 
-constexpr char usage[] = "Usage: plain_heap run [--no-humongous] FILE\n";
+constexpr char usage[] = "Usage: plain_heap run FILE\n";
 
 }  // namespace
 
 int main(int count, char** arguments) {
     // A reader of the record that went away is a fault in writing, not an end without a word.
     std::signal(SIGPIPE, SIG_IGN);
-    bool places_large = true;
     const char *command = nullptr, *path = nullptr;
     for (int place = 1; place < count; ++place) {
         const char* word = arguments[place];
@@ -409,9 +408,7 @@ int main(int count, char** arguments) {
             std::fputs(usage, stdout);
             return 0;
         }
-        if (std::strcmp(word, "--no-humongous") == 0 && command != nullptr) {
-            places_large = false;
-        } else if ((word[0] == '-' && word[1] != '\0') || path != nullptr) {
+        if ((word[0] == '-' && word[1] != '\0') || path != nullptr) {
             command = nullptr;
             break;
         } else if (command == nullptr) {
@@ -425,7 +422,7 @@ int main(int count, char** arguments) {
         return 2;
     }
     try {
-        return run(path, places_large);
+        return run(path);
     } catch (const std::bad_alloc&) {
         return fault("run: 2 NoMemory");
     }

@@ -164,8 +164,8 @@ struct Buffer {
 
 class Heap {
 public:
-    Heap(const Sizes& sizes, bool places_large)
-        : sizes_(sizes), places_large_(places_large), region_shift_(Number(__builtin_ctz(sizes.words))),
+    explicit Heap(const Sizes& sizes)
+        : sizes_(sizes), region_shift_(Number(__builtin_ctz(sizes.words))),
           heap_words_(sizes.regions * sizes.words), half_region_(sizes.words / 2),
           region_cards_(sizes.words / card_words), next_name_(sizes.first_name), words_(new Word[heap_words_]),
           roots_(globals + registers * sizes.mutators), regions_(sizes.regions), free_regions_(sizes.regions),
@@ -384,7 +384,7 @@ private:
     // Placement.
 
     Address place(Number mutator, Number size) {
-        if (size > half_region_) return places_large_ ? place_large(size) : nowhere;
+        if (size > half_region_) return place_large(size);
         Buffer& buffer = buffers_[mutator];
         if (size <= buffer.end - buffer.next) {
             Address at = buffer.next;
@@ -682,7 +682,6 @@ private:
     }
 
     const Sizes sizes_;
-    const bool places_large_;
     const Number region_shift_, heap_words_, half_region_, region_cards_;
 
     Word next_name_;

@@ -15,6 +15,7 @@ use Rattle.regions.proofs.Placing.{Replaces, gap_replaced, Pushed, gap_push, reg
 use Rattle.regions.proofs.Changes.{object_same}
 use Rattle.alloc_buffers.proofs.Above.{above_same, above_buffers, above_pushed, above_filler}
 use Rattle.alloc_buffers.specs.declared.Buffer.{Buffer}
+use Rattle.alloc_buffers.specs.declared.Place.TheVariants as places
 use Rattle.alloc_buffers.specs.Placement.{Buffers, BuffersStand, HasFiller, IsPlaced, HasRoom, buffer_of, with_buffer, IsAbove, AreAbove, alone, room_for, in_new_buffer, with_gap, closed}
 
 -- an open buffer is at its address
@@ -315,7 +316,7 @@ alone_placed t t1 t2 c b n k size a e s none r same z fitting p at is =
     subst (λ (d : Buffers). IsPlaced t t2 b (record { words = d.words; current = Some k; open_buffers = d.open_buffers }) size a) (sym e) (top_placed t t1 t2 b b.open_buffers k size size a s none r pushed (λ m x h. h) refl)
 
 pub alone_is : (t t1 t2 : Table) (c b : Buffers) (n k size a : ℕ) → c ≡ b → n ≡ k → room_for t c.current size ≡ Some (record { region = k; table = t1 }) → a ≡ n * t1.words_per_region + used_of t1 n → t2 ≡ push_tile t1 n (Gap size)
-    → alone b size (room_for t b.current size) ≡ Some (record { at = a; table = t2; buffers = record { words = c.words; current = Some k; open_buffers = c.open_buffers } })
+    → alone b size (room_for t b.current size) ≡ Some (record { place = places.Filler a; table = t2; buffers = record { words = c.words; current = Some k; open_buffers = c.open_buffers } })
 alone_is t t1 t2 c b n k size a e same is at push =
     ap (λ (d : Buffers). alone d size (room_for t d.current size)) (sym e) ∙ ap (alone c size) is ∙ rw (at, push, same) refl
 
@@ -380,7 +381,7 @@ part_placed t t1 t2 t3 c b m k n w size rest a a2 next v e s none r le p same re
 
 pub in_new_is : (t t1 t2 t3 : Table) (c b : Buffers) (m n k size a : ℕ) (v : Option Buffer) → c ≡ b → n ≡ k → room_for t c.current c.words ≡ Some (record { region = k; table = t1 }) → a ≡ n * t1.words_per_region + used_of t1 n → t2 ≡ push_tile t1 n (Gap size)
     → t3 ≡ with_gap t2 k (c.words - size) → v ≡ buffer_of (a + size) (c.words - size)
-    → in_new_buffer b m size (room_for t b.current b.words) ≡ Some (record { at = a; table = t3; buffers = record { words = c.words; current = Some k; open_buffers = slice_set c.open_buffers m v } })
+    → in_new_buffer b m size (room_for t b.current b.words) ≡ Some (record { place = places.Filler a; table = t3; buffers = record { words = c.words; current = Some k; open_buffers = slice_set c.open_buffers m v } })
 in_new_is t t1 t2 t3 c b m n k size a v e same is at push more v_is =
     ap (λ (d : Buffers). in_new_buffer d m size (room_for t d.current d.words)) (sym e) ∙ ap (in_new_buffer c m size) is ∙ rw (v_is, more, push, at, same) refl
 

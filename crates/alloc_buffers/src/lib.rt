@@ -1,24 +1,27 @@
 //! Where objects go: allocation buffers, cut from the current region.
 //!
 //! Each mutator has a buffer of its own, so that small objects need no region of their own to be
-//! looked for. Placement answers an address, and from then on the table has a filler of exactly the
-//! object's size there, which the caller turns into the object. So the tiles are right at every moment.
+//! looked for. An object of `size` words goes, in this order:
 //!
-//! An object of `size` words, at most half a region, goes, in this order:
-//!
-//! 1. into the rest of the mutator's buffer, if it fits there;
-//! 2. if it is no larger than a buffer, to the start of a new one, and the old one is forgotten;
-//! 3. else into words of its own, and the buffer stays.
+//! 1. if it has more than half a region, to the bottom of the lowest run of as many adjacent free regions as it needs;
+//! 2. into the rest of the mutator's buffer, if it fits there;
+//! 3. if it is no larger than a buffer, to the start of a new one, and the old one is forgotten;
+//! 4. else into words of its own, and the buffer stays.
 //!
 //! New buffers and words of their own are cut at the top of the current region. If there is none, or the
-//! words don't fit, the lowest free region becomes the current one. If no region is free, the answer is
+//! words don't fit, the lowest free region becomes the current one. If no region or run is free, the answer is
 //! `Full`, and nothing changes.
+//!
+//! Placement knows no names, so the caller makes the object. A small one's place is an address at which the table has a
+//! filler of exactly its size from then on, so that the tiles are right at every moment. A humongous one's place is a run,
+//! in which nothing has changed yet.
 //!
 //! ```text
 //!   cut      | objects ..     | object | rest of the buffer: one filler |           |
 //!   next     | objects ..     | object | object | rest: one filler      |           |
 //!   retired  | objects ..     | object | object | filler                | new buffer ..
 //!                                                                       ^ top of the current region
+//!   a run    | humongous object ..        | ..                         | .. end |                   |
 //! ```
 //!
 //! Limits are an address for each region, as tops at mark start. If all tops and all open buffers lie at or
@@ -26,11 +29,12 @@
 #![tactic(auto)]
 
 ghost use Rattle.std.specs.Prelude.{◌≡◌, ◌≢◌, ℕ, ◌<◌, ◌≤◌, ◌+◌, ◌-◌, ◌*◌, ◌^◌, ◌↔◌, ◌∷◌, length, Option, Some, None, replicate, IsTrue, IfOk, OnErr, IsErr, IfSome, IfNone, slice_get};
-ghost use Rattle.regions.specs.Table.{Table, HasNoMoved, used_of, top_of, kind_of, tile_in, push_tile, replace_tile, released, gap};
+ghost use Rattle.heap_model.specs.Heap.{Stored};
+ghost use Rattle.regions.specs.Table.{Table, HasNoMoved, used_of, top_of, kind_of, tile_in, push_tile, replace_tile, released, gap, first_run, is_free, with_regions, run_regions};
 ghost use Rattle.regions.specs.Tiles.{Gap};
 ghost use Rattle.regions.specs.Shaped.{IsShaped};
 ghost use Rattle.regions.specs.declared.row.Kind.TheVariants as kinds;
-ghost use Rattle.alloc_buffers.specs.Placement.{room_for, place_of, outside, Buffers, BuffersStand, AreAbove, IsPlaced, buffer_of, HasRoom, in_buffer, alone, in_new_buffer};
+ghost use Rattle.alloc_buffers.specs.Placement.{room_for, place_of, small_place_of, run_count, outside, Buffers, BuffersStand, AreAbove, IsPlaced, IsPlace, IsAbove, buffer_of, HasRoom, in_buffer, alone, in_new_buffer};
 
 use heap_words::addr::{Addr, RegionNo};
 use heap_words::config::Config;
@@ -40,10 +44,19 @@ use std::alloc::{AllocError, Global};
 use std::marker::Model;
 use thiserror::Error;
 
-/// No free region is left where one is needed.
+/// No free region, or no run of free regions, is left where one is needed.
 #[derive(Clone, Copy, Debug, PartialEq, Eq, Error)]
 #[error("no free region is left")]
 pub struct Full;
+
+/// Where an object is to be made.
+#[derive(Clone, Copy, Debug, PartialEq, Eq)]
+pub enum Place {
+    /// Over a filler of the object's size, which starts at an address.
+    Filler(Addr),
+    /// In the lowest run of so many free regions, from the bottom of the first one on.
+    Run { first: RegionNo, count: u32 },
+}
 
 /// What is left of a mutator's buffer: its first address, and how many words.
 #[derive(Clone, Copy, Debug, PartialEq, Eq)]
@@ -136,6 +149,15 @@ fn split_filler(table: &mut RegionTable, at: Addr, rest: u32, size: u32) -> Addr
     table.split_filler(at, FillerSize::new(rest), FillerSize::new(size))
 }
 
+/// How many regions of `words` words a humongous object takes.
+fn count_regions(words: u32, size: u32) -> u32
+    requires words { 0 < words }
+    requires small { size + words ≤ 2 ^ 32 }
+    ensures { result ≡ run_count words size }
+{
+    (size + (words - 1)) / words
+}
+
 impl AllocBuffers {
     ghost use Rattle.alloc_buffers.specs.Placement.{closed, retired};
 
@@ -152,23 +174,33 @@ impl AllocBuffers {
         })
     }
 
-    /// The place of an object of so many words for a mutator. A filler of that size stands there then,
-    /// which belongs to no buffer, and no object changed.
-    pub fn place(&mut self, table: &mut RegionTable, mutator: u32, size: u32) -> Result<Addr, Full>
+    /// The place of an object of so many words for a mutator. A small one's is a filler of that size, which belongs to no
+    /// buffer, and no object changed. A humongous one's is the lowest run of free regions that it needs, and nothing
+    /// changed: buffers stay open.
+    pub fn place(&mut self, table: &mut RegionTable, mutator: u32, size: u32) -> Result<Place, Full>
         requires mutator { mutator < length self.old.open_buffers }
         requires positive { 0 < size }
-        requires small { 2 * size ≤ table.old.words_per_region }
+        requires within { size ≤ length table.old.regions * table.old.words_per_region }
         requires buffers { self.old.words ≤ table.old.words_per_region }
         requires unmoved { HasNoMoved table.old }
         requires stand { BuffersStand table.old self.old }
-        ensures place { IfOk result (λ a. place_of table.old self.old mutator size ≡ Some (record { at = a; table = table.new; buffers = self.new })) }
+        ensures place { IfOk result (λ p. place_of table.old self.old mutator size ≡ Some (record { place = p; table = table.new; buffers = self.new })) }
         ensures full { IsErr result ↔ (place_of table.old self.old mutator size ≡ None) }
         ensures table_same { OnErr result (table.new ≡ table.old) }
         ensures buffers_same { OnErr result (self.new ≡ self.old) }
-        ensures placed { IfOk result (λ a. IsPlaced table.old table.new self.old self.new size a) }
+        ensures placed { IfOk result (λ p. IsPlace table.old table.new self.old self.new size p) }
     {
-        match self.find(table, mutator, size) {
-            Some(at) => Ok(at),
+        table.law();
+        let words = table.words_per_region();
+        if 2 * size <= words {
+            return match self.find(table, mutator, size) {
+                Some(at) => Ok(Place::Filler(at)),
+                None => Err(Full),
+            };
+        }
+        let count = count_regions(words, size);
+        match table.free_run(count) {
+            Some(first) => Ok(Place::Run { first, count }),
             None => Err(Full),
         }
     }
@@ -202,6 +234,7 @@ impl AllocBuffers {
         }
     }
 
+    /// The place of an object of at most half a region.
     fn find(&mut self, table: &mut RegionTable, mutator: u32, size: u32) -> Option<Addr>
         requires mutator { mutator < length self.old.open_buffers }
         requires positive { 0 < size }
@@ -209,8 +242,8 @@ impl AllocBuffers {
         requires buffers { self.old.words ≤ table.old.words_per_region }
         requires unmoved { HasNoMoved table.old }
         requires stand { BuffersStand table.old self.old }
-        ensures some { IfSome result (λ a. place_of table.old self.old mutator size ≡ Some (record { at = a; table = table.new; buffers = self.new })) }
-        ensures none { IfNone result (place_of table.old self.old mutator size ≡ None) }
+        ensures some { IfSome result (λ a. small_place_of table.old self.old mutator size ≡ Some (record { place = Place.Filler a; table = table.new; buffers = self.new })) }
+        ensures none { IfNone result (small_place_of table.old self.old mutator size ≡ None) }
         ensures table_same { IfNone result (table.new ≡ table.old) }
         ensures buffers_same { IfNone result (self.new ≡ self.old) }
         ensures placed { IfSome result (λ a. IsPlaced table.old table.new self.old self.new size a) }
@@ -243,7 +276,7 @@ impl AllocBuffers {
         requires stand { BuffersStand table.old self.old }
         requires opened { slice_get self.old.open_buffers mutator ≡ Some (Some buffer) }
         requires room { size ≤ buffer.rest }
-        ensures some { in_buffer table.old self.old mutator size buffer ≡ record { at = result; table = table.new; buffers = self.new } }
+        ensures some { in_buffer table.old self.old mutator size buffer ≡ record { place = Place.Filler result; table = table.new; buffers = self.new } }
         ensures placed { IsPlaced table.old table.new self.old self.new size result }
     {
         table.law();
@@ -259,7 +292,7 @@ impl AllocBuffers {
         requires buffers { self.old.words ≤ table.old.words_per_region }
         requires unmoved { HasNoMoved table.old }
         requires stand { BuffersStand table.old self.old }
-        ensures some { IfSome result (λ a. alone self.old size (room_for table.old self.old.current size) ≡ Some (record { at = a; table = table.new; buffers = self.new })) }
+        ensures some { IfSome result (λ a. alone self.old size (room_for table.old self.old.current size) ≡ Some (record { place = Place.Filler a; table = table.new; buffers = self.new })) }
         ensures none { IfNone result (alone self.old size (room_for table.old self.old.current size) ≡ None) }
         ensures table_same { IfNone result (table.new ≡ table.old) }
         ensures buffers_same { IfNone result (self.new ≡ self.old) }
@@ -281,7 +314,7 @@ impl AllocBuffers {
         requires unmoved { HasNoMoved table.old }
         requires stand { BuffersStand table.old self.old }
         requires fits { size ≤ self.old.words }
-        ensures some { IfSome result (λ a. in_new_buffer self.old mutator size (room_for table.old self.old.current self.old.words) ≡ Some (record { at = a; table = table.new; buffers = self.new })) }
+        ensures some { IfSome result (λ a. in_new_buffer self.old mutator size (room_for table.old self.old.current self.old.words) ≡ Some (record { place = Place.Filler a; table = table.new; buffers = self.new })) }
         ensures none { IfNone result (in_new_buffer self.old mutator size (room_for table.old self.old.current self.old.words) ≡ None) }
         ensures table_same { IfNone result (table.new ≡ table.old) }
         ensures buffers_same { IfNone result (self.new ≡ self.old) }
@@ -309,6 +342,15 @@ pub fn release_law()
         → kind_of t k ≡ kinds.Ordinary → limit k ≡ top_of t k → b.current ≢ Some k → BuffersStand (released t k) b }
     ensures above { (t : Table) (b : Buffers) (limit limit' : ℕ → ℕ) (k : ℕ) → IsShaped t → BuffersStand t b → AreAbove t b limit → k < length t.regions
         → kind_of t k ≡ kinds.Ordinary → limit k ≡ top_of t k → ((j : ℕ) → j ≢ k → limit' j ≡ limit j) → limit' k ≡ k * t.words_per_region → AreAbove (released t k) b limit' }
+{}
+
+/// A humongous object is made in the run of free regions that is its place: buffers stand as before, its address lies at or
+/// above its region's limit, and so do all tops.
+pub fn run_law()
+    ensures stand { (t : Table) (b : Buffers) (k count : ℕ) (s : Stored) → IsShaped t → 0 < count → first_run is_free count t.regions ≡ Some k
+        → BuffersStand t b → BuffersStand (with_regions t k count (run_regions t.words_per_region s count)) b }
+    ensures above { (t : Table) (b : Buffers) (k count : ℕ) (s : Stored) (limit : ℕ → ℕ) → IsShaped t → 0 < count → first_run is_free count t.regions ≡ Some k
+        → AreAbove t b limit → IsAbove t.words_per_region limit (k * t.words_per_region) × AreAbove (with_regions t k count (run_regions t.words_per_region s count)) b limit }
 {}
 
 #[cfg(test)]

@@ -27,6 +27,7 @@ pub mod Spliced
 pub mod RunMade
 pub mod Search
 pub mod RunGone
+pub mod Blocks
 pub mod MovedLaws
 pub mod TileLaws
 pub mod Totals

@@ -2,11 +2,12 @@
 ghost use Rattle.std.specs.Prelude.{◌≡◌, ◌+◌, ◌*◌, ◌<◌, ◌≤◌, ◌^◌, length, Some};
 ghost use Rattle.heap_words.specs.Sizes.{size_of};
 ghost use lib.Seq.{paste};
-ghost use Rattle.regions.specs.Table.{first_run, is_free as region_is_free, new_object, run_regions, with_regions, with_run};
+ghost use Rattle.regions.specs.Table.{first_run, is_free as region_is_free, new_object, run_length, run_regions, with_regions, with_run};
 ghost use Rattle.regions.specs.Rows.{kind_is_free, run_rows, AreUsedBelow};
 
 use crate::row::{Kind, Row, is_free};
 use crate::table::RegionTable;
+use crate::updates::rests_from;
 use heap_words::addr::{Addr, RegionNo};
 use heap_words::header::Counts;
 
@@ -53,6 +54,14 @@ impl RegionTable {
     {
         let at = lowest_run(&self.rows, count as usize, self.lowest)?;
         Some(RegionNo::new(at as u32))
+    }
+
+    /// How many regions from one on belong together: those of the run that begins there, or that region alone.
+    pub fn run_length(&self, region: RegionNo) -> u32
+        requires { region < length self.now.regions }
+        ensures { result ≡ run_length self.now region }
+    {
+        1 + rests_from(&self.rows, region.number() as usize + 1) as u32
     }
 
     /// Makes a humongous object at the bottom of the run of `count` free regions that `free_run` found.

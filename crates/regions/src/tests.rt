@@ -182,6 +182,7 @@ fn holds_a_run(rt: HostRuntime) -> Result<(), Fail> {
     assert_eq!(rt; table.take_run(2, 8, counts(3, 20)), Some(first));
     assert_eq!(rt; table.kind(first), Kind::First);
     assert_eq!(rt; table.kind(later), Kind::Rest);
+    assert_eq!(rt; table.run_length(first), 2);
     assert_eq!(rt; table.top(first), Addr::new(32));
     assert_eq!(rt; table.top(later), Addr::new(41));
     assert_eq!(rt; table.first_tile(Addr::new(40)), Some(Addr::new(16)));

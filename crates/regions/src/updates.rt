@@ -28,7 +28,7 @@ fn lowest_free(rows: &[Row], from: usize) -> Option<usize>
 }
 
 /// How many rows from one on are of a run's later regions.
-fn rests_from(rows: &[Row], from: usize) -> usize
+pub(crate) fn rests_from(rows: &[Row], from: usize) -> usize
     requires { from ≤ length rows.now }
     ensures { result ≡ front_count (λ row. kind_is_rest row.kind) (drop from rows.now) }
 {

@@ -1,270 +1,83 @@
--- A dead region is released, and all of them one after another.
-use Rattle.std.proofs.Common.{◌≡◌, ◌≢◌, ℕ, zero, suc, ◌+◌, ◌*◌, ◌/◌, ◌<◌, ◌≤◌, ◌⊎◌, Bool, true, false, List, [], ◌∷◌, Option, Some, None, length, get_or, set, refl, sym, ◌∙◌, ap, subst, arith, inl, inr}
-use Rattle.std.specs.Prelude.{◌↔◌, slice_get, slice_index, slice_set, if◌then◌else◌}
-use Rattle.std.proofs.lemmas.Bool.{cases_lt, cases_eq, cases_Bool}
-use Rattle.std.proofs.lemmas.List.{get_or-set_same, get_or-set_other, get_or_past, length-set}
-use Rattle.heap_model.specs.Graph.{Graph}
+-- What is dead is released, one region or run after another.
+use Rattle.std.proofs.Common.{◌≡◌, ◌≢◌, ℕ, zero, suc, ◌+◌, ◌-◌, ◌*◌, ◌<◌, ◌≤◌, Bool, true, false, not, List, [], ◌∷◌, Option, Some, None, length, refl, sym, ◌∙◌, ap, subst, arith, inl, inr}
+use Rattle.std.specs.Prelude.{◌↔◌, IsTrue, slice_get}
+use Rattle.std.proofs.lemmas.Bool.{cases_lt, cases_eq}
+use Rattle.std.proofs.lemmas.List.{get_or_past}
 use Rattle.heap_model.specs.Heap.{Stored}
-use Rattle.heap_model.proofs.Changed.{same_shows}
-use Rattle.regions.specs.Table.{Table, Region, Free, Ordinary, First, Rest, region_number, region_kind, kind_of, is_free, object_at, object_words, tile_in, tile_object, released}
+use Rattle.regions.specs.Table.{Table, Free, First, region_number, region_kind, kind_of, object_at, run_length}
 use Rattle.regions.specs.Shaped.{IsShaped}
 use Rattle.regions.specs.declared.row.Kind.TheVariants as kinds
-use Rattle.regions.proofs.Released.{Releases, region_released, released_one, kind_stays}
-use Rattle.alloc_buffers.proofs.Above.{stand_released, above_released}
+use Rattle.regions.proofs.ShapedMade.{first_object}
+use Rattle.regions.proofs.Blocks.{kind_is, later_rest, next_head, block_within, first_number, rest_number, first_not_rest, reaches, alone, block_cases, product_le}
 use Rattle.mark_bitmap.specs.Marks.{is_marked}
-use Rattle.mark_bitmap.specs.Tops.{Tops, is_in_region, with_bottom}
-use Rattle.mark_bitmap.specs.Kept.{kept_in}
-use Rattle.mark_bitmap.specs.Live.{live_bound_of}
-use Rattle.mark_bitmap.proofs.Ranges as ranges
-use Rattle.mark_bitmap.proofs.KeptLaws.{region_kept}
-use Rattle.mark_bitmap.proofs.LiveWords.{in_region, region_low, region_high, dead_of_zero, dead_kept, same_bound}
-use Rattle.marker.specs.Stands.{MarkerStands}
+use Rattle.mark_bitmap.specs.Tops.{is_below, is_in_region}
 use Rattle.marker.specs.declared.marker.Marker.{Marker}
-use Rattle.marker.proofs.Forgotten.{released_stands}
-use Rattle.cards.specs.Cards.{is_dirty}
-use Rattle.remembered_sets.specs.Sets.{Sets, CardSet, cleared, set_of, covers, set_covers, empty_set, card_count}
-use Rattle.refinement.specs.Remembering.{Remembers}
-use Rattle.refinement.proofs.Remembered.{remembers_cleared, none_leads}
-use Rattle.heap_model.proofs.Shown.{closed}
-use Rattle.step_core.proofs.Remembering.{same_fields}
-use Rattle.step_core.proofs.Small.{halves_left, ends_left, words_by, ordinary_known}
-use Rattle.heap_words.specs.Configs.{card_words}
-use Rattle.step_core.specs.Stands.{CoreState, kept_of, heap_of, RemembersFields, CardsFit, ShowsGraph, KeepsFrom, IsCore}
+use Rattle.remembered_sets.specs.Sets.{empty_set}
+use Rattle.step_core.specs.Stands.{CoreState, kept_of}
 use Rattle.step_core.specs.Reclaimed.{IsReclaimed}
-use Rattle.step_core.specs.Cycle.{IsDead, IsAsNew, IsAsBefore, ChangesRegions, HasReleased, HasCleaned}
+use Rattle.step_core.specs.Cycle.{IsDeadRegion, IsDead, IsAsNew, IsAsBefore, ChangesRegions, HasCleaned}
+use Rattle.step_core.specs.Cleaning.{IsDeadHead, HasReleased}
+use Rattle.step_core.proofs.Releasing.{keeps, kept_by_parts}
 
--- an address in no region lies below or above it
-outside : (words k a : ℕ) → is_in_region words k a ≡ false → (a < k * words) ⊎ (k * words + words ≤ a)
-outside words k a e =
-    elim (cases_lt a (k * words)) [
-      | inl lt ↦ inl lt
-      | inr ge ↦ elim (cases_lt a (k * words + words)) [
-        | inl lt ↦ absurd (let inside = in_region words k a ge lt in cc)
-        | inr past ↦ inr past
-      ]
-    ]
+-- whether a humongous object is kept
+pub run_new : (c : CoreState) (q : ℕ) → 0 < c.table.words_per_region → kind_of c.table q ≡ kinds.First → is_below c.table.words_per_region c.marker.tams.previous (q * c.table.words_per_region) ≡ false
+    → kept_of c (q * c.table.words_per_region) ≡ None → ⊥
+run_new c q z first above none =
+    let r = first_number c.table q first in
+    let a : ℕ = q * c.table.words_per_region in
+    let is : kept_of c a ≡ Some r.0 = kept_by_parts c a ∙ ap (λ (b : Bool). keeps b (is_marked c.marker.bitmaps.previous a) (object_at c.table a)) above ∙ first_object c.table q r.0 z r.1 in
+    cc
 
--- an address in one region is in no other
-in_one : (words j k a : ℕ) → j ≢ k → is_in_region words j a ≡ true → is_in_region words k a ≡ false
-in_one words j k a ne e =
-    elim (cases_Bool (is_in_region words k a)) [
-      | inl inside ↦ absurd (ne (sym (ranges.region_number words j a e) ∙ ranges.region_number words k a inside))
-      | inr out ↦ out
-    ]
+run_marked : (c : CoreState) (q : ℕ) → 0 < c.table.words_per_region → kind_of c.table q ≡ kinds.First → is_marked c.marker.bitmaps.previous (q * c.table.words_per_region) ≡ true
+    → kept_of c (q * c.table.words_per_region) ≡ None → ⊥
+run_marked c q z first marked none =
+    let r = first_number c.table q first in
+    let a : ℕ = q * c.table.words_per_region in
+    let is : kept_of c a ≡ Some r.0 = kept_by_parts c a ∙ ap (λ (b : Bool). keeps (is_below c.table.words_per_region c.marker.tams.previous a) b (object_at c.table a)) marked
+    ∙ keeps_marked (is_below c.table.words_per_region c.marker.tams.previous a) (object_at c.table a) ∙ first_object c.table q r.0 z r.1 in
+    cc
+  where
+    keeps_marked : (below : Bool) (x : Option Stored) → keeps below true x ≡ x
+    keeps_marked true x = refl
+    keeps_marked false x = refl
 
-object_by : (t t' : Table) (a : ℕ) → tile_in t' a ≡ tile_in t a → object_at t' a ≡ object_at t a
-unfolding object_at
-object_by t t' a e = ap tile_object e
+run_dead : (c : CoreState) (a : ℕ) → is_below c.table.words_per_region c.marker.tams.previous a ≡ true → is_marked c.marker.bitmaps.previous a ≡ false → kept_of c a ≡ None
+run_dead c a below unmarked = kept_by_parts c a ∙ ap (λ (b : Bool). keeps b (is_marked c.marker.bitmaps.previous a) (object_at c.table a)) below ∙ ap (λ (b : Bool). keeps true b (object_at c.table a)) unmarked
 
-object_gone : (t : Table) (a : ℕ) → tile_in t a ≡ None → object_at t a ≡ None
-unfolding object_at
-object_gone t a e = ap tile_object e
+-- its mark tells, where it lies below its region's top at mark start
+pub run_tells : (c : CoreState) (q : ℕ) (marked : Bool) → 0 < c.table.words_per_region → kind_of c.table q ≡ kinds.First → is_below c.table.words_per_region c.marker.tams.previous (q * c.table.words_per_region) ≡ true
+    → is_marked c.marker.bitmaps.previous (q * c.table.words_per_region) ≡ marked → IsTrue (not marked) ↔ (kept_of c (q * c.table.words_per_region) ≡ None)
+run_tells c q true z first below is = (λ h. absurd (let no : false ≡ true = h in cc), λ none. absurd (run_marked c q z first is none))
+run_tells c q false z first below is = (λ h. run_dead c (q * c.table.words_per_region) below is, λ none. refl)
 
-objects_left : (t t' : Table) (k : ℕ) → Releases t t' k → (a : ℕ) → object_at t' a ≡ (if is_in_region t.words_per_region k a then None else object_at t a)
-objects_left t t' k r a =
-    elim (cases_Bool (is_in_region t.words_per_region k a)) [
-      | inl inside ↦ rw inside (object_gone t' a (r.gone a (region_low t.words_per_region k a inside) (region_high t.words_per_region k a inside)))
-      | inr out ↦ rw out (object_by t t' a (r.stays a (outside t.words_per_region k a out)))
-    ]
+-- all regions that belong to a dead one are dead
+head_dead : (c : CoreState) (i k : ℕ) → IsShaped c.table → IsDeadHead c i → i ≤ k → k < i + run_length c.table i → IsDead c k
+head_dead c i k shaped (inl d) low high =
+    let o = d.ordinary in
+    let one = alone c.table i shaped (λ e. let no : kinds.Ordinary ≡ kinds.First = sym o ∙ e in cc) (λ e. let no : kinds.Ordinary ≡ kinds.Rest = sym o ∙ e in cc) in
+    let same : k ≡ i = omega arith in
+    inl (subst (λ (j : ℕ). IsDeadRegion c j) (sym same) d)
+head_dead c i k shaped (inr d) low high =
+    let r = first_number c.table i d.0 in
+    inr (record { first = i; object = r.0; begins = r.1; low = low; reaches = reaches c.table i (k - i) r.0 shaped r.1 (omega arith); dead = d.1 })
 
-none_kept : (inside : Bool) (x : Option Stored) → (inside ≡ true → x ≡ None) → (if inside then None else x) ≡ x
-none_kept true x dead = sym (dead refl)
-none_kept false x dead = refl
-
-free_after : (t t' : Table) (k : ℕ) → region_number t' k ≡ Free → kind_of t' k ≡ kinds.Free
-unfolding kind_of
-free_after t t' k e = ap region_kind e
-
--- a marker is the one before with other tops and marks, if the rest is the same
-marker_is : (m0 m : Marker) → m.grey ≡ m0.grey → m.logs ≡ m0.logs → m.running ≡ m0.running → m.scans ≡ m0.scans → m ≡ record m0 { tams = m.tams; bitmaps = m.bitmaps }
-marker_is m0 m grey logs running scans = rw (sym grey, sym logs, sym running, sym scans) refl
-
--- region n of the core k is dead: its marks and tops are forgotten, and it is released
-module _ (k : CoreState) (core : IsCore k) (shaped : IsShaped k.table) (n : ℕ) (known : n < length k.table.regions) (dead : IsDead k n) (idle : k.marker.running ≡ false)
-    (m : Marker) (st : MarkerStands k.table m) (running : m.running ≡ false) (tops : m.tams ≡ with_bottom k.marker.tams n (n * k.table.words_per_region))
-    (previous : (a : ℕ) → is_marked m.bitmaps.previous a ≡ (if is_in_region k.table.words_per_region n a then false else is_marked k.marker.bitmaps.previous a))
-    (next : (a : ℕ) → is_marked m.bitmaps.next a ≡ (if is_in_region k.table.words_per_region n a then false else is_marked k.marker.bitmaps.next a))
-    (logs : m.logs ≡ k.marker.logs) (ss : Sets) (empty : ss ≡ cleared k.sets n) where
-  abbrev after : CoreState
-  after = record k { table = released k.table n; marker = m; sets = ss }
-
-  releases : Releases k.table (released k.table n) n
-  releases = region_released k.table n shaped.positive known dead.ordinary
-
-  kept_same : (a : ℕ) → kept_of after a ≡ kept_of k a
-  unfolding kept_of
-  kept_same a =
-      let gone = dead_of_zero k.table k.marker.tams.previous k.marker.bitmaps.previous n core.layers.marker.previous known dead.live_bound in
-      ap (λ (ts : Tops). kept_in (released k.table n) ts m.bitmaps.previous a) tops
-      ∙ region_kept k.table (released k.table n) k.marker.tams k.marker.bitmaps.previous m.bitmaps.previous n (n * k.table.words_per_region) shaped.positive releases.size
-      (objects_left k.table (released k.table n) n releases) previous a
-      ∙ none_kept (is_in_region k.table.words_per_region n a) (kept_in k.table k.marker.tams k.marker.bitmaps.previous a)
-      (λ inside. dead_kept k.table k.marker.tams k.marker.bitmaps.previous n a shaped dead.ordinary gone inside)
-
-  -- nothing of the region was kept
-  dead_none : (a : ℕ) → is_in_region k.table.words_per_region n a ≡ true → kept_of k a ≡ None
-  unfolding kept_of
-  dead_none a inside =
-      dead_kept k.table k.marker.tams k.marker.bitmaps.previous n a shaped dead.ordinary
-      (dead_of_zero k.table k.marker.tams.previous k.marker.bitmaps.previous n core.layers.marker.previous known dead.live_bound) inside
-
-  pub release_shows : (g : Graph) → ShowsGraph g k → ShowsGraph g after
-  release_shows g s = record {
-    room = s.room;
-    mutators = s.mutators;
-    next = s.next;
-    shows = same_shows g (heap_of k) (heap_of after) s.shows (record { kept = kept_same; roots = refl });
-  }
-
-  pub release_keeps : (s : Graph) → KeepsFrom s k → KeepsFrom s after
-  release_keeps s f = record { earlier = f.earlier; marking = λ run. absurd cc }
-
-  -- a region's top at mark start, once one of them is at its bottom
-  top_there : (ts : List ℕ) (j : ℕ) → n < length ts → slice_index (slice_set ts n (n * k.table.words_per_region)) n ≡ n * k.table.words_per_region
-  top_there ts j lt = get_or-set_same ts n (n * k.table.words_per_region) 0 lt
-
-  top_other : (ts : List ℕ) (j : ℕ) → j ≢ n → slice_index (slice_set ts n (n * k.table.words_per_region)) j ≡ slice_index ts j
-  top_other ts j ne = get_or-set_other ts n j (n * k.table.words_per_region) 0 ne
-
-  previous_there : slice_index m.tams.previous n ≡ n * k.table.words_per_region
-  previous_there = ap (λ (ts : Tops). slice_index ts.previous n) tops ∙ top_there k.marker.tams.previous n (rw core.layers.marker.previous.each_region known)
-
-  next_there : slice_index m.tams.next n ≡ n * k.table.words_per_region
-  next_there = ap (λ (ts : Tops). slice_index ts.next n) tops ∙ top_there k.marker.tams.next n (rw core.layers.marker.next.each_region known)
-
-  previous_other : (j : ℕ) → j ≢ n → slice_index m.tams.previous j ≡ slice_index k.marker.tams.previous j
-  previous_other j ne = ap (λ (ts : Tops). slice_index ts.previous j) tops ∙ top_other k.marker.tams.previous j ne
-
-  next_other : (j : ℕ) → j ≢ n → slice_index m.tams.next j ≡ slice_index k.marker.tams.next j
-  next_other j ne = ap (λ (ts : Tops). slice_index ts.next j) tops ∙ top_other k.marker.tams.next j ne
-
-  unmarked : (was now : Bool) (inside : Bool) → now ≡ (if inside then false else was) → inside ≡ true → now ≡ false
-  unmarked was now inside e i = rw i at e
-
-  pub release_stands : MarkerStands (released k.table n) m
-  release_stands = released_stands k.table m n shaped.positive st running dead.ordinary
-      (λ a i. unmarked (is_marked k.marker.bitmaps.previous a) (is_marked m.bitmaps.previous a) _ (previous a) i)
-      (λ a i. unmarked (is_marked k.marker.bitmaps.next a) (is_marked m.bitmaps.next a) _ (next a) i) previous_there next_there
-
-  none_there : (a : ℕ) → is_in_region k.table.words_per_region n a ≡ true → kept_of after a ≡ None
-  none_there a inside = kept_same a ∙ dead_none a inside
-
-  covers_others : (r card : ℕ) → r ≢ n → covers k.sets r card ≡ true → covers ss r card ≡ true
-  covers_others r card ne e = ap (λ (x : Sets). covers x r card) empty ∙ ap (λ (x : CardSet). set_covers x card (card / k.sets.cards_per_region)) (get_or-set_other k.sets.sets n r (empty_set (length k.sets.sets)) (empty_set 0) ne) ∙ e
-
-  remembers_after : RemembersFields after
-  remembers_after =
-      let shows = release_shows core.state.graph core.stands.shows in
-      let none = none_leads k.table.words_per_region n (heap_of after) shaped.positive (closed core.state.graph (heap_of after) shows.shows) none_there in
-      subst (λ (w : ℕ). Remembers w (kept_of after) (card_words k.config) (is_dirty k.cards) (covers ss)) (sym releases.size)
-      (remembers_cleared k.table.words_per_region (card_words k.config) n (kept_of k) (kept_of after) (is_dirty k.cards) (covers k.sets) (covers ss)
-      (same_fields (kept_of k) (kept_of after) kept_same) none covers_others core.remembers)
-
-  cards_fit : CardsFit k.config k.cards ss
-  cards_fit = record {
-    whole_cards = core.cards.whole_cards ∙ ap (λ (x : Sets). x.cards_per_region * card_words k.config) (sym empty);
-    each_region = ap (λ (x : Sets). length x.sets) empty ∙ length-set k.sets.sets n (empty_set (length k.sets.sets)) ∙ core.cards.each_region;
-    each_card = core.cards.each_card ∙ ap (λ (c : ℕ). c * k.sets.cards_per_region) (sym (length-set k.sets.sets n (empty_set (length k.sets.sets)))) ∙ sym (ap (λ (x : Sets). card_count x) empty);
-    each_mutator = core.cards.each_mutator;
-  }
-
-  -- a region that is ordinary afterwards is another one
-  apart : (j : ℕ) → kind_of (released k.table n) j ≡ kinds.Ordinary → j ≢ n
-  apart j o e = let free = ap (kind_of (released k.table n)) e ∙ free_after k.table (released k.table n) n releases.free in cc
-
-  -- and was ordinary, with the same objects
-  left : (j a : ℕ) → kind_of (released k.table n) j ≡ kinds.Ordinary → is_in_region k.table.words_per_region j a ≡ true
-      → (kind_of k.table j ≡ kinds.Ordinary) × (object_words (released k.table n) a ≡ object_words k.table a)
-  left j a o inside =
-      let ne = apart j o in
-      let out = in_one k.table.words_per_region j n a ne inside in (
-        sym (kind_stays k.table (released k.table n) n j releases ne) ∙ o,
-        words_by k.table (released k.table n) a (objects_left k.table (released k.table n) n releases a ∙ ap (λ (b : Bool). if b then None else object_at k.table a) out),
-      )
-
-  pub release_kept : IsCore after
-  release_kept =
-      let gone = dead_of_zero k.table k.marker.tams.previous k.marker.bitmaps.previous n core.layers.marker.previous known dead.live_bound in
-      record {
-        suits = core.suits;
-        layers = record {
-          region_size = releases.size ∙ core.layers.region_size;
-          region_count = releases.count ∙ core.layers.region_count;
-          buffer_size = core.layers.buffer_size;
-          open_buffers = core.layers.open_buffers;
-          logs = ap (λ (ls : List (List ℕ)). length ls) logs ∙ core.layers.logs;
-          buffers = stand_released k.table k.buffers (slice_index k.marker.tams.previous) n shaped core.layers.buffers core.layers.above_previous known dead.ordinary gone.top dead.other;
-          unmoved = releases.unmoved core.layers.unmoved;
-          marker = release_stands;
-          above_previous = above_released k.table k.buffers (slice_index k.marker.tams.previous) (slice_index m.tams.previous) n shaped core.layers.above_previous known dead.ordinary previous_other previous_there;
-          above_next = above_released k.table k.buffers (slice_index k.marker.tams.next) (slice_index m.tams.next) n shaped core.layers.above_next known dead.ordinary next_other next_there;
-          room = λ i. rw logs (core.layers.room i);
-          halves = halves_left k.table (released k.table n) shaped.positive releases.size left core.layers.halves;
-          ends_previous = ends_left k.table (released k.table n) k.marker.tams.previous m.tams.previous releases.size left (λ j o. previous_other j (apart j o)) core.layers.ends_previous;
-          ends_next = ends_left k.table (released k.table n) k.marker.tams.next m.tams.next releases.size left (λ j o. next_other j (apart j o)) core.layers.ends_next;
-        };
-        cards = cards_fit;
-        remembers = remembers_after;
-        room = core.room;
-        rows = core.rows;
-        places = core.places;
-        names = core.names;
-        state = core.state;
-        stands = record { shows = release_shows core.state.graph core.stands.shows; keeps = release_keeps core.state.snapshot core.stands.keeps };
-      }
-
-  -- the live bounds of the other regions
-  bound_other : (j : ℕ) → j ≢ n → live_bound_of (released k.table n) m.tams.previous m.bitmaps.previous j ≡ live_bound_of k.table k.marker.tams.previous k.marker.bitmaps.previous j
-  bound_other j ne =
-      same_bound k.table (released k.table n) k.marker.tams.previous m.tams.previous k.marker.bitmaps.previous m.bitmaps.previous j shaped releases.size (releases.others j ne) (previous_other j ne)
-      (λ a i. let out = in_one k.table.words_per_region j n a ne i in rw out at (previous a)) core.layers.marker.previous
-
-  dead_other : (j : ℕ) → j ≢ n → IsDead after j ↔ IsDead k j
-  dead_other j ne = (
-    λ d. record { ordinary = sym (kind_stays k.table (released k.table n) n j releases ne) ∙ d.ordinary; other = d.other; live_bound = sym (bound_other j ne) ∙ d.live_bound },
-    λ d. record { ordinary = kind_stays k.table (released k.table n) n j releases ne ∙ d.ordinary; other = d.other; live_bound = bound_other j ne ∙ d.live_bound },
-  )
-
-  -- of the region itself, and of the others
-  set_known : n < length k.sets.sets
-  set_known = let sets = core.cards.each_region in let regions = core.layers.region_count in omega (arith, known, sets, regions)
-
-  sets_same : length ss.sets ≡ length k.sets.sets
-  sets_same = ap (λ (x : Sets). length x.sets) empty ∙ length-set k.sets.sets n (empty_set (length k.sets.sets))
-
-  as_new : IsAsNew after n
-  as_new = record {
-    free = releases.free;
-    set = ap (λ (x : Sets). set_of x n) empty ∙ get_or-set_same k.sets.sets n (empty_set (length k.sets.sets)) (empty_set 0) set_known ∙ ap empty_set (sym sets_same);
-    previous_top = previous_there ∙ ap (λ (w : ℕ). n * w) (sym releases.size);
-    next_top = next_there ∙ ap (λ (w : ℕ). n * w) (sym releases.size);
-    previous_marks = λ a i. unmarked (is_marked k.marker.bitmaps.previous a) (is_marked m.bitmaps.previous a) _ (previous a) (subst (λ (w : ℕ). is_in_region w n a ≡ true) releases.size i);
-    next_marks = λ a i. unmarked (is_marked k.marker.bitmaps.next a) (is_marked m.bitmaps.next a) _ (next a) (subst (λ (w : ℕ). is_in_region w n a ≡ true) releases.size i);
-  }
-
-  as_before : (j : ℕ) → j ≢ n → IsAsBefore k after j
-  as_before j ne = record {
-    region = releases.others j ne;
-    set = ap (λ (x : Sets). set_of x j) empty ∙ get_or-set_other k.sets.sets n j (empty_set (length k.sets.sets)) (empty_set 0) ne;
-    previous_top = previous_other j ne;
-    next_top = next_other j ne;
-    previous_marks = λ a i. let out = in_one k.table.words_per_region j n a ne i in rw out at (previous a);
-    next_marks = λ a i. let out = in_one k.table.words_per_region j n a ne i in rw out at (next a);
-  }
-
-  module _ (grey : m.grey ≡ k.marker.grey) (scans : m.scans ≡ k.marker.scans) where
-    has_released : HasReleased n k after
-    has_released = record {
-      changes = record { same = refl; marker = marker_is k.marker m grey logs (running ∙ sym idle) scans; size = releases.size; kept = kept_same };
-      count = releases.count;
-      each_set = sets_same;
-      released = as_new;
-      others = as_before;
-      dead = dead_other;
-    }
-
-    pub released_from : (c : CoreState) → k ≡ c → HasReleased n c after
-    released_from c e = subst (λ (d : CoreState). HasReleased n d after) e has_released
+-- and no others
+dead_head : (c : CoreState) (i k : ℕ) → IsShaped c.table → kind_of c.table i ≢ kinds.Rest → i ≤ k → k < i + run_length c.table i → IsDead c k → IsDeadHead c i
+dead_head c i k shaped head low high (inl d) = elim (cases_eq k i) [
+  | inl same ↦ inl (subst (λ (j : ℕ). IsDeadRegion c j) same d)
+  | inr ne ↦ absurd (let o = d.ordinary in let rest = later_rest c.table i (k - i) k (omega arith) (omega arith) (omega arith) in let no : kinds.Rest ≡ kinds.Ordinary = sym rest ∙ o in cc)
+]
+dead_head c i k shaped head low high (inr d) = elim (cases_eq d.first i) [
+  | inl same ↦ inr (ap (kind_of c.table) (sym same) ∙ kind_is c.table d.first (First d.object) d.begins, ap (λ (j : ℕ). kept_of c (j * c.table.words_per_region)) (sym same) ∙ d.dead)
+  | inr ne ↦ absurd (elim (cases_lt d.first i) [
+    | inl below ↦
+        let at : d.first + (i - d.first) ≡ i = omega arith in
+        let less = product_le (i - d.first) (k - d.first) c.table.words_per_region (omega arith) in
+        let far = d.reaches in
+        head (ap (kind_of c.table) (sym at) ∙ shaped.run d.first (i - d.first) d.object d.begins (omega arith) (omega arith))
+    | inr above ↦ (let low = d.low in first_not_rest c.table d.first d.object d.begins (later_rest c.table i (d.first - i) d.first (omega arith) (omega arith) (omega arith)))
+  ])
+]
 
 -- changes one after another
 changes_twice : (c0 c c' : CoreState) → ChangesRegions c0 c → ChangesRegions c c' → ChangesRegions c0 c'
@@ -312,14 +125,14 @@ none_below c = record { regions = []; distinct = λ p q k e f. absurd (nothing p
     nothing : (p k : ℕ) → slice_get [] p ≡ Some k → ⊥
     nothing p k e = let none : None ≡ Some k = e in cc
 
-below_left : (i n : ℕ) (c : CoreState) → DeadBelow i n c → (IsDead c i → ⊥) → DeadBelow (i + 1) n c
-below_left i n c d alive = record {
+below_left : (i n m : ℕ) (c : CoreState) → DeadBelow i n c → ((k : ℕ) → i ≤ k → k < i + m → IsDead c k → ⊥) → DeadBelow (i + m) n c
+below_left i n m c d alive = record {
   regions = d.regions;
   distinct = d.distinct;
   only = λ p k e. let o = d.only p k e in (omega (arith, o.0), o.1);
-  each = λ k lt dead. elim (cases_eq k i) [
-    | inl q ↦ absurd (alive (subst (λ (j : ℕ). IsDead c j) q dead))
-    | inr ne ↦ d.each k (omega (arith, lt, ne)) dead
+  each = λ k lt dead. elim (cases_lt k i) [
+    | inl less ↦ d.each k less dead
+    | inr le ↦ absurd (alive k le lt dead)
   ];
   count = d.count;
 }
@@ -349,7 +162,13 @@ below_one i n c d dead = record {
     those zero k e = let is : i ≡ k = (let same : Some i ≡ Some k = e in cc) in (omega (arith, is), subst (λ (j : ℕ). IsDead c j) is dead)
     those (suc p) k e = let o = d.only p k e in (omega (arith, o.0), o.1)
 
--- so many of the first i regions were dead, and are as new; the others are as they were
+below_dead : (i n m : ℕ) (c : CoreState) → DeadBelow i n c → ((k : ℕ) → i ≤ k → k < i + m → IsDead c k) → DeadBelow (i + m) (n + m) c
+below_dead i n zero c d dead = subst (λ (j : ℕ). DeadBelow j (n + 0) c) (omega arith) (subst (λ (j : ℕ). DeadBelow i j c) (omega arith) d)
+below_dead i n (suc m) c d dead =
+    let more : DeadBelow (i + 1 + m) (n + 1 + m) c = below_dead (i + 1) (n + 1) m c (below_one i n c d (dead i (omega arith) (omega arith))) (λ k low high. dead k (omega arith) (omega arith)) in
+    subst (λ (j : ℕ). DeadBelow j (n + suc m) c) (omega arith) (subst (λ (j : ℕ). DeadBelow (i + 1 + m) j c) (omega arith) more)
+
+-- so many of the first i regions were dead, and are as new; the others are as they were. No run reaches over region i
 pub record Cleans (i n : ℕ) (c0 c : CoreState) : Type 0 where
   pub changes : ChangesRegions c0 c
   pub idle : c.marker.running ≡ false
@@ -359,11 +178,13 @@ pub record Cleans (i n : ℕ) (c0 c : CoreState) : Type 0 where
   pub dead : (k : ℕ) → k < i → IsDead c0 k → IsAsNew c k
   pub others : (k : ℕ) → (k < i → IsDead c0 k → ⊥) → IsAsBefore c0 c k
   pub rest_dead : (k : ℕ) → i ≤ k → IsDead c k ↔ IsDead c0 k
+  pub head : kind_of c.table i ≢ kinds.Rest
+  pub within : i ≤ length c.table.regions
   pub counted : DeadBelow i n c0
   pub few : n ≤ i
 
-pub none_cleaned : (c : CoreState) → c.marker.running ≡ false → Cleans 0 0 c c
-none_cleaned c idle = record {
+pub none_cleaned : (c : CoreState) → IsShaped c.table → c.marker.running ≡ false → Cleans 0 0 c c
+none_cleaned c shaped idle = record {
   changes = record { same = refl; marker = refl; size = refl; kept = λ a. refl };
   idle = idle;
   size = refl;
@@ -372,9 +193,19 @@ none_cleaned c idle = record {
   dead = λ k lt d. absurd (omega arith);
   others = λ k alive. before_self c k;
   rest_dead = λ k le. (λ d. d, λ d. d);
+  head = λ e. first_head e;
+  within = omega arith;
   counted = none_below c;
   few = omega arith;
 }
+  where
+    -- the first region is behind no other
+    first_head : kind_of c.table 0 ≡ kinds.Rest → ⊥
+    first_head e =
+        let r = rest_number c.table 0 e in
+        let l = shaped.later 0 r.0 r.1 in
+        let number = l.number in
+        let behind = l.behind in absurd (omega arith)
 
 kind_by : (t t' : Table) (k : ℕ) → region_number t' k ≡ region_number t k → kind_of t' k ≡ kind_of t k
 unfolding kind_of
@@ -383,80 +214,91 @@ kind_by t t' k e = ap region_kind e
 not_reclaimed : (t t' : Table) (k : ℕ) → region_number t' k ≡ region_number t k → IsReclaimed t t' k → ⊥
 not_reclaimed t t' k e r = r.used (sym (kind_by t t' k e) ∙ r.free)
 
+free_after : (t t' : Table) (k : ℕ) → region_number t' k ≡ Free → kind_of t' k ≡ kinds.Free
+unfolding kind_of
+free_after t t' k e = ap region_kind e
+
 -- a region that isn't come to yet
 rest_of : (i n k : ℕ) (c0 c : CoreState) → Cleans i n c0 c → i ≤ k → region_number c.table k ≡ region_number c0.table k
 rest_of i n k c0 c p le = (p.others k (λ lt d. absurd (omega (arith, lt, le)))).region
 
-pub one_left : (i n : ℕ) (c0 c : CoreState) → Cleans i n c0 c → (IsDead c i → ⊥) → Cleans (i + 1) n c0 c
-one_left i n c0 c p alive = record {
+pub one_left : (i n m : ℕ) (c0 c : CoreState) → IsShaped c.table → Cleans i n c0 c → i < length c.table.regions → m ≡ run_length c.table i → (IsDeadHead c i → ⊥) → Cleans (i + m) n c0 c
+one_left i n m c0 c shaped p known together alive = record {
   changes = p.changes;
   idle = p.idle;
   size = p.size;
   each_set = p.each_set;
   done = λ k lt. elim (cases_lt k i) [
     | inl less ↦ p.done k less
-    | inr last ↦
-        let same : k ≡ i = omega arith in
-        subst (λ (j : ℕ). IsReclaimed c0.table c.table j ↔ IsDead c0 j) (sym same)
-        (λ r. absurd (not_reclaimed c0.table c.table i (rest_of i n i c0 c p (omega arith)) r), λ d. absurd (not_dead d))
+    | inr last ↦ (
+      λ r. absurd (not_reclaimed c0.table c.table k (rest_of i n k c0 c p last) r),
+      λ d. absurd (not_dead k last (omega arith) d),
+    )
   ];
-  dead = λ k lt d. elim (cases_lt k i) [
-    | inl less ↦ p.dead k less d
-    | inr last ↦ absurd (let same : k ≡ i = omega arith in not_dead (subst (λ (j : ℕ). IsDead c0 j) same d))
-  ];
+  dead = λ k lt d. elim (cases_lt k i) [ inl less ↦ p.dead k less d | inr last ↦ absurd (not_dead k last (omega arith) d) ];
   others = λ k alive'. p.others k (λ lt d. alive' (omega (arith, lt)) d);
   rest_dead = λ k le. p.rest_dead k (omega arith);
-  counted = below_left i n c0 p.counted not_dead;
+  head = next_head c.table i (i + m) (omega arith);
+  within = (let fits = block_within c.table i known in omega arith);
+  counted = below_left i n m c0 p.counted (λ k low high d. not_dead k low (omega arith) d);
   few = (let few = p.few in omega arith);
 }
   where
-    not_dead : IsDead c0 i → ⊥
-    not_dead d = alive ((p.rest_dead i (omega arith)).1 d)
+    not_dead : (k : ℕ) → i ≤ k → k < i + run_length c.table i → IsDead c0 k → ⊥
+    not_dead k low high d = alive (dead_head c i k shaped p.head low high ((p.rest_dead k low).1 d))
 
-pub one_cleaned : (i n : ℕ) (c0 c c' : CoreState) → Cleans i n c0 c → IsDead c i → HasReleased i c c' → Cleans (i + 1) (n + 1) c0 c'
-one_cleaned i n c0 c c' p dead r = record {
+used_now : (c : CoreState) (i k : ℕ) → IsDeadHead c i → i ≤ k → k < i + run_length c.table i → kind_of c.table k ≡ kinds.Free → ⊥
+used_now c i k dead low high free = elim (cases_eq k i) [
+  | inl same ↦ elim dead [
+    | inl d ↦ (let o = d.ordinary in let no : kinds.Ordinary ≡ kinds.Free = sym o ∙ ap (kind_of c.table) (sym same) ∙ free in cc)
+    | inr d ↦ (let o = d.0 in let no : kinds.First ≡ kinds.Free = sym o ∙ ap (kind_of c.table) (sym same) ∙ free in cc)
+  ]
+  | inr ne ↦ (let rest = later_rest c.table i (k - i) k (omega arith) (omega arith) (omega arith) in let no : kinds.Rest ≡ kinds.Free = sym rest ∙ free in cc)
+]
+
+pub one_cleaned : (i n m : ℕ) (c0 c c' : CoreState) → IsShaped c.table → Cleans i n c0 c → m ≡ run_length c.table i → IsDeadHead c i → HasReleased i m c c' → Cleans (i + m) (n + m) c0 c'
+one_cleaned i n m c0 c c' shaped p together dead r = record {
   changes = changes_twice c0 c c' p.changes r.changes;
   idle = ap (λ (x : Marker). x.running) r.changes.marker ∙ p.idle;
   size = r.count ∙ p.size;
   each_set = r.each_set ∙ p.each_set;
   done = λ k lt. elim (cases_lt k i) [
     | inl less ↦
-        let same = kind_by c.table c'.table k (r.others k (λ e. omega arith)).region in
+        let same = kind_by c.table c'.table k (r.others k (inl less)).region in
         let old = p.done k less in
         (λ q. old.0 (record { used = q.used; free = sym same ∙ q.free }), λ d. let q = old.1 d in record { used = q.used; free = same ∙ q.free })
-    | inr last ↦
-        let same : k ≡ i = omega arith in
-        subst (λ (j : ℕ). IsReclaimed c0.table c'.table j ↔ IsDead c0 j) (sym same)
-        (λ q. first, λ d. record { used = used_now first.ordinary; free = free_after c.table c'.table i r.released.free })
+    | inr last ↦ (
+      λ q. was_dead k last (omega arith),
+      λ d. record { used = λ free. used_now c i k dead last (omega arith) (kind_by c0.table c.table k (rest_of i n k c0 c p last) ∙ free); free = free_after c.table c'.table k (r.released k last lt).free },
+    )
   ];
   dead = λ k lt d. elim (cases_lt k i) [
-    | inl less ↦ new_still c c' k r.changes.size r.each_set (p.dead k less d) (r.others k (λ e. omega arith))
-    | inr last ↦ let same : k ≡ i = omega arith in subst (λ (j : ℕ). IsAsNew c' j) (sym same) r.released
+    | inl less ↦ new_still c c' k r.changes.size r.each_set (p.dead k less d) (r.others k (inl less))
+    | inr last ↦ r.released k last lt
   ];
-  others = λ k alive. elim (cases_eq k i) [
-    | inl e ↦ absurd (alive (omega (arith, e)) (subst (λ (j : ℕ). IsDead c0 j) (sym e) first))
-    | inr ne ↦ before_twice c0 c c' k p.changes.size (p.others k (λ lt d. alive (omega (arith, lt)) d)) (r.others k ne)
+  others = λ k alive. elim (block_cases i m k) [
+    | inl out ↦ before_twice c0 c c' k p.changes.size (p.others k (λ lt d. alive (omega (arith, lt)) d)) (r.others k out)
+    | inr q ↦ absurd (alive q.1 (was_dead k q.0 (omega (arith, q.1, together))))
   ];
   rest_dead = λ k le.
-      let step = r.dead k (λ e. omega arith) in
+      let step = r.dead k (inr le) in
       let old = p.rest_dead k (omega arith) in
       (λ d. old.0 (step.0 d), λ d. step.1 (old.1 d));
-  counted = below_one i n c0 p.counted first;
+  head = λ e. next_head c.table i (i + m) (omega arith) (sym (kind_by c.table c'.table (i + m) (r.others (i + m) (inr (omega arith))).region) ∙ e);
+  within = (let fits = r.within in let same = r.count in omega arith);
+  counted = below_dead i n m c0 p.counted (λ k low high. was_dead k low (omega arith));
   few = (let few = p.few in omega arith);
 }
   where
-    first : IsDead c0 i
-    first = (p.rest_dead i (omega arith)).0 dead
+    was_dead : (k : ℕ) → i ≤ k → k < i + run_length c.table i → IsDead c0 k
+    was_dead k low high = (p.rest_dead k low).0 (head_dead c i k shaped dead low high)
 
-    used_now : kind_of c0.table i ≡ kinds.Ordinary → kind_of c0.table i ≡ kinds.Free → ⊥
-    used_now o f = let no : kinds.Ordinary ≡ kinds.Free = sym o ∙ f in cc
+past_end : (t : Table) (k : ℕ) → length t.regions ≤ k → region_number t k ≡ Free
+unfolding region_number
+past_end t k le = get_or_past t.regions k Free le
 
-past_end : (t : Table) (k : ℕ) → length t.regions ≤ k → kind_of t k ≡ kinds.Free
-unfolding kind_of region_number
-past_end t k le = ap region_kind (get_or_past t.regions k Free le)
-
-pub all_cleaned : (i n : ℕ) (c0 c : CoreState) → Cleans i n c0 c → length c0.table.regions ≤ i → HasCleaned n c0 c
-all_cleaned i n c0 c p le = record {
+pub all_cleaned : (i n : ℕ) (c0 c : CoreState) → IsShaped c0.table → Cleans i n c0 c → length c0.table.regions ≤ i → HasCleaned n c0 c
+all_cleaned i n c0 c shaped p le = record {
   changes = p.changes;
   count = record {
     regions = p.counted.regions;
@@ -468,13 +310,26 @@ all_cleaned i n c0 c p le = record {
   reclaimed = λ k. elim (cases_lt k i) [
     | inl less ↦ p.done k less
     | inr past ↦ (
-      λ q. absurd (q.used (past_end c0.table k (omega arith))),
-      λ d. absurd (let lt = within k d in omega (arith, lt, past)),
+      λ q. absurd (q.used (kind_is c0.table k Free (past_end c0.table k (omega arith)))),
+      λ d. absurd (none_past k (omega arith) d),
     )
   ];
   dead = λ k d. p.dead k (within k d) d;
   others = λ k alive. p.others k (λ lt d. alive d);
 }
   where
+    none_past : (k : ℕ) → length c0.table.regions ≤ k → IsDead c0 k → ⊥
+    none_past k past (inl d) = let free = kind_is c0.table k Free (past_end c0.table k past) in let o = d.ordinary in let no : kinds.Ordinary ≡ kinds.Free = sym o ∙ free in cc
+    none_past k past (inr d) =
+        elim (cases_eq d.first k) [
+          | inl same ↦ (let free = past_end c0.table k past in let begins = d.begins in let no : First d.object ≡ Free = sym begins ∙ ap (region_number c0.table) same ∙ free in cc)
+          | inr ne ↦
+              let low = d.low in
+              let at : d.first + (k - d.first) ≡ k = omega arith in
+              let rest = ap (kind_of c0.table) (sym at) ∙ shaped.run d.first (k - d.first) d.object d.begins (omega arith) d.reaches in
+              let free = kind_is c0.table k Free (past_end c0.table k past) in
+              let no : kinds.Rest ≡ kinds.Free = sym rest ∙ free in cc
+        ]
+
     within : (k : ℕ) → IsDead c0 k → k < i
-    within k d = let lt = ordinary_known c0.table k d.ordinary in omega (arith, lt, le)
+    within k d = elim (cases_lt k i) [ inl lt ↦ lt | inr past ↦ absurd (none_past k (omega arith) d) ]

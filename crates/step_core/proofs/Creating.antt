@@ -5,35 +5,32 @@ use Rattle.std.specs.Prelude.{slice_get, slice_set, slice_index, nat_lt}
 use Rattle.std.specs.List.{AllZip}
 use Rattle.std.proofs.lemmas.Grind.{common_steps}
 use Rattle.std.proofs.lemmas.Bool.Decides.{nat_tests}
-use Rattle.std.proofs.lemmas.List.{length-set, length-append, length-replicate}
+use Rattle.std.proofs.lemmas.List.{length-set, length-append}
 use Rattle.heap_model.specs.Graph.{Graph, Object, IsReachable, next_name, with_object}
 use Rattle.heap_model.specs.Heap.{Heap, Stored, IsShown, ObjectAdded}
 use Rattle.heap_model.specs.Kept.{kept_by}
 use Rattle.heap_model.specs.Marking.{Marking, KeepsSnapshot}
 use Rattle.heap_model.proofs.Mutate.{object_added}
 use Rattle.heap_model.proofs.Changed.{object_added_shows}
-use Rattle.regions.specs.Walks.{AreFitting}
-use Rattle.regions.specs.Table.{Table, kind_of, new_object, replace_tile, gap, object_at}
-use Rattle.regions.specs.declared.row.Kind.TheVariants as kinds
-use Rattle.regions.specs.Tiles.{Live, tile_size}
-use Rattle.step_core.proofs.Small.{halves_added, ends_added}
+use Rattle.regions.specs.Table.{Table, new_object, object_at}
 use Rattle.object_graph.specs.State.{register_place}
 use Rattle.object_graph.specs.Machine.{act}
 use Rattle.object_graph.specs.declared.step.Action.TheVariants as actions
 use Rattle.object_graph.specs.declared.step.Reply.TheVariants as replies
 use Rattle.object_graph.specs.declared.step.Register.{Register}
-use Rattle.alloc_buffers.specs.Placement.{Buffers, IsPlaced, Placement, IsAbove, AreAbove, place_of}
+use Rattle.alloc_buffers.specs.Placement.{Buffers, Placement, IsAbove, AreAbove, place_of}
 use Rattle.mark_bitmap.specs.Marks.{is_marked}
 use Rattle.mark_bitmap.specs.Tops.{is_below}
 use Rattle.step_core.specs.Stands.{CoreState, kept_of, heap_of, marking_of, ShowsGraph, KeepsFrom, IsCore}
 use Rattle.step_core.specs.Cycle.{LeavesRegions}
 use Rattle.step_core.specs.Answers.{Acts, HasNoPlace}
 use Rattle.step_core.proofs.Acting.{acts_by}
-use Rattle.step_core.proofs.Added.{Fills, fills, was_none}
+use Rattle.step_core.proofs.Small.{halves_added, ends_added}
+use Rattle.step_core.proofs.Added.{Creates}
+use Rattle.step_core.proofs.Sizes.{some_words}
 use Rattle.step_core.proofs.Written.{kept_is, kept_above, kept_same, marking_same}
 use Rattle.step_core.proofs.Remembering.{remembers_new}
 use Rattle.step_core.proofs.Layers.{follows_of, stands_over}
-use Rattle.alloc_buffers.proofs.Above.{above_same}
 
 abbrev fresh : ℕ → ℕ → Object
 fresh p d = record { pointers = replicate p None; values = replicate d 0 }
@@ -62,25 +59,14 @@ above_below words tops a z above = lt-not (above (a / words) (omega arith) (omeg
     lt-not : slice_index tops (a / words) ≤ a → nat_lt a (slice_index tops (a / words)) ≡ false
     lt-not le = grind (arith, common_steps, nat_tests)
 
-module _ (k : CoreState) (m : ℕ) (to : Register) (t1 t2 : Table) (b1 : Buffers) (a n p d : ℕ)
-    (core : IsCore k) (placed : IsPlaced k.table t1 k.buffers b1 n a) (z : 0 < t1.words_per_region) (fitting : AreFitting t1) (size : n ≡ 2 + p + d)
-    (is : t2 ≡ replace_tile t1 a (Live (new_object k.next p d) ∷ gap (n - (2 + p + d)))) (room : 2 + p + d ≤ k.config.regions * k.config.words) (names : k.next ≢ 2 ^ 64 - 1)
-    (half : 2 * n ≤ k.config.words) where
-  filled : Fills t1 t2 b1 a (new_object k.next p d)
-  filled = fills t1 t2 b1 a n k.next p d z fitting placed.unmoved placed.filler size is placed.spare placed.stand
-
+module _ (k : CoreState) (m : ℕ) (to : Register) (t2 : Table) (b1 : Buffers) (a p d : ℕ)
+    (core : IsCore k) (made : Creates k.table t2 k.buffers b1 a (new_object k.next p d)) (room : 2 + p + d ≤ k.config.regions * k.config.words) (names : k.next ≢ 2 ^ 64 - 1) where
   words : t2.words_per_region ≡ k.table.words_per_region
-  words = filled.region_size ∙ placed.region_size
-
-  positive : 0 < k.table.words_per_region
-  positive = rw placed.region_size at z
+  words = made.region_size
 
   -- the place lies above both tops at mark start of its region
   new_below : (tops : List ℕ) → AreAbove k.table k.buffers (slice_index tops) → is_below k.table.words_per_region tops a ≡ false
-  new_below tops above = above_below k.table.words_per_region tops a positive (placed.above (slice_index tops) above).0
-
-  above_after : (limit : ℕ → ℕ) → AreAbove k.table k.buffers limit → AreAbove t2 b1 limit
-  above_after limit above = above_same t1 t2 b1 limit filled.region_size filled.region_count filled.used (placed.above limit above).1
+  new_below tops above = above_below k.table.words_per_region tops a (some_words k core) (made.above (slice_index tops) above).0
 
   abbrev new : ℕ → CoreState
   new place = with_new k t2 b1 place a
@@ -91,10 +77,10 @@ module _ (k : CoreState) (m : ℕ) (to : Register) (t1 t2 : Table) (b1 : Buffers
 
   added : (place : ℕ) → ObjectAdded (heap_of k) (heap_of (new place)) a (new_object k.next p d) place
   added place = record {
-    was = kept_is k a ∙ kept_above (object_at k.table) (is_below k.table.words_per_region k.marker.tams.previous) (is_marked k.marker.bitmaps.previous) a below ∙ was_none k.table t1 k.buffers b1 n a placed;
-    is = kept_new place a ∙ kept_above (object_at t2) (is_below k.table.words_per_region k.marker.tams.previous) (is_marked k.marker.bitmaps.previous) a below ∙ filled.is;
+    was = kept_is k a ∙ kept_above (object_at k.table) (is_below k.table.words_per_region k.marker.tams.previous) (is_marked k.marker.bitmaps.previous) a below ∙ made.was;
+    is = kept_new place a ∙ kept_above (object_at t2) (is_below k.table.words_per_region k.marker.tams.previous) (is_marked k.marker.bitmaps.previous) a below ∙ made.is;
     nil = nil_get p;
-    others = λ y ne. kept_new place y ∙ kept_same (object_at k.table) (object_at t2) (is_below k.table.words_per_region k.marker.tams.previous) (is_marked k.marker.bitmaps.previous) y (filled.others y ne ∙ placed.objects y) ∙ sym (kept_is k y);
+    others = λ y ne. kept_new place y ∙ kept_same (object_at k.table) (object_at t2) (is_below k.table.words_per_region k.marker.tams.previous) (is_marked k.marker.bitmaps.previous) y (made.others y ne) ∙ sym (kept_is k y);
     roots = refl;
   }
     where
@@ -123,45 +109,36 @@ module _ (k : CoreState) (m : ℕ) (to : Register) (t1 t2 : Table) (b1 : Buffers
   }
 
   new_leaves_by : LeavesRegions k (with_new k t2 b1 (register_place m to.number) a)
-  new_leaves_by = record { config = refl; in_use = λ j n h. placed.in_use j n (sym (filled.kinds j) ∙ h) }
+  new_leaves_by = record { config = refl; in_use = λ j used free. used (sym (made.kinds_stay j used) ∙ free) }
 
   pub new_leaves : (c : CoreState) → k ≡ c → LeavesRegions c (with_new k t2 b1 (register_place m to.number) a)
   new_leaves c e = subst (λ (d : CoreState). LeavesRegions d (with_new k t2 b1 (register_place m to.number) a)) e new_leaves_by
-
-  stay : (j : ℕ) → kind_of k.table j ≢ kinds.Free → kind_of t2 j ≡ kind_of k.table j
-  stay j used = filled.kinds j ∙ placed.kinds_stay j used
-
-  unchanged : (y : ℕ) → y ≢ a → object_at t2 y ≡ object_at k.table y
-  unchanged y ne = filled.others y ne ∙ placed.objects y
-
-  half_of : 2 * tile_size (Live (new_object k.next p d)) ≤ k.table.words_per_region
-  half_of = let is = core.layers.region_size in omega (arith, length-replicate {A = Option ℕ} p None, length-replicate {A = ℕ} d 0)
 
   pub new_kept : IsCore (with_new k t2 b1 (register_place m to.number) a)
   new_kept =
       let shows = (new_acts core.state.graph core.stands.shows).shows in
       let keeps = new_keeps core.state.snapshot core.stands.keeps in
-      let previous = above_after (slice_index k.marker.tams.previous) core.layers.above_previous in
-      let next = above_after (slice_index k.marker.tams.next) core.layers.above_next in
+      let previous = (made.above (slice_index k.marker.tams.previous) core.layers.above_previous).1 in
+      let next = (made.above (slice_index k.marker.tams.next) core.layers.above_next).1 in
       record {
         suits = core.suits;
         layers = record {
           region_size = words ∙ core.layers.region_size;
-          region_count = filled.region_count ∙ placed.count ∙ core.layers.region_count;
-          buffer_size = placed.words ∙ core.layers.buffer_size;
-          open_buffers = placed.open_count ∙ core.layers.open_buffers;
+          region_count = made.region_count ∙ core.layers.region_count;
+          buffer_size = made.words ∙ core.layers.buffer_size;
+          open_buffers = made.open_count ∙ core.layers.open_buffers;
           logs = core.layers.logs;
-          buffers = filled.stand;
-          unmoved = filled.unmoved;
-          marker = stands_over k.table t2 k.marker core.layers.marker (filled.region_count ∙ placed.count) words
-              (λ j lt. previous.tops j (rw (filled.region_count, placed.count) lt)) (λ j lt. next.tops j (rw (filled.region_count, placed.count) lt)) still
+          buffers = made.stand;
+          unmoved = made.unmoved;
+          marker = stands_over k.table t2 k.marker core.layers.marker made.region_count words
+              (λ j lt. previous.tops j (rw made.region_count lt)) (λ j lt. next.tops j (rw made.region_count lt)) still
               (follows_of (new (register_place m to.number)) _ core.state.snapshot shows keeps);
           above_previous = previous;
           above_next = next;
           room = core.layers.room;
-          halves = halves_added k.table t2 a (new_object k.next p d) words stay filled.is unchanged positive half_of core.layers.halves;
-          ends_previous = ends_added k.table t2 a (new_object k.next p d) words stay filled.is unchanged k.marker.tams.previous (placed.above (slice_index k.marker.tams.previous) core.layers.above_previous).0 core.layers.ends_previous;
-          ends_next = ends_added k.table t2 a (new_object k.next p d) words stay filled.is unchanged k.marker.tams.next (placed.above (slice_index k.marker.tams.next) core.layers.above_next).0 core.layers.ends_next;
+          halves = halves_added k.table t2 a (new_object k.next p d) words made.kinds_stay made.is made.others (some_words k core) made.half core.layers.halves;
+          ends_previous = ends_added k.table t2 a (new_object k.next p d) words made.kinds_stay made.is made.others k.marker.tams.previous (made.above (slice_index k.marker.tams.previous) core.layers.above_previous).0 core.layers.ends_previous;
+          ends_next = ends_added k.table t2 a (new_object k.next p d) words made.kinds_stay made.is made.others k.marker.tams.next (made.above (slice_index k.marker.tams.next) core.layers.above_next).0 core.layers.ends_next;
         };
         cards = core.cards;
         remembers = remembers_new k (new (register_place m to.number)) a (new_object k.next p d) (register_place m to.number) words refl refl (added (register_place m to.number)) core.remembers;
@@ -175,14 +152,12 @@ module _ (k : CoreState) (m : ℕ) (to : Register) (t1 t2 : Table) (b1 : Buffers
     where
       still : (y : ℕ) (x : Stored) → object_at k.table y ≡ Some x → (u : Stored) × (object_at t2 y ≡ Some u)
       still y x e = elim (cases_eq y a) [
-        | inl q ↦ (new_object k.next p d, ap (object_at t2) q ∙ filled.is)
-        | inr ne ↦ (x, filled.others y ne ∙ placed.objects y ∙ e)
+        | inl q ↦ (new_object k.next p d, ap (object_at t2) q ∙ made.is)
+        | inr ne ↦ (x, made.others y ne ∙ e)
       ]
 
 -- what was placed has a place
-pub has_place : (k c : CoreState) (m size n : ℕ) → k ≡ c → IsCore k → size ≡ n → 2 * n ≤ k.config.words → (p : Placement) → place_of k.table k.buffers m size ≡ Some p → HasNoPlace c m n → ⊥
-has_place k c m size n e core same small p found none = go (subst (λ (d : CoreState). HasNoPlace d m n) (sym e) none)
-  where
-    go : HasNoPlace k m n → ⊥
-    go (inl large) = let is = core.layers.region_size in omega arith
-    go (inr missing) = let there : place_of k.table k.buffers m n ≡ Some p = subst (λ (j : ℕ). place_of k.table k.buffers m j ≡ Some p) same found in cc
+pub has_place : (k c : CoreState) (m size n : ℕ) → k ≡ c → size ≡ n → (p : Placement) → place_of k.table k.buffers m size ≡ Some p → HasNoPlace c m n → ⊥
+has_place k c m size n e same p found none =
+    let missing : place_of k.table k.buffers m n ≡ None = subst (λ (d : CoreState). HasNoPlace d m n) (sym e) none in
+    let there : place_of k.table k.buffers m n ≡ Some p = subst (λ (j : ℕ). place_of k.table k.buffers m j ≡ Some p) same found in cc

@@ -15,6 +15,8 @@ pub mod Stored
 pub mod Noting
 pub mod Creating
 pub mod Cycling
+pub mod Forgetting
+pub mod Releasing
 pub mod Cleaning
 pub mod Refined
 pub mod Ready

@@ -82,15 +82,18 @@ kind_cases kinds.Rest = inr (λ e. cc)
 pub inside_own : (words a : ℕ) → 0 < words → is_in_region words (a / words) a ≡ true
 inside_own words a z = in_region words (a / words) a (omega arith) (omega arith)
 
--- one more object, in a region that was ordinary or free
+-- one more object, where regions in use stay what they are
 module _ (t t' : Table) (a : ℕ) (x : Stored) (size : t'.words_per_region ≡ t.words_per_region) (stay : (j : ℕ) → kind_of t j ≢ kinds.Free → kind_of t' j ≡ kind_of t j)
     (is : object_at t' a ≡ Some x) (others : (y : ℕ) → y ≢ a → object_at t' y ≡ object_at t y) where
-  pub halves_added : 0 < t.words_per_region → 2 * tile_size (Live x) ≤ t.words_per_region → AreHalves t → AreHalves t'
+  pub halves_added : 0 < t.words_per_region → (kind_of t' (a / t.words_per_region) ≡ kinds.Ordinary → 2 * tile_size (Live x) ≤ t.words_per_region) → AreHalves t → AreHalves t'
   halves_added z half h = λ b y e o.
       let at : kind_of t' (b / t.words_per_region) ≡ kinds.Ordinary = ap (λ (w : ℕ). kind_of t' (b / w)) (sym size) ∙ o in
       let long = words_are t' b y e in
       elim (cases_eq b a) [
-        | inl q ↦ let here = ap (object_words t') q ∙ words_are t' a x is in omega (arith, here, long, size, half)
+        | inl q ↦
+            let here = ap (object_words t') q ∙ words_are t' a x is in
+            let le = half (ap (λ (c : ℕ). kind_of t' (c / t.words_per_region)) (sym q) ∙ at) in
+            omega (arith, here, long, size, le)
         | inr n ↦
             let there : object_at t b ≡ Some y = sym (others b n) ∙ e in
             elim (kind_cases (kind_of t (b / t.words_per_region))) [

@@ -1,5 +1,5 @@
 -- What a step answers, in the words of the graph.
-use Rattle.std.specs.Prelude.{◌≡◌, ℕ, ◌+◌, ◌*◌, ◌<◌, ◌⊎◌, Some, None}
+use Rattle.std.specs.Prelude.{◌≡◌, ℕ, Some, None}
 use Rattle.heap_words.specs.Sizes.{size_of}
 use Rattle.heap_model.specs.Graph.{Graph, next_name}
 use Rattle.object_graph.specs.Machine.{act}
@@ -20,9 +20,9 @@ pub record Acts (g : Graph) (m : ℕ) (a : Action) (reply : Reply) (c : CoreStat
   pub reply_is : reply ≡ (act g m a).0
   pub shows : ShowsGraph (act g m a).1 c
 
--- no place for so many words: they are more than half a region, or placement finds none
+-- placement finds no place for so many words
 abbrev pub HasNoPlace : CoreState → ℕ → ℕ → Type 0
-HasNoPlace c m size = (c.table.words_per_region < 2 * size) ⊎ (place_of c.table c.buffers m size ≡ None)
+HasNoPlace c m size = place_of c.table c.buffers m size ≡ None
 
 -- the graph creates an object, and the heap has no place for it
 abbrev pub IsFull : Graph → ℕ → Action → CoreState → Type 0

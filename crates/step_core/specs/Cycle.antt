@@ -1,9 +1,10 @@
 -- What each step of the collector does to a core, exactly.
-use Rattle.std.specs.Prelude.{◌≡◌, ◌≢◌, ◌⊎◌, ℕ, ◌+◌, ◌*◌, ◌/◌, ◌<◌, ◌≤◌, ◌↔◌, Bool, true, false, Some, List, [], ◌∷◌, Contains, length, drop, take, min, slice_get, slice_index}
+use Rattle.std.specs.Prelude.{◌≡◌, ◌≢◌, ◌⊎◌, ℕ, ◌+◌, ◌-◌, ◌*◌, ◌<◌, ◌≤◌, ◌↔◌, true, false, Some, None, List, length, slice_get, slice_index}
 use Rattle.heap_model.specs.Graph.{Graph, IsReachable}
 use Rattle.heap_model.specs.Heap.{Stored}
 use Rattle.heap_model.specs.Marking.{Begins}
-use Rattle.regions.specs.Table.{Table, Free, region_number, kind_of, top_of}
+use Rattle.regions.specs.Tiles.{Live, tile_size}
+use Rattle.regions.specs.Table.{Free, First, region_number, kind_of, top_of}
 use Rattle.regions.specs.declared.row.Kind.TheVariants as kinds
 use Rattle.alloc_buffers.specs.Placement.{retired}
 use Rattle.mark_bitmap.specs.Marks.{is_marked, marked_count, HasNone}
@@ -29,11 +30,24 @@ use Rattle.step_core.specs.Reclaimed.{IsReclaimed}
 use Rattle.step_core.specs.Refining.{HasRefined}
 use Rattle.step_core.specs.Pause.{HasPaused, IsChosen}
 
--- what a region can be reclaimed for: nothing in it is live. It is an ordinary one, and no objects are cut from it now
-pub record IsDead (c : CoreState) (k : ℕ) : Type 0 where
+-- an ordinary region of which nothing is live, and from which no objects are cut now
+pub record IsDeadRegion (c : CoreState) (k : ℕ) : Type 0 where
   pub ordinary : kind_of c.table k ≡ kinds.Ordinary
   pub other : c.buffers.current ≢ Some k
   pub live_bound : live_bound_of c.table c.marker.tams.previous c.marker.bitmaps.previous k ≡ 0
+
+-- region k is one of a run whose object isn't kept
+pub record IsDeadRun (c : CoreState) (k : ℕ) : Type 0 where
+  pub first : ℕ
+  pub object : Stored
+  pub begins : region_number c.table first ≡ First object
+  pub low : first ≤ k
+  pub reaches : (k - first) * c.table.words_per_region < tile_size (Live object)
+  pub dead : kept_of c (first * c.table.words_per_region) ≡ None
+
+-- what a region can be reclaimed for: nothing in it is live
+abbrev pub IsDead : CoreState → ℕ → Type 0
+IsDead c k = IsDeadRegion c k ⊎ IsDeadRun c k
 
 -- Marking runs: what roots name is marked, nothing is scanned, and no buffer is open, so that what is made from now
 -- on is new. What is kept stays
@@ -97,15 +111,6 @@ pub record ChangesRegions (c c' : CoreState) : Type 0 where
   pub marker : c'.marker ≡ record c.marker { tams = c'.marker.tams; bitmaps = c'.marker.bitmaps }
   pub size : c'.table.words_per_region ≡ c.table.words_per_region
   pub kept : (a : ℕ) → kept_of c' a ≡ kept_of c a
-
--- one dead region is as in a new heap now, and the others are as they were, dead or not
-pub record HasReleased (k : ℕ) (c c' : CoreState) : Type 0 where
-  pub changes : ChangesRegions c c'
-  pub count : length c'.table.regions ≡ length c.table.regions
-  pub each_set : length c'.sets.sets ≡ length c.sets.sets
-  pub released : IsAsNew c' k
-  pub others : (j : ℕ) → j ≢ k → IsAsBefore c c' j
-  pub dead : (j : ℕ) → j ≢ k → IsDead c' j ↔ IsDead c j
 
 -- the dead regions are so many: they stand in a list, each once, and no others
 pub record CountsDead (c : CoreState) (n : ℕ) : Type 0 where

@@ -6,4 +6,5 @@ pub mod Reclaimed
 pub mod Refining
 pub mod Pause
 pub mod Cycle
+pub mod Cleaning
 pub mod Histories

@@ -1,10 +1,9 @@
 -- What each step of a mutator does to a core, exactly.
-use Rattle.std.specs.Prelude.{◌≡◌, ℕ, ◌+◌, ◌/◌, ◌==◌, Option, Some, None, [], ◌∷◌, if◌then◌else◌, slice_index_or, slice_set, unwrap_or}
+use Rattle.std.specs.Prelude.{◌≡◌, ℕ, ◌+◌, ◌/◌, ◌==◌, Option, Some, None, if◌then◌else◌, slice_index_or, slice_set, unwrap_or}
 use Rattle.heap_words.specs.Sizes.{size_of}
 use Rattle.heap_words.specs.Configs.{card_words}
-use Rattle.regions.specs.Tiles.{Live}
-use Rattle.regions.specs.Table.{pointers_at, set_pointer, set_value, replace_tile, new_object}
-use Rattle.alloc_buffers.specs.Placement.{Placement, place_of}
+use Rattle.regions.specs.Table.{pointers_at, set_pointer, set_value, new_object}
+use Rattle.alloc_buffers.specs.Placement.{Placement, place_of, made_at, address_of}
 use Rattle.marker.specs.Steps.{Overwrites}
 use Rattle.marker.specs.declared.marker.Marker.{Marker}
 use Rattle.cards.specs.Cards.{Cards, dirtied}
@@ -54,9 +53,9 @@ with_pointer c m a i w = record c { table = set_pointer c.table a i w; cards = n
 abbrev pub with_made : CoreState → ℕ → Counts → Option Placement → CoreState
 with_made c place counts None = c
 with_made c place counts (Some x) = record c {
-  table = replace_tile x.table x.at (Live (new_object c.next counts.pointers counts.values) ∷ []);
+  table = made_at x.table x.place (new_object c.next counts.pointers counts.values);
   buffers = x.buffers;
-  roots = slice_set c.roots place (Some x.at);
+  roots = slice_set c.roots place (Some (address_of x.table x.place));
   next = c.next + 1;
 }
 

@@ -7,17 +7,42 @@ ghost use Rattle.heap_model.specs.Heap.{IsShown};
 ghost use Rattle.object_graph.specs.Machine.{stored};
 ghost use Rattle.object_graph.specs.declared.step.Reply.TheVariants as replies;
 ghost use Rattle.object_graph.specs.declared.step.Refusal.TheVariants as refusals;
+ghost use Rattle.regions.specs.Table.{new_object};
+ghost use Rattle.alloc_buffers.specs.Placement.{address_of, CanHold, made_at};
 ghost use Rattle.step_core.specs.Stands.{ShowsGraph, KeepsFrom, State, Stands, heap_of, IsWordOf, IsRootWord};
 ghost use Rattle.step_core.specs.Answers.{Acts, HasNoPlace, IsFull, RepliesFull, Follows};
 ghost use Rattle.step_core.specs.Mutators.{ActsOn, value_of};
 ghost use Rattle.step_core.specs.Cycle.{LeavesRegions};
 
 use crate::heap::{Core, register_index};
-use heap_words::addr::Ptr;
+use alloc_buffers::Place;
+use heap_words::addr::{Addr, Ptr};
 use heap_words::config::Config;
 use heap_words::header;
 use heap_words::header::{Count, FillerSize};
 use object_graph::{Action, Counts, GlobalRoot, Op, Refusal, Register, Reply};
+use regions::RegionTable;
+
+/// Makes a new object in its place, and answers its address.
+fn make(table: &mut RegionTable, place: Place, name: u64, counts: header::Counts) -> Addr
+    requires { CanHold table.old place (size_of counts.pointers counts.values) }
+    ensures at { result ≡ address_of table.old place }
+    ensures made { table.new ≡ made_at table.old place (new_object name counts.pointers counts.values) }
+{
+    table.law();
+    match place {
+        Place::Filler(at) => {
+            let size = 2 + counts.pointers.get() + counts.values.get();
+            table.make_object(at, FillerSize::new(size), name, counts);
+            at
+        }
+        Place::Run { first, count } => {
+            let words = table.words_per_region();
+            table.make_run(first, count, name, counts);
+            Addr::new(first.number() * words)
+        }
+    }
+}
 
 impl Core {
     ghost use Rattle.object_graph.specs.declared.step.Action.TheVariants as actions;
@@ -185,11 +210,7 @@ impl Core {
             return Reply::Refused(Refusal::NamesSpent);
         }
         self.table.law();
-        // A larger object has no place yet.
-        if u64::from(words) < 2 * size {
-            return Reply::Refused(Refusal::Full);
-        }
-        let Ok(at) = self.buffers.place(&mut self.table, mutator, size as u32) else {
+        let Ok(place) = self.buffers.place(&mut self.table, mutator, size as u32) else {
             return Reply::Refused(Refusal::Full);
         };
         let name = self.next;
@@ -198,8 +219,7 @@ impl Core {
             pointers: Count::new(counts.pointers),
             values: Count::new(counts.values),
         };
-        self.table
-            .make_object(at, FillerSize::new(size as u32), name, counts);
+        let at = make(&mut self.table, place, name, counts);
         self.roots[register_index(mutator, to)] = Some(at);
         self.next += 1;
         Reply::Named(Some(name))

@@ -2,6 +2,7 @@
 
 ghost use Rattle.std.specs.Prelude.{◌≡◌, ◌<◌};
 
+mod humongous;
 mod pauses;
 mod places;
 
@@ -124,8 +125,8 @@ fn every_action(rt: HostRuntime) -> Result<(), Fail> {
             Action::New {
                 to: r0,
                 counts: Counts {
-                    pointers: 9,
-                    values: 0,
+                    pointers: 40,
+                    values: 20,
                 },
             },
             Reply::Refused(Refusal::Full),

@@ -43,32 +43,53 @@ fn stored(draw: &mut Lcg64Xsh32) -> Option<Register> {
     }
 }
 
+/// Eight words at most, and now and then up to 64, which is humongous.
+fn counts(draw: &mut Lcg64Xsh32) -> Counts {
+    if below(draw, 8) == 0 {
+        Counts {
+            pointers: below(draw, 32),
+            values: below(draw, 32),
+        }
+    } else {
+        Counts {
+            pointers: below(draw, 5),
+            values: below(draw, 3),
+        }
+    }
+}
+
+/// One of the first fields, or any one.
+fn field(draw: &mut Lcg64Xsh32) -> u32 {
+    if below(draw, 6) == 0 {
+        below(draw, 32)
+    } else {
+        below(draw, 3)
+    }
+}
+
 fn action(draw: &mut Lcg64Xsh32) -> Action {
     match below(draw, 16) {
         0..=3 => Action::New {
             to: register(draw),
-            counts: Counts {
-                pointers: below(draw, 5),
-                values: below(draw, 3),
-            },
+            counts: counts(draw),
         },
         4 => Action::Get {
             to: register(draw),
             object: register(draw),
-            field: below(draw, 3),
+            field: field(draw),
         },
         5..=9 => Action::Put {
             object: register(draw),
-            field: below(draw, 3),
+            field: field(draw),
             value: stored(draw),
         },
         10 => Action::Read {
             object: register(draw),
-            field: below(draw, 3),
+            field: field(draw),
         },
         11 => Action::Write {
             object: register(draw),
-            field: below(draw, 3),
+            field: field(draw),
             value: u64::from(below(draw, 100)),
         },
         12 => Action::Move {
@@ -153,7 +174,7 @@ fn sizes(draw: &mut Lcg64Xsh32) -> Config
 }
 
 /// What happened in all records together.
-#[derive(Drop)]
+#[derive(Debug, Drop)]
 struct Tally {
     /// Whether marking runs, in the present record.
     marking: bool,
@@ -171,10 +192,29 @@ struct Tally {
     copying_while_marking: u64,
     /// Regions that a pause reclaimed.
     evacuated: u64,
+    /// Humongous objects that were made.
+    humongous: u64,
+}
+
+/// How many words a new object has that an event made, 0 where it made none.
+fn made_words(event: &Event) -> u64 {
+    let Reply::Named(Some(_)) = event.reply else {
+        return 0;
+    };
+    match event.step {
+        Step::Mutator(op) => match op.action {
+            Action::New { counts, .. } => counts.size(),
+            _ => 0,
+        },
+        Step::Collector(_) => 0,
+    }
 }
 
 impl Tally {
-    fn count(&mut self, event: &Event) {
+    fn count(&mut self, config: &Config, event: &Event) {
+        if made_words(event) > u64::from(config.words / 2) {
+            self.humongous = self.humongous.saturating_add(1);
+        }
         if event.step == Step::Collector(CollectorStep::Begin) && event.reply == Reply::Done {
             self.marking = true;
         }
@@ -205,7 +245,7 @@ impl Tally {
 }
 
 /// 10,000 scripts of 80 steps, drawn from these seeds on. Many objects are marked, regions are reclaimed by cleanups and by pauses,
-/// pauses copy, while marking runs too, often a heap is full, and cards are refined.
+/// pauses copy, while marking runs too, often a heap is full, cards are refined, and many objects are humongous.
 fn drawn_from(rt: &impl Abort, alloc: Global, first: u64) -> Result<(), Fail> {
     let mut tally = Tally {
         marking: false,
@@ -216,6 +256,7 @@ fn drawn_from(rt: &impl Abort, alloc: Global, first: u64) -> Result<(), Fail> {
         copying: 0,
         copying_while_marking: 0,
         evacuated: 0,
+        humongous: 0,
     };
     for place in 0..10_000u64 {
         let seed = first.wrapping_add(place);
@@ -229,13 +270,21 @@ fn drawn_from(rt: &impl Abort, alloc: Global, first: u64) -> Result<(), Fail> {
         assert_eq!(rt; verdict, Verdict::Yes(80), "seed {seed}");
         tally.marking = false;
         for event in record.events() {
-            tally.count(event);
+            tally.count(&config, event);
         }
     }
-    assert!(rt; tally.reclaimed > 1_000 && tally.marked > 40_000);
-    assert!(rt; tally.full > 13_000 && tally.refined > 400);
-    assert!(rt; tally.copying > 15_000 && tally.copying_while_marking > 4_500);
-    assert!(rt; tally.evacuated > 28_000);
+    assert!(rt;
+        tally.reclaimed > 2_500 && tally.marked > 38_000 && tally.humongous > 10_000,
+        "{tally:?}"
+    );
+    assert!(rt;
+        tally.full > 25_000 && tally.refined > 400 && tally.evacuated > 21_000,
+        "{tally:?}"
+    );
+    assert!(rt;
+        tally.copying > 12_000 && tally.copying_while_marking > 3_500,
+        "{tally:?}"
+    );
     Ok(())
 }
 

@@ -1,7 +1,7 @@
 //! Whole records, each of which its own script gives.
 
 /// A name, and the record.
-pub(super) static RECORDS: [(&str, &str); 24] = [
+pub(super) static RECORDS: [(&str, &str); 30] = [
     (
         "first read",
         "heap 4 16 8 1 0\n1 0 new r0 1 1 = #0\n2 0 read r0 0 = 0\n3 0 get r1 r0 0 = nil\n",
@@ -332,5 +332,97 @@ pub(super) static RECORDS: [(&str, &str); 24] = [
 5 gc pause 13 = moved 1 7\n\
 6 gc pause 64 = moved 2 11\n\
 7 gc refine 1000 = refined 0\n",
+    ),
+    (
+        "sizes and runs",
+        "heap 4 16 8 1 0\n\
+1 0 new r0 3 3 = #0\n\
+2 0 new r1 3 4 = #1\n\
+3 0 new r2 7 8 = #2\n\
+4 0 new r3 0 0 = #3\n\
+5 0 new r4 3 4 = refused 3 Full\n\
+6 0 new r5 31 32 = refused 4 TooBig\n\
+7 0 new r5 31 31 = refused 3 Full\n",
+    ),
+    (
+        "humongous, gone a cycle later",
+        "heap 4 16 8 1 0\n\
+1 0 new r0 0 8 = #0\n\
+2 gc begin = ok\n\
+3 0 drop r0 = ok\n\
+4 gc remark = marked 1\n\
+5 gc cleanup = reclaimed 0\n\
+6 gc begin = ok\n\
+7 gc remark = marked 0\n\
+8 gc cleanup = reclaimed 1\n",
+    ),
+    (
+        "unreachable ring",
+        "heap 4 16 8 1 0\n\
+1 0 new r0 1 7 = #0\n\
+2 0 new r1 1 7 = #1\n\
+3 0 put r0 0 r1 = ok\n\
+4 0 put r1 0 r0 = ok\n\
+5 0 drop r0 = ok\n\
+6 0 drop r1 = ok\n\
+7 gc begin = ok\n\
+8 gc remark = marked 0\n\
+9 gc cleanup = reclaimed 2\n",
+    ),
+    (
+        "cards of a humongous object",
+        "heap 6 16 8 1 0\n\
+1 0 new r0 62 0 = #0\n\
+2 0 put r0 0 r0 = ok\n\
+3 0 put r0 14 r0 = ok\n\
+4 0 put r0 22 r0 = ok\n\
+5 0 put r0 30 r0 = ok\n\
+6 gc refine 9 = refined 0\n\
+7 0 put r0 38 r0 = ok\n\
+8 gc refine 9 = refined 4\n\
+9 0 drop r0 = ok\n\
+10 gc begin = ok\n\
+11 gc remark = marked 0\n\
+12 gc cleanup = reclaimed 4\n",
+    ),
+    (
+        "outside field of a humongous object",
+        "heap 6 16 8 1 0\n\
+1 0 new r0 16 0 = #0\n\
+2 0 new r1 0 1 = #1\n\
+3 0 write r1 0 9 = ok\n\
+4 0 put r0 15 r1 = ok\n\
+5 0 drop r1 = ok\n\
+6 gc pause 100 = moved 1 3\n\
+7 gc refine 5 = refined 1\n\
+8 0 get r1 r0 15 = #1\n\
+9 0 read r1 0 = 9\n",
+    ),
+    (
+        "seventeen cards",
+        "heap 12 16 8 1 0\n\
+1 0 new r0 142 0 = #0\n\
+2 0 new r1 0 1 = #1\n\
+3 0 put r0 0 r1 = ok\n\
+4 0 put r0 6 r1 = ok\n\
+5 0 put r0 14 r1 = ok\n\
+6 0 put r0 22 r1 = ok\n\
+7 0 put r0 30 r1 = ok\n\
+8 0 put r0 38 r1 = ok\n\
+9 0 put r0 46 r1 = ok\n\
+10 0 put r0 54 r1 = ok\n\
+11 0 put r0 62 r1 = ok\n\
+12 0 put r0 70 r1 = ok\n\
+13 0 put r0 78 r1 = ok\n\
+14 0 put r0 86 r1 = ok\n\
+15 0 put r0 94 r1 = ok\n\
+16 0 put r0 102 r1 = ok\n\
+17 0 put r0 110 r1 = ok\n\
+18 0 put r0 118 r1 = ok\n\
+19 0 put r0 126 r1 = ok\n\
+20 gc refine 20 = refined 16\n\
+21 gc pause 100 = moved 1 3\n\
+22 gc refine 20 = refined 17\n\
+23 0 get r2 r0 126 = #1\n",
     ),
 ];

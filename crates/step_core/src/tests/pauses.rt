@@ -13,13 +13,13 @@ use std::test::Fail;
 
 /// A mutator's action, a step of the collector with its reply, or where the tile of a card's first word starts.
 #[derive(Clone, Copy)]
-enum Line {
+pub(super) enum Line {
     Act(Action),
     Collect(CollectorStep, Reply),
     FirstTile(u32, Option<u32>),
 }
 
-fn make(to: u8, pointers: u32, values: u32) -> Line
+pub(super) fn make(to: u8, pointers: u32, values: u32) -> Line
     requires { to < 8 }
 {
     Line::Act(Action::New {
@@ -28,7 +28,7 @@ fn make(to: u8, pointers: u32, values: u32) -> Line
     })
 }
 
-fn get(to: u8, object: u8, field: u32) -> Line
+pub(super) fn get(to: u8, object: u8, field: u32) -> Line
     requires to { to < 8 }
     requires object { object < 8 }
 {
@@ -39,7 +39,7 @@ fn get(to: u8, object: u8, field: u32) -> Line
     })
 }
 
-fn put(object: u8, field: u32, value: u8) -> Line
+pub(super) fn put(object: u8, field: u32, value: u8) -> Line
     requires object { object < 8 }
     requires value { value < 8 }
 {
@@ -60,7 +60,7 @@ fn put_nil(object: u8, field: u32) -> Line
     })
 }
 
-fn forget(number: u8) -> Line
+pub(super) fn forget(number: u8) -> Line
     requires { number < 8 }
 {
     Line::Act(Action::Drop {
@@ -68,22 +68,26 @@ fn forget(number: u8) -> Line
     })
 }
 
-fn begin() -> Line {
+pub(super) fn begin() -> Line {
     Line::Collect(CollectorStep::Begin, Reply::Done)
 }
 
-fn remark(marked: u32) -> Line {
+pub(super) fn remark(marked: u32) -> Line {
     Line::Collect(CollectorStep::Remark, Reply::Marked(marked))
 }
 
-fn pause(budget: u32, regions: u32, words: u32) -> Line {
+pub(super) fn cleanup(reclaimed: u32) -> Line {
+    Line::Collect(CollectorStep::Cleanup, Reply::Reclaimed(reclaimed))
+}
+
+pub(super) fn pause(budget: u32, regions: u32, words: u32) -> Line {
     Line::Collect(
         CollectorStep::Pause(budget),
         Reply::Moved { regions, words },
     )
 }
 
-fn refine(cards: u32, refined: u32) -> Line {
+pub(super) fn refine(cards: u32, refined: u32) -> Line {
     Line::Collect(CollectorStep::Refine(cards), Reply::Refined(refined))
 }
 
@@ -114,7 +118,7 @@ fn place_of(core: &Core, number: u8) -> Option<u32>
 }
 
 /// Does the lines with mutator 0, and compares the collector's replies; then each register's object stands at its place.
-fn check(
+pub(super) fn check(
     rt: &impl Abort,
     alloc: Global,
     regions: u32,
@@ -246,7 +250,7 @@ fn follows_no_dead_object(rt: HostRuntime) -> Result<(), Fail> {
         forget(4),
         begin(),
         remark(3),
-        Line::Collect(CollectorStep::Cleanup, Reply::Reclaimed(1)),
+        cleanup(1),
         make(6, 4, 2),
         make(7, 4, 2),
         pause(100, 1, 8),

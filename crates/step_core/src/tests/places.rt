@@ -37,6 +37,8 @@ struct Tally {
     deep: u64,
     /// Pauses whose copies stand in more than one region.
     wide: u64,
+    /// Pauses that updated a field in a later region of a run.
+    later: u64,
     /// Pauses that left two cards or more, which were refined one by one.
     ordered: u64,
     /// Objects that were copied.
@@ -137,6 +139,7 @@ fn pause(
         check_order(rt, core, &cards, script);
         tally.ordered = more(tally.ordered, cards.len() > 1);
     }
+    tally.later = more(tally.later, plain.updates_later_region(&before));
     tally.count(&plain, &expected, marking);
     Ok(())
 }
@@ -188,7 +191,7 @@ fn script(rt: &impl Abort, alloc: Global, tally: &mut Tally) -> Result<(), Fail>
 }
 
 /// 2,500 scripts. Many pauses copy something, also while marking runs, also what only fields name, also into more than one
-/// region; and many leave more than one card.
+/// region; some update a field in a later region of a run; and many leave more than one card.
 #[test]
 fn pauses_are_plain_ones(rt: HostRuntime) -> Result<(), Fail> {
     let mut tally = Tally {
@@ -199,6 +202,7 @@ fn pauses_are_plain_ones(rt: HostRuntime) -> Result<(), Fail> {
         outside: 0,
         deep: 0,
         wide: 0,
+        later: 0,
         ordered: 0,
         copied: 0,
         compared: 0,
@@ -208,15 +212,15 @@ fn pauses_are_plain_ones(rt: HostRuntime) -> Result<(), Fail> {
         tally.scripts = more(tally.scripts, true);
     }
     assert!(rt;
-        tally.copying > 4_500 && tally.copying_while_marking > 1_300,
+        tally.copying > 3_700 && tally.copying_while_marking > 1_000 && tally.later > 25,
         "{tally:?}"
     );
     assert!(rt;
-        tally.outside > 900 && tally.deep > 500 && tally.wide > 450,
+        tally.outside > 650 && tally.deep > 330 && tally.wide > 220,
         "{tally:?}"
     );
     assert!(rt;
-        tally.ordered > 800 && tally.copied > 10_000 && tally.compared > 120_000,
+        tally.ordered > 550 && tally.copied > 7_500 && tally.compared > 115_000,
         "{tally:?}"
     );
     Ok(())

@@ -35,10 +35,37 @@ fn stored(draw: &mut Lcg64Xsh32) -> Option<Register> {
     }
 }
 
+/// Four fields at most, and now and then so many that the last ones lie behind the first 16 words.
+fn pointers(draw: &mut Lcg64Xsh32) -> u32 {
+    if below(draw, 14) == 0 {
+        15 + below(draw, 6)
+    } else {
+        below(draw, 5)
+    }
+}
+
+/// Few data words, where an object has few fields; up to 23 where it has more, so that it is humongous mostly.
+fn counts(draw: &mut Lcg64Xsh32, pointers: u32) -> Counts {
+    let most = if pointers < 5 { 3 } else { 24 };
+    Counts {
+        pointers,
+        values: below(draw, most),
+    }
+}
+
+/// One of the first fields, or one of the last of an object that has many.
+fn field(draw: &mut Lcg64Xsh32) -> u32 {
+    if below(draw, 6) == 0 {
+        14 + below(draw, 6)
+    } else {
+        below(draw, 3)
+    }
+}
+
 /// A step on a field of an object: mostly a store.
 fn access(draw: &mut Lcg64Xsh32) -> Action {
     let object = register(draw);
-    let field = below(draw, 3);
+    let field = field(draw);
     match below(draw, 11) {
         0..=1 => Action::Get {
             to: register(draw),
@@ -60,16 +87,19 @@ fn access(draw: &mut Lcg64Xsh32) -> Action {
     }
 }
 
-/// An action of a mutator. The objects that are made have eight words at most.
+fn new(draw: &mut Lcg64Xsh32) -> Action {
+    let to = register(draw);
+    let pointers = pointers(draw);
+    Action::New {
+        to,
+        counts: counts(draw, pointers),
+    }
+}
+
+/// An action of a mutator.
 pub(crate) fn action(draw: &mut Lcg64Xsh32) -> Action {
     match below(draw, 20) {
-        0..=5 => Action::New {
-            to: register(draw),
-            counts: Counts {
-                pointers: below(draw, 5),
-                values: below(draw, 3),
-            },
-        },
+        0..=5 => new(draw),
         6 => Action::Move {
             to: register(draw),
             from: register(draw),
@@ -92,22 +122,20 @@ pub(crate) fn action(draw: &mut Lcg64Xsh32) -> Action {
 /// An object is made, one of its fields takes what a register holds, and a register's object takes the new one.
 pub(crate) fn growth(draw: &mut Lcg64Xsh32) -> [Action; 3] {
     let to = register(draw);
-    let pointers = 1 + below(draw, 4);
+    let pointers = pointers(draw).max(1);
     let made = Action::New {
         to,
-        counts: Counts {
-            pointers,
-            values: below(draw, 3),
-        },
+        counts: counts(draw, pointers),
     };
+    let last = below(draw, pointers.min(4));
     let first = Action::Put {
         object: to,
-        field: below(draw, pointers),
+        field: pointers.saturating_sub(1 + last),
         value: Some(register(draw)),
     };
     let second = Action::Put {
         object: register(draw),
-        field: below(draw, 3),
+        field: field(draw),
         value: Some(to),
     };
     [made, first, second]

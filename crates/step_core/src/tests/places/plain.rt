@@ -1,7 +1,7 @@
 //! A pause over a heap as it is seen: a list of candidates that is sorted, and a list of copies that grows while it is gone
 //! through. It knows no remembered sets.
 
-use super::sight::{Seen, Sight, Space};
+use super::sight::{FIELDS, Seen, Sight, Space};
 use regions::Kind;
 use std::alloc::{AllocError, Global};
 use std::test::Fail;
@@ -118,13 +118,12 @@ impl PlainPause {
     }
 
     /// What an object's fields name afterwards.
-    fn fields_after(&self, fields: &[Option<u32>; 4]) -> [Option<u32>; 4] {
-        [
-            self.after(fields[0]),
-            self.after(fields[1]),
-            self.after(fields[2]),
-            self.after(fields[3]),
-        ]
+    fn fields_after(&self, fields: &[Option<u32>; FIELDS]) -> [Option<u32>; FIELDS] {
+        let mut after = *fields;
+        for word in &mut after {
+            *word = self.after(*word);
+        }
+        after
     }
 
     /// A place for so many words. What doesn't fit into the open region closes it, and the next free one is opened.
@@ -210,6 +209,26 @@ impl PlainPause {
             Some(first) => regions.any(|region| region != first),
             None => false,
         }
+    }
+
+    /// Whether a field of an object changes that lies in a later region of a run.
+    fn updates_behind(&self, object: &Seen) -> bool {
+        let mut word = object.at.saturating_add(1);
+        for field in &object.fields {
+            word = word.saturating_add(1);
+            let behind = region_of(self.words, word) != region_of(self.words, object.at);
+            if behind && object.kept && self.after(*field) != *field {
+                return true;
+            }
+        }
+        false
+    }
+
+    /// Whether a field in a later region of a run changes.
+    pub(crate) fn updates_later_region(&self, heap: &Sight) -> bool {
+        heap.objects
+            .iter()
+            .any(|object| self.updates_behind(object))
     }
 
     /// What a region is afterwards.

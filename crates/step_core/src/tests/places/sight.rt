@@ -8,7 +8,10 @@ use heap_words::addr::{Addr, RegionNo};
 use regions::{Kind, Shape};
 use std::alloc::{AllocError, Global};
 
-/// An object where it stands, and what its fields name. It has four fields at most; those that it hasn't name nothing.
+/// How many fields an object of a drawn heap has at most.
+pub(crate) const FIELDS: usize = 20;
+
+/// An object where it stands, and what its fields name. The fields that it hasn't name nothing.
 #[derive(Clone, Copy, Debug, PartialEq, Eq)]
 pub(crate) struct Seen {
     pub(crate) at: u32,
@@ -16,7 +19,7 @@ pub(crate) struct Seen {
     pub(crate) name: u64,
     /// Whether it starts at or above its region's previous top at mark start, or is marked.
     pub(crate) kept: bool,
-    pub(crate) fields: [Option<u32>; 4],
+    pub(crate) fields: [Option<u32>; FIELDS],
 }
 
 /// What a region is, its top, and its tops at mark start.
@@ -50,6 +53,17 @@ fn field_of(core: &Core, at: Addr, field: u32) -> Option<u32>
     }
 }
 
+/// What the fields of the object at an address name.
+fn fields_of(core: &Core, at: Addr) -> [Option<u32>; FIELDS]
+    requires { IsSome (object_at core.now.table at) }
+{
+    let mut fields = [None; FIELDS];
+    for number in 0..FIELDS {
+        fields[number] = field_of(core, at, number as u32);
+    }
+    fields
+}
+
 /// The object at an address of a region with this previous top at mark start.
 fn object_seen(core: &Core, at: Addr, previous: u32) -> Seen
     requires { IsSome (object_at core.now.table at) }
@@ -61,12 +75,7 @@ fn object_seen(core: &Core, at: Addr, previous: u32) -> Seen
         size: core.table.object_size(at),
         name: core.table.name(at),
         kept: marked || at.word() >= previous,
-        fields: [
-            field_of(core, at, 0),
-            field_of(core, at, 1),
-            field_of(core, at, 2),
-            field_of(core, at, 3),
-        ],
+        fields: fields_of(core, at),
     }
 }
 
