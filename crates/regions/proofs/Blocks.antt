@@ -1,5 +1,5 @@
 -- The regions of a run belong together, and any other region is by itself. They are released together.
-use Rattle.std.proofs.Common.{◌≡◌, ◌≢◌, ℕ, zero, suc, ◌+◌, ◌-◌, ◌*◌, ◌/◌, ◌%◌, ◌<◌, ◌≤◌, ◌⊎◌, Bool, true, false, cond, Option, Some, None, List, [], ◌∷◌, ◌++◌, length, take, drop, get_or, set, replicate, refl, sym, ◌∙◌, ap, subst, arith, inl, inr}
+use Rattle.std.proofs.Common.{◌≡◌, ◌≢◌, ℕ, zero, suc, ◌+◌, ◌-◌, ◌*◌, ◌/◌, ◌%◌, ◌<◌, ◌≤◌, ◌⊎◌, Bool, true, false, cond, Some, None, List, [], ◌∷◌, ◌++◌, length, take, drop, get_or, replicate, refl, sym, ◌∙◌, ap, subst, arith, inl, inr}
 use Rattle.std.specs.Prelude.{count_by}
 use Rattle.std.proofs.lemmas.Bool.{cases_lt, cases_eq}
 use Rattle.std.proofs.lemmas.Nat.{row_fits}
@@ -8,15 +8,14 @@ use Rattle.std.specs.List.{sum_by}
 use Rattle.std.proofs.lemmas.List.Sums.{sum_by-append, sum_by-take-drop, sum_by-cons}
 use Rattle.std.proofs.lemmas.List.Folds.{sum_by-replicate}
 use Rattle.heap_model.specs.Heap.{Stored}
-use Rattle.regions.specs.Tiles.{Tile, Live, Gap, tile_size}
-use Rattle.regions.specs.Shaped.{IsShaped, IsLater}
-use Rattle.regions.specs.declared.row.Kind.{Kind}
+use Rattle.regions.specs.Tiles.{Live, Gap, tile_size}
+use Rattle.regions.specs.Shaped.{IsShaped}
 use Rattle.regions.specs.declared.row.Kind.TheVariants as kinds
 use Rattle.regions.specs.Table.{Table, Region, Free, Ordinary, First, Rest, region_number, region_kind, region_used, region_tile, region_at, tile_in, tile_object, kind_of, used_of, top_of, object_at, HasNoMoved, EachMovedIn, is_free, is_rest, front_count, run_length, with_region, with_regions, without_run, released}
 use Rattle.regions.proofs.Spliced.{IsOutside}
 use Rattle.regions.proofs.Fronts.{front_le, front_passes}
 use Rattle.regions.proofs.RunGone.{splice_one}
-use Rattle.regions.proofs.RunLaws.{Splices, regions_spliced}
+use Rattle.regions.proofs.RunLaws.{regions_spliced}
 
 front_stops : {A : Type 0} (p : A → Bool) (xs : List A) (d : A) → front_count p xs < length xs → p (get_or xs (front_count p xs) d) ≡ false
 front_stops p [] d h = absurd (omega arith)

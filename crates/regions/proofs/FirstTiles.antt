@@ -1,7 +1,7 @@
 -- The entries of first tiles: how they are written, and that they stay right.
 use Rattle.std.proofs.Common.{◌≡◌, ◌≢◌, ℕ, suc, ◌+◌, ◌-◌, ◌*◌, ◌/◌, ◌%◌, ◌<◌, ◌≤◌, ◌⊎◌, Bool, true, false, Some, List, length, length-set, get_or, set, inl, inr, refl, sym, ap, ◌∙◌, arith, leb, ltb, eqb}
 use Rattle.std.specs.Prelude.{if◌then◌else◌, ◌&&◌, ◌==◌}
-use Rattle.std.proofs.lemmas.Bool.{cases_lt, cases_eq, le-leb, lt-leb, lt-ltb, le-ltb, eqb-false, eq-eqb}
+use Rattle.std.proofs.lemmas.Bool.{cases_lt, cases_eq, le-leb, lt-leb, lt-ltb, le-ltb, eqb-false, eq-eqb, ne_eqb}
 use Rattle.std.proofs.lemmas.List.{get_or-set_same, get_or-set_other}
 use Rattle.std.proofs.lemmas.Grind.{div_ceil_times}
 use Rattle.std.proofs.lemmas.Nat.{mul-le}
@@ -12,7 +12,7 @@ use Rattle.regions.specs.Table.{Table, tile_in}
 use Rattle.regions.specs.Walks.{IsHolder}
 use Rattle.regions.specs.Shaped.{IsShaped}
 use Rattle.regions.specs.FirstTiles.{Entries, AreEntries, entry_of, last_card, start_in}
-use Rattle.regions.proofs.Divides.{div_is}
+use Rattle.regions.proofs.Divides.{div_is, div_low}
 use Rattle.regions.proofs.Holders.{one_holder}
 
 -- ---- how they are written
@@ -45,6 +45,10 @@ card_before c end len z h = let d = div_ceil_times end len z in let m = mul-le (
 
 pub card_behind : (c end len : ℕ) → 0 < len → div_ceil end len ≤ c → end ≤ c * len
 card_behind c end len z h = let d = div_ceil_times end len z in let m = mul-le (div_ceil end len) len c len h (omega arith) in omega (arith, d.0)
+
+-- the first card at a word or behind it, by one division
+pub ceil_is : (x len : ℕ) → 0 < len → (x + (len - 1)) / len ≡ div_ceil x len
+ceil_is x len z = let d = div_ceil_times x len z in div_is (x + (len - 1)) len (div_ceil x len) (omega (arith, d.1)) (omega (arith, d.0))
 
 -- how many cards the words up to an end take
 pub cards_fit : (end len n : ℕ) → 0 < len → end ≤ n * len → div_ceil end len ≤ n
@@ -80,6 +84,33 @@ written_all old new len at end entry i z l w c =
                 w.outside c (inr same) ∙ sym (if_above at end (c * len) entry (get_or old c 0) (card_behind c end len z d)))
           ])
     ]
+
+-- the last card that begins below an end
+pub last_known : (end len n : ℕ) → 0 < len → 0 < end → end ≤ n * len → (end - 1) / len < n
+last_known end len n z some h = elim (cases_lt ((end - 1) / len) n) [
+  | inl b ↦ b
+  | inr b ↦ (let low = div_low (end - 1) len ((end - 1) / len) z refl in let m = mul-le n len ((end - 1) / len) len b (omega arith) in absurd (omega arith))
+]
+
+-- the last card's entry is written
+pub start_written : (old : List ℕ) (len at end c : ℕ) → 0 < len → at < end → at ≤ (end - 1) / len * len → (end - 1) / len < length old
+    → get_or (set old ((end - 1) / len) at) c 0 ≡ (if is_between at end (c * len) && (c * len == last_card len end) then at else get_or old c 0)
+start_written old len at end c z h low inside = elim (cases_eq c ((end - 1) / len)) [
+  | inl e ↦ (
+      let high = div_low (end - 1) len ((end - 1) / len) z refl in
+      rw (e, get_or-set_same old ((end - 1) / len) at 0 inside, le-leb at ((end - 1) / len * len) low, lt-ltb ((end - 1) / len * len) end (omega (arith, high)), eq-eqb ((end - 1) / len * len) ((end - 1) / len * len) refl) refl)
+  | inr e ↦ get_or-set_other old ((end - 1) / len) c at 0 e ∙ sym (none (is_between at end (c * len)) (other e))
+]
+  where
+    other : c ≢ (end - 1) / len → eqb (c * len) (last_card len end) ≡ false
+    other e = ne_eqb (c * len) (last_card len end) (λ same. elim (cases_lt c ((end - 1) / len)) [
+      | inl b ↦ (let m = mul-le (suc c) len ((end - 1) / len) len b (omega arith) in omega arith)
+      | inr b ↦ (let m = mul-le (suc ((end - 1) / len)) len c len (let ne : c ≢ (end - 1) / len = e in omega arith) (omega arith) in omega arith)
+    ])
+
+    none : (b : Bool) → eqb (c * len) (last_card len end) ≡ false → (if b && (c * len == last_card len end) then at else get_or old c 0) ≡ get_or old c 0
+    none true f = rw f refl
+    none false f = refl
 
 -- ---- how they stay right
 holds : (t : Table) (a w : ℕ) (u : Tile) → tile_in t a ≡ Some u → a ≤ w → w < a + tile_size u → IsHolder t a w

@@ -34,3 +34,13 @@ eights n (suc (suc (suc r))) e l =
 
 pub whole_starts : (r w k : ℕ) → w ≡ k * 8 → r * w / 8 * 8 ≡ r * w
 whole_starts r w k e = let f : r * w ≡ r * k * 8 = rw e (omega arith) in omega arith
+
+-- a lower power has a lower exponent
+pub short_power : (r n : ℕ) → 2 ^ r < 2 ^ n → r < n
+short_power r zero h = absurd (let p = pow_pos r in omega arith)
+short_power zero (suc n) h = omega arith
+short_power (suc r) (suc n) h =
+    let a : 2 ^ suc r ≡ 2 * 2 ^ r = pow-succ' 2 r in
+    let b : 2 ^ suc n ≡ 2 * 2 ^ n = pow-succ' 2 n in
+    let i = short_power r n (omega arith) in
+    omega arith

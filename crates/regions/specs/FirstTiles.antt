@@ -1,5 +1,5 @@
 -- The entries that say where the tile of a card's first word starts.
-use Rattle.std.specs.Prelude.{◌≡◌, ℕ, ◌+◌, ◌-◌, ◌*◌, ◌/◌, ◌<◌, ◌≤◌, Some, List, slice_index, nat_le, ◌==◌, if◌then◌else◌}
+use Rattle.std.specs.Prelude.{◌≡◌, ℕ, ◌+◌, ◌-◌, ◌*◌, ◌/◌, ◌^◌, ◌<◌, ◌≤◌, Some, List, slice_index, nat_le, ◌==◌, if◌then◌else◌}
 use Rattle.regions.specs.Tiles.{Tile, Live, Gap, Moved, tile_size}
 use Rattle.regions.specs.Table.{Table, tile_in}
 
@@ -18,6 +18,11 @@ entry_of card_words a (Moved to n) w = a
 pub record Entries : Type 0 where
   pub card_words : ℕ
   pub starts : List ℕ
+
+-- so many words are a power of two, fewer than a region can have
+pub record IsPower (size shift : ℕ) : Type 0 where
+  pub is : size ≡ 2 ^ shift
+  pub narrow : shift < 12
 
 -- each card that begins in a tile has its entry
 abbrev pub AreEntries : Table → Entries → Type 0

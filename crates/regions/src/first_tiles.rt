@@ -14,7 +14,8 @@
 //! A new tile costs an entry for each card that begins in it, and a first tile is found by a look at one entry or two, however
 //! far from the region's bottom or the run's first region the card lies. Tables of this kind are known as block offset tables.
 
-ghost use Rattle.std.specs.Prelude.{◌≡◌, ℕ, ◌+◌, ◌*◌, ◌/◌, ◌<◌, ◌≤◌, ◌^◌, ◌==◌, ◌&&◌, IfOk, length, replicate, slice_index, if◌then◌else◌};
+ghost use Rattle.std.specs.Prelude.{◌≡◌, ℕ, ◌+◌, ◌*◌, ◌/◌, ◌<◌, ◌≤◌, ◌^◌, ◌==◌, ◌&&◌, IfOk, IsTrue, length, replicate, slice_index, if◌then◌else◌};
+ghost use Rattle.std.specs.Int.{div_ceil, is_power_of_two};
 ghost use Rattle.heap_words.specs.Bits.{is_between};
 ghost use Rattle.regions.specs.Tiles.{Gap};
 ghost use Rattle.regions.specs.FirstTiles.{last_card, entry_of, start_in};
@@ -22,78 +23,91 @@ ghost use Rattle.regions.specs.FirstTiles.{last_card, entry_of, start_in};
 use std::alloc::{AllocError, Global};
 use std::marker::Model;
 
-/// The entries of all cards. Addresses and sizes are words.
+/// The entries of all cards. Addresses and sizes are words. A card has a power of two of words, so that a card is found by a
+/// shift.
 #[derive(Drop)]
 pub(crate) struct FirstTiles {
     card_words: u32,
+    shift: u32,
     starts: Vec<u32>,
 }
 
 impl Model for FirstTiles {
-    ghost use Rattle.std.specs.Prelude.{◌<◌};
-    ghost use Rattle.regions.specs.FirstTiles.{Entries};
+    ghost use Rattle.regions.specs.FirstTiles.{Entries, IsPower};
 
     ghost Value = { Entries };
 
     ghost view = { λ f. record { card_words = f.card_words; starts = f.starts.items } };
 
-    ghost invariant = { λ f. 0 < f.card_words };
+    ghost invariant = { λ f. IsPower f.card_words f.shift };
+}
+
+/// The first card that begins at a word or behind it, where a card has 2 to the `shift`th words.
+fn card_from(shift: u32, word: u32) -> u32
+    requires narrow { shift < 12 }
+    requires small { word ≤ 2 ^ 20 }
+    ensures { result ≡ div_ceil word (2 ^ shift) }
+{
+    (word + ((1 << shift) - 1)) >> shift
 }
 
 /// Each card that begins in the words from `at` up to `end` has this entry.
-fn write_entries(entries: &mut [u32], card_words: u32, at: u32, end: u32, entry: u32)
-    requires some { 0 < card_words }
-    requires within { end ≤ length entries.old * card_words }
+fn write_entries(entries: &mut [u32], shift: u32, at: u32, end: u32, entry: u32)
+    requires narrow { shift < 12 }
+    requires order { at ≤ end }
+    requires small { end ≤ 2 ^ 20 }
+    requires within { end ≤ length entries.old * 2 ^ shift }
     ensures len { length entries.new ≡ length entries.old }
-    ensures entries { (c : ℕ) → slice_index entries.new c ≡ (if is_between at end (c * card_words) then entry else slice_index entries.old c) }
+    ensures entries { (c : ℕ) → slice_index entries.new c ≡ (if is_between at end (c * 2 ^ shift) then entry else slice_index entries.old c) }
 {
-    for card in at.div_ceil(card_words)..end.div_ceil(card_words) {
+    for card in card_from(shift, at)..card_from(shift, end) {
         entries[card as usize] = entry;
     }
 }
 
 /// The last card that begins in the words from `at` up to `end`, if one does, has `at` as its entry.
-fn write_start(entries: &mut [u32], card_words: u32, at: u32, end: u32)
-    requires some { 0 < card_words }
-    requires within { end ≤ length entries.old * card_words }
+fn write_start(entries: &mut [u32], shift: u32, at: u32, end: u32)
+    requires narrow { shift < 12 }
+    requires small { end ≤ 2 ^ 20 }
+    requires within { end ≤ length entries.old * 2 ^ shift }
     ensures len { length entries.new ≡ length entries.old }
-    ensures entries { (c : ℕ) → slice_index entries.new c ≡ (if is_between at end (c * card_words) && (c * card_words == last_card card_words end) then at else slice_index entries.old c) }
+    ensures entries { (c : ℕ) → slice_index entries.new c ≡ (if is_between at end (c * 2 ^ shift) && (c * 2 ^ shift == last_card (2 ^ shift) end) then at else slice_index entries.old c) }
 {
     if at < end {
-        let card = (end - 1) / card_words;
-        if at <= card * card_words {
+        let card = (end - 1) >> shift;
+        if at <= card << shift {
             entries[card as usize] = at;
         }
     }
 }
 
 /// The entries of a filler's cards: the last one's is its start, and the others' is that card.
-fn write_filler(entries: &mut [u32], card_words: u32, at: u32, size: u32)
-    requires some { 0 < card_words }
+fn write_filler(entries: &mut [u32], shift: u32, at: u32, size: u32)
+    requires narrow { shift < 12 }
     requires positive { 0 < size }
-    requires within { at + size ≤ length entries.old * card_words }
-    requires small { at + size < 2 ^ 32 }
+    requires small { at + size ≤ 2 ^ 20 }
+    requires within { at + size ≤ length entries.old * 2 ^ shift }
     ensures len { length entries.new ≡ length entries.old }
-    ensures entries { (c : ℕ) → slice_index entries.new c ≡ (if is_between at (at + size) (c * card_words) then entry_of card_words at (Gap size) (c * card_words) else slice_index entries.old c) }
+    ensures entries { (c : ℕ) → slice_index entries.new c ≡ (if is_between at (at + size) (c * 2 ^ shift) then entry_of (2 ^ shift) at (Gap size) (c * 2 ^ shift) else slice_index entries.old c) }
 {
     let end = at + size;
-    let last = (end - 1) / card_words * card_words;
-    write_entries(entries, card_words, at, end, last);
-    write_start(entries, card_words, at, end);
+    let last = (end - 1) >> shift << shift;
+    write_entries(entries, shift, at, end, last);
+    write_start(entries, shift, at, end);
 }
 
 /// Where the entries say that the tile of a card's first word starts.
-fn find_start(entries: &[u32], card_words: u32, card: u32) -> u32
-    requires some { 0 < card_words }
+fn find_start(entries: &[u32], shift: u32, card: u32) -> u32
+    requires narrow { shift < 12 }
     requires known { card < length entries.now }
-    requires small { length entries.now * card_words < 2 ^ 32 }
-    ensures { result ≡ start_in card_words entries.now card }
+    requires small { length entries.now * 2 ^ shift ≤ 2 ^ 20 }
+    ensures { result ≡ start_in (2 ^ shift) entries.now card }
 {
     let entry = entries[card as usize];
-    if entry <= card * card_words {
+    if entry <= card << shift {
         return entry;
     }
-    let last = (entry / card_words) as usize;
+    let last = (entry >> shift) as usize;
     if last < entries.len() {
         entries[last]
     } else {
@@ -104,60 +118,67 @@ fn find_start(entries: &[u32], card_words: u32, card: u32) -> u32
 impl FirstTiles {
     /// An entry for each card of so many words.
     pub(crate) fn new(alloc: Global, words: u32, card_words: u32) -> Result<FirstTiles, AllocError>
-        requires { 0 < card_words }
+        requires power { IsTrue (is_power_of_two card_words) }
+        requires small { card_words < 2 ^ 12 }
         ensures { IfOk result (λ f. f ≡ record { card_words = card_words; starts = replicate (words / card_words) 0 }) }
     {
         let starts = vec![in alloc; 0; (words / card_words) as usize]?;
-        Ok(FirstTiles { card_words, starts })
+        let shift = card_words.ilog2();
+        Ok(FirstTiles {
+            card_words,
+            shift,
+            starts,
+        })
     }
 
-    /// How many words a card has.
-    pub(crate) fn card_words(&self) -> u32
-        ensures value { result ≡ self.now.card_words }
-        ensures positive { 0 < result }
+    /// The card of a word.
+    pub(crate) fn card_of(&self, word: u32) -> u32
+        ensures card { result ≡ word / self.now.card_words }
+        ensures positive { 0 < self.now.card_words }
     {
-        self.card_words
+        word >> self.shift
     }
 
     /// An object stands at an address.
     pub(crate) fn put_object(&mut self, at: u32, size: u32)
         requires within { at + size ≤ length self.old.starts * self.old.card_words }
-        requires small { at + size < 2 ^ 32 }
+        requires small { at + size ≤ 2 ^ 20 }
         ensures card_words { self.new.card_words ≡ self.old.card_words }
         ensures len { length self.new.starts ≡ length self.old.starts }
         ensures entries { (c : ℕ) → slice_index self.new.starts c ≡ (if is_between at (at + size) (c * self.old.card_words) then at else slice_index self.old.starts c) }
     {
-        write_entries(&mut self.starts, self.card_words, at, at + size, at);
+        write_entries(&mut self.starts, self.shift, at, at + size, at);
     }
 
     /// A filler stands at an address.
     pub(crate) fn put_filler(&mut self, at: u32, size: u32)
         requires positive { 0 < size }
         requires within { at + size ≤ length self.old.starts * self.old.card_words }
-        requires small { at + size < 2 ^ 32 }
+        requires small { at + size ≤ 2 ^ 20 }
         ensures card_words { self.new.card_words ≡ self.old.card_words }
         ensures len { length self.new.starts ≡ length self.old.starts }
         ensures entries { (c : ℕ) → slice_index self.new.starts c ≡ (if is_between at (at + size) (c * self.old.card_words) then entry_of self.old.card_words at (Gap size) (c * self.old.card_words) else slice_index self.old.starts c) }
     {
-        write_filler(&mut self.starts, self.card_words, at, size);
+        write_filler(&mut self.starts, self.shift, at, size);
     }
 
     /// A filler that ended at `end` starts at `at` now, or is gone where that is its end.
     pub(crate) fn move_filler(&mut self, at: u32, end: u32)
-        requires { end ≤ length self.old.starts * self.old.card_words }
+        requires within { end ≤ length self.old.starts * self.old.card_words }
+        requires small { end ≤ 2 ^ 20 }
         ensures card_words { self.new.card_words ≡ self.old.card_words }
         ensures len { length self.new.starts ≡ length self.old.starts }
         ensures entries { (c : ℕ) → slice_index self.new.starts c ≡ (if is_between at end (c * self.old.card_words) && (c * self.old.card_words == last_card self.old.card_words end) then at else slice_index self.old.starts c) }
     {
-        write_start(&mut self.starts, self.card_words, at, end);
+        write_start(&mut self.starts, self.shift, at, end);
     }
 
     /// Where the tile of a card's first word starts.
     pub(crate) fn start(&self, card: u32) -> u32
         requires known { card < length self.now.starts }
-        requires small { length self.now.starts * self.now.card_words < 2 ^ 32 }
+        requires small { length self.now.starts * self.now.card_words ≤ 2 ^ 20 }
         ensures { result ≡ start_in self.now.card_words self.now.starts card }
     {
-        find_start(&self.starts, self.card_words, card)
+        find_start(&self.starts, self.shift, card)
     }
 }

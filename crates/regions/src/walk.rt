@@ -114,7 +114,7 @@ impl RegionTable {
         if self.top(self.region_of(word)).word() <= word.word() {
             return None;
         }
-        let card = word.word() / self.first_tiles.card_words();
+        let card = self.first_tiles.card_of(word.word());
         let start = Addr::new(self.first_tiles.start(card));
         for (at, shape) in self.walk_from(start) {
             if word.word() < at.word() + shape.size() {

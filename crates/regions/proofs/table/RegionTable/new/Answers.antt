@@ -13,6 +13,10 @@ ilog2-requires c =
     let s = c.in_ok-check.ensures.suits.0 refl in
     omega (arith, s.words.at_least)
 
+pub new-requires-2-clause-power : goal.new-requires-2-clause-power
+unfolding lib.Count.ones
+new-requires-2-clause-power c = rw c.card_words.ensures refl
+
 pub invariant_of-result : goal.invariant_of-result
 invariant_of-result c =
     let s = c.in_ok-check.ensures.suits.0 refl in
