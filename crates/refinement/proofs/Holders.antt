@@ -1,14 +1,13 @@
 -- The tile of a field, and what is kept of objects.
-use Rattle.std.proofs.Common.{inl, inr, ◌≡◌, ◌≢◌, ℕ, suc, ◌+◌, ◌-◌, ◌*◌, ◌/◌, ◌%◌, ◌<◌, ◌≤◌, Bool, true, false, Option, Some, None, List, [], ◌∷◌, length, ⊎_elim, refl, sym, ap, subst, ◌∙◌, arith}
+use Rattle.std.proofs.Common.{◌≡◌, ℕ, ◌+◌, ◌*◌, ◌/◌, ◌<◌, ◌≤◌, Bool, true, false, Option, Some, None, List, length, refl, sym, ap, ◌∙◌, arith}
 use Rattle.std.specs.Prelude.{slice_get, IsSome, IsTrue, if◌then◌else◌}
 use Rattle.std.proofs.lemmas.Option.{slice_get_within}
 use Rattle.heap_model.specs.Heap.{Stored, IsClosed, fields}
-use Rattle.regions.specs.Tiles.{Tile, Live, Gap, Moved, tile_size, tile_at, total_size}
-use Rattle.regions.specs.Table.{Table, Region, Free, Ordinary, First, Rest, region_number, kind_of, tile_in, tile_object, object_at, object_fields, fields_at, top_of}
+use Rattle.regions.specs.Tiles.{Tile, Live, Gap, Moved, tile_size}
+use Rattle.regions.specs.Table.{Table, tile_in, tile_object, object_at, object_fields, fields_at}
 use Rattle.regions.specs.Shapes.{tile_shape}
 use Rattle.regions.specs.Walks.{IsHolder, IsPlacedTile}
 use Rattle.regions.specs.Shaped.{IsShaped}
-use Rattle.regions.specs.declared.row.Shape.{Shape}
 use Rattle.regions.specs.declared.row.Shape.TheVariants.{Object, Filler, Moved as MovedShape}
 use Rattle.regions.proofs.Laws.{object_tile}
 use Rattle.regions.proofs.WalkFrom.{tile_listed}
@@ -166,10 +165,3 @@ not_kept kept a r f e = go (kept a) refl
     go : (o : Option Stored) → kept a ≡ o → kept a ≡ None
     go None h = h
     go (Some s) h = absurd (let y : r ≡ true = f (rw h refl) in cc)
-
-pub tile_there : (t : Table) (a : ℕ) → IsSome (tile_in t a) → (u : Tile) × (tile_in t a ≡ Some u)
-tile_there t a h = go (tile_in t a) refl h
-  where
-    go : (o : Option Tile) → tile_in t a ≡ o → IsSome o → (u : Tile) × (tile_in t a ≡ Some u)
-    go None e x = cc
-    go (Some u) e x = (u, e)

@@ -3,4 +3,5 @@ pub mod Remembered
 pub mod Holders
 pub mod Fields
 pub mod Scanned
+pub mod Counted
 pub mod Samples
