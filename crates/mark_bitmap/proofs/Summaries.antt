@@ -21,10 +21,6 @@ has_set_there flags n i b ne = get_or-set_other flags n i b false ne
 pub has_set_true : (flags : List Bool) (n i : ℕ) → n < length flags → has flags i ≡ true → has (set flags n true) i ≡ true
 has_set_true flags n i h e = ⊎_elim (λ same. has_set_here flags n i true h same) (λ ne. has_set_there flags n i true ne ∙ e) (cases_eq i n)
 
-pub has_set_false : (flags : List Bool) (n i : ℕ) → n < length flags → has (set flags n false) i ≡ true → has flags i ≡ true
-has_set_false flags n i h e =
-    ⊎_elim (λ same. let f = has_set_here flags n i false h same in absurd (cc)) (λ ne. sym (has_set_there flags n i false ne) ∙ e) (cases_eq i n)
-
 pub has_none : (n a : ℕ) → has (replicate n false) a ≡ false
 has_none n a =
     ⊎_elim (λ h. get_or-replicate n a false false h) (λ h. has_past (replicate n false) a (omega (arith, length-replicate {A = Bool} n false))) (cases_lt a n)
@@ -46,9 +42,6 @@ module _ (members groups : List Bool) (n : ℕ) (inside : n < length members) (g
   }
 
 module _ (test less : ℕ → Bool) (groups : List Bool) (n : ℕ) (s : IsSummary test groups) where
-  pub leave_each : ((a : ℕ) → less a ≡ true → test a ≡ true) → (a : ℕ) → less a ≡ true → has groups (a / 64) ≡ true
-  leave_each fewer a e = s.each a (fewer a e)
-
   pub leave_others : ((a : ℕ) → a ≢ n → less a ≡ test a) → (i : ℕ) → i ≢ n / 64 → has groups i ≡ true → HasMember less i
   leave_others others i ne e =
       let m = s.only i e in

@@ -155,6 +155,7 @@ mod tests {
 
     /// Grey objects come by rising address; one that is marked below another one comes next all the same.
     #[test]
+    #[tactic(auto, unfolding(crate::specs::Grey::nothing_scanned))]
     fn finds_what_is_below(rt: HostRuntime) -> Result<(), Fail> {
         let mut marks = Marks::new(rt.alloc(), 200)?;
         let mut grey = Grey::new(rt.alloc(), 200)?;

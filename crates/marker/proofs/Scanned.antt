@@ -38,10 +38,7 @@ both_true false b e = cc
 pub grey_is : (marks : List Bool) (g : Scans) (a : ℕ) → is_grey marks g a ≡ true → (is_marked marks a ≡ true) × (is_marked g.scanned a ≡ false)
 grey_is marks g a e = both_true (is_marked marks a) (is_marked g.scanned a) e
 
-abbrev pub with_grey : Marker → Scans → Marker
-with_grey m g = record { bitmaps = m.bitmaps; tams = m.tams; grey = g; logs = m.logs; running = m.running; scans = m.scans }
-
--- and one scan more
+-- the marker with another grey set, and one scan more
 abbrev pub with_scan : Marker → Scans → Marker
 with_scan m g = record { bitmaps = m.bitmaps; tams = m.tams; grey = g; logs = m.logs; running = m.running; scans = added m.scans }
 
