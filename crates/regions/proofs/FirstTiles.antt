@@ -1,5 +1,5 @@
 -- The entries of first tiles: how they are written, and that they stay right.
-use Rattle.std.proofs.Common.{◌≡◌, ◌≢◌, ℕ, suc, ◌+◌, ◌-◌, ◌*◌, ◌/◌, ◌%◌, ◌<◌, ◌≤◌, ◌⊎◌, Bool, true, false, Some, List, length, length-set, get_or, set, inl, inr, refl, sym, ap, ◌∙◌, arith, leb, ltb, eqb}
+use Rattle.std.proofs.Common.{◌≡◌, ◌≢◌, ℕ, suc, ◌+◌, ◌-◌, ◌*◌, ◌/◌, ◌%◌, ◌<◌, ◌≤◌, ◌⊎◌, Bool, true, false, Some, List, subst, length, length-set, get_or, set, inl, inr, refl, sym, ap, ◌∙◌, arith, leb, ltb, eqb}
 use Rattle.std.specs.Prelude.{if◌then◌else◌, ◌&&◌, ◌==◌}
 use Rattle.std.proofs.lemmas.Bool.{cases_lt, cases_eq, le-leb, lt-leb, lt-ltb, le-ltb, eqb-false, eq-eqb, ne_eqb}
 use Rattle.std.proofs.lemmas.List.{get_or-set_same, get_or-set_other}
@@ -70,20 +70,46 @@ if_above from to w x y h = go (leb from w)
     go true = rw none refl
     go false = refl
 
--- all entries are written
-pub written_all : (old new : List ℕ) (len at end entry i : ℕ) → 0 < len → div_ceil end len ≤ i → AreWritten old new (div_ceil at len) i (div_ceil end len) entry → (c : ℕ) → get_or new c 0 ≡ (if is_between at end (c * len) then entry else get_or old c 0)
-written_all old new len at end entry i z l w c =
-    elim (cases_lt c (div_ceil at len)) [
-      | inl b ↦ w.outside c (inl b) ∙ sym (if_below at end (c * len) entry (get_or old c 0) (card_before c at len z b))
-      | inr b ↦ (
-          let low : at ≤ c * len = card_behind c at len z b in
-          elim (cases_lt c (div_ceil end len)) [
-            | inl d ↦ w.inside c b (omega arith) ∙ sym (if_between at end (c * len) entry (get_or old c 0) low (card_before c end len z d))
-            | inr d ↦ (
-                let same : i ≤ c = elim w.bound [ inl x ↦ omega arith | inr x ↦ omega arith ] in
-                w.outside c (inr same) ∙ sym (if_above at end (c * len) entry (get_or old c 0) (card_behind c end len z d)))
-          ])
+-- all cards from one on up to another have the entry
+pub filled : (old new : List ℕ) (from to entry i : ℕ) → to ≤ i → AreWritten old new from i to entry → (c : ℕ) → get_or new c 0 ≡ (if is_between from to c then entry else get_or old c 0)
+filled old new from to entry i l w c =
+    elim (cases_lt c from) [
+      | inl b ↦ w.outside c (inl b) ∙ sym (if_below from to c entry (get_or old c 0) b)
+      | inr b ↦ elim (cases_lt c to) [
+        | inl d ↦ w.inside c b (omega arith) ∙ sym (if_between from to c entry (get_or old c 0) b d)
+        | inr d ↦ (
+            let same : i ≤ c = elim w.bound [ inl x ↦ omega arith | inr x ↦ omega arith ] in
+            w.outside c (inr same) ∙ sym (if_above from to c entry (get_or old c 0) d))
+      ]
     ]
+
+-- the cards that begin in words, by their numbers
+pub cards_between : (len at end c x y : ℕ) → 0 < len → (if is_between (div_ceil at len) (div_ceil end len) c then x else y) ≡ (if is_between at end (c * len) then x else y)
+cards_between len at end c x y z =
+    elim (cases_lt c (div_ceil at len)) [
+      | inl b ↦ if_below (div_ceil at len) (div_ceil end len) c x y b ∙ sym (if_below at end (c * len) x y (card_before c at len z b))
+      | inr b ↦ elim (cases_lt c (div_ceil end len)) [
+        | inl d ↦ if_between (div_ceil at len) (div_ceil end len) c x y b d ∙ sym (if_between at end (c * len) x y (card_behind c at len z b) (card_before c end len z d))
+        | inr d ↦ if_above (div_ceil at len) (div_ceil end len) c x y d ∙ sym (if_above at end (c * len) x y (card_behind c end len z d))
+      ]
+    ]
+
+-- where no card begins
+pub none_between : (len at end c x y : ℕ) → 0 < len → div_ceil end len ≤ div_ceil at len → (if is_between at end (c * len) then x else y) ≡ y
+none_between len at end c x y z h = elim (cases_lt c (div_ceil at len)) [
+  | inl b ↦ if_below at end (c * len) x y (card_before c at len z b)
+  | inr b ↦ if_above at end (c * len) x y (card_behind c end len z (omega arith))
+]
+
+-- the last card that begins below an end, by the first one behind it
+pub last_is : (end len : ℕ) → 0 < len → 0 < div_ceil end len → div_ceil end len - 1 ≡ (end - 1) / len
+last_is end len z some =
+    let last : ℕ = div_ceil end len - 1 in
+    let before = card_before last end len z (omega arith) in
+    let behind = card_behind (div_ceil end len) end len z (omega arith) in
+    let next : div_ceil end len ≡ suc last = omega arith in
+    let whole : div_ceil end len * len ≡ last * len + len = ap (λ (n : ℕ). n * len) next ∙ omega arith in
+    sym (div_is (end - 1) len last (omega arith) (omega (arith, whole)))
 
 -- the last card that begins below an end
 pub last_known : (end len n : ℕ) → 0 < len → 0 < end → end ≤ n * len → (end - 1) / len < n
@@ -111,6 +137,61 @@ start_written old len at end c z h low inside = elim (cases_eq c ((end - 1) / le
     none : (b : Bool) → eqb (c * len) (last_card len end) ≡ false → (if b && (c * len == last_card len end) then at else get_or old c 0) ≡ get_or old c 0
     none true f = rw f refl
     none false f = refl
+
+-- a card begins in the words, so its last one's entry is written; else none is
+pub start_put : (old : List ℕ) (len at end past c : ℕ) → 0 < len → past ≡ div_ceil end len → div_ceil at len < past → end ≤ length old * len
+    → get_or (set old (past - 1) at) c 0 ≡ (if is_between at end (c * len) && (c * len == last_card len end) then at else get_or old c 0)
+start_put old len at end past c z e h within =
+    let last : past - 1 ≡ (end - 1) / len = ap (λ (n : ℕ). n - 1) e ∙ last_is end len z (omega arith) in
+    let low : at ≤ (past - 1) * len = card_behind (past - 1) at len z (omega arith) in
+    let high : (past - 1) * len < end = card_before (past - 1) end len z (omega arith) in
+    ap (λ (k : ℕ). get_or (set old k at) c 0) last ∙ start_written old len at end c z (omega arith) (subst (λ (k : ℕ). at ≤ k * len) last low) (last_known end len (length old) z (omega arith) within)
+
+pub start_stays : (old : List ℕ) (len at end c : ℕ) → 0 < len → div_ceil end len ≤ div_ceil at len
+    → get_or old c 0 ≡ (if is_between at end (c * len) && (c * len == last_card len end) then at else get_or old c 0)
+start_stays old len at end c z h = sym (go (c * len == last_card len end))
+  where
+    and_true : (b : Bool) → (b && true) ≡ b
+    and_true true = refl
+    and_true false = refl
+
+    and_no : (b : Bool) → (b && false) ≡ false
+    and_no true = refl
+    and_no false = refl
+
+    go : (b : Bool) → (if is_between at end (c * len) && b then at else get_or old c 0) ≡ get_or old c 0
+    go true = subst (λ (d : Bool). (if d then at else get_or old c 0) ≡ get_or old c 0) (sym (and_true (is_between at end (c * len)))) (none_between len at end c at (get_or old c 0) z h)
+    go false = subst (λ (d : Bool). (if d then at else get_or old c 0) ≡ get_or old c 0) (sym (and_no (is_between at end (c * len)))) refl
+
+-- the cards of a filler
+pub filler_put : (old mid : List ℕ) (len at n past c : ℕ) → 0 < len → past ≡ div_ceil (at + n) len → div_ceil at len < past → length mid ≡ length old → at + n ≤ length old * len
+    → ((k : ℕ) → get_or mid k 0 ≡ (if is_between (div_ceil at len) (past - 1) k then (past - 1) * len else get_or old k 0))
+    → get_or (set mid (past - 1) at) c 0 ≡ (if is_between at (at + n) (c * len) then entry_of len at (Gap n) (c * len) else get_or old c 0)
+filler_put old mid len at n past c z e h same within fill =
+    let last : past - 1 ≡ (at + n - 1) / len = ap (λ (k : ℕ). k - 1) e ∙ last_is (at + n) len z (omega arith) in
+    let far : (past - 1) * len ≡ last_card len (at + n) = ap (λ (k : ℕ). k * len) last in
+    let high : (past - 1) * len < at + n = card_before (past - 1) (at + n) len z (omega arith) in
+    let known : past - 1 < length mid = subst (λ (k : ℕ). k < length mid) (sym last) (rw same (last_known (at + n) len (length old) z (omega arith) within)) in
+    elim (cases_eq c (past - 1)) [
+      | inl b ↦ (
+          let low : at ≤ c * len = card_behind c at len z (omega arith) in
+          let is : (c * len == last_card len (at + n)) ≡ true = eq-eqb (c * len) (last_card len (at + n)) (ap (λ (k : ℕ). k * len) b ∙ far) in
+          let there : c * len < at + n = rw b high in
+          ap (λ (k : ℕ). get_or (set mid (past - 1) at) k 0) b ∙ get_or-set_same mid (past - 1) at 0 known
+          ∙ sym (if_between at (at + n) (c * len) (entry_of len at (Gap n) (c * len)) (get_or old c 0) low there ∙ rw is refl))
+      | inr b ↦ get_or-set_other mid (past - 1) c at 0 b ∙ fill c ∙ elim (cases_lt c (div_ceil at len)) [
+        | inl d ↦ if_below (div_ceil at len) (past - 1) c ((past - 1) * len) (get_or old c 0) d ∙ sym (if_below at (at + n) (c * len) (entry_of len at (Gap n) (c * len)) (get_or old c 0) (card_before c at len z d))
+        | inr d ↦ elim (cases_lt c (past - 1)) [
+          | inl f ↦ (
+              let less : c * len < (past - 1) * len = (let m = mul-le (suc c) len (past - 1) len f (omega arith) in omega arith) in
+              let not_last : (c * len == last_card len (at + n)) ≡ false = ne_eqb (c * len) (last_card len (at + n)) (λ q. let w : c * len ≡ (past - 1) * len = q ∙ sym far in omega arith) in
+              if_between (div_ceil at len) (past - 1) c ((past - 1) * len) (get_or old c 0) d f ∙ far
+              ∙ sym (if_between at (at + n) (c * len) (entry_of len at (Gap n) (c * len)) (get_or old c 0) (card_behind c at len z d) (omega arith) ∙ rw not_last refl))
+          | inr f ↦ if_above (div_ceil at len) (past - 1) c ((past - 1) * len) (get_or old c 0) f
+              ∙ sym (if_above at (at + n) (c * len) (entry_of len at (Gap n) (c * len)) (get_or old c 0) (card_behind c (at + n) len z (omega arith)))
+        ]
+      ]
+    ]
 
 -- ---- how they stay right
 holds : (t : Table) (a w : ℕ) (u : Tile) → tile_in t a ≡ Some u → a ≤ w → w < a + tile_size u → IsHolder t a w

@@ -51,6 +51,17 @@ fn card_from(shift: u32, word: u32) -> u32
     (word + ((1 << shift) - 1)) >> shift
 }
 
+/// The cards from one on up to another, which is not one of them, have this entry.
+fn fill_cards(entries: &mut [u32], from: u32, to: u32, entry: u32)
+    requires { to ≤ length entries.old }
+    ensures len { length entries.new ≡ length entries.old }
+    ensures entries { (c : ℕ) → slice_index entries.new c ≡ (if is_between from to c then entry else slice_index entries.old c) }
+{
+    for card in from..to {
+        entries[card as usize] = entry;
+    }
+}
+
 /// Each card that begins in the words from `at` up to `end` has this entry.
 fn write_entries(entries: &mut [u32], shift: u32, at: u32, end: u32, entry: u32)
     requires narrow { shift < 12 }
@@ -60,24 +71,21 @@ fn write_entries(entries: &mut [u32], shift: u32, at: u32, end: u32, entry: u32)
     ensures len { length entries.new ≡ length entries.old }
     ensures entries { (c : ℕ) → slice_index entries.new c ≡ (if is_between at end (c * 2 ^ shift) then entry else slice_index entries.old c) }
 {
-    for card in card_from(shift, at)..card_from(shift, end) {
-        entries[card as usize] = entry;
-    }
+    fill_cards(entries, card_from(shift, at), card_from(shift, end), entry);
 }
 
 /// The last card that begins in the words from `at` up to `end`, if one does, has `at` as its entry.
 fn write_start(entries: &mut [u32], shift: u32, at: u32, end: u32)
     requires narrow { shift < 12 }
+    requires order { at ≤ end }
     requires small { end ≤ 2 ^ 20 }
     requires within { end ≤ length entries.old * 2 ^ shift }
     ensures len { length entries.new ≡ length entries.old }
     ensures entries { (c : ℕ) → slice_index entries.new c ≡ (if is_between at end (c * 2 ^ shift) && (c * 2 ^ shift == last_card (2 ^ shift) end) then at else slice_index entries.old c) }
 {
-    if at < end {
-        let card = (end - 1) >> shift;
-        if at <= card << shift {
-            entries[card as usize] = at;
-        }
+    let past = card_from(shift, end);
+    if card_from(shift, at) < past {
+        entries[past as usize - 1] = at;
     }
 }
 
@@ -90,10 +98,13 @@ fn write_filler(entries: &mut [u32], shift: u32, at: u32, size: u32)
     ensures len { length entries.new ≡ length entries.old }
     ensures entries { (c : ℕ) → slice_index entries.new c ≡ (if is_between at (at + size) (c * 2 ^ shift) then entry_of (2 ^ shift) at (Gap size) (c * 2 ^ shift) else slice_index entries.old c) }
 {
-    let end = at + size;
-    let last = (end - 1) >> shift << shift;
-    write_entries(entries, shift, at, end, last);
-    write_start(entries, shift, at, end);
+    let first = card_from(shift, at);
+    let past = card_from(shift, at + size);
+    if first < past {
+        let last = past - 1;
+        fill_cards(entries, first, last, last << shift);
+        entries[last as usize] = at;
+    }
 }
 
 /// Where the entries say that the tile of a card's first word starts.
@@ -164,6 +175,7 @@ impl FirstTiles {
 
     /// A filler that ended at `end` starts at `at` now, or is gone where that is its end.
     pub(crate) fn move_filler(&mut self, at: u32, end: u32)
+        requires order { at ≤ end }
         requires within { end ≤ length self.old.starts * self.old.card_words }
         requires small { end ≤ 2 ^ 20 }
         ensures card_words { self.new.card_words ≡ self.old.card_words }

@@ -1,7 +1,17 @@
 use Rattle.std.proofs.Common.{◌^◌, arith}
 use Rattle.std.proofs.lemmas.Nat.{pow_pos}
-use Rattle.regions.proofs.FirstTiles.{start_written, last_known}
+use Rattle.regions.proofs.FirstTiles.{cards_fit, start_put, start_stays}
 use Rattle.regions.proofs.first_tiles.write_start.Goals as goal
 
-pub returns-then-at-card-clause-entries : goal.returns-then-at-card-clause-entries
-returns-then-at-card-clause-entries c n = start_written c.args.entries.now (2 ^ c.args.shift) c.args.at c.args.end n (pow_pos c.args.shift) c.if-at-end.true (omega (arith, c.if-at-card.true)) (last_known c.args.end (2 ^ c.args.shift) _ (pow_pos c.args.shift) (let h = c.if-at-end.true in omega arith) c.requires.within)
+pub bounds-entries-past : goal.bounds-entries-past
+bounds-entries-past c =
+    let fits = cards_fit c.args.end (2 ^ c.args.shift) _ (pow_pos c.args.shift) c.requires.within in
+    omega (arith, fits, c.card_from-past.ensures, c.if-card_from-past.true)
+
+pub returns-then-card_from-past-clause-entries : goal.returns-then-card_from-past-clause-entries
+returns-then-card_from-past-clause-entries c n =
+    start_put c.args.entries.now (2 ^ c.args.shift) c.args.at c.args.end c.card_from-past.result n (pow_pos c.args.shift) c.card_from-past.ensures (omega (arith, c.if-card_from-past.true, c.card_from.ensures)) c.requires.within
+
+pub returns-else-card_from-past-clause-entries : goal.returns-else-card_from-past-clause-entries
+returns-else-card_from-past-clause-entries c n =
+    start_stays c.args.entries.now (2 ^ c.args.shift) c.args.at c.args.end n (pow_pos c.args.shift) (omega (arith, c.if-card_from-past.false, c.card_from.ensures, c.card_from-past.ensures))
