@@ -1,9 +1,9 @@
 //! The first tile of each card: where the tile starts that holds the card's first word.
 //!
 //! ```text
-//!   cards       0         1         2         3         4         5
-//!   tiles       | a     | b                | filler at f                 | c
-//!   entry       a         b         f: card 4 is asked .. .. f            ..
+//!   cards      |0       |1       |2       |3       |4       |5       |
+//!   tiles      |a   |b                |f, a filler                |c ..
+//!   entry       a        b        b        card 5   card 5   f
 //! ```
 //!
 //! Each card that begins below its region's top has an entry, an address. At or below the card's first word it is where the tile
