@@ -17,3 +17,6 @@ returns-clause-core c =
     let m = c.in-Ok-new-2.ensures in
     rw (c.in-Ok.ensures.made, c.in-Ok-new.ensures.closed, c.in-Ok-new-3.ensures, c.in-Ok-new-4.ensures, c.in-Ok-nil_roots.ensures, c.card_words.ensures)
     (first_is c.args.config.now c.in-Ok-new-2.marker _ _ (rw c.in-Ok-new.ensures.closed at c.in-Ok-new.ensures.stand) (c.in-Ok.ensures.suits refl) (rw (c.in-Ok-new-5.ensures, c.card_words.ensures) (record { regions = refl; cards = refl })) c.in-Ok-with_capacity.ensures.capacity (omega arith) m.idle m.logs m.stands)
+
+pub returns-in_default-with_capacity-clause-fault : goal.returns-in_default-with_capacity-clause-fault
+returns-in_default-with_capacity-clause-fault c = c.in-Ok.ensures.suits refl
