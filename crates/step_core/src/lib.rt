@@ -40,7 +40,7 @@ mod step;
 mod steps;
 
 pub use heap::Core;
-pub use runs::{RunFault, run};
+pub use runs::{RunFault, run, run_fault};
 
 #[cfg(test)]
 mod tests;

@@ -95,7 +95,7 @@ pub fn run(alloc: Global, config: &Config, steps: &[Step]) -> Result<Record, Run
 }
 
 /// The run's fault where no heap was made.
-fn run_fault(fault: NewFault) -> RunFault
+pub fn run_fault(fault: NewFault) -> RunFault
     ensures { (config : Config) → IsNewFault config fault → IsRunFault config result }
 {
     match fault {
