@@ -1,5 +1,5 @@
 -- Eleven words of an event's line tell as much as all.
-use Rattle.std.proofs.Common.{◌≡◌, ℕ, ◌+◌, ◌<◌, ◌≤◌, Bool, true, false, cond, eqb, List, [], ◌∷◌, length, ◌-◌, get_or, take, drop, Option, Some, None, Result, Ok, Err, refl, sym, ap, ◌∙◌, arith, inl, inr}
+use Rattle.std.proofs.Common.{◌≡◌, ℕ, ◌+◌, ◌<◌, ◌≤◌, true, false, cond, eqb, List, [], ◌∷◌, length, ◌-◌, get_or, take, drop, Option, None, Result, Ok, Err, refl, sym, ap, ◌∙◌, arith, inl, inr}
 use Rattle.std.proofs.lemmas.Bool.{cases_lt, le-ltb}
 use Rattle.std.proofs.lemmas.List.{take_all, take-take, length-take-le, length-drop, get_or-take}
 use Rattle.std.proofs.lemmas.List.Sums.{fails_before_first, passes_at_first, position_or_len_is, prefix_len-le-length}
@@ -13,7 +13,7 @@ use Rattle.object_graph.specs.declared.step.Event.{Event}
 use Rattle.script_text.specs.declared.fault.Kind.{Kind}
 use Rattle.script_text.specs.declared.fault.Kind.TheVariants as kinds
 use Rattle.script_text.specs.Reading.{number_of, large, action_of, collection_of}
-use Rattle.script_text.specs.EventWords.{taken_of, equals_at, step_part, reply_part, reply_of, answer_of}
+use Rattle.script_text.specs.EventWords.{taken_of, equals_at, step_part, answer_of}
 use Rattle.script_text.specs.Lines.{◌>>=◌, or_fault, words_of}
 use Rattle.script_text.specs.Events.{actor_of, counted_of, event_of, event_line_of}
 use Rattle.script_text.proofs.ReplyLaws.{no_long_reply}

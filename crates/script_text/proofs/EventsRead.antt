@@ -1,5 +1,5 @@
 -- What is read of an event's line is spelled so.
-use Rattle.std.proofs.Common.{◌≡◌, ℕ, ◌+◌, ◌<◌, ◌≤◌, Bool, true, false, cond, eqb, List, [], ◌∷◌, ◌++◌, length, Option, Some, None, Result, Ok, Err, refl, sym, ap, subst, ◌∙◌, append_assoc, arith, inl, inr}
+use Rattle.std.proofs.Common.{◌≡◌, ℕ, ◌<◌, ◌≤◌, Bool, true, false, cond, eqb, List, [], ◌∷◌, ◌++◌, length, Option, Some, None, Result, Ok, Err, refl, sym, ap, subst, ◌∙◌, append_assoc, arith, inl, inr}
 use Rattle.std.specs.Prelude.{nat_lt, codes, IfOk}
 use Rattle.std.specs.Fmt.{decimal}
 use Rattle.std.specs.Str.{bytes_eq}
@@ -17,7 +17,6 @@ use Rattle.object_graph.specs.declared.step.Step.{Step}
 use Rattle.object_graph.specs.declared.step.Step.TheVariants as steps
 use Rattle.object_graph.specs.declared.step.Reply.{Reply}
 use Rattle.object_graph.specs.declared.step.Reply.TheVariants as replies
-use Rattle.object_graph.specs.declared.step.Refusal.TheVariants as refusals
 use Rattle.object_graph.specs.declared.step.Event.{Event}
 use Rattle.script_text.specs.declared.fault.Kind.{Kind}
 use Rattle.script_text.specs.declared.fault.Kind.TheVariants as kinds

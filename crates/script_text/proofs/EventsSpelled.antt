@@ -1,12 +1,11 @@
 -- The words of an event, and that the event is read from them.
-use Rattle.std.proofs.Common.{◌≡◌, ℕ, ◌+◌, ◌^◌, ◌<◌, ◌≤◌, Bool, true, false, cond, eqb, List, [], ◌∷◌, ◌++◌, length, get_or, Option, Some, None, Result, Ok, Err, refl, sym, ap, subst, ◌∙◌, arith}
+use Rattle.std.proofs.Common.{◌≡◌, ℕ, ◌+◌, ◌<◌, ◌≤◌, true, false, eqb, List, [], ◌∷◌, ◌++◌, length, Option, Some, None, Ok, refl, sym, ap, subst, ◌∙◌, arith}
 use Rattle.std.specs.Prelude.{codes, nat_le}
 use Rattle.std.specs.Fmt.{decimal}
 use Rattle.std.specs.List.{All}
-use Rattle.std.specs.Str.{bytes_eq}
 use Rattle.std.proofs.lemmas.Bool.{le-ltb, leb-true, ne_eqb}
 use Rattle.std.proofs.lemmas.Bool.Decides.{Decides-eqb}
-use Rattle.std.proofs.lemmas.Fmt.{decimal_nonempty, length-decimal-le}
+use Rattle.std.proofs.lemmas.Fmt.{length-decimal-le}
 use Rattle.std.proofs.lemmas.List.{length-append}
 use Rattle.std.proofs.lemmas.List.Elements.{All-nil, All-cons, All-append}
 use Rattle.heap_words.specs.declared.config.Config.{Config}
@@ -14,7 +13,6 @@ use Rattle.object_graph.specs.Actors.{IsStepOf, IsEvent}
 use Rattle.object_graph.specs.declared.step.Register.{Register}
 use Rattle.object_graph.specs.declared.step.Action.{Action}
 use Rattle.object_graph.specs.declared.step.Action.TheVariants as actions
-use Rattle.object_graph.specs.declared.step.CollectorStep.{CollectorStep}
 use Rattle.object_graph.specs.declared.step.CollectorStep.TheVariants as collector
 use Rattle.object_graph.specs.declared.step.Actor.{Actor}
 use Rattle.object_graph.specs.declared.step.Actor.TheVariants as actors
@@ -25,14 +23,12 @@ use Rattle.object_graph.specs.declared.step.Reply.TheVariants as replies
 use Rattle.object_graph.specs.declared.step.Refusal.{Refusal}
 use Rattle.object_graph.specs.declared.step.Refusal.TheVariants as refusals
 use Rattle.object_graph.specs.declared.step.Event.{Event}
-use Rattle.script_text.specs.declared.fault.Kind.{Kind}
-use Rattle.script_text.specs.declared.fault.Kind.TheVariants as kinds
-use Rattle.script_text.specs.Reading.{small, large, number_of, action_of, collection_of}
-use Rattle.script_text.specs.Fits.{Fits, CollectionFits, StepFits, ReplyFits, EventFits}
-use Rattle.script_text.specs.Spelling.{register_word, value_word, global_word, action_words, collection_words, spaced}
+use Rattle.script_text.specs.Reading.{small, large}
+use Rattle.script_text.specs.Fits.{Fits, StepFits, ReplyFits, EventFits}
+use Rattle.script_text.specs.Spelling.{register_word, value_word, global_word, action_words, spaced}
 use Rattle.script_text.specs.Records.{actor_word, body_words, refusal_words, reply_words}
-use Rattle.script_text.specs.EventWords.{background_of, marker_step, refiner_step, taken_of, step_part, reply_part, reply_of, answer_of}
-use Rattle.script_text.specs.Lines.{or_fault, words_of, mutator_of}
+use Rattle.script_text.specs.EventWords.{background_of, marker_step, refiner_step, taken_of, answer_of}
+use Rattle.script_text.specs.Lines.{words_of}
 use Rattle.script_text.specs.Events.{foreground_of, actor_of, counted_of, event_of, event_line_of}
 use Rattle.script_text.proofs.Numbers.{number_of_some, first_is_digit, register_word_is}
 use Rattle.script_text.proofs.Actions.{action_again}

@@ -1,5 +1,5 @@
 -- A reply is read from its words, and from no others.
-use Rattle.std.proofs.Common.{◌≡◌, ℕ, ◌+◌, ◌^◌, ◌<◌, ◌≤◌, Bool, true, false, cond, eqb, List, [], ◌∷◌, length, get_or, Option, Some, None, refl, sym, ap, subst, ◌∙◌, arith, inl, inr}
+use Rattle.std.proofs.Common.{◌≡◌, ℕ, ◌<◌, ◌≤◌, Bool, true, false, cond, eqb, List, [], ◌∷◌, length, get_or, Option, Some, None, refl, sym, ap, subst, ◌∙◌, arith}
 use Rattle.std.specs.Prelude.{codes}
 use Rattle.std.specs.Fmt.{decimal}
 use Rattle.std.specs.Str.{bytes_eq}
@@ -15,7 +15,7 @@ use Rattle.script_text.specs.Fits.{ReplyFits}
 use Rattle.script_text.specs.Reading.{◌>>=◌, number_of, small, large}
 use Rattle.script_text.specs.EventWords.{numbered, refusal_of, name_or_word, lone_reply_of, pair_reply_of, long_reply_of, reply_of}
 use Rattle.script_text.proofs.Numbers.{number_of_some, number_of_is, first_is_digit}
-use Rattle.script_text.proofs.Actions.{option_bind, chosen}
+use Rattle.script_text.proofs.Actions.{option_bind}
 
 -- a reply, and its words
 pub record IsReply (words : List (List ℕ)) (r : Reply) : Type 0 where

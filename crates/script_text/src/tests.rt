@@ -221,7 +221,7 @@ fn beginnings_of_records(rt: HostRuntime) -> Result<(), Fail> {
         for end in 1..text.len() {
             let fault = record_fault_of(alloc, &text[..end]);
             if text[end - 1] == b'\n' {
-                line += 1;
+                line = line.saturating_add(1);
                 assert_eq!(rt; fault, None, "{end}");
             } else {
                 let cut = LineFault {

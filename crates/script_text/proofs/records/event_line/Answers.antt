@@ -1,4 +1,4 @@
-use Rattle.std.proofs.Common.{◌∙◌, sym}
+use Rattle.std.proofs.Common.{◌∙◌}
 use Rattle.script_text.proofs.ElevenEvents.{event_line_words}
 use Rattle.script_text.proofs.EventsRead.{event_line_known}
 use Rattle.script_text.proofs.records.event_line.Goals as goal
