@@ -26,11 +26,11 @@ pub result_bind : {A B E : Type 0} (r : Result A E) (f : A → Result B E) (y : 
 result_bind (Ok x) f y e = (x, refl, e)
 result_bind (Err d) f y e = absurd cc
 
-or_fault_is : {A : Type 0} (o : Option A) (k : Kind) (x : A) → or_fault o k ≡ Ok x → o ≡ Some x
+pub or_fault_is : {A : Type 0} (o : Option A) (k : Kind) (x : A) → or_fault o k ≡ Ok x → o ≡ Some x
 or_fault_is None k x e = absurd cc
 or_fault_is (Some y) k x e = cc
 
-either : {A E : Type 0} (b : Bool) (x y : Result A E) (z : A) → cond b x y ≡ Ok z → ((b ≡ true) × (x ≡ Ok z)) ⊎ ((b ≡ false) × (y ≡ Ok z))
+pub either : {A E : Type 0} (b : Bool) (x y : Result A E) (z : A) → cond b x y ≡ Ok z → ((b ≡ true) × (x ≡ Ok z)) ⊎ ((b ≡ false) × (y ≡ Ok z))
 either true x y z e = inl (refl, e)
 either false x y z e = inr (refl, e)
 
@@ -45,7 +45,7 @@ step_ok : (s t : Step) → found s ≡ found t → s ≡ t
 step_ok s t e = cc
 
 -- a number of a mutator
-mutator_is : (c : Config) (word : List ℕ) (m : ℕ) → mutator_of c word ≡ Ok m → (word ≡ decimal m) × (m < c.mutators)
+pub mutator_is : (c : Config) (word : List ℕ) (m : ℕ) → mutator_of c word ≡ Ok m → (word ≡ decimal m) × (m < c.mutators)
 unfolding mutator_of
 mutator_is c word m e =
     let read = result_bind (or_fault (number_of small word) kinds.BadActor) (λ n. cond (nat_lt n c.mutators) (Ok n) (Err kinds.BadActor)) m e in
@@ -102,7 +102,7 @@ pub record IsLine (c : Config) (text : List ℕ) (s : Step) : Type 0 where
   pub owned : IsStep c s
   pub fits : StepFits s
 
-joined : (text : List ℕ) (ws : List (List ℕ)) → words_of text ≡ ws → text ≡ spaced ws
+pub joined : (text : List ℕ) (ws : List (List ℕ)) → words_of text ≡ ws → text ≡ spaced ws
 joined text ws e = sym (join_with_byte-slice_split 32 text) ∙ ap spaced e
 
 words_line : (c : Config) (text : List ℕ) (s : Step) → step_of c (words_of text) ≡ Ok s → IsLine c text s
@@ -110,7 +110,7 @@ words_line c text s e =
     let step = step_is c (words_of text) s e in
     record { spelled = joined text (step_words s) step.spelled; owned = step.owned; fits = step.fits }
 
-too_long : {A : Type 0} (b : Bool) (k : Kind) (r : Result A Kind) (x : A) → cond b (Err k) r ≡ Ok x → r ≡ Ok x
+pub too_long : {A : Type 0} (b : Bool) (k : Kind) (r : Result A Kind) (x : A) → cond b (Err k) r ≡ Ok x → r ≡ Ok x
 too_long true k r x e = absurd cc
 too_long false k r x e = e
 

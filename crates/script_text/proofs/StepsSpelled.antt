@@ -24,7 +24,7 @@ use Rattle.script_text.proofs.Numbers.{number_of_some, first_is_digit}
 use Rattle.script_text.proofs.Actions.{action_again}
 use Rattle.script_text.proofs.Spelled.{IsWord, AreWords, literal, number_word, small_word, register_is_word, global_is_word, value_is_word, word1, word2, word3, word4, words_again, spaced_short, no_feed}
 
-action_is_words : (a : Action) → Fits a → AreWords (action_words a)
+pub action_is_words : (a : Action) → Fits a → AreWords (action_words a)
 action_is_words (actions.New to counts) fits = word4 _ _ _ _ (literal (codes "new") refl refl) (register_is_word to) (small_word counts.pointers fits.0) (small_word counts.values fits.1)
 action_is_words (actions.Get to object i) fits = word4 _ _ _ _ (literal (codes "get") refl refl) (register_is_word to) (register_is_word object) (small_word i fits)
 action_is_words (actions.Put object i value) fits = word4 _ _ _ _ (literal (codes "put") refl refl) (register_is_word object) (small_word i fits) (value_is_word value)
@@ -48,7 +48,7 @@ few_action_words (actions.Load to from) = omega arith
 few_action_words (actions.Save to from) = omega arith
 few_action_words (actions.Shape object) = omega arith
 
-collection_is_words : (k : CollectorStep) → CollectionFits k → AreWords (collection_words k)
+pub collection_is_words : (k : CollectorStep) → CollectionFits k → AreWords (collection_words k)
 collection_is_words collector.Begin fits = word1 _ (literal (codes "begin") refl refl)
 collection_is_words (collector.Mark k) fits = word2 _ _ (literal (codes "mark") refl refl) (small_word k fits)
 collection_is_words collector.Remark fits = word1 _ (literal (codes "remark") refl refl)
@@ -56,7 +56,7 @@ collection_is_words collector.Cleanup fits = word1 _ (literal (codes "cleanup") 
 collection_is_words (collector.Refine k) fits = word2 _ _ (literal (codes "refine") refl refl) (small_word k fits)
 collection_is_words (collector.Pause b) fits = word2 _ _ (literal (codes "pause") refl refl) (small_word b fits)
 
-few_collection_words : (k : CollectorStep) → length (collection_words k) ≤ 4
+pub few_collection_words : (k : CollectorStep) → length (collection_words k) ≤ 4
 few_collection_words collector.Begin = omega arith
 few_collection_words (collector.Mark k) = omega arith
 few_collection_words collector.Remark = omega arith
@@ -64,7 +64,7 @@ few_collection_words collector.Cleanup = omega arith
 few_collection_words (collector.Refine k) = omega arith
 few_collection_words (collector.Pause b) = omega arith
 
-collection_again : (k : CollectorStep) → CollectionFits k → collection_of (collection_words k) ≡ Some k
+pub collection_again : (k : CollectorStep) → CollectionFits k → collection_of (collection_words k) ≡ Some k
 unfolding collection_of
 collection_again collector.Begin fits = refl
 collection_again (collector.Mark k) fits = rw (number_of_some small (decimal k) k (omega arith) refl fits) refl
@@ -78,14 +78,14 @@ false_by true never = absurd (never refl)
 false_by false never = refl
 
 -- a number is no collector
-not_gc : (m : ℕ) → m < 2 ^ 64 → bytes_eq (decimal m) (codes "gc") ≡ false
+pub not_gc : (m : ℕ) → m < 2 ^ 64 → bytes_eq (decimal m) (codes "gc") ≡ false
 not_gc m fits = false_by (bytes_eq (decimal m) (codes "gc")) (λ e.
     let same : decimal m ≡ codes "gc" = (bytes_eq-Decides (decimal m) (codes "gc")).0 e in
     let digit = first_is_digit (decimal m) m fits refl in
     let first : get_or (decimal m) 0 0 ≡ 103 = ap (λ (w : List ℕ). get_or w 0 0) same in
     omega arith)
 
-mutator_again : (c : Config) (m : ℕ) → m < c.mutators → c.mutators ≤ small → mutator_of c (decimal m) ≡ Ok m
+pub mutator_again : (c : Config) (m : ℕ) → m < c.mutators → c.mutators ≤ small → mutator_of c (decimal m) ≡ Ok m
 unfolding mutator_of
 mutator_again c m known fits = rw (number_of_some small (decimal m) m (omega arith) refl (omega arith), lt-ltb m c.mutators known) refl
 
@@ -100,7 +100,7 @@ step_is_words c (steps.Collector k) few known fits = All-cons IsWord (codes "gc"
 
 step_short : (c : Config) (s : Step) → c.mutators ≤ small → IsStep c s → StepFits s → length (spaced (step_words s)) ≤ 120
 step_short c (steps.Mutator o) few known fits =
-    let first : length (decimal o.mutator) ≤ 20 = (small_word o.mutator (omega arith)).short in
+    let first : length (decimal o.mutator) ≤ 21 = (small_word o.mutator (omega arith)).short in
     let all = spaced_short (decimal o.mutator) (action_words o.action) (action_is_words o.action fits) in
     let count = few_action_words o.action in
     omega arith

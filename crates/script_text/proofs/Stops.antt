@@ -14,28 +14,28 @@ use Rattle.script_text.specs.Lines.{◌>>=◌, or_fault, at, words_of, pieces_of
 use Rattle.script_text.proofs.ReadOn.{fault, with_step, read_on, pieces_some, goes_on}
 
 -- a line's own fault is never want of memory
-abbrev Never : {A : Type 0} → Result A Kind → Type 0
+abbrev pub Never : {A : Type 0} → Result A Kind → Type 0
 Never r = r ≡ Err kinds.NoMemory → ⊥
 
-never_or : {A : Type 0} (o : Option A) (k : Kind) → (k ≡ kinds.NoMemory → ⊥) → Never (or_fault o k)
+pub never_or : {A : Type 0} (o : Option A) (k : Kind) → (k ≡ kinds.NoMemory → ⊥) → Never (or_fault o k)
 never_or None k other e = other (cc)
 never_or (Some x) k other e = cc
 
-never_cond : {A : Type 0} (b : Bool) (x y : Result A Kind) → Never x → Never y → Never (cond b x y)
+pub never_cond : {A : Type 0} (b : Bool) (x y : Result A Kind) → Never x → Never y → Never (cond b x y)
 never_cond true x y first second e = first e
 never_cond false x y first second e = second e
 
-never_bind : {A B : Type 0} (r : Result A Kind) (f : A → Result B Kind) → Never r → ((x : A) → Never (f x)) → Never (r >>= f)
+pub never_bind : {A B : Type 0} (r : Result A Kind) (f : A → Result B Kind) → Never r → ((x : A) → Never (f x)) → Never (r >>= f)
 never_bind (Ok x) f first second e = second x e
 never_bind (Err k) f first second e = first (cc)
 
-never_ok : {A : Type 0} (x : A) → Never (Ok x)
+pub never_ok : {A : Type 0} (x : A) → Never (Ok x)
 never_ok x e = cc
 
-never_err : {A : Type 0} (k : Kind) → (k ≡ kinds.NoMemory → ⊥) → Never {A = A} (Err k)
+pub never_err : {A : Type 0} (k : Kind) → (k ≡ kinds.NoMemory → ⊥) → Never {A = A} (Err k)
 never_err k other e = other (cc)
 
-mutator_never : (c : Config) (word : List ℕ) → Never (mutator_of c word)
+pub mutator_never : (c : Config) (word : List ℕ) → Never (mutator_of c word)
 unfolding mutator_of
 mutator_never c word =
     never_bind (or_fault (number_of small word) kinds.BadActor) (λ m. cond (nat_lt m c.mutators) (Ok m) (Err kinds.BadActor)) (never_or (number_of small word) kinds.BadActor (λ e. cc))
@@ -74,7 +74,7 @@ fault_is kinds.BadReply n text total other e = e
 abbrev wrong : LineFault → Result (List Step) LineFault
 wrong f = Err f
 
-at_line : (n : ℕ) (f g : LineFault) → f ≡ g → n ≤ f.line → n ≤ g.line
+pub at_line : (n : ℕ) (f g : LineFault) → f ≡ g → n ≤ f.line → n ≤ g.line
 at_line n f g e le = rw (sym e) le
 
 cut_later : (b : Bool) (n : ℕ) (f : LineFault) → cond b (Ok []) (Err (fault n kinds.Cut)) ≡ wrong f → n ≤ f.line

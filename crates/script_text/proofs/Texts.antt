@@ -30,7 +30,7 @@ record AreRead (c : Config) (text : List ℕ) (ss : List Step) : Type 0 where
   owned : All (IsStep c) ss
   fits : All StepFits ss
 
-at_ok : {A : Type 0} (n : ℕ) (r : Result A Kind) (x : A) → at n r ≡ Ok x → r ≡ Ok x
+pub at_ok : {A : Type 0} (n : ℕ) (r : Result A Kind) (x : A) → at n r ≡ Ok x → r ≡ Ok x
 at_ok n (Ok y) x e = cc
 at_ok n (Err k) x e = absurd cc
 

@@ -1,13 +1,16 @@
--- The scripts that have a text.
-use Rattle.std.specs.Prelude.{◌≤◌, All}
+-- The scripts and the records that have a text.
+use Rattle.std.specs.Prelude.{◌≤◌, All, None, Some, length}
 use Rattle.heap_words.specs.declared.config.Config.{Config}
-use Rattle.object_graph.specs.Actors.{StepList, AreSteps}
+use Rattle.object_graph.specs.Actors.{StepList, AreSteps, EventList, AreEvents}
 use Rattle.object_graph.specs.declared.step.Action.{Action}
 use Rattle.object_graph.specs.declared.step.Action.TheVariants as actions
 use Rattle.object_graph.specs.declared.step.CollectorStep.{CollectorStep}
 use Rattle.object_graph.specs.declared.step.CollectorStep.TheVariants as collector
 use Rattle.object_graph.specs.declared.step.Step.{Step}
 use Rattle.object_graph.specs.declared.step.Step.TheVariants as steps
+use Rattle.object_graph.specs.declared.step.Reply.{Reply}
+use Rattle.object_graph.specs.declared.step.Reply.TheVariants as replies
+use Rattle.object_graph.specs.declared.step.Event.{Event}
 use Rattle.script_text.specs.Reading.{small, large}
 
 -- the numbers of an action are those of its type
@@ -47,3 +50,25 @@ pub record IsScript (p : StepList) : Type 0 where
   pub config : ConfigFits p.config
   pub owned : AreSteps p.config p.steps
   pub fits : All StepFits p.steps
+
+abbrev pub ReplyFits : Reply → Type 0
+ReplyFits replies.Done = Unit {0}
+ReplyFits (replies.Named None) = Unit {0}
+ReplyFits (replies.Named (Some n)) = n ≤ large
+ReplyFits (replies.Word w) = w ≤ large
+ReplyFits (replies.Shape p d) = (p ≤ small) × (d ≤ small)
+ReplyFits (replies.Marked n) = n ≤ small
+ReplyFits (replies.Reclaimed n) = n ≤ small
+ReplyFits (replies.Refined n) = n ≤ small
+ReplyFits (replies.Moved n w) = (n ≤ small) × (w ≤ small)
+ReplyFits (replies.Refused why) = Unit {0}
+
+abbrev pub EventFits : Event → Type 0
+EventFits e = StepFits e.step × ReplyFits e.reply
+
+-- a record that has a text
+pub record IsRecord (r : EventList) : Type 0 where
+  pub config : ConfigFits r.config
+  pub owned : AreEvents r.config r.events
+  pub fits : All EventFits r.events
+  pub few : length r.events ≤ large

@@ -13,7 +13,7 @@ use object_graph::{Plan, Step};
 use std::alloc::Global;
 
 /// The most bytes of a line before its line feed.
-const LONGEST_LINE: usize = 120;
+pub(crate) const LONGEST_LINE: usize = 120;
 
 /// The sizes that a heap line's words give.
 #[tactic(auto, unfolding(crate::specs::Reading::heap_of))]
@@ -44,7 +44,7 @@ fn heap(words: &[&[u8]]) -> Option<Config>
 
 /// The sizes that the heap line gives.
 #[tactic(auto, unfolding(crate::specs::Lines::heap_line_of))]
-fn heap_line(line: &Line) -> Result<Config, Kind>
+pub(crate) fn heap_line(line: &Line) -> Result<Config, Kind>
     ensures { result ≡ heap_line_of line.now.bytes.now }
 {
     if line.bytes.len() > LONGEST_LINE {

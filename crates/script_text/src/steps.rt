@@ -163,7 +163,7 @@ fn lone_action(verb: &[u8], a: &[u8]) -> Option<Action>
 
 /// A mutator's step.
 #[tactic(auto, unfolding(crate::specs::Reading::action_of))]
-fn action(words: &[&[u8]]) -> Option<Action>
+pub(crate) fn action(words: &[&[u8]]) -> Option<Action>
     ensures { result ≡ action_of (map (λ w. w.now) words.now) }
 {
     match words {
@@ -176,7 +176,7 @@ fn action(words: &[&[u8]]) -> Option<Action>
 
 /// A step of the collector.
 #[tactic(auto, unfolding(crate::specs::Reading::collection_of))]
-fn collection(words: &[&[u8]]) -> Option<CollectorStep>
+pub(crate) fn collection(words: &[&[u8]]) -> Option<CollectorStep>
     ensures { result ≡ collection_of (map (λ w. w.now) words.now) }
 {
     match words {
@@ -211,7 +211,7 @@ fn collection(words: &[&[u8]]) -> Option<CollectorStep>
 
 /// The mutator that a word names.
 #[tactic(auto, unfolding(crate::specs::Lines::mutator_of))]
-fn mutator(config: &Config, word: &[u8]) -> Result<u32, Kind>
+pub(crate) fn mutator(config: &Config, word: &[u8]) -> Result<u32, Kind>
     ensures exact { result ≡ mutator_of config.now word.now }
     ensures known { IfOk result (λ m. m < config.now.mutators) }
 {

@@ -9,20 +9,20 @@ ghost use Rattle.object_graph.specs.declared.step.Register.{Register};
 
 use object_graph::{GlobalRoot, Register};
 
-/// A line without its line feed, and its words. Only the first seven are kept: no good line has more.
+/// A line without its line feed, and its words. Only the first eleven are kept: no good line has more.
 #[derive(Clone, Copy)]
 pub(crate) struct Line<'a> {
     pub(crate) bytes: &'a [u8],
-    words: [&'a [u8]; 7],
+    words: [&'a [u8]; 11],
     count: usize,
-    ghost within: { count ≤ 7 },
-    ghost split: { map (λ w. w.now) (take count words) ≡ take 7 (words_of bytes.now) },
+    ghost within: { count ≤ 11 },
+    ghost split: { map (λ w. w.now) (take count words) ≡ take 11 (words_of bytes.now) },
 }
 
 impl<'a> Line<'a> {
-    /// The first seven words.
+    /// The first eleven words.
     pub(crate) fn words(&self) -> &[&'a [u8]]
-        ensures { map (λ w. w.now) result.now ≡ take 7 (words_of self.now.bytes.now) }
+        ensures { map (λ w. w.now) result.now ≡ take 11 (words_of self.now.bytes.now) }
     {
         &self.words[..self.count]
     }
@@ -34,7 +34,7 @@ pub(crate) fn first_line(text: &[u8]) -> Option<Line<'_>>
     ensures within { IfSome result (λ l. length l.bytes.now < length text.now) }
     ensures none { IfNone result (pieces_of text.now ≡ text.now ∷ []) }
 {
-    let mut words: [&[u8]; 7] = [&text[..0]; 7];
+    let mut words: [&[u8]; 11] = [&text[..0]; 11];
     let mut count = 0;
     let mut start = 0;
     let mut at = 0;
@@ -45,7 +45,7 @@ pub(crate) fn first_line(text: &[u8]) -> Option<Line<'_>>
             continue;
         }
         if byte == b'\n' {
-            if count < 7 {
+            if count < 11 {
                 words[count] = &text[start..at];
                 count += 1;
             }
@@ -55,7 +55,7 @@ pub(crate) fn first_line(text: &[u8]) -> Option<Line<'_>>
                 count,
             });
         }
-        if byte == b' ' && count < 7 {
+        if byte == b' ' && count < 11 {
             words[count] = &text[start..at];
             count += 1;
             start = at + 1;
