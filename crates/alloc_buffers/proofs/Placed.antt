@@ -11,7 +11,7 @@ use Rattle.regions.specs.Tiles.{Tile, Gap, tile_at, total_size}
 use Rattle.regions.specs.declared.row.Kind.TheVariants as kinds
 use Rattle.regions.specs.Walks.{AllPositive, AreFitting}
 use Rattle.regions.specs.Table.{Table, Free, Ordinary, region_number, region_kind, used_of, top_of, kind_of, first_free, taken, push_tile, replace_tile, gap, tile_in, object_at, HasNoMoved, EachMoved, tile_object}
-use Rattle.regions.proofs.Placing.{Replaces, gap_replaced, Pushed, gap_push, region_taken}
+use Rattle.regions.proofs.Placing.{gap_total, gap_positive, gap_unmoved, Replaces, gap_replaced, Pushed, gap_push, region_taken}
 use Rattle.regions.proofs.Changes.{object_same}
 use Rattle.alloc_buffers.proofs.Above.{above_same, above_buffers, above_pushed, above_filler}
 use Rattle.alloc_buffers.specs.declared.Buffer.{Buffer}
@@ -30,18 +30,6 @@ object_none t y n e = rw e refl
 object_void : (t : Table) (y : ℕ) → tile_in t y ≡ None → object_at t y ≡ None
 unfolding object_at
 object_void t y e = rw e refl
-
-gap_positive : (r : ℕ) → AllPositive (gap r)
-gap_positive zero = tt
-gap_positive (suc r) = (omega arith, tt)
-
-gap_total : (r : ℕ) → total_size (gap r) ≡ r
-gap_total zero = refl
-gap_total (suc r) = omega arith
-
-gap_unmoved : (r : ℕ) → EachMoved (λ _. ⊥) (gap r)
-gap_unmoved zero = tt
-gap_unmoved (suc r) = tt
 
 alone_void : (n j : ℕ) → tile_object (tile_at j (gap n)) ≡ None
 alone_void zero j = refl

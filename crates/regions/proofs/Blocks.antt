@@ -15,7 +15,7 @@ use Rattle.regions.specs.Table.{Table, Region, Free, Ordinary, First, Rest, regi
 use Rattle.regions.proofs.Spliced.{IsOutside}
 use Rattle.regions.proofs.Fronts.{front_le, front_passes}
 use Rattle.regions.proofs.RunGone.{splice_one}
-use Rattle.regions.proofs.RunLaws.{regions_spliced}
+use Rattle.regions.proofs.RunLaws.{regions_spliced, frees}
 
 front_stops : {A : Type 0} (p : A → Bool) (xs : List A) (d : A) → front_count p xs < length xs → p (get_or xs (front_count p xs) d) ≡ false
 front_stops p [] d h = absurd (omega arith)
@@ -160,11 +160,6 @@ bit r = cond (is_free r) 1 0
 none_free : (xs : List Region) → ((j : ℕ) → j < length xs → is_free (get_or xs j Free) ≡ false) → sum_by bit xs ≡ 0
 none_free [] h = refl
 none_free (x ∷ xs) h = let first = ap {B = ℕ} (λ b. cond b 1 0) (h 0 (omega arith)) in omega (arith, sum_by-cons bit x xs, first, none_free xs (λ j lt. h (suc j) (omega arith)))
-
-frees : (m j : ℕ) → get_or (replicate m Free) j Free ≡ Free
-frees zero j = refl
-frees (suc m) zero = refl
-frees (suc m) (suc j) = frees m j
 
 frees_unmoved : (m : ℕ) → EachMovedIn (λ _. ⊥) (replicate m Free)
 frees_unmoved zero = tt

@@ -18,8 +18,8 @@ use Rattle.regions.proofs.Making.{length-regions_of}
 use Rattle.regions.proofs.ShapedMade.{shaped_of, first_object, kind_at}
 use Rattle.regions.proofs.Laws.{object_tile}
 use Rattle.regions.proofs.Changes.{WritesObject, pointer_put, value_put}
-use Rattle.regions.proofs.Placing.{Replaces, gap_replaced, gap_push, region_taken}
-use Rattle.regions.proofs.RunLaws.{Releases, ordinary_released, run_released, run_made}
+use Rattle.regions.proofs.Placing.{gap_total, gap_positive, gap_unmoved, Replaces, gap_replaced, gap_push, region_taken}
+use Rattle.regions.proofs.RunLaws.{frees, Releases, ordinary_released, run_released, run_made}
 use Rattle.regions.proofs.TileLaws.{Forwards, object_forwarded}
 use Rattle.regions.proofs.ObjectWords.{words_of}
 use Rattle.regions.proofs.FirstTiles.{entries_added, entries_same, entries_fewer, entries_cut, if_between, if_below, if_above}
@@ -46,11 +46,6 @@ pub free_entries : (count size : ℕ) (entries : Entries) → AreEntries (free_t
 unfolding free_table tile_in region_at
 free_entries count size entries a c u h low high = absurd (let z : None ≡ Some u = sym (none (a / size)) ∙ h in cc)
   where
-    frees : (m j : ℕ) → get_or (replicate m Free) j Free ≡ Free
-    frees zero j = refl
-    frees (suc m) zero = refl
-    frees (suc m) (suc j) = frees m j
-
     none : (k : ℕ) → region_tile (get_or (replicate count Free) k Free) (a % size) ≡ None
     none k = ap (λ (r : Region). region_tile r (a % size)) (frees count k)
 
@@ -236,18 +231,6 @@ module _ (size shift lowest : ℕ) (entries : Entries) (words : List ℕ) (rows 
       let cut = gap_replaced t x n (tile ∷ gap r) shaped.positive shaped.fitting was (omega arith) (some, gap_positive r) total (joined_unmoved tile r unmoved) in
       cut_sound mid new words' (replace_tile t x (tile ∷ gap r)) x n r tile cut was some sum len len2 each each2 (rw b_is at first) (rw (at_is, end_is) at second) w
     where
-      gap_total : (r : ℕ) → total_size (gap r) ≡ r
-      gap_total zero = refl
-      gap_total (suc r) = omega arith
-
-      gap_positive : (r : ℕ) → AllPositive (gap r)
-      gap_positive zero = tt
-      gap_positive (suc r) = (omega arith, tt)
-
-      gap_unmoved : (r : ℕ) → EachMoved (λ _. ⊥) (gap r)
-      gap_unmoved zero = tt
-      gap_unmoved (suc r) = tt
-
       joined_unmoved : (u : Tile) (r : ℕ) → EachMoved (λ _. ⊥) (u ∷ []) → EachMoved (λ _. ⊥) (u ∷ gap r)
       joined_unmoved (Live o) r h = gap_unmoved r
       joined_unmoved (Gap m) r h = gap_unmoved r

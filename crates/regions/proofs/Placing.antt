@@ -6,7 +6,7 @@ use Rattle.std.proofs.lemmas.Bool.{cases_lt, cases_eq, le-leb, lt-leb}
 use Rattle.std.proofs.lemmas.Bool.Decides.{leb_tells}
 use Rattle.std.proofs.lemmas.Nat.{div-mul-add}
 use Rattle.regions.specs.Tiles.{Tile, Gap, tile_size, tile_at, replace, total_size}
-use Rattle.regions.specs.Table.{Region, Free, Ordinary, First, Rest, Table, region_tile, region_at, region_number, tile_in, kind_of, region_kind, HasNoMoved, EachMoved, replace_tile, region_replaced, push_tile, region_with_tile, used_of, region_used, top_of, taken, first_free, is_free}
+use Rattle.regions.specs.Table.{Region, Free, Ordinary, First, Rest, Table, region_tile, region_at, region_number, tile_in, kind_of, region_kind, HasNoMoved, EachMoved, replace_tile, region_replaced, push_tile, region_with_tile, used_of, region_used, top_of, taken, first_free, is_free, gap}
 use Rattle.regions.specs.Walks.{AllPositive, AreFitting, tiles_of, region_tiles}
 use Rattle.regions.proofs.Laws.{known_region}
 use Rattle.regions.proofs.Parse.{past}
@@ -87,6 +87,19 @@ pub tile_at-end : (ts : List Tile) (o : ℕ) (u : Tile) → tile_at o ts ≡ Som
 tile_at-end [] o u f = cc
 tile_at-end (t ∷ ts) zero u f = let same : t ≡ u = cc in let size : tile_size t ≡ tile_size u = ap tile_size same in omega arith
 tile_at-end (t ∷ ts) (suc o) u f = let p = past (tile_size t) (suc o) _ u f in let i = tile_at-end ts (suc o - tile_size t) u p.1 in omega (arith, p.0)
+
+-- a filler, unless it has no words
+pub gap_total : (r : ℕ) → total_size (gap r) ≡ r
+gap_total zero = refl
+gap_total (suc r) = omega arith
+
+pub gap_positive : (r : ℕ) → AllPositive (gap r)
+gap_positive zero = tt
+gap_positive (suc r) = (omega arith, tt)
+
+pub gap_unmoved : (r : ℕ) → EachMoved (λ _. ⊥) (gap r)
+gap_unmoved zero = tt
+gap_unmoved (suc r) = tt
 
 -- a filler gives way to tiles of its size
 pub record Replaces (t t' : Table) (x n : ℕ) (new : List Tile) : Type 0 where

@@ -62,7 +62,7 @@ pub record Releases (t t' : Table) (k m : ℕ) : Type 0 where
   pub others : (y : ℕ) → IsOutside k m (y / t.words_per_region) → tile_in t' y ≡ tile_in t y
   pub unmoved : HasNoMoved t → HasNoMoved t'
 
-frees : (m j : ℕ) → get_or (replicate m Free) j Free ≡ Free
+pub frees : (m j : ℕ) → get_or (replicate m Free) j Free ≡ Free
 frees zero j = refl
 frees (suc m) zero = refl
 frees (suc m) (suc j) = frees m j

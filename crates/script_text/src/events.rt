@@ -1,9 +1,8 @@
 //! Events, read from the words of their lines.
 
-ghost use Rattle.std.specs.Prelude.{◌≡◌, ◌≤◌, ◌<◌, map, length, IfOk, IfSome};
+ghost use Rattle.std.specs.Prelude.{◌≡◌, ◌≤◌, map, length};
 ghost use Rattle.script_text.specs.EventWords.{background_of, marker_step, refiner_step, taken_of, equals_at, step_part, answer_of};
 ghost use Rattle.script_text.specs.Events.{actor_of, counted_of, event_of};
-ghost use Rattle.object_graph.specs.Actors.{IsEvent, IsStepOf};
 
 use crate::fault::Kind;
 use crate::replies::reply;
