@@ -8,8 +8,8 @@ use Rattle.script_text.specs.declared.fault.WriteFault.{WriteFault}
 use Rattle.script_text.specs.declared.fault.WriteFault.TheVariants as writes
 use Rattle.step_core.specs.declared.runs.RunFault.{RunFault}
 use Rattle.step_core.specs.declared.runs.RunFault.TheVariants as runs
-use Rattle.g1heap.specs.declared.script.ScriptFault.{ScriptFault}
-use Rattle.g1heap.specs.declared.script.ScriptFault.TheVariants.{Read, Line, Run, Write}
+use Rattle.g1heap.specs.declared.faults.JobFault.{JobFault}
+use Rattle.g1heap.specs.declared.faults.JobFault.TheVariants.{Read, Line, Run, Write}
 
 abbrev pub sizes_words : NewFault → List ℕ
 sizes_words sizes.BadRegions = codes "heap: 1 BadRegions"
@@ -30,15 +30,15 @@ abbrev pub write_words : WriteFault → List ℕ
 write_words writes.CannotWrite = codes "cannot write"
 write_words writes.NoMemory = codes "run: 2 NoMemory"
 
-abbrev pub fault_words : ScriptFault → List ℕ
+abbrev pub fault_words : JobFault → List ℕ
 fault_words (Read fault) = codes "cannot read"
 fault_words (Line fault) = fault_text fault
 fault_words (Run fault) = run_words fault
 fault_words (Write fault) = write_words fault
 
-abbrev pub fault_line : ScriptFault → List ℕ
+abbrev pub fault_line : JobFault → List ℕ
 fault_line fault = codes "g1heap: " ++ fault_words fault ++ 10 ∷ []
 
 -- the fault's line was written, or, where that failed, a beginning of it
-abbrev pub TellsLine : ScriptFault → Option (List ℕ) → Option (List ℕ) → Type 0
+abbrev pub TellsLine : JobFault → Option (List ℕ) → Option (List ℕ) → Type 0
 TellsLine fault old new = (n : ℕ) × (n ≤ length (fault_line fault)) × Appends old new (take n (fault_line fault))

@@ -10,8 +10,8 @@ use Rattle.script_text.specs.Records.{record_text}
 use Rattle.step_core.specs.Histories.{step_of, actor_in, actor_of, IsRunFault, RunsFromNew}
 use Rattle.script_text.specs.declared.fault.WriteFault.TheVariants as writes
 use Rattle.g1heap.specs.FaultLines.{TellsLine}
-use Rattle.g1heap.specs.declared.script.ScriptFault.{ScriptFault}
-use Rattle.g1heap.specs.declared.script.ScriptFault.TheVariants.{Read, Line, Run, Write}
+use Rattle.g1heap.specs.declared.faults.JobFault.{JobFault}
+use Rattle.g1heap.specs.declared.faults.JobFault.TheVariants.{Read, Line, Run, Write}
 
 -- the input is a script, and the record has its heap line and its steps, each with its actor. It is a run of the graph, and the events are
 -- those of a new heap's cores
@@ -39,7 +39,7 @@ GivesAll given left input = Consumes given left input × IsAtEnd left
 
 -- How a script's run ended: what the reader gave, of which `given` stood before and `left` stands after, and what the writer took, from
 -- `old` to `new`. A record is written at Ok alone; a beginning of it where a write failed; otherwise nothing.
-abbrev pub Ends : Option (List ℕ) → Option (List ℕ) → Option (List ℕ) → Option (List ℕ) → Result ⊤ ScriptFault → Type 0
+abbrev pub Ends : Option (List ℕ) → Option (List ℕ) → Option (List ℕ) → Option (List ℕ) → Result ⊤ JobFault → Type 0
 Ends given left old new (Ok done) = (input : List ℕ) × GivesAll given left input × WritesRecord input old new
 Ends given left old new (Err (Read fault)) = ((some : List ℕ) × Consumes given left some) × Keeps old new
 Ends given left old new (Err (Line fault)) = (input : List ℕ) × GivesAll given left input × FailsBy fault.kind fault input (script_of input) × Keeps old new
@@ -47,12 +47,12 @@ Ends given left old new (Err (Run fault)) = (input : List ℕ) × GivesAll given
 Ends given left old new (Err (Write fault)) = (input : List ℕ) × GivesAll given left input × WritesBeginning input old new × (fault ≡ writes.NoMemory → Keeps old new)
 
 -- the status that tells how a run ended, and what standard error took: nothing where the job is done, else the fault's line
-abbrev pub Tells : Option (List ℕ) → Option (List ℕ) → Result ⊤ ScriptFault → ℕ → Type 0
+abbrev pub Tells : Option (List ℕ) → Option (List ℕ) → Result ⊤ JobFault → ℕ → Type 0
 Tells old new (Ok done) status = (status ≡ 0) × Keeps old new
 Tells old new (Err fault) status = (status ≡ 1) × TellsLine fault old new
 
 -- A run ended so, and its end was told so. The status is 0 exactly where it ended well.
 pub record Performs (given left old new err err' : Option (List ℕ)) (status : ℕ) : Type 0 where
-  pub outcome : Result ⊤ ScriptFault
+  pub outcome : Result ⊤ JobFault
   pub ends : Ends given left old new outcome
   pub tells : Tells err err' outcome status

@@ -1,14 +1,27 @@
-//! The lines on standard error, one for each fault.
+//! Why a job wasn't done, and the lines on standard error, one for each fault.
 
 ghost use Rattle.std.specs.Prelude.{◌≡◌, ℕ, ◌≤◌, ◌<◌, ◌+◌, ◌++◌, OnOk, OnErr, length, take};
 ghost use Rattle.std.specs.Io.KnownBytes.{Appends};
 ghost use Rattle.g1heap.specs.FaultLines.{sizes_words, run_words, write_words, fault_words, fault_line};
 
-use crate::script::ScriptFault;
 use heap_words::config::NewFault;
-use script_text::{WriteFault, put_fault, put_text, write_bytes};
+use script_text::{LineFault, ReadFault, WriteFault, put_fault, put_text, write_bytes};
 use std::io::Write;
 use step_core::RunFault;
+use thiserror::Error;
+
+/// Why a job wasn't done, by the part that failed.
+#[derive(Clone, Copy, Debug, PartialEq, Eq, Error)]
+pub enum JobFault {
+    #[error("cannot read")]
+    Read(ReadFault),
+    #[error("{0}")]
+    Line(LineFault),
+    #[error("run: {0}")]
+    Run(RunFault),
+    #[error("cannot write")]
+    Write(WriteFault),
+}
 
 /// The room that a line needs.
 const ROOM: usize = 64;
@@ -50,21 +63,21 @@ fn write_words(fault: WriteFault) -> &'static [u8]
 }
 
 /// Puts a fault's words behind the first `at` bytes of a buffer, and answers where they end.
-fn put_words(buffer: &mut [u8], at: usize, fault: ScriptFault) -> usize
+fn put_words(buffer: &mut [u8], at: usize, fault: JobFault) -> usize
     requires { at + 40 ≤ length buffer.old }
     ensures put { take result buffer.new ≡ take at buffer.old ++ fault_words fault }
     ensures end { result ≤ at + 40 }
 {
     match fault {
-        ScriptFault::Read(_) => put_text(buffer, at, b"cannot read"),
-        ScriptFault::Line(fault) => put_fault(buffer, at, fault),
-        ScriptFault::Run(fault) => put_text(buffer, at, run_words(fault)),
-        ScriptFault::Write(fault) => put_text(buffer, at, write_words(fault)),
+        JobFault::Read(_) => put_text(buffer, at, b"cannot read"),
+        JobFault::Line(fault) => put_fault(buffer, at, fault),
+        JobFault::Run(fault) => put_text(buffer, at, run_words(fault)),
+        JobFault::Write(fault) => put_text(buffer, at, write_words(fault)),
     }
 }
 
 /// Writes a fault's line. Where that fails, a beginning of the line is written.
-pub fn tell<E: Write>(fault: ScriptFault, err: &mut E) -> Result<(), WriteFault>
+pub fn tell<E: Write>(fault: JobFault, err: &mut E) -> Result<(), WriteFault>
     ensures ok { OnOk result (Appends (E.contents err.old) (E.contents err.new) (fault_line fault)) }
     ensures err { OnErr result ((n : ℕ) × (n < length (fault_line fault)) × Appends (E.contents err.old) (E.contents err.new) (take n (fault_line fault))) }
 {

@@ -2,15 +2,15 @@
 
 ghost use Rattle.g1heap.specs.Runs.{Tells, Performs};
 
-use crate::faults::tell;
+use crate::faults::{JobFault, tell};
 use crate::job::{Job, Task};
-use crate::script::{ScriptFault, run_script};
+use crate::script::run_script;
 use std::alloc::Global;
 use std::io::{Read, Write};
 
 /// Tells how a job ended, and answers the program's status: 0 where it is done, else 1, with the fault's line on standard error. That a
 /// write of this line fails changes nothing.
-pub fn conclude<E: Write>(outcome: Result<(), ScriptFault>, err: &mut E) -> u8
+pub fn conclude<E: Write>(outcome: Result<(), JobFault>, err: &mut E) -> u8
     ensures { Tells (E.contents err.old) (E.contents err.new) outcome result }
 {
     match outcome {

@@ -6,9 +6,9 @@ ghost use Rattle.clap.specs.Values.{kind_of};
 ghost use Rattle.g1heap.specs.FaultLines.{TellsLine};
 ghost use Rattle.g1heap.specs.Runs.{Performs};
 
+use crate::faults::JobFault;
 use crate::job::{Job, misspelt, read_words};
 use crate::perform::{conclude, perform};
-use crate::script::ScriptFault;
 use clap::Error;
 use clap::error::ErrorKind;
 use script_text::ReadFault;
@@ -31,19 +31,19 @@ pub fn open_and_perform<F: Files, W: Write, E: Write>(
 {
     match fs::open(files, job.file()) {
         Ok(mut file) => perform(alloc, job, &mut file, out, err),
-        Err(_) => conclude(Err(ScriptFault::Read(ReadFault::CannotRead)), err),
+        Err(_) => conclude(Err(JobFault::Read(ReadFault::CannotRead)), err),
     }
 }
 
 /// Answers words that ask for no job: status 0 for help, which goes to standard output, and 2 for a mistake, whose text goes to
 /// standard error; 1 where memory was refused.
 pub fn refuse<W: Write, E: Write>(error: &Error, out: &mut W, err: &mut E) -> u8
-    ensures memory { kind_of error.now ≡ ErrorKind.OutOfMemory → (result ≡ 1) × Keeps (W.contents out.old) (W.contents out.new) × TellsLine (ScriptFault.Run RunFault.NoMemory) (E.contents err.old) (E.contents err.new) }
+    ensures memory { kind_of error.now ≡ ErrorKind.OutOfMemory → (result ≡ 1) × Keeps (W.contents out.old) (W.contents out.new) × TellsLine (JobFault.Run RunFault.NoMemory) (E.contents err.old) (E.contents err.new) }
     ensures mistake { kind_of error.now ≢ ErrorKind.OutOfMemory → kind_of error.now ≢ ErrorKind.DisplayHelp → kind_of error.now ≢ ErrorKind.DisplayVersion → (result ≡ 2) × Keeps (W.contents out.old) (W.contents out.new) }
     ensures help { (kind_of error.now ≡ ErrorKind.DisplayHelp) ⊎ (kind_of error.now ≡ ErrorKind.DisplayVersion) → (result ≡ 0) × Keeps (E.contents err.old) (E.contents err.new) }
 {
     if error.kind() == ErrorKind::OutOfMemory {
-        return conclude(Err(ScriptFault::Run(RunFault::NoMemory)), err);
+        return conclude(Err(JobFault::Run(RunFault::NoMemory)), err);
     }
     if error.use_stderr() {
         let _ = write!(err, "{error}");
@@ -72,7 +72,7 @@ pub fn program<R: Env + Files + AllocGlobal, W: Write, E: Write>(
         Ok(words) => words,
         Err(error) => {
             if error.kind() == io::ErrorKind::OutOfMemory {
-                return conclude(Err(ScriptFault::Run(RunFault::NoMemory)), err);
+                return conclude(Err(JobFault::Run(RunFault::NoMemory)), err);
             }
             return refuse(&misspelt(rt.alloc()), out, err);
         }

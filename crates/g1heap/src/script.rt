@@ -2,24 +2,11 @@
 
 ghost use Rattle.g1heap.specs.Runs.{Ends};
 
-use script_text::{LineFault, ReadFault, WriteFault, parse, read_text, write_record};
+use crate::faults::JobFault;
+use script_text::{parse, read_text, write_record};
 use std::alloc::Global;
 use std::io::{Read, Write};
-use step_core::{RunFault, run};
-use thiserror::Error;
-
-/// Why no record was written, by the part that failed.
-#[derive(Clone, Copy, Debug, PartialEq, Eq, Error)]
-pub enum ScriptFault {
-    #[error("cannot read")]
-    Read(ReadFault),
-    #[error("{0}")]
-    Line(LineFault),
-    #[error("run: {0}")]
-    Run(RunFault),
-    #[error("cannot write")]
-    Write(WriteFault),
-}
+use step_core::run;
 
 /// Reads a script to the end of input, runs it in a new heap, and writes its record. Nothing is written
 /// before the run has ended well.
@@ -27,26 +14,26 @@ pub fn run_script<R: Read, W: Write>(
     alloc: Global,
     reader: &mut R,
     writer: &mut W,
-) -> Result<(), ScriptFault>
+) -> Result<(), JobFault>
     ensures { Ends (R.remaining reader.old) (R.remaining reader.new) (W.contents writer.old) (W.contents writer.new) result }
 {
     let text = match read_text(alloc, reader) {
         Ok(text) => text,
-        Err(fault) => return Err(ScriptFault::Read(fault)),
+        Err(fault) => return Err(JobFault::Read(fault)),
     };
     let plan = match parse(alloc, text.as_slice()) {
         Ok(plan) => plan,
-        Err(fault) => return Err(ScriptFault::Line(fault)),
+        Err(fault) => return Err(JobFault::Line(fault)),
     };
     drop(text);
     let config = plan.config();
     let history = match run(alloc, &config, plan.steps()) {
         Ok(history) => history,
-        Err(fault) => return Err(ScriptFault::Run(fault)),
+        Err(fault) => return Err(JobFault::Run(fault)),
     };
     drop(plan);
     match write_record(alloc, &history, writer) {
         Ok(()) => Ok(()),
-        Err(fault) => Err(ScriptFault::Write(fault)),
+        Err(fault) => Err(JobFault::Write(fault)),
     }
 }

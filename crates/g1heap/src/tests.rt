@@ -5,10 +5,9 @@ mod drawn;
 mod programs;
 mod records;
 
-use crate::faults::tell;
+use crate::faults::{JobFault, tell};
 use crate::job::{Task, read_words};
 use crate::perform::{conclude, perform};
-use crate::script::ScriptFault;
 use cases::CASES;
 use heap_words::config::NewFault;
 use records::RECORDS;
@@ -269,38 +268,38 @@ fn broken_writer(rt: HostRuntime) -> Result<(), Fail> {
 }
 
 /// The words of each fault's line.
-static FAULTS: [(ScriptFault, &str); 13] = [
-    (ScriptFault::Read(ReadFault::CannotRead), "cannot read"),
-    (ScriptFault::Read(ReadFault::NoMemory), "cannot read"),
+static FAULTS: [(JobFault, &str); 13] = [
+    (JobFault::Read(ReadFault::CannotRead), "cannot read"),
+    (JobFault::Read(ReadFault::NoMemory), "cannot read"),
     (
-        ScriptFault::Line(LineFault {
+        JobFault::Line(LineFault {
             line: 18_446_744_073_709_551_615,
             kind: Kind::LongLine,
         }),
         "line 18446744073709551615: 2 LongLine",
     ),
-    (ScriptFault::Run(RunFault::BadWorkers), "run: 1 BadWorkers"),
-    (ScriptFault::Run(RunFault::NoMemory), "run: 2 NoMemory"),
-    (ScriptFault::Run(RunFault::NoWorker), "run: 3 NoWorker"),
-    (ScriptFault::Run(RunFault::Unfinished), "run: 4 Unfinished"),
+    (JobFault::Run(RunFault::BadWorkers), "run: 1 BadWorkers"),
+    (JobFault::Run(RunFault::NoMemory), "run: 2 NoMemory"),
+    (JobFault::Run(RunFault::NoWorker), "run: 3 NoWorker"),
+    (JobFault::Run(RunFault::Unfinished), "run: 4 Unfinished"),
     (
-        ScriptFault::Run(RunFault::Heap(NewFault::BadRegions)),
+        JobFault::Run(RunFault::Heap(NewFault::BadRegions)),
         "heap: 1 BadRegions",
     ),
     (
-        ScriptFault::Run(RunFault::Heap(NewFault::BadWords)),
+        JobFault::Run(RunFault::Heap(NewFault::BadWords)),
         "heap: 2 BadWords",
     ),
     (
-        ScriptFault::Run(RunFault::Heap(NewFault::BadBuffer)),
+        JobFault::Run(RunFault::Heap(NewFault::BadBuffer)),
         "heap: 3 BadBuffer",
     ),
     (
-        ScriptFault::Run(RunFault::Heap(NewFault::BadMutators)),
+        JobFault::Run(RunFault::Heap(NewFault::BadMutators)),
         "heap: 4 BadMutators",
     ),
-    (ScriptFault::Write(WriteFault::CannotWrite), "cannot write"),
-    (ScriptFault::Write(WriteFault::NoMemory), "run: 2 NoMemory"),
+    (JobFault::Write(WriteFault::CannotWrite), "cannot write"),
+    (JobFault::Write(WriteFault::NoMemory), "run: 2 NoMemory"),
 ];
 
 /// The line and the status of each fault.

@@ -1,7 +1,7 @@
 use Rattle.std.proofs.Common.{[], None, Err}
 use Rattle.std.proofs.KnownBytes.{Keeps-refl}
 use Rattle.script_text.specs.declared.fault.ReadFault.TheVariants as reads
-use Rattle.g1heap.specs.declared.script.ScriptFault.TheVariants as faults
+use Rattle.g1heap.specs.declared.faults.JobFault.TheVariants as faults
 use Rattle.g1heap.proofs.program.open_and_perform.Goals as goal
 
 pub returns-in-Err : goal.returns-in-Err
