@@ -10,7 +10,6 @@ use Rattle.regions.specs.Table.{Table, Region, Free, Ordinary, First, Rest, regi
 use Rattle.regions.specs.Rows.{table_of, IsSound, AreUsedBelow, sizes_in}
 use Rattle.regions.specs.FirstTiles.{Entries, AreEntries, entry_of, last_card}
 use Rattle.regions.specs.Shaped.{IsShaped}
-use Rattle.regions.specs.Walks.{AllPositive}
 use Rattle.regions.specs.declared.row.Kind.TheVariants as kinds
 use Rattle.regions.specs.declared.row.Row.{Row}
 use Rattle.regions.proofs.Targets.{IsWrittenTable}
@@ -51,6 +50,13 @@ free_entries count size entries a c u h low high = absurd (let z : None ≡ Some
 
 pub new_size : (name p d : ℕ) → tile_size (Live (new_object name p d)) ≡ 2 + p + d
 new_size name p d = omega (arith, length-replicate {A = Option ℕ} p None, length-replicate {A = ℕ} d 0)
+
+-- the entries of a filler, by other names of its place and size
+pub filler_entries : (size shift lowest : ℕ) (entries : Entries) (words : List ℕ) (rows : List Row) (t : Table) (x n at m c : ℕ) → IsSound size shift lowest entries words rows → table_of size words rows ≡ t
+    → tile_in t x ≡ Some (Gap n) → at ≡ x → m ≡ n → at ≤ c * entries.card_words → c * entries.card_words < at + m
+    → get_or entries.starts c 0 ≡ entry_of entries.card_words at (Gap m) (c * entries.card_words)
+filler_entries size shift lowest entries words rows t x n at m c s e was there long low high =
+    s.first_tiles at c (Gap m) (ap (λ (u : Table). tile_in u at) e ∙ ap (tile_in t) there ∙ was ∙ ap (λ (k : ℕ). Some (Gap k)) (sym long)) low high
 
 -- what was written for a tile, by another name of its place and size
 pub filler_written : (new old : List ℕ) (cw at x n m : ℕ) → at ≡ x → n ≡ m

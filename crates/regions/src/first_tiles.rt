@@ -48,7 +48,7 @@ fn card_from(shift: u32, word: u32) -> u32
     requires small { word ≤ 2 ^ 20 }
     ensures { result ≡ div_ceil word (2 ^ shift) }
 {
-    (word + ((1 << shift) - 1)) >> shift
+    (word + (1 << shift) - 1) >> shift
 }
 
 /// The cards from one on up to another, which is not one of them, have this entry.
@@ -158,6 +158,25 @@ impl FirstTiles {
         ensures len { length self.new.starts ≡ length self.old.starts }
         ensures entries { (c : ℕ) → slice_index self.new.starts c ≡ (if is_between at (at + size) (c * self.old.card_words) then at else slice_index self.old.starts c) }
     {
+        write_entries(&mut self.starts, self.shift, at, at + size, at);
+    }
+
+    /// An object takes the front of a filler, whose entries stand. Where it fills the filler, and this is no longer than a card,
+    /// they are the object's own.
+    pub(crate) fn put_front(&mut self, at: u32, size: u32, filler: u32)
+        requires room { size ≤ filler }
+        requires within { at + filler ≤ length self.old.starts * self.old.card_words }
+        requires small { at + filler ≤ 2 ^ 20 }
+        requires entries { (c : ℕ) → at ≤ c * self.old.card_words → c * self.old.card_words < at + filler → slice_index self.old.starts c ≡ entry_of self.old.card_words at (Gap filler) (c * self.old.card_words) }
+        ensures card_words { self.new.card_words ≡ self.old.card_words }
+        ensures len { length self.new.starts ≡ length self.old.starts }
+        ensures entries { (c : ℕ) → slice_index self.new.starts c ≡ (if is_between at (at + size) (c * self.old.card_words) then at else slice_index self.old.starts c) }
+    {
+        if size == filler {
+            if size <= self.card_words {
+                return;
+            }
+        }
         write_entries(&mut self.starts, self.shift, at, at + size, at);
     }
 

@@ -141,7 +141,7 @@ impl RegionTable {
         let size = 2 + counts.pointers.get() + counts.values.get();
         self.words.write_object(at, name, counts);
         write_gap(&mut self.words, at.word() + size, filler.get() - size);
-        self.first_tiles.put_object(at.word(), size);
+        self.first_tiles.put_front(at.word(), size, filler.get());
         self.first_tiles
             .move_filler(at.word() + size, at.word() + filler.get());
     }
