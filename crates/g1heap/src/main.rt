@@ -10,6 +10,7 @@
 //! written before the run has ended well.
 #![tactic(auto)]
 
+mod actors;
 mod faults;
 mod job;
 mod perform;
