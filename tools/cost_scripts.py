@@ -20,6 +20,9 @@ regions of 1,024 words, the largest that a heap line allows.
 | chain_in_order | 100 marking cycles over a list of 10,000 objects, each of which names the next one behind it |
 | chain_apart | the same, and every other object lies in the other half of the heap |
 | chain_in_order_base, chain_apart_base | the same without their marking cycles |
+| actors_1, actors_16 | 50,000 steps of 1 or 16 mutators, in turn, each on an object of its own |
+| actors_1_base, actors_16_base | the same with 10,000 steps |
+| actors_1_long, actors_16_long | the same with 1,000,000 steps |
 
 A pause copies at most half of the free words, so never more than a third of the heap, here 349,525 words.
 """
@@ -36,6 +39,7 @@ LONG_WORDS = 341348
 CHAIN_WORDS = 102
 CHAIN_HALF = 5000
 CHAIN_CYCLES = 100
+ACTOR_STEPS = {"": 50000, "_base": 10000, "_long": 1000000}
 
 
 def heap(buffer, mutators=1, regions=REGIONS):
@@ -232,6 +236,13 @@ def chain_apart(cycles):
     return lines + [f"0 drop r{register}" for register in range(3)] + ["gc begin", "gc remark"] * cycles
 
 
+def actors(mutators, steps):
+    """Steps that take no place and mark nothing, so that each costs the same in whatever order they come."""
+    lines = [heap(8, mutators, 64)] + [f"{mutator} new r0 {shape(4, 1)}" for mutator in range(mutators)]
+    kinds = ("get r1 r0 0", "read r0 0")
+    return lines + [f"{step % mutators} {kinds[step // mutators % 2]}" for step in range(steps)]
+
+
 SCRIPTS = {
     "no_steps": no_steps,
     "pauses": pauses,
@@ -250,6 +261,8 @@ SCRIPTS = {
     "chain_in_order_base": lambda: chain_in_order(0),
     "chain_apart": lambda: chain_apart(CHAIN_CYCLES),
     "chain_apart_base": lambda: chain_apart(0),
+    **{f"actors_{count}{ending}": lambda count=count, steps=steps: actors(count, steps)
+       for count in (1, 16) for ending, steps in ACTOR_STEPS.items()},
 }
 
 

@@ -3,14 +3,33 @@
 ghost use Rattle.std.specs.Prelude.{◌≡◌};
 
 use clap::error::ErrorKind;
-use clap::{Arg, ArgAction, Command, Error};
+use clap::{Arg, ArgAction, ArgMatches, Command, Error, value_parser};
 use std::alloc::{AllocError, Global};
+
+/// In which order the steps of a script are done.
+#[derive(Clone, Copy, Debug, PartialEq, Eq)]
+pub enum Order {
+    /// That of the file.
+    File,
+    /// Each actor's lines in their order, the actors in turns that a seed draws.
+    Drawn {
+        seed: u64,
+        refiners: u32,
+        markers: u32,
+    },
+    /// Each actor's lines in their order, the actors in turns that threads come to.
+    Threads {
+        workers: u32,
+        refiners: u32,
+        markers: u32,
+    },
+}
 
 /// What is done with the file.
 #[derive(Clone, Copy, Debug, PartialEq, Eq)]
 pub enum Task {
-    /// The lines of a script, in the order of the file.
-    Run,
+    /// A script is run, and its record written.
+    Script(Order),
 }
 
 /// What a command line asks for.
@@ -43,6 +62,48 @@ fn with_file<'a>(alloc: Global, name: &'a str, about: &'a str) -> Result<Command
     Ok(Command::new(alloc, name).about(about).arg(file)?)
 }
 
+/// An option that takes a number up to 4294967295.
+fn count<'a>(alloc: Global, name: &'a str, help: &'a str) -> Arg<'a> {
+    Arg::new(alloc, name)
+        .long(name)
+        .value_name("N")
+        .value_parser(value_parser!(u32))
+        .help(help)
+        .action(ArgAction::Set)
+}
+
+fn with_background<'a>(alloc: Global, command: Command<'a>) -> Result<Command<'a>, AllocError> {
+    let refiners = count(alloc, "refiners", "Background refiners, 0 to 8").default_value("0");
+    let markers = count(alloc, "markers", "Background markers, 0 to 8").default_value("0");
+    Ok(command.arg(refiners)?.arg(markers)?)
+}
+
+fn sim_command<'a>(alloc: Global) -> Result<Command<'a>, AllocError> {
+    let schedule = Arg::new(alloc, "schedule")
+        .long("schedule")
+        .value_name("N")
+        .value_parser(value_parser!(u64))
+        .help("The seed, 0 to 18446744073709551615")
+        .required(true)
+        .action(ArgAction::Set);
+    let sim = with_file(
+        alloc,
+        "sim",
+        "Does each actor's steps of a script, the actors in turns that a seed draws, and prints the record",
+    )?;
+    with_background(alloc, sim.arg(schedule)?)
+}
+
+fn threads_command<'a>(alloc: Global) -> Result<Command<'a>, AllocError> {
+    let workers = count(alloc, "workers", "Worker threads, 1 to 32").required(true);
+    let threads = with_file(
+        alloc,
+        "threads",
+        "Does each actor's steps of a script, the actors in turns of threads, and prints the record",
+    )?;
+    with_background(alloc, threads.arg(workers)?)
+}
+
 fn command<'a>(alloc: Global) -> Result<Command<'a>, AllocError> {
     let run = with_file(
         alloc,
@@ -53,24 +114,53 @@ fn command<'a>(alloc: Global) -> Result<Command<'a>, AllocError> {
         Command::new(alloc, "g1heap")
             .about("A Garbage-First heap by steps")
             .subcommand_required(true)
-            .subcommand(run)?,
+            .subcommand(run)?
+            .subcommand(sim_command(alloc)?)?
+            .subcommand(threads_command(alloc)?)?,
     )
+}
+
+fn drawn_order(found: &ArgMatches) -> Option<Order> {
+    Some(Order::Drawn {
+        seed: found.get_one::<u64>("schedule")?,
+        refiners: found.get_one::<u32>("refiners")?,
+        markers: found.get_one::<u32>("markers")?,
+    })
+}
+
+fn threads_order(found: &ArgMatches) -> Option<Order> {
+    Some(Order::Threads {
+        workers: found.get_one::<u32>("workers")?,
+        refiners: found.get_one::<u32>("refiners")?,
+        markers: found.get_one::<u32>("markers")?,
+    })
+}
+
+/// What a subcommand's words ask for. `None`: the subcommand is unknown, or a value isn't there.
+fn job_of<'a>(name: &str, found: &ArgMatches<'a>) -> Option<Job<'a>> {
+    let order = match name {
+        "run" => Order::File,
+        "sim" => drawn_order(found)?,
+        "threads" => threads_order(found)?,
+        _ => return None,
+    };
+    Some(Job {
+        file: found.get_str("FILE")?,
+        task: Task::Script(order),
+    })
 }
 
 /// What the words of a command line ask for, or the text for the user.
 pub fn read_words<'a>(alloc: Global, words: &'a [String]) -> Result<Job<'a>, Error> {
     let mut command = command(alloc)?;
     let matches = command.try_get_matches_from_mut(words)?;
-    let Some((_, found)) = matches.subcommand() else {
+    let Some((name, found)) = matches.subcommand() else {
         return Err(command.error(ErrorKind::MissingSubcommand, "a subcommand is required")?);
     };
-    let Some(file) = found.get_str("FILE") else {
-        return Err(command.error(ErrorKind::MissingRequiredArgument, "FILE is required")?);
+    let Some(job) = job_of(name, found) else {
+        return Err(command.error(ErrorKind::MissingRequiredArgument, "an argument is missing")?);
     };
-    Ok(Job {
-        file,
-        task: Task::Run,
-    })
+    Ok(job)
 }
 
 /// The text for the user where a word isn't UTF-8.

@@ -2,14 +2,17 @@
 //!
 //! ```text
 //!   words -- read_words --> Job;  FILE -- read_text, parse --> Plan -- run --> Record -- write_record --> output
+//!                                                                  simulate
+//!                                                                  run_threads
 //! ```
 //!
-//! `program` reads the command line, opens the file and calls `perform`, which calls `run_script`. That is where the
-//! theorem of the whole path stands: at Ok the input was a script, read to its end, and the text of a record was
-//! written, and no more, which has the script's heap line and steps and is a run of the graph of objects. Nothing is
-//! written before the run has ended well.
+//! `program` reads the command line, opens the file and calls `perform`, which calls `run_script`, `simulate_script` or
+//! `thread_script`. That is where the theorem of the whole path stands: at Ok the input was a script, read to its end, and
+//! the text of a record was written, and no more, which is a run of the script in the order that was asked for, and of the graph
+//! of objects. Nothing is written before the run has ended well.
 #![tactic(auto)]
 
+mod actors;
 mod faults;
 mod job;
 mod perform;

@@ -1,12 +1,15 @@
 //! What the program does with a job.
 
-ghost use Rattle.g1heap.specs.Runs.{Tells, Performs};
+ghost use Rattle.g1heap.specs.Runs.{Ends, Tells, Performs};
 
+use crate::actors::{simulate_script, thread_script};
 use crate::faults::{JobFault, tell};
-use crate::job::{Job, Task};
+use crate::job::{Job, Order, Task};
 use crate::script::run_script;
 use std::alloc::Global;
 use std::io::{Read, Write};
+use std::sync::Wait;
+use std::thread::Threads;
 
 /// Tells how a job ended, and answers the program's status: 0 where it is done, else 1, with the fault's line on standard error. That a
 /// write of this line fails changes nothing.
@@ -22,18 +25,44 @@ pub fn conclude<E: Write>(outcome: Result<(), JobFault>, err: &mut E) -> u8
     }
 }
 
+/// Does a script's steps in an order.
+fn do_script<H: Threads + Wait + Sync, R: Read, W: Write>(
+    rt: &H,
+    alloc: Global,
+    order: Order,
+    reader: &mut R,
+    out: &mut W,
+) -> Result<(), JobFault>
+    ensures { Ends order (R.remaining reader.old) (R.remaining reader.new) (W.contents out.old) (W.contents out.new) result }
+{
+    match order {
+        Order::File => run_script(alloc, reader, out),
+        Order::Drawn {
+            seed,
+            refiners,
+            markers,
+        } => simulate_script(alloc, seed, refiners, markers, reader, out),
+        Order::Threads {
+            workers,
+            refiners,
+            markers,
+        } => thread_script(rt, alloc, workers, refiners, markers, reader, out),
+    }
+}
+
 /// Does the job, and answers the program's status.
-pub fn perform<R: Read, W: Write, E: Write>(
+pub fn perform<H: Threads + Wait + Sync, R: Read, W: Write, E: Write>(
+    rt: &H,
     alloc: Global,
     job: &Job,
     reader: &mut R,
     out: &mut W,
     err: &mut E,
 ) -> u8
-    ensures { Performs (R.remaining reader.old) (R.remaining reader.new) (W.contents out.old) (W.contents out.new) (E.contents err.old) (E.contents err.new) result }
+    ensures { Performs job.now.task (R.remaining reader.old) (R.remaining reader.new) (W.contents out.old) (W.contents out.new) (E.contents err.old) (E.contents err.new) result }
 {
     let outcome = match job.task() {
-        Task::Run => run_script(alloc, reader, out),
+        Task::Script(order) => do_script(rt, alloc, order, reader, out),
     };
     conclude(outcome, err)
 }

@@ -16,21 +16,23 @@ use std::alloc::Global;
 use std::env::Env;
 use std::fs::Files;
 use std::io::Write;
+use std::sync::Wait;
+use std::thread::Threads;
 use std::{env, fs, io};
 use step_core::RunFault;
 
 /// Opens the job's file and does the job, and answers the program's status.
-pub fn open_and_perform<F: Files, W: Write, E: Write>(
-    files: &F,
+pub fn open_and_perform<H: Files + Threads + Wait + Sync, W: Write, E: Write>(
+    rt: &H,
     alloc: Global,
     job: &Job,
     out: &mut W,
     err: &mut E,
 ) -> u8
-    ensures { (given left : Option (List ℕ)) × Performs given left (W.contents out.old) (W.contents out.new) (E.contents err.old) (E.contents err.new) result }
+    ensures { (given left : Option (List ℕ)) × Performs job.now.task given left (W.contents out.old) (W.contents out.new) (E.contents err.old) (E.contents err.new) result }
 {
-    match fs::open(files, job.file()) {
-        Ok(mut file) => perform(alloc, job, &mut file, out, err),
+    match fs::open(rt, job.file()) {
+        Ok(mut file) => perform(rt, alloc, job, &mut file, out, err),
         Err(_) => conclude(Err(JobFault::Read(ReadFault::CannotRead)), err),
     }
 }
@@ -61,7 +63,7 @@ fn words<R: Env + AllocGlobal>(rt: &R) -> io::Result<Vec<String>> {
 }
 
 /// Does what the command line asks for, and answers the program's status.
-pub fn program<R: Env + Files + AllocGlobal, W: Write, E: Write>(
+pub fn program<R: Env + Files + AllocGlobal + Threads + Wait + Sync, W: Write, E: Write>(
     rt: &R,
     out: &mut W,
     err: &mut E,

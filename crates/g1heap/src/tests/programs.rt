@@ -8,7 +8,9 @@ use std::env::{Env, FillError};
 use std::fs::{Files, Metadata, OpenFile, OpenOptions};
 use std::io;
 use std::io::{ErrorKind, Read, Seek, SeekFrom, Write};
+use std::sync::Wait;
 use std::test::Fail;
+use std::thread::Threads;
 
 /// A file that can be read.
 #[derive(Drop)]
@@ -60,15 +62,20 @@ impl OpenFile for TextFile<'_> {
     }
 }
 
-/// A system with the words of a command line and one file.
+/// A system with the words of a command line and one file, whose threads are those of a runtime.
 #[derive(Drop)]
-struct System<'a> {
+struct System<'a, H> {
+    threads: &'a H,
     words: &'a [&'a [u8]],
     path: &'a str,
     text: &'a [u8],
 }
 
-impl Env for System<'_> {
+impl<H: Threads> Threads for System<'_, H> {}
+
+impl<H: Wait> Wait for System<'_, H> {}
+
+impl<H> Env for System<'_, H> {
     fn arg(&self, i: usize, buf: &mut [u8]) -> Result<usize, FillError> {
         let Some(word) = self.words.get(i) else {
             return Err(FillError::NotPresent);
@@ -89,7 +96,7 @@ impl Env for System<'_> {
     }
 }
 
-impl<'a> Files for System<'a> {
+impl<'a, H> Files for System<'a, H> {
     type File = TextFile<'a>;
 
     type Dir = TextFile<'a>;
@@ -144,7 +151,8 @@ const SCRIPT: &[u8] = b"heap 4 16 8 1 0\n0 new r0 1 1\n";
 const RECORD: &str = "heap 4 16 8 1 0\n1 0 new r0 1 1 = #0\n";
 
 /// What the program answers and writes where the file `given.heap` holds a text.
-fn outcome(
+fn outcome<H: Threads + Wait + Sync>(
+    threads: &H,
     alloc: Global,
     words: &[&[u8]],
     text: &[u8],
@@ -152,6 +160,7 @@ fn outcome(
     err: &mut Vec<u8>,
 ) -> u8 {
     let system = System {
+        threads,
         words,
         path: "given.heap",
         text,
@@ -187,7 +196,47 @@ fn jobs(rt: HostRuntime) -> Result<(), Fail> {
         let mut out = Vec::new(alloc);
         let mut err = Vec::new(alloc);
         let words: [&[u8]; 3] = [b"g1heap", b"run", file];
-        assert_eq!(rt; outcome(alloc, &words, text, &mut out, &mut err), status);
+        assert_eq!(rt;
+            outcome(&rt, alloc, &words, text, &mut out, &mut err),
+            status
+        );
+        assert_eq!(rt; out.as_slice(), record.as_bytes());
+        assert_eq!(rt; err.as_slice(), line.as_bytes());
+    }
+    Ok(())
+}
+
+/// The other orders, by the words of a command line.
+#[test]
+fn other_orders(rt: HostRuntime) -> Result<(), Fail> {
+    let alloc = rt.alloc();
+    let rows: [(&[&[u8]], u8, &str, &str); 3] = [
+        (
+            &[b"g1heap", b"sim", b"given.heap", b"--schedule", b"4"],
+            0,
+            RECORD,
+            "",
+        ),
+        (
+            &[b"g1heap", b"threads", b"given.heap", b"--workers", b"2"],
+            0,
+            RECORD,
+            "",
+        ),
+        (
+            &[b"g1heap", b"threads", b"given.heap", b"--workers", b"0"],
+            1,
+            "",
+            "g1heap: run: 1 BadWorkers\n",
+        ),
+    ];
+    for (words, status, record, line) in rows {
+        let mut out = Vec::new(alloc);
+        let mut err = Vec::new(alloc);
+        assert_eq!(rt;
+            outcome(&rt, alloc, words, SCRIPT, &mut out, &mut err),
+            status
+        );
         assert_eq!(rt; out.as_slice(), record.as_bytes());
         assert_eq!(rt; err.as_slice(), line.as_bytes());
     }
@@ -199,8 +248,12 @@ fn jobs(rt: HostRuntime) -> Result<(), Fail> {
 #[test]
 fn refusals(rt: HostRuntime) -> Result<(), Fail> {
     let alloc = rt.alloc();
-    let rows: [(&[&[u8]], u8); 7] = [
+    let rows: [(&[&[u8]], u8); 11] = [
         (&[b"g1heap", b"--help"], 0),
+        (&[b"g1heap", b"sim", b"--help"], 0),
+        (&[b"g1heap", b"threads", b"--help"], 0),
+        (&[b"g1heap", b"sim", b"given.heap"], 2),
+        (&[b"g1heap", b"threads", b"given.heap"], 2),
         (&[b"g1heap", b"run", b"--help"], 0),
         (&[b"g1heap"], 2),
         (&[], 2),
@@ -211,7 +264,10 @@ fn refusals(rt: HostRuntime) -> Result<(), Fail> {
     for (words, status) in rows {
         let mut out = Vec::new(alloc);
         let mut err = Vec::new(alloc);
-        assert_eq!(rt; outcome(alloc, words, SCRIPT, &mut out, &mut err), status);
+        assert_eq!(rt;
+            outcome(&rt, alloc, words, SCRIPT, &mut out, &mut err),
+            status
+        );
         assert_eq!(rt; out.is_empty(), status == 2);
         assert_eq!(rt; err.is_empty(), status == 0);
     }
