@@ -11,7 +11,7 @@ use Rattle.step_core.specs.Histories.{step_of, actor_in, actor_of, IsRunFault, R
 use Rattle.script_text.specs.declared.fault.WriteFault.TheVariants as writes
 use Rattle.g1heap.specs.FaultLines.{TellsLine}
 use Rattle.g1heap.specs.declared.faults.JobFault.{JobFault}
-use Rattle.g1heap.specs.declared.faults.JobFault.TheVariants.{Read, Line, Run, Write}
+use Rattle.g1heap.specs.declared.faults.JobFault.TheVariants.{Read, Line, Run, Judge, Write}
 
 -- the input is a script, and the record has its heap line and its steps, each with its actor. It is a run of the graph, and the events are
 -- those of a new heap's cores
@@ -44,6 +44,7 @@ Ends given left old new (Ok done) = (input : List ℕ) × GivesAll given left in
 Ends given left old new (Err (Read fault)) = ((some : List ℕ) × Consumes given left some) × Keeps old new
 Ends given left old new (Err (Line fault)) = (input : List ℕ) × GivesAll given left input × FailsBy fault.kind fault input (script_of input) × Keeps old new
 Ends given left old new (Err (Run fault)) = (input : List ℕ) × GivesAll given left input × ((plan : StepList) × (script_of input ≡ Ok plan) × IsRunFault plan.config fault) × Keeps old new
+Ends given left old new (Err (Judge fault)) = ⊥
 Ends given left old new (Err (Write fault)) = (input : List ℕ) × GivesAll given left input × WritesBeginning input old new × (fault ≡ writes.NoMemory → Keeps old new)
 
 -- the status that tells how a run ended, and what standard error took: nothing where the job is done, else the fault's line

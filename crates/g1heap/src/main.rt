@@ -12,6 +12,7 @@
 
 mod faults;
 mod job;
+mod judge;
 mod perform;
 mod program;
 mod script;

@@ -15,8 +15,8 @@
 //! - `parse_record` does the same of a record's text, and so gives back the record that was written.
 //! - `write_record` appends the text of a record and no more, or a beginning of it and a fault. It holds one
 //!   buffer, however long the record is.
-//! - `put_text`, `put_fault` and `write_bytes` are for other lines of a program: they put texts into a buffer, and write
-//!   bytes in their order.
+//! - `put_text`, `put_number`, `put_fault` and `write_bytes` are for other lines of a program: they put texts into a buffer, and
+//!   write bytes in their order.
 #![tactic(auto)]
 
 mod bytes;
@@ -34,7 +34,7 @@ mod tests;
 mod words;
 mod writing;
 
-pub use bytes::put_text;
+pub use bytes::{put_number, put_text};
 pub use fault::{Kind, LineFault, ReadFault, WriteFault, put_fault};
 pub use input::read_text;
 pub use laws::{
