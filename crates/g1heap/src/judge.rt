@@ -6,8 +6,11 @@ ghost use Rattle.object_graph.specs.declared.judge.Verdict.{Verdict};
 ghost use Rattle.g1heap.specs.Verdicts.{verdict_word, verdict_number, verdict_line, IsJudged, Judges, TellsVerdict, PerformsCheck, IsTextOfRun, IsTextBrokenAt};
 
 use crate::faults::{JobFault, JudgeFault, tell};
-use object_graph::{Verdict, check};
-use script_text::{WriteFault, parse_record, put_number, put_text, read_text, write_bytes};
+use object_graph::{Verdict, check, judged_once};
+use script_text::{
+    WriteFault, parse_record, put_number, put_text, read_record_is_spelled, read_text,
+    spelled_record_is_read, write_bytes,
+};
 use std::alloc::Global;
 use std::io::{Read, Write};
 
@@ -105,4 +108,16 @@ pub fn perform_check<R: Read, W: Write, E: Write>(
 {
     let outcome = judge_record(alloc, reader, out);
     conclude_verdict(outcome, err)
+}
+
+/// Which verdict a text gets: yes exactly where it is a record's text whose sizes suit and whose events are a run of the graph, with their
+/// number; no exactly where the graph allows the events before the n-th and none goes on with that one. No text gets two verdicts.
+pub fn verdict_law()
+    ensures yes { (input : List ℕ) (n : ℕ) → IsJudged input (Verdict.Yes n) ↔ IsTextOfRun input n }
+    ensures no { (input : List ℕ) (n : ℕ) → IsJudged input (Verdict.No n) ↔ IsTextBrokenAt input n }
+    ensures once { (input : List ℕ) (a b : Verdict) → IsJudged input a → IsJudged input b → a ≡ b }
+{
+    read_record_is_spelled();
+    spelled_record_is_read();
+    judged_once();
 }
