@@ -11,6 +11,8 @@ use std::alloc::{AllocError, Global};
 pub enum Task {
     /// The lines of a script, in the order of the file.
     Run,
+    /// The events of a record are judged.
+    Check,
 }
 
 /// What a command line asks for.
@@ -49,11 +51,13 @@ fn command<'a>(alloc: Global) -> Result<Command<'a>, AllocError> {
         "run",
         "Does the steps of a script, and prints the record",
     )?;
+    let check = with_file(alloc, "check", "Judges a record by the graph alone")?;
     Ok(
         Command::new(alloc, "g1heap")
             .about("A Garbage-First heap by steps")
             .subcommand_required(true)
-            .subcommand(run)?,
+            .subcommand(run)?
+            .subcommand(check)?,
     )
 }
 
@@ -61,16 +65,18 @@ fn command<'a>(alloc: Global) -> Result<Command<'a>, AllocError> {
 pub fn read_words<'a>(alloc: Global, words: &'a [String]) -> Result<Job<'a>, Error> {
     let mut command = command(alloc)?;
     let matches = command.try_get_matches_from_mut(words)?;
-    let Some((_, found)) = matches.subcommand() else {
+    let Some((name, found)) = matches.subcommand() else {
         return Err(command.error(ErrorKind::MissingSubcommand, "a subcommand is required")?);
     };
     let Some(file) = found.get_str("FILE") else {
         return Err(command.error(ErrorKind::MissingRequiredArgument, "FILE is required")?);
     };
-    Ok(Job {
-        file,
-        task: Task::Run,
-    })
+    let task = if name == "check" {
+        Task::Check
+    } else {
+        Task::Run
+    };
+    Ok(Job { file, task })
 }
 
 /// The text for the user where a word isn't UTF-8.

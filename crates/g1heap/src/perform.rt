@@ -1,9 +1,11 @@
 //! What the program does with a job.
 
-ghost use Rattle.g1heap.specs.Runs.{Tells, Performs};
+ghost use Rattle.g1heap.specs.Runs.{Tells};
+ghost use Rattle.g1heap.specs.Jobs.{DoesJob};
 
 use crate::faults::{JobFault, tell};
 use crate::job::{Job, Task};
+use crate::judge::perform_check;
 use crate::script::run_script;
 use std::alloc::Global;
 use std::io::{Read, Write};
@@ -30,10 +32,13 @@ pub fn perform<R: Read, W: Write, E: Write>(
     out: &mut W,
     err: &mut E,
 ) -> u8
-    ensures { Performs (R.remaining reader.old) (R.remaining reader.new) (W.contents out.old) (W.contents out.new) (E.contents err.old) (E.contents err.new) result }
+    ensures { DoesJob job.now.task (R.remaining reader.old) (R.remaining reader.new) (W.contents out.old) (W.contents out.new) (E.contents err.old) (E.contents err.new) result }
 {
-    let outcome = match job.task() {
-        Task::Run => run_script(alloc, reader, out),
-    };
-    conclude(outcome, err)
+    match job.task() {
+        Task::Run => {
+            let outcome = run_script(alloc, reader, out);
+            conclude(outcome, err)
+        }
+        Task::Check => perform_check(alloc, reader, out, err),
+    }
 }
