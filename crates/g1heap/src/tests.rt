@@ -2,10 +2,12 @@
 
 mod cases;
 mod drawn;
+mod judged;
+mod judging;
 mod programs;
 mod records;
 
-use crate::faults::{JobFault, tell};
+use crate::faults::{JobFault, JudgeFault, tell};
 use crate::job::{Task, read_words};
 use crate::perform::{conclude, perform};
 use cases::CASES;
@@ -268,7 +270,7 @@ fn broken_writer(rt: HostRuntime) -> Result<(), Fail> {
 }
 
 /// The words of each fault's line.
-static FAULTS: [(JobFault, &str); 13] = [
+static FAULTS: [(JobFault, &str); 16] = [
     (JobFault::Read(ReadFault::CannotRead), "cannot read"),
     (JobFault::Read(ReadFault::NoMemory), "cannot read"),
     (
@@ -298,6 +300,15 @@ static FAULTS: [(JobFault, &str); 13] = [
         JobFault::Run(RunFault::Heap(NewFault::BadMutators)),
         "heap: 4 BadMutators",
     ),
+    (
+        JobFault::Judge(JudgeFault::Heap(NewFault::BadRegions)),
+        "heap: 1 BadRegions",
+    ),
+    (
+        JobFault::Judge(JudgeFault::Heap(NewFault::BadMutators)),
+        "heap: 4 BadMutators",
+    ),
+    (JobFault::Judge(JudgeFault::NoMemory), "check: NoMemory"),
     (JobFault::Write(WriteFault::CannotWrite), "cannot write"),
     (JobFault::Write(WriteFault::NoMemory), "run: 2 NoMemory"),
 ];
@@ -335,14 +346,17 @@ fn files_of_jobs(rt: HostRuntime) -> Result<(), Fail> {
 #[test]
 fn command_lines(rt: HostRuntime) -> Result<(), Fail> {
     let alloc = rt.alloc();
-    let lines: [(&[&str], i32); 7] = [
+    let lines: [(&[&str], i32); 10] = [
         (&[], 2),
         (&["--help"], 0),
         (&["walk", "script.heap"], 2),
         (&["run"], 2),
         (&["run", "one.heap", "two.heap"], 2),
         (&["run", "one.heap", "--schedule", "1"], 2),
-        (&["check", "one.record"], 2),
+        (&["check", "--help"], 0),
+        (&["check"], 2),
+        (&["check", "one.record", "two.record"], 2),
+        (&["check", "one.record", "--workers", "1"], 2),
     ];
     for (line, status) in lines {
         let words = words(alloc, line)?;
