@@ -20,6 +20,8 @@ regions of 1,024 words, the largest that a heap line allows.
 | chain_in_order | 100 marking cycles over a list of 10,000 objects, each of which names the next one behind it |
 | chain_apart | the same, and every other object lies in the other half of the heap |
 | chain_in_order_base, chain_apart_base | the same without their marking cycles |
+| many_objects | 1,000,000 steps, nearly all of them make an object of 2 words that is lost; a marking cycle every 100,000 |
+| many_fields | 1,000,000 steps that read and write fields of 1,000 objects, taken from a table |
 
 A pause copies at most half of the free words, so never more than a third of the heap, here 349,525 words.
 """
@@ -232,6 +234,30 @@ def chain_apart(cycles):
     return lines + [f"0 drop r{register}" for register in range(3)] + ["gc begin", "gc remark"] * cycles
 
 
+def many_objects():
+    lines = [heap(64)]
+    for step in range(1000000 - 30):
+        if step % 100000 == 99999:
+            lines += ["gc begin", "gc remark", "gc cleanup"]
+        lines.append("0 new r0 0 0")
+    return lines
+
+
+def many_fields():
+    chosen = random.Random(4)
+    places = HALF - 2
+    lines = [heap(64)]
+    for table in range(2):
+        lines += [f"0 new r0 {shape(HALF, places)}", f"0 save g{table} r0"]
+        for place in range(places):
+            lines += ["0 new r1 2 2", f"0 put r0 {place} r1"]
+    while len(lines) <= 1000000:
+        lines += [f"0 load r0 g{chosen.randrange(2)}", f"0 get r1 r0 {chosen.randrange(places)}"]
+        lines += [f"0 write r1 {chosen.randrange(2)} {chosen.randrange(1000)}", f"0 read r1 {chosen.randrange(2)}", "0 shape r1"]
+        lines += [f"0 put r1 {chosen.randrange(2)} r1", f"0 get r2 r1 {chosen.randrange(2)}"]
+    return lines[:1000001]
+
+
 SCRIPTS = {
     "no_steps": no_steps,
     "pauses": pauses,
@@ -250,6 +276,8 @@ SCRIPTS = {
     "chain_in_order_base": lambda: chain_in_order(0),
     "chain_apart": lambda: chain_apart(CHAIN_CYCLES),
     "chain_apart_base": lambda: chain_apart(0),
+    "many_objects": many_objects,
+    "many_fields": many_fields,
 }
 
 
