@@ -23,6 +23,7 @@ use Rattle.g1heap.specs.declared.faults.JobFault.TheVariants as faults
 use Rattle.g1heap.specs.declared.faults.JudgeFault.{JudgeFault}
 use Rattle.g1heap.specs.declared.faults.JudgeFault.TheVariants as judges
 
+-- the word before the number
 abbrev pub verdict_word : Verdict → List ℕ
 verdict_word (Yes n) = codes "yes "
 verdict_word (No n) = codes "no "

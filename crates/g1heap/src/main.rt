@@ -1,13 +1,15 @@
-//! A Garbage-First heap by steps: a script goes in, the record of every step with its reply comes out.
+//! A Garbage-First heap by steps: a script goes in, the record of every step with its reply comes out; or a record goes in, and the
+//! verdict of the graph comes out.
 //!
 //! ```text
 //!   words -- read_words --> Job;  FILE -- read_text, parse --> Plan -- run --> Record -- write_record --> output
+//!                                 FILE -- read_text, parse_record --> Record -- check --> Verdict -- write_verdict --> output
 //! ```
 //!
 //! `program` reads the command line, opens the file and calls `perform`, which calls `run_script`. That is where the
 //! theorem of the whole path stands: at Ok the input was a script, read to its end, and the text of a record was
 //! written, and no more, which has the script's heap line and steps and is a run of the graph of objects. Nothing is
-//! written before the run has ended well.
+//! written before the run has ended well. `judge_record` has the theorem of the other path.
 #![tactic(auto)]
 
 mod faults;
