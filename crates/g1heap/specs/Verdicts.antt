@@ -101,3 +101,11 @@ pub record IsTextBrokenAt (input : List ℕ) (n : ℕ) : Type 0 where
   pub spelled : input ≡ record_text history
   pub suits : Suits history.config
   pub broken : BreaksAt (first_state history.config) history.events n
+
+-- The reader gave the text of a run, to its end, and the verdict yes was written, and no more, with nothing on standard error.
+abbrev pub ToldYes : Option (List ℕ) → Option (List ℕ) → Option (List ℕ) → Option (List ℕ) → Option (List ℕ) → Option (List ℕ) → Type 0
+ToldYes given left old new err err' = (input : List ℕ) × (n : ℕ) × GivesAll given left input × IsTextOfRun input n × Appends old new (verdict_line (Yes n)) × Keeps err err'
+
+-- The reader gave the text of a record, to its end, and the verdict no was written with its first event that isn't allowed, and no more.
+abbrev pub ToldNo : Option (List ℕ) → Option (List ℕ) → Option (List ℕ) → Option (List ℕ) → Option (List ℕ) → Option (List ℕ) → Type 0
+ToldNo given left old new err err' = (input : List ℕ) × (n : ℕ) × GivesAll given left input × IsTextBrokenAt input n × Appends old new (verdict_line (No n)) × Keeps err err'

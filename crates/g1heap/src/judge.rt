@@ -1,9 +1,9 @@
 //! A record that is read, judged and answered by the verdict.
 
-ghost use Rattle.std.specs.Prelude.{◌≡◌, ◌≢◌, ◌<◌, ◌≤◌, ◌↔◌, ℕ, List, OnOk, OnErr, length, take};
+ghost use Rattle.std.specs.Prelude.{◌≡◌, ◌≢◌, ◌<◌, ◌≤◌, ◌↔◌, ℕ, List, Option, OnOk, OnErr, length, take};
 ghost use Rattle.std.specs.Io.KnownBytes.{Appends};
 ghost use Rattle.object_graph.specs.declared.judge.Verdict.{Verdict};
-ghost use Rattle.g1heap.specs.Verdicts.{verdict_word, verdict_number, verdict_line, IsJudged, Judges, TellsVerdict, PerformsCheck, IsTextOfRun, IsTextBrokenAt};
+ghost use Rattle.g1heap.specs.Verdicts.{verdict_word, verdict_number, verdict_line, IsJudged, Judges, TellsVerdict, PerformsCheck, IsTextOfRun, IsTextBrokenAt, ToldYes, ToldNo};
 
 use crate::faults::{JobFault, JudgeFault, tell};
 use object_graph::{Verdict, check, judged_once};
@@ -120,4 +120,13 @@ pub fn verdict_law()
     read_record_is_spelled();
     spelled_record_is_read();
     judged_once();
+}
+
+/// What the status says by itself: 0, the file was the text of a run, and the verdict says so; 3, it was the text of a record that breaks, and
+/// the verdict names the event.
+pub fn status_law()
+    ensures yes { (given left old new err told : Option (List ℕ)) → PerformsCheck given left old new err told 0 → ToldYes given left old new err told }
+    ensures no { (given left old new err told : Option (List ℕ)) → PerformsCheck given left old new err told 3 → ToldNo given left old new err told }
+{
+    verdict_law();
 }
