@@ -23,6 +23,8 @@ regions of 1,024 words, the largest that a heap line allows.
 | actors_1, actors_16 | 50,000 steps of 1 or 16 mutators, in turn, each on an object of its own |
 | actors_1_base, actors_16_base | the same with 10,000 steps |
 | actors_1_long, actors_16_long | the same with 1,000,000 steps |
+| many_objects | 1,000,000 steps, nearly all of them make an object of 2 words that is lost; a marking cycle every 100,000 |
+| many_fields | 1,000,000 steps that read and write fields of 1,000 objects, taken from a table |
 
 A pause copies at most half of the free words, so never more than a third of the heap, here 349,525 words.
 """
@@ -243,6 +245,30 @@ def actors(mutators, steps):
     return lines + [f"{step % mutators} {kinds[step // mutators % 2]}" for step in range(steps)]
 
 
+def many_objects():
+    lines = [heap(64)]
+    for step in range(1000000 - 30):
+        if step % 100000 == 99999:
+            lines += ["gc begin", "gc remark", "gc cleanup"]
+        lines.append("0 new r0 0 0")
+    return lines
+
+
+def many_fields():
+    chosen = random.Random(4)
+    places = HALF - 2
+    lines = [heap(64)]
+    for table in range(2):
+        lines += [f"0 new r0 {shape(HALF, places)}", f"0 save g{table} r0"]
+        for place in range(places):
+            lines += ["0 new r1 2 2", f"0 put r0 {place} r1"]
+    while len(lines) <= 1000000:
+        lines += [f"0 load r0 g{chosen.randrange(2)}", f"0 get r1 r0 {chosen.randrange(places)}"]
+        lines += [f"0 write r1 {chosen.randrange(2)} {chosen.randrange(1000)}", f"0 read r1 {chosen.randrange(2)}", "0 shape r1"]
+        lines += [f"0 put r1 {chosen.randrange(2)} r1", f"0 get r2 r1 {chosen.randrange(2)}"]
+    return lines[:1000001]
+
+
 SCRIPTS = {
     "no_steps": no_steps,
     "pauses": pauses,
@@ -263,6 +289,8 @@ SCRIPTS = {
     "chain_apart_base": lambda: chain_apart(0),
     **{f"actors_{count}{ending}": lambda count=count, steps=steps: actors(count, steps)
        for count in (1, 16) for ending, steps in ACTOR_STEPS.items()},
+    "many_objects": many_objects,
+    "many_fields": many_fields,
 }
 
 

@@ -1,7 +1,6 @@
 -- From what is read, what came of the run and what was written, to how it all ended.
 use Rattle.std.proofs.Common.{◌≡◌, ◌≢◌, ◌<◌, ◌≤◌, ◌⊎◌, ℕ, List, [], Option, Err, arith, subst, refl, inl, inr, sym}
 use Rattle.std.specs.Prelude.{◌↔◌, Ok, Result, ⊤, IfOk, IfErr, None, map}
-use Rattle.std.proofs.KnownBytes.{Keeps-refl}
 use Rattle.heap_words.specs.declared.config.Config.{Config}
 use Rattle.object_graph.specs.Actors.{StepList, EventList}
 use Rattle.object_graph.specs.declared.step.Step.{Step}
@@ -15,12 +14,10 @@ use Rattle.script_text.specs.declared.fault.ReadFault.{ReadFault}
 use Rattle.mutators.specs.Interleavings.{IsRunOf, IsThreadsFault}
 use Rattle.mutators.specs.Draws.{scripted_actors, drawn_by}
 use Rattle.g1heap.specs.declared.faults.JobFault.{JobFault}
-use Rattle.g1heap.specs.declared.faults.JobFault.TheVariants.{Read, Line, Run, Write}
+use Rattle.g1heap.specs.declared.faults.JobFault.TheVariants.{Read, Line, Run, Judge, Write}
 use Rattle.g1heap.specs.declared.job.Order.{Order}
 use Rattle.g1heap.specs.declared.job.Order.TheVariants.{File, Drawn, Threads}
-use Rattle.g1heap.specs.declared.job.Task.{Task}
-use Rattle.g1heap.specs.declared.job.Task.TheVariants.{Script}
-use Rattle.g1heap.specs.Runs.{Makes, CountsSuit, IsFaultIn, MayFail, ReadsPlan, Answers, Ends, EndsTask}
+use Rattle.g1heap.specs.Runs.{Makes, CountsSuit, IsFaultIn, MayFail, ReadsPlan, Answers, Ends}
 
 -- a run's record is one of the order, and its fault one that may come
 abbrev pub Comes : Order → StepList → Result EventList RunFault → Type 0
@@ -36,10 +33,12 @@ ends order plan given left old new (Ok r) (Err (Write fault)) (input, gives, rea
 ends order plan given left old new (Ok r) (Err (Read fault)) read made written = absurd written
 ends order plan given left old new (Ok r) (Err (Line fault)) read made written = absurd written
 ends order plan given left old new (Ok r) (Err (Run fault)) read made written = absurd written
+ends order plan given left old new (Ok r) (Err (Judge fault)) read made written = absurd written
 ends order plan given left old new (Err fault) (Ok done) read made written = absurd written
 ends order plan given left old new (Err fault) (Err (Read other)) read made written = absurd written
 ends order plan given left old new (Err fault) (Err (Line other)) read made written = absurd written
 ends order plan given left old new (Err fault) (Err (Write other)) read made written = absurd written
+ends order plan given left old new (Err fault) (Err (Judge other)) read made written = absurd written
 ends order plan given left old new (Err fault) (Err (Run told)) (input, gives, read) may (same, keeps) =
     (input, gives, (plan, read, subst (MayFail order plan.config) (sym same) may), keeps)
 
@@ -105,7 +104,3 @@ pub comes_threaded : (plan : StepList) (workers refiners markers : ℕ) (outcome
     IfErr outcome (λ f. f ≢ runs.BadWorkers → IsThreadsFault plan.config f) → Comes (Threads workers refiners markers) plan outcome
 comes_threaded plan workers refiners markers outcome run bad fault =
     comes_counted (Threads workers refiners markers) plan outcome run bad (λ over suits. omega (arith, over, suits)) (all_suit workers refiners markers) fault
-
--- a file that can't be opened
-pub unread : (task : Task) (fault : ReadFault) (old : Option (List ℕ)) → EndsTask task None None old old (Err (Read fault))
-unread (Script order) fault old = (([], tt), Keeps-refl old)

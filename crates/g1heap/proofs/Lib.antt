@@ -1,1 +1,3 @@
 mod Endings
+mod Once
+mod Told

@@ -9,7 +9,9 @@ use Rattle.script_text.specs.declared.fault.WriteFault.TheVariants as writes
 use Rattle.step_core.specs.declared.runs.RunFault.{RunFault}
 use Rattle.step_core.specs.declared.runs.RunFault.TheVariants as runs
 use Rattle.g1heap.specs.declared.faults.JobFault.{JobFault}
-use Rattle.g1heap.specs.declared.faults.JobFault.TheVariants.{Read, Line, Run, Write}
+use Rattle.g1heap.specs.declared.faults.JobFault.TheVariants.{Read, Line, Run, Judge, Write}
+use Rattle.g1heap.specs.declared.faults.JudgeFault.{JudgeFault}
+use Rattle.g1heap.specs.declared.faults.JudgeFault.TheVariants as judges
 
 abbrev pub sizes_words : NewFault → List ℕ
 sizes_words sizes.BadRegions = codes "heap: 1 BadRegions"
@@ -25,6 +27,11 @@ run_words runs.NoWorker = codes "run: 3 NoWorker"
 run_words runs.Unfinished = codes "run: 4 Unfinished"
 run_words (runs.Heap fault) = sizes_words fault
 
+-- want of memory while a record is judged is the judge's own
+abbrev pub judge_words : JudgeFault → List ℕ
+judge_words (judges.Heap fault) = sizes_words fault
+judge_words judges.NoMemory = codes "check: NoMemory"
+
 -- want of memory for the record is a run's
 abbrev pub write_words : WriteFault → List ℕ
 write_words writes.CannotWrite = codes "cannot write"
@@ -34,6 +41,7 @@ abbrev pub fault_words : JobFault → List ℕ
 fault_words (Read fault) = codes "cannot read"
 fault_words (Line fault) = fault_text fault
 fault_words (Run fault) = run_words fault
+fault_words (Judge fault) = judge_words fault
 fault_words (Write fault) = write_words fault
 
 abbrev pub fault_line : JobFault → List ℕ

@@ -16,11 +16,9 @@ use Rattle.mutators.specs.Interleavings.{IsRunOf, IsThreadsFault}
 use Rattle.mutators.specs.Draws.{scripted_actors, drawn_by}
 use Rattle.g1heap.specs.FaultLines.{TellsLine}
 use Rattle.g1heap.specs.declared.faults.JobFault.{JobFault}
-use Rattle.g1heap.specs.declared.faults.JobFault.TheVariants.{Read, Line, Run, Write}
+use Rattle.g1heap.specs.declared.faults.JobFault.TheVariants.{Read, Line, Run, Judge, Write}
 use Rattle.g1heap.specs.declared.job.Order.{Order}
 use Rattle.g1heap.specs.declared.job.Order.TheVariants.{File, Drawn, Threads}
-use Rattle.g1heap.specs.declared.job.Task.{Task}
-use Rattle.g1heap.specs.declared.job.Task.TheVariants.{Script}
 
 -- the record has the plan's heap line and its steps, each with its actor. It is a run of the graph, and the events are those of a new
 -- heap's cores
@@ -102,19 +100,16 @@ Ends order given left old new (Ok done) = (input : List ℕ) × GivesAll given l
 Ends order given left old new (Err (Read fault)) = ((some : List ℕ) × Consumes given left some) × Keeps old new
 Ends order given left old new (Err (Line fault)) = (input : List ℕ) × GivesAll given left input × FailsBy fault.kind fault input (script_of input) × Keeps old new
 Ends order given left old new (Err (Run fault)) = (input : List ℕ) × GivesAll given left input × ((plan : StepList) × (script_of input ≡ Ok plan) × MayFail order plan.config fault) × Keeps old new
+Ends order given left old new (Err (Judge fault)) = ⊥
 Ends order given left old new (Err (Write fault)) = (input : List ℕ) × GivesAll given left input × WritesBeginning order input old new × (fault ≡ writes.NoMemory → Keeps old new)
-
--- how a task ended
-abbrev pub EndsTask : Task → Option (List ℕ) → Option (List ℕ) → Option (List ℕ) → Option (List ℕ) → Result ⊤ JobFault → Type 0
-EndsTask (Script order) given left old new outcome = Ends order given left old new outcome
 
 -- the status that tells how a run ended, and what standard error took: nothing where the job is done, else the fault's line
 abbrev pub Tells : Option (List ℕ) → Option (List ℕ) → Result ⊤ JobFault → ℕ → Type 0
 Tells old new (Ok done) status = (status ≡ 0) × Keeps old new
 Tells old new (Err fault) status = (status ≡ 1) × TellsLine fault old new
 
--- A task ended so, and its end was told so. The status is 0 exactly where it ended well.
-pub record Performs (task : Task) (given left old new err err' : Option (List ℕ)) (status : ℕ) : Type 0 where
+-- A script was run in an order, and its end was told so. The status is 0 exactly where it ended well.
+pub record Performs (order : Order) (given left old new err err' : Option (List ℕ)) (status : ℕ) : Type 0 where
   pub outcome : Result ⊤ JobFault
-  pub ends : EndsTask task given left old new outcome
+  pub ends : Ends order given left old new outcome
   pub tells : Tells err err' outcome status

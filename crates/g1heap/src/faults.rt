@@ -2,13 +2,24 @@
 
 ghost use Rattle.std.specs.Prelude.{◌≡◌, ℕ, ◌≤◌, ◌<◌, ◌+◌, ◌++◌, OnOk, OnErr, length, take};
 ghost use Rattle.std.specs.Io.KnownBytes.{Appends};
-ghost use Rattle.g1heap.specs.FaultLines.{sizes_words, run_words, write_words, fault_words, fault_line};
+ghost use Rattle.g1heap.specs.FaultLines.{sizes_words, run_words, judge_words, write_words, fault_words, fault_line};
 
 use heap_words::config::NewFault;
 use script_text::{LineFault, ReadFault, WriteFault, put_fault, put_text, write_bytes};
 use std::io::Write;
 use step_core::RunFault;
 use thiserror::Error;
+
+/// Why a record wasn't judged.
+#[derive(Clone, Copy, Debug, PartialEq, Eq, Error)]
+pub enum JudgeFault {
+    /// No heap can have the sizes of the heap line.
+    #[error("heap: {0}")]
+    Heap(NewFault),
+    /// Memory was refused.
+    #[error("check: NoMemory")]
+    NoMemory,
+}
 
 /// Why a job wasn't done, by the part that failed.
 #[derive(Clone, Copy, Debug, PartialEq, Eq, Error)]
@@ -19,6 +30,8 @@ pub enum JobFault {
     Line(LineFault),
     #[error("run: {0}")]
     Run(RunFault),
+    #[error("{0}")]
+    Judge(JudgeFault),
     #[error("cannot write")]
     Write(WriteFault),
 }
@@ -52,6 +65,16 @@ fn run_words(fault: RunFault) -> &'static [u8]
     }
 }
 
+fn judge_words(fault: JudgeFault) -> &'static [u8]
+    ensures words { result.now ≡ judge_words fault }
+    ensures short { length result.now ≤ 40 }
+{
+    match fault {
+        JudgeFault::Heap(fault) => sizes_words(fault),
+        JudgeFault::NoMemory => b"check: NoMemory",
+    }
+}
+
 fn write_words(fault: WriteFault) -> &'static [u8]
     ensures words { result.now ≡ write_words fault }
     ensures short { length result.now ≤ 40 }
@@ -72,6 +95,7 @@ fn put_words(buffer: &mut [u8], at: usize, fault: JobFault) -> usize
         JobFault::Read(_) => put_text(buffer, at, b"cannot read"),
         JobFault::Line(fault) => put_fault(buffer, at, fault),
         JobFault::Run(fault) => put_text(buffer, at, run_words(fault)),
+        JobFault::Judge(fault) => put_text(buffer, at, judge_words(fault)),
         JobFault::Write(fault) => put_text(buffer, at, write_words(fault)),
     }
 }

@@ -30,6 +30,8 @@ pub enum Order {
 pub enum Task {
     /// A script is run, and its record written.
     Script(Order),
+    /// The events of a record are judged.
+    Check,
 }
 
 /// What a command line asks for.
@@ -110,13 +112,15 @@ fn command<'a>(alloc: Global) -> Result<Command<'a>, AllocError> {
         "run",
         "Does the steps of a script, and prints the record",
     )?;
+    let check = with_file(alloc, "check", "Judges a record by the graph alone")?;
     Ok(
         Command::new(alloc, "g1heap")
             .about("A Garbage-First heap by steps")
             .subcommand_required(true)
             .subcommand(run)?
             .subcommand(sim_command(alloc)?)?
-            .subcommand(threads_command(alloc)?)?,
+            .subcommand(threads_command(alloc)?)?
+            .subcommand(check)?,
     )
 }
 
@@ -138,15 +142,16 @@ fn threads_order(found: &ArgMatches) -> Option<Order> {
 
 /// What a subcommand's words ask for. `None`: the subcommand is unknown, or a value isn't there.
 fn job_of<'a>(name: &str, found: &ArgMatches<'a>) -> Option<Job<'a>> {
-    let order = match name {
-        "run" => Order::File,
-        "sim" => drawn_order(found)?,
-        "threads" => threads_order(found)?,
+    let task = match name {
+        "run" => Task::Script(Order::File),
+        "sim" => Task::Script(drawn_order(found)?),
+        "threads" => Task::Script(threads_order(found)?),
+        "check" => Task::Check,
         _ => return None,
     };
     Some(Job {
         file: found.get_str("FILE")?,
-        task: Task::Script(order),
+        task,
     })
 }
 

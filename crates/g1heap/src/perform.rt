@@ -1,10 +1,12 @@
 //! What the program does with a job.
 
-ghost use Rattle.g1heap.specs.Runs.{Ends, Tells, Performs};
+ghost use Rattle.g1heap.specs.Runs.{Ends, Tells};
+ghost use Rattle.g1heap.specs.Jobs.{DoesJob};
 
 use crate::actors::{simulate_script, thread_script};
 use crate::faults::{JobFault, tell};
 use crate::job::{Job, Order, Task};
+use crate::judge::perform_check;
 use crate::script::run_script;
 use std::alloc::Global;
 use std::io::{Read, Write};
@@ -59,10 +61,13 @@ pub fn perform<H: Threads + Wait + Sync, R: Read, W: Write, E: Write>(
     out: &mut W,
     err: &mut E,
 ) -> u8
-    ensures { Performs job.now.task (R.remaining reader.old) (R.remaining reader.new) (W.contents out.old) (W.contents out.new) (E.contents err.old) (E.contents err.new) result }
+    ensures { DoesJob job.now.task (R.remaining reader.old) (R.remaining reader.new) (W.contents out.old) (W.contents out.new) (E.contents err.old) (E.contents err.new) result }
 {
-    let outcome = match job.task() {
-        Task::Script(order) => do_script(rt, alloc, order, reader, out),
-    };
-    conclude(outcome, err)
+    match job.task() {
+        Task::Script(order) => {
+            let outcome = do_script(rt, alloc, order, reader, out);
+            conclude(outcome, err)
+        }
+        Task::Check => perform_check(alloc, reader, out, err),
+    }
 }

@@ -1,13 +1,14 @@
 //! The whole program: its words, the file that they name, and the status.
 
-ghost use Rattle.std.specs.Prelude.{◌≡◌, ◌≢◌, ◌≤◌, ◌⊎◌, List, ℕ, Option};
+ghost use Rattle.std.specs.Prelude.{◌≡◌, ◌≢◌, ◌≤◌, ◌⊎◌, List, ℕ, Option, None};
 ghost use Rattle.std.specs.Io.KnownBytes.{Keeps};
 ghost use Rattle.clap.specs.Values.{kind_of};
 ghost use Rattle.g1heap.specs.FaultLines.{TellsLine};
-ghost use Rattle.g1heap.specs.Runs.{Performs};
+ghost use Rattle.g1heap.specs.Jobs.{DoesJob};
 
 use crate::faults::JobFault;
-use crate::job::{Job, misspelt, read_words};
+use crate::job::{Job, Task, misspelt, read_words};
+use crate::judge::conclude_verdict;
 use crate::perform::{conclude, perform};
 use clap::Error;
 use clap::error::ErrorKind;
@@ -21,6 +22,16 @@ use std::thread::Threads;
 use std::{env, fs, io};
 use step_core::RunFault;
 
+/// Tells that a job's file can't be read, and answers the program's status.
+fn conclude_unread<E: Write>(task: Task, err: &mut E) -> u8
+    ensures { (old new : Option (List ℕ)) → Keeps old new → DoesJob task None None old new (E.contents err.old) (E.contents err.new) result }
+{
+    match task {
+        Task::Script(_) => conclude(Err(JobFault::Read(ReadFault::CannotRead)), err),
+        Task::Check => conclude_verdict(Err(JobFault::Read(ReadFault::CannotRead)), err),
+    }
+}
+
 /// Opens the job's file and does the job, and answers the program's status.
 pub fn open_and_perform<H: Files + Threads + Wait + Sync, W: Write, E: Write>(
     rt: &H,
@@ -29,11 +40,11 @@ pub fn open_and_perform<H: Files + Threads + Wait + Sync, W: Write, E: Write>(
     out: &mut W,
     err: &mut E,
 ) -> u8
-    ensures { (given left : Option (List ℕ)) × Performs job.now.task given left (W.contents out.old) (W.contents out.new) (E.contents err.old) (E.contents err.new) result }
+    ensures { (given left : Option (List ℕ)) × DoesJob job.now.task given left (W.contents out.old) (W.contents out.new) (E.contents err.old) (E.contents err.new) result }
 {
     match fs::open(rt, job.file()) {
         Ok(mut file) => perform(rt, alloc, job, &mut file, out, err),
-        Err(_) => conclude(Err(JobFault::Read(ReadFault::CannotRead)), err),
+        Err(_) => conclude_unread(job.task(), err),
     }
 }
 
@@ -68,7 +79,7 @@ pub fn program<R: Env + Files + AllocGlobal + Threads + Wait + Sync, W: Write, E
     out: &mut W,
     err: &mut E,
 ) -> u8
-    ensures { result ≤ 2 }
+    ensures { result ≤ 3 }
 {
     let words = match words(rt) {
         Ok(words) => words,

@@ -3,10 +3,12 @@
 mod actors;
 mod cases;
 mod drawn;
+mod judged;
+mod judging;
 mod programs;
 mod records;
 
-use crate::faults::{JobFault, tell};
+use crate::faults::{JobFault, JudgeFault, tell};
 use crate::job::{Order, Task, read_words};
 use crate::perform::{conclude, perform};
 use cases::CASES;
@@ -281,7 +283,7 @@ fn broken_writer(rt: HostRuntime) -> Result<(), Fail> {
 }
 
 /// The words of each fault's line.
-static FAULTS: [(JobFault, &str); 13] = [
+static FAULTS: [(JobFault, &str); 16] = [
     (JobFault::Read(ReadFault::CannotRead), "cannot read"),
     (JobFault::Read(ReadFault::NoMemory), "cannot read"),
     (
@@ -311,6 +313,15 @@ static FAULTS: [(JobFault, &str); 13] = [
         JobFault::Run(RunFault::Heap(NewFault::BadMutators)),
         "heap: 4 BadMutators",
     ),
+    (
+        JobFault::Judge(JudgeFault::Heap(NewFault::BadRegions)),
+        "heap: 1 BadRegions",
+    ),
+    (
+        JobFault::Judge(JudgeFault::Heap(NewFault::BadMutators)),
+        "heap: 4 BadMutators",
+    ),
+    (JobFault::Judge(JudgeFault::NoMemory), "check: NoMemory"),
     (JobFault::Write(WriteFault::CannotWrite), "cannot write"),
     (JobFault::Write(WriteFault::NoMemory), "run: 2 NoMemory"),
 ];
@@ -417,7 +428,7 @@ fn by_threads(workers: u32, refiners: u32, markers: u32) -> Order {
 #[test]
 fn command_lines(rt: HostRuntime) -> Result<(), Fail> {
     let alloc = rt.alloc();
-    let lines: [(&[&str], i32); 23] = [
+    let lines: [(&[&str], i32); 26] = [
         (&[], 2),
         (&["--help"], 0),
         (&["run", "--help"], 0),
@@ -449,7 +460,10 @@ fn command_lines(rt: HostRuntime) -> Result<(), Fail> {
             &["threads", "one.heap", "--workers", "1", "--schedule", "1"],
             2,
         ),
-        (&["check", "one.record"], 2),
+        (&["check", "--help"], 0),
+        (&["check"], 2),
+        (&["check", "one.record", "two.record"], 2),
+        (&["check", "one.record", "--workers", "1"], 2),
     ];
     for (line, status) in lines {
         let words = words(alloc, line)?;

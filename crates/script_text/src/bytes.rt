@@ -40,7 +40,7 @@ fn digit_count(number: u64) -> usize
 }
 
 /// Puts a number behind the first `at` bytes, and answers where it ends. A number has at most 20 digits.
-pub(crate) fn put_number(buffer: &mut [u8], at: usize, number: u64) -> usize
+pub fn put_number(buffer: &mut [u8], at: usize, number: u64) -> usize
     requires { at + 20 ≤ length buffer.old }
     ensures put { take result buffer.new ≡ take at buffer.old ++ decimal number }
     ensures end { result ≤ at + 20 }

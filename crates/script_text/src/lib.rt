@@ -12,11 +12,11 @@
 //! - `read_text` gives all bytes to the end of input, or says that a read failed.
 //! - `parse` gives the plan that a text spells, or the first line with a fault and the first fault of that line.
 //!   What is read of a text is spelled so in the whole of it, and each script's text is read as that script.
-//! - `parse_record` does the same of a record's text, and so gives back the record that was written.
+//! - `parse_record` does the same of a record's text, and so gives back the record that was written (`written_record_is_read`).
 //! - `write_record` appends the text of a record and no more, or a beginning of it and a fault. It holds one
 //!   buffer, however long the record is.
-//! - `put_text`, `put_fault` and `write_bytes` are for other lines of a program: they put texts into a buffer, and write
-//!   bytes in their order.
+//! - `put_text`, `put_number`, `put_fault` and `write_bytes` are for other lines of a program: they put texts into a buffer, and
+//!   write bytes in their order.
 #![tactic(auto)]
 
 mod bytes;
@@ -33,8 +33,9 @@ mod steps;
 mod tests;
 mod words;
 mod writing;
+mod written;
 
-pub use bytes::put_text;
+pub use bytes::{put_number, put_text};
 pub use fault::{Kind, LineFault, ReadFault, WriteFault, put_fault};
 pub use input::read_text;
 pub use laws::{
@@ -44,3 +45,4 @@ pub use laws::{
 pub use records::parse_record;
 pub use script::parse;
 pub use writing::{write_bytes, write_record};
+pub use written::written_record_is_read;

@@ -243,12 +243,46 @@ fn other_orders(rt: HostRuntime) -> Result<(), Fail> {
     Ok(())
 }
 
+/// A record is judged with its status, and one that can't be opened or read is a fault.
+#[test]
+fn judged_files(rt: HostRuntime) -> Result<(), Fail> {
+    let alloc = rt.alloc();
+    let rows: [(&[u8], &str, u8, &str, &str); 4] = [
+        (b"given.heap", RECORD, 0, "yes 1\n", ""),
+        (
+            b"given.heap",
+            "heap 4 16 8 1 0\n1 0 new r0 1 1 = #1\n",
+            3,
+            "no 1\n",
+            "",
+        ),
+        (b"other.heap", RECORD, 1, "", "g1heap: cannot read\n"),
+        (
+            b"given.heap",
+            "heap 4 24 8 1 0\n",
+            1,
+            "",
+            "g1heap: heap: 2 BadWords\n",
+        ),
+    ];
+    for (file, text, status, verdict, line) in rows {
+        let mut out = Vec::new(alloc);
+        let mut err = Vec::new(alloc);
+        let words: [&[u8]; 3] = [b"g1heap", b"check", file];
+        let text = text.as_bytes();
+        assert_eq!(rt; outcome(alloc, &words, text, &mut out, &mut err), status);
+        assert_eq!(rt; out.as_slice(), verdict.as_bytes());
+        assert_eq!(rt; err.as_slice(), line.as_bytes());
+    }
+    Ok(())
+}
+
 /// Words that ask for no job: help goes to standard output with status 0, a mistake to standard error with status 2. A word that isn't
 /// UTF-8 is a mistake.
 #[test]
 fn refusals(rt: HostRuntime) -> Result<(), Fail> {
     let alloc = rt.alloc();
-    let rows: [(&[&[u8]], u8); 11] = [
+    let rows: [(&[&[u8]], u8); 13] = [
         (&[b"g1heap", b"--help"], 0),
         (&[b"g1heap", b"sim", b"--help"], 0),
         (&[b"g1heap", b"threads", b"--help"], 0),
@@ -260,6 +294,8 @@ fn refusals(rt: HostRuntime) -> Result<(), Fail> {
         (&[b"g1heap", b"walk", b"given.heap"], 2),
         (&[b"g1heap", b"run"], 2),
         (&[b"g1heap", b"run", b"given.heap\xff"], 2),
+        (&[b"g1heap", b"check", b"--help"], 0),
+        (&[b"g1heap", b"check"], 2),
     ];
     for (words, status) in rows {
         let mut out = Vec::new(alloc);
