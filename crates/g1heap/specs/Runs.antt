@@ -53,7 +53,7 @@ IsFaultIn File config fault = IsRunFault config fault
 IsFaultIn (Drawn seed refiners markers) config fault = IsRunFault config fault
 IsFaultIn (Threads workers refiners markers) config fault = IsThreadsFault config fault
 
--- The faults of a run: that of counts exactly where one is out of range
+-- the faults of a run: that of counts exactly where one is out of range, and others where none is
 abbrev pub MayFail : Order → Config → RunFault → Type 0
 MayFail order config runs.BadWorkers = CountsSuit order → ⊥
 MayFail order config fault = CountsSuit order × IsFaultIn order config fault
@@ -78,7 +78,7 @@ WritesBeginning order input old new =
 abbrev pub GivesAll : Option (List ℕ) → Option (List ℕ) → List ℕ → Type 0
 GivesAll given left input = Consumes given left input × IsAtEnd left
 
--- what the reader gave to its end is the script of the plan, or has a first fault; or reading failed
+-- what the reader gave, to its end, is the script of the plan, or its first fault is told; or reading failed
 abbrev pub ReadsPlan : Option (List ℕ) → Option (List ℕ) → Result StepList JobFault → Type 0
 ReadsPlan given left (Ok plan) = (input : List ℕ) × GivesAll given left input × (script_of input ≡ Ok plan)
 ReadsPlan given left (Err (Read fault)) = (some : List ℕ) × Consumes given left some
