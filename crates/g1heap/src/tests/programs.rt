@@ -270,7 +270,10 @@ fn judged_files(rt: HostRuntime) -> Result<(), Fail> {
         let mut err = Vec::new(alloc);
         let words: [&[u8]; 3] = [b"g1heap", b"check", file];
         let text = text.as_bytes();
-        assert_eq!(rt; outcome(&rt, alloc, &words, text, &mut out, &mut err), status);
+        assert_eq!(rt;
+            outcome(&rt, alloc, &words, text, &mut out, &mut err),
+            status
+        );
         assert_eq!(rt; out.as_slice(), verdict.as_bytes());
         assert_eq!(rt; err.as_slice(), line.as_bytes());
     }
