@@ -7,7 +7,7 @@ use Rattle.object_graph.specs.State.{first_state}
 use Rattle.object_graph.specs.Run.{IsRun}
 use Rattle.script_text.specs.Lines.{script_of, FailsBy}
 use Rattle.script_text.specs.Records.{record_text}
-use Rattle.step_core.specs.Histories.{step_of, actor_in, actor_of, IsRunFault, RunsFromNew}
+use Rattle.step_core.specs.Histories.{step_in, actor_in, actor_of, IsRunFault, RunsFromNew}
 use Rattle.script_text.specs.declared.fault.WriteFault.TheVariants as writes
 use Rattle.g1heap.specs.FaultLines.{TellsLine}
 use Rattle.g1heap.specs.declared.faults.JobFault.{JobFault}
@@ -19,7 +19,7 @@ pub record IsScriptRun (input : List ℕ) (r : EventList) : Type 0 where
   pub plan : StepList
   pub read : script_of input ≡ Ok plan
   pub config : r.config ≡ plan.config
-  pub steps : map step_of r.events ≡ plan.steps
+  pub steps : map step_in r.events ≡ plan.steps
   pub actors : map actor_in r.events ≡ map actor_of plan.steps
   pub last : Graph
   pub run : IsRun (first_state r.config) r.events last
