@@ -2,7 +2,7 @@
 use Rattle.std.proofs.Common.{◌≡◌, ℕ, Result, Ok, Err, length, sym, ◌∙◌, ap, subst}
 use Rattle.std.specs.Prelude.{IfOk, OnErr}
 use Rattle.std.proofs.lemmas.List.{length-replicate}
-use Rattle.regions.specs.Table.{Table, HasNoMoved, free_table}
+use Rattle.regions.specs.Table.{Table, HasNoForwarded, free_table}
 use Rattle.alloc_buffers.specs.Placement.{Buffers, BuffersStand, IsPlace, closed}
 use Rattle.alloc_buffers.specs.declared.Place.{Place}
 use Rattle.alloc_buffers.specs.declared.Place.TheVariants as places
@@ -13,10 +13,10 @@ pub record IsReady (regions region words mutators : ℕ) (t : Table) (b : Buffer
   pub region_count : length t.regions ≡ regions
   pub words_are : b.words ≡ words
   pub region_size : t.words_per_region ≡ region
-  pub unmoved : HasNoMoved t
+  pub unmoved : HasNoForwarded t
   pub stand : BuffersStand t b
 
-pub ready_new : (regions region words mutators : ℕ) (t : Table) (b : Buffers) → t ≡ free_table regions region → HasNoMoved t → b ≡ closed words mutators → BuffersStand t b → IsReady regions region words mutators t b
+pub ready_new : (regions region words mutators : ℕ) (t : Table) (b : Buffers) → t ≡ free_table regions region → HasNoForwarded t → b ≡ closed words mutators → BuffersStand t b → IsReady regions region words mutators t b
 unfolding free_table
 ready_new regions region words mutators t b table none buffers stand = record {
   count = ap (λ (d : Buffers). length d.open_buffers) buffers ∙ length-replicate mutators _;

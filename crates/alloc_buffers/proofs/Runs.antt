@@ -4,17 +4,17 @@ use Rattle.std.proofs.lemmas.Bool.{cases_lt}
 use Rattle.heap_model.specs.Heap.{Stored}
 use Rattle.regions.specs.declared.row.Kind.TheVariants as kinds
 use Rattle.regions.specs.Shaped.{IsShaped}
-use Rattle.regions.specs.Table.{Table, Region, Free, Ordinary, First, Rest, region_kind, region_number, region_used, used_of, kind_of, tile_in, is_free, first_run, with_regions, run_regions}
-use Rattle.regions.proofs.Spliced.{IsOutside}
-use Rattle.regions.proofs.RunMade.{length-run_regions}
-use Rattle.regions.proofs.Released.{row_within}
-use Rattle.regions.proofs.RunLaws.{TakesRun, run_made, regions_spliced, tile_of_region}
+use Rattle.regions.specs.Table.{Table, Region, Free, Ordinary, First, Rest, region_kind, nth_region, region_used, used_of, kind_of, tile_in, is_free, first_run, with_regions, run_regions}
+use Rattle.regions.proofs.Tiles.Spliced.{IsOutside}
+use Rattle.regions.proofs.LongRuns.RunMade.{length-run_regions}
+use Rattle.regions.proofs.Tiles.Released.{row_within}
+use Rattle.regions.proofs.LongRuns.RunLaws.{TakesRun, run_made, regions_spliced, tile_of_region}
 use Rattle.alloc_buffers.specs.Placement.{Buffers, BuffersStand, IsAbove, AreAbove}
 
 -- a free region, by its kind
-free_region : (t : Table) (q : ℕ) → kind_of t q ≡ kinds.Free → region_number t q ≡ Free
+free_region : (t : Table) (q : ℕ) → kind_of t q ≡ kinds.Free → nth_region t q ≡ Free
 unfolding kind_of
-free_region t q h = go (region_number t q) h
+free_region t q h = go (nth_region t q) h
   where
     go : (r : Region) → region_kind r ≡ kinds.Free → r ≡ Free
     go Free e = refl
@@ -26,9 +26,9 @@ free_used : (t : Table) (q : ℕ) → kind_of t q ≡ kinds.Free → used_of t q
 unfolding used_of
 free_used t q h = ap (λ (r : Region). region_used t.words_per_region r) (free_region t q h)
 
-used_same : (t t' : Table) (q : ℕ) → t'.words_per_region ≡ t.words_per_region → region_number t' q ≡ region_number t q → used_of t' q ≡ used_of t q
+used_same : (t t' : Table) (q : ℕ) → t'.words_per_region ≡ t.words_per_region → nth_region t' q ≡ nth_region t q → used_of t' q ≡ used_of t q
 unfolding used_of
-used_same t t' q size e = ap (λ (n : ℕ). region_used n (region_number t' q)) size ∙ ap (λ (r : Region). region_used t.words_per_region r) e
+used_same t t' q size e = ap (λ (n : ℕ). region_used n (nth_region t' q)) size ∙ ap (λ (r : Region). region_used t.words_per_region r) e
 
 -- regions k and so on, m of them, are inside or outside
 inside : (k m q : ℕ) → IsOutside k m q ⊎ ((k ≤ q) × (q < k + m))

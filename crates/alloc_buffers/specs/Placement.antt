@@ -1,9 +1,9 @@
 -- Where an object goes.
 use Rattle.std.specs.Prelude.{◌≡◌, ◌≢◌, [], ◌∷◌, ℕ, zero, suc, ◌+◌, ◌-◌, ◌*◌, ◌/◌, ◌<◌, ◌≤◌, Option, Some, None, List, replicate, slice_get, slice_set, slice_index_or, length, if◌then◌else◌, nat_le}
 use Rattle.heap_model.specs.Heap.{Stored}
-use Rattle.regions.specs.Tiles.{Gap, Live}
+use Rattle.regions.specs.Tiles.{Filler, Object}
 use Rattle.regions.specs.declared.row.Kind.TheVariants as kinds
-use Rattle.regions.specs.Table.{Table, used_of, top_of, kind_of, first_free, taken, push_tile, replace_tile, gap, tile_in, object_at, HasNoMoved, first_run, is_free, with_regions, run_regions}
+use Rattle.regions.specs.Table.{Table, used_of, top_of, kind_of, first_free, taken, push_tile, replace_tile, remainder, tile_in, object_at, HasNoForwarded, first_run, is_free, with_regions, run_regions}
 use Rattle.alloc_buffers.specs.declared.Buffer.{Buffer}
 use Rattle.alloc_buffers.specs.declared.Place.{Place}
 use Rattle.alloc_buffers.specs.declared.Place.TheVariants as places
@@ -40,9 +40,9 @@ abbrev pub buffer_of : ℕ → ℕ → Option Buffer
 buffer_of next zero = None
 buffer_of next (suc n) = Some (record { next = next; rest = suc n })
 
-abbrev pub with_gap : Table → ℕ → ℕ → Table
-with_gap t k zero = t
-with_gap t k (suc n) = push_tile t k (Gap (suc n))
+abbrev pub with_filler : Table → ℕ → ℕ → Table
+with_filler t k zero = t
+with_filler t k (suc n) = push_tile t k (Filler (suc n))
 
 abbrev pub with_buffer : Buffers → Option ℕ → ℕ → Option Buffer → Buffers
 with_buffer b current m buffer = record { words = b.words; current = current; open_buffers = slice_set b.open_buffers m buffer }
@@ -51,7 +51,7 @@ abbrev pub in_new_buffer : Buffers → ℕ → ℕ → Option Room → Option Pl
 in_new_buffer b m size None = None
 in_new_buffer b m size (Some r) = Some (record {
   place = places.Filler (top_of r.table r.region);
-  table = with_gap (push_tile r.table r.region (Gap size)) r.region (b.words - size);
+  table = with_filler (push_tile r.table r.region (Filler size)) r.region (b.words - size);
   buffers = with_buffer b (Some r.region) m (buffer_of (top_of r.table r.region + size) (b.words - size));
 })
 
@@ -59,7 +59,7 @@ abbrev pub alone : Buffers → ℕ → Option Room → Option Placement
 alone b size None = None
 alone b size (Some r) = Some (record {
   place = places.Filler (top_of r.table r.region);
-  table = push_tile r.table r.region (Gap size);
+  table = push_tile r.table r.region (Filler size);
   buffers = record { words = b.words; current = Some r.region; open_buffers = b.open_buffers };
 })
 
@@ -69,7 +69,7 @@ outside t b m size = if nat_le size b.words then in_new_buffer b m size (room_fo
 abbrev pub in_buffer : Table → Buffers → ℕ → ℕ → Buffer → Placement
 in_buffer t b m size x = record {
   place = places.Filler x.next;
-  table = replace_tile t x.next (Gap size ∷ gap (x.rest - size));
+  table = replace_tile t x.next (Filler size ∷ remainder (x.rest - size));
   buffers = with_buffer b b.current m (buffer_of (x.next + size) (x.rest - size));
 }
 
@@ -104,7 +104,7 @@ place_of t b m size = if nat_le (2 * size) t.words_per_region then small_place_o
 
 pub record HasFiller (t : Table) (x : Buffer) : Type 0 where
   pub positive : 0 < x.rest
-  pub filler : tile_in t x.next ≡ Some (Gap x.rest)
+  pub filler : tile_in t x.next ≡ Some (Filler x.rest)
 
 -- open buffers are fillers of the table, each its own, and the current region is an ordinary one
 pub record BuffersStand (t : Table) (b : Buffers) : Type 0 where
@@ -124,10 +124,10 @@ pub record AreAbove (t : Table) (b : Buffers) (limit : ℕ → ℕ) : Type 0 whe
 
 -- a filler of the size is at the place, which belongs to no buffer, and no object changed
 pub record IsPlaced (t t' : Table) (b b' : Buffers) (size a : ℕ) : Type 0 where
-  pub filler : tile_in t' a ≡ Some (Gap size)
+  pub filler : tile_in t' a ≡ Some (Filler size)
   pub spare : (m : ℕ) (x : Buffer) → slice_get b'.open_buffers m ≡ Some (Some x) → x.next ≢ a
   pub objects : (y : ℕ) → object_at t' y ≡ object_at t y
-  pub unmoved : HasNoMoved t'
+  pub unmoved : HasNoForwarded t'
   pub region_size : t'.words_per_region ≡ t.words_per_region
   pub stand : BuffersStand t' b'
   pub open_count : length b'.open_buffers ≡ length b.open_buffers
@@ -164,12 +164,12 @@ IsPlace t t' b b' size (places.Run k count) = (t.words_per_region < 2 * size) ×
 
 -- an object of the size can be made in the place
 abbrev pub CanHold : Table → Place → ℕ → Type 0
-CanHold t (places.Filler a) size = tile_in t a ≡ Some (Gap size)
+CanHold t (places.Filler a) size = tile_in t a ≡ Some (Filler size)
 CanHold t (places.Run k count) size = IsRunFor t size k count
 
 -- the table once an object is made in its place
 abbrev pub made_at : Table → Place → Stored → Table
-made_at t (places.Filler a) s = replace_tile t a (Live s ∷ [])
+made_at t (places.Filler a) s = replace_tile t a (Object s ∷ [])
 made_at t (places.Run k count) s = with_regions t k count (run_regions t.words_per_region s count)
 
 -- region k of t' has room for w words; t' is t, but that k may have been free
@@ -178,7 +178,7 @@ pub record HasRoom (t t' : Table) (k w : ℕ) : Type 0 where
   pub known : k < length t'.regions
   pub ordinary : kind_of t' k ≡ kinds.Ordinary
   pub room : used_of t' k + w ≤ t'.words_per_region
-  pub unmoved : HasNoMoved t → HasNoMoved t'
+  pub unmoved : HasNoForwarded t → HasNoForwarded t'
   pub kinds_same : (j : ℕ) → kind_of t j ≡ kinds.Ordinary → kind_of t' j ≡ kinds.Ordinary
   pub in_use : (j : ℕ) → kind_of t j ≢ kinds.Free → kind_of t' j ≢ kinds.Free
   pub kinds_stay : (j : ℕ) → kind_of t j ≢ kinds.Free → kind_of t' j ≡ kind_of t j

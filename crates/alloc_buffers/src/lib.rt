@@ -30,8 +30,8 @@
 
 ghost use Rattle.std.specs.Prelude.{◌≡◌, ◌≢◌, ℕ, ◌<◌, ◌≤◌, ◌+◌, ◌-◌, ◌*◌, ◌^◌, ◌↔◌, ◌∷◌, length, Option, Some, None, replicate, IsTrue, IfOk, OnErr, IsErr, IfSome, IfNone, slice_get};
 ghost use Rattle.heap_model.specs.Heap.{Stored};
-ghost use Rattle.regions.specs.Table.{Table, HasNoMoved, used_of, top_of, kind_of, tile_in, push_tile, replace_tile, released, gap, first_run, is_free, with_regions, run_regions};
-ghost use Rattle.regions.specs.Tiles.{Gap};
+ghost use Rattle.regions.specs.Table.{Table, HasNoForwarded, used_of, top_of, kind_of, tile_in, push_tile, replace_tile, released, remainder, first_run, is_free, with_regions, run_regions};
+ghost use Rattle.regions.specs.Tiles.{Filler};
 ghost use Rattle.regions.specs.Shaped.{IsShaped};
 ghost use Rattle.regions.specs.declared.row.Kind.TheVariants as kinds;
 ghost use Rattle.alloc_buffers.specs.Placement.{room_for, place_of, small_place_of, run_count, outside, Buffers, BuffersStand, AreAbove, IsPlaced, IsPlace, IsAbove, buffer_of, HasRoom, in_buffer, alone, in_new_buffer};
@@ -131,7 +131,7 @@ fn push_filler(table: &mut RegionTable, region: RegionNo, size: u32) -> Addr
     requires positive { 0 < size }
     requires room { used_of table.old region + size ≤ table.old.words_per_region }
     ensures at { result ≡ region * table.old.words_per_region + used_of table.old region }
-    ensures pushed { table.new ≡ push_tile table.old region (Gap size) }
+    ensures pushed { table.new ≡ push_tile table.old region (Filler size) }
 {
     table.law();
     table.push_filler(region, FillerSize::new(size))
@@ -139,12 +139,12 @@ fn push_filler(table: &mut RegionTable, region: RegionNo, size: u32) -> Addr
 
 /// Splits a filler, and answers where its second part starts.
 fn split_filler(table: &mut RegionTable, at: Addr, rest: u32, size: u32) -> Addr
-    requires filler { tile_in table.old at ≡ Some (Gap rest) }
+    requires filler { tile_in table.old at ≡ Some (Filler rest) }
     requires positive { 0 < size }
     requires room { size ≤ rest }
     requires small { rest < 2 ^ 24 }
     ensures rest { result ≡ at + size }
-    ensures split { table.new ≡ replace_tile table.old at (Gap size ∷ gap (rest - size)) }
+    ensures split { table.new ≡ replace_tile table.old at (Filler size ∷ remainder (rest - size)) }
 {
     table.split_filler(at, FillerSize::new(rest), FillerSize::new(size))
 }
@@ -182,7 +182,7 @@ impl AllocBuffers {
         requires positive { 0 < size }
         requires within { size ≤ length table.old.regions * table.old.words_per_region }
         requires buffers { self.old.words ≤ table.old.words_per_region }
-        requires unmoved { HasNoMoved table.old }
+        requires unmoved { HasNoForwarded table.old }
         requires stand { BuffersStand table.old self.old }
         ensures place { IfOk result (λ p. place_of table.old self.old mutator size ≡ Some (record { place = p; table = table.new; buffers = self.new })) }
         ensures full { IsErr result ↔ (place_of table.old self.old mutator size ≡ None) }
@@ -240,7 +240,7 @@ impl AllocBuffers {
         requires positive { 0 < size }
         requires small { size ≤ table.old.words_per_region }
         requires buffers { self.old.words ≤ table.old.words_per_region }
-        requires unmoved { HasNoMoved table.old }
+        requires unmoved { HasNoForwarded table.old }
         requires stand { BuffersStand table.old self.old }
         ensures some { IfSome result (λ a. small_place_of table.old self.old mutator size ≡ Some (record { place = Place.Filler a; table = table.new; buffers = self.new })) }
         ensures none { IfNone result (small_place_of table.old self.old mutator size ≡ None) }
@@ -272,7 +272,7 @@ impl AllocBuffers {
         requires positive { 0 < size }
         requires small { size ≤ table.old.words_per_region }
         requires buffers { self.old.words ≤ table.old.words_per_region }
-        requires unmoved { HasNoMoved table.old }
+        requires unmoved { HasNoForwarded table.old }
         requires stand { BuffersStand table.old self.old }
         requires opened { slice_get self.old.open_buffers mutator ≡ Some (Some buffer) }
         requires room { size ≤ buffer.rest }
@@ -290,7 +290,7 @@ impl AllocBuffers {
         requires positive { 0 < size }
         requires small { size ≤ table.old.words_per_region }
         requires buffers { self.old.words ≤ table.old.words_per_region }
-        requires unmoved { HasNoMoved table.old }
+        requires unmoved { HasNoForwarded table.old }
         requires stand { BuffersStand table.old self.old }
         ensures some { IfSome result (λ a. alone self.old size (room_for table.old self.old.current size) ≡ Some (record { place = Place.Filler a; table = table.new; buffers = self.new })) }
         ensures none { IfNone result (alone self.old size (room_for table.old self.old.current size) ≡ None) }
@@ -311,7 +311,7 @@ impl AllocBuffers {
         requires positive { 0 < size }
         requires small { size ≤ table.old.words_per_region }
         requires buffers { self.old.words ≤ table.old.words_per_region }
-        requires unmoved { HasNoMoved table.old }
+        requires unmoved { HasNoForwarded table.old }
         requires stand { BuffersStand table.old self.old }
         requires fits { size ≤ self.old.words }
         ensures some { IfSome result (λ a. in_new_buffer self.old mutator size (room_for table.old self.old.current self.old.words) ≡ Some (record { place = Place.Filler a; table = table.new; buffers = self.new })) }

@@ -8,7 +8,7 @@ use Rattle.std.proofs.lemmas.List.Sums.{count_by-le-length}
 use Rattle.std.proofs.lemmas.List.Recursion.{is_sum_by}
 use Rattle.std.proofs.lemmas.Nat.{mul-le}
 use Rattle.heap_model.specs.Heap.{Stored, fields}
-use Rattle.regions.specs.Tiles.{Live}
+use Rattle.regions.specs.Tiles.{Object}
 use Rattle.regions.specs.Table.{Table, is_free, kind_of, object_at, stored_size}
 use Rattle.regions.specs.Shaped.{IsShaped}
 use Rattle.regions.specs.declared.row.Kind.TheVariants as kinds
@@ -21,8 +21,8 @@ use Rattle.region_choice.specs.declared.LiveRow.{LiveRow}
 use Rattle.regions.specs.Walks.{IsHolder}
 use Rattle.remembered_sets.specs.Sets.{card_count, covers}
 use Rattle.refinement.specs.Remembering.{IsCrossing}
-use Rattle.regions.proofs.Divides.{card_has_words, card_region, div_is, div_low, div_high}
-use Rattle.regions.proofs.Holders.{holder_start}
+use Rattle.regions.proofs.Words.Divides.{card_has_words, card_region, div_is, div_low, div_high}
+use Rattle.regions.proofs.Tiles.Holders.{holder_start}
 use Rattle.refinement.proofs.Holders.{object_within}
 use Rattle.object_copy.specs.Copies.{no_places}
 use Rattle.object_copy.proofs.Copied.{tile_of_object}
@@ -177,7 +177,7 @@ module _ (h : Layers) (rows : List LiveRow) (cw : ℕ) (can : CanEvacuate h rows
         let o = object b x at in
         let n = get_below (fields x) i (Some a) e in
         let big = object_within h.table b x shaped o in
-        let holder : IsHolder h.table b (field_at b i) = record { tile = Live x; tile_is = tile_of_object h.table b x o; low = omega arith; high = omega arith } in
+        let holder : IsHolder h.table b (field_at b i) = record { tile = Object x; tile_is = tile_of_object h.table b x o; low = omega arith; high = omega arith } in
         let leaves : a / words ≢ field_at b i / words = λ same. apart b (field_at b i) holder out (ap (flag flags) (sym same) ∙ inside) in
         let crossing : IsCrossing words kept b i a = record { object = x; kept_is = at; field_is = e; leaves = leaves } in
         let (j, row, f, g, r) = row_of (a / words) inside in

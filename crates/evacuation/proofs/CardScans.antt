@@ -4,13 +4,13 @@ use Rattle.std.specs.Prelude.{IsSome}
 use Rattle.std.specs.List.{AllZip}
 use Rattle.std.proofs.lemmas.Bool.{cases_eq, cases_lt}
 use Rattle.heap_model.specs.Heap.{Stored, fields}
-use Rattle.heap_model.specs.Evacuation.{IsWord, place_of}
-use Rattle.regions.specs.Tiles.{Live}
+use Rattle.heap_model.specs.Evacuation.{IsWord, place_after}
+use Rattle.regions.specs.Tiles.{Object}
 use Rattle.regions.specs.Table.{Table, tile_in, top_of}
 use Rattle.regions.specs.Walks.{IsHolder}
 use Rattle.regions.specs.Shaped.{IsShaped}
-use Rattle.regions.proofs.Divides.{card_has_words, card_within, card_region, div_low, div_high}
-use Rattle.regions.proofs.Holders.{holder_onward, holder_below}
+use Rattle.regions.proofs.Words.Divides.{card_has_words, card_within, card_region, div_low, div_high}
+use Rattle.regions.proofs.Tiles.Holders.{holder_onward, holder_below}
 use Rattle.object_copy.specs.Copies.{Places}
 use Rattle.object_copy.proofs.Copied.{tile_of_object}
 use Rattle.evacuation.specs.Space.{IsField, IsFieldClean, IsObject, IsStill, IsVisited, AreClean, field_at, flag}
@@ -21,7 +21,7 @@ use Rattle.mark_bitmap.specs.Tops.{Tops}
 use Rattle.mark_bitmap.specs.Kept.{kept_in}
 use Rattle.object_copy.proofs.Copied.{some_of}
 use Rattle.evacuation.proofs.Places.{is_some}
-use Rattle.regions.proofs.Steps.{some_tile}
+use Rattle.regions.proofs.Tiles.Steps.{some_tile}
 use Rattle.evacuation.proofs.Keeps.{kept_object}
 use Rattle.evacuation.proofs.After.{clean_after}
 
@@ -35,7 +35,7 @@ zip_length place (x ∷ xs) (y ∷ ys) z = let k = zip_length place xs ys z.1 in
 pub outside_stands : (p : Pause) (t : Table) (d : Places) (b : ℕ) (x : Stored) → IsTurn p t d → (plan p).heap.kept b ≡ Some x → in_set p b ≡ false → IsStill (space p t) b (length (fields x))
 outside_stands p t d b x turn at out =
     let k = turn.copying.heap.objects b b x at (rw out refl) in
-    (k.part, k.at, zip_length (place_of (in_set p) (space p t).forward) (fields x) (fields k.part) k.pointers)
+    (k.part, k.at, zip_length (place_after (in_set p) (space p t).forward) (fields x) (fields k.part) k.pointers)
 
 pub visited_field : (p : Pause) (t : Table) (d : Places) (visited : List Bool) (b i : ℕ) → IsTurn p t d → IsVisited (layout p) (plan p) visited b i → IsField (space p t) b i
 visited_field p t d visited b i turn v = let (y, at, n) = outside_stands p t d b v.object turn v.at v.outside in let k = v.within in record { object = y; at = at; within = omega arith }
@@ -45,7 +45,7 @@ visited_holder : (p : Pause) (t : Table) (d : Places) (visited : List Bool) (b i
 visited_holder p t d visited b i turn v =
     let f = visited_field p t d visited b i turn v in
     let w = f.within in
-    record { tile = Live f.object; tile_is = tile_of_object t b f.object (kept_object p t b f.object f.at); low = omega arith; high = omega arith }
+    record { tile = Object f.object; tile_is = tile_of_object t b f.object (kept_object p t b f.object f.at); low = omega arith; high = omega arith }
 
 module _ (p : Pause) (q : IsPause p) (card : ℕ) where
   has_words : 0 < p.card_words
@@ -84,18 +84,18 @@ module _ (p : Pause) (q : IsPause p) (card : ℕ) where
       | inr other ↦ let f = visited_field p t d visited b i turn v in clean_after (layout p) noted noted' (space p t) (space p t') d d' b i after v.outside (f.object, f.at) (done b i v e (omega arith))
     ]
 
-    tile' : (b i : ℕ) → IsVisited (layout p) (plan p) visited b i → (y : Stored) × (tile_in t' b ≡ Some (Live y))
+    tile' : (b i : ℕ) → IsVisited (layout p) (plan p) visited b i → (y : Stored) × (tile_in t' b ≡ Some (Object y))
     tile' b i v = let f = visited_field p t' d' visited b i turn' v in (f.object, tile_of_object t' b f.object (kept_object p t' b f.object f.at))
 
     pub clean_next : (next : ℕ) → IsNext t' at next → AreCleanBelow p visited t' card next
     clean_next next n b i v e h = elim (cases_lt at b) [
-      | inl above ↦ (let (y, is) = tile' b i v in absurd (n.between b (Live y) above h is))
+      | inl above ↦ (let (y, is) = tile' b i v in absurd (n.between b (Object y) above h is))
       | inr below ↦ upto b i v e below
     ]
 
     pub clean_last : IsLast t' at → ((b i : ℕ) → IsVisited (layout p) (plan p) visited b i → field_at b i / p.card_words ≡ card → b / t'.words_per_region ≡ at / t'.words_per_region) → IsCardClean p visited t' card
     clean_last n same b i v e = elim (cases_lt at b) [
-      | inl above ↦ (let (y, is) = tile' b i v in absurd (n b (Live y) above (same b i v e) is))
+      | inl above ↦ (let (y, is) = tile' b i v in absurd (n b (Object y) above (same b i v e) is))
       | inr below ↦ upto b i v e below
     ]
 
@@ -125,20 +125,12 @@ cards_skipped p t visited n m clean none b i v h = elim (cases_lt (field_at b i 
 pub card_small : (p : Pause) (card : ℕ) → IsPause p → card < length p.start.regions * p.cards_per_region → card * p.card_words + p.card_words ≤ length p.start.regions * p.start.words_per_region
 card_small p card q h = card_within card p.card_words p.start.words_per_region p.cards_per_region (length p.start.regions) q.whole_cards h
 
--- what isn't kept now isn't visited
-pub not_visited : (p : Pause) (t : Table) (d : Places) (visited : List Bool) (at i : ℕ) → IsTurn p t d → IsVisited (layout p) (plan p) visited at i → kept_now p t at ≡ None → ⊥
-not_visited p t d visited at i turn v e = let f = visited_field p t d visited at i turn v in let g = f.at in absurd cc
-
 pub object_now : (p : Pause) (t : Table) (tams : Tops) (marks : List Bool) (at : ℕ) → tams ≡ p.tams → marks ≡ p.previous → IsSome (kept_in t tams marks at) → IsObject (space p t) at
 unfolding kept_now
 object_now p t tams marks at e f s = some_of (kept_in t p.tams p.previous at) (subst (λ (m : List Bool). IsSome (kept_in t p.tams m at)) f (subst (λ (u : Tops). IsSome (kept_in t u marks at)) e s))
 
-pub some_now : (p : Pause) (t : Table) (tams : Tops) (marks : List Bool) (at : ℕ) → tams ≡ p.tams → marks ≡ p.previous → IsObject (space p t) at → IsSome (kept_in t tams marks at)
-unfolding kept_now
-some_now p t tams marks at e f o = subst (λ (m : List Bool). IsSome (kept_in t tams m at)) (sym f) (subst (λ (u : Tops). IsSome (kept_in t u p.previous at)) (sym e) (is_some (kept_in t p.tams p.previous at) o.0 o.1))
-
 pub object_tile : (p : Pause) (t : Table) (at : ℕ) → IsObject (space p t) at → IsSome (tile_in t at)
-object_tile p t at o = some_tile (tile_in t at) (Live o.0) (tile_of_object t at o.0 (kept_object p t at o.0 o.1))
+object_tile p t at o = some_tile (tile_in t at) (Object o.0) (tile_of_object t at o.0 (kept_object p t at o.0 o.1))
 
 -- regions of the start are those of each table
 pub region_by : (a b m n : ℕ) → m ≡ n → a / n ≡ b / n → a / m ≡ b / m

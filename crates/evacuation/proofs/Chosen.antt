@@ -5,11 +5,11 @@ use Rattle.std.specs.List.{list_any}
 use Rattle.std.proofs.lemmas.Bool.{cases_eq, cases_Bool}
 use Rattle.std.proofs.lemmas.List.Folds.{list_any-append}
 use Rattle.std.proofs.lemmas.List.{get_or-set_same, get_or-set_other, length-set, take_more}
-use Rattle.regions.specs.Table.{Free, Table, kind_of, region_kind, region_number, released}
+use Rattle.regions.specs.Table.{Free, Table, kind_of, region_kind, nth_region, released}
 use Rattle.regions.specs.declared.row.Kind.TheVariants as kinds
-use Rattle.regions.proofs.Released as one
-use Rattle.regions.proofs.Released.{region_released, released_one}
-use Rattle.regions.proofs.Sizes.{EachMovedIn-set}
+use Rattle.regions.proofs.Tiles.Released as one
+use Rattle.regions.proofs.Tiles.Released.{region_released, released_one}
+use Rattle.regions.proofs.Words.Sizes.{EachForwardedIn-set}
 use Rattle.mark_bitmap.specs.Marks.{is_marked}
 use Rattle.mark_bitmap.specs.Tops.{is_in_region}
 use Rattle.remembered_sets.specs.Sets.{Sets, cleared, empty_set}
@@ -18,7 +18,7 @@ use Rattle.mark_bitmap.proofs.Ranges as ranges
 use Rattle.std.proofs.lemmas.Bool.{eq-eqb, eqb-true, eqb-false}
 use Rattle.std.proofs.lemmas.Bool.Decides.{eqb_tells}
 use Rattle.evacuation.specs.Evacuates.{is_chosen, AreDistinct, MarksAfter}
-use Rattle.evacuation.specs.Releasing.{AreCleared, AreReleased, NoneMovedInto}
+use Rattle.evacuation.specs.Releasing.{AreCleared, AreReleased, NoneForwardedInto}
 
 or_false : (b : Bool) → (b || false) ≡ b
 or_false true = refl
@@ -40,7 +40,7 @@ neither false b e = (refl, e)
 
 region_is : (words r a : ℕ) → 0 < words → is_in_region words r a ≡ eqb r (a / words)
 region_is words r a z = elim (cases_Bool (is_in_region words r a)) [
-  | inl e ↦ e ∙ sym (eq-eqb r (a / words) (sym (ranges.region_number words r a e)))
+  | inl e ↦ e ∙ sym (eq-eqb r (a / words) (sym (ranges.nth_region words r a e)))
   | inr e ↦ elim (eqb_tells r (a / words)) [ inl q ↦ absurd (ranges.other_region words r a z e (sym q.1)) | inr q ↦ e ∙ sym q.0 ]
 ]
 
@@ -58,7 +58,7 @@ module _ (xs ys : List LiveRow) (r : ℕ) (more : (k : ℕ) → is_chosen ys k �
         size = w.size ∙ done.size;
         count = w.count ∙ done.count;
         gone = λ k e. elim (cases_eq k r) [
-          | inl q ↦ ap (region_number t2) q ∙ w.free
+          | inl q ↦ ap (nth_region t2) q ∙ w.free
           | inr q ↦ elim (new_cases k e) [ inl g ↦ w.others k q ∙ done.gone k g | inr g ↦ absurd (q (sym g)) ]
         ];
         others = λ k e. let (a, b) = old_both k e in w.others k b ∙ done.others k a;
@@ -103,8 +103,8 @@ module _ (xs ys : List LiveRow) (r : ℕ) (more : (k : ℕ) → is_chosen ys k �
       no true b x y e = refl
       no false b x y e = rw e refl
 
-pub none_moved : (rows : List LiveRow) (words : ℕ) (t t' : Table) (r : ℕ) → 0 < t.words_per_region → r < length t.regions → kind_of t r ≡ kinds.Ordinary → t' ≡ released t r → NoneMovedInto rows words t → NoneMovedInto rows words t'
-none_moved rows words t t' r z known o is m = subst (NoneMovedInto rows words) (sym (is ∙ released_one t r o)) (EachMovedIn-set (λ to. is_chosen rows (to / words) ≡ false) t.regions r Free tt m)
+pub none_moved : (rows : List LiveRow) (words : ℕ) (t t' : Table) (r : ℕ) → 0 < t.words_per_region → r < length t.regions → kind_of t r ≡ kinds.Ordinary → t' ≡ released t r → NoneForwardedInto rows words t → NoneForwardedInto rows words t'
+none_moved rows words t t' r z known o is m = subst (NoneForwardedInto rows words) (sym (is ∙ released_one t r o)) (EachForwardedIn-set (λ to. is_chosen rows (to / words) ≡ false) t.regions r Free tt m)
 
 -- a row isn't among those before it
 pub not_before : (rows : List LiveRow) (n : ℕ) (row : LiveRow) → AreDistinct rows → slice_get rows n ≡ Some row → is_chosen (take n rows) row.region ≡ false
@@ -128,7 +128,7 @@ not_before rows n row distinct e = go (is_chosen (take n rows) row.region) refl
     go false q = q
     go true q = absurd (let (i, x, f, g) = found (take n rows) row.region q in let (a, h) = in_take rows n i x f in let same = distinct i n x row h e g in omega arith)
 
-pub kind_by : (t t' : Table) (k : ℕ) → region_number t' k ≡ region_number t k → kind_of t' k ≡ kind_of t k
+pub kind_by : (t t' : Table) (k : ℕ) → nth_region t' k ≡ nth_region t k → kind_of t' k ≡ kind_of t k
 unfolding kind_of
 kind_by t t' k e = ap region_kind e
 

@@ -5,7 +5,7 @@ use Rattle.std.specs.List.{AllZip}
 use Rattle.std.proofs.lemmas.Bool.{cases_Bool}
 use Rattle.heap_model.specs.Heap.{Heap, Stored, fields}
 use Rattle.heap_model.specs.Relocation.{IsMoved, Relocates}
-use Rattle.heap_model.specs.Evacuation.{IsReached, ByRootWord, ByOutside, ByInside, place_of, IsWord, IsEvacuating, IsEvacuated, IsClean, released}
+use Rattle.heap_model.specs.Evacuation.{IsReached, ByRootWord, ByOutside, ByInside, place_after, IsWord, IsEvacuating, IsEvacuated, IsClean, released}
 use Rattle.heap_model.proofs.Lists.{AllZip-get_right}
 use Rattle.heap_model.proofs.Evacuated.{evacuated_relocates, word_was, reached_exactly}
 use Rattle.regions.specs.Table.{Table}
@@ -29,7 +29,7 @@ unfolding kept_now
 start_kept p a = refl
 
 module _ (p : Pause) (q : IsPause p) (noted visited : List Bool) (t : Table) (d : Places) (roots : List (Option ℕ)) (turn : IsTurn p t d)
-    (moved : AllZip (IsMoved (place_of (in_set p) (space p t).forward)) p.roots roots) (copies : (k : ℕ) → IsTaken d k → IsRegionSettled (layout p) noted (space p t) k)
+    (moved : AllZip (IsMoved (place_after (in_set p) (space p t).forward)) p.roots roots) (copies : (k : ℕ) → IsTaken d k → IsRegionSettled (layout p) noted (space p t) k)
     (each : EachCard p visited) (outside : AreClean (layout p) (plan p) visited (space p t) (length visited)) (remembered : AllVisited (layout p) (plan p) visited) where
   abbrev set : ℕ → Bool
   set = in_set p
@@ -37,7 +37,7 @@ module _ (p : Pause) (q : IsPause p) (noted visited : List Bool) (t : Table) (d 
   abbrev forward : ℕ → Option ℕ
   forward = (space p t).forward
 
-  zip_map : (xs ys : List (Option ℕ)) → AllZip (IsMoved (place_of set forward)) xs ys → AllZip (IsWord (place_of set forward)) xs ys
+  zip_map : (xs ys : List (Option ℕ)) → AllZip (IsMoved (place_after set forward)) xs ys → AllZip (IsWord (place_after set forward)) xs ys
   zip_map [] [] z = tt
   zip_map [] (y ∷ ys) z = absurd z
   zip_map (x ∷ xs) [] z = absurd z
@@ -57,18 +57,18 @@ module _ (p : Pause) (q : IsPause p) (noted visited : List Bool) (t : Table) (d 
     out = c.out;
   }
 
-  place_out : (a b : ℕ) → place_of set forward a ≡ Some b → set b ≡ false
+  place_out : (a b : ℕ) → place_after set forward a ≡ Some b → set b ≡ false
   place_out a b e = elim (cases_Bool (set a)) [
     | inl k ↦ (let e' : forward a ≡ Some b = rw k at e in turn.copying.heap.out a b k e')
     | inr k ↦ (let e' : Some a ≡ Some b = rw k at e in let same : a ≡ b = cc in ap set (sym same) ∙ k)
   ]
 
-  clean_word : (a : ℕ) (w : Option ℕ) → IsMoved (place_of set forward) w (Some a) → set a ≡ false
+  clean_word : (a : ℕ) (w : Option ℕ) → IsMoved (place_after set forward) w (Some a) → set a ≡ false
   clean_word a None m = absurd m
   clean_word a (Some b) m = place_out b a m
 
   roots_clean : IsClean set roots
-  roots_clean i a e = let (w, is, m) = AllZip-get_right (IsMoved (place_of set forward)) p.roots roots moved i (Some a) e in clean_word a w m
+  roots_clean i a e = let (w, is, m) = AllZip-get_right (IsMoved (place_after set forward)) p.roots roots moved i (Some a) e in clean_word a w m
 
   -- a field of an object that stood outside: where it named the set, it was visited
   outside_clean : (b i a : ℕ) (y : Stored) → kept_now p t b ≡ Some y → set b ≡ false → (x : Stored) → (plan p).heap.kept b ≡ Some x → slice_get (fields y) i ≡ Some (Some a) → set a ≡ false
@@ -77,7 +77,7 @@ module _ (p : Pause) (q : IsPause p) (noted visited : List Bool) (t : Table) (d 
         let k = turn.copying.heap.objects b b x here (rw out refl) in
         let same : y ≡ k.part = let e1 = k.at in cc in
         let e' = subst (λ (z : Stored). slice_get (fields z) i ≡ Some (Some a)) same e in
-        let (w, is, v) = AllZip-get_right (IsWord (place_of set forward)) (fields x) (fields k.part) k.pointers i (Some a) e' in
+        let (w, is, v) = AllZip-get_right (IsWord (place_after set forward)) (fields x) (fields k.part) k.pointers i (Some a) e' in
         let was = word_was set (plan p).heap forward (seen_as (space p t) (plan p).heap) turn.copying.heap w a v inside in
         let named = is ∙ ap Some was in
         let within = get_below (fields x) i (Some a) named in
@@ -101,7 +101,7 @@ module _ (p : Pause) (q : IsPause p) (noted visited : List Bool) (t : Table) (d 
         ];
   }
 
-  pub relocated : Relocates (place_of set forward) (plan p).heap (released set now)
+  pub relocated : Relocates (place_after set forward) (plan p).heap (released set now)
   relocated = evacuated_relocates set (plan p).heap forward now evacuating evacuated
 
   pub each_copied : (a : ℕ) → IsReached set (plan p).heap a → (b : ℕ) × (forward a ≡ Some b)

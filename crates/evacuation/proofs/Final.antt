@@ -6,15 +6,15 @@ use Rattle.std.specs.List.Sorted.{IsStrictlyIncreasing}
 use Rattle.std.proofs.lemmas.Bool.{cases_lt, cases_Bool}
 use Rattle.heap_model.specs.Heap.{Stored}
 use Rattle.heap_model.specs.Relocation.{Relocates}
-use Rattle.heap_model.specs.Evacuation.{IsReached, place_of, released}
-use Rattle.regions.specs.Tiles.{Tile, Live, Gap, Moved, tile_size, tile_at}
+use Rattle.heap_model.specs.Evacuation.{IsReached, place_after, released}
+use Rattle.regions.specs.Tiles.{Tile, Object, Filler, Forwarded, tile_size, tile_at}
 use Rattle.regions.specs.Walks.{AllPositive, region_tiles, tiles_of}
-use Rattle.regions.proofs.Placing.{tile_at-back}
-use Rattle.regions.proofs.WalkFrom.{listed_tile}
-use Rattle.regions.specs.Table.{Region, Free, Ordinary, First, Rest, Table, EachMoved, EachMovedIn, HasNoMoved, kind_of, moved_to, object_at, region_kind, region_number, region_tile, region_used, tile_in, tile_object, used_of, AreHalves}
+use Rattle.regions.proofs.Tiles.Placing.{tile_at-back}
+use Rattle.regions.proofs.Walks.WalkFrom.{listed_tile}
+use Rattle.regions.specs.Table.{Region, Free, Ordinary, First, Rest, Table, EachForwarded, EachForwardedIn, HasNoForwarded, kind_of, moved_to, object_at, region_kind, nth_region, region_tile, region_used, tile_in, tile_object, used_of, AreHalves}
 use Rattle.regions.specs.Shaped.{IsShaped}
 use Rattle.regions.specs.declared.row.Kind.TheVariants as kinds
-use Rattle.regions.proofs.RunLaws.{tile_of_region}
+use Rattle.regions.proofs.LongRuns.RunLaws.{tile_of_region}
 use Rattle.mark_bitmap.specs.Marks.{is_marked}
 use Rattle.mark_bitmap.specs.Tops.{Tops, is_below}
 use Rattle.mark_bitmap.specs.Kept.{MarksObjects, kept_in}
@@ -50,11 +50,11 @@ past [] k h = refl
 past (x ∷ xs) zero h = absurd (omega arith)
 past (x ∷ xs) (suc k) h = past xs k (omega arith)
 
-used_by : (t t' : Table) (k : ℕ) → t'.words_per_region ≡ t.words_per_region → region_number t' k ≡ region_number t k → used_of t' k ≡ used_of t k
+used_by : (t t' : Table) (k : ℕ) → t'.words_per_region ≡ t.words_per_region → nth_region t' k ≡ nth_region t k → used_of t' k ≡ used_of t k
 unfolding used_of
-used_by t t' k w e = ap (λ (n : ℕ). region_used n (region_number t' k)) w ∙ ap (region_used t.words_per_region) e
+used_by t t' k w e = ap (λ (n : ℕ). region_used n (nth_region t' k)) w ∙ ap (region_used t.words_per_region) e
 
-kind_free : (t : Table) (k : ℕ) → region_number t k ≡ Free → kind_of t k ≡ kinds.Free
+kind_free : (t : Table) (k : ℕ) → nth_region t k ≡ Free → kind_of t k ≡ kinds.Free
 unfolding kind_of
 kind_free t k e = ap region_kind e
 
@@ -62,32 +62,32 @@ object_by : (t : Table) (a : ℕ) (u : Option Tile) → tile_in t a ≡ u → ob
 unfolding object_at
 object_by t a u e = ap tile_object e
 
-moved_tile : (o : Option Tile) (b : ℕ) → moved_to o ≡ Some b → (n : ℕ) × (o ≡ Some (Moved b n))
+moved_tile : (o : Option Tile) (b : ℕ) → moved_to o ≡ Some b → (n : ℕ) × (o ≡ Some (Forwarded b n))
 moved_tile None b e = absurd cc
-moved_tile (Some (Live s)) b e = absurd cc
-moved_tile (Some (Gap m)) b e = absurd cc
-moved_tile (Some (Moved to n)) b e = (n, let same : to ≡ b = cc in ap (λ (k : ℕ). Some (Moved k n)) same)
+moved_tile (Some (Object s)) b e = absurd cc
+moved_tile (Some (Filler m)) b e = absurd cc
+moved_tile (Some (Forwarded to n)) b e = (n, let same : to ≡ b = cc in ap (λ (k : ℕ). Some (Forwarded k n)) same)
 
 -- where no tile is moved, no tile of the regions is
 next_tile : (t : Tile) (ts : List Tile) (o : ℕ) → 0 < tile_size t → tile_at (tile_size t + o) (t ∷ ts) ≡ tile_at o ts
 next_tile t ts o z = let e : tile_size t + o - (tile_size t + 0) ≡ o = omega arith in tile_at-back (t ∷ []) ts (tile_size t + o) (z, tt) (omega arith) ∙ ap (λ (m : ℕ). tile_at m ts) e
 
-tiles_none : (ts : List Tile) → AllPositive ts → ((o to n : ℕ) → tile_at o ts ≡ Some (Moved to n) → ⊥) → EachMoved (λ _. ⊥) ts
+tiles_none : (ts : List Tile) → AllPositive ts → ((o to n : ℕ) → tile_at o ts ≡ Some (Forwarded to n) → ⊥) → EachForwarded (λ _. ⊥) ts
 tiles_none [] z f = tt
-tiles_none (Live s ∷ ts) z f = tiles_none ts z.1 (λ o to n e. f (tile_size (Live s) + o) to n (next_tile (Live s) ts o z.0 ∙ e))
-tiles_none (Gap m ∷ ts) z f = tiles_none ts z.1 (λ o to n e. f (m + o) to n (next_tile (Gap m) ts o z.0 ∙ e))
-tiles_none (Moved a m ∷ ts) z f = absurd (f 0 a m refl)
+tiles_none (Object s ∷ ts) z f = tiles_none ts z.1 (λ o to n e. f (tile_size (Object s) + o) to n (next_tile (Object s) ts o z.0 ∙ e))
+tiles_none (Filler m ∷ ts) z f = tiles_none ts z.1 (λ o to n e. f (m + o) to n (next_tile (Filler m) ts o z.0 ∙ e))
+tiles_none (Forwarded a m ∷ ts) z f = absurd (f 0 a m refl)
 
-regions_none : (rs : List Region) → ((k : ℕ) → EachMoved (λ _. ⊥) (region_tiles (get_or rs k Free))) → EachMovedIn (λ _. ⊥) rs
+regions_none : (rs : List Region) → ((k : ℕ) → EachForwarded (λ _. ⊥) (region_tiles (get_or rs k Free))) → EachForwardedIn (λ _. ⊥) rs
 regions_none [] f = tt
 regions_none (Free ∷ rs) f = regions_none rs (λ k. f (suc k))
 regions_none (Ordinary ts ∷ rs) f = (f 0, regions_none rs (λ k. f (suc k)))
 regions_none (First s ∷ rs) f = regions_none rs (λ k. f (suc k))
 regions_none (Rest n ∷ rs) f = regions_none rs (λ k. f (suc k))
 
-none_moved : (t : Table) → IsShaped t → ((a to n : ℕ) → tile_in t a ≡ Some (Moved to n) → ⊥) → HasNoMoved t
-unfolding tiles_of region_number
-none_moved t g f = regions_none t.regions (λ k. tiles_none (tiles_of t k) (g.fitting k).positive (λ o to n e. f (k * t.words_per_region + o) to n (listed_tile t k o (Moved to n) g e)))
+none_moved : (t : Table) → IsShaped t → ((a to n : ℕ) → tile_in t a ≡ Some (Forwarded to n) → ⊥) → HasNoForwarded t
+unfolding tiles_of nth_region
+none_moved t g f = regions_none t.regions (λ k. tiles_none (tiles_of t k) (g.fitting k).positive (λ o to n e. f (k * t.words_per_region + o) to n (listed_tile t k o (Forwarded to n) g e)))
 
 module _ (h : Layers) (rows : List LiveRow) (cw : ℕ) (can : CanEvacuate h rows cw) (shaped : IsShaped h.table) (flags : List Bool) (flags_are : (k : ℕ) → flag flags k ≡ is_chosen rows k) (len : length flags ≡ length h.table.regions)
     (t1 : Table) (d1 : Places) (turn : IsTurn (asked.pause h rows cw can shaped flags flags_are len) t1 d1) (t2 : Table) (rel : AreReleased rows t1 t2) where
@@ -111,14 +111,14 @@ module _ (h : Layers) (rows : List LiveRow) (cw : ℕ) (can : CanEvacuate h rows
 
   -- what stands where after the release
   tile_inside : (a : ℕ) → in_set p a ≡ true → tile_in t2 a ≡ None
-  tile_inside a e = tile_of_region t2 a Free (ap (λ (n : ℕ). region_number t2 (a / n)) size ∙ rel.gone (a / words) (sym (flags_are (a / words)) ∙ e))
+  tile_inside a e = tile_of_region t2 a Free (ap (λ (n : ℕ). nth_region t2 (a / n)) size ∙ rel.gone (a / words) (sym (flags_are (a / words)) ∙ e))
 
   tile_outside : (a : ℕ) → in_set p a ≡ false → tile_in t2 a ≡ tile_in t1 a
   tile_outside a e =
-      let same : region_number t2 (a / t2.words_per_region) ≡ region_number t1 (a / t1.words_per_region) =
-      ap (λ (n : ℕ). region_number t2 (a / n)) size ∙ rel.others (a / words) (sym (flags_are (a / words)) ∙ e) ∙ ap (λ (n : ℕ). region_number t1 (a / n)) (sym turn.table.size) in
-      let tile = tile_of_region t2 a (region_number t1 (a / t1.words_per_region)) same ∙ ap (λ (n : ℕ). region_tile (region_number t1 (a / t1.words_per_region)) (a % n)) rel.size in
-      tile ∙ sym (tile_of_region t1 a (region_number t1 (a / t1.words_per_region)) refl)
+      let same : nth_region t2 (a / t2.words_per_region) ≡ nth_region t1 (a / t1.words_per_region) =
+      ap (λ (n : ℕ). nth_region t2 (a / n)) size ∙ rel.others (a / words) (sym (flags_are (a / words)) ∙ e) ∙ ap (λ (n : ℕ). nth_region t1 (a / n)) (sym turn.table.size) in
+      let tile = tile_of_region t2 a (nth_region t1 (a / t1.words_per_region)) same ∙ ap (λ (n : ℕ). region_tile (nth_region t1 (a / t1.words_per_region)) (a % n)) rel.size in
+      tile ∙ sym (tile_of_region t1 a (nth_region t1 (a / t1.words_per_region)) refl)
 
   objects : (a : ℕ) → object_at t2 a ≡ (if in_set p a then None else object_at t1 a)
   objects a = elim (cases_Bool (in_set p a)) [
@@ -126,13 +126,13 @@ module _ (h : Layers) (rows : List LiveRow) (cw : ℕ) (can : CanEvacuate h rows
     | inr e ↦ rw e (object_by t2 a (tile_in t1 a) (tile_outside a e) ∙ sym (object_by t1 a (tile_in t1 a) refl))
   ]
 
-  no_moved : (a to n : ℕ) → tile_in t2 a ≡ Some (Moved to n) → ⊥
+  no_moved : (a to n : ℕ) → tile_in t2 a ≡ Some (Forwarded to n) → ⊥
   no_moved a to n e = elim (cases_Bool (in_set p a)) [
     | inl i ↦ (let g = tile_inside a i in cc)
     | inr o ↦ (let g = turn.table.moved a to n (sym (tile_outside a o) ∙ e) in cc)
   ]
 
-  pub unmoved : IsShaped t2 → HasNoMoved t2
+  pub unmoved : IsShaped t2 → HasNoForwarded t2
   unmoved g = none_moved t2 g no_moved
 
   outside : (a : ℕ) → in_set p a ≡ false → object_at t2 a ≡ object_at t1 a
@@ -174,12 +174,12 @@ module _ (h : Layers) (rows : List LiveRow) (cw : ℕ) (can : CanEvacuate h rows
       let here = sym (outside a out) ∙ e in
       let chosen : is_chosen rows (a / words) ≡ false = sym (flags_are (a / words)) ∙ out in
       let kind : kind_of t1 (a / words) ≡ kinds.Ordinary = sym (kind_by t1 t2 (a / words) (rel.others (a / words) chosen)) ∙ ap (λ (n : ℕ). kind_of t2 (a / n)) (sym size) ∙ o in
-      subst (λ (n : ℕ). 2 * tile_size (Live x) ≤ n) (sym size) (elim (cases_free (kind_of h.table (a / words))) [
+      subst (λ (n : ℕ). 2 * tile_size (Object x) ≤ n) (sym size) (elim (cases_free (kind_of h.table (a / words))) [
         | inl f ↦ turn.table.small a x out f here
         | inr n ↦ go a x out n here kind (object_at h.table a) refl
       ])
     where
-      go : (a : ℕ) (x : Stored) → in_set p a ≡ false → kind_of h.table (a / words) ≢ kinds.Free → object_at t1 a ≡ Some x → kind_of t1 (a / words) ≡ kinds.Ordinary → (z : Option Stored) → object_at h.table a ≡ z → 2 * tile_size (Live x) ≤ words
+      go : (a : ℕ) (x : Stored) → in_set p a ≡ false → kind_of h.table (a / words) ≢ kinds.Free → object_at t1 a ≡ Some x → kind_of t1 (a / words) ≡ kinds.Ordinary → (z : Option Stored) → object_at h.table a ≡ z → 2 * tile_size (Object x) ≤ words
       go a x out n here kind None f = absurd (let g = turn.table.none a out n f in cc)
       go a x out n here kind (Some z) f =
           let (y, g, s) = turn.table.objects a z out f in
@@ -187,7 +187,7 @@ module _ (h : Layers) (rows : List LiveRow) (cw : ℕ) (can : CanEvacuate h rows
           let q = can.halves a z f (sym (turn.table.kinds_same (a / words) out n) ∙ kind) in
           let e1 = s.count in
           let e2 = ap (λ (m : List ℕ). length m) s.values in
-          subst (λ (m : Stored). 2 * tile_size (Live m) ≤ words) same (omega arith)
+          subst (λ (m : Stored). 2 * tile_size (Object m) ≤ words) same (omega arith)
 
   module _ (tops tops' : List ℕ) (marks marks' : List Bool) (m : MarksObjects h.table tops marks) (after : MarksAfter words rows tops tops' marks marks') where
     top_out : (k : ℕ) → is_chosen rows k ≡ false → get_or tops' k 0 ≡ get_or tops k 0
@@ -236,7 +236,7 @@ module _ (h : Layers) (rows : List LiveRow) (cw : ℕ) (can : CanEvacuate h rows
   module _ (tams' : Tops) (previous' next' : List Bool) (cards' : Cards) (sets' : Sets) (roots' : List (Option ℕ)) (noted : List Bool) (g : IsShaped t2)
       (previous : MarksAfter words rows h.tams.previous tams'.previous h.previous previous') (next : MarksAfter words rows h.tams.next tams'.next h.next next')
       (cleared : AreCleared rows h.sets sets') (dirty : (card : ℕ) → is_dirty cards' card ≡ flag noted card) (logs : cards'.logs ≡ h.cards.logs) (rising : IsStrictlyIncreasing cards'.queue) (each : length cards'.dirty ≡ length h.cards.dirty)
-      (moved : Relocates (place_of (in_set p) (space p t1).forward) (plan p).heap (released (in_set p) (record { kept = kept_now p t1; roots = roots' })))
+      (moved : Relocates (place_after (in_set p) (space p t1).forward) (plan p).heap (released (in_set p) (record { kept = kept_now p t1; roots = roots' })))
       (reached : (a : ℕ) → IsReached (in_set p) (plan p).heap a → (b : ℕ) × ((space p t1).forward a ≡ Some b))
       (copied_words : AreReachedWords (in_set p) (plan p).heap d1.words) (fields : AreFieldsNoted p noted t1) (clean : AreFieldsClean p t1)
       (only : (c : ℕ) → flag noted c ≡ true → NewCrossing (layout p) (space p h.table) (space p t1) d1 c) where
@@ -256,8 +256,8 @@ module _ (h : Layers) (rows : List LiveRow) (cw : ℕ) (can : CanEvacuate h rows
     same_heap : heap_of h' ≡ released (in_set p) (record { kept = kept_now p t1; roots = roots' })
     same_heap = ap (λ (f : ℕ → Option Stored). record { kept = f; roots = roots' }) (λ i a. kept_after a i)
 
-    relocates : Relocates (place_of (set_by h rows) forward) (heap_of h) (heap_of h')
-    relocates = subst (λ (s : ℕ → Bool). Relocates (place_of s forward) (heap_of h) (heap_of h')) (sym sets_same) (subst (Relocates (place_of (in_set p) forward) (heap_of h)) (sym same_heap) moved)
+    relocates : Relocates (place_after (set_by h rows) forward) (heap_of h) (heap_of h')
+    relocates = subst (λ (s : ℕ → Bool). Relocates (place_after s forward) (heap_of h) (heap_of h')) (sym sets_same) (subst (Relocates (place_after (in_set p) forward) (heap_of h)) (sym same_heap) moved)
 
     copied : (a : ℕ) → IsReached (set_by h rows) (heap_of h) a ↔ ((set_by h rows a ≡ true) × (b : ℕ) × (forward a ≡ Some b))
     copied = subst (λ (s : ℕ → Bool). (a : ℕ) → IsReached s (heap_of h) a ↔ ((s a ≡ true) × (b : ℕ) × (forward a ≡ Some b))) (sym sets_same)
@@ -286,8 +286,8 @@ module _ (h : Layers) (rows : List LiveRow) (cw : ℕ) (can : CanEvacuate h rows
           ];
     })
 
-    keeps_old : IsNewSet h rows → (m : Marking) → ((a : ℕ) → m.old a ≡ below_next h.table h.tams a) → KeepsOld (place_of (set_by h rows) forward) (heap_of h) m
-    keeps_old new m old = subst (λ (s : ℕ → Bool). KeepsOld (place_of s forward) (heap_of h) m) (sym sets_same) (record {
+    keeps_old : IsNewSet h rows → (m : Marking) → ((a : ℕ) → m.old a ≡ below_next h.table h.tams a) → KeepsOld (place_after (set_by h rows) forward) (heap_of h) m
+    keeps_old new m old = subst (λ (s : ℕ → Bool). KeepsOld (place_after s forward) (heap_of h) m) (sym sets_same) (record {
       stays = λ a x e o. elim (cases_Bool (in_set p a)) [
         | inl i ↦ absurd (let b = young a i in let c = old a in cc)
         | inr q ↦ rw q refl

@@ -4,7 +4,7 @@ use Rattle.std.specs.Prelude.{if◌then◌else◌}
 use Rattle.std.proofs.lemmas.Bool.{le-ltb}
 use Rattle.heap_model.specs.Heap.{Stored}
 use Rattle.regions.specs.Tiles.{Tile}
-use Rattle.regions.specs.Table.{Region, Free, Ordinary, First, Rest, Table, region_used, region_kind, region_number, kind_of, used_of, object_at, tile_in, tile_object}
+use Rattle.regions.specs.Table.{Region, Free, Ordinary, First, Rest, Table, region_used, region_kind, nth_region, kind_of, used_of, object_at, tile_in, tile_object}
 use Rattle.regions.specs.declared.row.Kind.{Kind}
 use Rattle.regions.specs.declared.row.Kind.TheVariants as kinds
 use Rattle.mark_bitmap.specs.Marks.{is_marked}
@@ -47,7 +47,7 @@ kept_object p t a y e = sym (kept_some p t t a y e refl) ∙ e
 
 pub free_used : (t : Table) (k : ℕ) → kind_of t k ≡ kinds.Free → used_of t k ≡ 0
 unfolding kind_of used_of
-free_used t k e = go (region_number t k) e
+free_used t k e = go (nth_region t k) e
   where
     go : (r : Region) → region_kind r ≡ kinds.Free → region_used t.words_per_region r ≡ 0
     go Free q = refl

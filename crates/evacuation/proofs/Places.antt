@@ -3,11 +3,11 @@ use Rattle.std.proofs.Common.{◌≡◌, ◌≢◌, ℕ, suc, zero, ◌+◌, ◌
 use Rattle.std.specs.Prelude.{IsSome, IfSome}
 use Rattle.std.proofs.lemmas.Bool.{cases_lt}
 use Rattle.heap_model.specs.Heap.{Stored}
-use Rattle.regions.specs.Tiles.{Tile, Live, tile_size}
-use Rattle.regions.specs.Table.{Table, kind_of, moved_to, object_at, object_words, tile_in, tile_object, EachMovedIn, free_count}
+use Rattle.regions.specs.Tiles.{Tile, Object, tile_size}
+use Rattle.regions.specs.Table.{Table, kind_of, moved_to, object_at, object_words, tile_in, tile_object, EachForwardedIn, free_count}
 use Rattle.regions.specs.Shaped.{IsShaped}
 use Rattle.regions.specs.declared.row.Kind.TheVariants as kinds
-use Rattle.regions.proofs.Sizes.{EachMovedIn-imp}
+use Rattle.regions.proofs.Words.Sizes.{EachForwardedIn-imp}
 use Rattle.refinement.proofs.Holders.{object_within}
 use Rattle.object_copy.specs.Copies.{Places, CanPlace, Copies, CopiesObject, fill_of}
 use Rattle.object_copy.proofs.Copied as copied
@@ -69,16 +69,16 @@ module _ (p : Pause) (q : IsPause p) (t : Table) (d : Places) (turn : IsTurn p t
     pub some_object : IsSome (object_at t from)
     some_object = is_some (object_at t from) x object
 
-    size : object_words t from ≡ tile_size (Live x)
+    size : object_words t from ≡ tile_size (Object x)
     size = copied.words_of t from x object
 
-    halves : 2 * tile_size (Live x) ≤ p.start.words_per_region
+    halves : 2 * tile_size (Object x) ≤ p.start.words_per_region
     halves = named_small (layout p) (plan p) (space p t) d from x q.plan_is turn.copying named un kept
 
     pub small : object_words t from ≤ t.words_per_region
     small = let a = size in let b = halves in let c = turn.table.size in omega arith
 
-    within : tile_size (Live x) ≤ (space p t).left
+    within : tile_size (Object x) ≤ (space p t).left
     within =
         left_has (kept_now p t) (in_set p) (all_words p) from x
         (let a = object_within t from x shaped object in let b = turn.table.count in let e = turn.table.size in let f : length t.regions * t.words_per_region ≡ all_words p = rw (b, e) refl in omega arith)
@@ -87,8 +87,8 @@ module _ (p : Pause) (q : IsPause p) (t : Table) (d : Places) (turn : IsTurn p t
     pub ordinary : kind_of t (from / t.words_per_region) ≡ kinds.Ordinary
     ordinary = subst (λ (n : ℕ). kind_of t (from / n) ≡ kinds.Ordinary) (sym turn.table.size) (turn.table.chosen (from / p.start.words_per_region) named.inside)
 
-    pub untargeted : EachMovedIn (λ to. to ≢ from) t.regions
-    untargeted = EachMovedIn-imp (λ to. in_set p to ≡ false) (λ to. to ≢ from) t.regions (λ to o e. let a = ap (in_set p) e in let b = named.inside in absurd cc) turn.table.targets
+    pub untargeted : EachForwardedIn (λ to. to ≢ from) t.regions
+    untargeted = EachForwardedIn-imp (λ to. in_set p to ≡ false) (λ to. to ≢ from) t.regions (λ to o e. let a = ap (in_set p) e in let b = named.inside in absurd cc) turn.table.targets
 
     pub last_known : IfSome d.last (λ k. k < length t.regions)
     last_known = if_some (λ k. k < length t.regions) d.last (λ k e. let r = turn.taken k (turn.copying.last k e) in let a = r.2 in let b = turn.table.count in omega arith)
@@ -99,9 +99,9 @@ module _ (p : Pause) (q : IsPause p) (t : Table) (d : Places) (turn : IsTurn p t
     pub can_place : CanPlace t.words_per_region (free_count t) (fill_of t d.last) (object_words t from)
     can_place =
         subst (λ (n : ℕ). CanPlace t.words_per_region (free_count t) (fill_of t d.last) n) (sym size)
-        (subst (λ (n : ℕ). CanPlace n (free_count t) (fill_of t d.last) (tile_size (Live x))) (sym turn.table.size)
-        (subst (λ (o : Option ℕ). CanPlace p.start.words_per_region (free_count t) o (tile_size (Live x))) (filled_is p t d.last)
-        (room_place p.start.words_per_region (free_count t) (space p t).left (tile_size (Live x)) (filled (space p t) d.last) turn.copying.room (omega arith) within)))
+        (subst (λ (n : ℕ). CanPlace n (free_count t) (fill_of t d.last) (tile_size (Object x))) (sym turn.table.size)
+        (subst (λ (o : Option ℕ). CanPlace p.start.words_per_region (free_count t) o (tile_size (Object x))) (filled_is p t d.last)
+        (room_place p.start.words_per_region (free_count t) (space p t).left (tile_size (Object x)) (filled (space p t) d.last) turn.copying.room (omega arith) within)))
 
     pub count : d.words + object_words t from < 4294967296
     count = let a = size in let b = within in let c = turn.copying.limit in let e = q.plan_is.limit in omega arith

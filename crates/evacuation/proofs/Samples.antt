@@ -3,8 +3,8 @@ use Rattle.std.proofs.Common.{◌≡◌, ◌∙◌, ℕ, zero, suc, ◌+◌, ◌
 use Rattle.std.specs.Prelude.{All, slice_get, nat_le, if◌then◌else◌}
 use Rattle.std.proofs.lemmas.List.{length-replicate}
 use Rattle.heap_model.specs.Heap.{Stored, fields}
-use Rattle.regions.specs.Tiles.{Live, Gap, tile_size, tile_at}
-use Rattle.regions.specs.Table.{Table, Free, Ordinary, AreHalves, HasNoMoved, fields_at, free_count, kind_of, object_at, put_object, push_tile, region_at, region_number, region_tile, replace_tile, set_field, tile_in, tile_object, used_of, new_object, gap}
+use Rattle.regions.specs.Tiles.{Object, Filler, tile_size, tile_at}
+use Rattle.regions.specs.Table.{Table, Free, Ordinary, AreHalves, HasNoForwarded, fields_at, free_count, kind_of, object_at, put_object, push_tile, region_at, nth_region, region_tile, replace_tile, set_field, tile_in, tile_object, used_of, new_object, remainder}
 use Rattle.regions.specs.declared.row.Kind.TheVariants as kinds
 use Rattle.regions.proofs.Samples.{sample, filled1, IsUsable}
 use Rattle.mark_bitmap.specs.Tops.{bottoms, is_below}
@@ -21,9 +21,9 @@ use Rattle.evacuation.specs.Evacuates.{Layers, CanEvacuate, IsRow, kept_of}
 use Rattle.evacuation.specs.Samples.{IsFresh, NamesItself, selfish}
 
 abbrev whole : Table
-whole = sample (Ordinary (Live selfish ∷ []) ∷ Free ∷ Free ∷ Free ∷ [])
+whole = sample (Ordinary (Object selfish ∷ []) ∷ Free ∷ Free ∷ Free ∷ [])
 
-only_at : (q o : ℕ) (y : Stored) → tile_object (region_tile (get_or (Ordinary (Live selfish ∷ []) ∷ Free ∷ Free ∷ Free ∷ []) q Free) o) ≡ Some y → (q ≡ 0) × (o ≡ 0) × (selfish ≡ y)
+only_at : (q o : ℕ) (y : Stored) → tile_object (region_tile (get_or (Ordinary (Object selfish ∷ []) ∷ Free ∷ Free ∷ Free ∷ []) q Free) o) ≡ Some y → (q ≡ 0) × (o ≡ 0) × (selfish ≡ y)
 only_at zero zero y e = (refl, refl, cc)
 only_at zero (suc o) y e = absurd (behind (nat_le 3 (suc o)) e)
   where
@@ -59,11 +59,11 @@ abbrev row : LiveRow
 row = record { region = 0; live_bound = 3 }
 
 bound_is : (tops : List ℕ) (marks : List Bool) → tops ≡ bottoms 4 16 → 3 ≡ live_bound_of whole tops marks 0
-unfolding live_bound_of used_of region_number
+unfolding live_bound_of used_of nth_region
 bound_is tops marks e = rw e refl
 
 ordinary_is : kind_of whole 0 ≡ kinds.Ordinary
-unfolding kind_of region_number
+unfolding kind_of nth_region
 ordinary_is = refl
 
 stands_at : object_at whole 0 ≡ Some selfish
@@ -96,7 +96,7 @@ module _ (h : Layers) (f : IsFresh h) where
 
   pub can_evacuate : CanEvacuate h (row ∷ []) 8
   can_evacuate = record {
-    unmoved = subst HasNoMoved (sym f.table) (tt, tt);
+    unmoved = subst HasNoForwarded (sym f.table) (tt, tt);
     previous = fresh_objects h.table 4 16 h.tams.previous h.previous (sym count) (sym words) f.previous_tops f.previous;
     next = fresh_objects h.table 4 16 h.tams.next h.next (sym count) (sym words) f.next_tops f.next;
     closed = record {
@@ -106,7 +106,7 @@ module _ (h : Layers) (f : IsFresh h) where
           let (j, w) = the_target i (Some a) (ap (λ (x : Stored). slice_get (fields x) i) s ∙ e) in
           the_same a cc;
     };
-    halves = subst AreHalves (sym f.table) (λ a x e o. let (z, s) = only a x e in subst (λ (y : Stored). 2 * tile_size (Live y) ≤ 16) s (omega arith));
+    halves = subst AreHalves (sym f.table) (λ a x e o. let (z, s) = only a x e in subst (λ (y : Stored). 2 * tile_size (Object y) ≤ 16) s (omega arith));
     fit = record {
       whole_cards = words ∙ sym (ap (λ (s : Sets). s.cards_per_region * 8) f.sets);
       each_region = ap (λ (s : Sets). length s.sets) f.sets ∙ length-replicate 4 (empty_set 4) ∙ sym count;
@@ -132,24 +132,24 @@ module _ (h : Layers) (f : IsFresh h) where
 
 -- ---- how the test makes the table
 abbrev cut : Table
-cut = sample (Ordinary (Gap 3 ∷ []) ∷ Free ∷ Free ∷ Free ∷ [])
+cut = sample (Ordinary (Filler 3 ∷ []) ∷ Free ∷ Free ∷ Free ∷ [])
 
 abbrev made : Option ℕ → Table
-made w = sample (Ordinary (Live (record { name = 7; pointers = w ∷ []; values = [] }) ∷ []) ∷ Free ∷ Free ∷ Free ∷ [])
+made w = sample (Ordinary (Object (record { name = 7; pointers = w ∷ []; values = [] }) ∷ []) ∷ Free ∷ Free ∷ Free ∷ [])
 
 pub usable : (t : Table) (k n : ℕ) → t ≡ filled1 → k ≡ 0 → n ≡ 3 → IsUsable t k n
-unfolding kind_of region_number used_of
+unfolding kind_of nth_region used_of
 usable t k n e p q = rw (e, p, q) (record { known = omega arith; ordinary = refl; room = omega arith })
 
-pub is_cut : (t t' : Table) (k n : ℕ) → t ≡ filled1 → t' ≡ push_tile t k (Gap n) → k ≡ 0 → n ≡ 3 → t' ≡ cut
-unfolding push_tile region_number
+pub is_cut : (t t' : Table) (k n : ℕ) → t ≡ filled1 → t' ≡ push_tile t k (Filler n) → k ≡ 0 → n ≡ 3 → t' ≡ cut
+unfolding push_tile nth_region
 is_cut t t' k n e g p q = rw (g, e, p, q) refl
 
-pub filler_there : (t : Table) (a n : ℕ) → t ≡ cut → a ≡ 0 → n ≡ 3 → tile_in t a ≡ Some (Gap n)
+pub filler_there : (t : Table) (a n : ℕ) → t ≡ cut → a ≡ 0 → n ≡ 3 → tile_in t a ≡ Some (Filler n)
 unfolding tile_in region_at
 filler_there t a n e p q = rw (e, p, q) refl
 
-pub is_made : (t t' : Table) (a n p d : ℕ) → t ≡ cut → t' ≡ replace_tile t a (Live (new_object 7 p d) ∷ gap (n - (2 + p + d))) → a ≡ 0 → n ≡ 3 → p ≡ 1 → d ≡ 0 → t' ≡ made None
+pub is_made : (t t' : Table) (a n p d : ℕ) → t ≡ cut → t' ≡ replace_tile t a (Object (new_object 7 p d) ∷ remainder (n - (2 + p + d))) → a ≡ 0 → n ≡ 3 → p ≡ 1 → d ≡ 0 → t' ≡ made None
 unfolding replace_tile region_at
 is_made t t' a n p d e g x y z w = rw (g, e, x, y, z, w) refl
 

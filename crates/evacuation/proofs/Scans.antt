@@ -3,7 +3,7 @@ use Rattle.std.proofs.Common.{◌≡◌, ℕ, ◌+◌, ◌*◌, ◌/◌, ◌%◌
 use Rattle.std.specs.Prelude.{slice_get, IsSome}
 use Rattle.std.proofs.lemmas.Bool.{cases_eq, cases_lt}
 use Rattle.heap_model.specs.Heap.{Stored}
-use Rattle.regions.specs.Tiles.{Live}
+use Rattle.regions.specs.Tiles.{Object}
 use Rattle.regions.specs.Table.{Table, kind_of, used_of, top_of, tile_in}
 use Rattle.regions.specs.Shaped.{IsShaped}
 use Rattle.regions.specs.declared.row.Kind.TheVariants as kinds
@@ -12,7 +12,7 @@ use Rattle.object_copy.proofs.Copied.{tile_of_object}
 use Rattle.evacuation.specs.Space.{IsObject, IsObjectSettled, IsRegionSettled, IsTaken, flag}
 use Rattle.evacuation.specs.Turns.{Pause, IsPause, IsTurn, After, in_set, kept_now, layout, space}
 use Rattle.regions.specs.Walks.{IsNext, IsLast}
-use Rattle.regions.proofs.Steps.{tile_low, tile_there}
+use Rattle.regions.proofs.Tiles.Steps.{tile_low, tile_there}
 use Rattle.evacuation.specs.Cursors.{AreSettledBelow}
 use Rattle.evacuation.proofs.Lists.{get_within, get_before}
 use Rattle.evacuation.proofs.Keeps.{kept_fresh, kept_object, object_of}
@@ -25,7 +25,7 @@ copy_there p q t d turn k w a r s =
     let free : kind_of p.start (a / p.start.words_per_region) ≡ kinds.Free = ap (kind_of p.start) r ∙ (turn.taken k w).0 in
     let (x, same) = turn.table.live a u free e in
     let known : a / p.start.words_per_region < length p.start.regions = subst (λ (m : ℕ). m < length p.start.regions) (sym r) (turn.taken k w).2 in
-    (x, kept_fresh p t a q turn.table.size known free ∙ object_of t a (Some (Live x)) (e ∙ ap Some same))
+    (x, kept_fresh p t a q turn.table.size known free ∙ object_of t a (Some (Object x)) (e ∙ ap Some same))
 
 module _ (p : Pause) (q : IsPause p) (t : Table) (d : Places) (turn : IsTurn p t d) (g : IsShaped t) (k : ℕ) (w : IsTaken d k) where
   words : t.words_per_region ≡ p.start.words_per_region
@@ -38,13 +38,13 @@ module _ (p : Pause) (q : IsPause p) (t : Table) (d : Places) (turn : IsTurn p t
   copy_outside a r = ap (flag p.chosen) r ∙ turn.copying.taken k w
 
   -- a kept object of the region has a tile below its top
-  pub kept_tile : (a : ℕ) (y : Stored) → kept_now p t a ≡ Some y → tile_in t a ≡ Some (Live y)
+  pub kept_tile : (a : ℕ) (y : Stored) → kept_now p t a ≡ Some y → tile_in t a ≡ Some (Object y)
   kept_tile a y e = tile_of_object t a y (kept_object p t a y e)
 
   pub kept_low : (a : ℕ) (y : Stored) → a / p.start.words_per_region ≡ k → kept_now p t a ≡ Some y → a < k * p.start.words_per_region + used_of t k
   kept_low a y r e =
       let r' : a / t.words_per_region ≡ k = subst (λ (n : ℕ). a / n ≡ k) (sym words) r in
-      let low = tile_low t a (Live y) g (kept_tile a y e) (ap (kind_of t) r' ∙ (turn.taken k w).1) in
+      let low = tile_low t a (Object y) g (kept_tile a y e) (ap (kind_of t) r' ∙ (turn.taken k w).1) in
       let s = ap (top_of t) r' in
       let m = ap (λ (n : ℕ). k * n + used_of t k) words in
       omega arith
@@ -76,7 +76,7 @@ module _ (p : Pause) (q : IsPause p) (t : Table) (d : Places) (turn : IsTurn p t
       | inl low ↦ below_at b y rb low e
       | inr high ↦ elim (cases_eq b at) [
         | inl same ↦ subst (IsObjectSettled (layout p) noted' (space p t')) (sym same) settled
-        | inr other ↦ absurd (n.between b (Live y) (omega arith) h (tile_of_object t' b y (kept_object p t' b y e)))
+        | inr other ↦ absurd (n.between b (Object y) (omega arith) h (tile_of_object t' b y (kept_object p t' b y e)))
       ]
     ]
 
@@ -85,7 +85,7 @@ module _ (p : Pause) (q : IsPause p) (t : Table) (d : Places) (turn : IsTurn p t
       | inl low ↦ below_at b y rb low e
       | inr high ↦ elim (cases_eq b at) [
         | inl same ↦ subst (IsObjectSettled (layout p) noted' (space p t')) (sym same) settled
-        | inr other ↦ absurd (n b (Live y) (omega arith) (
+        | inr other ↦ absurd (n b (Object y) (omega arith) (
             let z = turn'.table.size in
             let e1 : b / t'.words_per_region ≡ k = subst (λ (m : ℕ). b / m ≡ k) (sym z) rb in
             let e2 : at / t'.words_per_region ≡ k = subst (λ (m : ℕ). at / m ≡ k) (sym z) r in

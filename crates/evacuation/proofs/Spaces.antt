@@ -3,38 +3,38 @@ use Rattle.std.proofs.Common.{◌≡◌, ◌≢◌, ℕ, ◌+◌, ◌*◌, ◌/�
 use Rattle.std.specs.Prelude.{slice_get}
 use Rattle.std.proofs.lemmas.Bool.{cases_eq}
 use Rattle.heap_model.specs.Heap.{Stored}
-use Rattle.regions.specs.Tiles.{Live, Moved, tile_size}
-use Rattle.regions.specs.Table.{Table, is_free, kind_of, moved_to, object_at, region_number, tile_in, used_of}
+use Rattle.regions.specs.Tiles.{Object, Forwarded, tile_size}
+use Rattle.regions.specs.Table.{Table, is_free, kind_of, moved_to, object_at, nth_region, tile_in, used_of}
 use Rattle.regions.specs.Rows.{kind_is_free}
 use Rattle.regions.specs.Shaped.{IsShaped}
 use Rattle.regions.specs.declared.row.Kind.TheVariants as kinds
-use Rattle.regions.proofs.Divides.{div_is}
+use Rattle.regions.proofs.Words.Divides.{div_is}
 use Rattle.refinement.proofs.Holders.{object_within}
 use Rattle.object_copy.specs.Copies.{Places, Copies, CopiesObject, Takes, fill_of}
 use Rattle.object_copy.proofs.Frees.{free_by_kind}
 use Rattle.object_copy.proofs.Copied.{copied_moved, tile_of_object}
-use Rattle.regions.proofs.Placing as placing
+use Rattle.regions.proofs.Tiles.Placing as placing
 use Rattle.evacuation.specs.Space.{CopiesTo, GoesOn, TakesNext, IsTaken, filled, flag, words_of}
 use Rattle.evacuation.specs.Turns.{Pause, IsPause, IsTurn, TableStays, all_words, in_set, kept_now, layout, space}
 use Rattle.evacuation.proofs.Lefts.{left_less}
 use Rattle.evacuation.proofs.Lists.{push_place}
 use Rattle.evacuation.proofs.Keeps.{kept_as, kept_none, kept_object, kept_fresh, object_of, cases_free}
 
-moved_live : (t : Table) (a : ℕ) (x : Stored) → tile_in t a ≡ Some (Live x) → moved_to (tile_in t a) ≡ None
+moved_live : (t : Table) (a : ℕ) (x : Stored) → tile_in t a ≡ Some (Object x) → moved_to (tile_in t a) ≡ None
 moved_live t a x e = ap moved_to e
 
 pub filled_is : (p : Pause) (t : Table) (w : Option ℕ) → filled (space p t) w ≡ fill_of t w
 filled_is p t None = refl
 filled_is p t (Some k) = refl
 
-free_kind : (t : Table) (k : ℕ) → kind_of t k ≡ kinds.Free → is_free (region_number t k) ≡ true
+free_kind : (t : Table) (k : ℕ) → kind_of t k ≡ kinds.Free → is_free (nth_region t k) ≡ true
 free_kind t k e = free_by_kind t k ∙ ap kind_is_free e
 
-ordinary_kind : (t : Table) (k : ℕ) → kind_of t k ≡ kinds.Ordinary → is_free (region_number t k) ≡ false
+ordinary_kind : (t : Table) (k : ℕ) → kind_of t k ≡ kinds.Ordinary → is_free (nth_region t k) ≡ false
 ordinary_kind t k e = free_by_kind t k ∙ ap kind_is_free e
 
 module _ (p : Pause) (q : IsPause p) (t t' : Table) (d d' : Places) (turn : IsTurn p t d) (shaped : IsShaped t) (from to : ℕ) (x : Stored)
-    (inside : in_set p from ≡ true) (at : kept_now p t from ≡ Some x) (small : 2 * tile_size (Live x) ≤ p.start.words_per_region)
+    (inside : in_set p from ≡ true) (at : kept_now p t from ≡ Some x) (small : 2 * tile_size (Object x) ≤ p.start.words_per_region)
     (c : Copies t t' d d' from to x) (changes : (k : ℕ) → object_at t from ≡ Some x → d'.last ≡ Some k → CopiesObject t t' k from to x) where
   words : t.words_per_region ≡ p.start.words_per_region
   words = turn.table.size
@@ -45,7 +45,7 @@ module _ (p : Pause) (q : IsPause p) (t t' : Table) (d d' : Places) (turn : IsTu
   here : object_at t from ≡ Some x
   here = kept_object p t from x at
 
-  stood : tile_in t from ≡ Some (Live x)
+  stood : tile_in t from ≡ Some (Object x)
   stood = tile_of_object t from x here
 
   last : d'.last ≡ Some k
@@ -89,7 +89,7 @@ module _ (p : Pause) (q : IsPause p) (t t' : Table) (d d' : Places) (turn : IsTu
 
   kept_copy : kept_now p t' to ≡ Some x
   kept_copy =
-      kept_fresh p t' to q size' (subst (λ (n : ℕ). n < length p.start.regions) (sym at_region) known) (ap (kind_of p.start) at_region ∙ fresh.0) ∙ object_of t' to (Some (Live x)) w.copy
+      kept_fresh p t' to q size' (subst (λ (n : ℕ). n < length p.start.regions) (sym at_region) known) (ap (kind_of p.start) at_region ∙ fresh.0) ∙ object_of t' to (Some (Object x)) w.copy
 
   other : (a : ℕ) → (a ≡ from → ⊥) → (a ≡ to → ⊥) → object_at t' a ≡ object_at t a
   other a n m = object_of t' a (tile_in t a) (w.others a n m) ∙ sym (object_of t a (tile_in t a) refl)
@@ -108,12 +108,12 @@ module _ (p : Pause) (q : IsPause p) (t t' : Table) (d d' : Places) (turn : IsTu
         room = ap (λ (y : Places). y.room) c.places_are ∙ ap (λ (y : Places). y.room) g.1;
         free_count = w.free_same o;
         free = λ j. elim (cases_eq j k) [
-          | inl e ↦ subst (λ (m : ℕ). is_free (region_number t' m) ≡ is_free (region_number t m)) (sym e) (ordinary_kind t' k w.ordinary ∙ sym (ordinary_kind t k o))
+          | inl e ↦ subst (λ (m : ℕ). is_free (nth_region t' m) ≡ is_free (nth_region t m)) (sym e) (ordinary_kind t' k w.ordinary ∙ sym (ordinary_kind t k o))
           | inr e ↦ free_by_kind t' j ∙ ap kind_is_free (w.kinds_same j e) ∙ sym (free_by_kind t j)
         ];
       })
 
-  takes : Takes t c.table d c.places k → ((f : ℕ) → fill_of t d.last ≡ Some f → t.words_per_region < f + tile_size (Live x)) → TakesNext (layout p) (space p t) (space p t') d d' k (words_of x)
+  takes : Takes t c.table d c.places k → ((f : ℕ) → fill_of t d.last ≡ Some f → t.words_per_region < f + tile_size (Object x)) → TakesNext (layout p) (space p t) (space p t') d d' k (words_of x)
   takes g full =
       let r = placing.region_taken t k g.lowest in
       record {
@@ -131,7 +131,7 @@ module _ (p : Pause) (q : IsPause p) (t t' : Table) (d d' : Places) (turn : IsTu
   copies_to = record {
     region = k;
     last = last;
-    words = ap (λ (y : Places). y.words) c.places_are ∙ ap (λ (n : ℕ). n + tile_size (Live x)) (elim c.opens.how [ inl g ↦ ap (λ (y : Places). y.words) g.1 | inr g ↦ g.0.words ]);
+    words = ap (λ (y : Places). y.words) c.places_are ∙ ap (λ (n : ℕ). n + tile_size (Object x)) (elim c.opens.how [ inl g ↦ ap (λ (y : Places). y.words) g.1 | inr g ↦ g.0.words ]);
     at_region = at_region;
     above = let a = w.at in let e = ap (λ (n : ℕ). k * n) words in omega arith;
     room = kept_none p t to (object_of t to None w.was);
@@ -141,13 +141,13 @@ module _ (p : Pause) (q : IsPause p) (t t' : Table) (d d' : Places) (turn : IsTu
       | inr e ↦ ap moved_to (w.others a n e)
     ];
     copy = kept_copy;
-    gone = kept_none p t' from (object_of t' from (Some (Moved to (tile_size (Live x)))) w.forwarded);
+    gone = kept_none p t' from (object_of t' from (Some (Forwarded to (tile_size (Object x)))) w.forwarded);
     others = kept_other;
     used = w.used;
     used_same = w.used_same;
     left = λ out. left_less (kept_now p t) (kept_now p t') (in_set p) (all_words p) from x
         (let a = object_within t from x shaped here in let b = turn.table.count in let e = words in let f : length t.regions * t.words_per_region ≡ all_words p = rw (b, e) refl in omega arith)
-        inside at (kept_none p t' from (object_of t' from (Some (Moved to (tile_size (Live x)))) w.forwarded))
+        inside at (kept_none p t' from (object_of t' from (Some (Forwarded to (tile_size (Object x)))) w.forwarded))
         (λ b n i. kept_other b n (λ e. let f = ap (in_set p) e in let g = to_out in absurd cc));
     how = elim c.opens.how [ inl g ↦ goes (inr g) | inr g ↦ inr (takes g.0 g.1) ];
   }
@@ -179,7 +179,7 @@ module _ (p : Pause) (q : IsPause p) (t t' : Table) (d d' : Places) (turn : IsTu
           | inr e ↦ (let u = w.used_same j e in let b = s.filled j f (sym (w.kinds_same j e) ∙ o) in omega arith)
         ];
         small = λ a y out f e. elim (cases_eq a to) [
-          | inl g ↦ (let h = ap (object_at t') g in let i = object_of t' to (Some (Live x)) w.copy in let r : x ≡ y = cc in subst (λ (m : Stored). 2 * tile_size (Live m) ≤ p.start.words_per_region) r small)
+          | inl g ↦ (let h = ap (object_at t') g in let i = object_of t' to (Some (Object x)) w.copy in let r : x ≡ y = cc in subst (λ (m : Stored). 2 * tile_size (Object m) ≤ p.start.words_per_region) r small)
           | inr g ↦ s.small a y out f (sym (other a (λ h. let j = ap (in_set p) h in let i = inside in absurd cc) g) ∙ e)
         ];
         moved = λ a b n e. elim (cases_eq a from) [

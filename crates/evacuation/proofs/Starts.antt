@@ -4,13 +4,13 @@ use Rattle.std.proofs.lemmas.List.Sums.{count_by-le-length}
 use Rattle.heap_model.specs.Heap.{Stored}
 use Rattle.heap_model.specs.Evacuation.{IsEvacuating}
 use Rattle.heap_model.proofs.Evacuated.{start}
-use Rattle.regions.specs.Tiles.{Tile, Live, Moved}
-use Rattle.regions.specs.Table.{Region, Free, Ordinary, First, Rest, Table, HasNoMoved, is_free, kind_of, moved_to, region_at, region_kind, region_number, region_tile, tile_in, free_count}
+use Rattle.regions.specs.Tiles.{Tile, Object, Forwarded}
+use Rattle.regions.specs.Table.{Region, Free, Ordinary, First, Rest, Table, HasNoForwarded, is_free, kind_of, moved_to, region_at, region_kind, nth_region, region_tile, tile_in, free_count}
 use Rattle.regions.specs.Rows.{kind_is_free}
-use Rattle.regions.specs.Tiles.{Gap}
+use Rattle.regions.specs.Tiles.{Filler}
 use Rattle.regions.specs.declared.row.Kind.TheVariants as kinds
-use Rattle.regions.proofs.MovedLaws.{moved_in}
-use Rattle.regions.proofs.Sizes.{EachMovedIn-imp}
+use Rattle.regions.proofs.Tiles.ForwardedLaws.{moved_in}
+use Rattle.regions.proofs.Words.Sizes.{EachForwardedIn-imp}
 use Rattle.object_copy.specs.Copies.{no_places}
 use Rattle.object_copy.proofs.Frees.{free_by_kind}
 use Rattle.object_copy.proofs.Copied.{tile_of_object}
@@ -18,23 +18,23 @@ use Rattle.evacuation.specs.Space.{IsTaken, flag}
 use Rattle.evacuation.specs.Turns.{Pause, IsPause, IsTurn, TableStays, in_set, kept_now, plan, space}
 
 pub no_tile : (t : Table) (a : ℕ) → kind_of t (a / t.words_per_region) ≡ kinds.Free → tile_in t a ≡ None
-unfolding kind_of tile_in region_at region_number
-no_tile t a e = go (region_number t (a / t.words_per_region)) refl
+unfolding kind_of tile_in region_at nth_region
+no_tile t a e = go (nth_region t (a / t.words_per_region)) refl
   where
-    go : (r : Region) → region_number t (a / t.words_per_region) ≡ r → tile_in t a ≡ None
+    go : (r : Region) → nth_region t (a / t.words_per_region) ≡ r → tile_in t a ≡ None
     go Free f = ap (λ (q : Region). region_tile q (a % t.words_per_region)) f
     go (Ordinary ts) f = absurd (let g = sym (ap region_kind f) ∙ e in cc)
     go (First s) f = absurd (let g = sym (ap region_kind f) ∙ e in cc)
     go (Rest n) f = absurd (let g = sym (ap region_kind f) ∙ e in cc)
 
-not_moved : (t : Table) (a : ℕ) → HasNoMoved t → moved_to (tile_in t a) ≡ None
+not_moved : (t : Table) (a : ℕ) → HasNoForwarded t → moved_to (tile_in t a) ≡ None
 not_moved t a m = go (tile_in t a) refl
   where
     go : (o : Option Tile) → tile_in t a ≡ o → moved_to (tile_in t a) ≡ None
     go None e = ap moved_to e
-    go (Some (Live s)) e = ap moved_to e
-    go (Some (Gap n)) e = ap moved_to e
-    go (Some (Moved to n)) e = absurd (moved_in (λ _. ⊥) t a to n m e)
+    go (Some (Object s)) e = ap moved_to e
+    go (Some (Filler n)) e = ap moved_to e
+    go (Some (Forwarded to n)) e = absurd (moved_in (λ _. ⊥) t a to n m e)
 
 kept_start : (p : Pause) → kept_now p p.start ≡ (plan p).heap.kept
 unfolding kept_now
@@ -44,7 +44,7 @@ module _ (p : Pause) (q : IsPause p) (room : 2 * (space p p.start).left ≤ free
   t : Table
   t = p.start
 
-  no_free_chosen : (k : ℕ) → is_free (region_number p.start k) ≡ true → flag p.chosen k ≡ false
+  no_free_chosen : (k : ℕ) → is_free (nth_region p.start k) ≡ true → flag p.chosen k ≡ false
   no_free_chosen k e = go (flag p.chosen k) refl
     where
       go : (b : Bool) → flag p.chosen k ≡ b → flag p.chosen k ≡ false
@@ -71,7 +71,7 @@ module _ (p : Pause) (q : IsPause p) (room : 2 * (space p p.start).left ≤ free
     small = λ a x o f e. absurd (let g = tile_of_object p.start a x e in let h = no_tile p.start a f in cc);
     moved = λ a to m e. absurd (let g = not_moved p.start a q.unmoved in let h = ap moved_to e in cc);
     live = λ a u f e. absurd (let g = no_tile p.start a f in cc);
-    targets = EachMovedIn-imp (λ _. ⊥) (λ to. in_set p to ≡ false) p.start.regions (λ to x. absurd x) q.unmoved;
+    targets = EachForwardedIn-imp (λ _. ⊥) (λ to. in_set p to ≡ false) p.start.regions (λ to x. absurd x) q.unmoved;
   }
 
   none_taken : (k : ℕ) → IsTaken (no_places n) k → ⊥

@@ -7,7 +7,7 @@ use Rattle.std.proofs.lemmas.List.{get_or-set_same, get_or-set_other}
 use Rattle.heap_model.specs.Heap.{Stored, fields}
 use Rattle.regions.specs.Table.{Table, fields_at}
 use Rattle.regions.specs.Shaped.{IsShaped}
-use Rattle.regions.proofs.Divides.{div_low, card_has_words}
+use Rattle.regions.proofs.Words.Divides.{div_low, card_has_words}
 use Rattle.refinement.proofs.Holders.{fields_of, object_within}
 use Rattle.evacuation.specs.Space.{IsField, flag}
 use Rattle.evacuation.specs.Turns.{Pause, IsPause, TableStays, EachCard, kept_now, space}

@@ -3,13 +3,13 @@ use Rattle.std.proofs.Common.{◌≡◌, ℕ, ◌*◌, ◌/◌, ◌<◌, ◌≤�
 use Rattle.std.proofs.lemmas.Bool.{cases_eq}
 use Rattle.std.proofs.lemmas.List.{length-set}
 use Rattle.heap_model.specs.Heap.{Stored, fields, with_field}
-use Rattle.regions.specs.Tiles.{Live, tile_size}
-use Rattle.regions.specs.Table.{Table, kind_of, moved_to, object_at, set_field, tile_in, EachMovedIn}
+use Rattle.regions.specs.Tiles.{Object, tile_size}
+use Rattle.regions.specs.Table.{Table, kind_of, moved_to, object_at, set_field, tile_in, EachForwardedIn}
 use Rattle.regions.specs.Rows.{kind_is_free}
 use Rattle.regions.specs.declared.row.Kind.TheVariants as kinds
-use Rattle.regions.proofs.FieldAccess.{field_put, set_field-is}
-use Rattle.regions.proofs.Changes.{WritesObject, object_same}
-use Rattle.regions.proofs.Kept.{put_object-moved}
+use Rattle.regions.proofs.Words.FieldAccess.{field_put, set_field-is}
+use Rattle.regions.proofs.Tiles.Changes.{WritesObject, object_same}
+use Rattle.regions.proofs.Tiles.Kept.{put_object-moved}
 use Rattle.object_copy.specs.Copies.{Places}
 use Rattle.object_copy.proofs.Frees.{free_by_kind, same_free}
 use Rattle.object_copy.proofs.Copied.{tile_of_object}
@@ -30,10 +30,10 @@ module _ (p : Pause) (q : IsPause p) (t t' : Table) (d : Places) (turn : IsTurn 
   other : (a : ℕ) → (a ≡ at → ⊥) → object_at t' a ≡ object_at t a
   other a n = object_same t t' a (w.others a n)
 
-  tile' : tile_in t' at ≡ Some (Live (with_field y i v))
+  tile' : tile_in t' at ≡ Some (Object (with_field y i v))
   tile' = tile_of_object t' at (with_field y i v) w.is
 
-  tile : tile_in t at ≡ Some (Live y)
+  tile : tile_in t at ≡ Some (Object y)
   tile = tile_of_object t at y object
 
   kept_other : (a : ℕ) → (a ≡ at → ⊥) → kept_now p t' a ≡ kept_now p t a
@@ -86,7 +86,7 @@ module _ (p : Pause) (q : IsPause p) (t t' : Table) (d : Places) (turn : IsTurn 
               let r : with_field y i v ≡ x = cc in
               let before = s.small a y o f (ap (object_at t) g ∙ object) in
               let n = length-set (fields y) i v in
-              subst (λ (m : Stored). 2 * tile_size (Live m) ≤ p.start.words_per_region) r (omega arith)
+              subst (λ (m : Stored). 2 * tile_size (Object m) ≤ p.start.words_per_region) r (omega arith)
           | inr n ↦ s.small a x o f (sym (other a n) ∙ e)
         ];
         moved = λ a b n e. s.moved a b n (sym (w.others a (λ f. let g = ap (tile_in t') f in let h = tile' in absurd cc)) ∙ e);
@@ -94,7 +94,7 @@ module _ (p : Pause) (q : IsPause p) (t t' : Table) (d : Places) (turn : IsTurn 
           | inl g ↦ (with_field y i v, (let h = ap (tile_in t') g in let k = tile' in cc))
           | inr n ↦ s.live a u f (sym (w.others a n) ∙ e)
         ];
-        targets = subst (λ (u : Table). EachMovedIn (λ a. in_set p a ≡ false) u.regions) (sym (is ∙ set_field-is t at i v y object)) (put_object-moved (λ a. in_set p a ≡ false) t at (with_field y i v) s.targets);
+        targets = subst (λ (u : Table). EachForwardedIn (λ a. in_set p a ≡ false) u.regions) (sym (is ∙ set_field-is t at i v y object)) (put_object-moved (λ a. in_set p a ≡ false) t at (with_field y i v) s.targets);
       }
     where
       -- what is written was kept at the start

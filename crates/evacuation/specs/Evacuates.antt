@@ -5,9 +5,9 @@ use Rattle.std.specs.List.Sorted.{IsStrictlyIncreasing}
 use Rattle.heap_model.specs.Heap.{Heap, Stored, IsClosed, fields}
 use Rattle.heap_model.specs.Marking.{Marking}
 use Rattle.heap_model.specs.Relocation.{Relocates, KeepsOld}
-use Rattle.heap_model.specs.Evacuation.{IsReached, place_of}
-use Rattle.regions.specs.Tiles.{Tile, Live, tile_size}
-use Rattle.regions.specs.Table.{Table, AreHalves, HasNoMoved, free_count, kind_of, object_at, tile_in, used_of}
+use Rattle.heap_model.specs.Evacuation.{IsReached, place_after}
+use Rattle.regions.specs.Tiles.{Tile, Object, tile_size}
+use Rattle.regions.specs.Table.{Table, AreHalves, HasNoForwarded, free_count, kind_of, object_at, tile_in, used_of}
 use Rattle.regions.specs.declared.row.Kind.TheVariants as kinds
 use Rattle.mark_bitmap.specs.Marks.{is_marked}
 use Rattle.mark_bitmap.specs.Tops.{Tops, below_next}
@@ -62,7 +62,7 @@ AreDistinct rows = (i j : ℕ) (row other : LiveRow) → slice_get rows i ≡ So
 -- No card is dirty, so all crossing fields are covered; each root and each field of a kept object is nil or leads to one; and
 -- the live objects of the rows' regions find room in the free regions, even if each destination is filled by half
 pub record CanEvacuate (h : Layers) (rows : List LiveRow) (card_words : ℕ) : Type 0 where
-  pub unmoved : HasNoMoved h.table
+  pub unmoved : HasNoForwarded h.table
   pub previous : MarksObjects h.table h.tams.previous h.previous
   pub next : MarksObjects h.table h.tams.next h.next
   pub closed : IsClosed (heap_of h)
@@ -78,7 +78,7 @@ pub record CanEvacuate (h : Layers) (rows : List LiveRow) (card_words : ℕ) : T
 -- ---- what is copied
 abbrev pub stored_words : Option Stored → ℕ
 stored_words None = 0
-stored_words (Some object) = tile_size (Live object)
+stored_words (Some object) = tile_size (Object object)
 
 abbrev pub words_at : (ℕ → Option Stored) → List ℕ → ℕ
 words_at kept [] = 0
@@ -108,7 +108,7 @@ pub record RegionsAfter (rows : List LiveRow) (t t' : Table) : Type 0 where
   pub chosen : (k : ℕ) → is_chosen rows k ≡ true → kind_of t' k ≡ kinds.Free
   pub was_free : (k : ℕ) → kind_of t k ≡ kinds.Free → (kind_of t' k ≡ kinds.Free) ⊎ (kind_of t' k ≡ kinds.Ordinary)
   pub filled : (k : ℕ) → kind_of t k ≡ kinds.Free → kind_of t' k ≡ kinds.Ordinary → 0 < used_of t' k
-  pub live : (a : ℕ) (tile : Tile) → kind_of t (a / t.words_per_region) ≡ kinds.Free → tile_in t' a ≡ Some tile → (x : Stored) × (tile ≡ Live x)
+  pub live : (a : ℕ) (tile : Tile) → kind_of t (a / t.words_per_region) ≡ kinds.Free → tile_in t' a ≡ Some tile → (x : Stored) × (tile ≡ Object x)
   pub kinds_same : (k : ℕ) → is_chosen rows k ≡ false → kind_of t k ≢ kinds.Free → kind_of t' k ≡ kind_of t k
   pub used : (k : ℕ) → is_chosen rows k ≡ false → kind_of t k ≢ kinds.Free → used_of t' k ≡ used_of t k
   pub objects : (a : ℕ) (x : Stored) → set_in t.words_per_region rows a ≡ false → object_at t a ≡ Some x → (y : Stored) × (object_at t' a ≡ Some y) × IsSameBut x y
@@ -142,15 +142,15 @@ pub record HasEvacuated (rows : List LiveRow) (card_words words : ℕ) (h h' : L
   -- where the copies stand: in regions that were free
   pub forward : ℕ → Option ℕ
   pub placed : (a b : ℕ) → forward a ≡ Some b → kind_of h.table (b / h.table.words_per_region) ≡ kinds.Free
-  pub relocates : Relocates (place_of (set_by h rows) forward) (heap_of h) (heap_of h')
+  pub relocates : Relocates (place_after (set_by h rows) forward) (heap_of h) (heap_of h')
   pub copied : (a : ℕ) → IsReached (set_by h rows) (heap_of h) a ↔ ((set_by h rows a ≡ true) × (b : ℕ) × (forward a ≡ Some b))
-  pub keeps_old : IsNewSet h rows → (m : Marking) → ((a : ℕ) → m.old a ≡ below_next h.table h.tams a) → KeepsOld (place_of (set_by h rows) forward) (heap_of h) m
+  pub keeps_old : IsNewSet h rows → (m : Marking) → ((a : ℕ) → m.old a ≡ below_next h.table h.tams a) → KeepsOld (place_after (set_by h rows) forward) (heap_of h) m
   pub words_are : AreReachedWords (set_by h rows) (heap_of h) words
   pub within : words ≤ live_sum rows
   pub regions : RegionsAfter rows h.table h'.table
   -- a filler outside the set, and an object there that isn't kept, is as it was
   pub unkept : (a : ℕ) → set_by h rows a ≡ false → kind_of h.table (a / h.table.words_per_region) ≢ kinds.Free → kept_of h a ≡ None → tile_in h'.table a ≡ tile_in h.table a
-  pub unmoved : HasNoMoved h'.table
+  pub unmoved : HasNoForwarded h'.table
   pub halves : AreHalves h'.table
   pub previous : MarksAfter h.table.words_per_region rows h.tams.previous h'.tams.previous h.previous h'.previous
   pub next : MarksAfter h.table.words_per_region rows h.tams.next h'.tams.next h.next h'.next

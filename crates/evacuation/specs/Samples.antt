@@ -1,7 +1,7 @@
 -- The heap that a test evacuates.
 use Rattle.std.specs.Prelude.{◌≡◌, false, Some, [], ◌∷◌, replicate}
 use Rattle.heap_model.specs.Heap.{Stored}
-use Rattle.regions.specs.Tiles.{Live}
+use Rattle.regions.specs.Tiles.{Object}
 use Rattle.regions.specs.Table.{Table, Free, Ordinary}
 use Rattle.mark_bitmap.specs.Tops.{bottoms}
 use Rattle.cards.specs.Cards.{clean_cards}
@@ -14,7 +14,7 @@ selfish = record { name = 7; pointers = Some 0 ∷ []; values = [] }
 
 -- it stands at 0, and three regions are free
 abbrev pub NamesItself : Table → Type 0
-NamesItself t = t ≡ record { words_per_region = 16; regions = Ordinary (Live selfish ∷ []) ∷ Free ∷ Free ∷ Free ∷ [] }
+NamesItself t = t ≡ record { words_per_region = 16; regions = Ordinary (Object selfish ∷ []) ∷ Free ∷ Free ∷ Free ∷ [] }
 
 -- nothing is marked, dirty or covered, and one root names the object
 pub record IsFresh (h : Layers) : Type 0 where

@@ -2,8 +2,8 @@
 use Rattle.std.specs.Prelude.{◌≡◌, ◌≢◌, ◌⊎◌, ◌≤◌, ◌<◌, ℕ, ◌+◌, ◌*◌, ◌/◌, ◌^◌, Bool, true, false, List, [], ◌∷◌, ◌++◌, Option, Some, None, slice_get, slice_index_or, length, ⊤}
 use Rattle.heap_model.specs.Heap.{Heap, Stored, IsClosed, fields, with_field}
 use Rattle.heap_model.specs.Relocation.{IsMoved}
-use Rattle.heap_model.specs.Evacuation.{IsEvacuating, IsReached, place_of}
-use Rattle.regions.specs.Tiles.{Live, tile_size}
+use Rattle.heap_model.specs.Evacuation.{IsEvacuating, IsReached, place_after}
+use Rattle.regions.specs.Tiles.{Object, tile_size}
 use Rattle.object_copy.specs.Copies.{Places}
 use Rattle.evacuation.specs.Evacuates.{words_at}
 
@@ -34,7 +34,7 @@ abbrev pub flag : List Bool → ℕ → Bool
 flag flags k = slice_index_or flags k false
 
 abbrev pub words_of : Stored → ℕ
-words_of x = tile_size (Live x)
+words_of x = tile_size (Object x)
 
 abbrev pub IsObject : Space → ℕ → Type 0
 IsObject s a = (x : Stored) × (s.object a ≡ Some x)
@@ -185,7 +185,7 @@ AllVisited l p visited = (b i a : ℕ) (x : Stored) → p.heap.kept b ≡ Some x
 -- ---- roots
 -- the word's target is where it is now
 pub record IsNewWord (l : Layout) (s : Space) (w w' : Option ℕ) : Type 0 where
-  pub moved : IsMoved (place_of (set_of l) s.forward) w w'
+  pub moved : IsMoved (place_after (set_of l) s.forward) w w'
   pub outside : IsClean l w'
 
 -- the roots up to here are updated

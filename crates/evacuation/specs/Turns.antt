@@ -1,8 +1,8 @@
 -- A pause over the table, between two turns of its copying.
 use Rattle.std.specs.Prelude.{◌≡◌, ◌≢◌, ◌⊎◌, ◌≤◌, ◌<◌, ℕ, zero, suc, ◌+◌, ◌*◌, ◌/◌, Bool, true, false, List, Option, Some, None, length, slice_get, if◌then◌else◌}
 use Rattle.heap_model.specs.Heap.{Stored, fields}
-use Rattle.regions.specs.Tiles.{Tile, Live, Moved, tile_size}
-use Rattle.regions.specs.Table.{Table, EachMovedIn, HasNoMoved, is_free, kind_of, moved_to, object_at, region_number, tile_in, used_of, free_count}
+use Rattle.regions.specs.Tiles.{Tile, Object, Forwarded, tile_size}
+use Rattle.regions.specs.Table.{Table, EachForwardedIn, HasNoForwarded, is_free, kind_of, moved_to, object_at, nth_region, tile_in, used_of, free_count}
 use Rattle.regions.specs.Shaped.{IsShaped}
 use Rattle.regions.specs.declared.row.Kind.TheVariants as kinds
 use Rattle.mark_bitmap.specs.Tops.{Tops}
@@ -48,7 +48,7 @@ space p t = record {
   object = kept_now p t;
   forward = λ a. moved_to (tile_in t a);
   used = used_of t;
-  free = λ k. is_free (region_number t k);
+  free = λ k. is_free (nth_region t k);
   free_count = free_count t;
   left = left_words (kept_now p t) (set_of (layout p)) (all_words p);
 }
@@ -58,7 +58,7 @@ in_set p = set_of (layout p)
 
 pub record IsPause (p : Pause) : Type 0 where
   pub shaped : IsShaped p.start
-  pub unmoved : HasNoMoved p.start
+  pub unmoved : HasNoForwarded p.start
   pub plan_is : IsPlan (layout p) (plan p)
   pub each_region : length p.chosen ≡ length p.start.regions
   pub whole_cards : p.start.words_per_region ≡ p.cards_per_region * p.card_words
@@ -79,10 +79,10 @@ pub record TableStays (p : Pause) (t : Table) : Type 0 where
   pub none : (a : ℕ) → in_set p a ≡ false → kind_of p.start (a / p.start.words_per_region) ≢ kinds.Free → object_at p.start a ≡ None → object_at t a ≡ None
   pub unkept : (a : ℕ) → in_set p a ≡ false → kind_of p.start (a / p.start.words_per_region) ≢ kinds.Free → kept_now p p.start a ≡ None → tile_in t a ≡ tile_in p.start a
   pub filled : (k : ℕ) → kind_of p.start k ≡ kinds.Free → kind_of t k ≡ kinds.Ordinary → 0 < used_of t k
-  pub small : (a : ℕ) (x : Stored) → in_set p a ≡ false → kind_of p.start (a / p.start.words_per_region) ≡ kinds.Free → object_at t a ≡ Some x → 2 * tile_size (Live x) ≤ p.start.words_per_region
-  pub moved : (a to n : ℕ) → tile_in t a ≡ Some (Moved to n) → in_set p a ≡ true
-  pub live : (a : ℕ) (u : Tile) → kind_of p.start (a / p.start.words_per_region) ≡ kinds.Free → tile_in t a ≡ Some u → (x : Stored) × (u ≡ Live x)
-  pub targets : EachMovedIn (λ to. in_set p to ≡ false) t.regions
+  pub small : (a : ℕ) (x : Stored) → in_set p a ≡ false → kind_of p.start (a / p.start.words_per_region) ≡ kinds.Free → object_at t a ≡ Some x → 2 * tile_size (Object x) ≤ p.start.words_per_region
+  pub moved : (a to n : ℕ) → tile_in t a ≡ Some (Forwarded to n) → in_set p a ≡ true
+  pub live : (a : ℕ) (u : Tile) → kind_of p.start (a / p.start.words_per_region) ≡ kinds.Free → tile_in t a ≡ Some u → (x : Stored) × (u ≡ Object x)
+  pub targets : EachForwardedIn (λ to. in_set p to ≡ false) t.regions
 
 pub record IsTurn (p : Pause) (t : Table) (d : Places) : Type 0 where
   pub copying : IsCopying (layout p) (plan p) (space p t) d

@@ -3,7 +3,7 @@
 ghost use Rattle.std.specs.Prelude.{◌≡◌, ℕ, List, Bool, Option, Some, ◌+◌, length, ◌⊎◌, true};
 ghost use Rattle.remembered_sets.specs.Sets.{card_count};
 ghost use Rattle.heap_model.specs.Relocation.{Relocates};
-ghost use Rattle.heap_model.specs.Evacuation.{IsReached, place_of, released};
+ghost use Rattle.heap_model.specs.Evacuation.{IsReached, place_after, released};
 ghost use Rattle.evacuation.specs.Evacuates.{AreReachedWords};
 ghost use Rattle.evacuation.specs.Space.{flag, AllVisited, NewCrossing};
 ghost use Rattle.evacuation.specs.Turns.{Pause, IsPause, IsTurn, EachCard, AreFieldsClean, AreFieldsNoted, in_set, kept_now, layout, plan, space};
@@ -60,7 +60,7 @@ fn copy_reached(
     ensures turn { IsTurn pause table.new destinations.new }
     ensures each_card { EachCard pause noted.new }
     ensures len { length noted.new ≡ length noted.old }
-    ensures moved { Relocates (place_of (in_set pause) (space pause table.new).forward) (plan pause).heap (released (in_set pause) (record { kept = kept_now pause table.new; roots = roots.new })) }
+    ensures moved { Relocates (place_after (in_set pause) (space pause table.new).forward) (plan pause).heap (released (in_set pause) (record { kept = kept_now pause table.new; roots = roots.new })) }
     ensures reached { (a : ℕ) → IsReached (in_set pause) (plan pause).heap a → (b : ℕ) × ((space pause table.new).forward a ≡ Some b) }
     ensures words { AreReachedWords (in_set pause) (plan pause).heap destinations.new.words }
     ensures noted { AreFieldsNoted pause noted.new table.new }

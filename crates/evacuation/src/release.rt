@@ -4,8 +4,8 @@
 ghost use Rattle.std.specs.Prelude.{◌≡◌, ◌≢◌, ◌*◌, ◌/◌, ◌<◌, ℕ, All, false, List, if◌then◌else◌, length};
 ghost use Rattle.regions.specs.declared.row.Kind.TheVariants as kinds;
 ghost use Rattle.evacuation.specs.Evacuates.{is_chosen, AreDistinct, MarksAfter};
-ghost use Rattle.evacuation.specs.Releasing.{AreCleared, AreReleased, NoneMovedInto};
-ghost use Rattle.regions.specs.Table.{kind_of, released, EachMovedIn};
+ghost use Rattle.evacuation.specs.Releasing.{AreCleared, AreReleased, NoneForwardedInto};
+ghost use Rattle.regions.specs.Table.{kind_of, released, EachForwardedIn};
 ghost use Rattle.mark_bitmap.specs.Marks.{is_marked};
 ghost use Rattle.mark_bitmap.specs.Tops.{is_in_region, with_bottom};
 ghost use Rattle.remembered_sets.specs.Sets.{cleared};
@@ -27,7 +27,7 @@ fn release_region(
 )
     requires known { region < length table.old.regions }
     requires ordinary { kind_of table.old region ≡ kinds.Ordinary }
-    requires unmoved { EachMovedIn (λ to. region ≢ to / table.old.words_per_region) table.old.regions }
+    requires unmoved { EachForwardedIn (λ to. region ≢ to / table.old.words_per_region) table.old.regions }
     requires previous { length bitmaps.old.previous ≡ length table.old.regions * table.old.words_per_region }
     requires next { length bitmaps.old.next ≡ length table.old.regions * table.old.words_per_region }
     requires previous_tops { length tams.old.previous ≡ length table.old.regions }
@@ -64,14 +64,14 @@ pub(crate) fn release_chosen(
     requires known { All (λ row. row.region < length table.old.regions) rows.now }
     requires ordinary { All (λ row. kind_of table.old row.region ≡ kinds.Ordinary) rows.now }
     requires distinct { AreDistinct rows.now }
-    requires unmoved { NoneMovedInto rows.now table.old.words_per_region table.old }
+    requires unmoved { NoneForwardedInto rows.now table.old.words_per_region table.old }
     requires previous { length bitmaps.old.previous ≡ length table.old.regions * table.old.words_per_region }
     requires next { length bitmaps.old.next ≡ length table.old.regions * table.old.words_per_region }
     requires previous_tops { length tams.old.previous ≡ length table.old.regions }
     requires next_tops { length tams.old.next ≡ length table.old.regions }
     requires sets { length sets.old.sets ≡ length table.old.regions }
     ensures table { AreReleased rows.now table.old table.new }
-    ensures unmoved { NoneMovedInto rows.now table.old.words_per_region table.new }
+    ensures unmoved { NoneForwardedInto rows.now table.old.words_per_region table.new }
     ensures previous { MarksAfter table.old.words_per_region rows.now tams.old.previous tams.new.previous bitmaps.old.previous bitmaps.new.previous }
     ensures next { MarksAfter table.old.words_per_region rows.now tams.old.next tams.new.next bitmaps.old.next bitmaps.new.next }
     ensures sets { AreCleared rows.now sets.old sets.new }

@@ -3,7 +3,7 @@
 ghost use Rattle.std.specs.Prelude.{◌≡◌, ℕ, Bool, List, Option};
 ghost use Rattle.std.specs.List.{AllZip};
 ghost use Rattle.heap_model.specs.Relocation.{IsMoved};
-ghost use Rattle.heap_model.specs.Evacuation.{place_of};
+ghost use Rattle.heap_model.specs.Evacuation.{place_after};
 ghost use Rattle.evacuation.specs.Turns.{Pause, IsPause, IsTurn, After, in_set, space};
 
 use crate::fields::new_word;
@@ -25,7 +25,7 @@ pub(crate) fn update_roots(
     requires start { roots.old ≡ pause.roots }
     ensures turn { IsTurn pause table.new destinations.new }
     ensures after { (noted : List Bool) → After pause noted noted table.old table.new destinations.old destinations.new }
-    ensures moved { AllZip (IsMoved (place_of (in_set pause) (space pause table.new).forward)) pause.roots roots.new }
+    ensures moved { AllZip (IsMoved (place_after (in_set pause) (space pause table.new).forward)) pause.roots roots.new }
 {
     for i in 0..roots.len() {
         let word = roots[i];

@@ -6,7 +6,7 @@ use Rattle.object_graph.specs.Actors.{StepList, EventList}
 use Rattle.object_graph.specs.declared.step.Step.{Step}
 use Rattle.step_core.specs.declared.runs.RunFault.{RunFault}
 use Rattle.step_core.specs.declared.runs.RunFault.TheVariants as runs
-use Rattle.step_core.specs.Histories.{step_of, actor_in, actor_of, IsRunFault, RunsFromNew}
+use Rattle.step_core.specs.Histories.{step_in, actor_in, actor_of, IsRunFault, RunsFromNew}
 use Rattle.heap_model.specs.Graph.{Graph}
 use Rattle.object_graph.specs.State.{first_state}
 use Rattle.object_graph.specs.Run.{IsRun}
@@ -46,7 +46,7 @@ pub within : (k n : ℕ) → (k < n → ⊥) → n ≤ k
 within k n not_over = omega (arith, not_over)
 
 -- what `run` says, as one fact of its outcome
-pub comes_in_order : (plan : StepList) (outcome : Result EventList RunFault) → IfOk outcome (λ r. r.config ≡ plan.config) → IfOk outcome (λ r. map step_of r.events ≡ plan.steps) →
+pub comes_in_order : (plan : StepList) (outcome : Result EventList RunFault) → IfOk outcome (λ r. r.config ≡ plan.config) → IfOk outcome (λ r. map step_in r.events ≡ plan.steps) →
     IfOk outcome (λ r. map actor_in r.events ≡ map actor_of plan.steps) → IfOk outcome (λ r. RunsFromNew plan.config r.events) →
     IfOk outcome (λ r. (last : Graph) × IsRun (first_state plan.config) r.events last) → IfErr outcome (IsRunFault plan.config) → Comes File plan outcome
 comes_in_order plan (Ok r) config steps actors history (last, run) fault =

@@ -9,7 +9,7 @@ use Rattle.object_graph.specs.Run.{IsRun}
 use Rattle.script_text.specs.Lines.{script_of, FailsBy}
 use Rattle.script_text.specs.Records.{record_text}
 use Rattle.script_text.specs.declared.fault.WriteFault.TheVariants as writes
-use Rattle.step_core.specs.Histories.{step_of, actor_in, actor_of, IsRunFault, RunsFromNew}
+use Rattle.step_core.specs.Histories.{step_in, actor_in, actor_of, IsRunFault, RunsFromNew}
 use Rattle.step_core.specs.declared.runs.RunFault.{RunFault}
 use Rattle.step_core.specs.declared.runs.RunFault.TheVariants as runs
 use Rattle.mutators.specs.Interleavings.{IsRunOf, IsThreadsFault}
@@ -24,7 +24,7 @@ use Rattle.g1heap.specs.declared.job.Order.TheVariants.{File, Drawn, Threads}
 -- heap's cores
 pub record IsRunInOrder (plan : StepList) (r : EventList) : Type 0 where
   pub config : r.config ≡ plan.config
-  pub steps : map step_of r.events ≡ plan.steps
+  pub steps : map step_in r.events ≡ plan.steps
   pub actors : map actor_in r.events ≡ map actor_of plan.steps
   pub last : Graph
   pub run : IsRun (first_state plan.config) r.events last

@@ -142,7 +142,7 @@ impl Words {
     }
 
     /// A data word of the object at an address, counted from 0 behind the pointers that its header tells.
-    pub fn get_data(&self, object: Addr, field: u32) -> u64
+    pub fn get_value(&self, object: Addr, field: u32) -> u64
         requires at { object < length self.now }
         requires within { object + 2 + pointer_count_at self.now object + field < length self.now }
         ensures { result ≡ slice_index self.now (object + 2 + pointer_count_at self.now object + field) }
@@ -151,7 +151,7 @@ impl Words {
     }
 
     /// Sets a data word of the object at an address.
-    pub fn set_data(&mut self, object: Addr, field: u32, value: u64)
+    pub fn set_value(&mut self, object: Addr, field: u32, value: u64)
         requires at { object < length self.old }
         requires within { object + 2 + pointer_count_at self.old object + field < length self.old }
         ensures { self.new ≡ slice_set self.old (object + 2 + pointer_count_at self.old object + field) value }
@@ -242,7 +242,7 @@ mod tests {
         words.set_ptr(object, 0, Some(Addr::new(8)));
         assert!(rt; words.len() == 16);
         assert!(rt; pointers_of(&words, object) == 1);
-        words.set_data(object, 1, 9);
+        words.set_value(object, 1, 9);
         assert!(rt; words.len() == 16);
         words.copy(object, Addr::new(8), 5);
         assert!(rt; words.len() == 16);
@@ -253,8 +253,8 @@ mod tests {
         assert_eq!(rt; words.object_at(copy), Some(small()));
         assert_eq!(rt; words.name(copy), 7);
         assert_eq!(rt; words.get_ptr(copy, 0), Some(Addr::new(8)));
-        assert_eq!(rt; words.get_data(copy, 0), 0);
-        assert_eq!(rt; words.get_data(copy, 1), 9);
+        assert_eq!(rt; words.get_value(copy, 0), 0);
+        assert_eq!(rt; words.get_value(copy, 1), 9);
         let size = FillerSize::new(2);
         assert_eq!(rt; words.header(Addr::new(6)), Some(Header::Filler { size }));
         let to = Addr::new(8);

@@ -3,7 +3,7 @@ use Rattle.std.proofs.Common.{◌≡◌, ℕ, zero, suc, ◌+◌, ◌-◌, ◌*�
 use Rattle.std.specs.Prelude.{if◌then◌else◌, IsSome}
 use Rattle.std.proofs.lemmas.Bool.{lt-ltb}
 use Rattle.heap_model.specs.Heap.{Stored}
-use Rattle.regions.specs.Tiles.{Live, tile_size}
+use Rattle.regions.specs.Tiles.{Object, tile_size}
 use Rattle.regions.specs.Table.{Table, kind_of, top_of, object_at, stored_size, object_words}
 use Rattle.regions.specs.Shaped.{IsShaped}
 use Rattle.regions.specs.declared.row.Kind.TheVariants as kinds
@@ -42,7 +42,7 @@ kept_some false marked o s e = e
 
 -- the marked objects of a region lie between its bottom and its top, and below a top at mark start over which none reaches
 marked_le : (t : Table) (marks : List Bool) (k limit a n : ℕ) → Spans t k
-    → ((x : ℕ) (s : Stored) → k * t.words_per_region ≤ x → x < k * t.words_per_region + t.words_per_region → is_marked marks x ≡ true → object_at t x ≡ Some s → x + tile_size (Live s) ≤ limit)
+    → ((x : ℕ) (s : Stored) → k * t.words_per_region ≤ x → x < k * t.words_per_region + t.words_per_region → is_marked marks x ≡ true → object_at t x ≡ Some s → x + tile_size (Object s) ≤ limit)
     → k * t.words_per_region ≤ a → a + n ≤ k * t.words_per_region + t.words_per_region → marked_words t marks a n ≤ limit - a
 marked_le t marks k limit a n p ends low high =
     let is : (x : ℕ) (s : Stored) → marked_in t marks x ≡ Some s → (is_marked marks x ≡ true) × (object_at t x ≡ Some s) = λ x s e. if_some (is_marked marks x) (object_at t x) s e in
@@ -145,9 +145,6 @@ words_more t marks from at found next low l e =
     let split = marked_split t marks (found - from) 1 (next - from) from found (omega (arith, low, l.at_least, e)) (omega (arith, low, l.at_least)) in
     let here : (if is_marked marks found then object_words t found else 0) ≡ object_words t found = ap (λ b. if b then object_words t found else 0) l.is_in in
     omega (arith, split, here, words_stay t marks from at found low l.at_least l.lowest)
-
-pub found_object : (t : Table) (tops : List ℕ) (marks : List Bool) (a : ℕ) → MarksObjects t tops marks → is_marked marks a ≡ true → IsSome (object_at t a)
-found_object t tops marks a m h = let o = m.object a h in rw o.1 refl
 
 -- in a region it is no more than the region's words
 pub words_small : (t : Table) (marks : List Bool) (k from to : ℕ) → IsShaped t → kind_of t k ≡ kinds.Ordinary → from ≡ k * t.words_per_region → from ≤ to → to ≤ k * t.words_per_region + t.words_per_region

@@ -5,7 +5,7 @@ use Rattle.std.specs.Option.{is_some}
 use Rattle.std.proofs.lemmas.Bool.{cases_lt, cases_eq, cases_Bool, eq-eqb, ne_eqb, le-leb, lt-ltb, le-ltb, and_parts, ltb-true, leb-true}
 use Rattle.std.proofs.lemmas.List.{get_or_past}
 use Rattle.regions.specs.Tiles.{total_size}
-use Rattle.regions.specs.Table.{Table, Region, Free, Ordinary, First, Rest, region_tile, region_at, region_number, region_kind, kind_of, region_used, used_of, top_of, tile_in, tile_object, object_at, stored_size, object_words}
+use Rattle.regions.specs.Table.{Table, Region, Free, Ordinary, First, Rest, region_tile, region_at, nth_region, region_kind, kind_of, region_used, used_of, top_of, tile_in, tile_object, object_at, stored_size, object_words}
 use Rattle.regions.specs.Walks.{region_tiles, tiles_of}
 use Rattle.regions.specs.Shaped.{IsShaped}
 use Rattle.regions.specs.declared.row.Kind.TheVariants as kinds
@@ -59,9 +59,9 @@ same_words t t' marks marks' (suc n) a marked words =
 -- what is handed out of a region fits into it
 pub used_le : (t : Table) (k : ℕ) → IsShaped t → used_of t k ≤ t.words_per_region
 unfolding used_of kind_of tiles_of
-used_le t k shape = go (region_number t k) refl
+used_le t k shape = go (nth_region t k) refl
   where
-    go : (r : Region) → region_number t k ≡ r → region_used t.words_per_region (region_number t k) ≤ t.words_per_region
+    go : (r : Region) → nth_region t k ≡ r → region_used t.words_per_region (nth_region t k) ≤ t.words_per_region
     go Free e = rw e (omega arith)
     go (Ordinary ts) e = omega (arith, ap (region_used t.words_per_region) e, ap (λ (r : Region). total_size (region_tiles r)) e, (shape.fitting k).fits (ap region_kind e))
     go (First s) e = rw e (omega arith)
@@ -74,9 +74,9 @@ tops_le t tops marks k shape m = elim (cases_lt k (length t.regions)) [
   | inr past ↦ omega (arith, get_or_past tops k 0 (omega (arith, past, m.each_region)))
 ]
 
-same_region_words : (t t' : Table) (k a : ℕ) → t'.words_per_region ≡ t.words_per_region → region_number t' k ≡ region_number t k
+same_region_words : (t t' : Table) (k a : ℕ) → t'.words_per_region ≡ t.words_per_region → nth_region t' k ≡ nth_region t k
     → k * t.words_per_region ≤ a → a < k * t.words_per_region + t.words_per_region → object_words t' a ≡ object_words t a
-unfolding object_words object_at tile_in region_at region_number
+unfolding object_words object_at tile_in region_at nth_region
 same_region_words t t' k a size same low high =
     let row : a / t.words_per_region ≡ k = div_is a t.words_per_region k low high in
     ap (λ (n : ℕ). stored_size (tile_object (region_tile (get_or t'.regions (a / n) Free) (a % n)))) size
@@ -84,12 +84,12 @@ same_region_words t t' k a size same low high =
     ∙ ap (λ (r : Region). stored_size (tile_object (region_tile r (a % t.words_per_region)))) same
     ∙ ap (λ (n : ℕ). stored_size (tile_object (region_tile (get_or t.regions n Free) (a % t.words_per_region)))) (sym row)
 
-same_region_top : (t t' : Table) (k : ℕ) → t'.words_per_region ≡ t.words_per_region → region_number t' k ≡ region_number t k → top_of t' k ≡ top_of t k
-unfolding used_of region_number
+same_region_top : (t t' : Table) (k : ℕ) → t'.words_per_region ≡ t.words_per_region → nth_region t' k ≡ nth_region t k → top_of t' k ≡ top_of t k
+unfolding used_of nth_region
 same_region_top t t' k size same = rw (size, same) refl
 
 -- a region's live bound is told by its tiles, its marks and its top at mark start
-pub same_bound : (t t' : Table) (tops tops' : List ℕ) (marks marks' : List Bool) (k : ℕ) → IsShaped t → t'.words_per_region ≡ t.words_per_region → region_number t' k ≡ region_number t k
+pub same_bound : (t t' : Table) (tops tops' : List ℕ) (marks marks' : List Bool) (k : ℕ) → IsShaped t → t'.words_per_region ≡ t.words_per_region → nth_region t' k ≡ nth_region t k
     → get_or tops' k 0 ≡ get_or tops k 0 → ((a : ℕ) → is_in_region t.words_per_region k a ≡ true → is_marked marks' a ≡ is_marked marks a)
     → MarksObjects t tops marks → live_bound_of t' tops' marks' k ≡ live_bound_of t tops marks k
 unfolding live_bound_of

@@ -47,31 +47,7 @@ module _ (test less : ℕ → Bool) (groups : List Bool) (n : ℕ) (s : IsSummar
       let m = s.only i e in
       record { number = m.number; inside = m.inside; is_in = others m.number (λ same. ne (sym m.inside ∙ ap (λ (k : ℕ). k / 64) same)) ∙ m.is_in }
 
-module _ (test : ℕ → Bool) (groups : List Bool) (group : ℕ) (each : (a : ℕ) → test a ≡ true → has groups (a / 64) ≡ true)
-    (others : (i : ℕ) → i ≢ group → has groups i ≡ true → HasMember test i) where
-  pub left_summary : HasMember test group → IsSummary test groups
-  left_summary m = record { each = each; only = λ i e. ⊎_elim (λ same. subst (λ (k : ℕ). HasMember test k) (sym same) m) (λ ne. others i ne e) (cases_eq i group) }
-
-  pub gone_summary : group < length groups → HasNoMember test group → IsSummary test (set groups group false)
-  gone_summary inside none = record {
-    each = λ a e. ⊎_elim (λ same. let f = none a same in absurd (cc)) (λ ne. has_set_there groups group (a / 64) false ne ∙ each a e) (cases_eq (a / 64) group);
-    only = λ i e. ⊎_elim (λ same. let f = has_set_here groups group i false inside same in absurd (cc)) (λ ne. others i ne (sym (has_set_there groups group i false ne) ∙ e)) (cases_eq i group);
-  }
-
 -- ---- the lowest number
--- of a group, where it is looked for as far as the set goes
-pub group_lowest : (test : ℕ → Bool) (n group first to : ℕ) (found : Option ℕ) → ((a : ℕ) → n ≤ a → test a ≡ false) → first ≡ 64 * group → to ≤ first + 64 → min (first + 64) n ≤ to
-    → MatchOption found (HasNoneBelow test first to) (IsLowest test first) → IfSome found (λ x. x < to) → MatchOption found (HasNoMember test group) (IsMember test group)
-group_lowest test n group first to None past e low high none below = λ a at.
-    ⊎_elim (λ h. none a (omega arith) (omega arith)) (λ h. past a h) (cases_lt a n)
-group_lowest test n group first to (Some x) past e low high lowest below = record {
-  inside = let l = lowest.at_least in omega arith;
-  lowest = subst (λ (k : ℕ). IsLowest test k x) e lowest;
-}
-
-pub none_above : (test : ℕ → Bool) (groups : List Bool) → IsSummary test groups → HasNone (has groups) 0 → HasNone test 0
-none_above test groups s none = λ a h. false_by (test a) (has groups (a / 64)) (s.each a) (none (a / 64) (omega arith))
-
 -- of the lowest group
 pub lowest_member : (test : ℕ → Bool) (groups : List Bool) (group : ℕ) (found : Option ℕ) → IsSummary test groups → IsLowest (has groups) 0 group → MatchOption found (HasNoMember test group) (IsMember test group)
     → MatchOption found (HasNone test 0) (IsLowest test 0)

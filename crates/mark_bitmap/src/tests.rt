@@ -1,4 +1,4 @@
-//! Live bounds over tables made by hand.
+//! Object bounds over tables made by hand.
 
 ghost use Rattle.std.specs.Prelude.{◌≡◌, ℕ, ◌<◌, ◌≤◌, ◌^◌, true, false, Some, IsTrue, IsSome, IfOk};
 ghost use Rattle.heap_model.specs.Heap.{Stored};
@@ -100,7 +100,7 @@ fn is_object(table: &RegionTable, at: Addr) -> bool
 {
     match table.tile(at) {
         Shape::Object { .. } => true,
-        Shape::Filler { .. } | Shape::Moved { .. } => false,
+        Shape::Filler { .. } | Shape::Forwarded { .. } => false,
     }
 }
 

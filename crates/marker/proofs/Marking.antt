@@ -26,17 +26,8 @@ pub record HasScanned (t : Table) (m m' : Marker) (n : ℕ) : Type 0 where
   pub logs : m'.logs ≡ m.logs
   pub grows : Grows m m'
 
-pub same_refl : (m : Marker) → SameRoles m m
-same_refl m = record { previous = refl; tams = refl; running = refl }
-
-pub snapshots_refl : (t : Table) (m : Marker) → KeepsSnapshots t m m
-snapshots_refl t m = λ s g roots shows keeps. keeps
-
 pub snapshots_trans : (t : Table) (m m' m'' : Marker) → SameRoles m m' → KeepsSnapshots t m m' → KeepsSnapshots t m' m'' → KeepsSnapshots t m m''
 snapshots_trans t m m' m'' same p q = λ s g roots shows keeps. q s g roots (subst (λ (h : Heap). Shows g h) (sym (same_heap t roots m m' same)) shows) (p s g roots shows keeps)
-
-pub none_scanned : (t : Table) (m : Marker) → MarkerStands t m → m.running ≡ true → HasScanned t m m 0
-none_scanned t m st run = record { stands = st; running = run; snapshots = snapshots_refl t m; count = omega arith; scans = record { since = omega arith; total = ap (λ (k : ℕ). k % 2 ^ 64) (let zero_more : m.scans.total ≡ m.scans.total + 0 = omega arith in zero_more) }; same = same_refl m; logs = refl; grows = record { marked = λ a k. k; scanned = λ a k. k } }
 
 more_one : (s s' s'' : ScanTotals) (n : ℕ) → IsMore s s' n → s'' ≡ added s' → IsMore s s'' (n + 1)
 more_one s s' s'' n p is = record {

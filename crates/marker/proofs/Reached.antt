@@ -102,16 +102,6 @@ pub record Reached (t : Table) (wanted : ℕ → Type 0) (m m' : Marker) : Type 
   pub scans : m'.scans ≡ m.scans
   pub logs : m'.logs ≡ m.logs
 
-pub none_reached : (t : Table) (wanted : ℕ → Type 0) (m : Marker) → MarkerStands t m → ((a : ℕ) → wanted a → ⊥) → Reached t wanted m m
-none_reached t wanted m st none = record {
-  stands = st;
-  marks = record { stays = λ a k. k; only = λ a k. inl k; each = λ a w. absurd (none a w) };
-  same = record { previous = refl; tams = refl; running = refl };
-  scanned = refl;
-  scans = refl;
-  logs = refl;
-}
-
 pub same_trans : (m m' m'' : Marker) → SameRoles m m' → SameRoles m' m'' → SameRoles m m''
 same_trans m m' m'' p q = record {
   previous = q.previous ∙ p.previous;
@@ -154,9 +144,6 @@ among_left words n a i = record { place = i.place; front = omega (arith, i.front
 
 pub among_right : (words : List (Option ℕ)) (n a : ℕ) (w : Option ℕ) → slice_get words n ≡ Some w → w ≡ Some a → IsAmong words (n + 1) a
 among_right words n a w e f = record { place = n; front = omega arith; is = e ∙ ap Some f }
-
-pub among_none : (words : List (Option ℕ)) (a : ℕ) → IsAmong words 0 a → ⊥
-among_none words a i = omega (arith, i.front)
 
 pub among_more : (t : Table) (words : List (Option ℕ)) (n : ℕ) (w : Option ℕ) (m m' m'' : Marker) → slice_get words n ≡ Some w
     → Reached t (IsAmong words n) m m' → Reached t (λ a. w ≡ Some a) m' m'' → Reached t (IsAmong words (n + 1)) m m''

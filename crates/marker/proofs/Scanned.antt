@@ -63,11 +63,6 @@ grey_within t m object st grey =
       | inr past ↦ absurd (let f : is_marked m.bitmaps.next object ≡ false = get_or_past m.bitmaps.next object false past in let g = marked in cc)
     ]
 
--- no more objects are scanned than there are addresses
-pub scans_fit : (t : Table) (m : Marker) → IsShaped t → MarkerStands t m → m.running ≡ true → m.scans.since < 2 ^ 32 - 1
-scans_fit t m shape st run =
-    omega (arith, st.counted run, count_by-le-length (λ b. b) m.grey.scanned, st.scanned, st.next.each_word, shape.in_all)
-
 pub scan_stands : (t : Table) (m m' : Marker) (object : ℕ) (g : Scans) → MarkerStands t m → m.running ≡ true
     → is_grey m.bitmaps.next m.grey object ≡ true → Reached t (all_pointers t object) m m'
     → g.scanned ≡ set m'.grey.scanned object true → HasFingers m'.bitmaps.next g → MarkerStands t (with_scan m' g)

@@ -15,7 +15,7 @@ use Rattle.object_graph.specs.declared.step.Reply.TheVariants as replies
 use Rattle.object_graph.specs.declared.step.Refusal.TheVariants as refusals
 use Rattle.step_core.specs.Answers.{Follows, IsFullStep}
 use Rattle.step_core.specs.Cycle.{Does}
-use Rattle.step_core.proofs.Following.{goes_on, none_yet}
+use Rattle.step_core.proofs.Cores.Following.{goes_on, none_yet}
 use Rattle.mutators.specs.Scripts.{IsOwn, AreOwn, mark_4, refine_2}
 use Rattle.std.proofs.Common.{sym, subst}
 

@@ -8,7 +8,7 @@ use Rattle.object_graph.specs.declared.step.Actor.{Actor}
 use Rattle.object_graph.specs.declared.step.Step.{Step}
 use Rattle.object_graph.specs.declared.step.Event.{Event}
 use Rattle.step_core.specs.Histories.{RunsTo}
-use Rattle.step_core.proofs.Following.{history_is_run}
+use Rattle.step_core.proofs.Cores.Following.{history_is_run}
 use Rattle.mutators.specs.declared.journal.Turn.{Turn}
 use Rattle.mutators.specs.declared.journal.Turn.TheVariants.{Done, Idle, End}
 use Rattle.mutators.specs.Scripts.{scripted, steps_of, lines_of, AreOwn}
@@ -36,9 +36,6 @@ same_plan plan markers refiners j j' same asked was = record {
   scripts = λ k within. ap (λ (l : List (List Step)). get_or l k []) same.1 ∙ was.scripts k within;
   asked = asked;
 }
-
-pub still_of : (plan : StepList) (markers refiners : ℕ) (j j' : JournalState) (t : Turn) (a : Actor) → SamePlan j j' → TurnIs t j j' a → IsAsked markers refiners a → IsOf plan markers refiners j → IsOf plan markers refiners j'
-still_of plan markers refiners j j' t a same turn asked was = same_plan plan markers refiners j j' same (asked_on markers refiners j j' t a turn asked was.asked) was
 
 past_all : (xs : List Step) (n : ℕ) → length xs ≤ n → take n xs ≡ xs
 past_all [] zero over = refl

@@ -5,7 +5,7 @@ use Rattle.std.proofs.lemmas.Bool.{lt-ltb}
 use Rattle.std.proofs.lemmas.List.Quantifiers.{position-Some}
 use Rattle.std.proofs.lemmas.List.Recursion.{is_count_by, is_position_or_len}
 use Rattle.std.proofs.lemmas.List.Sums.{sum_by-set}
-use Rattle.regions.specs.Table.{Region, Free, Ordinary, First, Rest, Table, is_free, first_free, taken, kind_of, region_kind, region_number, free_count}
+use Rattle.regions.specs.Table.{Region, Free, Ordinary, First, Rest, Table, is_free, first_free, taken, kind_of, region_kind, nth_region, free_count}
 use Rattle.regions.specs.Rows.{kind_is_free}
 
 abbrev frees : List Region → ℕ
@@ -57,9 +57,9 @@ by_kind (Ordinary ts) = refl
 by_kind (First s) = refl
 by_kind (Rest n) = refl
 
-pub free_by_kind : (t : Table) (k : ℕ) → is_free (region_number t k) ≡ kind_is_free (kind_of t k)
+pub free_by_kind : (t : Table) (k : ℕ) → is_free (nth_region t k) ≡ kind_is_free (kind_of t k)
 unfolding kind_of
-free_by_kind t k = by_kind (region_number t k)
+free_by_kind t k = by_kind (nth_region t k)
 
 same_frees : (rs rs' : List Region) → length rs' ≡ length rs → ((k : ℕ) → region_kind (get_or rs' k Free) ≡ region_kind (get_or rs k Free)) → frees rs' ≡ frees rs
 same_frees [] [] n f = refl
@@ -72,7 +72,7 @@ same_frees (r ∷ rs) (r' ∷ rs') n f =
 
 -- as many are free where all are of the same kinds
 pub same_free : (t t' : Table) → length t'.regions ≡ length t.regions → ((k : ℕ) → kind_of t' k ≡ kind_of t k) → free_count t' ≡ free_count t
-unfolding kind_of region_number
+unfolding kind_of nth_region
 same_free t t' n f =
     let c = is_count_by frees is_free refl count_step t.regions in
     let c' = is_count_by frees is_free refl count_step t'.regions in

@@ -2,10 +2,10 @@
 use Rattle.std.proofs.Common.{◌≡◌, ◌≢◌, ℕ, ◌+◌, ◌<◌, ◌≤◌, ◌⊎◌, [], Some, length, refl, sym, ap, ◌∙◌, subst, inl, inr, arith}
 use Rattle.std.specs.Prelude.{IfSome}
 use Rattle.std.proofs.lemmas.List.{get_or-set_other}
-use Rattle.regions.specs.Table.{Region, Free, Ordinary, Table, first_free, taken, tile_in, kind_of, region_kind, region_number, used_of, EachMovedIn, with_region, free_count}
+use Rattle.regions.specs.Table.{Region, Free, Ordinary, Table, first_free, taken, tile_in, kind_of, region_kind, nth_region, used_of, EachForwardedIn, with_region, free_count}
 use Rattle.regions.specs.declared.row.Kind.TheVariants as kinds
-use Rattle.regions.proofs.Placing.{region_taken}
-use Rattle.regions.proofs.Sizes.{EachMovedIn-set}
+use Rattle.regions.proofs.Tiles.Placing.{region_taken}
+use Rattle.regions.proofs.Words.Sizes.{EachForwardedIn-set}
 use Rattle.object_copy.specs.Copies.{Places, Opens, Takes, fill_of}
 use Rattle.object_copy.proofs.Frees.{fewer_free}
 
@@ -27,7 +27,7 @@ same_opened : (t : Table) (k : ℕ) → k < length t.regions → kind_of t k ≡
 same_opened t k known o = record { size = refl; count = refl; known = known; ordinary = o; was_free = inl o; kinds_same = λ j n. refl; stays = λ j e. e; tiles = λ y. refl; used = λ j. refl; free_same = λ e. refl; free_less = λ e. absurd (let n : kinds.Ordinary ≡ kinds.Free = sym o ∙ e in cc) }
 
 kind_other : (t : Table) (k j : ℕ) (r : Region) → j ≢ k → kind_of (with_region t k r) j ≡ kind_of t j
-unfolding kind_of region_number
+unfolding kind_of nth_region
 kind_other t k j r n = ap region_kind (get_or-set_other t.regions k j r Free n)
 
 taken_opened : (t : Table) (k : ℕ) → first_free t ≡ Some k → Opened t (taken t (Some k)) k
@@ -58,10 +58,10 @@ opened t t' d d' size k known o w = elim w.how [
 ]
 
 -- what holds of each moved tile still does
-pub opened_moved : (P : ℕ → Type 0) (t t' : Table) (d d' : Places) (size k : ℕ) → Opens t t' d d' size k → EachMovedIn P t.regions → EachMovedIn P t'.regions
+pub opened_moved : (P : ℕ → Type 0) (t t' : Table) (d d' : Places) (size k : ℕ) → Opens t t' d d' size k → EachForwardedIn P t.regions → EachForwardedIn P t'.regions
 opened_moved P t t' d d' size k w m = elim w.how [
-  | inl q ↦ subst (λ (u : Table). EachMovedIn P u.regions) (sym q.0) m
-  | inr q ↦ subst (λ (u : Table). EachMovedIn P u.regions) (sym q.0.table) (EachMovedIn-set P t.regions k (Ordinary []) (tt, tt) m)
+  | inl q ↦ subst (λ (u : Table). EachForwardedIn P u.regions) (sym q.0) m
+  | inr q ↦ subst (λ (u : Table). EachForwardedIn P u.regions) (sym q.0.table) (EachForwardedIn-set P t.regions k (Ordinary []) (tt, tt) m)
 ]
 
 pub taken_opens : (t t' : Table) (d d' : Places) (size k : ℕ) → Takes t t' d d' k → size ≤ t.words_per_region → ((f : ℕ) → fill_of t d.last ≡ Some f → t.words_per_region < f + size) → Opens t t' d d' size k

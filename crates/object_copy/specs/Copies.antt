@@ -1,7 +1,7 @@
 -- The regions that copies go to, and what a copy changes.
 use Rattle.std.specs.Prelude.{◌≡◌, ◌≢◌, ◌⊎◌, ◌≤◌, ◌<◌, ℕ, ◌+◌, List, [], ◌∷◌, ◌++◌, Option, Some, None, length}
 use Rattle.heap_model.specs.Heap.{Stored}
-use Rattle.regions.specs.Tiles.{Live, Moved, tile_size}
+use Rattle.regions.specs.Tiles.{Object, Forwarded, tile_size}
 use Rattle.regions.specs.Table.{Table, first_free, free_count, kind_of, taken, tile_in, used_of, top_of, push_tile, replace_tile}
 use Rattle.regions.specs.declared.row.Kind.TheVariants as kinds
 
@@ -50,10 +50,10 @@ pub record Copies (t t' : Table) (d d' : Places) (from to : ℕ) (object : Store
   pub region : ℕ
   pub table : Table
   pub places : Places
-  pub opens : Opens t table d places (tile_size (Live object)) region
+  pub opens : Opens t table d places (tile_size (Object object)) region
   pub at : to ≡ top_of table region
-  pub table_is : t' ≡ replace_tile (push_tile table region (Live object)) from (Moved to (tile_size (Live object)) ∷ [])
-  pub places_are : d' ≡ record { regions = places.regions; last = places.last; room = places.room; words = places.words + tile_size (Live object) }
+  pub table_is : t' ≡ replace_tile (push_tile table region (Object object)) from (Forwarded to (tile_size (Object object)) ∷ [])
+  pub places_are : d' ≡ record { regions = places.regions; last = places.last; room = places.room; words = places.words + tile_size (Object object) }
 
 -- what that changes: at `to`, where no tile was, stands the object; at `from` a tile of as many words that says so; and region k,
 -- the destination, has so many more words handed out
@@ -65,12 +65,12 @@ pub record CopiesObject (t t' : Table) (k from to : ℕ) (object : Stored) : Typ
   pub was_free : (kind_of t k ≡ kinds.Ordinary) ⊎ (kind_of t k ≡ kinds.Free)
   pub kinds_same : (j : ℕ) → j ≢ k → kind_of t' j ≡ kind_of t j
   pub at : to ≡ top_of t k
-  pub within : used_of t k + tile_size (Live object) ≤ t.words_per_region
+  pub within : used_of t k + tile_size (Object object) ≤ t.words_per_region
   pub was : tile_in t to ≡ None
-  pub copy : tile_in t' to ≡ Some (Live object)
-  pub forwarded : tile_in t' from ≡ Some (Moved to (tile_size (Live object)))
+  pub copy : tile_in t' to ≡ Some (Object object)
+  pub forwarded : tile_in t' from ≡ Some (Forwarded to (tile_size (Object object)))
   pub others : (y : ℕ) → y ≢ from → y ≢ to → tile_in t' y ≡ tile_in t y
-  pub used : used_of t' k ≡ used_of t k + tile_size (Live object)
+  pub used : used_of t' k ≡ used_of t k + tile_size (Object object)
   pub used_same : (j : ℕ) → j ≢ k → used_of t' j ≡ used_of t j
   pub free_same : kind_of t k ≡ kinds.Ordinary → free_count t' ≡ free_count t
   pub free_less : kind_of t k ≡ kinds.Free → free_count t' + 1 ≡ free_count t

@@ -2,7 +2,7 @@
 
 ghost use Rattle.std.specs.Prelude.{◌≡◌, ◌≢◌, ℕ, ◌≤◌, ◌<◌, ◌+◌, ◌/◌, ◌^◌, IfSome, IsSome, Some, length};
 ghost use Rattle.heap_model.specs.Heap.{Stored};
-ghost use Rattle.regions.specs.Table.{kind_of, object_at, object_words, EachMovedIn, free_count};
+ghost use Rattle.regions.specs.Table.{kind_of, object_at, object_words, EachForwardedIn, free_count};
 ghost use Rattle.regions.specs.declared.row.Kind.TheVariants as kinds;
 ghost use Rattle.object_copy.specs.Copies.{fill_of, CanPlace, Takes, Opens, Copies, CopiesObject};
 
@@ -46,7 +46,7 @@ fn take(table: &mut RegionTable, destinations: &mut Destinations) -> RegionNo
 pub fn copy(table: &mut RegionTable, destinations: &mut Destinations, from: Addr) -> Addr
     requires object { IsSome (object_at table.old from) }
     requires ordinary { kind_of table.old (from / table.old.words_per_region) ≡ kinds.Ordinary }
-    requires untargeted { EachMovedIn (λ to. to ≢ from) table.old.regions }
+    requires untargeted { EachForwardedIn (λ to. to ≢ from) table.old.regions }
     requires known { IfSome destinations.old.last (λ k. k < length table.old.regions) }
     requires last { IfSome destinations.old.last (λ k. kind_of table.old k ≡ kinds.Ordinary) }
     requires small { object_words table.old from ≤ table.old.words_per_region }

@@ -33,7 +33,7 @@ impl Model for Graph {
 }
 
 impl Graph {
-    ghost use Rattle.object_graph.specs.State.{root_at, register_place, place_of, first_state};
+    ghost use Rattle.object_graph.specs.State.{root_at, register_place, index_of, first_state};
     ghost use Rattle.heap_model.specs.Graph as model;
     ghost use Rattle.heap_model.specs.Graph.{next_name, with_root};
     ghost use Rattle.object_graph.specs.Run.{Creates, EventHappens, ForMutator};
@@ -57,7 +57,7 @@ impl Graph {
     /// Where the object stands that a register names, if it names one.
     fn place(&self, mutator: u32, register: Register) -> Option<usize>
         requires { mutator < self.now.mutators }
-        ensures { result ≡ place_of self.now (root_at self.now (register_place mutator register.number)) }
+        ensures { result ≡ index_of self.now (root_at self.now (register_place mutator register.number)) }
     {
         let name = self.register(mutator, register)?;
         let place = (name.saturating_sub(self.first_name)) as usize;

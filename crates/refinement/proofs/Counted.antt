@@ -7,9 +7,9 @@ use Rattle.regions.specs.Shapes.{tile_shape}
 use Rattle.regions.specs.Walks.{AllPositive, IsHolder, placed, tiles_from, tiles_of, walk_rest}
 use Rattle.regions.specs.Shaped.{IsShaped}
 use Rattle.regions.specs.declared.row.Shape.{Shape}
-use Rattle.regions.proofs.WalkFrom.{cut_at, tile_listed}
-use Rattle.regions.proofs.WalkLaws.{cut_step}
-use Rattle.regions.proofs.WalkMade.{positive_at}
+use Rattle.regions.proofs.Walks.WalkFrom.{cut_at, tile_listed}
+use Rattle.regions.proofs.Walks.WalkLaws.{cut_step}
+use Rattle.regions.proofs.Walks.WalkMade.{positive_at}
 
 -- each tile's first word that isn't below `from` is at or above `low`, and above those of the tiles before it
 abbrev pub HaveWords : ℕ → ℕ → List (Addr × Shape) → Type 0

@@ -8,7 +8,7 @@ use Rattle.regions.specs.Table.{Table, object_at, fields_at}
 use Rattle.remembered_sets.specs.Sets.{Sets, covers, card_count}
 use Rattle.refinement.specs.Remembering.{field_word, field_card, IsCrossing}
 use Rattle.refinement.specs.Refining.{AddsCard, IsScanned, FieldsInside, SetsFit, with_field}
-use Rattle.regions.proofs.Divides.{card_within, div_is, div_low, div_high}
+use Rattle.regions.proofs.Words.Divides.{card_within, div_is, div_low, div_high}
 use Rattle.refinement.proofs.Entered.{adds_none, adds_more, adds_sets, field_adds, field_grows}
 use Rattle.refinement.proofs.Holders.{field_at, fields_of}
 
@@ -16,9 +16,6 @@ use Rattle.refinement.proofs.Holders.{field_at, fields_of}
 pub record IsPartly (words : ℕ) (kept : ℕ → Option Stored) (len card at start field : ℕ) (old new : Sets) : Type 0 where
   pub adds : AddsCard words kept len card old new
   pub done : (i v : ℕ) → start ≤ i → i < field → IsCrossing words kept at i v → covers new (v / words) card ≡ true
-
-pub partly_first : (words : ℕ) (kept : ℕ → Option Stored) (len card at start : ℕ) (s : Sets) → IsPartly words kept len card at start start s s
-partly_first words kept len card at start s = record { adds = adds_none words kept len card s; done = λ i v l h x. absurd (omega arith) }
 
 pub partly_next : (t : Table) (kept : ℕ → Option Stored) (len card at start field next : ℕ) (old mid new : Sets) → kept at ≡ object_at t at → FieldsInside t at → length mid.sets ≡ length t.regions
     → field < length (fields_at t at) → field_card len at field ≡ card → next ≡ field + 1

@@ -3,14 +3,14 @@ use Rattle.std.proofs.Common.{◌≡◌, ℕ, ◌+◌, ◌*◌, ◌/◌, ◌<◌
 use Rattle.std.specs.Prelude.{slice_get, IsSome, IsTrue, if◌then◌else◌}
 use Rattle.std.proofs.lemmas.Option.{slice_get_within}
 use Rattle.heap_model.specs.Heap.{Stored, IsClosed, fields}
-use Rattle.regions.specs.Tiles.{Tile, Live, Gap, Moved, tile_size}
+use Rattle.regions.specs.Tiles.{Tile, Object, Filler, Forwarded, tile_size}
 use Rattle.regions.specs.Table.{Table, tile_in, tile_object, object_at, object_fields, fields_at}
 use Rattle.regions.specs.Shapes.{tile_shape}
 use Rattle.regions.specs.Walks.{IsHolder, IsPlacedTile}
 use Rattle.regions.specs.Shaped.{IsShaped}
-use Rattle.regions.specs.declared.row.Shape.TheVariants.{Object, Filler, Moved as MovedShape}
-use Rattle.regions.proofs.Laws.{object_tile}
-use Rattle.regions.proofs.WalkFrom.{tile_listed}
+use Rattle.regions.specs.declared.row.Shape.TheVariants as shapes
+use Rattle.regions.proofs.Tiles.Laws.{object_tile}
+use Rattle.regions.proofs.Walks.WalkFrom.{tile_listed}
 use Rattle.mark_bitmap.specs.Tops.{Tops, below_previous}
 use Rattle.mark_bitmap.specs.Marks.{is_marked}
 use Rattle.mark_bitmap.specs.Kept.{heap_in, kept_in}
@@ -26,11 +26,11 @@ pub field_holder : (t : Table) (kept : ℕ → Option Stored) (a i v : ℕ) → 
 unfolding object_at
 field_holder t kept a i v stands x =
     let inside = slice_get_within (fields x.object) i (Some v) x.field_is in
-    record { tile = Live x.object; tile_is = object_tile (tile_in t a) x.object (stands a x.object x.kept_is); low = omega arith; high = omega (arith, inside) }
+    record { tile = Object x.object; tile_is = object_tile (tile_in t a) x.object (stands a x.object x.kept_is); low = omega arith; high = omega (arith, inside) }
 
 pub object_known : (t : Table) (a : ℕ) (s : Stored) → object_at t a ≡ Some s → a / t.words_per_region < length t.regions
 unfolding object_at
-object_known t a s e = (tile_listed t a (Live s) (object_tile (tile_in t a) s e)).1
+object_known t a s e = (tile_listed t a (Object s) (object_tile (tile_in t a) s e)).1
 
 either_way : (below marked : Bool) (o : Option Stored) (s : Stored) → (if below then (if marked then o else None) else o) ≡ Some s → o ≡ Some s
 either_way true true o s e = e
@@ -53,39 +53,39 @@ unfolding fields_at
 fields_of t a s e = ap object_fields e
 
 -- a filler and what has moved are no objects
-pub shape_object : (t : Table) (a p d : ℕ) → IsPlacedTile t a (Object p d) → IsSome (object_at t a)
+pub shape_object : (t : Table) (a p d : ℕ) → IsPlacedTile t a (shapes.Object p d) → IsSome (object_at t a)
 unfolding object_at
 shape_object t a p d h = go h.tile h.tile_is h.shape_is
   where
-    go : (u : Tile) → tile_in t a ≡ Some u → Object p d ≡ tile_shape u → IsSome (tile_object (tile_in t a))
-    go (Live s) e f = rw e refl
-    go (Gap m) e f = cc
-    go (Moved to m) e f = cc
+    go : (u : Tile) → tile_in t a ≡ Some u → shapes.Object p d ≡ tile_shape u → IsSome (tile_object (tile_in t a))
+    go (Object s) e f = rw e refl
+    go (Filler m) e f = cc
+    go (Forwarded to m) e f = cc
 
-pub shape_filler : (t : Table) (a m : ℕ) → IsPlacedTile t a (Filler m) → object_at t a ≡ None
+pub shape_filler : (t : Table) (a m : ℕ) → IsPlacedTile t a (shapes.Filler m) → object_at t a ≡ None
 unfolding object_at
 shape_filler t a m h = go h.tile h.tile_is h.shape_is
   where
-    go : (u : Tile) → tile_in t a ≡ Some u → Filler m ≡ tile_shape u → tile_object (tile_in t a) ≡ None
-    go (Live s) e f = cc
-    go (Gap m) e f = rw e refl
-    go (Moved to m) e f = cc
+    go : (u : Tile) → tile_in t a ≡ Some u → shapes.Filler m ≡ tile_shape u → tile_object (tile_in t a) ≡ None
+    go (Object s) e f = cc
+    go (Filler m) e f = rw e refl
+    go (Forwarded to m) e f = cc
 
-pub shape_moved : (t : Table) (a to m : ℕ) → IsPlacedTile t a (MovedShape to m) → object_at t a ≡ None
+pub shape_forwarded : (t : Table) (a to m : ℕ) → IsPlacedTile t a (shapes.Forwarded to m) → object_at t a ≡ None
 unfolding object_at
-shape_moved t a to m h = go h.tile h.tile_is h.shape_is
+shape_forwarded t a to m h = go h.tile h.tile_is h.shape_is
   where
-    go : (u : Tile) → tile_in t a ≡ Some u → MovedShape to m ≡ tile_shape u → tile_object (tile_in t a) ≡ None
-    go (Live s) e f = cc
-    go (Gap m) e f = cc
-    go (Moved to m) e f = rw e refl
+    go : (u : Tile) → tile_in t a ≡ Some u → shapes.Forwarded to m ≡ tile_shape u → tile_object (tile_in t a) ≡ None
+    go (Object s) e f = cc
+    go (Filler m) e f = cc
+    go (Forwarded to m) e f = rw e refl
 
 -- ---- where fields lie
-pub object_within : (t : Table) (a : ℕ) (s : Stored) → IsShaped t → object_at t a ≡ Some s → a + tile_size (Live s) ≤ length t.regions * t.words_per_region
+pub object_within : (t : Table) (a : ℕ) (s : Stored) → IsShaped t → object_at t a ≡ Some s → a + tile_size (Object s) ≤ length t.regions * t.words_per_region
 unfolding object_at
-object_within t a s g e = g.within a (Live s) (object_tile (tile_in t a) s e)
+object_within t a s g e = g.within a (Object s) (object_tile (tile_in t a) s e)
 
-pub shape_within : (t : Table) (a p d n : ℕ) → IsShaped t → n ≡ length t.regions * t.words_per_region → IsPlacedTile t a (Object p d) → a < n
+pub shape_within : (t : Table) (a p d n : ℕ) → IsShaped t → n ≡ length t.regions * t.words_per_region → IsPlacedTile t a (shapes.Object p d) → a < n
 shape_within t a p d n g e h = go (object_at t a) refl (shape_object t a p d h)
   where
     go : (o : Option Stored) → object_at t a ≡ o → IsSome o → a < n

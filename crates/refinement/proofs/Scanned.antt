@@ -7,11 +7,11 @@ use Rattle.regions.specs.Table.{Table, tile_in, object_at, tile_object, top_of}
 use Rattle.regions.specs.Walks.{walk_rest, IsAmong, ArePlaced, IsPlacedTile, IsHolder}
 use Rattle.regions.specs.Shaped.{IsShaped}
 use Rattle.regions.specs.declared.row.Shape.{Shape}
-use Rattle.regions.proofs.WalkTiles.{onward_placed, onward_among}
+use Rattle.regions.proofs.Walks.WalkTiles.{onward_placed, onward_among}
 use Rattle.refinement.specs.Remembering.{field_word, field_card, IsCovered}
 use Rattle.refinement.specs.Refining.{IsObjectCovered, AreObjectsCovered}
-use Rattle.regions.proofs.Divides.{card_region, card_has_words, div_low, div_high}
-use Rattle.regions.proofs.Holders.{holder_onward, holder_below}
+use Rattle.regions.proofs.Words.Divides.{card_region, card_has_words, div_low, div_high}
+use Rattle.regions.proofs.Tiles.Holders.{holder_onward, holder_below}
 use Rattle.refinement.proofs.Holders.{Stands, field_holder}
 
 -- nothing is covered less once more is covered

@@ -40,7 +40,7 @@ pub fn is_kept(table: &RegionTable, tams: &Tams, marks: &Marks, at: Addr, shape:
             }
             marks.get(at)
         }
-        Shape::Filler { .. } | Shape::Moved { .. } => false,
+        Shape::Filler { .. } | Shape::Forwarded { .. } => false,
     }
 }
 

@@ -3,7 +3,7 @@ use Rattle.std.specs.Prelude.{◌≡◌, ℕ, zero, suc, ◌-◌, ◌*◌, ◌^�
 use Rattle.heap_words.specs.Sizes.{size_of}
 use Rattle.heap_words.specs.Configs.{max_words}
 use Rattle.heap_words.specs.declared.header.Header.{Header}
-use Rattle.heap_words.specs.declared.header.Header.TheVariants.{Object, Filler, Forwarded}
+use Rattle.heap_words.specs.declared.header.Header.TheVariants as headers
 use Rattle.heap_words.specs.Headers.{header_of, header_word}
 use Rattle.heap_model.specs.Heap.{Stored}
 use Rattle.regions.specs.Tiles.{stored_of, tiles, IsTiled}
@@ -16,9 +16,9 @@ use Rattle.regions.specs.declared.row.Kind.TheVariants as kinds
 -- how many words the object of a header has, 1 where it is no object's
 abbrev pub object_size : Option Header → ℕ
 object_size None = 1
-object_size (Some (Object p d)) = size_of p d
-object_size (Some (Filler n)) = 1
-object_size (Some (Forwarded to)) = 1
+object_size (Some (headers.Object p d)) = size_of p d
+object_size (Some (headers.Filler n)) = 1
+object_size (Some (headers.Forwarded to)) = 1
 
 -- the size of the object at an address
 abbrev pub sizes_in : List ℕ → ℕ → ℕ
@@ -27,16 +27,16 @@ sizes_in words a = object_size (header_of (slice_index words a))
 -- where a header's object went
 abbrev pub header_target : Option Header → Option ℕ
 header_target None = None
-header_target (Some (Object p d)) = None
-header_target (Some (Filler n)) = None
-header_target (Some (Forwarded to)) = Some to
+header_target (Some (headers.Object p d)) = None
+header_target (Some (headers.Filler n)) = None
+header_target (Some (headers.Forwarded to)) = Some to
 
 -- the object of a header
 abbrev pub stored_by : List ℕ → Option Header → Stored
 stored_by ws None = stored_of 0 0 ws
-stored_by ws (Some (Object p d)) = stored_of p d ws
-stored_by ws (Some (Filler n)) = stored_of 0 0 ws
-stored_by ws (Some (Forwarded to)) = stored_of 0 0 ws
+stored_by ws (Some (headers.Object p d)) = stored_of p d ws
+stored_by ws (Some (headers.Filler n)) = stored_of 0 0 ws
+stored_by ws (Some (headers.Forwarded to)) = stored_of 0 0 ws
 
 -- the object that words begin with
 abbrev pub first_stored : List ℕ → Stored
@@ -62,9 +62,9 @@ regions_of sizes size ws (row ∷ rows) = region_of sizes ws row ∷ regions_of 
 -- the header is an object's
 abbrev pub IsObject : Option Header → Type 0
 IsObject None = ⊥
-IsObject (Some (Object p d)) = Unit {0}
-IsObject (Some (Filler n)) = ⊥
-IsObject (Some (Forwarded to)) = ⊥
+IsObject (Some (headers.Object p d)) = Unit {0}
+IsObject (Some (headers.Filler n)) = ⊥
+IsObject (Some (headers.Forwarded to)) = ⊥
 
 -- a row that is no later one of a run says what the words of its region are
 abbrev pub IsRow : (ℕ → ℕ) → ℕ → List ℕ → ℕ → Kind → Type 0
@@ -164,16 +164,16 @@ kind_is_rest kinds.First = false
 kind_is_rest kinds.Rest = true
 
 -- the words with a filler's header at n, unless it has no words
-abbrev pub put_gap : List ℕ → ℕ → ℕ → List ℕ
-put_gap words n zero = words
-put_gap words n (suc m) = slice_set words n (header_word (Filler (suc m)))
+abbrev pub put_remainder : List ℕ → ℕ → ℕ → List ℕ
+put_remainder words n zero = words
+put_remainder words n (suc m) = slice_set words n (header_word (headers.Filler (suc m)))
 
 -- how many data words a header's object has
 abbrev pub value_count : Option Header → ℕ
 value_count None = 0
-value_count (Some (Object p d)) = d
-value_count (Some (Filler n)) = 0
-value_count (Some (Forwarded to)) = 0
+value_count (Some (headers.Object p d)) = d
+value_count (Some (headers.Filler n)) = 0
+value_count (Some (headers.Forwarded to)) = 0
 
 -- the address, if there is one, is below the limit
 abbrev pub IsBelow : Option ℕ → ℕ → Type 0

@@ -2,8 +2,8 @@
 use Rattle.std.specs.Prelude.{◌≡◌, ℕ, zero, suc, ◌+◌, ◌-◌, ◌*◌, ◌/◌, ◌<◌, ◌≤◌, ◌⊎◌, List, [], ◌∷◌, Some, IsSome, length}
 use Rattle.regions.specs.declared.row.Shape.{Shape}
 use Rattle.regions.specs.Shapes.{tile_shape}
-use Rattle.regions.specs.Tiles.{Tile, Live, tile_size, total_size, tile_at}
-use Rattle.regions.specs.Table.{Region, Free, Ordinary, First, Rest, Table, region_number, kind_of, tile_in}
+use Rattle.regions.specs.Tiles.{Tile, Object, tile_size, total_size, tile_at}
+use Rattle.regions.specs.Table.{Region, Free, Ordinary, First, Rest, Table, nth_region, kind_of, tile_in}
 use Rattle.regions.specs.declared.row.Kind.TheVariants as kinds
 use Rattle.heap_words.specs.declared.addr.Addr.{Addr}
 
@@ -11,12 +11,12 @@ use Rattle.heap_words.specs.declared.addr.Addr.{Addr}
 abbrev pub region_tiles : Region → List Tile
 region_tiles Free = []
 region_tiles (Ordinary ts) = ts
-region_tiles (First s) = Live s ∷ []
+region_tiles (First s) = Object s ∷ []
 region_tiles (Rest n) = []
 
 -- the tiles of region k
 unfoldable pub tiles_of : Table → ℕ → List Tile
-tiles_of t k = region_tiles (region_number t k)
+tiles_of t k = region_tiles (nth_region t k)
 
 -- the tiles with their addresses
 abbrev pub placed : ℕ → List Tile → List (Addr × Shape)

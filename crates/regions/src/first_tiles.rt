@@ -17,7 +17,7 @@
 ghost use Rattle.std.specs.Prelude.{◌≡◌, ℕ, ◌+◌, ◌*◌, ◌/◌, ◌<◌, ◌≤◌, ◌^◌, ◌==◌, ◌&&◌, IfOk, IsTrue, length, replicate, slice_index, if◌then◌else◌};
 ghost use Rattle.std.specs.Int.{div_ceil, is_power_of_two};
 ghost use Rattle.heap_words.specs.Bits.{is_between};
-ghost use Rattle.regions.specs.Tiles.{Gap};
+ghost use Rattle.regions.specs.Tiles.{Filler};
 ghost use Rattle.regions.specs.FirstTiles.{last_card, entry_of, start_in};
 
 use std::alloc::{AllocError, Global};
@@ -96,7 +96,7 @@ fn write_filler(entries: &mut [u32], shift: u32, at: u32, size: u32)
     requires small { at + size ≤ 2 ^ 20 }
     requires within { at + size ≤ length entries.old * 2 ^ shift }
     ensures len { length entries.new ≡ length entries.old }
-    ensures entries { (c : ℕ) → slice_index entries.new c ≡ (if is_between at (at + size) (c * 2 ^ shift) then entry_of (2 ^ shift) at (Gap size) (c * 2 ^ shift) else slice_index entries.old c) }
+    ensures entries { (c : ℕ) → slice_index entries.new c ≡ (if is_between at (at + size) (c * 2 ^ shift) then entry_of (2 ^ shift) at (Filler size) (c * 2 ^ shift) else slice_index entries.old c) }
 {
     let first = card_from(shift, at);
     let past = card_from(shift, at + size);
@@ -167,7 +167,7 @@ impl FirstTiles {
         requires room { size ≤ filler }
         requires within { at + filler ≤ length self.old.starts * self.old.card_words }
         requires small { at + filler ≤ 2 ^ 20 }
-        requires entries { (c : ℕ) → at ≤ c * self.old.card_words → c * self.old.card_words < at + filler → slice_index self.old.starts c ≡ entry_of self.old.card_words at (Gap filler) (c * self.old.card_words) }
+        requires entries { (c : ℕ) → at ≤ c * self.old.card_words → c * self.old.card_words < at + filler → slice_index self.old.starts c ≡ entry_of self.old.card_words at (Filler filler) (c * self.old.card_words) }
         ensures card_words { self.new.card_words ≡ self.old.card_words }
         ensures len { length self.new.starts ≡ length self.old.starts }
         ensures entries { (c : ℕ) → slice_index self.new.starts c ≡ (if is_between at (at + size) (c * self.old.card_words) then at else slice_index self.old.starts c) }
@@ -187,7 +187,7 @@ impl FirstTiles {
         requires small { at + size ≤ 2 ^ 20 }
         ensures card_words { self.new.card_words ≡ self.old.card_words }
         ensures len { length self.new.starts ≡ length self.old.starts }
-        ensures entries { (c : ℕ) → slice_index self.new.starts c ≡ (if is_between at (at + size) (c * self.old.card_words) then entry_of self.old.card_words at (Gap size) (c * self.old.card_words) else slice_index self.old.starts c) }
+        ensures entries { (c : ℕ) → slice_index self.new.starts c ≡ (if is_between at (at + size) (c * self.old.card_words) then entry_of self.old.card_words at (Filler size) (c * self.old.card_words) else slice_index self.old.starts c) }
     {
         write_filler(&mut self.starts, self.shift, at, size);
     }

@@ -119,19 +119,19 @@ impl RegionTable {
     }
 
     /// A data word of the object at an address.
-    pub fn get_data(&self, object: Addr, field: u32) -> u64
+    pub fn get_value(&self, object: Addr, field: u32) -> u64
         requires { field < length (values_at self.now object) }
         ensures { slice_get (values_at self.now object) field ≡ Some result }
     {
-        self.words.get_data(object, field)
+        self.words.get_value(object, field)
     }
 
     /// Stores a data word in the object at an address.
-    pub fn set_data(&mut self, object: Addr, field: u32, value: u64)
+    pub fn set_value(&mut self, object: Addr, field: u32, value: u64)
         requires { field < length (values_at self.old object) }
         ensures { self.new ≡ set_value self.old object field value }
     {
-        self.words.set_data(object, field, value);
+        self.words.set_value(object, field, value);
     }
 
     /// Where the tile at an address went, if it is an object that was forwarded.

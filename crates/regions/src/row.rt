@@ -35,7 +35,7 @@ pub enum Shape {
     /// Words that hold nothing.
     Filler { size: u32 },
     /// An object that went to an address.
-    Moved { to: Addr, size: u32 },
+    Forwarded { to: Addr, size: u32 },
 }
 
 impl Shape {
@@ -46,7 +46,7 @@ impl Shape {
         match *self {
             Shape::Object { pointers, values } => 2 + pointers.get() + values.get(),
             Shape::Filler { size } => size,
-            Shape::Moved { size, .. } => size,
+            Shape::Forwarded { size, .. } => size,
         }
     }
 }

@@ -2,7 +2,7 @@
 ghost use Rattle.std.specs.Prelude.{◌≡◌, ◌+◌, ◌/◌, ◌<◌, length, nat_le, IsOk, IfOk, IfErr, IsSome, IfSome};
 ghost use Rattle.heap_words.specs.Configs.{Suits, IsNewFault};
 ghost use Rattle.heap_words.specs.Contents.{header_at};
-ghost use Rattle.regions.specs.Table.{free_count, free_table, is_free, region_number, HasNoMoved, kind_of, used_of, top_of, tile_in};
+ghost use Rattle.regions.specs.Table.{free_count, free_table, is_free, nth_region, HasNoForwarded, kind_of, used_of, top_of, tile_in};
 ghost use Rattle.regions.specs.Rows.{sizes_in, IsBelow, header_target};
 ghost use Rattle.regions.specs.Shapes.{tile_shape, shape_by};
 ghost use Rattle.regions.specs.Shaped.{IsShaped};
@@ -68,7 +68,7 @@ pub(crate) fn shape_at(words: &Words, at: Addr) -> Shape
                 values: data,
             },
             Header::Filler { size } => Shape::Filler { size: size.get() },
-            Header::Forwarded { to } => Shape::Moved {
+            Header::Forwarded { to } => Shape::Forwarded {
                 to,
                 size: size_at(words, to),
             },
@@ -84,7 +84,7 @@ impl RegionTable {
         ensures suits { IsOk result → Suits config.now }
         ensures made { IfOk result (λ t. t ≡ free_table config.now.regions config.now.words) }
         ensures fault { IfErr result (IsNewFault config.now) }
-        ensures unmoved { IfOk result HasNoMoved }
+        ensures unmoved { IfOk result HasNoForwarded }
     {
         config.check()?;
         let count = config.regions as usize * config.words as usize;
@@ -159,7 +159,7 @@ impl RegionTable {
     /// Whether a region is free.
     fn is_free(&self, region: RegionNo) -> bool
         requires { region < length self.now.regions }
-        ensures { result ≡ is_free (region_number self.now region) }
+        ensures { result ≡ is_free (nth_region self.now region) }
     {
         match self.kind(region) {
             Kind::Free => true,

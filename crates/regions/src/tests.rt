@@ -52,7 +52,7 @@ fn fields(table: &RegionTable, object: Addr) -> (Ptr, u64)
     requires pointers { 0 < length (pointers_at table.now object) }
     requires values { 0 < length (values_at table.now object) }
 {
-    (table.get_ptr(object, 0), table.get_data(object, 0))
+    (table.get_ptr(object, 0), table.get_value(object, 0))
 }
 
 #[test]
@@ -102,7 +102,7 @@ fn fills_a_region(rt: HostRuntime) -> Result<(), Fail> {
     );
     table.make_object(object, FillerSize::new(5), 7, counts(1, 1));
     table.set_ptr(object, 0, Some(rest));
-    table.set_data(object, 0, 9);
+    table.set_value(object, 0, 9);
     assert_eq!(rt; about(&table, object), (7, 1, 1, 4));
     assert_eq!(rt; fields(&table, object), (Some(rest), 9));
     assert!(rt; table.has_room(region, 6));
@@ -162,7 +162,7 @@ fn moves_an_object(rt: HostRuntime) -> Result<(), Fail> {
     assert_eq!(rt; table.copy_object(object, to), copy);
     table.forward(object, copy);
     assert_eq!(rt; table.target(object), Some(copy));
-    assert_eq!(rt; table.tile(object), Shape::Moved { to: copy, size: 4 });
+    assert_eq!(rt; table.tile(object), Shape::Forwarded { to: copy, size: 4 });
     table.release(from);
     assert_eq!(rt; table.kind(from), Kind::Free);
     assert_eq!(rt; table.top(to), Addr::new(20));

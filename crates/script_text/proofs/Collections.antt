@@ -7,7 +7,7 @@ use Rattle.std.proofs.lemmas.Slice.Eq.{bytes_eq-Decides}
 use Rattle.heap_words.specs.declared.config.Config.{Config}
 use Rattle.object_graph.specs.declared.step.CollectorStep.{CollectorStep}
 use Rattle.object_graph.specs.declared.step.CollectorStep.TheVariants as collector
-use Rattle.script_text.specs.Reading.{◌>>=◌, number_of, small, large, collection_of, heap_of}
+use Rattle.script_text.specs.Reading.{◌>>=◌, number_of, small, large, collection_of, sizes_of}
 use Rattle.script_text.specs.Fits.{CollectionFits, ConfigFits}
 use Rattle.script_text.specs.Spelling.{collection_words, heap_words}
 use Rattle.script_text.proofs.Numbers.{number_of_is}
@@ -107,8 +107,8 @@ five verb n r b m f c v e =
 no_config : (c : Config) → None ≡ Some c → ⊥
 no_config c e = cc
 
-pub heap_is : (ws : List (List ℕ)) (c : Config) → heap_of ws ≡ Some c → AreSizes ws c
-unfolding heap_of sizes
+pub heap_is : (ws : List (List ℕ)) (c : Config) → sizes_of ws ≡ Some c → AreSizes ws c
+unfolding sizes_of sizes
 heap_is [] c e = absurd cc
 heap_is (verb ∷ []) c e = absurd cc
 heap_is (verb ∷ n ∷ []) c e = absurd cc

@@ -67,9 +67,6 @@ clear_part text start n clear = λ k d lt.
     let same : get_or (take n (drop start text)) k d ≡ get_or text (start + k) 0 = get_or_default_zero (take n (drop start text)) k d inside ∙ get_or-take n (drop start text) k 0 small ∙ get_or-drop start text k 0 in
     rw same (ne_eqb (get_or text (start + k) 0) 32 (clear (start + k) (omega arith) (omega arith)))
 
-pub begins_split : (text : List ℕ) (ws : List (List ℕ)) → ws ≡ [] → IsSplit text ws 0 0
-begins_split text ws none = rw none (record { within = omega arith; words = refl; clear = λ few k from before space. absurd (omega arith) })
-
 -- a byte that ends no word that is kept
 pub goes_on : (text : List ℕ) (ws : List (List ℕ)) (start at : ℕ) → IsSplit text ws start at → at < length text → (get_or text at 0 ≡ 10 → ⊥) → (length ws < 11 → get_or text at 0 ≡ 32 → ⊥) → IsSplit text ws start (at + 1)
 goes_on text ws start at split lt other inner = record {

@@ -13,7 +13,7 @@ use Rattle.object_graph.specs.declared.step.Step.{Step}
 use Rattle.object_graph.specs.declared.step.Step.TheVariants as steps
 use Rattle.script_text.specs.declared.fault.Kind.{Kind}
 use Rattle.script_text.specs.declared.fault.Kind.TheVariants as kinds
-use Rattle.script_text.specs.Reading.{number_of, small, action_of, collection_of, heap_of}
+use Rattle.script_text.specs.Reading.{number_of, small, action_of, collection_of, sizes_of}
 use Rattle.script_text.specs.Fits.{StepFits, ConfigFits}
 use Rattle.script_text.specs.Spelling.{action_words, collection_words, step_words, heap_words, spaced}
 use Rattle.script_text.specs.Lines.{◌>>=◌, or_fault, words_of, mutator_of, step_of, step_of, step_line_of, heap_line_of}
@@ -121,5 +121,5 @@ step_line_is c text s e = words_line c text s (too_long (nat_lt 120 (length text
 pub heap_line_is : (text : List ℕ) (c : Config) → heap_line_of text ≡ Ok c → (text ≡ spaced (heap_words c)) × ConfigFits c
 unfolding heap_line_of
 heap_line_is text c e =
-    let sizes = heap_is (words_of text) c (or_fault_is (heap_of (words_of text)) kinds.BadHeap c (too_long (nat_lt 120 (length text)) kinds.LongLine (or_fault (heap_of (words_of text)) kinds.BadHeap) c e)) in
+    let sizes = heap_is (words_of text) c (or_fault_is (sizes_of (words_of text)) kinds.BadHeap c (too_long (nat_lt 120 (length text)) kinds.LongLine (or_fault (sizes_of (words_of text)) kinds.BadHeap) c e)) in
     (joined text (heap_words c) sizes.spelled, sizes.fits)

@@ -16,7 +16,7 @@ use Rattle.object_graph.specs.declared.step.CollectorStep.TheVariants as collect
 use Rattle.object_graph.specs.declared.step.Step.{Step}
 use Rattle.object_graph.specs.declared.step.Step.TheVariants as steps
 use Rattle.script_text.specs.declared.fault.Kind.TheVariants as kinds
-use Rattle.script_text.specs.Reading.{small, large, collection_of, heap_of}
+use Rattle.script_text.specs.Reading.{small, large, collection_of, sizes_of}
 use Rattle.script_text.specs.Fits.{Fits, CollectionFits, StepFits, ConfigFits}
 use Rattle.script_text.specs.Spelling.{action_words, collection_words, step_words, heap_words, spaced}
 use Rattle.script_text.specs.Lines.{or_fault, words_of, mutator_of, step_of, step_line_of, heap_line_of}
@@ -143,8 +143,8 @@ heap_short : (c : Config) → ConfigFits c → length (spaced (heap_words c)) �
 unfolding heap_sizes
 heap_short c fits = let all = spaced_short (codes "heap") (heap_sizes c) (sizes_are_words c fits) in omega arith
 
-heap_again : (c : Config) → ConfigFits c → heap_of (heap_words c) ≡ Some c
-unfolding heap_of
+heap_again : (c : Config) → ConfigFits c → sizes_of (heap_words c) ≡ Some c
+unfolding sizes_of
 heap_again c fits =
     let r = number_of_some small (decimal c.regions) c.regions (let f = fits.regions in omega arith) refl fits.regions in
     let w = number_of_some small (decimal c.words) c.words (let f = fits.words in omega arith) refl fits.words in
@@ -158,4 +158,4 @@ pub heap_line_again : (c : Config) → ConfigFits c → heap_line_of (spaced (he
 unfolding heap_line_of heap_sizes
 heap_line_again c fits =
     let words : words_of (spaced (heap_words c)) ≡ heap_words c = words_again (codes "heap") (heap_sizes c) (heap_is_words c fits) in
-    rw (le-ltb 120 (length (spaced (heap_words c))) (heap_short c fits)) (ap (λ (ws : List (List ℕ)). or_fault (heap_of ws) kinds.BadHeap) words ∙ ap (λ (o : Option Config). or_fault o kinds.BadHeap) (heap_again c fits))
+    rw (le-ltb 120 (length (spaced (heap_words c))) (heap_short c fits)) (ap (λ (ws : List (List ℕ)). or_fault (sizes_of ws) kinds.BadHeap) words ∙ ap (λ (o : Option Config). or_fault o kinds.BadHeap) (heap_again c fits))

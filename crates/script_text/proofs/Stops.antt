@@ -9,7 +9,7 @@ use Rattle.object_graph.specs.declared.step.Step.TheVariants as steps
 use Rattle.script_text.specs.declared.fault.Kind.{Kind}
 use Rattle.script_text.specs.declared.fault.Kind.TheVariants as kinds
 use Rattle.script_text.specs.declared.fault.LineFault.{LineFault}
-use Rattle.script_text.specs.Reading.{number_of, small, action_of, collection_of, heap_of}
+use Rattle.script_text.specs.Reading.{number_of, small, action_of, collection_of, sizes_of}
 use Rattle.script_text.specs.Lines.{◌>>=◌, or_fault, at, words_of, pieces_of, mutator_of, step_of, heap_line_of, step_line_of, steps_of, script_of, FailsBy, StopsAt}
 use Rattle.script_text.proofs.ReadOn.{fault, with_step, read_on, pieces_some, goes_on}
 
@@ -57,7 +57,7 @@ step_line_never c line k e memory = never_cond (nat_lt 120 (length line)) (Err k
 pub heap_line_never : (line : List ℕ) (k : Kind) → heap_line_of line ≡ Err k → k ≡ kinds.NoMemory → ⊥
 unfolding heap_line_of
 heap_line_never line k e memory =
-    never_cond (nat_lt 120 (length line)) (Err kinds.LongLine) (or_fault (heap_of (words_of line)) kinds.BadHeap) (never_err kinds.LongLine (λ d. cc)) (never_or (heap_of (words_of line)) kinds.BadHeap (λ d. cc)) (e ∙ ap (λ (x : Kind). Err x) memory)
+    never_cond (nat_lt 120 (length line)) (Err kinds.LongLine) (or_fault (sizes_of (words_of line)) kinds.BadHeap) (never_err kinds.LongLine (λ d. cc)) (never_or (sizes_of (words_of line)) kinds.BadHeap (λ d. cc)) (e ∙ ap (λ (x : Kind). Err x) memory)
 
 -- a line's own fault is the text's
 pub fault_is : {Y : Type 0} (k : Kind) (n : ℕ) (text : List ℕ) (total : Result Y LineFault) → (k ≡ kinds.NoMemory → ⊥) → total ≡ Err (fault n k) → FailsBy k (fault n k) text total

@@ -9,7 +9,7 @@ use Rattle.object_graph.specs.declared.step.Step.TheVariants as steps
 use Rattle.script_text.specs.declared.fault.Kind.{Kind}
 use Rattle.script_text.specs.declared.fault.Kind.TheVariants as kinds
 use Rattle.script_text.specs.declared.fault.LineFault.{LineFault}
-use Rattle.script_text.specs.Reading.{number_of, small, action_of, collection_of, heap_of}
+use Rattle.script_text.specs.Reading.{number_of, small, action_of, collection_of, sizes_of}
 
 infixl 10 ◌>>=◌
 abbrev pub ◌>>=◌ : {A B E : Type 0} → Result A E → (A → Result B E) → Result B E
@@ -50,7 +50,7 @@ unfoldable pub step_line_of : Config → List ℕ → Result Step Kind
 step_line_of c line = if nat_lt 120 (length line) then Err kinds.LongLine else step_of c (words_of line)
 
 unfoldable pub heap_line_of : List ℕ → Result Config Kind
-heap_line_of line = if nat_lt 120 (length line) then Err kinds.LongLine else or_fault (heap_of (words_of line)) kinds.BadHeap
+heap_line_of line = if nat_lt 120 (length line) then Err kinds.LongLine else or_fault (sizes_of (words_of line)) kinds.BadHeap
 
 -- a fault of line n
 abbrev pub at : {A : Type 0} → ℕ → Result A Kind → Result A LineFault

@@ -161,8 +161,8 @@ collection_of (verb ∷ a ∷ []) =
     else None
 collection_of _ = None
 
-unfoldable pub heap_of : List (List ℕ) → Option Config
-heap_of (verb ∷ regions ∷ size ∷ buffer ∷ mutators ∷ first_name ∷ []) =
+unfoldable pub sizes_of : List (List ℕ) → Option Config
+sizes_of (verb ∷ regions ∷ size ∷ buffer ∷ mutators ∷ first_name ∷ []) =
     if bytes_eq verb (codes "heap") then (do
       n ← number_of small regions
       r ← number_of small size
@@ -171,4 +171,4 @@ heap_of (verb ∷ regions ∷ size ∷ buffer ∷ mutators ∷ first_name ∷ []
       f ← number_of large first_name
       Some (record { regions = n; words = r; buffer = b; mutators = m; first_name = f }))
     else None
-heap_of _ = None
+sizes_of _ = None

@@ -2,7 +2,7 @@
 
 ghost use Rattle.std.specs.Prelude.{◌≡◌, map, IfOk};
 ghost use Rattle.object_graph.specs.Actors.{IsStep};
-ghost use Rattle.script_text.specs.Reading.{heap_of};
+ghost use Rattle.script_text.specs.Reading.{sizes_of};
 ghost use Rattle.script_text.specs.Lines.{heap_line_of, step_line_of, Gives, script_of};
 
 use crate::fault::{Kind, LineFault};
@@ -16,9 +16,9 @@ use std::alloc::Global;
 pub(crate) const LONGEST_LINE: usize = 120;
 
 /// The sizes that a heap line's words give.
-#[tactic(auto, unfolding(crate::specs::Reading::heap_of))]
+#[tactic(auto, unfolding(crate::specs::Reading::sizes_of))]
 fn heap(words: &[&[u8]]) -> Option<Config>
-    ensures { result ≡ heap_of (map (λ w. w.now) words.now) }
+    ensures { result ≡ sizes_of (map (λ w. w.now) words.now) }
 {
     match words {
         [verb, regions, size, buffer, mutators, first_name] => {

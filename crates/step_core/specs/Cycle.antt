@@ -3,8 +3,8 @@ use Rattle.std.specs.Prelude.{◌≡◌, ◌≢◌, ◌⊎◌, ℕ, ◌+◌, ◌
 use Rattle.heap_model.specs.Graph.{Graph, IsReachable}
 use Rattle.heap_model.specs.Heap.{Stored}
 use Rattle.heap_model.specs.Marking.{Begins}
-use Rattle.regions.specs.Tiles.{Live, tile_size}
-use Rattle.regions.specs.Table.{Free, First, region_number, kind_of, top_of}
+use Rattle.regions.specs.Tiles.{Object, tile_size}
+use Rattle.regions.specs.Table.{Free, First, nth_region, kind_of, top_of}
 use Rattle.regions.specs.declared.row.Kind.TheVariants as kinds
 use Rattle.alloc_buffers.specs.Placement.{retired}
 use Rattle.mark_bitmap.specs.Marks.{is_marked, marked_count, HasNone}
@@ -40,9 +40,9 @@ pub record IsDeadRegion (c : CoreState) (k : ℕ) : Type 0 where
 pub record IsDeadRun (c : CoreState) (k : ℕ) : Type 0 where
   pub first : ℕ
   pub object : Stored
-  pub begins : region_number c.table first ≡ First object
+  pub begins : nth_region c.table first ≡ First object
   pub low : first ≤ k
-  pub reaches : (k - first) * c.table.words_per_region < tile_size (Live object)
+  pub reaches : (k - first) * c.table.words_per_region < tile_size (Object object)
   pub dead : kept_of c (first * c.table.words_per_region) ≡ None
 
 -- what a region can be reclaimed for: nothing in it is live
@@ -89,7 +89,7 @@ pub record HasRemarked (n : ℕ) (c c' : CoreState) : Type 0 where
 
 -- a free region as in a new heap: its set is empty, its tops at mark start are its bottom, and it has no marks
 pub record IsAsNew (c : CoreState) (k : ℕ) : Type 0 where
-  pub free : region_number c.table k ≡ Free
+  pub free : nth_region c.table k ≡ Free
   pub set : set_of c.sets k ≡ empty_set (length c.sets.sets)
   pub previous_top : slice_index c.marker.tams.previous k ≡ k * c.table.words_per_region
   pub next_top : slice_index c.marker.tams.next k ≡ k * c.table.words_per_region
@@ -98,7 +98,7 @@ pub record IsAsNew (c : CoreState) (k : ℕ) : Type 0 where
 
 -- a region is as it was, with its set, its tops at mark start and its marks
 pub record IsAsBefore (c c' : CoreState) (k : ℕ) : Type 0 where
-  pub region : region_number c'.table k ≡ region_number c.table k
+  pub region : nth_region c'.table k ≡ nth_region c.table k
   pub set : set_of c'.sets k ≡ set_of c.sets k
   pub previous_top : slice_index c'.marker.tams.previous k ≡ slice_index c.marker.tams.previous k
   pub next_top : slice_index c'.marker.tams.next k ≡ slice_index c.marker.tams.next k

@@ -48,8 +48,8 @@ pub record RunsTo (config : Config) (es : List Event) (c : CoreState) : Type 0 w
 abbrev pub RunsFromNew : Config → List Event → Type 0
 RunsFromNew config es = (last : CoreState) × RunsTo config es last
 
-abbrev pub step_of : Event → Step
-step_of e = e.step
+abbrev pub step_in : Event → Step
+step_in e = e.step
 
 abbrev pub actor_in : Event → Actor
 actor_in e = e.actor

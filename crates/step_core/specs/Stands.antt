@@ -6,8 +6,9 @@ use Rattle.heap_words.specs.Configs.{Suits, card_words}
 use Rattle.heap_model.specs.Graph.{Graph, Object, next_name, object_named, IsReachable}
 use Rattle.heap_model.specs.Heap.{Heap, Stored, Shows, IsShown, IsRoot, StandsOnce}
 use Rattle.heap_model.specs.Marking.{Marking, KeepsSnapshot}
-use Rattle.regions.specs.Tiles.{Live, tile_size}
-use Rattle.regions.specs.Table.{Table, object_at, object_words, kind_of, HasNoMoved, AreHalves}
+use Rattle.regions.specs.Tiles as tiles
+use Rattle.regions.specs.Tiles.{tile_size}
+use Rattle.regions.specs.Table.{Table, object_at, object_words, kind_of, HasNoForwarded, AreHalves}
 use Rattle.regions.specs.declared.row.Kind.TheVariants as kinds
 use Rattle.regions.specs.Shaped.{AreInUse}
 use Rattle.alloc_buffers.specs.Placement.{Buffers, BuffersStand, AreAbove}
@@ -83,7 +84,7 @@ pub record Stands (s : State) (c : CoreState) : Type 0 where
 -- a kept object lies in a region that isn't free
 pub record IsWhole (g : Graph) (c : CoreState) : Type 0 where
   pub once : (n : ℕ) → IsReachable g n → StandsOnce g (heap_of c) n
-  pub in_use : (a : ℕ) (s : Stored) → kept_of c a ≡ Some s → AreInUse c.table a (tile_size (Live s))
+  pub in_use : (a : ℕ) (s : Stored) → kept_of c a ≡ Some s → AreInUse c.table a (tile_size (tiles.Object s))
 
 -- no object of an ordinary region that starts below the region's top at mark start reaches over it
 abbrev pub EndsBelow : Table → List ℕ → Type 0
@@ -99,7 +100,7 @@ pub record LayersFit (config : Config) (t : Table) (b : Buffers) (m : Marker) : 
   pub open_buffers : length b.open_buffers ≡ config.mutators
   pub logs : length m.logs ≡ config.mutators
   pub buffers : BuffersStand t b
-  pub unmoved : HasNoMoved t
+  pub unmoved : HasNoForwarded t
   pub marker : MarkerStands t m
   pub above_previous : AreAbove t b (slice_index m.tams.previous)
   pub above_next : AreAbove t b (slice_index m.tams.next)

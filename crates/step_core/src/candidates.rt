@@ -9,7 +9,7 @@
 
 ghost use Rattle.std.specs.Prelude.{◌≡◌, ℕ, ◌<◌, ◌≤◌, All, Bool, IfNone, IfSome, IsTrue, Some, length, take, count_by, slice_get, ◌+◌, IsPermutation, IsSorted};
 ghost use Rattle.std.specs.Vec.{vec_capacity};
-ghost use Rattle.regions.specs.Table.{is_free, kind_of, region_number};
+ghost use Rattle.regions.specs.Table.{is_free, kind_of, nth_region};
 ghost use Rattle.mark_bitmap.specs.Kept.{MarksObjects};
 ghost use Rattle.mark_bitmap.specs.Live.{live_bound_of};
 ghost use Rattle.region_choice.specs.Choice.{copy_limit, live_sum, row_cmp, IsBestWithin};

@@ -37,7 +37,7 @@ mod pause;
 mod refine;
 mod runs;
 mod step;
-mod steps;
+mod mutator;
 
 pub use heap::Core;
 pub use runs::{RunFault, run, run_fault};

@@ -8,7 +8,7 @@ ghost use Rattle.object_graph.specs.Run.{IsRun};
 ghost use Rattle.object_graph.specs.Actors.{IsStep, IsStepOf};
 ghost use Rattle.heap_words.specs.declared.config.Config.{Config};
 ghost use Rattle.step_core.specs.Stands.{State, Stands};
-ghost use Rattle.step_core.specs.Histories.{Runs, RunsFromNew, step_of, actor_in, actor_of, IsRunFault};
+ghost use Rattle.step_core.specs.Histories.{Runs, RunsFromNew, step_in, actor_in, actor_of, IsRunFault};
 
 use crate::heap::Core;
 use heap_words::config::{Config, NewFault};
@@ -51,7 +51,7 @@ fn actor_of(step: &Step) -> Actor
 fn run_on(alloc: Global, core: &mut Core, steps: &[Step]) -> Result<Record, AllocError>
     requires { All (IsStep core.old.config) steps.now }
     ensures config { IfOk result (λ r. r.config ≡ core.old.config) }
-    ensures steps { IfOk result (λ r. map step_of r.events ≡ steps.now) }
+    ensures steps { IfOk result (λ r. map step_in r.events ≡ steps.now) }
     ensures actors { IfOk result (λ r. map actor_in r.events ≡ map actor_of steps.now) }
     ensures runs { IfOk result (λ r. (s : State) → Stands s core.old → Runs s core.old r.events core.new) }
 {
@@ -76,7 +76,7 @@ fn run_on(alloc: Global, core: &mut Core, steps: &[Step]) -> Result<Record, Allo
 pub fn run(alloc: Global, config: &Config, steps: &[Step]) -> Result<Record, RunFault>
     requires { All (IsStep config.now) steps.now }
     ensures config { IfOk result (λ r. r.config ≡ config.now) }
-    ensures steps { IfOk result (λ r. map step_of r.events ≡ steps.now) }
+    ensures steps { IfOk result (λ r. map step_in r.events ≡ steps.now) }
     ensures actors { IfOk result (λ r. map actor_in r.events ≡ map actor_of steps.now) }
     ensures history { IfOk result (λ r. RunsFromNew config.now r.events) }
     // The replies are those of the graph.

@@ -1,5 +1,5 @@
 use Rattle.std.proofs.Common.{◌∙◌, arith}
-use Rattle.regions.specs.Tiles.{Gap}
+use Rattle.regions.specs.Tiles.{Filler}
 use Rattle.alloc_buffers.proofs.Placed.{inside_placed}
 use Rattle.alloc_buffers.proofs.AllocBuffers.place_inside.Goals as goal
 
@@ -9,5 +9,5 @@ returns-clause-placed c = inside_placed _ _ _ _ _ _ _ _ _ _ _ c.self.view_is c.r
 pub split_filler-next-requires-clause-small : goal.split_filler-next-requires-clause-small
 split_filler-next-requires-clause-small c =
     let f = c.requires.stand.fillers c.args.mutator c.args.buffer c.requires.opened in
-    let w = c.law.ensures.within c.args.buffer.next (Gap c.args.buffer.rest) f.filler in
+    let w = c.law.ensures.within c.args.buffer.next (Filler c.args.buffer.rest) f.filler in
     omega (arith, w, c.law.ensures.in_all)

@@ -1,14 +1,14 @@
 use Rattle.evacuation.specs.Space.{IsTaken}
 use Rattle.std.proofs.Common.{◌≡◌, ◌∙◌, ℕ, ap, refl, subst, arith, ◌<◌, ◌≤◌, ◌+◌, ◌*◌, ◌/◌, ◌-◌, ◌^◌, length, sym}
 use Rattle.std.proofs.lemmas.Nat.{mul-le}
-use Rattle.regions.specs.Tiles.{Live}
+use Rattle.regions.specs.Tiles.{Object}
 use Rattle.object_copy.proofs.Copied.{tile_of_object}
 use Rattle.evacuation.proofs.Keeps.{kept_object}
 use Rattle.regions.specs.Table.{tile_in, used_of}
-use Rattle.regions.proofs.Divides.{div_is, div_low, div_high}
+use Rattle.regions.proofs.Words.Divides.{div_is, div_low, div_high}
 use Rattle.evacuation.specs.Turns.{layout, space}
 use Rattle.evacuation.proofs.After.{after_after, same_after, taken_after}
-use Rattle.regions.proofs.Steps as steps
+use Rattle.regions.proofs.Tiles.Steps as steps
 use Rattle.evacuation.proofs.Scans as scans
 use Rattle.evacuation.proofs.copied.settle_region.Goals as goal
 
@@ -90,7 +90,7 @@ next_tile-requires g c =
     let w = taken_after (layout g.pause) c.args.noted.now c.tiles.noted (space g.pause c.args.table.now) (space g.pause c.tiles.table) c.args.destinations.now c.tiles.destinations c.args.region v.after destination in
     let out = scans.copy_outside g.pause premises c.tiles.table c.tiles.destinations v.turn c.law-in-tiles.ensures c.args.region w c.tiles.at v.region in
     let (y, here, n) = c.settle_object.ensures.after.stays c.tiles.at v.object.0 out v.object.1 in
-    steps.some_tile (tile_in c.settle_object.new.table c.tiles.at) (Live y) (tile_of_object c.settle_object.new.table c.tiles.at y (kept_object g.pause c.settle_object.new.table c.tiles.at y here))
+    steps.some_tile (tile_in c.settle_object.new.table c.tiles.at) (Object y) (tile_of_object c.settle_object.new.table c.tiles.at y (kept_object g.pause c.settle_object.new.table c.tiles.at y here))
 
 pub tiles-smaller : goal.tiles-smaller
 tiles-smaller g c =

@@ -1,7 +1,7 @@
 use Rattle.std.proofs.Common.{◌≡◌, ◌∙◌, ℕ, sym, ap, refl, subst, arith, ◌<◌, ◌*◌, ◌/◌, length}
 use Rattle.regions.specs.Table.{top_of}
 use Rattle.regions.specs.Walks.{IsHolder}
-use Rattle.regions.proofs.Divides.{card_has_words}
+use Rattle.regions.proofs.Words.Divides.{card_has_words}
 use Rattle.evacuation.proofs.CardScans.{card_small, none_there}
 use Rattle.evacuation.proofs.Words.{all_small}
 use Rattle.evacuation.proofs.outside.update_card.Goals as goal

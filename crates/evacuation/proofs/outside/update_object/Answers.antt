@@ -2,7 +2,7 @@ use Rattle.std.proofs.Common.{◌≡◌, ◌∙◌, ℕ, sym, ap, refl, subst, i
 use Rattle.std.proofs.lemmas.Bool.{cases_eq}
 use Rattle.heap_model.specs.Heap.{Stored, fields}
 use Rattle.refinement.specs.Remembering.{field_card, field_word}
-use Rattle.regions.proofs.Divides.{card_has_words}
+use Rattle.regions.proofs.Words.Divides.{card_has_words}
 use Rattle.refinement.proofs.Fields.{fields_in_card}
 use Rattle.refinement.proofs.Holders.{fields_of, object_within}
 use Rattle.evacuation.specs.Space.{IsFieldClean}

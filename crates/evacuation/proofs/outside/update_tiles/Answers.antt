@@ -1,11 +1,11 @@
 use Rattle.std.proofs.Common.{◌≡◌, ◌∙◌, ℕ, sym, ap, refl, subst, arith, ◌<◌, ◌+◌, ◌*◌, ◌/◌, ◌-◌}
 use Rattle.regions.specs.Table.{tile_in}
 use Rattle.regions.specs.Walks.{IsHolder}
-use Rattle.regions.proofs.Divides.{div_high}
+use Rattle.regions.proofs.Words.Divides.{div_high}
 use Rattle.evacuation.specs.Turns.{layout, space}
 use Rattle.evacuation.proofs.After.{after_after, same_after}
 use Rattle.evacuation.proofs.CardScans.{card_small, onward, clean_next, clean_last, clean_past, region_by}
-use Rattle.regions.proofs.Steps.{some_tile}
+use Rattle.regions.proofs.Tiles.Steps.{some_tile}
 use Rattle.evacuation.proofs.Words.{all_small}
 use Rattle.evacuation.proofs.outside.update_tiles.Goals as goal
 

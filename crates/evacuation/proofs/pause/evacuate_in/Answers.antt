@@ -1,7 +1,7 @@
 use Rattle.evacuation.specs.Space.{flag}
 use Rattle.std.proofs.Common.{◌≡◌, ◌∙◌, ℕ, sym, ap, refl, subst, ◌+◌, ◌/◌, length, false, zero, suc, inl, inr, true, List, Bool, replicate}
 use Rattle.std.proofs.lemmas.List.{length-replicate}
-use Rattle.regions.proofs.Sizes.{EachMovedIn-imp}
+use Rattle.regions.proofs.Words.Sizes.{EachForwardedIn-imp}
 use Rattle.remembered_sets.specs.Sets.{card_count}
 use Rattle.object_copy.specs.Copies.{Places}
 use Rattle.evacuation.specs.Evacuates.{Layers, is_chosen}
@@ -51,7 +51,7 @@ pub release_chosen-requires-clause-unmoved : goal.release_chosen-requires-clause
 release_chosen-requires-clause-unmoved c =
     let h : Layers = record { table = c.args.table.now; tams = c.args.tams.now; previous = c.args.bitmaps.now.previous; next = c.args.bitmaps.now.next; cards = c.args.cards.now; sets = c.args.sets.now; roots = c.args.roots.now } in
     let s = c.copy_reached.ensures.turn.table in
-    EachMovedIn-imp (λ to. in_set (asked.pause h c.args.chosen.now c.args.card_words c.requires.can c.law.ensures c.flag_chosen.new.set c.flag_chosen.ensures.flags (c.flag_chosen.ensures.len ∙ c.requires.each_region)) to ≡ false) (λ to. is_chosen c.args.chosen.now (to / c.copy_reached.new.table.words_per_region) ≡ false) c.copy_reached.new.table.regions
+    EachForwardedIn-imp (λ to. in_set (asked.pause h c.args.chosen.now c.args.card_words c.requires.can c.law.ensures c.flag_chosen.new.set c.flag_chosen.ensures.flags (c.flag_chosen.ensures.len ∙ c.requires.each_region)) to ≡ false) (λ to. is_chosen c.args.chosen.now (to / c.copy_reached.new.table.words_per_region) ≡ false) c.copy_reached.new.table.regions
     (λ to o. ap (λ (n : ℕ). is_chosen c.args.chosen.now (to / n)) s.size ∙ sym (c.flag_chosen.ensures.flags (to / c.args.table.now.words_per_region)) ∙ o) s.targets
 
 pub returns-clause-evacuated : goal.returns-clause-evacuated

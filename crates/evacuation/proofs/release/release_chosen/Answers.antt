@@ -3,7 +3,7 @@ use Rattle.std.specs.Prelude.{◌||◌, ◌==◌, if◌then◌else◌}
 use Rattle.std.proofs.lemmas.Option.{slice_get-get_or}
 use Rattle.regions.specs.Table.{kind_of}
 use Rattle.regions.specs.declared.row.Kind.TheVariants as kinds
-use Rattle.regions.proofs.Sizes.{EachMovedIn-imp}
+use Rattle.regions.proofs.Words.Sizes.{EachForwardedIn-imp}
 use Rattle.mark_bitmap.specs.Marks.{is_marked}
 use Rattle.mark_bitmap.specs.Tops.{Tops, is_in_region}
 use Rattle.region_choice.specs.declared.LiveRow.{LiveRow}
@@ -24,7 +24,7 @@ release_region-requires-clause-unmoved c =
     let v = c.loop-row.invariant in
     let here = slice_get-get_or c.args.rows.now c.loop-row.row-index c.row-item.result (omega arith) ∙ ap Some (sym c.row-item.is) in
     let in' = chosen_at c.args.rows.now c.loop-row.row-index c.row-item.result here in
-    EachMovedIn-imp (λ to. is_chosen c.args.rows.now (to / c.args.table.now.words_per_region) ≡ false) (λ to. c.row-item.result.region ≢ to / c.loop-row.table.words_per_region) c.loop-row.table.regions
+    EachForwardedIn-imp (λ to. is_chosen c.args.rows.now (to / c.args.table.now.words_per_region) ≡ false) (λ to. c.row-item.result.region ≢ to / c.loop-row.table.words_per_region) c.loop-row.table.regions
     (λ to o e. let f = ap (λ (n : ℕ). to / n) v.table.size in let g = ap (is_chosen c.args.rows.now) (e ∙ f) in absurd cc) v.unmoved
 
 pub loop-row-preserved : goal.loop-row-preserved

@@ -1,6 +1,6 @@
 use Rattle.std.proofs.Common.{◌∙◌, sym, ap, Some, arith, []}
 use Rattle.std.proofs.lemmas.Option.{slice_get-get_or}
-use Rattle.heap_model.specs.Evacuation.{place_of}
+use Rattle.heap_model.specs.Evacuation.{place_after}
 use Rattle.evacuation.specs.Turns.{in_set, layout, plan, space}
 use Rattle.evacuation.proofs.After.{after_after}
 use Rattle.evacuation.proofs.RootWords.{roots_more, roots_all, root_named}
@@ -16,7 +16,7 @@ new_word-new-requires g c =
         (
           flags,
           λ a e inside.
-              root_named (layout g.pause) (plan g.pause) (place_of (in_set g.pause) (space g.pause c.loop-i.table).forward) c.loop-i.roots c.loop-i.i a premises.plan_is c.loop-i.invariant.roots (here ∙ ap Some e) inside,
+              root_named (layout g.pause) (plan g.pause) (place_after (in_set g.pause) (space g.pause c.loop-i.table).forward) c.loop-i.roots c.loop-i.i a premises.plan_is c.loop-i.invariant.roots (here ∙ ap Some e) inside,
         ),
       ),
     )
@@ -34,4 +34,4 @@ loop-i-preserved g c =
 
 pub returns-clause-moved : goal.returns-clause-moved
 returns-clause-moved g c =
-    roots_all (place_of (in_set g.pause) (space g.pause c.loop-i.table).forward) g.pause.roots c.loop-i.roots c.loop-i.i c.loop-i.invariant.roots (omega (arith, c.loop-i-test.false))
+    roots_all (place_after (in_set g.pause) (space g.pause c.loop-i.table).forward) g.pause.roots c.loop-i.roots c.loop-i.i c.loop-i.invariant.roots (omega (arith, c.loop-i-test.false))

@@ -1,5 +1,5 @@
 use Rattle.std.proofs.Common.{◌<◌, ℕ, List, Option, length, sym, subst}
-use Rattle.regions.proofs.FieldAccess.{fields_pointers}
+use Rattle.regions.proofs.Words.FieldAccess.{fields_pointers}
 use Rattle.refinement.proofs.Samples.{counted, tile_some}
 use Rattle.evacuation.proofs.tests.first_field.Goals as goal
 

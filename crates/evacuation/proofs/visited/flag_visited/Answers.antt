@@ -3,7 +3,7 @@ use Rattle.std.proofs.Math.Nat.{mul-div_cancel, mul-div-mul_right}
 use Rattle.regions.specs.Table.{Table, kind_of}
 use Rattle.remembered_sets.specs.Sets.{Sets}
 use Rattle.refinement.specs.Refining.{SetsFit}
-use Rattle.regions.proofs.Divides.{card_has_words}
+use Rattle.regions.proofs.Words.Divides.{card_has_words}
 use Rattle.evacuation.proofs.visited.flag_visited.Goals as goal
 
 -- how many cards a region has, and the region of a card

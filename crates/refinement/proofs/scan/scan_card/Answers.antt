@@ -5,7 +5,7 @@ use Rattle.regions.specs.Walks.{IsHolder}
 use Rattle.mark_bitmap.specs.Kept.{kept_in}
 use Rattle.remembered_sets.specs.Sets.{covers}
 use Rattle.refinement.specs.Remembering.{LeadsInside}
-use Rattle.regions.proofs.Divides.{card_has_words}
+use Rattle.regions.proofs.Words.Divides.{card_has_words}
 use Rattle.refinement.proofs.Entered.{adds_gains}
 use Rattle.refinement.proofs.Fields.{adds_fit, card_end}
 use Rattle.refinement.proofs.Holders.{kept_object}

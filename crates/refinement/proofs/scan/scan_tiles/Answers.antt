@@ -2,7 +2,7 @@ use Rattle.std.proofs.Common.{◌≡◌, ◌∙◌, ◌*◌, ◌<◌, ℕ, ap, s
 use Rattle.mark_bitmap.specs.Kept.{kept_in}
 use Rattle.remembered_sets.specs.Sets.{covers}
 use Rattle.refinement.specs.Remembering.{LeadsInside}
-use Rattle.regions.proofs.Divides.{card_has_words}
+use Rattle.regions.proofs.Words.Divides.{card_has_words}
 use Rattle.refinement.proofs.Counted.{count_first, count_next}
 use Rattle.refinement.proofs.Entered.{adds_none, adds_more, adds_grows}
 use Rattle.refinement.proofs.Fields.{adds_fit, card_end}

@@ -1,5 +1,5 @@
 use Rattle.std.proofs.Common.{arith}
-use Rattle.regions.proofs.FirstTiles.{written_none, written_more, filled}
+use Rattle.regions.proofs.Cards.FirstTiles.{written_none, written_more, filled}
 use Rattle.regions.proofs.first_tiles.fill_cards.Goals as goal
 
 pub loop-card-init : goal.loop-card-init

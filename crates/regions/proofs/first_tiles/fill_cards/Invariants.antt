@@ -1,5 +1,5 @@
 use Rattle.std.proofs.Common.{◌≤◌}
-use Rattle.regions.proofs.FirstTiles.{AreWritten}
+use Rattle.regions.proofs.Cards.FirstTiles.{AreWritten}
 use Rattle.regions.proofs.first_tiles.fill_cards.Given as goal
 
 abbrev pub invariant-loop-card : goal.invariant-loop-card

@@ -1,6 +1,6 @@
 use Rattle.std.proofs.Common.{sym, ◌∙◌}
-use Rattle.regions.proofs.Search.{scan_hit, scan_on, scan_past, scan_end}
-use Rattle.regions.proofs.UsedBelow.{scan_from}
+use Rattle.regions.proofs.Rows.Search.{scan_hit, scan_on, scan_past, scan_end}
+use Rattle.regions.proofs.Rows.UsedBelow.{scan_from}
 use Rattle.regions.proofs.runs.lowest_run.Goals.{then-is_free+else-i-start, else-is_free}
 use Rattle.regions.proofs.runs.lowest_run.Goals as goal
 

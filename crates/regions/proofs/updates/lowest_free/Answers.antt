@@ -1,5 +1,5 @@
 use Rattle.std.proofs.Common.{sym, ◌∙◌}
-use Rattle.regions.proofs.UsedBelow.{found_at, found_none}
+use Rattle.regions.proofs.Rows.UsedBelow.{found_at, found_none}
 use Rattle.regions.proofs.updates.lowest_free.Goals as goal
 
 pub returns-then-is_free : goal.returns-then-is_free

@@ -1,4 +1,4 @@
-use Rattle.step_core.proofs.Rows.{front_chosen}
+use Rattle.step_core.proofs.Pauses.Rows.{front_chosen}
 use Rattle.step_core.proofs.candidates.choose_regions.Goals as goal
 
 pub returns-clause-chosen : goal.returns-clause-chosen

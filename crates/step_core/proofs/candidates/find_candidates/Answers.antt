@@ -3,7 +3,7 @@ use Rattle.std.specs.Vec.{vec_capacity, vec_len}
 use Rattle.region_choice.specs.declared.LiveRow.{LiveRow}
 use Rattle.mark_bitmap.specs.Live.{live_bound_of}
 use Rattle.step_core.specs.Pause.{AreCandidates, IsCandidate}
-use Rattle.step_core.proofs.Rows.{length-push, row_passed, row_written}
+use Rattle.step_core.proofs.Pauses.Rows.{length-push, row_passed, row_written}
 use Rattle.step_core.proofs.candidates.find_candidates.Goals.{in-Some, in_default}
 use Rattle.step_core.proofs.candidates.find_candidates.Goals as goal
 

@@ -1,5 +1,5 @@
 use Rattle.std.proofs.Common.{◌≡◌, ◌<◌, ◌+◌, length, sym, ◌∙◌, arith}
-use Rattle.step_core.proofs.Forgetting.{marker_is, one_forgotten, one_cleared}
+use Rattle.step_core.proofs.Cycles.Forgetting.{marker_is, one_forgotten, one_cleared}
 use Rattle.step_core.proofs.cleanup.forget.Goals as goal
 
 pub loop-i-preserved : goal.loop-i-preserved

@@ -2,7 +2,7 @@ use Rattle.std.proofs.Common.{subst}
 use Rattle.step_core.specs.Stands.{CoreState, Stands, IsCore}
 use Rattle.step_core.specs.Fresh.{fresh_state}
 use Rattle.step_core.specs.Histories.{Runs}
-use Rattle.step_core.proofs.Following.{history_is_run}
+use Rattle.step_core.proofs.Cores.Following.{history_is_run}
 use Rattle.step_core.proofs.runs.run.Goals as goal
 
 pub returns-in-Err-clause-fault : goal.returns-in-Err-clause-fault

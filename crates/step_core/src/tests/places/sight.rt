@@ -85,7 +85,7 @@ fn tile_seen(core: &Core, at: Addr, previous: u32) -> Option<Seen>
 {
     match core.table.tile(at) {
         Shape::Object { .. } => Some(object_seen(core, at, previous)),
-        Shape::Filler { .. } | Shape::Moved { .. } => None,
+        Shape::Filler { .. } | Shape::Forwarded { .. } => None,
     }
 }
 

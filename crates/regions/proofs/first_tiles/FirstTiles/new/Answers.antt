@@ -1,5 +1,5 @@
 use Rattle.std.proofs.Common.{arith}
-use Rattle.regions.proofs.Sound.{power_is, short_power}
+use Rattle.regions.proofs.Rows.Sound.{power_is, short_power}
 use Rattle.regions.proofs.first_tiles.FirstTiles.new.Goals as goal
 
 pub invariant_of-result : goal.invariant_of-result

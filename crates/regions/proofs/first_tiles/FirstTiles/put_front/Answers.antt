@@ -1,7 +1,7 @@
 use Rattle.std.proofs.Common.{◌≡◌, ◌<◌, ◌≤◌, arith, ap}
 use Rattle.std.proofs.lemmas.Nat.{pow_pos}
 use Rattle.regions.specs.FirstTiles.{Entries}
-use Rattle.regions.proofs.FirstTiles.{filled_front}
+use Rattle.regions.proofs.Cards.FirstTiles.{filled_front}
 use Rattle.regions.proofs.first_tiles.FirstTiles.put_front.Goals as goal
 
 pub returns-then-size-self-clause-entries : goal.returns-then-size-self-clause-entries

@@ -3,13 +3,13 @@ use Rattle.regions.specs.Table.{used_of}
 use Rattle.std.proofs.lemmas.List.{get_or_read}
 use Rattle.regions.specs.declared.row.Row.{Row}
 use Rattle.regions.specs.Rows.{free_row}
-use Rattle.regions.proofs.Making.{known, top_is}
-use Rattle.regions.proofs.ObjectWords.{object_there}
-use Rattle.regions.proofs.Copies.{copy_pushed}
+use Rattle.regions.proofs.Tiles.Making.{known, top_is}
+use Rattle.regions.proofs.Words.ObjectWords.{object_there}
+use Rattle.regions.proofs.Words.Copies.{copy_pushed}
 use Rattle.std.proofs.Common.{refl}
-use Rattle.regions.proofs.UsedBelow.{used_set}
-use Rattle.regions.proofs.Entries.{push_sound}
-use Rattle.regions.specs.Tiles.{Live, tile_size}
+use Rattle.regions.proofs.Rows.UsedBelow.{used_set}
+use Rattle.regions.proofs.Cards.Entries.{push_sound}
+use Rattle.regions.specs.Tiles.{Object, tile_size}
 use Rattle.regions.specs.Table.{object_words}
 use Rattle.regions.proofs.table.RegionTable.copy_object.Goals as goal
 
@@ -62,8 +62,8 @@ invariant_of-self c =
     let o = object_there _ _ _ _ _ c.self.invariant.table c.self.view_is c.requires.object in
     let read = get_or_read c.self.inside.rows.items _ _ (omega (arith, n.in_rows, c.number-number.ensures)) c.index.ensures free_row ∙ ap (λ k. get_or c.self.inside.rows.items k free_row) c.number-number.ensures in
     let w = copy_pushed _ _ _ _ _ c.args.from _ _ _ _ o.0 _ c.self.invariant.table c.self.view_is c.requires.known c.requires.ordinary o.1.is c.requires.room c.top-to.ensures (ap (λ (row : Row). row.used) read) c.object_size-size.ensures c.number-number.ensures c.copy.ensures in
-    let long : object_words c.args.self.now c.args.from ≡ tile_size (Live o.0) = o.1.words_are in
-    push_sound _ _ _ _ _ _ _ c.self.invariant c.self.view_is _ _ _ _ c.args.region _ _ (Live o.0) c.requires.known c.requires.ordinary (omega (arith, o.1.large, long)) (rw long at c.requires.room) tt (c.word.ensures ∙ c.top-to.ensures) (c.object_size-size.ensures ∙ long) c.put_object.ensures.card_words c.put_object.ensures.len c.put_object.ensures.entries (used_set _ _ _ _ (omega (arith, n.in_rows, c.number-number.ensures)) refl c.self.invariant.used_below) w
+    let long : object_words c.args.self.now c.args.from ≡ tile_size (Object o.0) = o.1.words_are in
+    push_sound _ _ _ _ _ _ _ c.self.invariant c.self.view_is _ _ _ _ c.args.region _ _ (Object o.0) c.requires.known c.requires.ordinary (omega (arith, o.1.large, long)) (rw long at c.requires.room) tt (c.word.ensures ∙ c.top-to.ensures) (c.object_size-size.ensures ∙ long) c.put_object.ensures.card_words c.put_object.ensures.len c.put_object.ensures.entries (used_set _ _ _ _ (omega (arith, n.in_rows, c.number-number.ensures)) refl c.self.invariant.used_below) w
 
 pub returns-clause-pushed : goal.returns-clause-pushed
 returns-clause-pushed c s is =

@@ -1,5 +1,5 @@
 use Rattle.std.proofs.Common.{ℕ, List, Option, length, sym, ap, ◌∙◌}
-use Rattle.regions.proofs.FieldAccess.{fields_pointers}
+use Rattle.regions.proofs.Words.FieldAccess.{fields_pointers}
 use Rattle.regions.proofs.table.RegionTable.field_count.Goals as goal
 
 pub returns : goal.returns

@@ -1,9 +1,9 @@
 use Rattle.std.proofs.Common.{arith, refl, ap, ◌≡◌, ◌<◌, ◌/◌, ℕ, ◌∙◌}
 use Rattle.regions.specs.Table.{top_of}
 use Rattle.regions.specs.FirstTiles.{start_in}
-use Rattle.regions.proofs.Holders.{search_from}
-use Rattle.regions.proofs.CardStarts.{card_known, card_start}
-use Rattle.regions.proofs.FirstTile.{search_fits, search_next, found_below, found_holder, search_last}
+use Rattle.regions.proofs.Tiles.Holders.{search_from}
+use Rattle.regions.proofs.Cards.CardStarts.{card_known, card_start}
+use Rattle.regions.proofs.Cards.FirstTile.{search_fits, search_next, found_below, found_holder, search_last}
 use Rattle.regions.proofs.table.RegionTable.first_tile.Goals as goal
 
 pub start-requires-clause-known : goal.start-requires-clause-known

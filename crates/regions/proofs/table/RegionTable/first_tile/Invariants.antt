@@ -1,4 +1,4 @@
-use Rattle.regions.proofs.FirstTile.{IsSearching}
+use Rattle.regions.proofs.Cards.FirstTile.{IsSearching}
 use Rattle.regions.proofs.table.RegionTable.first_tile.Given as goal
 
 abbrev pub invariant-loop-at : goal.invariant-loop-at

@@ -1,7 +1,7 @@
 use Rattle.std.proofs.Common.{arith}
-use Rattle.regions.proofs.ObjectWords.{object_there}
-use Rattle.regions.proofs.Forwards.{forwarded}
-use Rattle.regions.proofs.Entries.{forwarded_sound}
+use Rattle.regions.proofs.Words.ObjectWords.{object_there}
+use Rattle.regions.proofs.Tiles.Forwards.{forwarded}
+use Rattle.regions.proofs.Cards.Entries.{forwarded_sound}
 use Rattle.regions.proofs.table.RegionTable.forward.Goals as goal
 
 pub write_forwarded-requires : goal.write_forwarded-requires

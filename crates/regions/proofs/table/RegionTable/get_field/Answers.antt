@@ -1,6 +1,6 @@
 use Rattle.std.proofs.Common.{◌<◌, ℕ, List, Option, length, ap, subst, ◌∙◌}
 use Rattle.std.specs.List.{slice_get}
-use Rattle.regions.proofs.FieldAccess.{fields_pointers}
+use Rattle.regions.proofs.Words.FieldAccess.{fields_pointers}
 use Rattle.regions.proofs.table.RegionTable.get_field.Goals as goal
 
 pub get_ptr-requires : goal.get_ptr-requires

@@ -1,5 +1,5 @@
 use Rattle.std.proofs.Common.{Some, sym, ap, ◌∙◌}
-use Rattle.regions.proofs.Access.{pointer_read}
+use Rattle.regions.proofs.Words.Access.{pointer_read}
 use Rattle.regions.proofs.table.RegionTable.get_ptr.Goals as goal
 
 pub get_ptr-requires : goal.get_ptr-requires

@@ -2,7 +2,7 @@ use Rattle.std.proofs.Common.{arith, refl, ap, ◌∙◌, get_or}
 use Rattle.std.proofs.lemmas.List.{get_or_read}
 use Rattle.regions.specs.declared.row.Row.{Row}
 use Rattle.regions.specs.Rows.{free_row}
-use Rattle.regions.proofs.Making.{known, top_is}
+use Rattle.regions.proofs.Tiles.Making.{known, top_is}
 use Rattle.regions.proofs.table.RegionTable.has_room.Goals as goal
 
 pub index-requires : goal.index-requires

@@ -1,6 +1,6 @@
 use Rattle.std.proofs.Common.{◌∙◌, sym, ◌≡◌}
 use Rattle.regions.specs.declared.row.Kind.TheVariants as kinds
-use Rattle.regions.proofs.Counting.{kind_free, kind_used}
+use Rattle.regions.proofs.Rows.Counting.{kind_free, kind_used}
 use Rattle.regions.proofs.table.RegionTable.is_free.Goals as goal
 
 pub returns-in-Free : goal.returns-in-Free

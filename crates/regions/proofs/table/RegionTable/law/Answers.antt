@@ -1,4 +1,4 @@
-use Rattle.regions.proofs.ShapedMade.{shaped_of}
+use Rattle.regions.proofs.Tiles.ShapedMade.{shaped_of}
 use Rattle.regions.proofs.table.RegionTable.law.Goals as goal
 
 pub returns : goal.returns

@@ -1,10 +1,10 @@
 use Rattle.std.proofs.Common.{arith, ◌≡◌, ◌+◌, ◌*◌, ◌≤◌, length, Some, sym, ap, ◌∙◌, ℕ}
 use Rattle.regions.specs.Table.{first_run}
-use Rattle.regions.proofs.Search.{free, first_run-is}
-use Rattle.regions.proofs.RunMade.{run_taken, run_here_is}
-use Rattle.regions.proofs.Making.{size_is_of}
-use Rattle.regions.proofs.UsedBelow.{used_written, used_le, front_free}
-use Rattle.regions.proofs.Entries.{run_sound, new_size}
+use Rattle.regions.proofs.Rows.Search.{free, first_run-is}
+use Rattle.regions.proofs.LongRuns.RunMade.{run_taken, run_here_is}
+use Rattle.regions.proofs.Tiles.Making.{size_is_of}
+use Rattle.regions.proofs.Rows.UsedBelow.{used_written, used_le, front_free}
+use Rattle.regions.proofs.Cards.Entries.{run_sound, new_size}
 use Rattle.regions.specs.Table.{new_object}
 use Rattle.regions.proofs.table.RegionTable.make_run.Goals as goal
 

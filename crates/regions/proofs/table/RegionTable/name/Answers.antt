@@ -1,5 +1,5 @@
 use Rattle.std.proofs.Common.{arith, ◌∙◌}
-use Rattle.regions.proofs.ObjectWords.{object_there, name_read}
+use Rattle.regions.proofs.Words.ObjectWords.{object_there, name_read}
 use Rattle.regions.proofs.table.RegionTable.name.Goals as goal
 
 pub name-requires : goal.name-requires

@@ -1,11 +1,11 @@
 use Rattle.std.proofs.Common.{arith, sym, subst, ◌≡◌, ◌*◌, ◌/◌, replicate, length, ℕ, List, refl, ap, ◌∙◌}
 use Rattle.std.proofs.lemmas.List.{length-replicate}
-use Rattle.regions.specs.Table.{Table, HasNoMoved}
+use Rattle.regions.specs.Table.{Table, HasNoForwarded}
 use Rattle.regions.specs.FirstTiles.{Entries, AreEntries}
-use Rattle.regions.proofs.Entries.{free_entries}
-use Rattle.regions.proofs.Making.{new_table, free_table-unmoved}
-use Rattle.regions.proofs.Sound.{power_is, eights, whole_starts}
-use Rattle.regions.proofs.UsedBelow.{used_none}
+use Rattle.regions.proofs.Cards.Entries.{free_entries}
+use Rattle.regions.proofs.Tiles.Making.{new_table, free_table-unmoved}
+use Rattle.regions.proofs.Rows.Sound.{power_is, eights, whole_starts}
+use Rattle.regions.proofs.Rows.UsedBelow.{used_none}
 use Rattle.regions.proofs.table.RegionTable.new.Goals as goal
 
 pub ilog2-requires : goal.ilog2-requires
@@ -49,4 +49,4 @@ returns-clause-unmoved c =
     let s = c.in_ok-check.ensures.suits.0 refl in
     let long : length c.in-Ok.words ≡ c.args.config.now.regions * c.args.config.now.words = ap (λ (ws : List ℕ). length ws) c.in-Ok.ensures ∙ length-replicate {A = ℕ} _ 0 in
     let made = (new_table c.args.config.now.words c.args.config.now.regions _ _ (omega (arith, s.words.at_least)) (omega (arith, s.words.at_most)) long s.words.in_all c.in-Ok-free_rows.ensures).table_is in
-    subst HasNoMoved (sym made) (free_table-unmoved c.args.config.now.regions c.args.config.now.words)
+    subst HasNoForwarded (sym made) (free_table-unmoved c.args.config.now.regions c.args.config.now.words)

@@ -3,10 +3,10 @@ use Rattle.regions.specs.Tiles.{tile_size}
 use Rattle.regions.specs.Table.{top_of, kind_of}
 use Rattle.regions.specs.Shapes.{tile_shape, size_of_shape}
 use Rattle.regions.specs.declared.row.Kind.TheVariants as kinds
-use Rattle.regions.proofs.WalkFrom.{tile_region}
-use Rattle.regions.proofs.WalkMade.{shape_size_is}
+use Rattle.regions.proofs.Walks.WalkFrom.{tile_region}
+use Rattle.regions.proofs.Walks.WalkMade.{shape_size_is}
 use Rattle.regions.specs.Walks.{IsNext}
-use Rattle.regions.proofs.Steps.{next_is, last_is, last_else, tile_there}
+use Rattle.regions.proofs.Tiles.Steps.{next_is, last_is, last_else, tile_there}
 use Rattle.regions.proofs.table.RegionTable.next_tile.Goals as goal
 
 pub overflow_add-next : goal.overflow_add-next

@@ -1,5 +1,5 @@
 use Rattle.std.proofs.Common.{arith, ◌∙◌}
-use Rattle.regions.proofs.ObjectWords.{object_there}
+use Rattle.regions.proofs.Words.ObjectWords.{object_there}
 use Rattle.regions.proofs.table.RegionTable.object_size.Goals as goal
 
 pub size_at-requires : goal.size_at-requires

@@ -1,5 +1,5 @@
 use Rattle.std.proofs.Common.{arith, ◌∙◌}
-use Rattle.regions.proofs.ObjectWords.{object_there, pointers_counted}
+use Rattle.regions.proofs.Words.ObjectWords.{object_there, pointers_counted}
 use Rattle.regions.proofs.table.RegionTable.pointer_count.Goals as goal
 
 pub pointers_in-requires : goal.pointers_in-requires

@@ -3,12 +3,12 @@ use Rattle.regions.specs.Table.{used_of}
 use Rattle.std.proofs.lemmas.List.{get_or_read}
 use Rattle.regions.specs.declared.row.Row.{Row}
 use Rattle.regions.specs.Rows.{free_row}
-use Rattle.regions.proofs.Making.{known, top_is}
-use Rattle.regions.proofs.Gaps.{gap_pushed}
+use Rattle.regions.proofs.Tiles.Making.{known, top_is}
+use Rattle.regions.proofs.Tiles.Fillers.{filler_added}
 use Rattle.std.proofs.Common.{refl}
-use Rattle.regions.proofs.UsedBelow.{used_set}
-use Rattle.regions.proofs.Entries.{push_sound, filler_written}
-use Rattle.regions.specs.Tiles.{Gap}
+use Rattle.regions.proofs.Rows.UsedBelow.{used_set}
+use Rattle.regions.proofs.Cards.Entries.{push_sound, filler_written}
+use Rattle.regions.specs.Tiles.{Filler}
 use Rattle.regions.proofs.table.RegionTable.push_filler.Goals as goal
 
 pub write_filler-requires : goal.write_filler-requires
@@ -53,12 +53,12 @@ pub invariant_of-self : goal.invariant_of-self
 invariant_of-self c =
     let n = known _ _ _ _ _ c.self.view_is c.requires.known in
     let read = get_or_read c.self.inside.rows.items _ _ (omega (arith, n.in_rows, c.number-number.ensures)) c.index.ensures free_row ∙ ap (λ k. get_or c.self.inside.rows.items k free_row) c.number-number.ensures in
-    let w = gap_pushed _ _ _ _ _ c.args.size _ _ _ _ _ c.self.invariant.table c.self.view_is c.requires.known c.requires.ordinary c.requires.room (omega (arith, c.get-more.ensures.value, c.get-more.ensures.positive)) c.top-at.ensures (ap (λ (row : Row). row.used) read) c.get-more.ensures.value c.number-number.ensures c.write_filler.ensures in
+    let w = filler_added _ _ _ _ _ c.args.size _ _ _ _ _ c.self.invariant.table c.self.view_is c.requires.known c.requires.ordinary c.requires.room (omega (arith, c.get-more.ensures.value, c.get-more.ensures.positive)) c.top-at.ensures (ap (λ (row : Row). row.used) read) c.get-more.ensures.value c.number-number.ensures c.write_filler.ensures in
     let some : 0 < c.args.size = omega (arith, c.get-more.ensures.value, c.get-more.ensures.positive) in
-    push_sound _ _ _ _ _ _ _ c.self.invariant c.self.view_is _ _ _ _ c.args.region _ _ (Gap c.args.size) c.requires.known c.requires.ordinary some c.requires.room tt (c.word.ensures ∙ c.top-at.ensures) c.get-more.ensures.value c.put_filler.ensures.card_words c.put_filler.ensures.len (filler_written _ _ _ _ _ _ _ refl c.get-more.ensures.value c.put_filler.ensures.entries) (used_set _ _ _ _ (omega (arith, n.in_rows, c.number-number.ensures)) refl c.self.invariant.used_below) w
+    push_sound _ _ _ _ _ _ _ c.self.invariant c.self.view_is _ _ _ _ c.args.region _ _ (Filler c.args.size) c.requires.known c.requires.ordinary some c.requires.room tt (c.word.ensures ∙ c.top-at.ensures) c.get-more.ensures.value c.put_filler.ensures.card_words c.put_filler.ensures.len (filler_written _ _ _ _ _ _ _ refl c.get-more.ensures.value c.put_filler.ensures.entries) (used_set _ _ _ _ (omega (arith, n.in_rows, c.number-number.ensures)) refl c.self.invariant.used_below) w
 
 pub returns-clause-pushed : goal.returns-clause-pushed
 returns-clause-pushed c =
     let n = known _ _ _ _ _ c.self.view_is c.requires.known in
     let read = get_or_read c.self.inside.rows.items _ _ (omega (arith, n.in_rows, c.number-number.ensures)) c.index.ensures free_row ∙ ap (λ k. get_or c.self.inside.rows.items k free_row) c.number-number.ensures in
-    (gap_pushed _ _ _ _ _ c.args.size _ _ _ _ _ c.self.invariant.table c.self.view_is c.requires.known c.requires.ordinary c.requires.room (omega (arith, c.get-more.ensures.value, c.get-more.ensures.positive)) c.top-at.ensures (ap (λ (row : Row). row.used) read) c.get-more.ensures.value c.number-number.ensures c.write_filler.ensures).table_is
+    (filler_added _ _ _ _ _ c.args.size _ _ _ _ _ c.self.invariant.table c.self.view_is c.requires.known c.requires.ordinary c.requires.room (omega (arith, c.get-more.ensures.value, c.get-more.ensures.positive)) c.top-at.ensures (ap (λ (row : Row). row.used) read) c.get-more.ensures.value c.number-number.ensures c.write_filler.ensures).table_is

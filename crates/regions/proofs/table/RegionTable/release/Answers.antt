@@ -1,9 +1,9 @@
 use Rattle.std.proofs.Common.{arith, ◌≡◌, ℕ, suc, List, ◌+◌, length, drop, ap, ◌∙◌}
 use Rattle.regions.specs.declared.row.Row.{Row}
 use Rattle.regions.specs.Table.{front_count}
-use Rattle.regions.proofs.RunGone.{rest, release_by, release_room, rows_small}
-use Rattle.regions.proofs.UsedBelow.{used_written}
-use Rattle.regions.proofs.Entries.{release_sound}
+use Rattle.regions.proofs.LongRuns.RunGone.{rest, release_by, release_room, rows_small}
+use Rattle.regions.proofs.Rows.UsedBelow.{used_written}
+use Rattle.regions.proofs.Cards.Entries.{release_sound}
 use Rattle.regions.proofs.table.RegionTable.release.Goals as goal
 
 pub rests_from-rests-requires : goal.rests_from-rests-requires

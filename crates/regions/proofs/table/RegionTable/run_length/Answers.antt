@@ -2,9 +2,9 @@ use Rattle.std.proofs.Common.{arith, ◌≡◌, ℕ, suc, List, ◌+◌, drop, s
 use Rattle.std.proofs.lemmas.List.{length-drop}
 use Rattle.regions.specs.declared.row.Row.{Row}
 use Rattle.regions.specs.Table.{front_count}
-use Rattle.regions.proofs.Fronts.{front_le}
-use Rattle.regions.proofs.Making.{known}
-use Rattle.regions.proofs.RunGone.{rest, rows_small, run_length-is}
+use Rattle.regions.proofs.Rows.Fronts.{front_le}
+use Rattle.regions.proofs.Tiles.Making.{known}
+use Rattle.regions.proofs.LongRuns.RunGone.{rest, rows_small, run_length-is}
 use Rattle.regions.proofs.table.RegionTable.run_length.Goals as goal
 
 pub rests_from-requires : goal.rests_from-requires

@@ -1,5 +1,5 @@
 use Rattle.std.proofs.Common.{◌<◌, ℕ, List, Option, length, subst, ◌∙◌}
-use Rattle.regions.proofs.FieldAccess.{fields_pointers, set_field_pointer}
+use Rattle.regions.proofs.Words.FieldAccess.{fields_pointers, set_field_pointer}
 use Rattle.regions.proofs.table.RegionTable.set_field.Goals as goal
 
 pub set_ptr-requires : goal.set_ptr-requires

@@ -1,7 +1,7 @@
 use Rattle.std.proofs.Common.{refl, ◌∙◌}
 use Rattle.heap_words.specs.Headers.{pointer_word, pointer_of}
-use Rattle.regions.proofs.Access.{pointer_read, pointer_written}
-use Rattle.regions.proofs.Entries.{pointer_sound}
+use Rattle.regions.proofs.Words.Access.{pointer_read, pointer_written}
+use Rattle.regions.proofs.Cards.Entries.{pointer_sound}
 use Rattle.regions.proofs.table.RegionTable.set_ptr.Goals as goal
 
 pub set_ptr-requires : goal.set_ptr-requires

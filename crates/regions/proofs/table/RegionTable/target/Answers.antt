@@ -1,5 +1,5 @@
 use Rattle.std.proofs.Common.{◌∙◌}
-use Rattle.regions.proofs.MovedLaws.{target_is}
+use Rattle.regions.proofs.Tiles.ForwardedLaws.{target_is}
 use Rattle.regions.proofs.table.RegionTable.target.Goals as goal
 
 pub target_in-requires : goal.target_in-requires

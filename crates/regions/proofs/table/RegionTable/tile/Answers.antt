@@ -1,5 +1,5 @@
-use Rattle.regions.proofs.Shown.{shown_there, some_tile}
-use Rattle.regions.proofs.MovedLaws.{target_within}
+use Rattle.regions.proofs.Tiles.Shown.{shown_there, some_tile}
+use Rattle.regions.proofs.Tiles.ForwardedLaws.{target_within}
 use Rattle.regions.proofs.table.RegionTable.tile.Goals as goal
 
 pub shape_at-requires-clause-known : goal.shape_at-requires-clause-known

@@ -1,8 +1,8 @@
 use Rattle.std.proofs.Common.{arith, ◌≡◌, ◌+◌, ◌*◌, refl, ap, ◌∙◌}
 use Rattle.regions.specs.Shapes.{size_of_shape}
-use Rattle.regions.proofs.MovedLaws.{target_within}
-use Rattle.regions.proofs.WalkFrom.{behind_is}
-use Rattle.regions.proofs.WalkMade.{shape_size_is}
+use Rattle.regions.proofs.Tiles.ForwardedLaws.{target_within}
+use Rattle.regions.proofs.Walks.WalkFrom.{behind_is}
+use Rattle.regions.proofs.Walks.WalkMade.{shape_size_is}
 use Rattle.regions.proofs.table.RegionTable.tile_behind.Goals as goal
 
 pub overflow_mul-number : goal.overflow_mul-number

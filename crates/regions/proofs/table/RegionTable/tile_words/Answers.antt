@@ -4,9 +4,9 @@ use Rattle.regions.specs.declared.row.Row.{Row}
 use Rattle.regions.specs.declared.row.Kind.TheVariants as kinds
 use Rattle.regions.specs.Table.{kind_of}
 use Rattle.regions.specs.Rows.{free_row}
-use Rattle.regions.proofs.Making.{known, kind_is}
-use Rattle.regions.proofs.WalkMade.{walk_ordinary}
-use Rattle.regions.proofs.WalkFrom.{walk_first, walk_free, walk_rests}
+use Rattle.regions.proofs.Tiles.Making.{known, kind_is}
+use Rattle.regions.proofs.Walks.WalkMade.{walk_ordinary}
+use Rattle.regions.proofs.Walks.WalkFrom.{walk_first, walk_free, walk_rests}
 use Rattle.regions.proofs.table.RegionTable.tile_words.Goals as goal
 
 pub index-row-requires : goal.index-row-requires

@@ -2,8 +2,8 @@ use Rattle.std.proofs.Common.{arith, refl, ap, ◌∙◌, get_or}
 use Rattle.std.proofs.lemmas.List.{get_or_read}
 use Rattle.regions.specs.declared.row.Row.{Row}
 use Rattle.regions.specs.Rows.{free_row}
-use Rattle.regions.proofs.Making.{known}
-use Rattle.regions.proofs.Tops.{top_all}
+use Rattle.regions.proofs.Tiles.Making.{known}
+use Rattle.regions.proofs.Tiles.Tops.{top_all}
 use Rattle.regions.proofs.table.RegionTable.top.Goals as goal
 
 pub overflow_mul-number : goal.overflow_mul-number

@@ -1,5 +1,5 @@
 use Rattle.std.proofs.Common.{arith, ◌∙◌}
-use Rattle.regions.proofs.ObjectWords.{object_there, values_counted}
+use Rattle.regions.proofs.Words.ObjectWords.{object_there, values_counted}
 use Rattle.regions.proofs.table.RegionTable.value_count.Goals as goal
 
 pub values_in-requires : goal.values_in-requires

@@ -1,5 +1,5 @@
 use Rattle.std.proofs.Common.{◌≡◌, ◌/◌, ◌%◌, ◌-◌, ◌*◌, ◌<◌, ℕ, ◌∙◌, arith}
-use Rattle.regions.proofs.WalkFrom.{begins, tile_region}
+use Rattle.regions.proofs.Walks.WalkFrom.{begins, tile_region}
 use Rattle.regions.proofs.table.RegionTable.walk_from.Goals as goal
 
 rest_is : (a w x k n : ℕ) → 0 < w → x ≡ a → k ≡ a / w → n ≡ w → x - k * n ≡ a % w

@@ -1,5 +1,5 @@
 use Rattle.std.proofs.Common.{refl, sym}
-use Rattle.step_core.proofs.Following.{created}
+use Rattle.step_core.proofs.Cores.Following.{created}
 use Rattle.step_core.proofs.heap.Core.act.Goals as goal
 
 pub returns-in-New-clause-follows : goal.returns-in-New-clause-follows

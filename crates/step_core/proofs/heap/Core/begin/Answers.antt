@@ -1,5 +1,5 @@
 use Rattle.step_core.specs.Stands.{ShowsGraph}
-use Rattle.step_core.proofs.Cycling.{to_fields, can_begin, begun_shows, begun_keeps, begun_kept, begun_from}
+use Rattle.step_core.proofs.Cycles.Cycling.{to_fields, can_begin, begun_shows, begun_keeps, begun_kept, begun_from}
 use Rattle.step_core.proofs.heap.Core.begin.Goals as goal
 
 pub begin-requires-clause-closed : goal.begin-requires-clause-closed

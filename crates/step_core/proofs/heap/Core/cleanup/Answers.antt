@@ -3,8 +3,8 @@ use Rattle.regions.specs.Shaped.{IsShaped}
 use Rattle.regions.specs.Table.{run_length}
 use Rattle.step_core.specs.Stands.{CoreState, ShowsGraph, KeepsFrom}
 use Rattle.step_core.specs.Cleaning.{IsDeadHead, HasReleased}
-use Rattle.regions.proofs.Blocks.{block_within}
-use Rattle.step_core.proofs.Cleaning.{Cleans, none_cleaned, one_left, one_cleaned, all_cleaned}
+use Rattle.regions.proofs.LongRuns.Blocks.{block_within}
+use Rattle.step_core.proofs.Cycles.Cleaning.{Cleans, none_cleaned, one_left, one_cleaned, all_cleaned}
 use Rattle.step_core.proofs.heap.Core.cleanup.Goals.{then-is_dead, else-is_dead}
 use Rattle.step_core.proofs.heap.Core.cleanup.Goals as goal
 

@@ -1,7 +1,7 @@
 use Rattle.std.proofs.Common.{◌-◌, length}
 use Rattle.heap_model.specs.Graph.{Graph}
 use Rattle.step_core.specs.Stands.{ShowsGraph, KeepsFrom}
-use Rattle.step_core.proofs.Cleaning.{Cleans}
+use Rattle.step_core.proofs.Cycles.Cleaning.{Cleans}
 use Rattle.step_core.proofs.heap.Core.cleanup.Given as goal
 
 abbrev pub invariant-loop-number : goal.invariant-loop-number

@@ -3,9 +3,9 @@ use Rattle.std.proofs.lemmas.List.{with_items_is}
 use Rattle.alloc_buffers.specs.Placement.{closed}
 use Rattle.cards.specs.Cards.{is_dirty}
 use Rattle.step_core.specs.Stands.{ShowsGraph, KeepsFrom}
-use Rattle.step_core.proofs.Reading.{AllZip-length}
-use Rattle.step_core.proofs.Cycling.{to_fields}
-use Rattle.step_core.proofs.Pausing.{can_evacuate, cards_room, paused_shows, paused_keeps, paused_kept, evacuates_from}
+use Rattle.step_core.proofs.Mutating.Reading.{AllZip-length}
+use Rattle.step_core.proofs.Cycles.Cycling.{to_fields}
+use Rattle.step_core.proofs.Pauses.Pausing.{can_evacuate, cards_room, paused_shows, paused_keeps, paused_kept, evacuates_from}
 use Rattle.step_core.proofs.heap.Core.evacuate_best.Goals as goal
 
 pub evacuate-requires-clause-can : goal.evacuate-requires-clause-can

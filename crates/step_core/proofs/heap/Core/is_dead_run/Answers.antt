@@ -5,8 +5,8 @@ use Rattle.regions.specs.Table.{kind_of}
 use Rattle.mark_bitmap.specs.Marks.{is_marked}
 use Rattle.mark_bitmap.specs.Tops.{is_below}
 use Rattle.step_core.specs.Stands.{CoreState, kept_of}
-use Rattle.step_core.proofs.Cycling.{to_fields}
-use Rattle.step_core.proofs.Cleaning.{run_new, run_tells}
+use Rattle.step_core.proofs.Cycles.Cycling.{to_fields}
+use Rattle.step_core.proofs.Cycles.Cleaning.{run_new, run_tells}
 use Rattle.step_core.proofs.heap.Core.is_dead_run.Goals as goal
 
 pub returns-then-not-is_below_previous : goal.returns-then-not-is_below_previous

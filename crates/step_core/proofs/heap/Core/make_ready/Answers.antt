@@ -1,8 +1,8 @@
 use Rattle.std.proofs.Common.{sym}
 use Rattle.cards.specs.Cards.{ListsDirtyOnce}
 use Rattle.step_core.specs.Stands.{ShowsGraph, KeepsFrom, IsCore}
-use Rattle.step_core.proofs.Cycling.{to_fields}
-use Rattle.step_core.proofs.Ready.{closed_shows, closed_keeps, closed_kept, is_ready}
+use Rattle.step_core.proofs.Cycles.Cycling.{to_fields}
+use Rattle.step_core.proofs.Pauses.Ready.{closed_shows, closed_keeps, closed_kept, is_ready}
 use Rattle.step_core.proofs.heap.Core.make_ready.Goals as goal
 
 pub invariant_of-self : goal.invariant_of-self

@@ -1,6 +1,6 @@
 use Rattle.std.proofs.Common.{◌≡◌, true}
 use Rattle.step_core.specs.Stands.{ShowsGraph, KeepsFrom}
-use Rattle.step_core.proofs.Cycling.{to_fields, marked_shows, marked_keeps, marked_kept, marked_from}
+use Rattle.step_core.proofs.Cycles.Cycling.{to_fields, marked_shows, marked_keeps, marked_kept, marked_from}
 use Rattle.step_core.proofs.heap.Core.mark.Goals as goal
 
 pub invariant_of-self : goal.invariant_of-self

@@ -1,5 +1,5 @@
 use Rattle.std.proofs.Common.{arith, refl}
-use Rattle.step_core.proofs.Beginning.{first_is, first_stands}
+use Rattle.step_core.proofs.Cores.Beginning.{first_is, first_stands}
 use Rattle.step_core.proofs.heap.Core.new.Goals as goal
 
 pub invariant_of-result : goal.invariant_of-result

@@ -1,7 +1,7 @@
 use Rattle.std.proofs.Common.{◌≡◌, ◌*◌, ℕ, arith, subst, sym, ap, ◌∙◌, inl}
 use Rattle.step_core.specs.Stands.{CoreState, ShowsGraph, KeepsFrom}
-use Rattle.step_core.proofs.Added.{creates}
-use Rattle.step_core.proofs.Creating.{new_acts, new_kept, new_keeps, new_leaves}
+use Rattle.step_core.proofs.Cores.Added.{creates}
+use Rattle.step_core.proofs.Mutating.Creating.{new_acts, new_kept, new_keeps, new_leaves}
 use Rattle.step_core.proofs.heap.Core.new_object.Goals as goal
 
 pub invariant_of-self-2 : goal.invariant_of-self-2

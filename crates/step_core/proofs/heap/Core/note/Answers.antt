@@ -1,6 +1,6 @@
 use Rattle.std.proofs.Common.{◌+◌, ◌<◌, ◌/◌, ◌∙◌, ℕ, length, ap, arith, subst, sym}
-use Rattle.step_core.proofs.Cycling.{to_fields}
-use Rattle.step_core.proofs.Noting.{field_inside, card_inside, dirtied_kept, noted_so}
+use Rattle.step_core.proofs.Cycles.Cycling.{to_fields}
+use Rattle.step_core.proofs.Mutating.Noting.{field_inside, card_inside, dirtied_kept, noted_so}
 use Rattle.heap_model.specs.Heap.{IsRoot}
 use Rattle.regions.specs.Table.{pointers_at}
 use Rattle.step_core.specs.Stands.{heap_of}

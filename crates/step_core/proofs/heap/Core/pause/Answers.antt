@@ -1,4 +1,4 @@
-use Rattle.step_core.proofs.Pausing.{paused_ready}
+use Rattle.step_core.proofs.Pauses.Pausing.{paused_ready}
 use Rattle.step_core.proofs.heap.Core.pause.Goals as goal
 
 pub returns-clause-paused : goal.returns-clause-paused

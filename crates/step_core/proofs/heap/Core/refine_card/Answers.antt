@@ -1,6 +1,6 @@
 use Rattle.step_core.specs.Stands.{ShowsGraph, KeepsFrom}
-use Rattle.step_core.proofs.Cycling.{to_fields}
-use Rattle.step_core.proofs.Refined.{can_scan, cards_show, cards_keep, refined_kept, refined_from}
+use Rattle.step_core.proofs.Cycles.Cycling.{to_fields}
+use Rattle.step_core.proofs.Pauses.Refined.{can_scan, cards_show, cards_keep, refined_kept, refined_from}
 use Rattle.step_core.proofs.heap.Core.refine_card.Goals as goal
 
 pub refine_one-requires-clause-stands : goal.refine_one-requires-clause-stands

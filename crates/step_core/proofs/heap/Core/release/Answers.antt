@@ -1,12 +1,12 @@
 use Rattle.std.proofs.Common.{◌≡◌, ◌<◌, ◌∙◌, ap, false, length, arith}
 use Rattle.marker.specs.declared.marker.Marker.{Marker}
-use Rattle.regions.proofs.Released.{untargeted}
+use Rattle.regions.proofs.Tiles.Released.{untargeted}
 use Rattle.regions.specs.Table.{run_length}
 use Rattle.step_core.specs.Stands.{ShowsGraph}
 use Rattle.step_core.specs.Cleaning.{IsDeadHead}
-use Rattle.step_core.proofs.Cycling.{to_fields}
-use Rattle.regions.proofs.Blocks.{block_within}
-use Rattle.step_core.proofs.Releasing.{release_shows, release_kept, released_from}
+use Rattle.step_core.proofs.Cycles.Cycling.{to_fields}
+use Rattle.regions.proofs.LongRuns.Blocks.{block_within}
+use Rattle.step_core.proofs.Cycles.Releasing.{release_shows, release_kept, released_from}
 use Rattle.step_core.proofs.heap.Core.release.Goals as goal
 
 pub forget-requires-clause-within : goal.forget-requires-clause-within

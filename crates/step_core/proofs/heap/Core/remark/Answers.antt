@@ -1,6 +1,6 @@
 use Rattle.std.proofs.Common.{◌≡◌, true}
 use Rattle.step_core.specs.Stands.{ShowsGraph}
-use Rattle.step_core.proofs.Cycling.{to_fields, remarked_shows, remarked_kept, remarked_from}
+use Rattle.step_core.proofs.Cycles.Cycling.{to_fields, remarked_shows, remarked_kept, remarked_from}
 use Rattle.step_core.proofs.heap.Core.remark.Goals as goal
 
 pub invariant_of-self : goal.invariant_of-self

@@ -1,6 +1,6 @@
 use Rattle.std.proofs.Common.{refl, ◌∙◌, sym, ap, List, [], ℕ, length, length-set}
-use Rattle.step_core.proofs.Stored.{was_kept, store_shows, idle_shows, store_leaves, idle_leaves, idle_kept, saved_stands, saved_keeps, saved_kept, saved_room, taken_room, taken_kept, taken_keeps, roles_trans, known_log}
-use Rattle.step_core.proofs.Overwritten.{log_taken, overwrites_full, overwrites_room}
+use Rattle.step_core.proofs.Mutating.Stored.{was_kept, store_shows, idle_shows, store_leaves, idle_leaves, idle_kept, saved_stands, saved_keeps, saved_kept, saved_room, taken_room, taken_kept, taken_keeps, roles_trans, known_log}
+use Rattle.step_core.proofs.Mutating.Overwritten.{log_taken, overwrites_full, overwrites_room}
 use Rattle.step_core.proofs.heap.Core.store_noted.Goals as goal
 
 pub invariant_of-self : goal.invariant_of-self
