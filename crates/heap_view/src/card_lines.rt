@@ -42,7 +42,7 @@ pub(crate) fn write_covered<W: Write>(core: &Core, writer: &mut W, region: Regio
     let mut first = next_card(core, region, 0, count, true);
     while first < count {
         let end = next_card(core, region, first + 1, count, false);
-        let word = if some { "," } else { "  covers cards" };
+        let word = if some { "," } else { "  remembered cards:" };
         if first + 1 == end {
             write!(writer, "{word} {first}")?;
         } else {
@@ -61,6 +61,9 @@ pub(crate) fn write_covered<W: Write>(core: &Core, writer: &mut W, region: Regio
 pub(crate) fn write_queue<W: Write>(core: &Core, writer: &mut W) -> Result<()> {
     let cards = core.cards();
     write!(writer, "queue of cards:")?;
+    if cards.queued() == 0 {
+        write!(writer, " none")?;
+    }
     for place in 0..cards.queued() {
         write!(writer, " {}", cards.queued_card(place).number())?;
     }

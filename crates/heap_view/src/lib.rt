@@ -1,23 +1,22 @@
 //! A view of a heap: its regions, objects, cards and roots as they stand, as lines for a person's eyes.
 //!
 //! ```text
-//!   heap 4 16 4 1 0                                            regions, their words, a buffer's words, mutators, first name
+//!   heap 4 16 8 1 0                                  regions, their words, a buffer's words, mutators, first name
 //!   next name 3
-//!   marking runs, 1 object scanned
-//!   region 0: ordinary, current, 12 of 16 words handed out
-//!     top at mark start 0, of the marking that runs 8          addresses
-//!     live bound 12
-//!     covers cards 2, 4 to 5                                   cards that fields leading into this region lie in
-//!     at 0: #0, pointers #1 nil, data 7, kept, scanned         the object's address and its name
-//!     at 5: filler of 3 words
+//!   marking runs, objects scanned: 1
+//!   region 0: ordinary, current, 16 of 16 words handed out
+//!     top at mark start 0, next 8, live bound 16     addresses of the last marking and of the one that runs; words
+//!     remembered cards: 2, 4 to 5                    fields in these cards may lead into this region
+//!     at 0: #0, pointers #1 nil, data 7, kept, scanned
+//!     at 5: filler of 3                              words of no object
 //!     ..
 //!   region 1: free
 //!   queue of cards: 0
 //!   globals: g3 #0 at 0
 //!   mutator 0: r0 #0 at 0, r2 #2 at 8
-//!     buffer from 10 to 11
+//!     open buffer at 12, 4 words left
 //!     card log: 1
-//!     deletion log: 16
+//!     deletion log: #1
 //! ```
 //!
 //! Whether an object is kept is told by the last marking that came to its end: it is, if it was made since that marking began, or was
@@ -48,7 +47,7 @@ fn write_head<W: Write>(core: &Core, writer: &mut W) -> Result<()> {
     )?;
     writeln!(writer, "next name {}", core.next_name())?;
     if core.marking() {
-        writeln!(writer, "marking runs, {} scanned", core.scans())
+        writeln!(writer, "marking runs, objects scanned: {}", core.scans())
     } else {
         writeln!(writer, "marking doesn't run")
     }

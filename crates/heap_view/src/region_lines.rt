@@ -129,19 +129,12 @@ fn write_tops<W: Write>(core: &Core, writer: &mut W, region: RegionNo) -> Result
 {
     core.remembers();
     let tams = &core.marker().tams;
-    write!(
-        writer,
-        "  top at mark start {}",
-        tams.previous(region).word()
-    )?;
+    let previous = tams.previous(region).word();
+    write!(writer, "  top at mark start {previous}")?;
     if core.marking() {
-        write!(
-            writer,
-            ", of the marking that runs {}",
-            tams.next(region).word()
-        )?;
+        write!(writer, ", next {}", tams.next(region).word())?;
     }
-    writeln!(writer)
+    Ok(())
 }
 
 /// Writes the live bound of an ordinary region.
@@ -151,8 +144,9 @@ fn write_live<W: Write>(core: &Core, writer: &mut W, region: RegionNo) -> Result
 {
     core.remembers();
     let marker = core.marker();
-    let live = live_bound(core.table(), &marker.tams, &marker.bitmaps.previous, region);
-    writeln!(writer, "  live bound {live}")
+    let previous = &marker.bitmaps.previous;
+    let live = live_bound(core.table(), &marker.tams, previous, region);
+    write!(writer, ", live bound {live}")
 }
 
 /// Writes how many words of a region are handed out.
@@ -177,6 +171,7 @@ fn write_in_use<W: Write>(core: &Core, writer: &mut W, region: RegionNo) -> Resu
     if let Kind::Ordinary = core.table().kind(region) {
         write_live(core, writer, region)?;
     }
+    writeln!(writer)?;
     write_covered(core, writer, region)?;
     write_tiles(core, writer, region)
 }

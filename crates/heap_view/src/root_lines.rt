@@ -15,14 +15,21 @@ fn write_places<W: Write>(
     letter: &'static str,
     roots: &[Ptr],
 ) -> Result<()> {
+    let mut some = false;
     for (number, root) in roots.iter().enumerate() {
         if let Some(at) = *root {
-            write!(writer, " {letter}{number} ")?;
+            let mark = if some { "," } else { "" };
+            write!(writer, "{mark} {letter}{number} ")?;
             write_name(core.table(), writer, Some(at))?;
             write!(writer, " at {}", at.word())?;
+            some = true;
         }
     }
-    writeln!(writer)
+    if some {
+        writeln!(writer)
+    } else {
+        writeln!(writer, " all nil")
+    }
 }
 
 /// Writes what is left of a mutator's buffer, if one is open.
