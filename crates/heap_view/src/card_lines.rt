@@ -1,57 +1,51 @@
 //! Dirty cards and remembered sets.
 
-ghost use Rattle.std.specs.Prelude.{◌≡◌, ◌<◌, ◌≤◌, length};
-ghost use Rattle.remembered_sets.specs.Sets.{card_count};
+ghost use Rattle.std.specs.Prelude.{◌<◌, length};
 
-use heap_words::addr::{Card, RegionNo};
+use heap_words::addr::RegionNo;
 use std::io::{Result, Write};
 use step_core::Core;
 
-/// How many cards there are.
-fn card_count_of(core: &Core) -> u32
-    ensures { result ≡ card_count core.now.sets }
+/// Writes the cards that stand one by one in a region's set. Answers whether there are some.
+fn write_cards<W: Write>(core: &Core, writer: &mut W, region: RegionNo) -> Result<bool>
+    requires { region < length core.now.sets.sets }
+{
+    let sets = core.sets();
+    let count = sets.card_count(region);
+    if count == 0 {
+        return Ok(false);
+    }
+    write!(writer, "  remembered cards:")?;
+    for place in 0..count {
+        write!(writer, " {}", sets.card(region, place).number())?;
+    }
+    Ok(true)
+}
+
+/// Writes the regions all of whose cards are in a region's set.
+fn write_sources<W: Write>(core: &Core, writer: &mut W, region: RegionNo) -> Result<()>
+    requires { region < length core.now.sets.sets }
 {
     core.remembers();
-    let config = core.config();
-    config.regions * (config.words / config.card_words())
-}
-
-/// The first card at or above one, up to a count, that a region's set covers, or that it doesn't.
-fn next_card(core: &Core, region: RegionNo, from: u32, count: u32, covered: bool) -> u32
-    requires region { region < length core.now.sets.sets }
-    requires count { count ≡ card_count core.now.sets }
-    requires from { from ≤ count }
-    ensures low { from ≤ result }
-    ensures high { result ≤ count }
-{
-    for number in from..count {
-        if core.sets().covers(region, Card::new(number)) == covered {
-            return number;
+    for number in 0..core.table().region_count() {
+        if core.sets().is_whole(region, RegionNo::new(number)) {
+            write!(writer, ", all of region {number}")?;
         }
     }
-    count
+    Ok(())
 }
 
-/// Writes the cards that a region's set covers, adjacent ones together, if there are some.
-pub(crate) fn write_covered<W: Write>(core: &Core, writer: &mut W, region: RegionNo) -> Result<()>
+/// Writes a region's remembered set, if it isn't empty. Regions stand in it only beside cards.
+pub(crate) fn write_remembered<W: Write>(
+    core: &Core,
+    writer: &mut W,
+    region: RegionNo,
+) -> Result<()>
     requires { region < length core.now.table.regions }
 {
     core.remembers();
-    let count = card_count_of(core);
-    let mut some = false;
-    let mut first = next_card(core, region, 0, count, true);
-    while first < count {
-        let end = next_card(core, region, first + 1, count, false);
-        let word = if some { "," } else { "  remembered cards:" };
-        if first + 1 == end {
-            write!(writer, "{word} {first}")?;
-        } else {
-            write!(writer, "{word} {first} to {}", end - 1)?;
-        }
-        some = true;
-        first = next_card(core, region, end, count, true);
-    }
-    if some {
+    if write_cards(core, writer, region)? {
+        write_sources(core, writer, region)?;
         writeln!(writer)?;
     }
     Ok(())

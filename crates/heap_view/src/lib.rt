@@ -6,7 +6,7 @@
 //!   marking runs, objects scanned: 1
 //!   region 0: ordinary, current, 16 of 16 words handed out
 //!     top at mark start 0, next 8, live bound 16     addresses of the last marking and of the one that runs; words
-//!     remembered cards: 2, 4 to 5                    fields in these cards may lead into this region
+//!     remembered cards: 2 4, all of region 3         fields in these cards may lead into this region
 //!     at 0: #0, pointers #1 nil, data 7, kept, scanned
 //!     at 5: filler of 3                              words of no object
 //!     ..

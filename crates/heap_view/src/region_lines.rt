@@ -5,7 +5,7 @@ ghost use Rattle.regions.specs.Table.{kind_of, object_at};
 ghost use Rattle.regions.specs.Walks.{IsPlacedTile};
 ghost use Rattle.regions.specs.declared.row.Kind.TheVariants as kinds;
 
-use crate::card_lines::write_covered;
+use crate::card_lines::write_remembered;
 use crate::names::write_name;
 use heap_words::addr::{Addr, RegionNo};
 use mark_bitmap::live::live_bound;
@@ -172,7 +172,7 @@ fn write_in_use<W: Write>(core: &Core, writer: &mut W, region: RegionNo) -> Resu
         write_live(core, writer, region)?;
     }
     writeln!(writer)?;
-    write_covered(core, writer, region)?;
+    write_remembered(core, writer, region)?;
     write_tiles(core, writer, region)
 }
 

@@ -139,7 +139,7 @@ mutator 0: r0 #10 at 64
     assert_view(&rt, rt.alloc(), script, view)
 }
 
-/// Adjacent remembered cards stand together.
+/// Three cards lead into region 1.
 #[test]
 fn remembered_cards(rt: HostRuntime) -> Result<(), Fail> {
     let script = "\
@@ -164,7 +164,7 @@ region 0: ordinary, 16 of 16 words handed out
   at 8: #1, pointers #2 nil nil nil, data 0 0, kept
 region 1: ordinary, 16 of 16 words handed out
   top at mark start 16, live bound 16
-  remembered cards: 0 to 1, 4
+  remembered cards: 0 1 4
   at 16: #2, pointers nil nil nil nil, data 0 0, kept
   at 24: #3, pointers nil nil nil nil, data 0 0, kept
 region 2: ordinary, 8 of 16 words handed out
