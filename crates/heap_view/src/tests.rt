@@ -178,6 +178,33 @@ mutator 0: r0 #0 at 0, r1 #1 at 8, r2 #2 at 16, r3 #3 at 24, r4 #4 at 32
     assert_view(&rt, rt.alloc(), script, view)
 }
 
+/// Eighteen cards of region 1 lead into region 0: sixteen stand one by one in its set, and then all of region 1 does.
+#[test]
+fn a_full_set(rt: HostRuntime) -> Result<(), Fail> {
+    let alloc = rt.alloc();
+    let mut script = String::new(alloc);
+    script.push_str("heap 3 256 128 1 0\n0 new r7 0 0\n0 new r6 0 126\n")?;
+    for _ in 0..18 {
+        script.push_str("0 new r0 1 5\n0 put r0 0 r7\n")?;
+    }
+    script.push_str("gc pause 0\n")?;
+    let core = heap_after(alloc, script.as_str())?;
+    let mut written = Vec::new(alloc);
+    write_view(&core, &mut written)?;
+    let start = "\
+heap 3 256 128 1 0
+next name 20
+marking doesn't run
+region 0: ordinary, 256 of 256 words handed out
+  top at mark start 0, live bound 256
+  remembered cards: 32 33 34 35 36 37 38 39 40 41 42 43 44 45 46 47, all of region 1
+  at 0: #0, kept
+  at 2: filler of 126
+";
+    assert!(rt; written.as_slice().starts_with(start.as_bytes()));
+    Ok(())
+}
+
 /// A dead object's pointer may lead to where no object is any more.
 #[test]
 fn a_dead_pointer(rt: HostRuntime) -> Result<(), Fail> {
