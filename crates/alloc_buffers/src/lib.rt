@@ -234,6 +234,14 @@ impl AllocBuffers {
         }
     }
 
+    /// What is left of a mutator's buffer, none where none is open.
+    pub fn open_buffer(&self, mutator: u32) -> Option<Buffer>
+        requires { mutator < length self.now.open_buffers }
+        ensures { slice_get self.now.open_buffers mutator ≡ Some result }
+    {
+        self.open_buffers[mutator as usize]
+    }
+
     /// The place of an object of at most half a region.
     fn find(&mut self, table: &mut RegionTable, mutator: u32, size: u32) -> Option<Addr>
         requires mutator { mutator < length self.old.open_buffers }

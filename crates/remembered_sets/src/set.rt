@@ -1,6 +1,6 @@
 //! The remembered set of one region.
 
-ghost use Rattle.std.specs.Prelude.{◌≡◌, ◌||◌, ◌<◌, ◌*◌, ◌/◌, ℕ, All, IfOk, length};
+ghost use Rattle.std.specs.Prelude.{◌≡◌, ◌||◌, ◌<◌, ◌*◌, ◌/◌, ℕ, false, All, IfOk, Some, length, slice_get, slice_index_or};
 ghost use Rattle.heap_words.specs.Bits.{has};
 ghost use Rattle.remembered_sets.specs.Sets.{empty_set, set_covers, set_with};
 
@@ -50,6 +50,29 @@ impl RememberedSet {
         ensures { result ≡ set_covers self.now card source }
     {
         self.inline.as_slice().contains(&card.number()) || self.sources.get(source)
+    }
+
+    /// How many cards stand one by one.
+    pub(crate) fn len(&self) -> usize
+        ensures { result ≡ length self.now.inline }
+    {
+        self.inline.len()
+    }
+
+    /// A card of those that stand one by one, in the order in which they came.
+    pub(crate) fn card(&self, place: usize) -> Card
+        requires { place < length self.now.inline }
+        ensures { slice_get self.now.inline place ≡ Some result }
+    {
+        Card::new(self.inline.as_slice()[place])
+    }
+
+    /// Whether all cards of the region `source` are in the set.
+    pub(crate) fn is_whole(&self, source: u32) -> bool
+        requires { source < length self.now.sources }
+        ensures { result ≡ slice_index_or self.now.sources source false }
+    {
+        self.sources.get(source)
     }
 
     /// Adds a card that lies in the region `source`: inline while there is room, else by a mark for its region. A card

@@ -6,7 +6,7 @@
 //!   sources     -     3            -     -        card c lies in region c / cards_per_region
 //! ```
 
-ghost use Rattle.std.specs.Prelude.{◌≡◌, ◌≢◌, ◌⊎◌, ◌||◌, ◌/◌, ◌<◌, All, ℕ, false, true, IfOk, length, List};
+ghost use Rattle.std.specs.Prelude.{◌≡◌, ◌≢◌, ◌⊎◌, ◌||◌, ◌/◌, ◌<◌, All, ℕ, false, true, IfOk, Some, length, slice_get, slice_index_or, List};
 ghost use Rattle.heap_words.specs.Bits.{has};
 ghost use Rattle.remembered_sets.specs.Sets.{added, after_all, card_count, cleared, covers, empty_sets, set_of, Change, AreSets, LeavesSet, Sets};
 
@@ -72,6 +72,35 @@ impl RememberedSets {
         let source = card.number() / self.cards_per_region;
         let set = &self.sets[region.number() as usize];
         set.covers(card, source)
+    }
+
+    /// How many cards stand one by one in the region's set.
+    pub fn card_count(&self, region: RegionNo) -> usize
+        requires { region < length self.now.sets }
+        ensures { result ≡ length (set_of self.now region).inline }
+    {
+        let set = &self.sets[region.number() as usize];
+        set.len()
+    }
+
+    /// A card of those that stand one by one in the region's set, in the order in which they came.
+    pub fn card(&self, region: RegionNo, place: usize) -> Card
+        requires region { region < length self.now.sets }
+        requires place { place < length (set_of self.now region).inline }
+        ensures { slice_get (set_of self.now region).inline place ≡ Some result }
+    {
+        let set = &self.sets[region.number() as usize];
+        set.card(place)
+    }
+
+    /// Whether the region's set covers all cards of the region `source` by a mark.
+    pub fn is_whole(&self, region: RegionNo, source: RegionNo) -> bool
+        requires region { region < length self.now.sets }
+        requires source { source < length self.now.sets }
+        ensures { result ≡ slice_index_or (set_of self.now region).sources source false }
+    {
+        let set = &self.sets[region.number() as usize];
+        set.is_whole(source.number())
     }
 
     /// Adds a card to the region's set. A card that it covers changes nothing.

@@ -23,7 +23,7 @@
 //!
 //! `steps` has the mutator's steps, `barrier` what a store does beside the store, `cycle` the steps of marking, `cleanup` the
 //! reclaiming, `refine` refinement, `candidates` the choice of what a pause evacuates, `pause` the pause, `step` any step,
-//! `runs` a list of them.
+//! `runs` a list of them, `readers` what is read of a core from outside.
 //!
 //! A field is read or written in constant time: no step tests or walks its region to see that an address is an object.
 #![tactic(auto)]
@@ -34,13 +34,14 @@ mod cleanup;
 mod cycle;
 mod heap;
 mod pause;
+mod readers;
 mod refine;
 mod runs;
 mod step;
 mod mutator;
 
 pub use heap::Core;
-pub use runs::{RunFault, run, run_fault};
+pub use runs::{RunFault, run, run_fault, run_to_core};
 
 #[cfg(test)]
 mod tests;

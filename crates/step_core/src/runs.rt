@@ -8,7 +8,7 @@ ghost use Rattle.object_graph.specs.Run.{IsRun};
 ghost use Rattle.object_graph.specs.Actors.{IsStep, IsStepOf};
 ghost use Rattle.heap_words.specs.declared.config.Config.{Config};
 ghost use Rattle.step_core.specs.Stands.{State, Stands};
-ghost use Rattle.step_core.specs.Histories.{Runs, RunsFromNew, step_in, actor_in, actor_of, IsRunFault};
+ghost use Rattle.step_core.specs.Histories.{Runs, RunsTo, RunsFromNew, step_in, actor_in, actor_of, IsRunFault};
 
 use crate::heap::Core;
 use heap_words::config::{Config, NewFault};
@@ -70,9 +70,35 @@ fn run_on(alloc: Global, core: &mut Core, steps: &[Step]) -> Result<Record, Allo
     Ok(done)
 }
 
-/// Does the steps in order, in a new heap. The record's events are the steps in their order, each with its actor and
-/// its reply; between them stand cores and graphs, each core standing for its graph, with every object that
-/// a root reaches whole and once in the heap.
+/// Does the steps in order, in a new heap, and answers the record and the core after the last step. The record's events
+/// are the steps in their order, each with its actor and its reply; between them stand cores and graphs, each core
+/// standing for its graph, with every object that a root reaches whole and once in the heap.
+pub fn run_to_core(
+    alloc: Global,
+    config: &Config,
+    steps: &[Step],
+) -> Result<(Record, Core), RunFault>
+    requires { All (IsStep config.now) steps.now }
+    ensures config { IfOk result (λ r. r.0.config ≡ config.now) }
+    ensures steps { IfOk result (λ r. map step_in r.0.events ≡ steps.now) }
+    ensures actors { IfOk result (λ r. map actor_in r.0.events ≡ map actor_of steps.now) }
+    ensures history { IfOk result (λ r. RunsTo config.now r.0.events r.1) }
+    // The replies are those of the graph.
+    ensures run { IfOk result (λ r. (last : Graph) × IsRun (first_state config.now) r.0.events last) }
+    ensures suits { OnOk result (Suits config.now) }
+    ensures fault { IfErr result (IsRunFault config.now) }
+{
+    let mut core = match Core::new(alloc, config) {
+        Ok(core) => core,
+        Err(fault) => return Err(run_fault(fault)),
+    };
+    let Ok(done) = run_on(alloc, &mut core, steps) else {
+        return Err(RunFault::NoMemory);
+    };
+    Ok((done, core))
+}
+
+/// Does the steps in order, in a new heap, and answers the record: that of `run_to_core`.
 pub fn run(alloc: Global, config: &Config, steps: &[Step]) -> Result<Record, RunFault>
     requires { All (IsStep config.now) steps.now }
     ensures config { IfOk result (λ r. r.config ≡ config.now) }
@@ -84,12 +110,9 @@ pub fn run(alloc: Global, config: &Config, steps: &[Step]) -> Result<Record, Run
     ensures suits { OnOk result (Suits config.now) }
     ensures fault { IfErr result (IsRunFault config.now) }
 {
-    let mut core = match Core::new(alloc, config) {
-        Ok(core) => core,
-        Err(fault) => return Err(run_fault(fault)),
-    };
-    let Ok(done) = run_on(alloc, &mut core, steps) else {
-        return Err(RunFault::NoMemory);
+    let (done, _core) = match run_to_core(alloc, config, steps) {
+        Ok(both) => both,
+        Err(fault) => return Err(fault),
     };
     Ok(done)
 }

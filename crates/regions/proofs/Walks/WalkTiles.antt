@@ -102,3 +102,10 @@ apart t a b u v z d f g h =
     let r = tile_listed t b v g in
     let i = tiles_apart (tiles_of t k) (a % n) (b % n) u v l.0 (ap (λ (m : ℕ). tile_at (b % n) (tiles_of t m)) (sym d) ∙ r.0) (omega (arith, x, y)) in
     omega (arith, x, y, i)
+
+-- each item of a region's walk is a tile of the table
+pub walk_placed : (t : Table) (k : ℕ) → IsShaped t → ArePlaced t (placed (k * t.words_per_region) (tiles_of t k))
+walk_placed t k g =
+    let fitting = g.fitting k in
+    let all = placed_from t k 0 (tiles_of t k) g fitting.positive (λ p u f. ap (λ (n : ℕ). tile_at n (tiles_of t k)) (omega arith) ∙ f) in
+    subst (λ (n : ℕ). ArePlaced t (placed n (tiles_of t k))) (omega arith) all
