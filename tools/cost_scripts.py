@@ -1,8 +1,8 @@
 #!/usr/bin/env python3
 """Writes the scripts whose times are wanted into a folder: tools/cost_scripts.py FOLDER.
 
-No script has an object of more than half a region. All heaps but those that a name gives 256 or 512 regions have 1,024
-regions of 1,024 words, the largest that a heap line allows.
+No script has an object of more than half a region. All heaps but those that a name gives 256 or 512 regions, and those of
+actors, have 1,024 regions of 1,024 words, the largest that a heap line allows.
 
 | Script | What it is |
 |---|---|
