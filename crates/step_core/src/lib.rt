@@ -33,12 +33,12 @@ mod candidates;
 mod cleanup;
 mod cycle;
 mod heap;
+mod mutator;
 mod pause;
 mod readers;
 mod refine;
 mod runs;
 mod step;
-mod mutator;
 
 pub use heap::Core;
 pub use runs::{RunFault, run, run_fault, run_to_core};
