@@ -104,3 +104,8 @@ pub comes_threaded : (plan : StepList) (workers refiners markers : ℕ) (outcome
     IfErr outcome (λ f. f ≢ runs.BadWorkers → IsThreadsFault plan.config f) → Comes (Threads workers refiners markers) plan outcome
 comes_threaded plan workers refiners markers outcome run bad fault =
     comes_counted (Threads workers refiners markers) plan outcome run bad (λ over suits. omega (arith, over, suits)) (all_suit workers refiners markers) fault
+
+-- what is so at any rate is so at Ok
+pub if_ok : {A E P : Type 0} (r : Result A E) → P → IfOk r (λ x. P)
+if_ok (Ok x) p = p
+if_ok (Err e) p = tt

@@ -32,6 +32,8 @@ pub enum Task {
     Script(Order),
     /// The events of a record are judged.
     Check,
+    /// A script is run, and a view of its heap written.
+    View,
 }
 
 /// What a command line asks for.
@@ -57,11 +59,36 @@ impl<'a> Job<'a> {
     }
 }
 
-fn with_file<'a>(alloc: Global, name: &'a str, about: &'a str) -> Result<Command<'a>, AllocError> {
+/// What stands behind the list of subcommands.
+const FORMATS: &str = "\
+FILE is lines. A script's first is `heap REGIONS WORDS BUFFER MUTATORS FIRST`, the heap's sizes and the
+first object's name; each other one is a step of a mutator, as `0 new r0 1 1`, or of the collector, as
+`gc begin`. A record's lines have a count before the step and ` = REPLY` behind it.
+
+Status: 0, done; 1, a fault, told on standard error; 2, a command line that isn't understood; 3, `check` says no.
+
+docs/TEXTS.md has the formats, the steps and their replies; docs/FAULTS.md what a fault most often means.";
+
+fn with_file<'a>(
+    alloc: Global,
+    name: &'a str,
+    about: &'a str,
+    file: &'a str,
+) -> Result<Command<'a>, AllocError> {
     let file = Arg::new(alloc, "FILE")
         .required(true)
+        .help(file)
         .action(ArgAction::Set);
     Ok(Command::new(alloc, name).about(about).arg(file)?)
+}
+
+/// A subcommand whose file is a script.
+fn with_script<'a>(
+    alloc: Global,
+    name: &'a str,
+    about: &'a str,
+) -> Result<Command<'a>, AllocError> {
+    with_file(alloc, name, about, "A script, or - for standard input")
 }
 
 /// An option that takes a number up to 4294967295.
@@ -88,7 +115,7 @@ fn sim_command<'a>(alloc: Global) -> Result<Command<'a>, AllocError> {
         .help("The seed, 0 to 18446744073709551615")
         .required(true)
         .action(ArgAction::Set);
-    let sim = with_file(
+    let sim = with_script(
         alloc,
         "sim",
         "Does each actor's steps of a script, the actors in turns that a seed draws, and prints the record",
@@ -98,7 +125,7 @@ fn sim_command<'a>(alloc: Global) -> Result<Command<'a>, AllocError> {
 
 fn threads_command<'a>(alloc: Global) -> Result<Command<'a>, AllocError> {
     let workers = count(alloc, "workers", "Worker threads, 1 to 32").required(true);
-    let threads = with_file(
+    let threads = with_script(
         alloc,
         "threads",
         "Does each actor's steps of a script, the actors in turns of threads, and prints the record",
@@ -107,20 +134,33 @@ fn threads_command<'a>(alloc: Global) -> Result<Command<'a>, AllocError> {
 }
 
 fn command<'a>(alloc: Global) -> Result<Command<'a>, AllocError> {
-    let run = with_file(
+    let run = with_script(
         alloc,
         "run",
         "Does the steps of a script, and prints the record",
     )?;
-    let check = with_file(alloc, "check", "Judges a record by the graph alone")?;
+    let check = with_file(
+        alloc,
+        "check",
+        "Judges a record by the graph alone",
+        "A record, or - for standard input",
+    )?;
+    let view = with_script(
+        alloc,
+        "view",
+        "Does the steps of a script, and prints the heap as it stands then",
+    )?;
     Ok(
         Command::new(alloc, "g1heap")
             .about("A Garbage-First heap by steps")
+            .version("0.1.0")
+            .after_help(FORMATS)
             .subcommand_required(true)
             .subcommand(run)?
             .subcommand(sim_command(alloc)?)?
             .subcommand(threads_command(alloc)?)?
-            .subcommand(check)?,
+            .subcommand(check)?
+            .subcommand(view)?,
     )
 }
 
@@ -147,6 +187,7 @@ fn job_of<'a>(name: &str, found: &ArgMatches<'a>) -> Option<Job<'a>> {
         "sim" => Task::Script(drawn_order(found)?),
         "threads" => Task::Script(threads_order(found)?),
         "check" => Task::Check,
+        "view" => Task::View,
         _ => return None,
     };
     Some(Job {

@@ -5,6 +5,7 @@
 //!   words -- read_words --> Job;  FILE -- read_text, parse --> Plan -- run --> Record -- write_record --> output
 //!                                                                  simulate
 //!                                                                  run_threads
+//!                                                           -- run_to_core --> Core -- write_view --> output
 //!                                 FILE -- read_text, parse_record --> Record -- check --> Verdict -- write_verdict --> output
 //! ```
 //!
@@ -12,7 +13,7 @@
 //! `thread_script`. That is where the theorem of the whole path stands: at Ok the input was a script, read to its end, and
 //! the text of a record was written, and no more, which is a run of the script in the order that was asked for, and of the graph
 //! of objects. Nothing is written before the run has ended well. `judge_record` has the theorem of the other path: which text
-//! gets which verdict.
+//! gets which verdict. `view_script` runs a script too, and writes how its heap stands then.
 #![tactic(auto)]
 
 mod actors;
@@ -24,10 +25,11 @@ mod program;
 mod script;
 #[cfg(test)]
 mod tests;
+mod view;
 
 use program::program;
 use std::process::ExitCode;
 
 fn main(rt: HostRuntime) -> ExitCode {
-    ExitCode::from(program(&rt, &mut rt.stdout(), &mut rt.stderr()))
+    ExitCode::from(program(&rt, &mut rt.stdin(), &mut rt.stdout(), &mut rt.stderr()))
 }

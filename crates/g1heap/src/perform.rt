@@ -8,6 +8,7 @@ use crate::faults::{JobFault, tell};
 use crate::job::{Job, Order, Task};
 use crate::judge::perform_check;
 use crate::script::run_script;
+use crate::view::view_script;
 use std::alloc::Global;
 use std::io::{Read, Write};
 use std::sync::Wait;
@@ -69,5 +70,9 @@ pub fn perform<H: Threads + Wait + Sync, R: Read, W: Write, E: Write>(
             conclude(outcome, err)
         }
         Task::Check => perform_check(alloc, reader, out, err),
+        Task::View => {
+            let viewed = view_script(alloc, reader, out);
+            conclude(viewed, err)
+        }
     }
 }

@@ -16,7 +16,7 @@ use script_text::ReadFault;
 use std::alloc::Global;
 use std::env::Env;
 use std::fs::Files;
-use std::io::Write;
+use std::io::{Read, Write};
 use std::sync::Wait;
 use std::thread::Threads;
 use std::{env, fs, io};
@@ -29,6 +29,7 @@ fn conclude_unread<E: Write>(task: Task, err: &mut E) -> u8
     match task {
         Task::Script(_) => conclude(Err(JobFault::Read(ReadFault::CannotRead)), err),
         Task::Check => conclude_verdict(Err(JobFault::Read(ReadFault::CannotRead)), err),
+        Task::View => conclude(Err(JobFault::Read(ReadFault::CannotRead)), err),
     }
 }
 
@@ -46,6 +47,23 @@ pub fn open_and_perform<H: Files + Threads + Wait + Sync, W: Write, E: Write>(
         Ok(mut file) => perform(rt, alloc, job, &mut file, out, err),
         Err(_) => conclude_unread(job.task(), err),
     }
+}
+
+/// Does the job with the file that it names, or with `input` where that is `-`, and answers the program's status.
+fn read_and_perform<H: Files + Threads + Wait + Sync, I: Read, W: Write, E: Write>(
+    rt: &H,
+    alloc: Global,
+    job: &Job,
+    input: &mut I,
+    out: &mut W,
+    err: &mut E,
+) -> u8
+    ensures { (given left : Option (List ℕ)) × DoesJob job.now.task given left (W.contents out.old) (W.contents out.new) (E.contents err.old) (E.contents err.new) result }
+{
+    if job.file() == "-" {
+        return perform(rt, alloc, job, input, out, err);
+    }
+    open_and_perform(rt, alloc, job, out, err)
 }
 
 /// Answers words that ask for no job: status 0 for help, which goes to standard output, and 2 for a mistake, whose text goes to
@@ -74,8 +92,9 @@ fn words<R: Env + AllocGlobal>(rt: &R) -> io::Result<Vec<String>> {
 }
 
 /// Does what the command line asks for, and answers the program's status.
-pub fn program<R: Env + Files + AllocGlobal + Threads + Wait + Sync, W: Write, E: Write>(
+pub fn program<R: Env + Files + AllocGlobal + Threads + Wait + Sync, I: Read, W: Write, E: Write>(
     rt: &R,
+    input: &mut I,
     out: &mut W,
     err: &mut E,
 ) -> u8
@@ -91,7 +110,7 @@ pub fn program<R: Env + Files + AllocGlobal + Threads + Wait + Sync, W: Write, E
         }
     };
     match read_words(rt.alloc(), words.as_slice()) {
-        Ok(job) => open_and_perform(rt, rt.alloc(), &job, out, err),
+        Ok(job) => read_and_perform(rt, rt.alloc(), &job, input, out, err),
         Err(error) => refuse(&error, out, err),
     }
 }

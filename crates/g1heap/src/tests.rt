@@ -428,7 +428,7 @@ fn by_threads(workers: u32, refiners: u32, markers: u32) -> Order {
 #[test]
 fn command_lines(rt: HostRuntime) -> Result<(), Fail> {
     let alloc = rt.alloc();
-    let lines: [(&[&str], i32); 26] = [
+    let lines: [(&[&str], i32); 30] = [
         (&[], 2),
         (&["--help"], 0),
         (&["run", "--help"], 0),
@@ -462,6 +462,10 @@ fn command_lines(rt: HostRuntime) -> Result<(), Fail> {
         ),
         (&["check", "--help"], 0),
         (&["check"], 2),
+        (&["view"], 2),
+        (&["view", "--help"], 0),
+        (&["view", "one.heap", "--markers", "1"], 2),
+        (&["--version"], 0),
         (&["check", "one.record", "two.record"], 2),
         (&["check", "one.record", "--workers", "1"], 2),
     ];

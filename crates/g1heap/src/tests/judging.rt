@@ -257,7 +257,11 @@ fn each_write_of_a_fault(rt: HostRuntime) -> Result<(), Fail> {
 #[test]
 fn tasks_of_jobs(rt: HostRuntime) -> Result<(), Fail> {
     let alloc = rt.alloc();
-    for (name, task) in [("run", Task::Script(Order::File)), ("check", Task::Check)] {
+    for (name, task) in [
+        ("run", Task::Script(Order::File)),
+        ("check", Task::Check),
+        ("view", Task::View),
+    ] {
         let words = words(alloc, &[name, "given"])?;
         let job = assert_understood(alloc, words.as_slice())?;
         assert_eq!(rt; job.task(), task);

@@ -150,7 +150,38 @@ const SCRIPT: &[u8] = b"heap 4 16 8 1 0\n0 new r0 1 1\n";
 
 const RECORD: &str = "heap 4 16 8 1 0\n1 0 new r0 1 1 = #0\n";
 
-/// What the program answers and writes where the file `given.heap` holds a text.
+/// What standard input holds.
+const OTHER: &[u8] = b"heap 2 16 8 1 5\n";
+
+const OTHER_VIEW: &str = "\
+heap 2 16 8 1 5
+next name 5
+marking doesn't run
+region 0: free
+region 1: free
+queue of cards: none
+globals: all nil
+mutator 0: all nil
+";
+
+const VIEW: &str = "\
+heap 4 16 8 1 0
+next name 1
+marking doesn't run
+region 0: ordinary, current, 8 of 16 words handed out
+  top at mark start 0, live bound 8
+  at 0: #0, pointers nil, data 0, kept
+  at 4: filler of 4
+region 1: free
+region 2: free
+region 3: free
+queue of cards: none
+globals: all nil
+mutator 0: r0 #0 at 0
+  open buffer at 4, 4 words left
+";
+
+/// What the program answers and writes where the file `given.heap` holds a text, and standard input another script.
 fn outcome<H: Threads + Wait + Sync>(
     threads: &H,
     alloc: Global,
@@ -165,7 +196,8 @@ fn outcome<H: Threads + Wait + Sync>(
         path: "given.heap",
         text,
     };
-    program(&(system, alloc), out, err)
+    let mut input = OTHER;
+    program(&(system, alloc), &mut input, out, err)
 }
 
 /// Each line is done, or refused with its status, and the lines of faults go to standard error.
@@ -238,6 +270,41 @@ fn other_orders(rt: HostRuntime) -> Result<(), Fail> {
             status
         );
         assert_eq!(rt; out.as_slice(), record.as_bytes());
+        assert_eq!(rt; err.as_slice(), line.as_bytes());
+    }
+    Ok(())
+}
+
+/// A view of the heap after the last step, and standard input in place of a file.
+#[test]
+fn views_and_input(rt: HostRuntime) -> Result<(), Fail> {
+    let alloc = rt.alloc();
+    let rows: [([&[u8]; 3], u8, &str, &str); 6] = [
+        ([b"g1heap", b"view", b"given.heap"], 0, VIEW, ""),
+        ([b"g1heap", b"view", b"-"], 0, OTHER_VIEW, ""),
+        ([b"g1heap", b"run", b"-"], 0, "heap 2 16 8 1 5\n", ""),
+        ([b"g1heap", b"check", b"-"], 0, "yes 0\n", ""),
+        (
+            [b"g1heap", b"view", b"other.heap"],
+            1,
+            "",
+            "g1heap: cannot read\n",
+        ),
+        (
+            [b"g1heap", b"view", b"given.hea"],
+            1,
+            "",
+            "g1heap: cannot read\n",
+        ),
+    ];
+    for (words, status, text, line) in rows {
+        let mut out = Vec::new(alloc);
+        let mut err = Vec::new(alloc);
+        assert_eq!(rt;
+            outcome(&rt, alloc, &words, SCRIPT, &mut out, &mut err),
+            status
+        );
+        assert_eq!(rt; out.as_slice(), text.as_bytes());
         assert_eq!(rt; err.as_slice(), line.as_bytes());
     }
     Ok(())

@@ -16,3 +16,10 @@ returns-in-Check g c = λ old new kept. rw c.in-Check.is (record {
   judges = (([], tt), kept);
   tells = c.conclude_verdict.ensures;
 })
+
+pub returns-in-View : goal.returns-in-View
+returns-in-View g c = λ old new kept. rw c.in-View.is (record {
+  outcome = Err (faults.Read reads.CannotRead);
+  views = (([], tt), kept);
+  tells = c.conclude-in-View.ensures;
+})
