@@ -1,5 +1,5 @@
 #!/usr/bin/env python3
-"""Writes the scripts whose times are wanted into a folder: tools/cost_scripts.py FOLDER.
+"""Writes the scripts whose times are wanted into a folder, all or those that are named: tools/cost_scripts.py FOLDER [SCRIPT ..].
 
 No script has an object of more than half a region. All heaps but those that a name gives 256 or 512 regions, and those of
 actors, have 1,024 regions of 1,024 words, the largest that a heap line allows.
@@ -23,7 +23,8 @@ actors, have 1,024 regions of 1,024 words, the largest that a heap line allows.
 | actors_1, actors_16 | 50,000 steps of 1 or 16 mutators, in turn, each on an object of its own |
 | actors_1_base, actors_16_base | the same with 10,000 steps |
 | actors_1_long, actors_16_long | the same with 1,000,000 steps |
-| many_objects | 1,000,000 steps, nearly all of them make an object of 2 words that is lost; a marking cycle every 100,000 |
+| many_objects | 1,000,000 steps, nearly all of them make an object of 2 words that is lost; a marking cycle every 50,000 |
+| many_objects_P_V | the same with objects of P pointers and V data words |
 | many_fields | 1,000,000 steps that read and write fields of 1,000 objects, taken from a table |
 
 A pause copies at most half of the free words, so never more than a third of the heap, here 349,525 words.
@@ -245,12 +246,12 @@ def actors(mutators, steps):
     return lines + [f"{step % mutators} {kinds[step // mutators % 2]}" for step in range(steps)]
 
 
-def many_objects():
+def many_objects(pointers, values):
     lines = [heap(64)]
-    for step in range(1000000 - 30):
-        if step % 100000 == 99999:
+    for step in range(1000000 - 60):
+        if step % 50000 == 49999:
             lines += ["gc begin", "gc remark", "gc cleanup"]
-        lines.append("0 new r0 0 0")
+        lines.append(f"0 new r0 {pointers} {values}")
     return lines
 
 
@@ -289,7 +290,9 @@ SCRIPTS = {
     "chain_apart_base": lambda: chain_apart(0),
     **{f"actors_{count}{ending}": lambda count=count, steps=steps: actors(count, steps)
        for count in (1, 16) for ending, steps in ACTOR_STEPS.items()},
-    "many_objects": many_objects,
+    "many_objects": lambda: many_objects(0, 0),
+    **{f"many_objects_{pointers}_{values}": lambda pointers=pointers, values=values: many_objects(pointers, values)
+       for pointers, values in ((1, 0), (0, 1), (2, 2), (4, 4))},
     "many_fields": many_fields,
 }
 
@@ -302,10 +305,11 @@ def write(folder, names=SCRIPTS):
 
 
 def main():
-    if len(sys.argv) != 2 or sys.argv[1].startswith("-"):
-        print("usage: tools/cost_scripts.py FOLDER", file=sys.stderr)
+    names = sys.argv[2:] or SCRIPTS
+    if len(sys.argv) < 2 or sys.argv[1].startswith("-") or any(name not in SCRIPTS for name in names):
+        print("usage: tools/cost_scripts.py FOLDER [SCRIPT ..]", file=sys.stderr)
         sys.exit(2)
-    write(sys.argv[1])
+    write(sys.argv[1], names)
 
 
 if __name__ == "__main__":

@@ -34,7 +34,7 @@ class Drawer:
     """Draws one script. Each option left as None is drawn too."""
 
     def __init__(self, seed, steps=80, regions=None, words=None, buffer=None, mutators=None, large=None,
-                 weights=None):
+                 weights=None, card=None):
         self.random = random.Random(seed)
         self.chance = self.random.random
         self.steps = steps
@@ -71,6 +71,11 @@ class Drawer:
         self.marking = False
         self.marked_once = False
         self.lines = [f"heap {self.regions} {self.words} {self.buffer} {self.mutators} {self.first_name}"]
+        if card is None:
+            # Drawn apart, so that a seed's steps are the same in either format.
+            card = random.Random(f"card {seed}").choice((0, 0, 8, 16, min(self.words, 32), min(self.words, 64)))
+        if card:
+            self.lines = [f"{self.lines[0].replace('heap', 'heap2')} {card}"]
 
     def pick(self, choices):
         return choices[int(self.chance() * len(choices))]
@@ -407,6 +412,7 @@ def add_options(parser):
     parser.add_argument("--words", type=int, help="words a region")
     parser.add_argument("--buffer", type=int, help="words a buffer")
     parser.add_argument("--mutators", type=int, help="mutators")
+    parser.add_argument("--card", type=int, help="words a card: 8 to 64; 0 for the first format")
     parser.add_argument("--large", choices=("yes", "no"), help="with objects of more than half a region, or without")
     for name in WEIGHT_OPTIONS:
         never = "; 0: never" if name in COLLECTOR_STEPS else ""
@@ -419,7 +425,7 @@ def options_of(words):
     weights = {name: getattr(words, name) for name in WEIGHT_OPTIONS if getattr(words, name) is not None}
     return {"steps": words.steps, "regions": words.regions, "words": words.words, "buffer": words.buffer,
             "mutators": words.mutators, "large": None if words.large is None else words.large == "yes",
-            "weights": weights}
+            "weights": weights, "card": words.card}
 
 
 def main():

@@ -151,7 +151,7 @@ def fault_of(script, record, markers=0, refiners=0):
     background.update({f"f{number}": "refine 2" for number in range(refiners)})
     if scripts_of((actor, step) for actor, step, _ in events if actor not in background) != wanted:
         return "not an interleaving of the scripts"
-    regions, words, _, mutators, first_name = map(int, heap.split(" ")[1:])
+    regions, words, _, mutators, first_name = map(int, heap.split(" ")[1:6])
     graph = Graph(regions, words, mutators, first_name)
     for count, (actor, step, reply) in enumerate(events, 1):
         if background.get(actor, step) != step:

@@ -97,9 +97,11 @@ private:
 };
 
 bool read_sizes(Cursor line, Sizes& sizes) {
-    return line.text("heap ") && line.number(sizes.regions) && line.space() && line.number(sizes.words) &&
-           line.space() && line.number(sizes.buffer) && line.space() && line.number(sizes.mutators) &&
-           line.space() && line.number(largest_word, sizes.first_name) && line.at_end();
+    sizes.second = line.text("heap2 ");
+    return (sizes.second || line.text("heap ")) && line.number(sizes.regions) && line.space() &&
+           line.number(sizes.words) && line.space() && line.number(sizes.buffer) && line.space() &&
+           line.number(sizes.mutators) && line.space() && line.number(largest_word, sizes.first_name) &&
+           (!sizes.second || (line.space() && line.number(sizes.card))) && line.at_end();
 }
 
 bool read_mutator_step(Cursor& line, Step& step) {
@@ -222,11 +224,14 @@ LineFault read_script(const std::string& text, Script& script) {
 // The first fault of the sizes, none if they suit.
 const char* size_fault(const Sizes& sizes) {
     if (sizes.regions < 2 || sizes.regions > 1024) return "1 BadRegions";
-    if (sizes.words < 16 || sizes.words > 4096 || (sizes.words & (sizes.words - 1)) != 0 ||
-        sizes.regions * sizes.words > 1048576)
+    Number most_words = sizes.second ? 16384 : 4096, most = sizes.second ? 16777216 : 1048576;
+    if (sizes.words < 16 || sizes.words > most_words || (sizes.words & (sizes.words - 1)) != 0 ||
+        sizes.regions * sizes.words > most)
         return "2 BadWords";
     if (sizes.buffer < 4 || sizes.buffer > sizes.words / 2) return "3 BadBuffer";
     if (sizes.mutators < 1 || sizes.mutators > 16) return "4 BadMutators";
+    if (sizes.card < 8 || sizes.card > 64 || (sizes.card & (sizes.card - 1)) != 0 || sizes.card > sizes.words)
+        return "6 BadCard";
     return nullptr;
 }
 

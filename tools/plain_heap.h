@@ -18,8 +18,6 @@ using Word = std::uint64_t;
 using Address = std::uint32_t;
 using Number = std::uint32_t;
 
-constexpr Number card_words = 8;
-constexpr Number card_shift = 3;
 constexpr Number globals = 16;
 constexpr Number registers = 8;
 constexpr Number card_log_length = 4;
@@ -28,10 +26,13 @@ constexpr Number inline_cards = 16;
 constexpr Address nowhere = ~Address(0);
 constexpr Number no_region = ~Number(0);
 
-// What a heap line tells: regions, words a region, words a buffer, mutators and the first name.
+// What a heap line tells: regions, words a region, words a buffer, mutators, the first name, and words a card: 8 in the
+// first format, which also has lower limits.
 struct Sizes {
     Number regions, words, buffer, mutators;
     Word first_name;
+    Number card = 8;
+    bool second = false;
 };
 
 enum class Refusal : std::uint8_t { Nil = 1, NoField, Full, TooBig, NamesSpent, MarkRunning, NotMarking };
@@ -167,15 +168,16 @@ public:
     explicit Heap(const Sizes& sizes)
         : sizes_(sizes), region_shift_(Number(__builtin_ctz(sizes.words))),
           heap_words_(sizes.regions * sizes.words), half_region_(sizes.words / 2),
-          region_cards_(sizes.words / card_words), next_name_(sizes.first_name), words_(new Word[heap_words_]),
+          card_words_(sizes.card), card_shift_(Number(__builtin_ctz(sizes.card))),
+          region_cards_(sizes.words / card_words_), next_name_(sizes.first_name), words_(new Word[heap_words_]),
           roots_(globals + registers * sizes.mutators), regions_(sizes.regions), free_regions_(sizes.regions),
-          free_count_(sizes.regions), buffers_(sizes.mutators, Buffer{0, 0}), first_tile_(heap_words_ / card_words),
-          dirty_(heap_words_ / card_words), card_logs_(sizes.mutators * card_log_length),
-          card_log_counts_(sizes.mutators), queue_(heap_words_ / card_words), remembered_(sizes.regions),
+          free_count_(sizes.regions), buffers_(sizes.mutators, Buffer{0, 0}), first_tile_(heap_words_ / card_words_),
+          dirty_(heap_words_ / card_words_), card_logs_(sizes.mutators * card_log_length),
+          card_log_counts_(sizes.mutators), queue_(heap_words_ / card_words_), remembered_(sizes.regions),
           sources_(std::size_t(sizes.regions) * source_stride(sizes.regions)), previous_marks_(heap_words_),
           next_marks_(heap_words_), grey_(heap_words_), finger_(heap_words_),
           deletion_logs_(sizes.mutators * deletion_log_length), deletion_log_counts_(sizes.mutators),
-          covered_(heap_words_ / card_words), noted_(heap_words_ / card_words) {
+          covered_(heap_words_ / card_words_), noted_(heap_words_ / card_words_) {
         for (Number region = 0; region < sizes.regions; ++region) {
             make_free(region);
             free_regions_.add(region);
@@ -377,8 +379,8 @@ private:
 
     // Notes that a tile starts at `start`: the cards whose first word lies in it lead to it.
     void note_tile(Address start, Number size) {
-        Number end = (start + size - 1) >> card_shift;
-        for (Number card = (start + card_words - 1) >> card_shift; card <= end; ++card) first_tile_[card] = start;
+        Number end = (start + size - 1) >> card_shift_;
+        for (Number card = (start + card_words_ - 1) >> card_shift_; card <= end; ++card) first_tile_[card] = start;
     }
 
     // Placement.
@@ -421,8 +423,8 @@ private:
     void leave_filler(const Buffer& buffer) {
         if (buffer.next == buffer.end) return;
         words_[buffer.next] = filler_header(buffer.end - buffer.next);
-        Number last = (buffer.end - 1) >> card_shift;
-        if (last << card_shift >= buffer.next) first_tile_[last] = buffer.next;
+        Number last = (buffer.end - 1) >> card_shift_;
+        if (last << card_shift_ >= buffer.next) first_tile_[last] = buffer.next;
     }
 
     void retire_buffers() { std::fill(buffers_.begin(), buffers_.end(), Buffer{0, 0}); }
@@ -461,7 +463,7 @@ private:
         if (marking_) log_deletion(mutator, words_[field]);
         words_[field] = value;
         if (value != 0 && region_of(Address(value - 1)) != region_of(field)) {
-            Number card = field >> card_shift;
+            Number card = field >> card_shift_;
             if (!dirty_[card]) {
                 dirty_[card] = 1;
                 card_logs_[mutator * card_log_length + card_log_counts_[mutator]++] = card;
@@ -490,7 +492,7 @@ private:
         if (++queue_first_ == queue_.size()) queue_first_ = 0;
         --queue_count_;
         dirty_[card] = 0;
-        Number source = region_of(card << card_shift);
+        Number source = region_of(card << card_shift_);
         visit_fields(card, [&](Word& field) {
             Number region = region_of(Address(field - 1));
             if (region != source) remember(region, card, source);
@@ -500,8 +502,8 @@ private:
     // Gives each pointer word of a card that isn't nil and belongs to a kept object to `visit`.
     template <class Visit>
     void visit_fields(Number card, Visit visit) {
-        Address start = card << card_shift;
-        Address end = std::min(start + card_words, regions_[region_of(start)].top);
+        Address start = card << card_shift_;
+        Address end = std::min(start + card_words_, regions_[region_of(start)].top);
         if (start >= end) return;
         for (Address at = first_tile_[card]; at < end;) {
             Word header = words_[at];
@@ -624,7 +626,7 @@ private:
             if (pointer != 0) pointer = moved(pointer);
         covered_.drain([&](Number card) {
             // A card of a chosen region isn't outside; nor is one of a region that was free when the pause began.
-            if (regions_[region_of(card << card_shift)].role != Role::None) return;
+            if (regions_[region_of(card << card_shift_)].role != Role::None) return;
             visit_fields(card, [&](Word& field) {
                 if (regions_[region_of(Address(field - 1))].role != Role::Chosen) return;
                 field = moved(field);
@@ -652,7 +654,7 @@ private:
         for (Address field = at + 2; field < end; ++field) {
             if (words_[field] == 0) continue;
             words_[field] = moved(words_[field]);
-            if (region_of(Address(words_[field] - 1)) != number) noted_.add(field >> card_shift);
+            if (region_of(Address(words_[field] - 1)) != number) noted_.add(field >> card_shift_);
         }
     }
 
@@ -682,7 +684,7 @@ private:
     }
 
     const Sizes sizes_;
-    const Number region_shift_, heap_words_, half_region_, region_cards_;
+    const Number region_shift_, heap_words_, half_region_, card_words_, card_shift_, region_cards_;
 
     Word next_name_;
     // Not cleared at first: a word is written before it is read.

@@ -3,7 +3,8 @@ import re
 
 SMALL, LARGE = 2 ** 32 - 1, 2 ** 64 - 1
 NUMBER, REGISTER, GLOBAL = rb"(?:0|[1-9][0-9]*)", rb"r[0-7]", rb"g(?:[0-9]|1[0-5])"
-HEAP = re.compile(rb"heap (N) (N) (N) (N) (L)".replace(b"N", NUMBER).replace(b"L", NUMBER))
+HEAP = re.compile(rb"heap (N) (N) (N) (N) (N)".replace(b"N", NUMBER))
+HEAP2 = re.compile(rb"heap2 (N) (N) (N) (N) (N) (N)".replace(b"N", NUMBER))
 
 
 def form(text, *limits):
@@ -60,14 +61,18 @@ def event_fault(line, count, mutators):
     return None if equals and has_form(reply, REPLIES) else "7 BadReply"
 
 
-def sizes_fault(regions, words, buffer, mutators):
+def sizes_fault(regions, words, buffer, mutators, _name, card=None):
+    """The first fault of a heap line's numbers; a card is given in the second format alone."""
+    most_words, most = (4096, 1048576) if card is None else (16384, 16777216)
     if not 2 <= regions <= 1024:
         return "1 BadRegions"
-    if words & (words - 1) or not 16 <= words <= 4096 or regions * words > 1048576:
+    if words & (words - 1) or not 16 <= words <= most_words or regions * words > most:
         return "2 BadWords"
     if not 4 <= buffer <= words // 2:
         return "3 BadBuffer"
-    return None if 1 <= mutators <= 16 else "4 BadMutators"
+    if not 1 <= mutators <= 16:
+        return "4 BadMutators"
+    return "6 BadCard" if card is not None and (card not in (8, 16, 32, 64) or card > words) else None
 
 
 def read(text):
@@ -78,8 +83,8 @@ def read(text):
     sizes = None
     for place, line in enumerate(lines):
         if place == 0:
-            found = HEAP.fullmatch(line)
-            fits = found and all(int(word) <= limit for word, limit in zip(found.groups(), (SMALL,) * 4 + (LARGE,)))
+            found = HEAP.fullmatch(line) or HEAP2.fullmatch(line)
+            fits = found and all(int(word) <= limit for word, limit in zip(found.groups(), (SMALL,) * 4 + (LARGE, SMALL)))
             fault = "2 LongLine" if len(line) > 120 else None if fits else "3 BadHeap"
             sizes = [int(word) for word in found.groups()] if fits else None
         else:
@@ -88,7 +93,7 @@ def read(text):
             return None, f"g1heap: line {place + 1}: {fault}\n"
     if last:
         return None, f"g1heap: line {len(lines) + 1}: 1 Cut\n"
-    fault = sizes_fault(*sizes[:4])
+    fault = sizes_fault(*sizes)
     if fault:
         return None, f"g1heap: heap: {fault}\n"
     return [line.decode("ascii") for line in lines], None

@@ -9,7 +9,7 @@ use Rattle.regions.specs.Shaped.{IsShaped}
 use Rattle.regions.specs.Table.{Table, used_of, top_of, kind_of, tile_in, released}
 use Rattle.regions.proofs.Tiles.Placing.{Pushed}
 use Rattle.regions.proofs.Tiles.Released.{region_released, used_stays, kind_stays, row_within, tile_below_top, filler_within}
-use Rattle.alloc_buffers.specs.declared.Buffer.{Buffer}
+use Rattle.alloc_buffers.specs.declared.buffers.Buffer.{Buffer}
 use Rattle.alloc_buffers.specs.Placement.{Buffers, BuffersStand, IsAbove, AreAbove}
 
 -- no address is in two regions

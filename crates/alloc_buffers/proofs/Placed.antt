@@ -3,19 +3,19 @@ use Rattle.std.proofs.Common.{◌≡◌, ◌≢◌, ℕ, zero, suc, ◌+◌, ◌
 use Rattle.std.specs.Prelude.{slice_get, slice_set}
 use Rattle.std.proofs.lemmas.Bool.Decides.{leb_tells}
 use Rattle.std.proofs.lemmas.List.{length-set, get_or-set_other}
-use Rattle.std.proofs.lemmas.Option.{slice_get-get_or}
-use Rattle.std.proofs.Common.{get_or, replicate}
+use Rattle.std.proofs.Common.{replicate}
 use Rattle.std.proofs.lemmas.Bool.{cases_lt, cases_eq}
 use Rattle.heap_model.proofs.Lists.{get-set_cases, get-set_same, get-set_other}
 use Rattle.regions.specs.Tiles.{Tile, Filler, tile_at, total_size}
 use Rattle.regions.specs.declared.row.Kind.TheVariants as kinds
-use Rattle.regions.specs.Walks.{AllPositive, AreFitting}
-use Rattle.regions.specs.Table.{Table, Free, Ordinary, nth_region, region_kind, used_of, top_of, kind_of, first_free, taken, push_tile, replace_tile, remainder, tile_in, object_at, HasNoForwarded, EachForwarded, tile_object}
+use Rattle.regions.specs.Walks.{AreFitting}
+use Rattle.regions.specs.Table.{Table, Free, Ordinary, nth_region, region_kind, used_of, top_of, kind_of, first_free, taken, push_tile, replace_tile, remainder, tile_in, object_at, HasNoForwarded, tile_object}
 use Rattle.regions.proofs.Tiles.Placing.{remainder_total, remainder_positive, remainder_unmoved, Replaces, filler_replaced, Pushed, filler_push, region_taken}
 use Rattle.regions.proofs.Tiles.Changes.{object_same}
+use Rattle.regions.proofs.LongRuns.Blocks.{void_object}
 use Rattle.alloc_buffers.proofs.Above.{above_same, above_buffers, above_pushed, above_filler}
-use Rattle.alloc_buffers.specs.declared.Buffer.{Buffer}
-use Rattle.alloc_buffers.specs.declared.Place.TheVariants as places
+use Rattle.alloc_buffers.specs.declared.buffers.Buffer.{Buffer}
+use Rattle.alloc_buffers.specs.declared.placement.Place.TheVariants as places
 use Rattle.alloc_buffers.specs.Placement.{Buffers, BuffersStand, HasFiller, IsPlaced, HasRoom, buffer_of, with_buffer, IsAbove, AreAbove, alone, room_for, in_new_buffer, with_filler, closed}
 
 -- an open buffer is at its address
@@ -26,10 +26,6 @@ buffer_at next (suc n) x e = let same : record { next = next; rest = suc n } ≡
 object_none : (t : Table) (y n : ℕ) → tile_in t y ≡ Some (Filler n) → object_at t y ≡ None
 unfolding object_at
 object_none t y n e = rw e refl
-
-object_void : (t : Table) (y : ℕ) → tile_in t y ≡ None → object_at t y ≡ None
-unfolding object_at
-object_void t y e = rw e refl
 
 alone_void : (n j : ℕ) → tile_object (tile_at j (remainder n)) ≡ None
 alone_void zero j = refl
@@ -74,7 +70,7 @@ top_placed t t1 t2 b opens k w size a s none r p old count =
       filler = p.is;
       spare = apart;
       objects = λ y. elim (cases_eq y a) [
-        | inl q ↦ rw q (object_none t2 a size p.is ∙ sym (object_void t a (sym (r.tiles a) ∙ p.was)))
+        | inl q ↦ rw q (object_none t2 a size p.is ∙ sym (void_object t a (sym (r.tiles a) ∙ p.was)))
         | inr n ↦ object_same t t2 y (p.others y n ∙ r.tiles y)
       ];
       unmoved = p.unmoved (r.unmoved none);
@@ -116,7 +112,7 @@ rest_placed t t2 t3 b b2 m k size rest a a2 s p z =
         | inr q ↦ s.spare n x q.1
       ];
       objects = λ y. elim (cases_eq y a2) [
-        | inl q ↦ rw q (object_none t3 a2 rest p.is ∙ sym (sym (s.objects a2) ∙ object_void t2 a2 p.was))
+        | inl q ↦ rw q (object_none t3 a2 rest p.is ∙ sym (sym (s.objects a2) ∙ void_object t2 a2 p.was))
         | inr n ↦ object_same t2 t3 y (p.others y n) ∙ s.objects y
       ];
       unmoved = p.unmoved s.unmoved;
@@ -233,7 +229,7 @@ split_placed t t' b m size x s none z fitting here p le is =
               let after : object_at t' y ≡ None = object_by t' y _ (ap (tile_in t') (sym at) ∙ w.within (y - x.next) (omega arith)) (parts_void size r (y - x.next)) in
               let before : object_at t y ≡ None = elim (cases_eq y x.next) [
                 | inl same ↦ object_none t y n (ap (tile_in t) same ∙ f.filler)
-                | inr differ ↦ object_void t y (ap (tile_in t) (sym at) ∙ w.inside (y - x.next) (omega arith) (omega arith))
+                | inr differ ↦ void_object t y (ap (tile_in t) (sym at) ∙ w.inside (y - x.next) (omega arith) (omega arith))
               ] in
               after ∙ sym before
           | inr past ↦ object_same t t' y (w.others y (inr past))
@@ -289,9 +285,6 @@ split_placed t t' b m size x s none z fitting here p le is =
         let place : x.next + size ≡ u.next = sym at.0 ∙ h in
         let void : tile_in t u.next ≡ None = ap (tile_in t) (sym place) ∙ w.inside size p (omega (arith, at.2)) in
         let filler = g.filler in cc
-
-pub opened : (items : List (Option Buffer)) (m : ℕ) (v : Option Buffer) (x : Buffer) → m < length items → v ≡ get_or items m v → v ≡ Some x → slice_get items m ≡ Some (Some x)
-opened items m v x k e is = slice_get-get_or items m v k ∙ ap Some (sym e ∙ is)
 
 -- an object of its own at a region's top, by the steps that push its filler
 pub alone_placed : (t t1 t2 : Table) (c b : Buffers) (n k size a : ℕ) → c ≡ b → BuffersStand t b → HasNoForwarded t → HasRoom t t1 k size → n ≡ k → 0 < t1.words_per_region → AreFitting t1 → 0 < size → a ≡ n * t1.words_per_region + used_of t1 n → t2 ≡ push_tile t1 n (Filler size)

@@ -4,8 +4,8 @@ use Rattle.std.specs.Prelude.{IfOk, OnErr}
 use Rattle.std.proofs.lemmas.List.{length-replicate}
 use Rattle.regions.specs.Table.{Table, HasNoForwarded, free_table}
 use Rattle.alloc_buffers.specs.Placement.{Buffers, BuffersStand, IsPlace, closed}
-use Rattle.alloc_buffers.specs.declared.Place.{Place}
-use Rattle.alloc_buffers.specs.declared.Place.TheVariants as places
+use Rattle.alloc_buffers.specs.declared.placement.Place.{Place}
+use Rattle.alloc_buffers.specs.declared.placement.Place.TheVariants as places
 
 -- a table of regions of so many words, and the buffers of so many mutators
 pub record IsReady (regions region words mutators : ℕ) (t : Table) (b : Buffers) : Type 0 where

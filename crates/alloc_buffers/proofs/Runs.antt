@@ -1,11 +1,11 @@
 -- Runs are made and released: tables, open buffers and limits.
-use Rattle.std.proofs.Common.{◌≡◌, ◌≢◌, ℕ, ◌+◌, ◌*◌, ◌/◌, ◌<◌, ◌≤◌, ◌⊎◌, Some, None, refl, sym, ◌∙◌, ap, subst, arith, inl, inr}
-use Rattle.std.proofs.lemmas.Bool.{cases_lt}
+use Rattle.std.proofs.Common.{◌≡◌, ◌≢◌, ℕ, ◌+◌, ◌*◌, ◌/◌, ◌<◌, ◌≤◌, Some, None, refl, sym, ◌∙◌, ap, subst, arith, inl, inr}
 use Rattle.heap_model.specs.Heap.{Stored}
 use Rattle.regions.specs.declared.row.Kind.TheVariants as kinds
 use Rattle.regions.specs.Shaped.{IsShaped}
 use Rattle.regions.specs.Table.{Table, Region, Free, Ordinary, First, Rest, region_kind, nth_region, region_used, used_of, kind_of, tile_in, is_free, first_run, with_regions, run_regions}
 use Rattle.regions.proofs.Tiles.Spliced.{IsOutside}
+use Rattle.regions.proofs.LongRuns.Blocks.{block_cases}
 use Rattle.regions.proofs.LongRuns.RunMade.{length-run_regions}
 use Rattle.regions.proofs.Tiles.Released.{row_within}
 use Rattle.regions.proofs.LongRuns.RunLaws.{TakesRun, run_made, regions_spliced, tile_of_region}
@@ -30,14 +30,6 @@ used_same : (t t' : Table) (q : ℕ) → t'.words_per_region ≡ t.words_per_reg
 unfolding used_of
 used_same t t' q size e = ap (λ (n : ℕ). region_used n (nth_region t' q)) size ∙ ap (λ (r : Region). region_used t.words_per_region r) e
 
--- regions k and so on, m of them, are inside or outside
-inside : (k m q : ℕ) → IsOutside k m q ⊎ ((k ≤ q) × (q < k + m))
-inside k m q =
-    elim (cases_lt q k) [
-      | inl lt ↦ inl (inl lt)
-      | inr ge ↦ elim (cases_lt q (k + m)) [ inl lt ↦ inr (ge, lt) | inr past ↦ inl (inr past) ]
-    ]
-
 -- a run of count free regions is made an object
 module _ (t : Table) (k count : ℕ) (s : Stored) (shaped : IsShaped t) (positive : 0 < count) (lowest : first_run is_free count t.regions ≡ Some k) where
   abbrev made : Table
@@ -59,7 +51,7 @@ module _ (t : Table) (k count : ℕ) (s : Stored) (shaped : IsShaped t) (positiv
   pub run_stands : (b : Buffers) → BuffersStand t b → BuffersStand made b
   run_stands b st = record {
     known = λ j e. rw takes.count (st.known j e);
-    ordinary = λ j e. elim (inside k count j) [
+    ordinary = λ j e. elim (block_cases k count j) [
       | inl out ↦ takes.kinds_same j out ∙ st.ordinary j e
       | inr q ↦ absurd (let was = takes.was_free j q.0 q.1 in let is = st.ordinary j e in let no : kinds.Free ≡ kinds.Ordinary = sym was ∙ is in cc)
     ];
@@ -81,7 +73,7 @@ module _ (t : Table) (k count : ℕ) (s : Stored) (shaped : IsShaped t) (positiv
             let same : k ≡ j = let z = shaped.positive in sym (row_within (k * size) k size z (omega arith) (omega arith)) ∙ row_within (k * size) j size z jl jh in
             subst (λ (q : ℕ). limit q ≤ k * size) same (low k (omega arith) (omega arith)),
         record {
-          tops = λ j h. elim (inside k count j) [
+          tops = λ j h. elim (block_cases k count j) [
             | inl out ↦ let was = above.tops j (let c = takes.count in omega arith) in let same = used_outside j out in omega arith
             | inr q ↦ let le = low j q.0 q.1 in omega arith
           ];

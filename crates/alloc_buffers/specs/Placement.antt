@@ -4,9 +4,9 @@ use Rattle.heap_model.specs.Heap.{Stored}
 use Rattle.regions.specs.Tiles.{Filler, Object}
 use Rattle.regions.specs.declared.row.Kind.TheVariants as kinds
 use Rattle.regions.specs.Table.{Table, used_of, top_of, kind_of, first_free, taken, push_tile, replace_tile, remainder, tile_in, object_at, HasNoForwarded, first_run, is_free, with_regions, run_regions}
-use Rattle.alloc_buffers.specs.declared.Buffer.{Buffer}
-use Rattle.alloc_buffers.specs.declared.Place.{Place}
-use Rattle.alloc_buffers.specs.declared.Place.TheVariants as places
+use Rattle.alloc_buffers.specs.declared.buffers.Buffer.{Buffer}
+use Rattle.alloc_buffers.specs.declared.placement.Place.{Place}
+use Rattle.alloc_buffers.specs.declared.placement.Place.TheVariants as places
 
 pub record Buffers : Type 0 where
   -- how many words a new buffer gets
@@ -112,6 +112,13 @@ pub record BuffersStand (t : Table) (b : Buffers) : Type 0 where
   pub ordinary : (k : ℕ) → b.current ≡ Some k → kind_of t k ≡ kinds.Ordinary
   pub fillers : (m : ℕ) (x : Buffer) → slice_get b.open_buffers m ≡ Some (Some x) → HasFiller t x
   pub apart : (m n : ℕ) (x y : Buffer) → slice_get b.open_buffers m ≡ Some (Some x) → slice_get b.open_buffers n ≡ Some (Some y) → x.next ≡ y.next → m ≡ n
+
+-- what placing an object of a size asks for: it has words, a buffer is no larger than a region, nothing was moved, and buffers stand
+pub record CanPlace (t : Table) (b : Buffers) (size : ℕ) : Type 0 where
+  pub positive : 0 < size
+  pub buffers : b.words ≤ t.words_per_region
+  pub unmoved : HasNoForwarded t
+  pub stand : BuffersStand t b
 
 -- the address lies at or above the limit of its region. Limits are an address for each region
 abbrev pub IsAbove : ℕ → (ℕ → ℕ) → ℕ → Type 0

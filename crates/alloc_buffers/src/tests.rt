@@ -2,7 +2,7 @@
 
 use crate::{AllocBuffers, Full, Place};
 use heap_words::addr::RegionNo;
-use heap_words::config::Config;
+use heap_words::config::{Config, Format};
 use regions::RegionTable;
 use std::test::Fail;
 
@@ -24,6 +24,7 @@ fn address(place: Place, size: u32) -> u32 {
 #[test]
 fn places(rt: HostRuntime) -> Result<(), Fail> {
     let config = Config {
+        format: Format::V1,
         regions: 2,
         words: 16,
         buffer: 4,

@@ -5,6 +5,7 @@ use Rattle.heap_model.specs.Relocation.{IsMoved}
 use Rattle.heap_model.specs.Evacuation.{IsEvacuating, IsReached, place_after}
 use Rattle.regions.specs.Tiles.{Object, tile_size}
 use Rattle.object_copy.specs.Copies.{Places}
+use Rattle.refinement.specs.Remembering.{field_word}
 use Rattle.evacuation.specs.Evacuates.{words_at}
 
 -- what stays the same: how many words a region and a card have, and which regions are evacuated
@@ -47,9 +48,6 @@ pub record IsField (s : Space) (a i : ℕ) : Type 0 where
 abbrev pub filled : Space → Option ℕ → Option ℕ
 filled s None = None
 filled s (Some k) = Some (s.used k)
-
-abbrev pub field_at : ℕ → ℕ → ℕ
-field_at b i = b + 2 + i
 
 -- ---- room: each object has at most half of a region's words, so a destination that is closed for want of room is more
 -- than half full
@@ -134,8 +132,8 @@ pub record NewCrossing (l : Layout) (s s' : Space) (d' : Places) (card : ℕ) : 
   pub outside : set_of l at ≡ false
   pub field : slice_get (fields object) index ≡ Some (Some target)
   pub clean : set_of l target ≡ false
-  pub in_card : field_at at index / l.card_words ≡ card
-  pub leaves : target / l.words ≢ field_at at index / l.words
+  pub in_card : field_word at index / l.card_words ≡ card
+  pub leaves : target / l.words ≢ field_word at index / l.words
   pub is_new : IsTaken d' (at / l.words) ⊎ ((y : Stored) → s.object at ≡ Some y → (v : ℕ) × (slice_get (fields y) index ≡ Some (Some v)) × (set_of l v ≡ true))
 
 -- Objects outside the set stay, and each of their fields is as it was or was updated. New ones stand above what was handed out
@@ -151,13 +149,13 @@ pub record IsAfter (l : Layout) (noted noted' : List Bool) (s s' : Space) (d d' 
   pub new_above : (b : ℕ) (y : Stored) → set_of l b ≡ false → s'.object b ≡ Some y → IsObject s b ⊎ (b / l.words * l.words + s.used (b / l.words) ≤ b)
   pub closed : (k : ℕ) → IsTaken d k → d.last ≢ Some k → ((b : ℕ) (y : Stored) → b / l.words ≡ k → s'.object b ≡ Some y → IsObject s b) × (d'.last ≢ Some k)
   pub fields : (b : ℕ) (y y' : Stored) (i : ℕ) (w : Option ℕ) → set_of l b ≡ false → s.object b ≡ Some y → s'.object b ≡ Some y' → slice_get (fields y') i ≡ Some w
-      → (slice_get (fields y) i ≡ Some w) ⊎ ((v : Option ℕ) × (slice_get (fields y) i ≡ Some v) × IsUpdated l noted' (field_at b i) v w)
+      → (slice_get (fields y) i ≡ Some w) ⊎ ((v : Option ℕ) × (slice_get (fields y) i ≡ Some v) × IsUpdated l noted' (field_word b i) v w)
 
 abbrev pub IsFieldClean : Layout → Space → ℕ → ℕ → Type 0
 IsFieldClean l s b i = (y : Stored) (w : Option ℕ) → s.object b ≡ Some y → slice_get (fields y) i ≡ Some w → IsClean l w
 
 abbrev pub IsFieldSettled : Layout → List Bool → Space → ℕ → ℕ → Type 0
-IsFieldSettled l noted s b i = (y : Stored) (w : Option ℕ) → s.object b ≡ Some y → slice_get (fields y) i ≡ Some w → IsSettled l noted (field_at b i) w
+IsFieldSettled l noted s b i = (y : Stored) (w : Option ℕ) → s.object b ≡ Some y → slice_get (fields y) i ≡ Some w → IsSettled l noted (field_word b i) w
 
 abbrev pub IsObjectSettled : Layout → List Bool → Space → ℕ → Type 0
 IsObjectSettled l noted s b = (i : ℕ) → IsFieldSettled l noted s b i
@@ -172,15 +170,15 @@ pub record IsVisited (l : Layout) (p : Plan) (visited : List Bool) (b i : ℕ) :
   pub at : p.heap.kept b ≡ Some object
   pub outside : set_of l b ≡ false
   pub within : i < length (fields object)
-  pub card : flag visited (field_at b i / l.card_words) ≡ true
+  pub card : flag visited (field_word b i / l.card_words) ≡ true
 
 -- those of the cards below one are clean
 abbrev pub AreClean : Layout → Plan → List Bool → Space → ℕ → Type 0
-AreClean l p visited s card = (b i : ℕ) → IsVisited l p visited b i → field_at b i / l.card_words < card → IsFieldClean l s b i
+AreClean l p visited s card = (b i : ℕ) → IsVisited l p visited b i → field_word b i / l.card_words < card → IsFieldClean l s b i
 
 -- a field outside the set that names the set lies in a card that is visited
 abbrev pub AllVisited : Layout → Plan → List Bool → Type 0
-AllVisited l p visited = (b i a : ℕ) (x : Stored) → p.heap.kept b ≡ Some x → set_of l b ≡ false → slice_get (fields x) i ≡ Some (Some a) → set_of l a ≡ true → flag visited (field_at b i / l.card_words) ≡ true
+AllVisited l p visited = (b i a : ℕ) (x : Stored) → p.heap.kept b ≡ Some x → set_of l b ≡ false → slice_get (fields x) i ≡ Some (Some a) → set_of l a ≡ true → flag visited (field_word b i / l.card_words) ≡ true
 
 -- ---- roots
 -- the word's target is where it is now

@@ -9,7 +9,8 @@ use Rattle.mark_bitmap.specs.Tops.{Tops}
 use Rattle.mark_bitmap.specs.Kept.{MarksObjects, heap_in, kept_in}
 use Rattle.object_copy.specs.Copies.{Places}
 use Rattle.evacuation.specs.Evacuates.{IsSameBut, stored_words}
-use Rattle.evacuation.specs.Space.{Layout, Plan, Space, IsAfter, IsCopying, IsPlan, IsSettled, IsTaken, field_at, flag, set_of}
+use Rattle.refinement.specs.Remembering.{field_word}
+use Rattle.evacuation.specs.Space.{Layout, Plan, Space, IsAfter, IsCopying, IsPlan, IsSettled, IsTaken, flag, set_of}
 
 -- the heap at the start, and what was chosen
 pub record Pause : Type 0 where
@@ -103,7 +104,7 @@ WasField p b i w = (x : Stored) × ((plan p).heap.kept b ≡ Some x) × (slice_g
 -- Once all is copied: a field outside the set is the one that stood there, or settled: it names nothing of the set, and where it
 -- leads to another region, its card is noted
 pub record AreFieldsNoted (p : Pause) (noted : List Bool) (t : Table) : Type 0 where
-  pub field : (b i : ℕ) (y : Stored) (w : Option ℕ) → kept_now p t b ≡ Some y → in_set p b ≡ false → slice_get (fields y) i ≡ Some w → WasField p b i w ⊎ IsSettled (layout p) noted (field_at b i) w
+  pub field : (b i : ℕ) (y : Stored) (w : Option ℕ) → kept_now p t b ≡ Some y → in_set p b ≡ false → slice_get (fields y) i ≡ Some w → WasField p b i w ⊎ IsSettled (layout p) noted (field_word b i) w
 
 -- no field outside the set names the set
 abbrev pub AreFieldsClean : Pause → Table → Type 0

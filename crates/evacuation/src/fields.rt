@@ -3,7 +3,8 @@
 ghost use Rattle.std.specs.Prelude.{◌≡◌, ◌≢◌, ◌⊎◌, ◌*◌, ◌/◌, ◌<◌, ℕ, Bool, true, false, List, Option, Some, length, slice_get};
 ghost use Rattle.heap_model.specs.Heap.{Stored};
 ghost use Rattle.regions.specs.Table.{tile_in, moved_to};
-ghost use Rattle.evacuation.specs.Space.{flag, set_of, field_at, IsField, IsNamed, IsNewWord, IsNoted, IsFieldClean, IsFieldSettled, IsObject, IsTaken};
+ghost use Rattle.refinement.specs.Remembering.{field_word};
+ghost use Rattle.evacuation.specs.Space.{flag, set_of, IsField, IsNamed, IsNewWord, IsNoted, IsFieldClean, IsFieldSettled, IsObject, IsTaken};
 ghost use Rattle.evacuation.specs.Turns.{Pause, IsPause, IsTurn, After, EachCard, in_set, layout, plan, space, kept_now};
 
 use heap_words::addr::{Addr, Ptr};

@@ -7,7 +7,8 @@
 ghost use Rattle.std.specs.Prelude.{◌≡◌, ◌<◌, ◌+◌, ◌*◌, ◌/◌, ℕ, Bool, List, Some, IsSome, false, length};
 ghost use Rattle.regions.specs.Table.{tile_in};
 ghost use Rattle.regions.specs.Walks.{IsHolder};
-ghost use Rattle.evacuation.specs.Space.{IsFieldClean, IsObject, IsVisited, field_at, AreClean};
+ghost use Rattle.refinement.specs.Remembering.{field_word};
+ghost use Rattle.evacuation.specs.Space.{IsFieldClean, IsObject, IsVisited, AreClean};
 ghost use Rattle.evacuation.specs.Turns.{Pause, IsPause, IsTurn, After, EachCard, in_set, layout, plan, space};
 ghost use Rattle.evacuation.specs.Cursors.{AreCardsFieldsClean, IsCardClean};
 
@@ -175,7 +176,7 @@ fn update_tile(
     ensures after { After pause noted.old noted.new table.old table.new destinations.old destinations.new }
     ensures each_card { EachCard pause noted.new }
     ensures tile { IsSome (tile_in table.new at) }
-    ensures clean { (visited : List Bool) (i : ℕ) → IsVisited (layout pause) (plan pause) visited at i → field_at at i / pause.card_words ≡ card → IsFieldClean (layout pause) (space pause table.new) at i }
+    ensures clean { (visited : List Bool) (i : ℕ) → IsVisited (layout pause) (plan pause) visited at i → field_word at i / pause.card_words ≡ card → IsFieldClean (layout pause) (space pause table.new) at i }
 {
     table.law();
     let shape = table.tile(at);

@@ -11,7 +11,7 @@ use crate::{Moved, PauseRoom, evacuate};
 use cards::CardTable;
 use heap_words::addr::{Addr, Card, Ptr, RegionNo};
 use heap_words::bounded::BoundedBits;
-use heap_words::config::Config;
+use heap_words::config::{Config, Format};
 use heap_words::header::{Count, Counts, FillerSize};
 use mark_bitmap::bitmaps::Bitmaps;
 use mark_bitmap::tams::Tams;
@@ -35,6 +35,7 @@ fn free_regions(alloc: Global) -> Result<RegionTable, Fail>
     ensures free { IfOk result (λ table. table ≡ free_table 4 16) }
 {
     let sizes = Config {
+        format: Format::V1,
         regions: 4,
         words: 16,
         buffer: 8,

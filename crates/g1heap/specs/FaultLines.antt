@@ -19,6 +19,7 @@ sizes_words sizes.BadWords = codes "heap: 2 BadWords"
 sizes_words sizes.BadBuffer = codes "heap: 3 BadBuffer"
 sizes_words sizes.BadMutators = codes "heap: 4 BadMutators"
 sizes_words sizes.NoMemory = codes "heap: 5 NoMemory"
+sizes_words sizes.BadCard = codes "heap: 6 BadCard"
 
 abbrev pub run_words : RunFault → List ℕ
 run_words runs.BadWorkers = codes "run: 1 BadWorkers"

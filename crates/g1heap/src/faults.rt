@@ -49,6 +49,7 @@ fn sizes_words(fault: NewFault) -> &'static [u8]
         NewFault::BadBuffer => b"heap: 3 BadBuffer",
         NewFault::BadMutators => b"heap: 4 BadMutators",
         NewFault::NoMemory => b"heap: 5 NoMemory",
+        NewFault::BadCard => b"heap: 6 BadCard",
     }
 }
 

@@ -62,8 +62,8 @@ impl<'a> Job<'a> {
 /// What stands behind the list of subcommands.
 const FORMATS: &str = "\
 FILE is lines. A script's first is `heap REGIONS WORDS BUFFER MUTATORS FIRST`, the heap's sizes and the
-first object's name; each other one is a step of a mutator, as `0 new r0 1 1`, or of the collector, as
-`gc begin`. A record's lines have a count before the step and ` = REPLY` behind it.
+first object's name, or `heap2` with these and the words of a card, for a larger heap; each other one is
+a step of a mutator, as `0 new r0 1 1`, or of the collector, as `gc begin`. A record's lines have a count before the step and ` = REPLY` behind it.
 
 Status: 0, done; 1, a fault, told on standard error; 2, a command line that isn't understood; 3, `check` says no.
 

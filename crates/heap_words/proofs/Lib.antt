@@ -4,3 +4,4 @@ pub mod BitWords
 pub mod LowestBits
 pub mod BitRanges
 pub mod Bounds
+pub mod Limits

@@ -1,4 +1,5 @@
 -- How large live bounds are, and how they are summed.
+use Rattle.heap_words.specs.Configs.{max_region_words}
 use Rattle.std.proofs.Common.{◌≡◌, ℕ, zero, suc, ◌+◌, ◌-◌, ◌*◌, ◌^◌, ◌<◌, ◌≤◌, Bool, true, false, List, Option, Some, None, length, get_or, refl, sym, ap, ◌∙◌, arith}
 use Rattle.std.specs.Prelude.{if◌then◌else◌, IsSome}
 use Rattle.std.proofs.lemmas.Bool.{lt-ltb}
@@ -148,7 +149,7 @@ words_more t marks from at found next low l e =
 
 -- in a region it is no more than the region's words
 pub words_small : (t : Table) (marks : List Bool) (k from to : ℕ) → IsShaped t → kind_of t k ≡ kinds.Ordinary → from ≡ k * t.words_per_region → from ≤ to → to ≤ k * t.words_per_region + t.words_per_region
-    → words_between t marks from to ≤ 2 ^ 12
+    → words_between t marks from to ≤ max_region_words
 words_small t marks k from to shape ordinary e low high =
     let p = spans t k shape ordinary in
     omega (arith, marked_used t marks k from (to - from) p (omega (arith, e)) (omega (arith, low, high)), p.top_le, shape.small, e)
@@ -163,7 +164,7 @@ module _ (t : Table) (marks : List Bool) (from at live : ℕ) (low : from ≤ at
   words_next found next size l e s = omega (arith, so_far, s, words_more t marks from at found next low l e)
 
   pub words_fit : (k found size : ℕ) → IsShaped t → kind_of t k ≡ kinds.Ordinary → from ≡ k * t.words_per_region → found < k * t.words_per_region + t.words_per_region
-      → IsLowest (is_marked marks) at found → size ≡ object_words t found → live + size ≤ 2 ^ 12
+      → IsLowest (is_marked marks) at found → size ≡ object_words t found → live + size ≤ max_region_words
   words_fit k found size shape ordinary e high l s =
       omega (arith, words_next found (found + 1) size l refl s, words_small t marks k from (found + 1) shape ordinary e (omega (arith, low, l.at_least)) (omega (arith, high)))
 

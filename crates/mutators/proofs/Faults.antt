@@ -1,5 +1,5 @@
 -- A run's own faults aren't those of counts.
-use Rattle.std.proofs.Common.{◌≡◌, ◌≢◌, ◌<◌, ◌≤◌, ◌⊎◌, ℕ, arith, subst, refl}
+use Rattle.std.proofs.Common.{◌≡◌, ◌≢◌, ◌<◌, ◌≤◌, ◌⊎◌, ℕ, arith, subst}
 use Rattle.std.specs.Prelude.{◌↔◌, Err, Result}
 use Rattle.heap_words.specs.declared.config.Config.{Config}
 use Rattle.step_core.specs.declared.runs.RunFault.{RunFault}

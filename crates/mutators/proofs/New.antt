@@ -1,11 +1,11 @@
 -- A new journal keeps what every journal keeps.
-use Rattle.std.proofs.Common.{◌≡◌, ℕ, ◌+◌, ◌<◌, ◌≤◌, ◌==◌, Bool, true, false, cond, List, [], ◌∷◌, length, take, map, get_or, refl, sym, ap, ◌∙◌, subst, arith, zero, suc}
+use Rattle.std.proofs.Common.{◌≡◌, ℕ, ◌+◌, ◌≤◌, Bool, true, false, cond, List, [], ◌∷◌, length, map, get_or, refl, sym, ap, ◌∙◌, subst, arith, zero, suc}
 use Rattle.std.specs.Prelude.{All, slice_index}
 use Rattle.std.proofs.lemmas.Bool.{eqb-true}
 use Rattle.std.proofs.lemmas.List.{length-map}
 use Rattle.heap_words.specs.declared.config.Config.{Config}
 use Rattle.heap_words.specs.Configs.{Suits}
-use Rattle.object_graph.specs.Actors.{IsStep, AreSteps}
+use Rattle.object_graph.specs.Actors.{IsStep}
 use Rattle.object_graph.specs.declared.step.Actor.{Actor}
 use Rattle.object_graph.specs.declared.step.Actor.TheVariants.{Mutator, Collector, Marker, Refiner}
 use Rattle.object_graph.specs.declared.step.Step.{Step}
@@ -14,7 +14,7 @@ use Rattle.step_core.specs.Stands.{CoreState, Stands, IsCore}
 use Rattle.step_core.specs.Fresh.{fresh_core, fresh_state}
 use Rattle.step_core.specs.Histories.{actor_of, RunsTo}
 use Rattle.mutators.specs.Scripts.{same_actor, scripted, lines_of}
-use Rattle.mutators.specs.Journals.{JournalState, Keeps, IsLine}
+use Rattle.mutators.specs.Journals.{Keeps, IsLine}
 use Rattle.mutators.proofs.Own.{runs_none}
 
 same_is : (a b : Actor) → same_actor a b ≡ true → b ≡ a

@@ -1,6 +1,6 @@
 -- The events of a journal are those of a record, and its core goes on by a step.
-use Rattle.std.proofs.Common.{◌≡◌, ℕ, List, [], ◌∷◌, ◌++◌}
-use Rattle.std.specs.Prelude.{All, ◌↔◌}
+use Rattle.std.proofs.Common.{◌≡◌, List, [], ◌∷◌, ◌++◌}
+use Rattle.std.specs.Prelude.{◌↔◌}
 use Rattle.heap_words.specs.declared.config.Config.{Config}
 use Rattle.object_graph.specs.Actors.{AreEvents, IsStepOf}
 use Rattle.object_graph.specs.declared.step.Actor.{Actor}
@@ -16,7 +16,7 @@ use Rattle.object_graph.specs.declared.step.Refusal.TheVariants as refusals
 use Rattle.step_core.specs.Answers.{Follows, IsFullStep}
 use Rattle.step_core.specs.Cycle.{Does}
 use Rattle.step_core.proofs.Cores.Following.{goes_on, none_yet}
-use Rattle.mutators.specs.Scripts.{IsOwn, AreOwn, mark_4, refine_2}
+use Rattle.mutators.specs.Scripts.{IsOwn, AreOwn}
 use Rattle.std.proofs.Common.{sym, subst}
 
 own_is : (c : Config) (a : Actor) (s : Step) → IsOwn c a s → IsStepOf c a s

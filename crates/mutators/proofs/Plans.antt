@@ -1,34 +1,18 @@
 -- A journal that does a plan: a turn keeps it, and at its end the record is the plan's.
-use Rattle.std.proofs.Common.{◌≡◌, ℕ, ◌+◌, ◌<◌, ◌≤◌, Bool, List, [], ◌∷◌, ◌++◌, Ok, Err, ap, sym, ◌∙◌, subst, arith, get_or, zero, suc, take, length, refl}
-use Rattle.std.specs.Prelude.{All, slice_index}
-use Rattle.std.proofs.lemmas.List.Elements.{All-append}
+use Rattle.std.proofs.Common.{◌≡◌, ℕ, ◌<◌, ◌≤◌, List, [], ◌∷◌, ap, sym, ◌∙◌, subst, arith, get_or, zero, suc, take, length, refl}
+use Rattle.std.specs.Prelude.{slice_index}
 use Rattle.heap_words.specs.declared.config.Config.{Config}
 use Rattle.object_graph.specs.Actors.{StepList, EventList}
-use Rattle.object_graph.specs.declared.step.Actor.{Actor}
 use Rattle.object_graph.specs.declared.step.Step.{Step}
 use Rattle.object_graph.specs.declared.step.Event.{Event}
 use Rattle.step_core.specs.Histories.{RunsTo}
 use Rattle.step_core.proofs.Cores.Following.{history_is_run}
-use Rattle.mutators.specs.declared.journal.Turn.{Turn}
-use Rattle.mutators.specs.declared.journal.Turn.TheVariants.{Done, Idle, End}
 use Rattle.mutators.specs.Scripts.{scripted, steps_of, lines_of, AreOwn}
-use Rattle.mutators.specs.Journals.{JournalState, Keeps, mutators_of, script_at, event_of}
-use Rattle.mutators.specs.Turns.{TurnIs, SamePlan}
+use Rattle.mutators.specs.Journals.{JournalState, Keeps, mutators_of, script_at}
+use Rattle.mutators.specs.Turns.{SamePlan}
 use Rattle.mutators.specs.Draws.{open_places, lefts_of}
 use Rattle.mutators.proofs.Draws.{lefts_at, none_open}
-use Rattle.mutators.specs.Interleavings.{IsAsked, AreAsked, IsOf, IsInterleaving, IsRunOf}
-
-only : (P : Event → Type 0) (e : Event) → P e → All P (e ∷ [])
-only P e h zero d below = h
-only P e h (suc k) d below = absurd (omega arith)
-
-asked_on : (markers refiners : ℕ) (j j' : JournalState) (t : Turn) (a : Actor) → TurnIs t j j' a → IsAsked markers refiners a → AreAsked markers refiners j.events → AreAsked markers refiners j'.events
-asked_on markers refiners j j' Done a takes asked was =
-    let P : Event → Type 0 = λ e. IsAsked markers refiners e.actor in
-    let e : Event = event_of a takes.step takes.reply in
-    subst (λ (es : List Event). All P es) (sym takes.event) (All-append P j.events (e ∷ []) was (only P e asked))
-asked_on markers refiners j j' Idle a turn asked was = subst (λ (x : JournalState). AreAsked markers refiners x.events) (sym turn.2) was
-asked_on markers refiners j j' End a turn asked was = subst (λ (x : JournalState). AreAsked markers refiners x.events) (sym turn.2) was
+use Rattle.mutators.specs.Interleavings.{AreAsked, IsOf, IsInterleaving, IsRunOf}
 
 pub same_plan : (plan : StepList) (markers refiners : ℕ) (j j' : JournalState) → SamePlan j j' → AreAsked markers refiners j'.events → IsOf plan markers refiners j → IsOf plan markers refiners j'
 same_plan plan markers refiners j j' same asked was = record {

@@ -12,7 +12,7 @@ use Rattle.object_graph.specs.declared.step.Event.{Event}
 use Rattle.rand_pcg.specs.Lcg.{Lcg}
 use Rattle.mutators.specs.declared.journal.Turn.{Turn}
 use Rattle.mutators.specs.declared.journal.Turn.TheVariants.{Done, Idle, End}
-use Rattle.mutators.specs.Scripts.{scripted, lines_of, steps_of, is_scripted, mark_4}
+use Rattle.mutators.specs.Scripts.{scripted, lines_of, is_scripted, mark_4}
 use Rattle.mutators.specs.Journals.{JournalState, Keeps, mutators_of, script_at, event_of}
 use Rattle.mutators.specs.Turns.{TurnIs, SamePlan, next_step, next_at, moved}
 use Rattle.mutators.specs.Interleavings.{IsAsked, AreAsked}

@@ -8,7 +8,7 @@ use Rattle.std.proofs.lemmas.List.Elements.{All-append}
 use Rattle.std.proofs.lemmas.Bool.Decides.{nat_tests, eqb_tells}
 use Rattle.std.proofs.lemmas.Bool.{cases_eq}
 use Rattle.heap_words.specs.declared.config.Config.{Config}
-use Rattle.object_graph.specs.Actors.{IsStep, IsStepOf}
+use Rattle.object_graph.specs.Actors.{IsStep}
 use Rattle.object_graph.specs.declared.step.Actor.{Actor}
 use Rattle.object_graph.specs.declared.step.Actor.TheVariants.{Mutator, Collector, Marker, Refiner}
 use Rattle.object_graph.specs.declared.step.Step.{Step}

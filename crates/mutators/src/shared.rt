@@ -1,6 +1,7 @@
 //! What the workers share: the journal under its lock, and the queue of places.
 
 ghost use Rattle.std.specs.Prelude.{◌≡◌, ℕ, ◌+◌, ◌^◌, ◌<◌, All, ⊤, [], length, if◌then◌else◌};
+ghost use Rattle.heap_words.specs.declared.config.Format.TheVariants.{V1};
 ghost use Rattle.object_graph.specs.Actors.{StepList};
 ghost use Rattle.mutators.specs.Turns.{IsCast};
 ghost use Rattle.mutators.specs.Interleavings.{IsAsked, IsOf};
@@ -24,7 +25,7 @@ pub trait Crew: Ledger {
 }
 
 impl Crew for Brand {
-    ghost plan = { record { config = record { regions = 0; words = 0; buffer = 0; mutators = 0; first_name = 0 }; steps = [] } };
+    ghost plan = { record { config = record { format = V1; regions = 0; words = 0; buffer = 0; mutators = 0; first_name = 0 }; steps = [] } };
 
     ghost markers = { 0 };
 

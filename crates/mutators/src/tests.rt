@@ -4,7 +4,7 @@ ghost use Rattle.std.specs.Prelude.{◌≡◌};
 ghost use Rattle.object_graph.specs.Actors.{IsStep};
 
 use crate::*;
-use heap_words::config::Config;
+use heap_words::config::{Config, Format};
 use object_graph::{Action, Actor, CollectorStep, Op, Plan, Register, Reply, Step, Verdict, check};
 use rand_core::utils::NextWord;
 use rand_pcg::Lcg64Xsh32;
@@ -24,6 +24,7 @@ fn push_step(plan: &mut Plan, step: Step) -> Result<(), AllocError>
 /// A plan in which each mutator drops its register 0 so often.
 fn drops(alloc: Global, mutators: u32, each: u32) -> Result<Plan, AllocError> {
     let config = Config {
+        format: Format::V1,
         regions: 4,
         words: 16,
         buffer: 8,

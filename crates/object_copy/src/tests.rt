@@ -11,7 +11,7 @@ ghost use Rattle.object_copy.specs.Samples.{IsCopyable};
 
 use crate::{Destinations, copy};
 use heap_words::addr::{Addr, RegionNo};
-use heap_words::config::Config;
+use heap_words::config::{Config, Format};
 use heap_words::header::{Count, Counts, FillerSize};
 use regions::RegionTable;
 use std::alloc::Global;
@@ -22,6 +22,7 @@ fn one_object(alloc: Global) -> Result<RegionTable, Fail>
     ensures { IfOk result IsCopyable }
 {
     let sizes = Config {
+        format: Format::V1,
         regions: 4,
         words: 16,
         buffer: 8,

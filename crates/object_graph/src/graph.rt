@@ -3,7 +3,8 @@
 ghost use Rattle.std.specs.Prelude.{◌≡◌, ◌<◌, ◌≤◌, ◌+◌, ◌*◌, ◌↔◌, ◌≢◌, IsTrue, IsOk, IfOk, OnErr};
 ghost use Rattle.object_graph.specs.Run.{IsCollectorReply};
 
-use crate::object::Object;
+use crate::objects::Objects;
+use crate::pointer::Pointer;
 use crate::step::{
     Action, CollectorStep, Counts, Event, GlobalRoot, Op, Refusal, Register, Reply, Step,
 };
@@ -17,8 +18,8 @@ pub struct Graph {
     room: u64,
     first_name: u64,
     mutators: u32,
-    objects: Vec<Object>,
-    roots: Vec<Option<u64>>,
+    objects: Objects,
+    roots: Vec<Pointer>,
 }
 
 impl Model for Graph {
@@ -27,9 +28,9 @@ impl Model for Graph {
 
     ghost Value = { model.Graph };
 
-    ghost view = { λ g. record { room = g.room; first_name = g.first_name; mutators = g.mutators; objects = g.objects.items; roots = g.roots.items } };
+    ghost view = { λ g. record { room = g.room; first_name = g.first_name; mutators = g.mutators; objects = g.objects; roots = g.roots.items } };
 
-    ghost invariant = { λ g. IsState (record { room = g.room; first_name = g.first_name; mutators = g.mutators; objects = g.objects.items; roots = g.roots.items }) };
+    ghost invariant = { λ g. IsState (record { room = g.room; first_name = g.first_name; mutators = g.mutators; objects = g.objects; roots = g.roots.items }) };
 }
 
 impl Graph {
@@ -40,14 +41,14 @@ impl Graph {
     ghost use Rattle.object_graph.specs.Machine.{act, outcome_of, stored};
 
     /// What a mutator's register holds.
-    fn register(&self, mutator: u32, register: Register) -> Option<u64>
+    fn register(&self, mutator: u32, register: Register) -> Pointer
         requires { mutator < self.now.mutators }
         ensures { result ≡ root_at self.now (register_place mutator register.number) }
     {
         self.roots[16 + 8 * mutator as usize + register.number as usize]
     }
 
-    fn set_register(&mut self, mutator: u32, register: Register, value: Option<u64>)
+    fn set_register(&mut self, mutator: u32, register: Register, value: Pointer)
         requires { mutator < self.old.mutators }
         ensures { self.new ≡ with_root self.old (register_place mutator register.number) value }
     {
@@ -59,7 +60,7 @@ impl Graph {
         requires { mutator < self.now.mutators }
         ensures { result ≡ index_of self.now (root_at self.now (register_place mutator register.number)) }
     {
-        let name = self.register(mutator, register)?;
+        let name = self.register(mutator, register).name()?;
         let place = (name.saturating_sub(self.first_name)) as usize;
         if place < self.objects.len() {
             Some(place)
@@ -86,13 +87,8 @@ impl Graph {
         if name == u64::MAX {
             return Ok(Reply::Refused(Refusal::NamesSpent));
         }
-        let alloc = *self.objects.allocator();
-        let object = Object {
-            pointers: vec![in alloc; None; counts.pointers as usize]?,
-            values: vec![in alloc; 0; counts.values as usize]?,
-        };
-        self.objects.push(object)?;
-        self.roots[16 + 8 * mutator as usize + to.number as usize] = Some(name);
+        self.objects.push(counts)?;
+        self.set_register(mutator, to, Pointer::to(name));
         Ok(Reply::Named(Some(name)))
     }
 
@@ -103,12 +99,11 @@ impl Graph {
         let Some(place) = self.place(mutator, object) else {
             return Reply::Refused(Refusal::Nil);
         };
-        let object = &self.objects[place];
-        let Some(value) = object.pointers.get(field as usize).copied() else {
+        let Some(value) = self.objects.get_pointer(place, field) else {
             return Reply::Refused(Refusal::NoField);
         };
         self.set_register(mutator, to, value);
-        Reply::Named(value)
+        Reply::Named(value.name())
     }
 
     fn move_register(&mut self, mutator: u32, to: Register, from: Register) -> Reply
@@ -121,12 +116,12 @@ impl Graph {
     }
 
     /// What `put` stores: nil, or what a register holds.
-    fn stored(&self, mutator: u32, value: Option<Register>) -> Option<u64>
+    fn stored(&self, mutator: u32, value: Option<Register>) -> Pointer
         requires { mutator < self.now.mutators }
         ensures { result ≡ stored self.now mutator value }
     {
         match value {
-            None => None,
+            None => Pointer::nil(),
             Some(register) => self.register(mutator, register),
         }
     }
@@ -139,10 +134,10 @@ impl Graph {
             return Reply::Refused(Refusal::Nil);
         };
         let value = self.stored(mutator, value);
-        if field >= self.objects[place].pointer_count() {
+        if field >= self.objects.pointer_count(place) {
             return Reply::Refused(Refusal::NoField);
         }
-        self.objects[place].set_pointer(field, value);
+        self.objects.set_pointer(place, field, value);
         Reply::Done
     }
 
@@ -153,10 +148,9 @@ impl Graph {
         let Some(place) = self.place(mutator, object) else {
             return Reply::Refused(Refusal::Nil);
         };
-        let object = &self.objects[place];
-        match object.values.get(field as usize) {
+        match self.objects.get_value(place, field) {
             None => Reply::Refused(Refusal::NoField),
-            Some(word) => Reply::Word(*word),
+            Some(word) => Reply::Word(word),
         }
     }
 
@@ -167,10 +161,10 @@ impl Graph {
         let Some(place) = self.place(mutator, object) else {
             return Reply::Refused(Refusal::Nil);
         };
-        if field >= self.objects[place].value_count() {
+        if field >= self.objects.value_count(place) {
             return Reply::Refused(Refusal::NoField);
         }
-        self.objects[place].set_value(field, value);
+        self.objects.set_value(place, field, value);
         Reply::Done
     }
 
@@ -180,7 +174,7 @@ impl Graph {
     {
         let value = self.roots[from.number as usize];
         self.set_register(mutator, to, value);
-        Reply::Named(value)
+        Reply::Named(value.name())
     }
 
     fn save(&mut self, mutator: u32, to: GlobalRoot, from: Register) -> Reply
@@ -200,8 +194,8 @@ impl Graph {
             return Reply::Refused(Refusal::Nil);
         };
         Reply::Shape {
-            pointers: self.objects[place].pointer_count(),
-            values: self.objects[place].value_count(),
+            pointers: self.objects.pointer_count(place),
+            values: self.objects.value_count(place),
         }
     }
 
@@ -240,7 +234,7 @@ impl Graph {
             } => Ok(self.write(mutator, object, field, value)),
             Action::Move { to, from } => Ok(self.move_register(mutator, to, from)),
             Action::Drop { register } => {
-                self.set_register(mutator, register, None);
+                self.set_register(mutator, register, Pointer::nil());
                 Ok(Reply::Done)
             }
             Action::Load { to, from } => Ok(self.load(mutator, to, from)),
@@ -292,8 +286,8 @@ impl Graph {
             room: u64::from(config.regions) * u64::from(config.words),
             first_name: config.first_name,
             mutators: config.mutators,
-            objects: Vec::new(alloc),
-            roots: vec![in alloc; None; places]?,
+            objects: Objects::new(alloc),
+            roots: vec![in alloc; Pointer::nil(); places]?,
         })
     }
 }

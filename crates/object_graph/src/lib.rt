@@ -19,7 +19,8 @@
 
 mod graph;
 mod judge;
-mod object;
+mod objects;
+mod pointer;
 mod record;
 mod step;
 #[cfg(test)]
@@ -27,7 +28,6 @@ mod tests;
 
 pub use graph::Graph;
 pub use judge::{Verdict, check, judged_once, run_once};
-pub use object::Object;
 pub use record::{Plan, Record};
 pub use step::{
     Action, Actor, CollectorStep, Counts, Event, GlobalRoot, Op, Refusal, Register, Reply, Step,

@@ -16,7 +16,7 @@ ghost use Rattle.refinement.specs.Samples.{IsSample};
 use crate::{refine_one, scan_card};
 use cards::CardTable;
 use heap_words::addr::{Addr, Card, RegionNo};
-use heap_words::config::Config;
+use heap_words::config::{Config, Format};
 use heap_words::header::{Count, Counts, FillerSize};
 use mark_bitmap::marks::Marks;
 use mark_bitmap::tams::Tams;
@@ -100,6 +100,7 @@ fn free_regions(alloc: Global) -> Result<RegionTable, Fail>
     ensures { IfOk result IsSample }
 {
     let sizes = Config {
+        format: Format::V1,
         regions: 4,
         words: 16,
         buffer: 8,

@@ -1,7 +1,7 @@
 -- How the words of the heap are read as regions.
 use Rattle.std.specs.Prelude.{◌≡◌, ℕ, zero, suc, ◌-◌, ◌*◌, ◌^◌, ◌<◌, ◌≤◌, min, Bool, true, false, Option, Some, None, List, [], ◌∷◌, length, take, drop, slice_index, slice_set, slice_index_or}
 use Rattle.heap_words.specs.Sizes.{size_of}
-use Rattle.heap_words.specs.Configs.{max_words}
+use Rattle.heap_words.specs.Configs.{max_words, max_region_words}
 use Rattle.heap_words.specs.declared.header.Header.{Header}
 use Rattle.heap_words.specs.declared.header.Header.TheVariants as headers
 use Rattle.heap_words.specs.Headers.{header_of, header_word}
@@ -103,14 +103,14 @@ table_by f size words rows = record { words_per_region = size; regions = regions
 
 -- words and rows are a table's, with these sizes of what moved
 pub record IsTableBy (f : ℕ → ℕ) (size : ℕ) (words : List ℕ) (rows : List Row) : Type 0 where
-  pub region_size : (0 < size) × (size ≤ 2 ^ 12)
+  pub region_size : (0 < size) × (size ≤ max_region_words)
   pub covers : length words ≡ length rows * size
   pub small : length words ≤ max_words
   pub rows_right : AreRows f size 0 words rows
 
 -- words and rows are a table's
 pub record IsTable (size : ℕ) (words : List ℕ) (rows : List Row) : Type 0 where
-  pub region_size : (0 < size) × (size ≤ 2 ^ 12)
+  pub region_size : (0 < size) × (size ≤ max_region_words)
   pub covers : length words ≡ length rows * size
   pub small : length words ≤ max_words
   pub rows_right : AreRows (sizes_in words) size 0 words rows

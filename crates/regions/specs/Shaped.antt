@@ -1,6 +1,6 @@
 -- What the value of every table meets beside what its type says.
 use Rattle.std.specs.Prelude.{◌≡◌, ℕ, ◌+◌, ◌-◌, ◌*◌, ◌^◌, ◌<◌, ◌≤◌, false, Some, length, min}
-use Rattle.heap_words.specs.Configs.{max_words}
+use Rattle.heap_words.specs.Configs.{max_words, max_region_words}
 use Rattle.heap_model.specs.Heap.{Stored}
 use Rattle.regions.specs.Tiles.{Tile, Object, tile_size}
 use Rattle.regions.specs.Table.{Table, First, Rest, nth_region, region_at, is_free, kind_of, tile_in, AreTargetsRight}
@@ -21,7 +21,7 @@ pub record IsLater (t : Table) (k n : ℕ) : Type 0 where
 -- what is known of every table
 pub record IsShaped (t : Table) : Type 0 where
   pub positive : 0 < t.words_per_region
-  pub small : t.words_per_region ≤ 2 ^ 12
+  pub small : t.words_per_region ≤ max_region_words
   pub in_all : length t.regions * t.words_per_region ≤ max_words
   pub fitting : AreFitting t
   -- each tile's words lie in the heap

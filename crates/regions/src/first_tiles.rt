@@ -19,6 +19,7 @@ ghost use Rattle.std.specs.Int.{div_ceil, is_power_of_two};
 ghost use Rattle.heap_words.specs.Bits.{is_between};
 ghost use Rattle.regions.specs.Tiles.{Filler};
 ghost use Rattle.regions.specs.FirstTiles.{last_card, entry_of, start_in};
+ghost use Rattle.heap_words.specs.Configs.{max_words};
 
 use std::alloc::{AllocError, Global};
 use std::marker::Model;
@@ -45,7 +46,7 @@ impl Model for FirstTiles {
 /// The first card that begins at a word or behind it, where a card has 2 to the `shift`th words.
 fn card_from(shift: u32, word: u32) -> u32
     requires narrow { shift < 12 }
-    requires small { word ≤ 2 ^ 20 }
+    requires small { word ≤ max_words }
     ensures { result ≡ div_ceil word (2 ^ shift) }
 {
     (word + (1 << shift) - 1) >> shift
@@ -66,7 +67,7 @@ fn fill_cards(entries: &mut [u32], from: u32, to: u32, entry: u32)
 fn write_entries(entries: &mut [u32], shift: u32, at: u32, end: u32, entry: u32)
     requires narrow { shift < 12 }
     requires order { at ≤ end }
-    requires small { end ≤ 2 ^ 20 }
+    requires small { end ≤ max_words }
     requires within { end ≤ length entries.old * 2 ^ shift }
     ensures len { length entries.new ≡ length entries.old }
     ensures entries { (c : ℕ) → slice_index entries.new c ≡ (if is_between at end (c * 2 ^ shift) then entry else slice_index entries.old c) }
@@ -78,7 +79,7 @@ fn write_entries(entries: &mut [u32], shift: u32, at: u32, end: u32, entry: u32)
 fn write_start(entries: &mut [u32], shift: u32, at: u32, end: u32)
     requires narrow { shift < 12 }
     requires order { at ≤ end }
-    requires small { end ≤ 2 ^ 20 }
+    requires small { end ≤ max_words }
     requires within { end ≤ length entries.old * 2 ^ shift }
     ensures len { length entries.new ≡ length entries.old }
     ensures entries { (c : ℕ) → slice_index entries.new c ≡ (if is_between at end (c * 2 ^ shift) && (c * 2 ^ shift == last_card (2 ^ shift) end) then at else slice_index entries.old c) }
@@ -93,7 +94,7 @@ fn write_start(entries: &mut [u32], shift: u32, at: u32, end: u32)
 fn write_filler(entries: &mut [u32], shift: u32, at: u32, size: u32)
     requires narrow { shift < 12 }
     requires positive { 0 < size }
-    requires small { at + size ≤ 2 ^ 20 }
+    requires small { at + size ≤ max_words }
     requires within { at + size ≤ length entries.old * 2 ^ shift }
     ensures len { length entries.new ≡ length entries.old }
     ensures entries { (c : ℕ) → slice_index entries.new c ≡ (if is_between at (at + size) (c * 2 ^ shift) then entry_of (2 ^ shift) at (Filler size) (c * 2 ^ shift) else slice_index entries.old c) }
@@ -111,7 +112,7 @@ fn write_filler(entries: &mut [u32], shift: u32, at: u32, size: u32)
 fn find_start(entries: &[u32], shift: u32, card: u32) -> u32
     requires narrow { shift < 12 }
     requires known { card < length entries.now }
-    requires small { length entries.now * 2 ^ shift ≤ 2 ^ 20 }
+    requires small { length entries.now * 2 ^ shift ≤ max_words }
     ensures { result ≡ start_in (2 ^ shift) entries.now card }
 {
     let entry = entries[card as usize];
@@ -153,7 +154,7 @@ impl FirstTiles {
     /// An object stands at an address.
     pub(crate) fn put_object(&mut self, at: u32, size: u32)
         requires within { at + size ≤ length self.old.starts * self.old.card_words }
-        requires small { at + size ≤ 2 ^ 20 }
+        requires small { at + size ≤ max_words }
         ensures card_words { self.new.card_words ≡ self.old.card_words }
         ensures len { length self.new.starts ≡ length self.old.starts }
         ensures entries { (c : ℕ) → slice_index self.new.starts c ≡ (if is_between at (at + size) (c * self.old.card_words) then at else slice_index self.old.starts c) }
@@ -166,7 +167,7 @@ impl FirstTiles {
     pub(crate) fn put_front(&mut self, at: u32, size: u32, filler: u32)
         requires room { size ≤ filler }
         requires within { at + filler ≤ length self.old.starts * self.old.card_words }
-        requires small { at + filler ≤ 2 ^ 20 }
+        requires small { at + filler ≤ max_words }
         requires entries { (c : ℕ) → at ≤ c * self.old.card_words → c * self.old.card_words < at + filler → slice_index self.old.starts c ≡ entry_of self.old.card_words at (Filler filler) (c * self.old.card_words) }
         ensures card_words { self.new.card_words ≡ self.old.card_words }
         ensures len { length self.new.starts ≡ length self.old.starts }
@@ -184,7 +185,7 @@ impl FirstTiles {
     pub(crate) fn put_filler(&mut self, at: u32, size: u32)
         requires positive { 0 < size }
         requires within { at + size ≤ length self.old.starts * self.old.card_words }
-        requires small { at + size ≤ 2 ^ 20 }
+        requires small { at + size ≤ max_words }
         ensures card_words { self.new.card_words ≡ self.old.card_words }
         ensures len { length self.new.starts ≡ length self.old.starts }
         ensures entries { (c : ℕ) → slice_index self.new.starts c ≡ (if is_between at (at + size) (c * self.old.card_words) then entry_of self.old.card_words at (Filler size) (c * self.old.card_words) else slice_index self.old.starts c) }
@@ -196,7 +197,7 @@ impl FirstTiles {
     pub(crate) fn move_filler(&mut self, at: u32, end: u32)
         requires order { at ≤ end }
         requires within { end ≤ length self.old.starts * self.old.card_words }
-        requires small { end ≤ 2 ^ 20 }
+        requires small { end ≤ max_words }
         ensures card_words { self.new.card_words ≡ self.old.card_words }
         ensures len { length self.new.starts ≡ length self.old.starts }
         ensures entries { (c : ℕ) → slice_index self.new.starts c ≡ (if is_between at end (c * self.old.card_words) && (c * self.old.card_words == last_card self.old.card_words end) then at else slice_index self.old.starts c) }
@@ -207,7 +208,7 @@ impl FirstTiles {
     /// Where the tile of a card's first word starts.
     pub(crate) fn start(&self, card: u32) -> u32
         requires known { card < length self.now.starts }
-        requires small { length self.now.starts * self.now.card_words ≤ 2 ^ 20 }
+        requires small { length self.now.starts * self.now.card_words ≤ max_words }
         ensures { result ≡ start_in self.now.card_words self.now.starts card }
     {
         find_start(&self.starts, self.shift, card)

@@ -4,6 +4,7 @@ ghost use Rattle.heap_words.specs.Sizes.{size_of};
 ghost use lib.Seq.{paste};
 ghost use Rattle.regions.specs.Table.{first_run, is_free as region_is_free, new_object, run_length, run_regions, with_regions, with_run};
 ghost use Rattle.regions.specs.Rows.{kind_is_free, run_rows, AreUsedBelow};
+ghost use Rattle.heap_words.specs.Configs.{max_words};
 
 use crate::row::{Kind, Row, is_free};
 use crate::table::RegionTable;
@@ -33,7 +34,7 @@ fn lowest_run(rows: &[Row], count: usize, from: usize) -> Option<usize>
 /// Writes the rows of a humongous object of `words` words, in regions of `size` words.
 fn write_run(rows: &mut [Row], at: usize, count: u32, size: u32, words: u32)
     requires within { at + count ≤ length rows.old }
-    requires small { count * size ≤ 2 ^ 20 }
+    requires small { count * size ≤ max_words }
     ensures { rows.new ≡ paste rows.old at (run_rows size words 0 count) count }
 {
     for i in 0..count {

@@ -4,7 +4,7 @@ ghost use Rattle.regions.specs.Table.{free_table, object_at, pointers_at, values
 use crate::row::{Kind, Shape};
 use crate::table::RegionTable;
 use heap_words::addr::{Addr, Ptr, RegionNo};
-use heap_words::config::{Config, NewFault};
+use heap_words::config::{Config, Format, NewFault};
 use heap_words::header::{Count, Counts, FillerSize};
 use std::alloc::Global;
 use std::test::Fail;
@@ -26,6 +26,7 @@ fn small_table(alloc: Global) -> Result<RegionTable, NewFault>
     ensures { IfOk result (λ t. t ≡ free_table 4 16) }
 {
     let config = Config {
+        format: Format::V1,
         regions: 4,
         words: 16,
         buffer: 8,
@@ -68,6 +69,7 @@ fn makes_what_suits(rt: HostRuntime) {
     ] {
         let (regions, words, buffer, mutators) = sizes;
         let config = Config {
+            format: Format::V1,
             regions,
             words,
             buffer,

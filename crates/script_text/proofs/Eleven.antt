@@ -26,7 +26,8 @@ heap_of_eleven (a ∷ b ∷ d ∷ []) = refl
 heap_of_eleven (a ∷ b ∷ d ∷ e ∷ []) = refl
 heap_of_eleven (a ∷ b ∷ d ∷ e ∷ f ∷ []) = refl
 heap_of_eleven (a ∷ b ∷ d ∷ e ∷ f ∷ g ∷ []) = refl
-heap_of_eleven (a ∷ b ∷ d ∷ e ∷ f ∷ g ∷ h ∷ ws) = refl
+heap_of_eleven (a ∷ b ∷ d ∷ e ∷ f ∷ g ∷ h ∷ []) = refl
+heap_of_eleven (a ∷ b ∷ d ∷ e ∷ f ∷ g ∷ h ∷ i ∷ ws) = refl
 
 short : (line : List ℕ) → length line ≤ 120 → nat_lt 120 (length line) ≡ false
 short line le = le-ltb 120 (length line) le

@@ -123,12 +123,11 @@ no_more text ws start at split lt feed full =
     let first : take 11 (ws ++ words_of (drop start (take at text))) ≡ ws = ap (λ (n : ℕ). take n (ws ++ words_of (drop start (take at text)))) (sym full) ∙ take-append_seam ws (words_of (drop start (take at text))) in
     sym (whole ∙ first)
 
-pub first_piece : (text : List ℕ) (at : ℕ) → at ≤ end_of text → at < length text → get_or text at 0 ≡ 10 → pieces_of text ≡ take at text ∷ pieces_of (drop (length (take at text) + 1) text)
+pub first_piece : (text : List ℕ) (at : ℕ) → at ≤ end_of text → at < length text → get_or text at 0 ≡ 10 → pieces_of text ≡ take at text ∷ pieces_of (drop (at + 1) text)
 first_piece text at within lt feed =
     let ends : end_of text ≡ at = here_ends text at within lt feed in
-    let long : length (take at text) ≡ at = length-take-le at text (omega arith) in
     let split : pieces_of text ≡ take (end_of text) text ∷ pieces_of (drop (end_of text + 1) text) = slice_split_first (λ b. eqb b 10) text 0 (rw ends lt) in
-    split ∙ ap (λ (n : ℕ). take n text ∷ pieces_of (drop (n + 1) text)) ends ∙ ap (λ (n : ℕ). take at text ∷ pieces_of (drop (n + 1) text)) (sym long)
+    split ∙ ap (λ (n : ℕ). take n text ∷ pieces_of (drop (n + 1) text)) ends
 
 pub one_piece : (text : List ℕ) (at : ℕ) → at ≤ end_of text → length text ≤ at → pieces_of text ≡ text ∷ []
 one_piece text at within past = slice_split_none (λ b. eqb b 10) text (λ k d lt. fails_before_first (λ b. eqb b 10) text k d (omega arith))

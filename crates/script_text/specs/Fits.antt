@@ -1,6 +1,8 @@
 -- The scripts and the records that have a text.
 use Rattle.std.specs.Prelude.{◌≤◌, All, None, Some, length}
 use Rattle.heap_words.specs.declared.config.Config.{Config}
+use Rattle.heap_words.specs.declared.config.Format.{Format}
+use Rattle.heap_words.specs.declared.config.Format.TheVariants.{V1, V2}
 use Rattle.object_graph.specs.Actors.{StepList, AreSteps, EventList, AreEvents}
 use Rattle.object_graph.specs.declared.step.Action.{Action}
 use Rattle.object_graph.specs.declared.step.Action.TheVariants as actions
@@ -38,7 +40,12 @@ abbrev pub StepFits : Step → Type 0
 StepFits (steps.Mutator o) = Fits o.action
 StepFits (steps.Collector k) = CollectionFits k
 
+abbrev pub FormatFits : Format → Type 0
+FormatFits V1 = Unit {0}
+FormatFits (V2 card) = card ≤ small
+
 pub record ConfigFits (c : Config) : Type 0 where
+  pub format : FormatFits c.format
   pub regions : c.regions ≤ small
   pub words : c.words ≤ small
   pub buffer : c.buffer ≤ small

@@ -26,17 +26,33 @@ pub fn put_text(buffer: &mut [u8], at: usize, text: &[u8]) -> usize
     end
 }
 
+/// How many digits a number below 10,000 has.
+fn short_digit_count(number: u64) -> usize
+    requires { number < 10000 }
+    ensures { result ≡ length (decimal number) }
+{
+    if number < 10 {
+        1
+    } else if number < 100 {
+        2
+    } else if number < 1_000 {
+        3
+    } else {
+        4
+    }
+}
+
 /// How many digits a number has.
 fn digit_count(number: u64) -> usize
     ensures { result ≡ length (decimal number) }
 {
-    let mut count = 1;
-    let mut bound = 10u64;
-    while count < 19 && number >= bound {
-        count += 1;
-        bound *= 10;
+    let mut count = 0;
+    let mut left = number;
+    while left >= 10_000 {
+        left /= 10_000;
+        count += 4;
     }
-    if number >= bound { count + 1 } else { count }
+    count + short_digit_count(left)
 }
 
 /// Puts a number behind the first `at` bytes, and answers where it ends. A number has at most 20 digits.

@@ -1,7 +1,7 @@
 //! What no clause says: the worked examples, the printed forms, and readers and writers that fail.
 
 use crate::{Kind, LineFault, ReadFault, WriteFault, parse, parse_record, read_text, write_record};
-use heap_words::config::Config;
+use heap_words::config::{Config, Format};
 use object_graph::{
     Action, Actor, CollectorStep, Counts, Event, GlobalRoot, Op, Record, Refusal, Register, Reply,
     Step,
@@ -12,6 +12,7 @@ use std::io::{ErrorKind, Read, Write};
 use std::test::Fail;
 
 const CONFIG: Config = Config {
+    format: Format::V1,
     regions: 4,
     words: 16,
     buffer: 8,

@@ -1,5 +1,5 @@
 -- The core of a new heap, and what it stands for.
-use Rattle.std.specs.Prelude.{ℕ, ◌+◌, ◌*◌, ◌/◌, Option, None, replicate}
+use Rattle.std.specs.Prelude.{◌+◌, ◌*◌, ◌/◌, None, replicate}
 use Rattle.heap_words.specs.declared.config.Config.{Config}
 use Rattle.heap_words.specs.Configs.{card_words}
 use Rattle.object_graph.specs.State.{first_state}

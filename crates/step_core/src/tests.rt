@@ -8,11 +8,12 @@ mod places;
 
 use crate::{Core, RunFault, run};
 use heap_words::addr::{Card, RegionNo};
-use heap_words::config::{Config, NewFault};
+use heap_words::config::{Config, Format, NewFault};
 use object_graph::{Action, CollectorStep, Counts, GlobalRoot, Op, Refusal, Register, Reply, Step};
 use std::test::Fail;
 
 const CONFIG: Config = Config {
+    format: Format::V1,
     regions: 4,
     words: 16,
     buffer: 8,
@@ -267,6 +268,7 @@ fn a_card_log_fills(rt: HostRuntime) -> Result<(), Fail> {
     let Ok(mut core) = Core::new(
         rt.alloc(),
         &Config {
+            format: Format::V1,
             buffer: 4,
             ..CONFIG
         },
@@ -374,6 +376,7 @@ fn faults(rt: HostRuntime) -> Result<(), Fail> {
         assert_eq!(rt; printed.as_str(), text);
     }
     let small = Config {
+        format: Format::V1,
         regions: 1,
         ..CONFIG
     };

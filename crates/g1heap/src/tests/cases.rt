@@ -9,7 +9,7 @@ pub(super) struct Case {
     pub err: &'static str,
 }
 
-pub(super) static CASES: [Case; 67] = [
+pub(super) static CASES: [Case; 76] = [
     Case {
         name: "words-not-a-power-of-two",
         script: "heap 4 24 8 1 0\n",
@@ -478,5 +478,68 @@ pub(super) static CASES: [Case; 67] = [
         status: 1,
         out: "",
         err: "g1heap: line 2: 5 BadStep\n",
+    },
+    Case {
+        name: "second-format-region-too-large",
+        script: "heap2 1024 32768 8 1 0 64\n",
+        status: 1,
+        out: "",
+        err: "g1heap: heap: 2 BadWords\n",
+    },
+    Case {
+        name: "second-format-card-over-region",
+        script: "heap2 4 16 8 1 0 32\n",
+        status: 1,
+        out: "",
+        err: "g1heap: heap: 6 BadCard\n",
+    },
+    Case {
+        name: "second-format-card-12",
+        script: "heap2 4 16 8 1 0 12\n",
+        status: 1,
+        out: "",
+        err: "g1heap: heap: 6 BadCard\n",
+    },
+    Case {
+        name: "second-format-mutators-before-card",
+        script: "heap2 4 16 8 0 0 12\n",
+        status: 1,
+        out: "",
+        err: "g1heap: heap: 4 BadMutators\n",
+    },
+    Case {
+        name: "second-format-card-4",
+        script: "heap2 4 16 8 1 0 4\n",
+        status: 1,
+        out: "",
+        err: "g1heap: heap: 6 BadCard\n",
+    },
+    Case {
+        name: "second-format-card-128",
+        script: "heap2 4 256 8 1 0 128\n",
+        status: 1,
+        out: "",
+        err: "g1heap: heap: 6 BadCard\n",
+    },
+    Case {
+        name: "second-format-card-largest-number",
+        script: "heap2 4 16 8 1 0 4294967295\n",
+        status: 1,
+        out: "",
+        err: "g1heap: heap: 6 BadCard\n",
+    },
+    Case {
+        name: "second-format-card-too-large-to-read",
+        script: "heap2 4 16 8 1 0 4294967296\n",
+        status: 1,
+        out: "",
+        err: "g1heap: line 1: 3 BadHeap\n",
+    },
+    Case {
+        name: "second-format-without-card",
+        script: "heap2 4 16 8 1 0\n",
+        status: 1,
+        out: "",
+        err: "g1heap: line 1: 3 BadHeap\n",
     },
 ];

@@ -3,7 +3,7 @@
 ghost use Rattle.std.specs.Prelude.{◌≡◌, ◌<◌, All, IfOk};
 ghost use Rattle.object_graph.specs.Actors.{IsStep};
 
-use heap_words::config::Config;
+use heap_words::config::{Config, Format};
 use object_graph::{
     Action, CollectorStep, Counts, Event, GlobalRoot, Op, Refusal, Register, Reply, Step, Verdict,
     check,
@@ -159,12 +159,23 @@ fn script(
     Ok(steps)
 }
 
-/// Three to twelve regions of 16 or 32 words, and one or two mutators.
+/// Either format; in the second a card of 8 words, 16, or as many as a region.
+fn format(words: u32, draw: &mut Lcg64Xsh32) -> Format {
+    match below(draw, 6) {
+        0 => Format::V2 { card: 8 },
+        1 => Format::V2 { card: 16 },
+        2 => Format::V2 { card: words },
+        _ => Format::V1,
+    }
+}
+
+/// Three to twelve regions of 16 or 32 words, one or two mutators, and either format.
 fn sizes(draw: &mut Lcg64Xsh32) -> Config
     ensures { 0 < result.mutators }
 {
     let words = if below(draw, 2) == 0 { 16 } else { 32 };
     Config {
+        format: format(words, draw),
         regions: 3 + below(draw, 10),
         words,
         buffer: 4 + below(draw, 5),

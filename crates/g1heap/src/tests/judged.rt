@@ -2,7 +2,7 @@
 
 use super::cases::Case;
 
-pub(super) static CASES: [Case; 46] = [
+pub(super) static CASES: [Case; 47] = [
     Case {
         name: "check-heap",
         script: "heap 4 24 8 1 0\n1 0 drop r0 = nil\n",
@@ -324,5 +324,12 @@ pub(super) static CASES: [Case; 46] = [
         status: 1,
         out: "",
         err: "g1heap: line 2: 5 BadStep\n",
+    },
+    Case {
+        name: "second-format-check-card",
+        script: "heap2 4 16 8 1 0 12\n",
+        status: 1,
+        out: "",
+        err: "g1heap: heap: 6 BadCard\n",
     },
 ];

@@ -1,7 +1,7 @@
 //! Whole records, each of which its own script gives.
 
 /// A name, and the record.
-pub(super) static RECORDS: [(&str, &str); 30] = [
+pub(super) static RECORDS: [(&str, &str); 37] = [
     (
         "first read",
         "heap 4 16 8 1 0\n1 0 new r0 1 1 = #0\n2 0 read r0 0 = 0\n3 0 get r1 r0 0 = nil\n",
@@ -425,4 +425,110 @@ pub(super) static RECORDS: [(&str, &str); 30] = [
 22 gc refine 20 = refined 17\n\
 23 0 get r2 r0 126 = #1\n",
     ),
+    (
+        "card log fills, with cards of 16 words",
+        "heap2 4 16 4 1 0 16\n\
+1 0 new r0 4 2 = #0\n\
+2 0 new r1 4 2 = #1\n\
+3 0 new r2 4 2 = #2\n\
+4 0 new r3 4 2 = #3\n\
+5 0 new r4 2 2 = #4\n\
+6 0 put r0 0 r4 = ok\n\
+7 0 put r0 1 r4 = ok\n\
+8 0 put r1 0 r4 = ok\n\
+9 0 put r2 0 r4 = ok\n\
+10 gc refine 9 = refined 0\n\
+11 0 put r3 0 r4 = ok\n\
+12 gc refine 3 = refined 0\n\
+13 gc refine 9 = refined 0\n\
+14 0 put r0 2 r4 = ok\n\
+15 gc refine 9 = refined 0\n",
+    ),
+    (
+        "dead object with a pointer, cards of 8 words in the second format",
+        "heap2 4 16 4 1 0 8\n\
+1 0 new r0 4 2 = #0\n\
+2 0 new r1 1 0 = #1\n\
+3 0 new r2 1 1 = #2\n\
+4 0 new r3 2 2 = #3\n\
+5 0 new r4 4 2 = #4\n\
+6 0 put r1 0 r4 = ok\n\
+7 0 new r5 4 2 = #5\n\
+8 0 drop r1 = ok\n\
+9 0 drop r3 = ok\n\
+10 0 drop r4 = ok\n\
+11 gc begin = ok\n\
+12 gc remark = marked 3\n\
+13 gc cleanup = reclaimed 1\n\
+14 0 new r6 4 2 = #6\n\
+15 0 new r7 4 2 = #7\n\
+16 gc pause 100 = moved 1 8\n\
+17 0 shape r7 = 4 2\n",
+    ),
+    (
+        "outside field updated, with cards of 16 words",
+        "heap2 4 16 4 1 0 16\n\
+1 0 new r0 4 2 = #0\n\
+2 0 new r1 3 3 = #1\n\
+3 0 new r2 2 2 = #2\n\
+4 0 write r2 0 9 = ok\n\
+5 0 put r0 0 r2 = ok\n\
+6 0 drop r2 = ok\n\
+7 gc refine 5 = refined 0\n\
+8 gc pause 100 = moved 1 6\n\
+9 0 get r2 r0 0 = #2\n\
+10 0 read r2 0 = 9\n\
+11 gc refine 5 = refined 1\n",
+    ),
+    (
+        "pause while marking, second format",
+        "heap2 6 16 4 1 0 8\n\
+1 0 new r0 1 0 = #0\n\
+2 0 new r1 0 1 = #1\n\
+3 0 write r1 0 5 = ok\n\
+4 0 put r0 0 r1 = ok\n\
+5 0 drop r1 = ok\n\
+6 gc begin = ok\n\
+7 0 new r1 2 2 = #2\n\
+8 0 new r2 2 2 = #3\n\
+9 0 new r3 2 2 = #4\n\
+10 0 new r4 2 2 = #5\n\
+11 0 get r5 r0 0 = #1\n\
+12 0 put r4 0 r5 = ok\n\
+13 0 put r0 0 nil = ok\n\
+14 0 drop r5 = ok\n\
+15 0 drop r3 = ok\n\
+16 gc pause 100 = moved 2 12\n\
+17 gc refine 5 = refined 1\n\
+18 gc mark 10 = ok\n\
+19 gc remark = marked 2\n\
+20 0 get r6 r4 0 = #1\n\
+21 0 read r6 0 = 5\n",
+    ),
+    (
+        "shared child hidden behind a new object, second format",
+        "heap2 4 16 8 1 0 8\n\
+1 0 new r0 1 0 = #0\n\
+2 0 new r1 0 1 = #1\n\
+3 0 write r1 0 77 = ok\n\
+4 0 put r0 0 r1 = ok\n\
+5 0 drop r1 = ok\n\
+6 gc begin = ok\n\
+7 0 get r1 r0 0 = #1\n\
+8 0 new r2 1 0 = #2\n\
+9 0 put r2 0 r1 = ok\n\
+10 0 put r0 0 nil = ok\n\
+11 0 drop r1 = ok\n\
+12 gc mark 10 = ok\n\
+13 gc remark = marked 2\n\
+14 gc cleanup = reclaimed 0\n\
+15 gc pause 16 = moved 1 9\n\
+16 0 get r1 r2 0 = #1\n\
+17 0 read r1 0 = 77\n",
+    ),
+    (
+        "the largest sizes of the first format, in the second",
+        "heap2 1024 4096 8 1 0 64\n",
+    ),
+    ("the largest heap", "heap2 1024 16384 8 1 0 64\n"),
 ];

@@ -1,4 +1,5 @@
 -- The search for the tile that holds a word.
+use Rattle.heap_words.specs.Configs.{max_words}
 use Rattle.std.proofs.Common.{◌≡◌, ℕ, ◌+◌, ◌-◌, ◌*◌, ◌/◌, ◌^◌, ◌<◌, ◌≤◌, min, Some, List, [], ◌∷◌, inl, inr, refl, sym, ap, ◌∙◌, arith}
 use Rattle.std.proofs.lemmas.Bool.{cases_lt}
 use Rattle.std.proofs.lemmas.Nat.{mul-le}
@@ -68,7 +69,7 @@ search_step t k word left rest x shape g s e =
           absurd (let z : (x, shape) ∷ rest ≡ [] = sym e ∙ s.left_is ∙ none in cc)
     ]
 
-pub search_fits : (t : Table) (k word : ℕ) (left rest : List (Addr × Shape)) (x : Addr) (shape : Shape) → IsShaped t → IsSearch t k word left → left ≡ (x, shape) ∷ rest → x + size_of_shape shape ≤ 2 ^ 20
+pub search_fits : (t : Table) (k word : ℕ) (left rest : List (Addr × Shape)) (x : Addr) (shape : Shape) → IsShaped t → IsSearch t k word left → left ≡ (x, shape) ∷ rest → x + size_of_shape shape ≤ max_words
 search_fits t k word left rest x shape g s e =
     let n = search_step t k word left rest x shape g s e in
     let f = g.within (k * t.words_per_region + s.offset) n.tile n.tile_is in

@@ -1,4 +1,5 @@
 -- A run's regions become free.
+use Rattle.heap_words.specs.Configs.{max_words}
 use Rattle.std.proofs.Common.{◌≡◌, ◌≢◌, ℕ, zero, suc, ◌+◌, ◌-◌, ◌*◌, ◌/◌, ◌%◌, ◌^◌, ◌<◌, ◌≤◌, Bool, true, false, Some, None, List, [], ◌∷◌, ◌++◌, length, take, drop, get_or, set, refl, sym, ◌∙◌, ap, subst, arith, inl, inr, replicate, drop-cons}
 use Rattle.std.proofs.lemmas.List.{length-append, length-take, length-drop, append_assoc, drop-drop, get_or-drop, length-replicate, take_all, drop_all}
 use Rattle.std.proofs.lemmas.List.Edits.{paste_more}
@@ -231,9 +232,9 @@ pub record IsCounted (rows : List Row) (from i : ℕ) : Type 0 where
   pub from_le : from ≤ i
 
 -- there are no more rows than words
-pub rows_small : (size : ℕ) (words : List ℕ) (rows : List Row) → IsTable size words rows → length rows ≤ 2 ^ 20
+pub rows_small : (size : ℕ) (words : List ℕ) (rows : List Row) → IsTable size words rows → length rows ≤ max_words
 rows_small size words rows g = few (length rows) size (length words) g.region_size.0 (omega (arith, g.covers)) g.small
   where
-    few : (k size l : ℕ) → 0 < size → k * size ≤ l → l ≤ 2 ^ 20 → k ≤ 2 ^ 20
+    few : (k size l : ℕ) → 0 < size → k * size ≤ l → l ≤ max_words → k ≤ max_words
     few k zero l z h s = absurd (omega arith)
     few k (suc n) l z h s = let e : k * suc n ≡ k * n + k = omega arith in omega arith

@@ -1,8 +1,8 @@
 -- The words of a region are a power of two, and whole cards.
-use Rattle.std.proofs.Common.{◌≡◌, ℕ, zero, suc, ◌*◌, ◌/◌, ◌%◌, ◌^◌, ◌<◌, ◌≤◌, IsTrue, arith, inl, inr}
+use Rattle.std.proofs.Common.{◌≡◌, ℕ, zero, suc, ◌*◌, ◌/◌, ◌%◌, ◌^◌, ◌<◌, ◌≤◌, IsTrue, sym, ap, ◌∙◌, arith, inl, inr}
 use Rattle.std.specs.Int.{is_power_of_two}
 use Rattle.std.specs.Int.RustNames.{count_ones}
-use Rattle.std.proofs.Math.Nat.{pow-succ'}
+use Rattle.std.proofs.Math.Nat.{pow-succ', mul_assoc, mul-div_cancel}
 use lib.Count.{ones_step}
 use Rattle.std.proofs.lemmas.Nat.{zero_from_ones, pow_pos}
 use Rattle.std.proofs.lemmas.Bool.{eqb-true, cases_lt}
@@ -21,19 +21,11 @@ one_bit (suc r) n e l h =
 pub power_is : (n r : ℕ) → IsTrue (is_power_of_two n) → 2 ^ r ≤ n → n < 2 * 2 ^ r → n ≡ 2 ^ r
 power_is n r p l h = one_bit r n (eqb-true _ _ p) l h
 
--- so it is a whole number of eights, from eight on
-pub eights : (n r : ℕ) → n ≡ 2 ^ r → 8 ≤ n → (k : ℕ) × (n ≡ k * 8)
-eights n zero e l = absurd (omega arith)
-eights n (suc zero) e l = absurd (let p : 2 ^ suc zero ≡ 2 * 2 ^ zero = pow-succ' 2 zero in omega arith)
-eights n (suc (suc zero)) e l = absurd (let p : 2 ^ suc (suc zero) ≡ 2 * 2 ^ suc zero = pow-succ' 2 (suc zero) in let q : 2 ^ suc zero ≡ 2 * 2 ^ zero = pow-succ' 2 zero in omega arith)
-eights n (suc (suc (suc r))) e l =
-    let a : 2 ^ suc (suc (suc r)) ≡ 2 * 2 ^ suc (suc r) = pow-succ' 2 (suc (suc r)) in
-    let b : 2 ^ suc (suc r) ≡ 2 * 2 ^ suc r = pow-succ' 2 (suc r) in
-    let d : 2 ^ suc r ≡ 2 * 2 ^ r = pow-succ' 2 r in
-    (2 ^ r, omega arith)
-
-pub whole_starts : (r w k : ℕ) → w ≡ k * 8 → r * w / 8 * 8 ≡ r * w
-whole_starts r w k e = let f : r * w ≡ r * k * 8 = rw e (omega arith) in omega arith
+-- regions of whole cards are a whole number of cards
+pub whole_starts : (r w card : ℕ) → 0 < card → w ≡ w / card * card → r * w / card * card ≡ r * w
+whole_starts r w card some e =
+    let all : r * w ≡ r * (w / card) * card = ap (λ (n : ℕ). r * n) e ∙ sym (mul_assoc r (w / card) card) in
+    rw all (ap (λ (n : ℕ). n * card) (mul-div_cancel (r * (w / card)) some))
 
 -- a lower power has a lower exponent
 pub short_power : (r n : ℕ) → 2 ^ r < 2 ^ n → r < n

@@ -8,7 +8,7 @@ use Rattle.regions.proofs.Tiles.Making.{known, targets_of}
 use Rattle.regions.proofs.Words.Parse.{tiles-append, IsTiled-append}
 use Rattle.regions.proofs.Words.Places.{place_of}
 use Rattle.regions.proofs.Words.Puts.{put_extend}
-use Rattle.regions.proofs.Tiles.Replaced.{IsBlock, IsFilled, one_filler, filler_quiet, spared_filler, tile_fits, tile_replaced}
+use Rattle.regions.proofs.Tiles.Replaced.{IsBlock, IsFilled, one_filler, filler_quiet, spared_filler, tile_fits, tile_short, tile_replaced}
 use Rattle.regions.proofs.Words.Copies.{filler_pushed}
 use Rattle.regions.proofs.Tiles.Targets.{IsWrittenTable}
 use Rattle.regions.specs.Rows.{sizes_in, first_stored, table_of, IsTable, free_row, put_remainder}
@@ -70,7 +70,8 @@ filler_cut size words rows t x (suc s) n at rest more made new g e h n_is z made
     elim (place_of (sizes_in words) size words rows x (Filler n) (ap (λ (u : Table). tile_in u x) e ∙ h)) [
       | inl q ↦
           let fits = tile_fits size words rows x (Filler n) g q in
-          let f = filler_split (sizes_in words) words x s rest (omega arith) (omega (arith, g.small)) (omega (arith, g.small)) in
+          let short = tile_short size words rows x (Filler n) g q in
+          let f = filler_split (sizes_in words) words x s rest (omega arith) (omega (arith, g.region_size.1)) (omega (arith, g.region_size.1)) in
           let b : IsBlock (sizes_in words) f.block n (Filler (suc s) ∷ remainder rest) = subst (λ (m : ℕ). IsBlock (sizes_in words) f.block m (Filler (suc s) ∷ remainder rest)) (sym n_is) f.is_block in
           let r = tile_replaced size words rows t x (Filler n) f.block (Filler (suc s) ∷ remainder rest) g e q b h (spared_filler t x n h (targets_of size words rows t g e)) (filler_quiet _ rest) in
           let words_is : new ≡ put words x f.block = new_is ∙ ap (λ (ws : List ℕ). put_remainder ws at more) made_is ∙ ap (λ (a : ℕ). put_remainder (set words x (header_word (headers.Filler (suc s)))) a more) at_is ∙ ap (λ (m : ℕ). put_remainder (set words x (header_word (headers.Filler (suc s)))) (x + suc s) m) more_is ∙ f.words_are in

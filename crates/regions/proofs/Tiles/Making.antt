@@ -1,4 +1,5 @@
 -- Regions as a whole: made, taken, released, asked for.
+use Rattle.heap_words.specs.Configs.{max_words, max_region_words}
 use Rattle.std.proofs.Common.{◌≡◌, ℕ, zero, suc, ◌+◌, ◌-◌, ◌*◌, ◌^◌, ◌<◌, ◌≤◌, Some, None, List, [], ◌∷◌, length, take, drop, get_or, set, refl, sym, ◌∙◌, ap, subst, arith, true, replicate, position}
 use Rattle.regions.specs.Table.{Region, Free, Ordinary, First, Rest, Table, with_region, is_free, first_free, taken, region_used, nth_region, used_of, region_kind, kind_of, free_table, HasNoForwarded, EachForwarded, EachForwardedIn, HasTargets}
 use Rattle.std.proofs.lemmas.List.{length-take, length-drop, length-replicate}
@@ -163,7 +164,7 @@ no_targets : (P : ℕ → Type 0) (n : ℕ) → EachForwardedIn P (replicate n F
 no_targets P zero = tt
 no_targets P (suc n) = no_targets P n
 
-pub new_table : (size n : ℕ) (words : List ℕ) (rows : List Row) → 0 < size → size ≤ 2 ^ 12 → length words ≡ n * size → n * size ≤ 2 ^ 20 → rows ≡ replicate n free_row → IsWrittenTable size words rows (free_table n size)
+pub new_table : (size n : ℕ) (words : List ℕ) (rows : List Row) → 0 < size → size ≤ max_region_words → length words ≡ n * size → n * size ≤ max_words → rows ≡ replicate n free_row → IsWrittenTable size words rows (free_table n size)
 unfolding free_table
 new_table size n words rows z h l m e =
     record {

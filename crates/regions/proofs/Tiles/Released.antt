@@ -99,3 +99,11 @@ filler_within t a n k z fitting e low high =
     let o : kind_of t k ≡ kinds.Ordinary = subst (λ (j : ℕ). kind_of t j ≡ kinds.Ordinary) row (filler_region t a n e).1 in
     let below = tile_below t a k (Filler n) z o low high e in
     omega (arith, below, used_within t k fitting o)
+
+-- a filler is no longer than its region
+pub filler_short : (t : Table) (a n : ℕ) → 0 < t.words_per_region → AreFitting t → tile_in t a ≡ Some (Filler n) → n ≤ t.words_per_region
+filler_short t a n some fitting is =
+    let k : ℕ = a / t.words_per_region in
+    let low : k * t.words_per_region ≤ a = omega (arith, some) in
+    let end = filler_within t a n k some fitting is low (omega (arith, some)) in
+    omega (arith, end, low)

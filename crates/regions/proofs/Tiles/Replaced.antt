@@ -139,8 +139,9 @@ spared_filler t x n h g = EachForwardedIn-imp (HasObject t) (λ to. to ≢ x) t.
         let c : None ≡ Some o.object = sym a ∙ b in
         cc
 
-pub tile_fits : (size : ℕ) (words : List ℕ) (rows : List Row) (x : ℕ) (tile : Tile) → IsTable size words rows → InOrdinary (sizes_in words) size words rows x tile → x + tile_size tile ≤ length words
-tile_fits size words rows x tile g q =
+-- a tile of an ordinary region lies in the words, and is no longer than a region
+tile_room : (size : ℕ) (words : List ℕ) (rows : List Row) (x : ℕ) (tile : Tile) → IsTable size words rows → InOrdinary (sizes_in words) size words rows x tile → (x + tile_size tile ≤ length words) × (tile_size tile ≤ size)
+tile_room size words rows x tile g q =
     let n : ℕ = x / size * size in
     let o : ℕ = x % size in
     let row : Row = get_or rows (x / size) free_row in
@@ -149,7 +150,13 @@ tile_fits size words rows x tile g q =
     let st = start_at (sizes_in words) size rows (x / size) n 0 words free_row refl q.known g.rows_right (λ e. let f : kinds.Ordinary ≡ kinds.Rest = sym q.kind_is ∙ e in cc) in
     let right : IsRow (sizes_in words) size (drop n words) row.used kinds.Ordinary = subst (λ (kind : Kind). IsRow (sizes_in words) size (drop n words) row.used kind) q.kind_is st.0.row_is in
     let here = tile_at-tiles (sizes_in words) 0 o o (take row.used (drop n words)) tile right.1 (omega arith) q.tile_is in
-    omega (arith, here.1, length-take row.used (drop n words), right.0)
+    (omega (arith, here.1, length-take row.used (drop n words), right.0), omega (arith, here.1, length-take row.used (drop n words), right.0))
+
+pub tile_fits : (size : ℕ) (words : List ℕ) (rows : List Row) (x : ℕ) (tile : Tile) → IsTable size words rows → InOrdinary (sizes_in words) size words rows x tile → x + tile_size tile ≤ length words
+tile_fits size words rows x tile g q = (tile_room size words rows x tile g q).0
+
+pub tile_short : (size : ℕ) (words : List ℕ) (rows : List Row) (x : ℕ) (tile : Tile) → IsTable size words rows → InOrdinary (sizes_in words) size words rows x tile → tile_size tile ≤ size
+tile_short size words rows x tile g q = (tile_room size words rows x tile g q).1
 
 -- an object is made in a filler: the words as the steps leave them
 pub filler_filled : (size : ℕ) (words : List ℕ) (rows : List Row) (t : Table) (x name p d n at rest more : ℕ) (made new : List ℕ) → IsTable size words rows → table_of size words rows ≡ t → tile_in t x ≡ Some (Filler n) → n ≡ 2 + p + d + rest → p < 2 ^ 24 → d < 2 ^ 24 → made ≡ put words x (header_word (headers.Object p d) ∷ name ∷ replicate (p + d) 0) → new ≡ put_remainder made at more → at ≡ x + (2 + p + d) → more ≡ rest → IsWrittenTable size new rows (replace_tile t x (Object (new_object name p d) ∷ remainder rest))

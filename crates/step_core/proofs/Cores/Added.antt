@@ -10,10 +10,10 @@ use Rattle.regions.specs.declared.row.Kind.TheVariants as kinds
 use Rattle.regions.specs.Table.{Table, First, with_regions, run_regions, replace_tile, remainder, tile_in, object_at, HasNoForwarded, new_object, kind_of, used_of}
 use Rattle.regions.proofs.Tiles.Placing.{Replaces, filler_replaced, tile_at-inside}
 use Rattle.regions.proofs.Tiles.Changes.{WritesObject, object_same}
-use Rattle.alloc_buffers.specs.declared.Buffer.{Buffer}
-use Rattle.alloc_buffers.specs.declared.Place.{Place}
-use Rattle.alloc_buffers.specs.declared.Place.TheVariants as places
-use Rattle.alloc_buffers.specs.Placement.{Buffers, BuffersStand, AreAbove, IsAbove, IsPlaced, IsRunFor, IsPlace, CanHold, address_of, made_at}
+use Rattle.alloc_buffers.specs.declared.buffers.Buffer.{Buffer}
+use Rattle.alloc_buffers.specs.declared.placement.Place.{Place}
+use Rattle.alloc_buffers.specs.declared.placement.Place.TheVariants as places
+use Rattle.alloc_buffers.specs.Placement.{Buffers, BuffersStand, AreAbove, IsAbove, IsPlaced, IsRunFor, IsPlace, address_of, made_at}
 use Rattle.alloc_buffers.proofs.Above.{above_same}
 use Rattle.alloc_buffers.proofs.Runs.{takes, no_tile, run_stands, run_above}
 use Rattle.regions.proofs.Tiles.ShapedMade.{first_object}

@@ -15,7 +15,7 @@ use Rattle.regions.specs.Table.{Table, Free, free_table, object_at, tile_in, reg
 use Rattle.regions.proofs.Tiles.Making.{free_table-unmoved}
 use Rattle.object_graph.specs.State.{first_state}
 use Rattle.heap_words.specs.Configs.{Suits}
-use Rattle.alloc_buffers.specs.declared.Buffer.{Buffer}
+use Rattle.alloc_buffers.specs.declared.buffers.Buffer.{Buffer}
 use Rattle.alloc_buffers.specs.Placement.{BuffersStand, AreAbove, closed}
 use Rattle.satb_log.specs.Logs.{log_of}
 use Rattle.marker.specs.Stands.{MarkerStands}
@@ -25,6 +25,7 @@ use Rattle.remembered_sets.specs.Sets.{empty_sets, empty_set, covers}
 use Rattle.refinement.proofs.Remembered.{remembers_none}
 use Rattle.evacuation.specs.Rooms.{RoomSizes}
 use Rattle.heap_words.specs.Configs.{card_words}
+use Rattle.heap_words.proofs.Limits.{region_cards}
 use Rattle.step_core.specs.Fresh.{fresh_state}
 use Rattle.step_core.specs.Stands.{IsRoomFor, CoreState, kept_of, heap_of, CardsFit, ShowsGraph, Stands, IsCore}
 use Rattle.step_core.proofs.Mutating.Reading.{object_kept}
@@ -48,7 +49,7 @@ nil_shown h zero = tt
 nil_shown h (suc p) = (tt, nil_shown h p)
 
 abbrev pub first_core : Config → Marker → RoomSizes → ℕ → CoreState
-first_core g m d r = record { config = g; table = free_table g.regions g.words; buffers = closed g.buffer g.mutators; marker = m; cards = clean_cards (g.regions * (g.words / 8)) g.mutators; sets = empty_sets g.regions (g.words / 8); room = d; row_room = r; roots = replicate (16 + 8 * g.mutators) None; next = g.first_name }
+first_core g m d r = record { config = g; table = free_table g.regions g.words; buffers = closed g.buffer g.mutators; marker = m; cards = clean_cards (g.regions * (g.words / card_words g)) g.mutators; sets = empty_sets g.regions (g.words / card_words g); room = d; row_room = r; roots = replicate (16 + 8 * g.mutators) None; next = g.first_name }
 
 none_kept : (g : Config) (m : Marker) (d : RoomSizes) (r : ℕ) (a : ℕ) (x : Stored) → kept_of (first_core g m d r) a ≡ Some x → ⊥
 none_kept g m d r a x e = let none = nothing_at g.regions g.words a in let is = object_kept (first_core g m d r) a x e in cc
@@ -93,35 +94,11 @@ none_by (Some x) f = absurd (f x refl)
 first_none : (g : Config) (m : Marker) (d : RoomSizes) (r : ℕ) (a : ℕ) → kept_of (first_core g m d r) a ≡ None
 first_none g m d r a = none_by (kept_of (first_core g m d r) a) (λ x e. none_kept g m d r a x e)
 
--- a number of two or more with one bit is even, and so is its half's case
-half : (n : ℕ) → count_ones n ≡ 1 → 2 ≤ n → (n % 2 ≡ 0) × (count_ones (n / 2) ≡ 1)
-half n one le =
-    let step = ones_step n in
-    let none : count_ones (n / 2) ≡ 0 → n / 2 ≡ 0 = zero_from_ones (n / 2) in
-    elim (cases_eq (count_ones (n / 2)) 0) [
-      | inl q ↦ absurd (let z = none q in omega arith)
-      | inr ne ↦ (omega arith, omega arith)
-    ]
-
-one_bit : (n : ℕ) → IsTrue (is_power_of_two n) → count_ones n ≡ 1
-one_bit n p = grind (arith, common_steps, nat_tests)
-
-eights : (n : ℕ) → IsTrue (is_power_of_two n) → 16 ≤ n → n ≡ n / 8 * 8
-eights n p le =
-    let first = half n (one_bit n p) (omega arith) in
-    let second = half (n / 2) first.1 (omega arith) in
-    let third = half (n / 2 / 2) second.1 (omega arith) in
-    omega (arith, first.0, second.0, third.0)
-
--- a region is a whole number of cards
-whole : (g : Config) → Suits g → g.words ≡ g.words / 8 * 8
-whole g suits = eights g.words suits.words.power suits.words.at_least
-
-first_cards : (g : Config) → Suits g → CardsFit g (clean_cards (g.regions * (g.words / 8)) g.mutators) (empty_sets g.regions (g.words / 8))
+first_cards : (g : Config) → Suits g → CardsFit g (clean_cards (g.regions * (g.words / card_words g)) g.mutators) (empty_sets g.regions (g.words / card_words g))
 first_cards g suits = record {
-  whole_cards = whole g suits;
+  whole_cards = region_cards g suits;
   each_region = length-replicate g.regions (empty_set g.regions);
-  each_card = length-replicate (g.regions * (g.words / 8)) false ∙ ap (λ (n : ℕ). n * (g.words / 8)) (sym (length-replicate g.regions (empty_set g.regions)));
+  each_card = length-replicate (g.regions * (g.words / card_words g)) false ∙ ap (λ (n : ℕ). n * (g.words / card_words g)) (sym (length-replicate g.regions (empty_set g.regions)));
   each_mutator = length-replicate g.mutators [];
 }
 

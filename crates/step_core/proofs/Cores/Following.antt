@@ -1,18 +1,15 @@
 -- A step's reply and graph, as the graph's own step.
 use Rattle.std.proofs.Common.{◌≡◌, ℕ, ◌+◌, ◌<◌, ◌⊎◌, List, [], ◌∷◌, ◌++◌, length, take, map, get_or, refl, sym, ◌∙◌, ap, subst, arith, inl, inr}
-use Rattle.std.specs.Prelude.{◌↔◌, Option}
+use Rattle.std.specs.Prelude.{◌↔◌}
 use Rattle.std.proofs.lemmas.List.{take_more, length-map, get_or-map}
 use Rattle.object_graph.specs.declared.step.Step.{Step}
-use Rattle.heap_model.specs.Graph.{Graph}
 use Rattle.object_graph.specs.Machine.{Outcome, act}
 use Rattle.object_graph.specs.Run.{Happens, IsNew, IsRun}
-use Rattle.object_graph.proofs.MachineLaws.{act-not_full}
 use Rattle.object_graph.specs.declared.step.Op.{Op}
 use Rattle.object_graph.specs.declared.step.Action.{Action}
 use Rattle.object_graph.specs.declared.step.Action.TheVariants as actions
 use Rattle.object_graph.specs.declared.step.Step.TheVariants as steps
 use Rattle.object_graph.specs.declared.step.Event.{Event}
-use Rattle.heap_words.specs.Sizes.{size_of}
 use Rattle.object_graph.specs.declared.step.Counts.{Counts}
 use Rattle.object_graph.specs.declared.step.Register.{Register}
 use Rattle.object_graph.specs.declared.step.Reply.{Reply}
@@ -21,7 +18,7 @@ use Rattle.object_graph.specs.declared.step.Refusal.TheVariants as refusals
 use Rattle.step_core.specs.Stands.{CoreState, State, ShowsGraph, KeepsFrom, Stands, IsCore, IsWhole}
 use Rattle.cards.specs.Cards.{ListsDirtyOnce}
 use Rattle.step_core.specs.Cycle.{Does}
-use Rattle.step_core.specs.Answers.{Acts, Follows, HasNoPlace, IsFull, IsFullStep, RepliesFull, state_after}
+use Rattle.step_core.specs.Answers.{Acts, Follows, IsFullStep, RepliesFull, state_after}
 use Rattle.step_core.specs.Histories.{IsHistory, Passes, Runs}
 
 -- a mutator's step as the graph's own, and what is kept of the snapshot

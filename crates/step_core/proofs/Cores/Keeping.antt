@@ -133,7 +133,7 @@ module _ (k c : CoreState) (e : k ≡ c) (core : IsCore k) (m : ℕ) (object : R
         suits = core.suits;
         layers = layers_writes k.config k.table t k.buffers k.marker a h.stored (with_value h.stored i v) writes core.layers (follows_of (record k { table = t }) _ core.state.snapshot shows keeps) (ap (λ (n : ℕ). 2 + length h.stored.pointers + n) (length-set h.stored.values i v));
         cards = core.cards;
-        remembers = remembers_on k (record k { table = t }) writes.size refl refl
+        remembers = remembers_on k (record k { table = t }) refl writes.size refl refl
             (written_fields (heap_of k) (heap_of (record k { table = t })) a h.stored (with_value h.stored i v) write_set refl) core.remembers;
         room = core.room;
         rows = core.rows;

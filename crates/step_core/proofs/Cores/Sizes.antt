@@ -1,5 +1,5 @@
 -- The sizes of a core.
-use Rattle.std.proofs.Common.{◌<◌, ◌≤◌, arith}
+use Rattle.std.proofs.Common.{◌<◌, arith}
 use Rattle.step_core.specs.Stands.{CoreState, IsCore}
 
 -- a region has some words

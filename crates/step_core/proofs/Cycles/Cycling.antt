@@ -45,7 +45,7 @@ shows_same c b m e g s = record { room = s.room; mutators = s.mutators; next = s
 
 remembers_same : (c : CoreState) (b : Buffers) (m : Marker) → views.heap_of c.table c.roots m ≡ views.heap_of c.table c.roots c.marker → RemembersFields c → RemembersFields (with_marker c b m)
 unfolding kept_of
-remembers_same c b m e r = remembers_on c (with_marker c b m) refl refl refl (same_fields (kept_of c) (kept_of (with_marker c b m)) (λ a. ap (λ (h : Heap). h.kept a) e)) r
+remembers_same c b m e r = remembers_on c (with_marker c b m) refl refl refl refl (same_fields (kept_of c) (kept_of (with_marker c b m)) (λ a. ap (λ (h : Heap). h.kept a) e)) r
 
 -- marking begins
 module _ (k : CoreState) (core : IsCore k) (b : Buffers) (m : Marker) (retires : b ≡ retired k.buffers)
@@ -178,7 +178,7 @@ module _ (k : CoreState) (core : IsCore k) (run : k.marker.running ≡ true) (m 
   unfolding kept_of
   remarked_remembers =
       let ends = exact.ends core.state.snapshot core.state.graph k.roots core.stands.shows.shows (core.stands.keeps.marking run) in
-      remembers_on k (with_marker k k.buffers m) refl refl refl (λ a o e. (o, ends.kept a o e, refl)) core.remembers
+      remembers_on k (with_marker k k.buffers m) refl refl refl refl (λ a o e. (o, ends.kept a o e, refl)) core.remembers
 
   pub remarked_keeps : (s : Graph) → KeepsFrom s k → KeepsFrom s (with_marker k k.buffers m)
   remarked_keeps s f = record { earlier = f.earlier; marking = λ on. absurd cc }

@@ -11,7 +11,7 @@ use Rattle.heap_model.proofs.Changed.{root_set_shows, object_set_shows}
 use Rattle.regions.specs.Table.{Table, pointers_at, values_at, object_values, set_value}
 use Rattle.regions.proofs.Tiles.Changes.{WritesObject, value_put}
 use Rattle.regions.proofs.Words.Values.{with_value}
-use Rattle.object_graph.specs.State.{root_at, with_root, register_place}
+use Rattle.object_graph.specs.State.{with_root, register_place}
 use Rattle.object_graph.specs.Machine.{Outcome, act, on_object, on_name, on_contents, refused, stored}
 use Rattle.object_graph.specs.declared.step.Action.{Action}
 use Rattle.object_graph.specs.declared.step.Action.TheVariants as actions
@@ -26,9 +26,6 @@ use Rattle.step_core.proofs.Mutating.Written.{SamePlaces, object_written}
 
 pub acts_by : (g : Graph) (m : ℕ) (a : Action) (reply : Reply) (c : CoreState) (out : Outcome) → act g m a ≡ out → reply ≡ out.0 → ShowsGraph out.1 c → Acts g m a reply c
 acts_by g m a reply c out e r s = record { reply_is = r ∙ sym (ap (λ (o : Outcome). o.0) e); shows = subst (λ (o : Outcome). ShowsGraph o.1 c) (sym e) s }
-
-on_nil : (g : Graph) (m : ℕ) (r : Register) (f : ℕ → Object → Outcome) → root_at g (register_place m r.number) ≡ None → on_object g m r f ≡ refused g refusals.Nil
-on_nil g m r f e = rw e refl
 
 on_found : (g : Graph) (c : CoreState) (m a : ℕ) (r : Register) (f : ℕ → Object → Outcome) (h : HasObject g c (register_place m r.number) a) → on_object g m r f ≡ f h.stored.name h.object
 on_found g c m a r f h = ap (λ (o : Option ℕ). on_name g o f) h.root ∙ ap (λ (o : Option Object). on_contents g o (f h.stored.name)) h.found
@@ -68,9 +65,6 @@ object_shows g c c' a x y o p s same set named pointers values = record {
 }
 
 module _ (g : Graph) (c : CoreState) (s : ShowsGraph g c) (m : ℕ) (object : Register) where
-  pub put_nil : (i : ℕ) (value : Option Register) → Leads c (register_place m object.number) None → Acts g m (actions.Put object i value) (replies.Refused refusals.Nil) c
-  put_nil i value l = acts_by g m (actions.Put object i value) (replies.Refused refusals.Nil) c (refused g refusals.Nil) (on_nil g m object _ (l g s)) refl s
-
   module _ (a : ℕ) (l : Leads c (register_place m object.number) (Some a)) where
     pub get_past : (to : Register) (i : ℕ) → length (pointers_at c.table a) ≤ i → Acts g m (actions.Get to object i) (replies.Refused refusals.NoField) c
     get_past to i k =

@@ -18,12 +18,12 @@ use Rattle.object_graph.specs.Machine.{act}
 use Rattle.object_graph.specs.declared.step.Action.TheVariants as actions
 use Rattle.object_graph.specs.declared.step.Reply.TheVariants as replies
 use Rattle.object_graph.specs.declared.step.Register.{Register}
-use Rattle.alloc_buffers.specs.Placement.{Buffers, Placement, IsAbove, AreAbove, place_of}
+use Rattle.alloc_buffers.specs.Placement.{Buffers, IsAbove, AreAbove}
 use Rattle.mark_bitmap.specs.Marks.{is_marked}
 use Rattle.mark_bitmap.specs.Tops.{is_below}
 use Rattle.step_core.specs.Stands.{CoreState, kept_of, heap_of, marking_of, ShowsGraph, KeepsFrom, IsCore}
 use Rattle.step_core.specs.Cycle.{LeavesRegions}
-use Rattle.step_core.specs.Answers.{Acts, HasNoPlace}
+use Rattle.step_core.specs.Answers.{Acts}
 use Rattle.step_core.proofs.Mutating.Acting.{acts_by}
 use Rattle.step_core.proofs.Mutating.Small.{halves_added, ends_added}
 use Rattle.step_core.proofs.Cores.Added.{Creates}
@@ -141,7 +141,7 @@ module _ (k : CoreState) (m : ℕ) (to : Register) (t2 : Table) (b1 : Buffers) (
           ends_next = ends_added k.table t2 a (new_object k.next p d) words made.kinds_stay made.is made.others k.marker.tams.next (made.above (slice_index k.marker.tams.next) core.layers.above_next).0 core.layers.ends_next;
         };
         cards = core.cards;
-        remembers = remembers_new k (new (register_place m to.number)) a (new_object k.next p d) (register_place m to.number) words refl refl (added (register_place m to.number)) core.remembers;
+        remembers = remembers_new k (new (register_place m to.number)) a (new_object k.next p d) (register_place m to.number) refl words refl refl (added (register_place m to.number)) core.remembers;
         room = core.room;
         rows = core.rows;
         places = length-set k.roots (register_place m to.number) (Some a) ∙ core.places;

@@ -15,6 +15,8 @@ use Rattle.remembered_sets.specs.Sets.{covers}
 use Rattle.refinement.specs.Remembering.{field_word, IsNoted}
 use Rattle.refinement.proofs.Remembered as remembered
 use Rattle.heap_words.specs.Configs.{card_words}
+use Rattle.heap_words.proofs.Limits.{card_between}
+use Rattle.std.proofs.Math.Nat.{mul_assoc, mul-div_cancel, div-lt_iff_lt-mul}
 use Rattle.step_core.specs.Stands.{CoreState, kept_of, heap_of, ShowsGraph, KeepsFrom, IsCore}
 use Rattle.step_core.proofs.Mutating.Reading.{object_kept, pointers_there}
 use Rattle.step_core.proofs.Mutating.Storing.{rooted}
@@ -31,19 +33,26 @@ field_inside k a i core shaped root within =
     let count = ap (λ (ps : List (Option ℕ)). length ps) (pointers_there k a r.stored r.at) in
     omega (arith, whole, count, within)
 
-below : (word n cards : ℕ) → word < n * (cards * 8) → word / 8 < n * cards
-below word n cards lt =
-    let same : n * (cards * 8) ≡ n * cards * 8 = omega arith in
-    omega (arith, same, lt)
+-- a card has a word
+pub some_card : (k : CoreState) → IsCore k → 0 < card_words k.config
+some_card k core = let least = (card_between k.config core.suits).0 in omega arith
+
+-- a region has as many cards as its words have
+pub cards_a_region : (k : CoreState) → IsCore k → k.config.words / card_words k.config ≡ k.sets.cards_per_region
+cards_a_region k core = ap (λ (n : ℕ). n / card_words k.config) core.cards.whole_cards ∙ mul-div_cancel k.sets.cards_per_region (some_card k core)
+
+below : (word n cards card : ℕ) → 0 < card → word < n * (cards * card) → word / card < n * cards
+below word n cards card some lt = (div-lt_iff_lt-mul some).1 (subst (λ (m : ℕ). word < m) (sym (mul_assoc n cards card)) lt)
 
 -- and its card is one of the cards
 pub card_inside : (k : CoreState) (word : ℕ) → IsCore k → word < length k.table.regions * k.table.words_per_region → word / card_words k.config < length k.cards.dirty
 card_inside k word core lt =
     let fit = core.cards in
-    let words : k.table.words_per_region ≡ k.sets.cards_per_region * 8 = core.layers.region_size ∙ fit.whole_cards in
+    let card : ℕ = card_words k.config in
+    let words : k.table.words_per_region ≡ k.sets.cards_per_region * card = core.layers.region_size ∙ fit.whole_cards in
     let regions : length k.table.regions ≡ length k.sets.sets = core.layers.region_count ∙ sym fit.each_region in
-    let lt' : word < length k.sets.sets * (k.sets.cards_per_region * 8) = subst (λ (n : ℕ). word < n * (k.sets.cards_per_region * 8)) regions (subst (λ (w : ℕ). word < length k.table.regions * w) words lt) in
-    subst (λ (n : ℕ). word / 8 < n) (sym fit.each_card) (below word (length k.sets.sets) k.sets.cards_per_region lt')
+    let lt' : word < length k.sets.sets * (k.sets.cards_per_region * card) = subst (λ (n : ℕ). word < n * (k.sets.cards_per_region * card)) regions (subst (λ (w : ℕ). word < length k.table.regions * w) words lt) in
+    subst (λ (n : ℕ). word / card < n) (sym fit.each_card) (below word (length k.sets.sets) k.sets.cards_per_region card (some_card k core) lt')
 
 or_right : (b d : Bool) → d ≡ true → (b || d) ≡ true
 or_right true d e = refl
@@ -61,7 +70,7 @@ module _ (k : CoreState) (core : IsCore k) (m card : ℕ) (cs : Cards) (known : 
   pub now_dirty : is_dirty cs card ≡ true
   now_dirty = ap (λ (x : Cards). is_dirty x card) is ∙ dirty_after k.cards m card card known ∙ same_card card (is_dirty k.cards card)
 
-  pub noted_so : (a i : ℕ) (target : Option ℕ) (to : ℕ) → target ≡ Some to → card ≡ field_word a i / 8 → IsNoted k.table.words_per_region (card_words k.config) (is_dirty cs) (field_word a i) target
+  pub noted_so : (a i : ℕ) (target : Option ℕ) (to : ℕ) → target ≡ Some to → card ≡ field_word a i / card_words k.config → IsNoted k.table.words_per_region (card_words k.config) (is_dirty cs) (field_word a i) target
   noted_so a i target to e at = subst (λ (t : Option ℕ). IsNoted k.table.words_per_region (card_words k.config) (is_dirty cs) (field_word a i) t) (sym e)
       (inr (ap (is_dirty cs) (sym at) ∙ now_dirty))
 
@@ -121,9 +130,8 @@ pub keeps_noted : (c c' : CoreState) (s : Graph) → c' ≡ record c { cards = c
 keeps_noted c c' s e f = subst (λ (d : CoreState). KeepsFrom s d) (sym e) (keeps_with c c'.cards s f)
 
 -- a card whose first word lies in the heap is one of the cards
-pub card_known : (k : CoreState) (card regions words : ℕ) → IsCore k → regions ≡ length k.table.regions → words ≡ k.table.words_per_region → card * 8 < regions * words → card < length k.cards.dirty
+pub card_known : (k : CoreState) (card regions words : ℕ) → IsCore k → regions ≡ length k.table.regions → words ≡ k.table.words_per_region → card * card_words k.config < regions * words → card < length k.cards.dirty
 card_known k card regions words core er ew lt =
-    let lt' : card * 8 < length k.table.regions * k.table.words_per_region = subst (λ (n : ℕ). card * 8 < n * k.table.words_per_region) er (subst (λ (w : ℕ). card * 8 < regions * w) ew lt) in
-    let there = card_inside k (card * 8) core lt' in
-    let same : card * 8 / 8 ≡ card = omega arith in
-    omega (arith, there, same)
+    let long : ℕ = card_words k.config in
+    let lt' : card * long < length k.table.regions * k.table.words_per_region = subst (λ (n : ℕ). card * long < n * k.table.words_per_region) er (subst (λ (w : ℕ). card * long < regions * w) ew lt) in
+    subst (λ (n : ℕ). n < length k.cards.dirty) (mul-div_cancel card (some_card k core)) (card_inside k (card * long) core lt')

@@ -107,7 +107,7 @@ module _ (k : CoreState) (core : IsCore k) (a i : ℕ) (w : Option ℕ) (t : Tab
 
   -- the field's card is noted, so all stays remembered
   pub store_remembers : (m : Marker) (same : SameRoles k.marker m) → RemembersFields (with_store k t m)
-  store_remembers m same = remembers_stored k (with_store k t m) a i w x (with_pointer x i w) writes.size refl refl (set_in m same) refl noted core.remembers
+  store_remembers m same = remembers_stored k (with_store k t m) a i w x (with_pointer x i w) refl writes.size refl refl (set_in m same) refl noted core.remembers
 
   -- while marking doesn't run there is nothing to save
   pub idle_keeps : k.marker.running ≡ false → (s : Graph) → KeepsFrom s k → KeepsFrom s (with_store k t k.marker)

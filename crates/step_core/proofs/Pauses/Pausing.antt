@@ -1,10 +1,10 @@
 -- The chosen regions are evacuated in a core: k is the core by its fields before that.
-use Rattle.std.proofs.Common.{◌≡◌, ◌≢◌, ℕ, ◌*◌, ◌/◌, ◌≤◌, Bool, true, false, not, ◌&&◌, List, Option, None, length, get_or, refl, sym, ◌∙◌, ap, subst, arith, inl, inr}
+use Rattle.std.proofs.Common.{◌≡◌, ◌≢◌, ℕ, ◌*◌, ◌/◌, ◌≤◌, Bool, true, false, not, ◌&&◌, List, Option, length, get_or, refl, sym, ◌∙◌, ap, subst, arith, inl, inr}
 use Rattle.std.specs.Prelude.{All, ◌↔◌, slice_index, nat_lt, if◌then◌else◌}
 use Rattle.std.proofs.lemmas.Bool.{cases_lt, cases_Bool}
 use Rattle.std.proofs.lemmas.Grind.{common_steps}
 use Rattle.std.proofs.lemmas.Bool.Decides.{nat_tests}
-use Rattle.std.proofs.lemmas.List.{get_or_past, length-replicate}
+use Rattle.std.proofs.lemmas.List.{get_or_past}
 use Rattle.heap_model.specs.Graph.{Graph, IsReachable, next_name}
 use Rattle.heap_model.specs.Heap.{Stored}
 use Rattle.heap_model.specs.Marking.{SameMarking}
@@ -18,7 +18,6 @@ use Rattle.regions.specs.Table.{Table, nth_region, region_used, kind_of, object_
 use Rattle.regions.specs.declared.row.Kind.TheVariants as kinds
 use Rattle.alloc_buffers.specs.Placement as placement
 use Rattle.alloc_buffers.specs.Placement.{Buffers, BuffersStand, AreAbove}
-use Rattle.alloc_buffers.specs.declared.Buffer.{Buffer}
 use Rattle.alloc_buffers.proofs.Placed.{closed_stand, retired_above}
 use Rattle.mark_bitmap.specs.Marks.{is_marked}
 use Rattle.mark_bitmap.specs.Tops.{Tops, is_below, is_in_region, below_next, AreNewer}
@@ -32,15 +31,16 @@ use Rattle.marker.specs.Stands.{MarkerStands}
 use Rattle.marker.specs.declared.marker.Marker.{Marker}
 use Rattle.region_choice.specs.declared.LiveRow.{LiveRow}
 use Rattle.evacuation.specs.Rooms.{RoomSizes}
-use Rattle.evacuation.specs.Evacuates.{Layers, CanEvacuate, HasEvacuated, IsRow, IsNewSet, IsSameBut, MarksAfter, is_chosen, set_in}
+use Rattle.evacuation.specs.Evacuates.{CanEvacuate, HasEvacuated, IsRow, IsNewSet, IsSameBut, MarksAfter, is_chosen, set_in}
 use Rattle.heap_words.specs.Configs.{card_words}
+use Rattle.step_core.proofs.Mutating.Noting.{cards_a_region}
 use Rattle.step_core.specs.Stands.{CoreState, kept_of, heap_of, marking_of, EndsBelow, ShowsGraph, KeepsFrom, LayersFit, IsCore}
 use Rattle.step_core.specs.Reclaimed.{IsReclaimed}
 use Rattle.step_core.specs.Pause.{IsChosen, IsRowOf, IsCandidateRow, IsReady, EvacuatesBest, HasPaused, layers_of}
 use Rattle.heap_words.specs.declared.config.Config.{Config}
 use Rattle.step_core.proofs.Pauses.CopiedNames.{copied_names}
 use Rattle.step_core.proofs.Cores.Layers.{follows_of}
-use Rattle.step_core.proofs.Pauses.Ready.{ready_config, ready_table, ready_marker, ready_roots, ready_next, ready_buffers}
+use Rattle.step_core.proofs.Pauses.Ready.{ready_config, ready_table, ready_marker, ready_roots, ready_next}
 use Rattle.step_core.proofs.Pauses.Refined.{can_scan}
 use Rattle.step_core.proofs.Cores.Sizes.{some_words}
 use Rattle.step_core.proofs.Mutating.Small.{option_is, free_region, words_are, words_none, kind_cases, ordinary_known}
@@ -49,8 +49,7 @@ use Rattle.step_core.proofs.Pauses.Chosen.{chosen_rows, chosen_candidates, chose
 -- there is a flag for each card
 pub cards_room : (k : CoreState) → IsCore k → k.room.cards ≡ card_count k.sets
 cards_room k core =
-    let whole : k.config.words ≡ k.sets.cards_per_region * 8 = core.cards.whole_cards in
-    let each : k.config.words / 8 ≡ k.sets.cards_per_region = omega (arith, whole) in
+    let each = cards_a_region k core in
     core.room.cards ∙ ap (λ (n : ℕ). k.config.regions * n) each ∙ ap (λ (n : ℕ). n * k.sets.cards_per_region) (sym core.cards.each_region)
 
 All_to : (P Q : LiveRow → Type 0) → ((x : LiveRow) → P x → Q x) → (rows : List LiveRow) → All P rows → All Q rows
@@ -327,6 +326,6 @@ paused_ready c k c' budget n w ready p = record {
     reclaimed = λ j. rw (ready_table c k ready) at (p.reclaimed j);
     same = p.same;
     marker = p.marker;
-    evacuated = p.evacuated;
+    evacuated = subst (λ (g : Config). HasEvacuated p.chosen (card_words g) w (layers_of k) (layers_of c')) (ready_config c k ready) p.evacuated;
   };
 }

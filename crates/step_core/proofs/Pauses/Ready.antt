@@ -1,5 +1,5 @@
 -- Before a pause: buffers are closed, and every card is refined. k is the core by its fields.
-use Rattle.std.proofs.Common.{◌≡◌, ℕ, zero, suc, ◌+◌, ◌*◌, ◌<◌, ◌≤◌, Bool, true, false, Option, None, List, [], ◌∷◌, get_or, length, take, replicate, sum_by, refl, sym, ◌∙◌, ap, subst, arith, inl, inr}
+use Rattle.std.proofs.Common.{◌≡◌, ℕ, suc, ◌+◌, ◌*◌, ◌/◌, ◌<◌, ◌≤◌, Bool, true, false, Option, None, List, [], ◌∷◌, get_or, length, take, replicate, sum_by, refl, sym, ◌∙◌, ap, subst, arith, inl, inr}
 use Rattle.std.specs.Prelude.{slice_index, if◌then◌else◌}
 use Rattle.std.proofs.lemmas.List.{length-replicate, take_all}
 use Rattle.std.proofs.lemmas.List.Folds.{sum_by-replicate}
@@ -8,11 +8,12 @@ use Rattle.heap_words.specs.declared.config.Config.{Config}
 use Rattle.heap_model.specs.Graph.{Graph}
 use Rattle.regions.specs.Table.{Table, top_of}
 use Rattle.alloc_buffers.specs.Placement.{Buffers, BuffersStand, AreAbove, closed}
-use Rattle.alloc_buffers.specs.declared.Buffer.{Buffer}
+use Rattle.alloc_buffers.specs.declared.buffers.Buffer.{Buffer}
 use Rattle.cards.specs.Cards.{Cards, clean_cards, is_dirty, flushed, times_in, ListsDirtyOnce}
 use Rattle.remembered_sets.specs.Sets.{covers}
 use Rattle.refinement.specs.Remembering.{Remembers, LeadsInto}
 use Rattle.heap_words.specs.Configs.{card_words}
+use Rattle.step_core.proofs.Mutating.Noting.{cards_a_region}
 use Rattle.step_core.specs.Stands.{CoreState, kept_of, ShowsGraph, KeepsFrom, RemembersFields, IsCore}
 use Rattle.step_core.specs.Refining.{GainsCards, HasRefined}
 use Rattle.step_core.specs.Pause.{IsReady}
@@ -91,7 +92,7 @@ all_clear (b ∷ flags) none = let here : b ≡ false = none 0 in let rest = all
 -- as many cards as before
 cards_stay : (c c' : CoreState) → IsCore c → IsCore c' → c'.config ≡ c.config → length c'.cards.dirty ≡ length c.cards.dirty
 cards_stay c c' core core' same =
-    let per : c'.sets.cards_per_region ≡ c.sets.cards_per_region = (let a = core.cards.whole_cards in let b = core'.cards.whole_cards in let e = ap (λ (x : Config). x.words) same in omega (arith, a, b, e)) in
+    let per : c'.sets.cards_per_region ≡ c.sets.cards_per_region = sym (cards_a_region c' core') ∙ ap (λ (x : Config). x.words / card_words x) same ∙ cards_a_region c core in
     let count = core'.cards.each_region ∙ ap (λ (x : Config). x.regions) same ∙ sym core.cards.each_region in
     core'.cards.each_card ∙ ap (λ (n : ℕ). n * c'.sets.cards_per_region) count ∙ ap (λ (n : ℕ). length c.sets.sets * n) per ∙ sym core.cards.each_card
 

@@ -12,6 +12,8 @@ use Rattle.refinement.proofs.Entered.{adds_gains}
 use Rattle.marker.proofs.Logs.{contained}
 use Rattle.refinement.proofs.Holders.{closed_inside}
 use Rattle.heap_words.specs.Configs.{card_words}
+use Rattle.std.proofs.Math.Nat.{mul-div_cancel}
+use Rattle.step_core.proofs.Mutating.Noting.{some_card, cards_a_region}
 use Rattle.step_core.specs.Stands.{CoreState, kept_of, heap_of, ShowsGraph, KeepsFrom, IsCore}
 use Rattle.step_core.specs.Refining.{GainsCards, RefinesCard, HasRefined}
 
@@ -19,7 +21,7 @@ abbrev pub with_cards : CoreState → Cards → Sets → CoreState
 with_cards c cs ss = record c { cards = cs; sets = ss }
 
 -- cards can be scanned
-pub can_scan : (k : CoreState) → IsCore k → CanScan k.table k.marker.tams k.marker.bitmaps.previous 8 k.sets
+pub can_scan : (k : CoreState) → IsCore k → CanScan k.table k.marker.tams k.marker.bitmaps.previous (card_words k.config) k.sets
 unfolding kept_of
 can_scan k core = record {
   fit = record {
@@ -30,10 +32,10 @@ can_scan k core = record {
   inside = closed_inside k.table k.marker.tams k.marker.bitmaps.previous k.roots (closed core.state.graph (heap_of k) core.stands.shows.shows);
 }
 
-module _ (k : CoreState) (core : IsCore k) (result : Bool) (cs : Cards) (ss : Sets) (scan : CanScan k.table k.marker.tams k.marker.bitmaps.previous 8 ss) (count : length cs.dirty ≡ card_count ss)
-    (refines : Refines result k.table.words_per_region (kept_in k.table k.marker.tams k.marker.bitmaps.previous) 8 k.cards cs k.sets ss)
-    (remembers : Remembers k.table.words_per_region (kept_in k.table k.marker.tams k.marker.bitmaps.previous) 8 (is_dirty k.cards) (covers k.sets)
-    → Remembers k.table.words_per_region (kept_in k.table k.marker.tams k.marker.bitmaps.previous) 8 (is_dirty cs) (covers ss)) where
+module _ (k : CoreState) (core : IsCore k) (result : Bool) (cs : Cards) (ss : Sets) (scan : CanScan k.table k.marker.tams k.marker.bitmaps.previous (card_words k.config) ss) (count : length cs.dirty ≡ card_count ss)
+    (refines : Refines result k.table.words_per_region (kept_in k.table k.marker.tams k.marker.bitmaps.previous) (card_words k.config) k.cards cs k.sets ss)
+    (remembers : Remembers k.table.words_per_region (kept_in k.table k.marker.tams k.marker.bitmaps.previous) (card_words k.config) (is_dirty k.cards) (covers k.sets)
+    → Remembers k.table.words_per_region (kept_in k.table k.marker.tams k.marker.bitmaps.previous) (card_words k.config) (is_dirty cs) (covers ss)) where
   pub cards_show : (g : Graph) → ShowsGraph g k → ShowsGraph g (with_cards k cs ss)
   unfolding kept_of
   cards_show g s = record { room = s.room; mutators = s.mutators; next = s.next; shows = s.shows }
@@ -42,7 +44,7 @@ module _ (k : CoreState) (core : IsCore k) (result : Bool) (cs : Cards) (ss : Se
   unfolding kept_of
   cards_keep s f = record { earlier = f.earlier; marking = f.marking }
 
-  logs_stay : (b : Bool) → Refines b k.table.words_per_region (kept_in k.table k.marker.tams k.marker.bitmaps.previous) 8 k.cards cs k.sets ss → cs.logs ≡ k.cards.logs
+  logs_stay : (b : Bool) → Refines b k.table.words_per_region (kept_in k.table k.marker.tams k.marker.bitmaps.previous) (card_words k.config) k.cards cs k.sets ss → cs.logs ≡ k.cards.logs
   logs_stay true r = r.taken.logs
   logs_stay false r = ap (λ (x : Cards). x.logs) r.1
 
@@ -67,21 +69,24 @@ module _ (k : CoreState) (core : IsCore k) (result : Bool) (cs : Cards) (ss : Se
   }
 
   -- what sets cover once the card was added
-  gains : (card : ℕ) → AddsCard k.table.words_per_region (kept_in k.table k.marker.tams k.marker.bitmaps.previous) 8 card k.sets ss → GainsCards (card ∷ []) k (with_cards k cs ss)
+  gains : (card : ℕ) → AddsCard k.table.words_per_region (kept_in k.table k.marker.tams k.marker.bitmaps.previous) (card_words k.config) card k.sets ss → GainsCards (card ∷ []) k (with_cards k cs ss)
   unfolding kept_of
   gains card adds =
       let inside = subst (λ (n : ℕ). LeadsInside k.table.words_per_region n (kept_in k.table k.marker.tams k.marker.bitmaps.previous)) (core.layers.region_count ∙ sym core.cards.each_region) (can_scan k core).inside in
-      let g = adds_gains k.table.words_per_region (kept_in k.table k.marker.tams k.marker.bitmaps.previous) 8 card k.sets ss inside adds in
+      let g = adds_gains k.table.words_per_region (kept_in k.table k.marker.tams k.marker.bitmaps.previous) (card_words k.config) card k.sets ss inside adds in
       record {
         stays = g.stays;
         only = λ region c e. elim (g.only region c e) [ inl was ↦ inl was | inr new ↦ inr (card, contained (card ∷ []) 0 card refl, new.0, new.1) ];
       }
 
-  one_refined : (b : Bool) → Refines b k.table.words_per_region (kept_in k.table k.marker.tams k.marker.bitmaps.previous) 8 k.cards cs k.sets ss → RefinesCard b k (with_cards k cs ss)
+  one_refined : (b : Bool) → Refines b k.table.words_per_region (kept_in k.table k.marker.tams k.marker.bitmaps.previous) (card_words k.config) k.cards cs k.sets ss → RefinesCard b k (with_cards k cs ss)
   one_refined true r = (r.card, record { same = refl; queue = r.taken.queue; logs = r.taken.logs; sets = gains r.card r.adds; cards_per_region = per_region })
     where
       per_region : ss.cards_per_region ≡ k.sets.cards_per_region
-      per_region = let new = scan.fit.whole_cards in let old = core.cards.whole_cards in let words = core.layers.region_size in omega (arith, new, old, words)
+      per_region =
+          let card : ℕ = card_words k.config in
+          let some = some_card k core in
+          sym (ap (λ (n : ℕ). n / card) (sym core.layers.region_size ∙ scan.fit.whole_cards) ∙ mul-div_cancel ss.cards_per_region some) ∙ cards_a_region k core
   one_refined false r = (r.0, same)
     where
       same : with_cards k cs ss ≡ k

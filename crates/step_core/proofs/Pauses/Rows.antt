@@ -1,16 +1,15 @@
 -- The candidates of a pause, region by region.
-use Rattle.std.proofs.Common.{◌≡◌, ◌≢◌, ℕ, zero, suc, ◌+◌, ◌<◌, ◌≤◌, Bool, true, false, cond, eqb, List, [], ◌∷◌, ◌++◌, length, get_or, take, refl, sym, ◌∙◌, ap, subst, arith, inl, inr}
+use Rattle.std.proofs.Common.{◌≡◌, ℕ, zero, suc, ◌+◌, ◌<◌, ◌≤◌, Bool, true, false, cond, eqb, List, [], ◌∷◌, ◌++◌, length, get_or, take, refl, sym, ◌∙◌, ap, subst, arith, inl, inr}
 use Rattle.std.specs.Prelude.{All, IsPermutation, IsSorted, Some, slice_get, count_by, ◌==◌, ◌||◌}
 use Rattle.std.specs.List.{list_any}
 use Rattle.std.proofs.lemmas.Bool.{cases_eq, cases_lt, eq-eqb, ne_eqb}
-use Rattle.std.proofs.lemmas.List.Sums.{sum_by-cons, sum_by-append, count_by_more_yes, count_by_more_no}
+use Rattle.std.proofs.lemmas.List.Sums.{sum_by-cons, sum_by-append}
 use Rattle.std.proofs.lemmas.List.Elements.{All-append}
 use Rattle.std.proofs.lemmas.List.Folds.{list_any-append}
 use Rattle.std.proofs.lemmas.List.{length-take-le}
 use Rattle.std.proofs.lemmas.List.Sorted.{All-permutation, sum_by-IsPermutation, list_any-IsPermutation, IsPermutation-sym, IsPermutation-trans}
 use Rattle.region_choice.specs.Choice.{copy_limit, live_sum, row_cmp, IsBestWithin}
-use Rattle.regions.specs.Table.{Table, Region, Free, Ordinary, First, Rest, region_kind, nth_region, kind_of, is_free}
-use Rattle.regions.specs.declared.row.Kind.TheVariants as kinds
+use Rattle.regions.specs.Table.{Table, kind_of, is_free}
 use Rattle.mark_bitmap.specs.Tops.{Tops}
 use Rattle.mark_bitmap.specs.Live.{live_bound_of}
 use Rattle.region_choice.specs.declared.LiveRow.{LiveRow}
@@ -23,9 +22,6 @@ bit k row = cond (eqb row.region k) 1 0
 
 All_map : (P Q : LiveRow → Type 0) → ((x : LiveRow) → P x → Q x) → (rows : List LiveRow) → All P rows → All Q rows
 All_map P Q f rows a = λ k d lt. f (get_or rows k d) (a k d lt)
-
-All_none : (P : LiveRow → Type 0) → All P []
-All_none P = λ k d lt. absurd (omega arith)
 
 All_one : (P : LiveRow → Type 0) (x : LiveRow) → P x → All P (x ∷ [])
 All_one P x p = go
@@ -43,13 +39,6 @@ none_of (x ∷ rows) n a =
     omega (arith, sum_by-cons (bit n) x rows, ap {B = ℕ} (λ b. cond b 1 0) other, none_of rows n (λ k d lt. a (suc k) d (omega (arith, lt))))
 
 module _ (t : Table) (tams : Tops) (previous : List Bool) (running : Bool) where
-  pub none_yet : AreCandidates t tams previous running 0 []
-  none_yet = record {
-    are_rows = record { each = All_none (IsRowOf t tams.previous previous); once = λ k. omega arith };
-    each = All_none (IsCandidateRow t tams previous running 0);
-    all = λ k lt. absurd (omega arith);
-  }
-
   further : (n : ℕ) (row : LiveRow) → IsCandidateRow t tams previous running n row → IsCandidateRow t tams previous running (n + 1) row
   further n row c = record { candidate = c.candidate; below = (let lt = c.below in omega arith) }
 

@@ -3,7 +3,7 @@
 use super::pauses::{begin, check, cleanup, forget, get, make, pause, put, refine, remark};
 use super::{act, collect, register, remembers};
 use crate::Core;
-use heap_words::config::Config;
+use heap_words::config::{Config, Format};
 use object_graph::{Action, CollectorStep, Counts, Reply};
 use std::process::Abort;
 use std::test::Fail;
@@ -136,6 +136,7 @@ fn check_cards(rt: &impl Abort, core: &Core, region: u32, cards: u32, dirty: Opt
 #[test]
 fn seventeen_cards(rt: HostRuntime) -> Result<(), Fail> {
     let config = Config {
+        format: Format::V1,
         regions: 12,
         words: 16,
         buffer: 8,

@@ -5,7 +5,7 @@ ghost use Rattle.std.specs.Prelude.{◌≡◌, ◌<◌};
 use super::{act, collect, register};
 use crate::Core;
 use heap_words::addr::Addr;
-use heap_words::config::Config;
+use heap_words::config::{Config, Format};
 use object_graph::{Action, CollectorStep, Counts, Reply};
 use std::alloc::Global;
 use std::process::Abort;
@@ -127,6 +127,7 @@ pub(super) fn check(
     places: &[Option<u32>; 8],
 ) -> Result<(), Fail> {
     let config = Config {
+        format: Format::V1,
         regions,
         words: 16,
         buffer,

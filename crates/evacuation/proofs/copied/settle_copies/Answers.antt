@@ -1,8 +1,8 @@
 use Rattle.std.proofs.Common.{◌≡◌, ◌∙◌, sym, arith, None, rules}
 use Rattle.evacuation.specs.Turns.{layout, space}
 use Rattle.evacuation.proofs.Lists.{get_within}
-use Rattle.evacuation.proofs.After.{after_after, same_after}
-use Rattle.evacuation.proofs.Scans.{regions_more, regions_all}
+use Rattle.evacuation.proofs.Turns.Following.{after_after, same_after}
+use Rattle.evacuation.proofs.Loops.Destinations.{regions_more, regions_all}
 use Rattle.evacuation.proofs.copied.settle_copies.Goals as goal
 
 pub loop-region-init : goal.loop-region-init

@@ -1,6 +1,6 @@
 use Rattle.std.proofs.Common.{◌-◌, ◌^◌}
 use Rattle.evacuation.specs.Turns.{IsTurn, After, EachCard}
-use Rattle.evacuation.proofs.Scans.{AreRegionsSettled}
+use Rattle.evacuation.proofs.Loops.Destinations.{AreRegionsSettled}
 use Rattle.evacuation.proofs.copied.settle_copies.Given as goal
 
 abbrev pub ghost-settle_region : goal.ghost-settle_region

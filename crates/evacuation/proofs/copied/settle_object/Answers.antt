@@ -1,10 +1,10 @@
 use Rattle.std.proofs.Common.{◌∙◌, sym, ap, arith, length, ◌/◌}
 use Rattle.refinement.proofs.Holders.{fields_of}
 use Rattle.evacuation.specs.Turns.{layout, space}
-use Rattle.evacuation.proofs.After.{after_after, same_after, taken_after}
-use Rattle.evacuation.proofs.Keeps.{kept_object}
-use Rattle.evacuation.proofs.Places.{is_some}
-use Rattle.evacuation.proofs.ObjectFields.{fields_more, fields_all, still_field}
+use Rattle.evacuation.proofs.Turns.Following.{after_after, same_after, taken_after}
+use Rattle.evacuation.proofs.Turns.KeptObjects.{kept_object}
+use Rattle.evacuation.proofs.Copies.NewPlace.{is_some}
+use Rattle.evacuation.proofs.Loops.ObjectFields.{fields_more, fields_all, still_field}
 use Rattle.evacuation.proofs.copied.settle_object.Goals as goal
 
 pub field_count-count-requires : goal.field_count-count-requires

@@ -1,18 +1,19 @@
+use Rattle.heap_words.specs.Configs.{max_words}
 use Rattle.evacuation.specs.Space.{IsTaken}
 use Rattle.std.proofs.Common.{◌≡◌, ◌∙◌, ℕ, ap, refl, subst, arith, ◌<◌, ◌≤◌, ◌+◌, ◌*◌, ◌/◌, ◌-◌, ◌^◌, length, sym}
 use Rattle.std.proofs.lemmas.Nat.{mul-le}
 use Rattle.regions.specs.Tiles.{Object}
 use Rattle.object_copy.proofs.Copied.{tile_of_object}
-use Rattle.evacuation.proofs.Keeps.{kept_object}
+use Rattle.evacuation.proofs.Turns.KeptObjects.{kept_object}
 use Rattle.regions.specs.Table.{tile_in, used_of}
 use Rattle.regions.proofs.Words.Divides.{div_is, div_low, div_high}
 use Rattle.evacuation.specs.Turns.{layout, space}
-use Rattle.evacuation.proofs.After.{after_after, same_after, taken_after}
+use Rattle.evacuation.proofs.Turns.Following.{after_after, same_after, taken_after}
 use Rattle.regions.proofs.Tiles.Steps as steps
-use Rattle.evacuation.proofs.Scans as scans
+use Rattle.evacuation.proofs.Loops.Destinations as scans
 use Rattle.evacuation.proofs.copied.settle_region.Goals as goal
 
-bound : (k n w : ℕ) → k < n → n * w ≤ 2 ^ 20 → k * w + w ≤ 2 ^ 20
+bound : (k n w : ℕ) → k < n → n * w ≤ max_words → k * w + w ≤ max_words
 bound k n w h s = let m = mul-le (k + 1) w n w (omega arith) (omega arith) in omega (arith, m)
 
 filled : (top bottom used : ℕ) → (top ≡ bottom → ⊥) → top ≡ bottom + used → 0 < used

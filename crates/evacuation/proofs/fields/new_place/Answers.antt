@@ -1,5 +1,5 @@
 use Rattle.std.proofs.Common.{◌∙◌, sym}
-use Rattle.evacuation.proofs.Places as places
+use Rattle.evacuation.proofs.Copies.NewPlace as places
 use Rattle.evacuation.proofs.fields.new_place.Goals as goal
 
 pub target-requires : goal.target-requires

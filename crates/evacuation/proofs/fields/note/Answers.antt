@@ -1,6 +1,6 @@
 use Rattle.std.proofs.Common.{◌≡◌, ◌∙◌, ℕ, Bool, List, sym, ap, inl, inr, ◌/◌}
 use Rattle.evacuation.specs.Space.{flag}
-use Rattle.evacuation.proofs.Words.{card_within, flag_only, flag_set}
+use Rattle.evacuation.proofs.FieldUpdates.FieldCards.{card_within, flag_only, flag_set}
 use Rattle.evacuation.proofs.fields.note.Goals as goal
 
 pub set-requires : goal.set-requires

@@ -1,9 +1,9 @@
 use Rattle.std.proofs.Common.{◌∙◌, ℕ, sym, subst, arith, Some, None, ◌+◌, ◌≢◌, ◌/◌, ap, inl, inr}
 use Rattle.evacuation.specs.Space.{IsNoted}
 use Rattle.evacuation.specs.Turns.{layout, space}
-use Rattle.evacuation.proofs.After.{after_after, noted_after, taken_after}
-use Rattle.evacuation.proofs.Updates.{noted_settled, field_after}
-use Rattle.evacuation.proofs.Words.{field_pointer, pointer_is, word_within, all_small}
+use Rattle.evacuation.proofs.Turns.Following.{after_after, noted_after, taken_after}
+use Rattle.evacuation.proofs.FieldUpdates.InTable.{noted_settled, field_after}
+use Rattle.evacuation.proofs.FieldUpdates.FieldCards.{field_pointer, pointer_is, word_within, all_small}
 use Rattle.evacuation.proofs.fields.settle_field.Goals as goal
 
 pub get_field-requires : goal.get_field-requires

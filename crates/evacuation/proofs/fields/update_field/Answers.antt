@@ -1,8 +1,9 @@
 use Rattle.std.proofs.Common.{◌≢◌, ◌⊎◌, ◌/◌, ◌∙◌, ℕ, sym, subst, arith, Some, None, ◌+◌, ◌≡◌, true}
-use Rattle.evacuation.specs.Space.{IsNoted, field_at, flag}
+use Rattle.refinement.specs.Remembering.{field_word}
+use Rattle.evacuation.specs.Space.{IsNoted, flag}
 use Rattle.evacuation.specs.Turns.{layout}
-use Rattle.evacuation.proofs.Updates as updates
-use Rattle.evacuation.proofs.Words.{field_pointer, word_within, all_small}
+use Rattle.evacuation.proofs.FieldUpdates.InTable as updates
+use Rattle.evacuation.proofs.FieldUpdates.FieldCards.{field_pointer, word_within, all_small}
 use Rattle.evacuation.proofs.fields.update_field.Goals as goal
 
 pub get_field-requires : goal.get_field-requires
@@ -69,7 +70,7 @@ pub returns-clause-after : goal.returns-clause-after
 returns-clause-after g c =
     let (premises, (turn, (flags, (card, (each, (outside, field)))))) = c.requires in
     let only = subst (λ (n : ℕ). (k : ℕ) → flag c.note.new.noted k ≡ true → (flag c.args.noted.now k ≡ true) ⊎ ((k ≡ (n + 2 + c.args.field) / g.pause.card_words) × (c.new_place-to.result / g.pause.start.words_per_region ≢ (n + 2 + c.args.field) / g.pause.start.words_per_region))) c.word.ensures c.note.ensures.only in
-    let noted : IsNoted (layout g.pause) c.note.new.noted (field_at c.args.at c.args.field) (Some c.new_place-to.result) = subst (λ (n : ℕ). IsNoted (layout g.pause) c.note.new.noted (n + 2 + c.args.field) (Some c.new_place-to.result)) c.word.ensures c.note.ensures.noted in
+    let noted : IsNoted (layout g.pause) c.note.new.noted (field_word c.args.at c.args.field) (Some c.new_place-to.result) = subst (λ (n : ℕ). IsNoted (layout g.pause) c.note.new.noted (n + 2 + c.args.field) (Some c.new_place-to.result)) c.word.ensures c.note.ensures.noted in
     updates.update_after g.pause premises c.args.table.now c.args.destinations.now turn c.args.at c.args.field outside field c.new_place-to.new.table c.set_field.new.self c.new_place-to.new.destinations c.new_place-to.ensures.turn c.new_place-to.ensures.after c.new_place-to.ensures.frame
     c.in-Some.target c.new_place-to.result c.in-Some.ensures (sym c.is_inside.ensures ∙ c.if-not-is_inside.false) c.new_place-to.ensures.place c.law.ensures.positive c.set_field.ensures c.args.noted.now c.note.new.noted noted c.note.ensures.grows (c.note.ensures.each_card ∙ sym each) only
 
@@ -77,6 +78,6 @@ pub returns-clause-clean : goal.returns-clause-clean
 returns-clause-clean g c =
     let (premises, (turn, (flags, (card, (each, (outside, field)))))) = c.requires in
     let only = subst (λ (n : ℕ). (k : ℕ) → flag c.note.new.noted k ≡ true → (flag c.args.noted.now k ≡ true) ⊎ ((k ≡ (n + 2 + c.args.field) / g.pause.card_words) × (c.new_place-to.result / g.pause.start.words_per_region ≢ (n + 2 + c.args.field) / g.pause.start.words_per_region))) c.word.ensures c.note.ensures.only in
-    let noted : IsNoted (layout g.pause) c.note.new.noted (field_at c.args.at c.args.field) (Some c.new_place-to.result) = subst (λ (n : ℕ). IsNoted (layout g.pause) c.note.new.noted (n + 2 + c.args.field) (Some c.new_place-to.result)) c.word.ensures c.note.ensures.noted in
+    let noted : IsNoted (layout g.pause) c.note.new.noted (field_word c.args.at c.args.field) (Some c.new_place-to.result) = subst (λ (n : ℕ). IsNoted (layout g.pause) c.note.new.noted (n + 2 + c.args.field) (Some c.new_place-to.result)) c.word.ensures c.note.ensures.noted in
     updates.update_clean g.pause premises c.args.table.now c.args.destinations.now turn c.args.at c.args.field outside field c.new_place-to.new.table c.set_field.new.self c.new_place-to.new.destinations c.new_place-to.ensures.turn c.new_place-to.ensures.after c.new_place-to.ensures.frame
     c.in-Some.target c.new_place-to.result c.in-Some.ensures (sym c.is_inside.ensures ∙ c.if-not-is_inside.false) c.new_place-to.ensures.place c.law.ensures.positive c.set_field.ensures c.args.noted.now c.note.new.noted noted c.note.ensures.grows (c.note.ensures.each_card ∙ sym each) only

@@ -2,8 +2,8 @@ use Rattle.std.proofs.Common.{◌≡◌, ◌∙◌, ℕ, sym, ap, refl, subst, a
 use Rattle.regions.specs.Table.{top_of}
 use Rattle.regions.specs.Walks.{IsHolder}
 use Rattle.regions.proofs.Words.Divides.{card_has_words}
-use Rattle.evacuation.proofs.CardScans.{card_small, none_there}
-use Rattle.evacuation.proofs.Words.{all_small}
+use Rattle.evacuation.proofs.Loops.OutsideCards.{card_small, none_there}
+use Rattle.evacuation.proofs.FieldUpdates.FieldCards.{all_small}
 use Rattle.evacuation.proofs.outside.update_card.Goals as goal
 
 pub overflow_mul-card : goal.overflow_mul-card

@@ -1,7 +1,7 @@
 use Rattle.std.proofs.Common.{arith, length}
 use Rattle.evacuation.specs.Turns.{layout, space}
-use Rattle.evacuation.proofs.After.{after_after, same_after}
-use Rattle.evacuation.proofs.CardScans.{cards_none, cards_more, cards_skipped}
+use Rattle.evacuation.proofs.Turns.Following.{after_after, same_after}
+use Rattle.evacuation.proofs.Loops.OutsideCards.{cards_none, cards_more, cards_skipped}
 use Rattle.evacuation.proofs.outside.update_cards.Goals as goal
 
 pub loop-card-init : goal.loop-card-init

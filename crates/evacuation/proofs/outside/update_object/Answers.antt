@@ -8,12 +8,12 @@ use Rattle.refinement.proofs.Holders.{fields_of, object_within}
 use Rattle.evacuation.specs.Space.{IsFieldClean}
 use Rattle.evacuation.specs.Turns.{layout, space}
 use Rattle.evacuation.proofs.Lists.{get_below}
-use Rattle.evacuation.proofs.After.{after_after, same_after, clean_after}
-use Rattle.evacuation.proofs.CardScans.{card_small}
-use Rattle.evacuation.proofs.Keeps.{kept_object}
-use Rattle.evacuation.proofs.Places.{is_some}
-use Rattle.evacuation.proofs.ObjectFields.{still_field}
-use Rattle.evacuation.proofs.Words.{all_small}
+use Rattle.evacuation.proofs.Turns.Following.{after_after, same_after, clean_after}
+use Rattle.evacuation.proofs.Loops.OutsideCards.{card_small}
+use Rattle.evacuation.proofs.Turns.KeptObjects.{kept_object}
+use Rattle.evacuation.proofs.Copies.NewPlace.{is_some}
+use Rattle.evacuation.proofs.Loops.ObjectFields.{still_field}
+use Rattle.evacuation.proofs.FieldUpdates.FieldCards.{all_small}
 use Rattle.evacuation.proofs.outside.update_object.Goals as goal
 
 pub overflow_add-first : goal.overflow_add-first

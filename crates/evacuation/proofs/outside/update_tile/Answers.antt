@@ -1,5 +1,5 @@
 use Rattle.std.proofs.Common.{◌∙◌, sym}
-use Rattle.evacuation.proofs.CardScans.{object_now, object_tile}
+use Rattle.evacuation.proofs.Loops.OutsideCards.{object_now, object_tile}
 use Rattle.evacuation.proofs.outside.update_tile.Goals as goal
 
 pub update_object-requires : goal.update_object-requires

@@ -3,10 +3,10 @@ use Rattle.regions.specs.Table.{tile_in}
 use Rattle.regions.specs.Walks.{IsHolder}
 use Rattle.regions.proofs.Words.Divides.{div_high}
 use Rattle.evacuation.specs.Turns.{layout, space}
-use Rattle.evacuation.proofs.After.{after_after, same_after}
-use Rattle.evacuation.proofs.CardScans.{card_small, onward, clean_next, clean_last, clean_past, region_by}
+use Rattle.evacuation.proofs.Turns.Following.{after_after, same_after}
+use Rattle.evacuation.proofs.Loops.OutsideCards.{card_small, onward, clean_next, clean_last, clean_past, region_by}
 use Rattle.regions.proofs.Tiles.Steps.{some_tile}
-use Rattle.evacuation.proofs.Words.{all_small}
+use Rattle.evacuation.proofs.FieldUpdates.FieldCards.{all_small}
 use Rattle.evacuation.proofs.outside.update_tiles.Goals as goal
 
 smaller : (end at next : ℕ) → at < next → next < end → end - next < end - at

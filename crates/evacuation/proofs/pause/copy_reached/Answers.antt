@@ -1,10 +1,10 @@
 use Rattle.std.proofs.Common.{subst, length}
 use Rattle.regions.specs.Table.{Table}
 use Rattle.evacuation.specs.Turns.{After, in_set, layout, space}
-use Rattle.evacuation.proofs.After.{after_after}
-use Rattle.evacuation.proofs.CardScans.{clean_on}
-use Rattle.evacuation.proofs.Ends as ends
-use Rattle.evacuation.proofs.RootWords.{roots_grow}
+use Rattle.evacuation.proofs.Turns.Following.{after_after}
+use Rattle.evacuation.proofs.Loops.OutsideCards.{clean_on}
+use Rattle.evacuation.proofs.Turns.AllCopied as ends
+use Rattle.evacuation.proofs.Loops.RootWords.{roots_grow}
 use Rattle.evacuation.proofs.pause.copy_reached.Goals as goal
 
 pub returns : goal.returns

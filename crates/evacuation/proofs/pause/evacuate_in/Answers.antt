@@ -7,8 +7,8 @@ use Rattle.object_copy.specs.Copies.{Places}
 use Rattle.evacuation.specs.Evacuates.{Layers, is_chosen}
 use Rattle.evacuation.specs.Turns.{IsTurn, in_set}
 use Rattle.evacuation.specs.Evacuates.{HasEvacuated, MarksAfter}
-use Rattle.evacuation.proofs.Asked as asked
-use Rattle.evacuation.proofs.Final as final
+use Rattle.evacuation.proofs.WholePause.Asked as asked
+use Rattle.evacuation.proofs.WholePause.HeapAfter as final
 use Rattle.evacuation.proofs.pause.evacuate_in.Goals as goal
 
 none_noted : (n k : ℕ) → flag (replicate n false) k ≡ true → ⊥

@@ -8,7 +8,7 @@ use Rattle.mark_bitmap.specs.Marks.{is_marked}
 use Rattle.mark_bitmap.specs.Tops.{Tops, is_in_region}
 use Rattle.region_choice.specs.declared.LiveRow.{LiveRow}
 use Rattle.evacuation.specs.Evacuates.{is_chosen}
-use Rattle.evacuation.proofs.Chosen.{chosen_more, not_before, none_moved, step_released, step_cleared, step_marks, kind_by, chosen_at}
+use Rattle.evacuation.proofs.WholePause.ChosenReleased.{chosen_more, not_before, none_moved, step_released, step_cleared, step_marks, kind_by, chosen_at}
 use Rattle.evacuation.proofs.release.release_chosen.Goals as goal
 
 pub release_region-requires-clause-ordinary : goal.release_region-requires-clause-ordinary

@@ -1,7 +1,7 @@
 use Rattle.std.proofs.Common.{rules, arith, ◌+◌, ◌∷◌, [], ◌++◌, ℕ, List, subst, sym, ap, ◌∙◌}
 use Rattle.std.proofs.lemmas.Grind.{common_steps}
 use Rattle.cards.specs.Cards.{Cards}
-use Rattle.evacuation.proofs.Queues.{RiseBelow, none_rise, none_queued, rise_push, rise_to}
+use Rattle.evacuation.proofs.WholePause.RisingQueue.{RiseBelow, none_rise, none_queued, rise_push, rise_to}
 use Rattle.evacuation.proofs.room.dirty_noted.Goals as goal
 
 pub loop-card-init : goal.loop-card-init

@@ -1,7 +1,7 @@
 use Rattle.std.proofs.Common.{◌≡◌, ◌<◌, ◌≤◌, ◌-◌, ℕ, false, length}
 use Rattle.cards.specs.Cards.{is_dirty}
 use Rattle.evacuation.specs.Space.{flag}
-use Rattle.evacuation.proofs.Queues.{RiseBelow}
+use Rattle.evacuation.proofs.WholePause.RisingQueue.{RiseBelow}
 use Rattle.evacuation.proofs.room.dirty_noted.Given as goal
 
 abbrev pub invariant-loop-card : goal.invariant-loop-card

@@ -2,8 +2,8 @@ use Rattle.std.proofs.Common.{◌∙◌, sym, ap, Some, arith, []}
 use Rattle.std.proofs.lemmas.Option.{slice_get-get_or}
 use Rattle.heap_model.specs.Evacuation.{place_after}
 use Rattle.evacuation.specs.Turns.{in_set, layout, plan, space}
-use Rattle.evacuation.proofs.After.{after_after}
-use Rattle.evacuation.proofs.RootWords.{roots_more, roots_all, root_named}
+use Rattle.evacuation.proofs.Turns.Following.{after_after}
+use Rattle.evacuation.proofs.Loops.RootWords.{roots_more, roots_all, root_named}
 use Rattle.evacuation.proofs.roots.update_roots.Goals as goal
 
 pub new_word-new-requires : goal.new_word-new-requires

@@ -1,7 +1,7 @@
 use Rattle.std.proofs.Common.{◌≡◌, ◌≢◌, ◌∙◌, ◌+◌, ◌/◌, ℕ, List, Bool, length, sym, ap, subst, arith}
 use Rattle.regions.specs.Table.{kind_of}
 use Rattle.regions.specs.declared.row.Kind.TheVariants as kinds
-use Rattle.evacuation.proofs.Visiting.{AreCleared, cleared, left}
+use Rattle.evacuation.proofs.Loops.VisitedCards.{AreCleared, cleared, left}
 use Rattle.evacuation.proofs.visited.clear_free.Goals as goal
 use Rattle.evacuation.proofs.visited.clear_free.Goals.{then-is_free, else-is_free}
 

@@ -1,5 +1,5 @@
 use Rattle.std.proofs.Common.{◌≡◌, ◌≤◌, ◌-◌, length}
-use Rattle.evacuation.proofs.Visiting.{AreCleared}
+use Rattle.evacuation.proofs.Loops.VisitedCards.{AreCleared}
 use Rattle.evacuation.proofs.visited.clear_free.Given as goal
 
 abbrev pub invariant-loop-card : goal.invariant-loop-card

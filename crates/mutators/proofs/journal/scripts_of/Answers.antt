@@ -1,4 +1,4 @@
-use Rattle.std.proofs.Common.{◌∙◌, ap, length, List, map}
+use Rattle.std.proofs.Common.{◌∙◌, map}
 use Rattle.std.proofs.lemmas.List.{length-map}
 use Rattle.mutators.proofs.Filling.{filled, as_many}
 use Rattle.mutators.proofs.journal.scripts_of.Goals as goal

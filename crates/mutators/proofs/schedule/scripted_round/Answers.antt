@@ -1,4 +1,4 @@
-use Rattle.std.proofs.Common.{◌≡◌, ◌≤◌, ◌<◌, ◌+◌, ◌∙◌, ap, sym, subst, refl, arith, rules, ℕ, ◌%◌, length, List, get_or}
+use Rattle.std.proofs.Common.{◌≡◌, ◌<◌, ◌∙◌, ap, sym, subst, refl, arith, rules, ℕ, ◌%◌, length, List, get_or}
 use Rattle.object_graph.specs.declared.step.Step.{Step}
 use Rattle.mutators.specs.Scripts.{scripted}
 use Rattle.mutators.specs.Draws.{lefts_of, pick, one_less}

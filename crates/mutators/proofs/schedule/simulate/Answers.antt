@@ -7,7 +7,7 @@ use Rattle.mutators.specs.Draws.{lefts_of, open_places, rest_of, has_background,
 use Rattle.mutators.proofs.Rounds.{round_keeps, round_less, rest_none, none_asked, lefts_first, picked_first}
 use Rattle.mutators.specs.Interleavings.{IsOf}
 use Rattle.mutators.proofs.Plans.{whole_run, same_plan, none_left}
-use Rattle.mutators.proofs.Faults.{not_bad, bad_exactly}
+use Rattle.mutators.proofs.Faults.{bad_exactly}
 use Rattle.mutators.proofs.schedule.simulate.Goals as goal
 
 pub rounds-init : goal.rounds-init

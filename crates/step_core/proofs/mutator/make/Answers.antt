@@ -2,13 +2,14 @@ use Rattle.std.proofs.Common.{◌≡◌, ◌*◌, length, arith, ℕ, ap, ◌∙
 use Rattle.std.proofs.lemmas.Nat.{row_fits}
 use Rattle.alloc_buffers.proofs.Runs.{takes}
 use Rattle.regions.specs.Table.{new_object}
+use Rattle.regions.proofs.Tiles.Released.{filler_short}
 use Rattle.step_core.proofs.mutator.make.Goals as goal
 
 pub new-requires-clause-small : goal.new-requires-clause-small
 new-requires-clause-small c =
     let there = rw c.in-Filler.is at c.requires in
-    let within = c.law.ensures.within _ _ there in
-    omega (arith, within, c.law.ensures.in_all, c.get.ensures.value, c.get-in-Filler.ensures.value)
+    let short = filler_short c.args.table.now c.in-Filler.at _ c.law.ensures.positive c.law.ensures.fitting there in
+    omega (arith, short, c.law.ensures.small, c.get.ensures.value, c.get-in-Filler.ensures.value)
 
 pub overflow_mul-number : goal.overflow_mul-number
 overflow_mul-number c =

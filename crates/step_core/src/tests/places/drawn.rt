@@ -2,7 +2,7 @@
 
 ghost use Rattle.std.specs.Prelude.{◌<◌};
 
-use heap_words::config::Config;
+use heap_words::config::{Config, Format};
 use object_graph::{Action, CollectorStep, Counts, GlobalRoot, Register};
 use rand_core::utils::NextWord;
 use rand_pcg::Lcg64Xsh32;
@@ -162,10 +162,16 @@ pub(crate) fn collection(draw: &mut Lcg64Xsh32) -> CollectorStep {
     }
 }
 
-/// Three to twelve regions of 16 or 32 words, and one or two mutators.
+/// Three to twelve regions of 16 or 32 words, one or two mutators, and either format.
 pub(crate) fn sizes(draw: &mut Lcg64Xsh32) -> Config {
     let words = if below(draw, 2) == 0 { 16 } else { 32 };
+    let format = match below(draw, 4) {
+        0 => Format::V2 { card: 16 },
+        1 => Format::V2 { card: words },
+        _ => Format::V1,
+    };
     Config {
+        format,
         regions: 3 + below(draw, 10),
         words,
         buffer: 4 + below(draw, 5),

@@ -1,4 +1,4 @@
-use Rattle.std.proofs.Common.{arith, length, ◌≤◌, ◌≡◌, ◌+◌, ◌∙◌, ap, sym, refl, subst, ℕ, List}
+use Rattle.std.proofs.Common.{arith, length, ◌≡◌, ◌+◌, ◌∙◌, ap, sym, subst, ℕ, List}
 use Rattle.std.proofs.lemmas.List.{length-replicate}
 use Rattle.std.specs.Prelude.{slice_index}
 use Rattle.heap_words.specs.declared.config.Config.{Config}

@@ -1,4 +1,4 @@
-use Rattle.std.proofs.Common.{refl, sym}
+use Rattle.std.proofs.Common.{refl}
 use Rattle.step_core.proofs.Cores.Following.{created}
 use Rattle.step_core.proofs.heap.Core.act.Goals as goal
 

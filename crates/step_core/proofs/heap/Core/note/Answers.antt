@@ -3,6 +3,7 @@ use Rattle.step_core.proofs.Cycles.Cycling.{to_fields}
 use Rattle.step_core.proofs.Mutating.Noting.{field_inside, card_inside, dirtied_kept, noted_so}
 use Rattle.heap_model.specs.Heap.{IsRoot}
 use Rattle.regions.specs.Table.{pointers_at}
+use Rattle.heap_words.specs.Configs.{card_words}
 use Rattle.step_core.specs.Stands.{heap_of}
 use Rattle.step_core.proofs.heap.Core.note.Goals as goal
 
@@ -51,4 +52,4 @@ returns-then-word-words-clause-noted c =
     (card_inside _ (c.word.result + 2 + c.args.field) c.self.invariant (omega (arith, inside, c.word.ensures))) in
     let d = c.dirty.ensures in
     noted_so _ c.self.invariant c.args.mutator c.new.result _ known d.after d.cards d.mutators c.args.object c.args.field c.args.target.now c.in-Some.to c.in-Some.is
-    (card ∙ ap (λ (n : ℕ). (n + 2 + c.args.field) / 8) c.word.ensures)
+    (card ∙ ap (λ (n : ℕ). (n + 2 + c.args.field) / card_words c.self.inside.config) c.word.ensures)
