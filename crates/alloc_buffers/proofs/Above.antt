@@ -2,14 +2,14 @@
 use Rattle.std.proofs.Common.{◌≡◌, ◌≢◌, ℕ, ◌+◌, ◌*◌, ◌/◌, ◌<◌, ◌≤◌, ◌⊎◌, Some, length, sym, ◌∙◌, ap, subst, arith, inl, inr}
 use Rattle.std.specs.Prelude.{slice_get}
 use Rattle.std.proofs.lemmas.Bool.{cases_lt, cases_eq}
-use Rattle.regions.specs.Tiles.{Tile, Gap, tile_size}
+use Rattle.regions.specs.Tiles.{Tile, Filler, tile_size}
 use Rattle.regions.specs.declared.row.Kind.TheVariants as kinds
 use Rattle.regions.specs.Walks.{AreFitting}
 use Rattle.regions.specs.Shaped.{IsShaped}
 use Rattle.regions.specs.Table.{Table, used_of, top_of, kind_of, tile_in, released}
-use Rattle.regions.proofs.Placing.{Pushed}
-use Rattle.regions.proofs.Released.{region_released, used_stays, kind_stays, row_within, tile_below_top, gap_within}
-use Rattle.alloc_buffers.specs.declared.Buffer.{Buffer}
+use Rattle.regions.proofs.Tiles.Placing.{Pushed}
+use Rattle.regions.proofs.Tiles.Released.{region_released, used_stays, kind_stays, row_within, tile_below_top, filler_within}
+use Rattle.alloc_buffers.specs.declared.buffers.Buffer.{Buffer}
 use Rattle.alloc_buffers.specs.Placement.{Buffers, BuffersStand, IsAbove, AreAbove}
 
 -- no address is in two regions
@@ -63,13 +63,13 @@ above_pushed t t' b k a tile limit p above =
     )
 
 -- an address within a filler
-pub above_filler : (t : Table) (limit : ℕ → ℕ) (x n j : ℕ) → 0 < t.words_per_region → AreFitting t → tile_in t x ≡ Some (Gap n) → j < n → IsAbove t.words_per_region limit x → IsAbove t.words_per_region limit (x + j)
+pub above_filler : (t : Table) (limit : ℕ → ℕ) (x n j : ℕ) → 0 < t.words_per_region → AreFitting t → tile_in t x ≡ Some (Filler n) → j < n → IsAbove t.words_per_region limit x → IsAbove t.words_per_region limit (x + j)
 above_filler t limit x n j z fitting e lt above =
     let size : ℕ = t.words_per_region in
     let k : ℕ = x / size in
     let low : k * size ≤ x = omega arith in
     let high : x < k * size + size = omega arith in
-    let end = gap_within t x n k z fitting e low high in
+    let end = filler_within t x n k z fitting e low high in
     above_behind limit size k x (x + j) z low (omega arith) (omega arith) above
 
 -- no open buffer is in a region above whose limit nothing is handed out
@@ -82,7 +82,7 @@ buffer_outside t b limit k m x shaped stand above o full e =
         | inl high ↦
             let f = stand.fillers m x e in
             let limited : limit k ≤ x.next = above.buffers m x e k low high in
-            let below = tile_below_top t x.next k (Gap x.rest) shaped o low high f.filler in
+            let below = tile_below_top t x.next k (Filler x.rest) shaped o low high f.filler in
             absurd (omega (arith, f.positive, limited, below, full))
         | inr past ↦ inr past
       ]

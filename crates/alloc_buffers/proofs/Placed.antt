@@ -1,54 +1,39 @@
 -- What a placement changes.
-use Rattle.std.proofs.Common.{◌≡◌, ◌≢◌, ℕ, zero, suc, ◌+◌, ◌-◌, ◌*◌, ◌<◌, ◌≤◌, ◌⊎◌, Option, Some, None, List, ◌∷◌, length, refl, sym, ◌∙◌, ap, subst, arith, inl, inr}
+use Rattle.std.proofs.Common.{◌≡◌, ◌≢◌, ℕ, zero, suc, ◌+◌, ◌-◌, ◌*◌, ◌<◌, ◌≤◌, ◌⊎◌, Option, Some, None, List, [], ◌∷◌, length, refl, sym, ◌∙◌, ap, subst, arith, inl, inr}
 use Rattle.std.specs.Prelude.{slice_get, slice_set}
 use Rattle.std.proofs.lemmas.Bool.Decides.{leb_tells}
-use Rattle.std.proofs.lemmas.List.{length-set}
-use Rattle.std.proofs.lemmas.Option.{slice_get-get_or}
-use Rattle.std.proofs.Common.{get_or, replicate}
+use Rattle.std.proofs.lemmas.List.{length-set, get_or-set_other}
+use Rattle.std.proofs.Common.{replicate}
 use Rattle.std.proofs.lemmas.Bool.{cases_lt, cases_eq}
 use Rattle.heap_model.proofs.Lists.{get-set_cases, get-set_same, get-set_other}
-use Rattle.regions.specs.Tiles.{Tile, Gap, tile_at, total_size}
+use Rattle.regions.specs.Tiles.{Tile, Filler, tile_at, total_size}
 use Rattle.regions.specs.declared.row.Kind.TheVariants as kinds
-use Rattle.regions.specs.Walks.{AllPositive, AreFitting}
-use Rattle.regions.specs.Table.{Table, used_of, top_of, kind_of, first_free, taken, push_tile, replace_tile, gap, tile_in, object_at, HasNoMoved, EachMoved, tile_object}
-use Rattle.regions.proofs.Placing.{Replaces, gap_replaced, Pushed, gap_push, region_taken}
-use Rattle.regions.proofs.Changes.{object_same}
+use Rattle.regions.specs.Walks.{AreFitting}
+use Rattle.regions.specs.Table.{Table, Free, Ordinary, nth_region, region_kind, used_of, top_of, kind_of, first_free, taken, push_tile, replace_tile, remainder, tile_in, object_at, HasNoForwarded, tile_object}
+use Rattle.regions.proofs.Tiles.Placing.{remainder_total, remainder_positive, remainder_unmoved, Replaces, filler_replaced, Pushed, filler_push, region_taken}
+use Rattle.regions.proofs.Tiles.Changes.{object_same}
+use Rattle.regions.proofs.LongRuns.Blocks.{void_object}
 use Rattle.alloc_buffers.proofs.Above.{above_same, above_buffers, above_pushed, above_filler}
-use Rattle.alloc_buffers.specs.declared.Buffer.{Buffer}
-use Rattle.alloc_buffers.specs.Placement.{Buffers, BuffersStand, HasFiller, IsPlaced, HasRoom, buffer_of, with_buffer, IsAbove, AreAbove, alone, room_for, in_new_buffer, with_gap, closed}
+use Rattle.alloc_buffers.specs.declared.buffers.Buffer.{Buffer}
+use Rattle.alloc_buffers.specs.declared.placement.Place.TheVariants as places
+use Rattle.alloc_buffers.specs.Placement.{Buffers, BuffersStand, HasFiller, IsPlaced, HasRoom, buffer_of, with_buffer, IsAbove, AreAbove, alone, room_for, in_new_buffer, with_filler, closed}
 
 -- an open buffer is at its address
 buffer_at : (next rest : ℕ) (x : Buffer) → buffer_of next rest ≡ Some x → (x.next ≡ next) × (x.rest ≡ rest) × (0 < rest)
 buffer_at next zero x e = cc
 buffer_at next (suc n) x e = let same : record { next = next; rest = suc n } ≡ x = cc in (sym (ap (λ (y : Buffer). y.next) same), sym (ap (λ (y : Buffer). y.rest) same), omega arith)
 
-object_none : (t : Table) (y n : ℕ) → tile_in t y ≡ Some (Gap n) → object_at t y ≡ None
+object_none : (t : Table) (y n : ℕ) → tile_in t y ≡ Some (Filler n) → object_at t y ≡ None
 unfolding object_at
 object_none t y n e = rw e refl
 
-object_void : (t : Table) (y : ℕ) → tile_in t y ≡ None → object_at t y ≡ None
-unfolding object_at
-object_void t y e = rw e refl
-
-gap_positive : (r : ℕ) → AllPositive (gap r)
-gap_positive zero = tt
-gap_positive (suc r) = (omega arith, tt)
-
-gap_total : (r : ℕ) → total_size (gap r) ≡ r
-gap_total zero = refl
-gap_total (suc r) = omega arith
-
-gap_unmoved : (r : ℕ) → EachMoved (λ _. ⊥) (gap r)
-gap_unmoved zero = tt
-gap_unmoved (suc r) = tt
-
-alone_void : (n j : ℕ) → tile_object (tile_at j (gap n)) ≡ None
+alone_void : (n j : ℕ) → tile_object (tile_at j (remainder n)) ≡ None
 alone_void zero j = refl
 alone_void (suc n) zero = refl
 alone_void (suc n) (suc j) = elim (leb_tells (suc n) (suc j)) [ inl q ↦ rw q.0 refl | inr q ↦ rw q.0 refl ]
 
 -- in a part of a filler that is split is no object
-parts_void : (s r j : ℕ) → tile_object (tile_at j (Gap s ∷ gap r)) ≡ None
+parts_void : (s r j : ℕ) → tile_object (tile_at j (Filler s ∷ remainder r)) ≡ None
 parts_void s r zero = refl
 parts_void s r (suc j) = elim (leb_tells s (suc j)) [ inl q ↦ rw q.0 (alone_void r (suc j - s)) | inr q ↦ rw q.0 refl ]
 
@@ -56,7 +41,7 @@ object_by : (t : Table) (y : ℕ) (o : Option Tile) → tile_in t y ≡ o → ti
 unfolding object_at
 object_by t y o e v = ap tile_object e ∙ v
 
-second_part : (s r : ℕ) → 0 < s → 0 < r → tile_at s (Gap s ∷ gap r) ≡ Some (Gap r)
+second_part : (s r : ℕ) → 0 < s → 0 < r → tile_at s (Filler s ∷ remainder r) ≡ Some (Filler r)
 second_part zero r p q = absurd (omega arith)
 second_part (suc s) zero p q = absurd (omega arith)
 second_part (suc s) (suc r) p q =
@@ -73,19 +58,19 @@ set_cases xs i j v w e = elim (cases_eq j i) [
 ]
 
 -- an object's filler at a region's top
-pub top_placed : (t t1 t2 : Table) (b : Buffers) (opens : List (Option Buffer)) (k w size a : ℕ) → BuffersStand t b → HasNoMoved t → HasRoom t t1 k w → Pushed t1 t2 k a (Gap size)
+pub top_placed : (t t1 t2 : Table) (b : Buffers) (opens : List (Option Buffer)) (k w size a : ℕ) → BuffersStand t b → HasNoForwarded t → HasRoom t t1 k w → Pushed t1 t2 k a (Filler size)
     → ((m : ℕ) (x : Buffer) → slice_get opens m ≡ Some (Some x) → slice_get b.open_buffers m ≡ Some (Some x)) → length opens ≡ length b.open_buffers
     → IsPlaced t t2 b (record { words = b.words; current = Some k; open_buffers = opens }) size a
 top_placed t t1 t2 b opens k w size a s none r p old count =
     let apart : (m : ℕ) (x : Buffer) → slice_get opens m ≡ Some (Some x) → x.next ≢ a = λ m x e h.
     let f = s.fillers m x (old m x e) in
-    let here : tile_in t a ≡ Some (Gap x.rest) = subst (λ (y : ℕ). tile_in t y ≡ Some (Gap x.rest)) h f.filler in
+    let here : tile_in t a ≡ Some (Filler x.rest) = subst (λ (y : ℕ). tile_in t y ≡ Some (Filler x.rest)) h f.filler in
     let void : tile_in t a ≡ None = sym (r.tiles a) ∙ p.was in cc in
     record {
       filler = p.is;
       spare = apart;
       objects = λ y. elim (cases_eq y a) [
-        | inl q ↦ rw q (object_none t2 a size p.is ∙ sym (object_void t a (sym (r.tiles a) ∙ p.was)))
+        | inl q ↦ rw q (object_none t2 a size p.is ∙ sym (void_object t a (sym (r.tiles a) ∙ p.was)))
         | inr n ↦ object_same t t2 y (p.others y n ∙ r.tiles y)
       ];
       unmoved = p.unmoved (r.unmoved none);
@@ -100,24 +85,25 @@ top_placed t t1 t2 b opens k w size a s none r p old count =
       words = refl;
       count = p.count ∙ r.count;
       in_use = λ j n h. r.in_use j n (sym (p.kinds_same j) ∙ h);
+      kinds_stay = λ j n. p.kinds_same j ∙ r.kinds_stay j n;
       above = λ limit h.
           let same = above_same t t1 b limit r.region_size r.count r.used h in
-          let more = above_pushed t1 t2 b k a (Gap size) limit p same in
+          let more = above_pushed t1 t2 b k a (Filler size) limit p same in
           (subst (λ (n : ℕ). IsAbove n limit a) r.region_size more.0, above_buffers t2 b _ limit (λ m x e. more.1.buffers m x (old m x e)) more.1);
     }
 
 -- the rest of a new buffer behind it
-pub rest_placed : (t t2 t3 : Table) (b b2 : Buffers) (m k size rest a a2 : ℕ) → IsPlaced t t2 b b2 size a → Pushed t2 t3 k a2 (Gap rest) → 0 < rest
+pub rest_placed : (t t2 t3 : Table) (b b2 : Buffers) (m k size rest a a2 : ℕ) → IsPlaced t t2 b b2 size a → Pushed t2 t3 k a2 (Filler rest) → 0 < rest
     → IsPlaced t t3 b (record { words = b2.words; current = b2.current; open_buffers = slice_set b2.open_buffers m (Some (record { next = a2; rest = rest })) }) size a
 rest_placed t t2 t3 b b2 m k size rest a a2 s p z =
     let buffer : Buffer = record { next = a2; rest = rest } in
     let away : a ≢ a2 = λ h.
-    let here : tile_in t2 a2 ≡ Some (Gap size) = subst (λ (y : ℕ). tile_in t2 y ≡ Some (Gap size)) h s.filler in
+    let here : tile_in t2 a2 ≡ Some (Filler size) = subst (λ (y : ℕ). tile_in t2 y ≡ Some (Filler size)) h s.filler in
     let void = p.was in cc in
     let next_is : (x : Buffer) → Some x ≡ Some buffer → x.next ≡ a2 = λ x e. let same : x ≡ buffer = cc in ap (λ (y : Buffer). y.next) same in
     let other : (n : ℕ) (x : Buffer) → slice_get b2.open_buffers n ≡ Some (Some x) → x.next ≢ a2 = λ n x e h.
     let f = s.stand.fillers n x e in
-    let here : tile_in t2 a2 ≡ Some (Gap x.rest) = subst (λ (y : ℕ). tile_in t2 y ≡ Some (Gap x.rest)) h f.filler in
+    let here : tile_in t2 a2 ≡ Some (Filler x.rest) = subst (λ (y : ℕ). tile_in t2 y ≡ Some (Filler x.rest)) h f.filler in
     let void = p.was in cc in
     record {
       filler = p.others a away ∙ s.filler;
@@ -126,7 +112,7 @@ rest_placed t t2 t3 b b2 m k size rest a a2 s p z =
         | inr q ↦ s.spare n x q.1
       ];
       objects = λ y. elim (cases_eq y a2) [
-        | inl q ↦ rw q (object_none t3 a2 rest p.is ∙ sym (sym (s.objects a2) ∙ object_void t2 a2 p.was))
+        | inl q ↦ rw q (object_none t3 a2 rest p.is ∙ sym (sym (s.objects a2) ∙ void_object t2 a2 p.was))
         | inr n ↦ object_same t2 t3 y (p.others y n) ∙ s.objects y
       ];
       unmoved = p.unmoved s.unmoved;
@@ -153,9 +139,10 @@ rest_placed t t2 t3 b b2 m k size rest a a2 s p z =
       words = s.words;
       count = p.count ∙ s.count;
       in_use = λ j n h. s.in_use j n (sym (p.kinds_same j) ∙ h);
+      kinds_stay = λ j n. p.kinds_same j ∙ s.kinds_stay j n;
       above = λ limit h.
           let first = s.above limit h in
-          let more = above_pushed t2 t3 b2 k a2 (Gap rest) limit p first.1 in
+          let more = above_pushed t2 t3 b2 k a2 (Filler rest) limit p first.1 in
           let fresh : IsAbove t3.words_per_region limit a2 = subst (λ (n : ℕ). IsAbove n limit a2) (sym p.size) more.0 in (
             first.0,
             above_buffers t3 b2 _ limit (λ n x e. elim (set_cases b2.open_buffers m n (Some buffer) (Some x) e) [
@@ -164,6 +151,15 @@ rest_placed t t2 t3 b b2 m k size rest a a2 s p z =
             ]) more.1,
           );
     }
+
+-- a region that was in use stays what it is when another one is taken
+kind_taken : (t : Table) (k : ℕ) → first_free t ≡ Some k → (j : ℕ) → kind_of t j ≢ kinds.Free → kind_of (taken t (Some k)) j ≡ kind_of t j
+unfolding kind_of nth_region
+kind_taken t k first j n =
+    elim (cases_eq j k) [
+      | inl e ↦ absurd (n (ap (kind_of t) e ∙ (region_taken t k first).was))
+      | inr e ↦ ap region_kind (get_or-set_other t.regions k j (Ordinary []) Free e)
+    ]
 
 pub fresh_is : (t t' : Table) (k n w : ℕ) → Some k ≡ first_free t → t' ≡ taken t (first_free t) → w ≤ t.words_per_region → n ≡ k → HasRoom t t' n w
 fresh_is t t' k n w first is small same =
@@ -177,6 +173,7 @@ fresh_is t t' k n w first is small same =
       unmoved = u.unmoved;
       kinds_same = u.kinds_same;
       in_use = u.in_use;
+      kinds_stay = kind_taken t k (sym first);
       count = u.count;
       tiles = u.others;
       used = u.used;
@@ -184,24 +181,24 @@ fresh_is t t' k n w first is small same =
     subst (λ (j : ℕ). HasRoom t t' j w) (sym same) (subst (λ (v : Table). HasRoom t v k w) (sym is') facts)
 
 -- an object's filler at the start of a buffer
-pub split_placed : (t t' : Table) (b : Buffers) (m size : ℕ) (x : Buffer) → BuffersStand t b → HasNoMoved t → 0 < t.words_per_region → AreFitting t → slice_get b.open_buffers m ≡ Some (Some x) → 0 < size → size ≤ x.rest
-    → t' ≡ replace_tile t x.next (Gap size ∷ gap (x.rest - size))
+pub split_placed : (t t' : Table) (b : Buffers) (m size : ℕ) (x : Buffer) → BuffersStand t b → HasNoForwarded t → 0 < t.words_per_region → AreFitting t → slice_get b.open_buffers m ≡ Some (Some x) → 0 < size → size ≤ x.rest
+    → t' ≡ replace_tile t x.next (Filler size ∷ remainder (x.rest - size))
     → IsPlaced t t' b (with_buffer b b.current m (buffer_of (x.next + size) (x.rest - size))) size x.next
 split_placed t t' b m size x s none z fitting here p le is =
     let n : ℕ = x.rest in
     let r : ℕ = x.rest - size in
     let f = s.fillers m x here in
-    let total : total_size (Gap size ∷ gap r) ≡ n = omega (arith, gap_total r) in
-    let w' = gap_replaced t x.next n (Gap size ∷ gap r) z fitting f.filler f.positive (p, gap_positive r) total (gap_unmoved r) in
-    let w : Replaces t t' x.next n (Gap size ∷ gap r) = subst (λ (u : Table). Replaces t u x.next n (Gap size ∷ gap r)) (sym is) w' in
+    let total : total_size (Filler size ∷ remainder r) ≡ n = omega (arith, remainder_total r) in
+    let w' = filler_replaced t x.next n (Filler size ∷ remainder r) z fitting f.filler f.positive (p, remainder_positive r) total (remainder_unmoved r) in
+    let w : Replaces t t' x.next n (Filler size ∷ remainder r) = subst (λ (u : Table). Replaces t u x.next n (Filler size ∷ remainder r)) (sym is) w' in
     let start : x.next + 0 ≡ x.next = omega arith in
-    let first : tile_in t' x.next ≡ Some (Gap size) = ap (tile_in t') (sym start) ∙ w.within 0 f.positive in
+    let first : tile_in t' x.next ≡ Some (Filler size) = ap (tile_in t') (sym start) ∙ w.within 0 f.positive in
     let fresh : (y : Buffer) → buffer_of (x.next + size) r ≡ Some y → HasFiller t' y = λ y e.
     let at = buffer_at (x.next + size) r y e in
     let lt : size < n = omega (arith, at.2) in
     record {
       positive = omega (arith, at.1, at.2);
-      filler = ap (tile_in t') at.0 ∙ w.within size lt ∙ second_part size r p at.2 ∙ ap (λ (j : ℕ). Some (Gap j)) (sym at.1);
+      filler = ap (tile_in t') at.0 ∙ w.within size lt ∙ second_part size r p at.2 ∙ ap (λ (j : ℕ). Some (Filler j)) (sym at.1);
     } in
     let off : (j : ℕ) (y : Buffer) → j ≢ m → slice_get b.open_buffers j ≡ Some (Some y) → (y.next < x.next) ⊎ (x.next + n ≤ y.next) = λ j y ne e.
     let g = s.fillers j y e in
@@ -232,7 +229,7 @@ split_placed t t' b m size x s none z fitting here p le is =
               let after : object_at t' y ≡ None = object_by t' y _ (ap (tile_in t') (sym at) ∙ w.within (y - x.next) (omega arith)) (parts_void size r (y - x.next)) in
               let before : object_at t y ≡ None = elim (cases_eq y x.next) [
                 | inl same ↦ object_none t y n (ap (tile_in t) same ∙ f.filler)
-                | inr differ ↦ object_void t y (ap (tile_in t) (sym at) ∙ w.inside (y - x.next) (omega arith) (omega arith))
+                | inr differ ↦ void_object t y (ap (tile_in t) (sym at) ∙ w.inside (y - x.next) (omega arith) (omega arith))
               ] in
               after ∙ sym before
           | inr past ↦ object_same t t' y (w.others y (inr past))
@@ -262,6 +259,7 @@ split_placed t t' b m size x s none z fitting here p le is =
       words = refl;
       count = w.count;
       in_use = λ j n h. n (sym (w.kinds_same j) ∙ h);
+      kinds_stay = λ j n. w.kinds_same j;
       above = λ limit h.
           let old : IsAbove t.words_per_region limit x.next = h.buffers m x here in
           let same = above_same t t' b limit w.size w.count w.used h in (
@@ -282,56 +280,53 @@ split_placed t t' b m size x s none z fitting here p le is =
         let at = buffer_at (x.next + size) (x.rest - size) y e in
         let g = s.fillers j u eu in
         let f = s.fillers m x here in
-        let total : total_size (Gap size ∷ gap (x.rest - size)) ≡ x.rest = omega (arith, gap_total (x.rest - size)) in
-        let w = gap_replaced t x.next x.rest (Gap size ∷ gap (x.rest - size)) z fitting f.filler f.positive (p, gap_positive (x.rest - size)) total (gap_unmoved (x.rest - size)) in
+        let total : total_size (Filler size ∷ remainder (x.rest - size)) ≡ x.rest = omega (arith, remainder_total (x.rest - size)) in
+        let w = filler_replaced t x.next x.rest (Filler size ∷ remainder (x.rest - size)) z fitting f.filler f.positive (p, remainder_positive (x.rest - size)) total (remainder_unmoved (x.rest - size)) in
         let place : x.next + size ≡ u.next = sym at.0 ∙ h in
         let void : tile_in t u.next ≡ None = ap (tile_in t) (sym place) ∙ w.inside size p (omega (arith, at.2)) in
         let filler = g.filler in cc
 
-pub opened : (items : List (Option Buffer)) (m : ℕ) (v : Option Buffer) (x : Buffer) → m < length items → v ≡ get_or items m v → v ≡ Some x → slice_get items m ≡ Some (Some x)
-opened items m v x k e is = slice_get-get_or items m v k ∙ ap Some (sym e ∙ is)
-
 -- an object of its own at a region's top, by the steps that push its filler
-pub alone_placed : (t t1 t2 : Table) (c b : Buffers) (n k size a : ℕ) → c ≡ b → BuffersStand t b → HasNoMoved t → HasRoom t t1 k size → n ≡ k → 0 < t1.words_per_region → AreFitting t1 → 0 < size → a ≡ n * t1.words_per_region + used_of t1 n → t2 ≡ push_tile t1 n (Gap size)
+pub alone_placed : (t t1 t2 : Table) (c b : Buffers) (n k size a : ℕ) → c ≡ b → BuffersStand t b → HasNoForwarded t → HasRoom t t1 k size → n ≡ k → 0 < t1.words_per_region → AreFitting t1 → 0 < size → a ≡ n * t1.words_per_region + used_of t1 n → t2 ≡ push_tile t1 n (Filler size)
     → IsPlaced t t2 b (record { words = c.words; current = Some k; open_buffers = c.open_buffers }) size a
 alone_placed t t1 t2 c b n k size a e s none r same z fitting p at is =
-    let push = gap_push t1 k (Gap size) z fitting r.known r.ordinary p r.room tt in
+    let push = filler_push t1 k (Filler size) z fitting r.known r.ordinary p r.room tt in
     let at' : k * t1.words_per_region + used_of t1 k ≡ a = ap (λ (j : ℕ). j * t1.words_per_region + used_of t1 j) (sym same) ∙ sym at in
-    let is' : push_tile t1 k (Gap size) ≡ t2 = ap (λ (j : ℕ). push_tile t1 j (Gap size)) (sym same) ∙ sym is in
-    let pushed : Pushed t1 t2 k a (Gap size) = subst (λ (j : ℕ). Pushed t1 t2 k j (Gap size)) at' (subst (λ (u : Table). Pushed t1 u k (k * t1.words_per_region + used_of t1 k) (Gap size)) is' push) in
+    let is' : push_tile t1 k (Filler size) ≡ t2 = ap (λ (j : ℕ). push_tile t1 j (Filler size)) (sym same) ∙ sym is in
+    let pushed : Pushed t1 t2 k a (Filler size) = subst (λ (j : ℕ). Pushed t1 t2 k j (Filler size)) at' (subst (λ (u : Table). Pushed t1 u k (k * t1.words_per_region + used_of t1 k) (Filler size)) is' push) in
     subst (λ (d : Buffers). IsPlaced t t2 b (record { words = d.words; current = Some k; open_buffers = d.open_buffers }) size a) (sym e) (top_placed t t1 t2 b b.open_buffers k size size a s none r pushed (λ m x h. h) refl)
 
-pub alone_is : (t t1 t2 : Table) (c b : Buffers) (n k size a : ℕ) → c ≡ b → n ≡ k → room_for t c.current size ≡ Some (record { region = k; table = t1 }) → a ≡ n * t1.words_per_region + used_of t1 n → t2 ≡ push_tile t1 n (Gap size)
-    → alone b size (room_for t b.current size) ≡ Some (record { at = a; table = t2; buffers = record { words = c.words; current = Some k; open_buffers = c.open_buffers } })
+pub alone_is : (t t1 t2 : Table) (c b : Buffers) (n k size a : ℕ) → c ≡ b → n ≡ k → room_for t c.current size ≡ Some (record { region = k; table = t1 }) → a ≡ n * t1.words_per_region + used_of t1 n → t2 ≡ push_tile t1 n (Filler size)
+    → alone b size (room_for t b.current size) ≡ Some (record { place = places.Filler a; table = t2; buffers = record { words = c.words; current = Some k; open_buffers = c.open_buffers } })
 alone_is t t1 t2 c b n k size a e same is at push =
     ap (λ (d : Buffers). alone d size (room_for t d.current size)) (sym e) ∙ ap (alone c size) is ∙ rw (at, push, same) refl
 
-pub inside_placed : (t t' : Table) (c b : Buffers) (m size at next a : ℕ) (x : Buffer) (v : Option Buffer) → c ≡ b → BuffersStand t b → HasNoMoved t → 0 < t.words_per_region → AreFitting t → slice_get b.open_buffers m ≡ Some (Some x) → 0 < size → size ≤ x.rest
-    → at ≡ x.next → t' ≡ replace_tile t at (Gap size ∷ gap (x.rest - size)) → next ≡ at + size → v ≡ buffer_of next (x.rest - size) → a ≡ x.next
+pub inside_placed : (t t' : Table) (c b : Buffers) (m size at next a : ℕ) (x : Buffer) (v : Option Buffer) → c ≡ b → BuffersStand t b → HasNoForwarded t → 0 < t.words_per_region → AreFitting t → slice_get b.open_buffers m ≡ Some (Some x) → 0 < size → size ≤ x.rest
+    → at ≡ x.next → t' ≡ replace_tile t at (Filler size ∷ remainder (x.rest - size)) → next ≡ at + size → v ≡ buffer_of next (x.rest - size) → a ≡ x.next
     → IsPlaced t t' b (record { words = c.words; current = c.current; open_buffers = slice_set c.open_buffers m v }) size a
 inside_placed t t' c b m size at next a x v e s none z fitting here p le at_is is next_is v_is a_is =
-    let is' : t' ≡ replace_tile t x.next (Gap size ∷ gap (x.rest - size)) = is ∙ ap (λ (j : ℕ). replace_tile t j (Gap size ∷ gap (x.rest - size))) at_is in
+    let is' : t' ≡ replace_tile t x.next (Filler size ∷ remainder (x.rest - size)) = is ∙ ap (λ (j : ℕ). replace_tile t j (Filler size ∷ remainder (x.rest - size))) at_is in
     let v' : v ≡ buffer_of (x.next + size) (x.rest - size) = v_is ∙ ap (λ (j : ℕ). buffer_of j (x.rest - size)) (next_is ∙ ap (λ (j : ℕ). j + size) at_is) in
     let w = split_placed t t' b m size x s none z fitting here p le is' in
     let w1 : IsPlaced t t' b (with_buffer b b.current m v) size x.next = subst (λ (u : Option Buffer). IsPlaced t t' b (with_buffer b b.current m u) size x.next) (sym v') w in
     let w2 : IsPlaced t t' b (with_buffer c c.current m v) size x.next = subst (λ (d : Buffers). IsPlaced t t' b (with_buffer d d.current m v) size x.next) (sym e) w1 in
     subst (λ (j : ℕ). IsPlaced t t' b (with_buffer c c.current m v) size j) (sym a_is) w2
 
-pub pushed_by : (t t1 t2 : Table) (n k w size a : ℕ) → HasRoom t t1 k w → size ≤ w → n ≡ k → 0 < t1.words_per_region → AreFitting t1 → 0 < size → a ≡ n * t1.words_per_region + used_of t1 n → t2 ≡ push_tile t1 n (Gap size) → Pushed t1 t2 k a (Gap size)
+pub pushed_by : (t t1 t2 : Table) (n k w size a : ℕ) → HasRoom t t1 k w → size ≤ w → n ≡ k → 0 < t1.words_per_region → AreFitting t1 → 0 < size → a ≡ n * t1.words_per_region + used_of t1 n → t2 ≡ push_tile t1 n (Filler size) → Pushed t1 t2 k a (Filler size)
 pushed_by t t1 t2 n k w size a r le same z fitting p at is =
-    let push = gap_push t1 k (Gap size) z fitting r.known r.ordinary p (let room = r.room in omega arith) tt in
+    let push = filler_push t1 k (Filler size) z fitting r.known r.ordinary p (let room = r.room in omega arith) tt in
     let at' : k * t1.words_per_region + used_of t1 k ≡ a = ap (λ (j : ℕ). j * t1.words_per_region + used_of t1 j) (sym same) ∙ sym at in
-    let is' : push_tile t1 k (Gap size) ≡ t2 = ap (λ (j : ℕ). push_tile t1 j (Gap size)) (sym same) ∙ sym is in
-    subst (λ (j : ℕ). Pushed t1 t2 k j (Gap size)) at' (subst (λ (u : Table). Pushed t1 u k (k * t1.words_per_region + used_of t1 k) (Gap size)) is' push)
+    let is' : push_tile t1 k (Filler size) ≡ t2 = ap (λ (j : ℕ). push_tile t1 j (Filler size)) (sym same) ∙ sym is in
+    subst (λ (j : ℕ). Pushed t1 t2 k j (Filler size)) at' (subst (λ (u : Table). Pushed t1 u k (k * t1.words_per_region + used_of t1 k) (Filler size)) is' push)
 
 -- the room that is left behind the object
 pub record NextRoom (t2 : Table) (k rest : ℕ) : Type 0 where
   pub known : k < length t2.regions
   pub ordinary : kind_of t2 k ≡ kinds.Ordinary
-  pub unmoved : HasNoMoved t2
+  pub unmoved : HasNoForwarded t2
   pub room : used_of t2 k + rest ≤ t2.words_per_region
 
-pub next_room : (t t1 t2 : Table) (k n w size a : ℕ) → HasNoMoved t → HasRoom t t1 k w → size ≤ w → Pushed t1 t2 k a (Gap size) → n ≡ k → NextRoom t2 n (w - size)
+pub next_room : (t t1 t2 : Table) (k n w size a : ℕ) → HasNoForwarded t → HasRoom t t1 k w → size ≤ w → Pushed t1 t2 k a (Filler size) → n ≡ k → NextRoom t2 n (w - size)
 next_room t t1 t2 k n w size a none r le p same = rw same (record {
   known = rw p.count r.known;
   ordinary = p.kinds_same k ∙ r.ordinary;
@@ -342,7 +337,7 @@ next_room t t1 t2 k n w size a none r le p same = rw same (record {
 less : (b : Buffers) (i m : ℕ) (x : Buffer) → slice_get (slice_set b.open_buffers i None) m ≡ Some (Some x) → slice_get b.open_buffers m ≡ Some (Some x)
 less b i m x e = elim (set_cases b.open_buffers i m None (Some x) e) [ inl q ↦ absurd (let h = q.1 in cc) | inr q ↦ q.1 ]
 
-pub whole_placed : (t t1 t2 : Table) (c b : Buffers) (m k w size a : ℕ) → c ≡ b → BuffersStand t b → HasNoMoved t → HasRoom t t1 k w → Pushed t1 t2 k a (Gap size)
+pub whole_placed : (t t1 t2 : Table) (c b : Buffers) (m k w size a : ℕ) → c ≡ b → BuffersStand t b → HasNoForwarded t → HasRoom t t1 k w → Pushed t1 t2 k a (Filler size)
     → IsPlaced t t2 b (record { words = c.words; current = Some k; open_buffers = slice_set c.open_buffers m None }) size a
 whole_placed t t1 t2 c b m k w size a e s none r p =
     subst (λ (d : Buffers). IsPlaced t t2 b (record { words = d.words; current = Some k; open_buffers = slice_set d.open_buffers m None }) size a) (sym e)
@@ -352,41 +347,41 @@ some_buffer : (next rest : ℕ) → 0 < rest → buffer_of next rest ≡ Some (r
 some_buffer next zero z = absurd (omega arith)
 some_buffer next (suc n) z = refl
 
-pub part_placed : (t t1 t2 t3 : Table) (c b : Buffers) (m k n w size rest a a2 next : ℕ) (v : Option Buffer) → c ≡ b → BuffersStand t b → HasNoMoved t → HasRoom t t1 k w → size ≤ w → Pushed t1 t2 k a (Gap size) → n ≡ k → rest ≡ w - size → 0 < rest
-    → 0 < t2.words_per_region → AreFitting t2 → a2 ≡ n * t2.words_per_region + used_of t2 n → t3 ≡ push_tile t2 n (Gap rest) → next ≡ a2 → v ≡ buffer_of next rest
+pub part_placed : (t t1 t2 t3 : Table) (c b : Buffers) (m k n w size rest a a2 next : ℕ) (v : Option Buffer) → c ≡ b → BuffersStand t b → HasNoForwarded t → HasRoom t t1 k w → size ≤ w → Pushed t1 t2 k a (Filler size) → n ≡ k → rest ≡ w - size → 0 < rest
+    → 0 < t2.words_per_region → AreFitting t2 → a2 ≡ n * t2.words_per_region + used_of t2 n → t3 ≡ push_tile t2 n (Filler rest) → next ≡ a2 → v ≡ buffer_of next rest
     → IsPlaced t t3 b (record { words = c.words; current = Some k; open_buffers = slice_set c.open_buffers m v }) size a
 part_placed t t1 t2 t3 c b m k n w size rest a a2 next v e s none r le p same rest_is z big fitting at is next_is v_is =
     let nr = next_room t t1 t2 k n w size a none r le p same in
-    let push = gap_push t2 n (Gap rest) big fitting nr.known nr.ordinary z (let room = nr.room in omega arith) tt in
-    let pushed : Pushed t2 t3 n a2 (Gap rest) = subst (λ (j : ℕ). Pushed t2 t3 n j (Gap rest)) (sym at) (subst (λ (u : Table). Pushed t2 u n (n * t2.words_per_region + used_of t2 n) (Gap rest)) (sym is) push) in
+    let push = filler_push t2 n (Filler rest) big fitting nr.known nr.ordinary z (let room = nr.room in omega arith) tt in
+    let pushed : Pushed t2 t3 n a2 (Filler rest) = subst (λ (j : ℕ). Pushed t2 t3 n j (Filler rest)) (sym at) (subst (λ (u : Table). Pushed t2 u n (n * t2.words_per_region + used_of t2 n) (Filler rest)) (sym is) push) in
     let base = top_placed t t1 t2 b b.open_buffers k w size a s none r p (λ m x h. h) refl in
     let done = rest_placed t t2 t3 b _ m n size rest a a2 base pushed z in
     let v' : v ≡ Some (record { next = a2; rest = rest }) = v_is ∙ ap (λ (j : ℕ). buffer_of j rest) next_is ∙ some_buffer a2 rest z in
     subst (λ (d : Buffers). IsPlaced t t3 b (record { words = d.words; current = Some k; open_buffers = slice_set d.open_buffers m v }) size a) (sym e)
     (subst (λ (u : Option Buffer). IsPlaced t t3 b (record { words = b.words; current = Some k; open_buffers = slice_set b.open_buffers m u }) size a) (sym v') done)
 
-pub in_new_is : (t t1 t2 t3 : Table) (c b : Buffers) (m n k size a : ℕ) (v : Option Buffer) → c ≡ b → n ≡ k → room_for t c.current c.words ≡ Some (record { region = k; table = t1 }) → a ≡ n * t1.words_per_region + used_of t1 n → t2 ≡ push_tile t1 n (Gap size)
-    → t3 ≡ with_gap t2 k (c.words - size) → v ≡ buffer_of (a + size) (c.words - size)
-    → in_new_buffer b m size (room_for t b.current b.words) ≡ Some (record { at = a; table = t3; buffers = record { words = c.words; current = Some k; open_buffers = slice_set c.open_buffers m v } })
+pub in_new_is : (t t1 t2 t3 : Table) (c b : Buffers) (m n k size a : ℕ) (v : Option Buffer) → c ≡ b → n ≡ k → room_for t c.current c.words ≡ Some (record { region = k; table = t1 }) → a ≡ n * t1.words_per_region + used_of t1 n → t2 ≡ push_tile t1 n (Filler size)
+    → t3 ≡ with_filler t2 k (c.words - size) → v ≡ buffer_of (a + size) (c.words - size)
+    → in_new_buffer b m size (room_for t b.current b.words) ≡ Some (record { place = places.Filler a; table = t3; buffers = record { words = c.words; current = Some k; open_buffers = slice_set c.open_buffers m v } })
 in_new_is t t1 t2 t3 c b m n k size a v e same is at push more v_is =
     ap (λ (d : Buffers). in_new_buffer d m size (room_for t d.current d.words)) (sym e) ∙ ap (in_new_buffer c m size) is ∙ rw (v_is, more, push, at, same) refl
 
-some_gap : (t : Table) (k r : ℕ) → 0 < r → with_gap t k r ≡ push_tile t k (Gap r)
-some_gap t k zero z = absurd (omega arith)
-some_gap t k (suc r) z = refl
+some_filler : (t : Table) (k r : ℕ) → 0 < r → with_filler t k r ≡ push_tile t k (Filler r)
+some_filler t k zero z = absurd (omega arith)
+some_filler t k (suc r) z = refl
 
-pub nothing_more : (t : Table) (k r next : ℕ) → r ≡ 0 → (t ≡ with_gap t k r) × (None ≡ buffer_of next r)
-nothing_more t k r next z = (ap (with_gap t k) (sym z), ap (buffer_of next) (sym z))
+pub nothing_more : (t : Table) (k r next : ℕ) → r ≡ 0 → (t ≡ with_filler t k r) × (None ≡ buffer_of next r)
+nothing_more t k r next z = (ap (with_filler t k) (sym z), ap (buffer_of next) (sym z))
 
-pub more_is : (t1 t2 t3 : Table) (k n1 n2 size rest a a2 next : ℕ) (v : Option Buffer) → n1 ≡ k → n2 ≡ k → 0 < rest → Pushed t1 t2 k a (Gap size) → a ≡ n1 * t1.words_per_region + used_of t1 n1
-    → a2 ≡ n2 * t2.words_per_region + used_of t2 n2 → t3 ≡ push_tile t2 n2 (Gap rest) → next ≡ a2 → v ≡ buffer_of next rest → (t3 ≡ with_gap t2 k rest) × (v ≡ buffer_of (a + size) rest)
+pub more_is : (t1 t2 t3 : Table) (k n1 n2 size rest a a2 next : ℕ) (v : Option Buffer) → n1 ≡ k → n2 ≡ k → 0 < rest → Pushed t1 t2 k a (Filler size) → a ≡ n1 * t1.words_per_region + used_of t1 n1
+    → a2 ≡ n2 * t2.words_per_region + used_of t2 n2 → t3 ≡ push_tile t2 n2 (Filler rest) → next ≡ a2 → v ≡ buffer_of next rest → (t3 ≡ with_filler t2 k rest) × (v ≡ buffer_of (a + size) rest)
 more_is t1 t2 t3 k n1 n2 size rest a a2 next v e1 e2 z p at at2 is next_is v_is =
     let x : a ≡ k * t1.words_per_region + used_of t1 k = at ∙ ap (λ (j : ℕ). j * t1.words_per_region + used_of t1 j) e1 in
     let y : a2 ≡ k * t2.words_per_region + used_of t2 k = at2 ∙ ap (λ (j : ℕ). j * t2.words_per_region + used_of t2 j) e2 in
     let size_is : k * t2.words_per_region ≡ k * t1.words_per_region = ap (λ (j : ℕ). k * j) p.size in
     let used = p.used in
     let there : next ≡ a + size = omega arith in
-    (is ∙ ap (λ (j : ℕ). push_tile t2 j (Gap rest)) e2 ∙ sym (some_gap t2 k rest z), v_is ∙ ap (λ (j : ℕ). buffer_of j rest) there)
+    (is ∙ ap (λ (j : ℕ). push_tile t2 j (Filler rest)) e2 ∙ sym (some_filler t2 k rest z), v_is ∙ ap (λ (j : ℕ). buffer_of j rest) there)
 
 none_open : (n m : ℕ) (x : Buffer) → slice_get (replicate {A = Option Buffer} n None) m ≡ Some (Some x) → ⊥
 none_open zero m x e = cc

@@ -1,9 +1,12 @@
 -- Where an object goes.
-use Rattle.std.specs.Prelude.{◌≡◌, ◌≢◌, ◌∷◌, ℕ, zero, suc, ◌+◌, ◌-◌, ◌*◌, ◌<◌, ◌≤◌, Option, Some, None, List, replicate, slice_get, slice_set, slice_index_or, length, if◌then◌else◌, nat_le}
-use Rattle.regions.specs.Tiles.{Gap}
+use Rattle.std.specs.Prelude.{◌≡◌, ◌≢◌, [], ◌∷◌, ℕ, zero, suc, ◌+◌, ◌-◌, ◌*◌, ◌/◌, ◌<◌, ◌≤◌, Option, Some, None, List, replicate, slice_get, slice_set, slice_index_or, length, if◌then◌else◌, nat_le}
+use Rattle.heap_model.specs.Heap.{Stored}
+use Rattle.regions.specs.Tiles.{Filler, Object}
 use Rattle.regions.specs.declared.row.Kind.TheVariants as kinds
-use Rattle.regions.specs.Table.{Table, used_of, top_of, kind_of, first_free, taken, push_tile, replace_tile, gap, tile_in, object_at, HasNoMoved}
-use Rattle.alloc_buffers.specs.declared.Buffer.{Buffer}
+use Rattle.regions.specs.Table.{Table, used_of, top_of, kind_of, first_free, taken, push_tile, replace_tile, remainder, tile_in, object_at, HasNoForwarded, first_run, is_free, with_regions, run_regions}
+use Rattle.alloc_buffers.specs.declared.buffers.Buffer.{Buffer}
+use Rattle.alloc_buffers.specs.declared.placement.Place.{Place}
+use Rattle.alloc_buffers.specs.declared.placement.Place.TheVariants as places
 
 pub record Buffers : Type 0 where
   -- how many words a new buffer gets
@@ -15,7 +18,7 @@ pub record Buffers : Type 0 where
 
 -- an object's place, and what stands then
 pub record Placement : Type 0 where
-  pub at : ℕ
+  pub place : Place
   pub table : Table
   pub buffers : Buffers
 
@@ -37,9 +40,9 @@ abbrev pub buffer_of : ℕ → ℕ → Option Buffer
 buffer_of next zero = None
 buffer_of next (suc n) = Some (record { next = next; rest = suc n })
 
-abbrev pub with_gap : Table → ℕ → ℕ → Table
-with_gap t k zero = t
-with_gap t k (suc n) = push_tile t k (Gap (suc n))
+abbrev pub with_filler : Table → ℕ → ℕ → Table
+with_filler t k zero = t
+with_filler t k (suc n) = push_tile t k (Filler (suc n))
 
 abbrev pub with_buffer : Buffers → Option ℕ → ℕ → Option Buffer → Buffers
 with_buffer b current m buffer = record { words = b.words; current = current; open_buffers = slice_set b.open_buffers m buffer }
@@ -47,16 +50,16 @@ with_buffer b current m buffer = record { words = b.words; current = current; op
 abbrev pub in_new_buffer : Buffers → ℕ → ℕ → Option Room → Option Placement
 in_new_buffer b m size None = None
 in_new_buffer b m size (Some r) = Some (record {
-  at = top_of r.table r.region;
-  table = with_gap (push_tile r.table r.region (Gap size)) r.region (b.words - size);
+  place = places.Filler (top_of r.table r.region);
+  table = with_filler (push_tile r.table r.region (Filler size)) r.region (b.words - size);
   buffers = with_buffer b (Some r.region) m (buffer_of (top_of r.table r.region + size) (b.words - size));
 })
 
 abbrev pub alone : Buffers → ℕ → Option Room → Option Placement
 alone b size None = None
 alone b size (Some r) = Some (record {
-  at = top_of r.table r.region;
-  table = push_tile r.table r.region (Gap size);
+  place = places.Filler (top_of r.table r.region);
+  table = push_tile r.table r.region (Filler size);
   buffers = record { words = b.words; current = Some r.region; open_buffers = b.open_buffers };
 })
 
@@ -65,8 +68,8 @@ outside t b m size = if nat_le size b.words then in_new_buffer b m size (room_fo
 
 abbrev pub in_buffer : Table → Buffers → ℕ → ℕ → Buffer → Placement
 in_buffer t b m size x = record {
-  at = x.next;
-  table = replace_tile t x.next (Gap size ∷ gap (x.rest - size));
+  place = places.Filler x.next;
+  table = replace_tile t x.next (Filler size ∷ remainder (x.rest - size));
   buffers = with_buffer b b.current m (buffer_of (x.next + size) (x.rest - size));
 }
 
@@ -74,13 +77,34 @@ abbrev pub place_by : Table → Buffers → ℕ → ℕ → Option Buffer → Op
 place_by t b m size None = outside t b m size
 place_by t b m size (Some x) = if nat_le size x.rest then Some (in_buffer t b m size x) else outside t b m size
 
+-- the place of an object of at most half a region
+abbrev pub small_place_of : Table → Buffers → ℕ → ℕ → Option Placement
+small_place_of t b m size = place_by t b m size (slice_index_or b.open_buffers m None)
+
+-- how many regions of `words` words an object of a size takes, if it has them to itself
+abbrev pub run_count : ℕ → ℕ → ℕ
+run_count words size = (size + words - 1) / words
+
+-- a run of so many regions from region k on, if there is one; nothing changes
+abbrev pub in_run : Table → Buffers → ℕ → Option ℕ → Option Placement
+in_run t b count None = None
+in_run t b count (Some k) = Some (record { place = places.Run k count; table = t; buffers = b })
+
+-- the lowest run of so many free regions
+abbrev pub lowest_run : Table → Buffers → ℕ → Option Placement
+lowest_run t b count = in_run t b count (first_run is_free count t.regions)
+
+-- the place of a humongous object
+abbrev pub run_place_of : Table → Buffers → ℕ → Option Placement
+run_place_of t b size = lowest_run t b (run_count t.words_per_region size)
+
 -- the place of an object of a size for a mutator, None where there is no room
 abbrev pub place_of : Table → Buffers → ℕ → ℕ → Option Placement
-place_of t b m size = place_by t b m size (slice_index_or b.open_buffers m None)
+place_of t b m size = if nat_le (2 * size) t.words_per_region then small_place_of t b m size else run_place_of t b size
 
 pub record HasFiller (t : Table) (x : Buffer) : Type 0 where
   pub positive : 0 < x.rest
-  pub filler : tile_in t x.next ≡ Some (Gap x.rest)
+  pub filler : tile_in t x.next ≡ Some (Filler x.rest)
 
 -- open buffers are fillers of the table, each its own, and the current region is an ordinary one
 pub record BuffersStand (t : Table) (b : Buffers) : Type 0 where
@@ -88,6 +112,13 @@ pub record BuffersStand (t : Table) (b : Buffers) : Type 0 where
   pub ordinary : (k : ℕ) → b.current ≡ Some k → kind_of t k ≡ kinds.Ordinary
   pub fillers : (m : ℕ) (x : Buffer) → slice_get b.open_buffers m ≡ Some (Some x) → HasFiller t x
   pub apart : (m n : ℕ) (x y : Buffer) → slice_get b.open_buffers m ≡ Some (Some x) → slice_get b.open_buffers n ≡ Some (Some y) → x.next ≡ y.next → m ≡ n
+
+-- what placing an object of a size asks for: it has words, a buffer is no larger than a region, nothing was moved, and buffers stand
+pub record CanPlace (t : Table) (b : Buffers) (size : ℕ) : Type 0 where
+  pub positive : 0 < size
+  pub buffers : b.words ≤ t.words_per_region
+  pub unmoved : HasNoForwarded t
+  pub stand : BuffersStand t b
 
 -- the address lies at or above the limit of its region. Limits are an address for each region
 abbrev pub IsAbove : ℕ → (ℕ → ℕ) → ℕ → Type 0
@@ -100,19 +131,53 @@ pub record AreAbove (t : Table) (b : Buffers) (limit : ℕ → ℕ) : Type 0 whe
 
 -- a filler of the size is at the place, which belongs to no buffer, and no object changed
 pub record IsPlaced (t t' : Table) (b b' : Buffers) (size a : ℕ) : Type 0 where
-  pub filler : tile_in t' a ≡ Some (Gap size)
+  pub filler : tile_in t' a ≡ Some (Filler size)
   pub spare : (m : ℕ) (x : Buffer) → slice_get b'.open_buffers m ≡ Some (Some x) → x.next ≢ a
   pub objects : (y : ℕ) → object_at t' y ≡ object_at t y
-  pub unmoved : HasNoMoved t'
+  pub unmoved : HasNoForwarded t'
   pub region_size : t'.words_per_region ≡ t.words_per_region
   pub stand : BuffersStand t' b'
   pub open_count : length b'.open_buffers ≡ length b.open_buffers
   pub words : b'.words ≡ b.words
   pub count : length t'.regions ≡ length t.regions
-  -- each region in use stays in use
+  -- each region in use stays in use, and what it is
   pub in_use : (j : ℕ) → kind_of t j ≢ kinds.Free → kind_of t' j ≢ kinds.Free
+  pub kinds_stay : (j : ℕ) → kind_of t j ≢ kinds.Free → kind_of t' j ≡ kind_of t j
   -- whatever limits all that was to be handed out lay above: so does the place, and all that is still to be handed out
   pub above : (limit : ℕ → ℕ) → AreAbove t b limit → IsAbove t.words_per_region limit a × AreAbove t' b' limit
+
+-- the lowest run of count free regions begins with k, and an object of the size ends in its last one
+pub record IsRunFor (t : Table) (size k count : ℕ) : Type 0 where
+  pub positive : 0 < count
+  pub lowest : first_run is_free count t.regions ≡ Some k
+  pub covers : size ≤ count * t.words_per_region
+  pub tight : count * t.words_per_region < size + t.words_per_region
+
+-- a run is the place, and nothing changed
+pub record IsRunPlace (t t' : Table) (b b' : Buffers) (size k count : ℕ) : Type 0 where
+  pub run : IsRunFor t size k count
+  pub table : t' ≡ t
+  pub buffers : b' ≡ b
+
+-- the address of a place
+abbrev pub address_of : Table → Place → ℕ
+address_of t (places.Filler a) = a
+address_of t (places.Run k count) = k * t.words_per_region
+
+-- what a place is: a filler for an object of at most half a region, a run for a larger one
+abbrev pub IsPlace : Table → Table → Buffers → Buffers → ℕ → Place → Type 0
+IsPlace t t' b b' size (places.Filler a) = (2 * size ≤ t.words_per_region) × IsPlaced t t' b b' size a
+IsPlace t t' b b' size (places.Run k count) = (t.words_per_region < 2 * size) × IsRunPlace t t' b b' size k count
+
+-- an object of the size can be made in the place
+abbrev pub CanHold : Table → Place → ℕ → Type 0
+CanHold t (places.Filler a) size = tile_in t a ≡ Some (Filler size)
+CanHold t (places.Run k count) size = IsRunFor t size k count
+
+-- the table once an object is made in its place
+abbrev pub made_at : Table → Place → Stored → Table
+made_at t (places.Filler a) s = replace_tile t a (Object s ∷ [])
+made_at t (places.Run k count) s = with_regions t k count (run_regions t.words_per_region s count)
 
 -- region k of t' has room for w words; t' is t, but that k may have been free
 pub record HasRoom (t t' : Table) (k w : ℕ) : Type 0 where
@@ -120,9 +185,10 @@ pub record HasRoom (t t' : Table) (k w : ℕ) : Type 0 where
   pub known : k < length t'.regions
   pub ordinary : kind_of t' k ≡ kinds.Ordinary
   pub room : used_of t' k + w ≤ t'.words_per_region
-  pub unmoved : HasNoMoved t → HasNoMoved t'
+  pub unmoved : HasNoForwarded t → HasNoForwarded t'
   pub kinds_same : (j : ℕ) → kind_of t j ≡ kinds.Ordinary → kind_of t' j ≡ kinds.Ordinary
   pub in_use : (j : ℕ) → kind_of t j ≢ kinds.Free → kind_of t' j ≢ kinds.Free
+  pub kinds_stay : (j : ℕ) → kind_of t j ≢ kinds.Free → kind_of t' j ≡ kind_of t j
   pub count : length t'.regions ≡ length t.regions
   pub tiles : (y : ℕ) → tile_in t' y ≡ tile_in t y
   pub used : (j : ℕ) → used_of t' j ≡ used_of t j

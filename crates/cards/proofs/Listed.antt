@@ -89,14 +89,6 @@ IsCounted-taken t u c all front flag same =
       counted = omega (arith, all.counted, flag_cleared t.dirty c inside dirty, ap flags flag, ap length front, ap (λ l. sum_by length l) same);
     }
 
-pub IsCounted-appended : (t : Cards) (c : ℕ) → IsCounted t → c < length t.dirty → is_dirty t c ≡ false → IsCounted (appended t c)
-IsCounted-appended t c all h clean =
-    IsCounted-more t (appended t c) c all h clean refl (λ x. omega (arith, sum_by_push (λ y. bit (eqb y x)) t.queue c)) (omega (arith, length-append t.queue (c ∷ [])))
-
-pub IsCounted-put_in_front : (t : Cards) (c : ℕ) → IsCounted t → c < length t.dirty → is_dirty t c ≡ false → IsCounted (put_in_front t c)
-IsCounted-put_in_front t c all h clean =
-    IsCounted-more t (put_in_front t c) c all h clean refl (λ x. omega (arith, sum_by-cons (λ y. bit (eqb y x)) c t.queue)) (omega arith)
-
 pub IsCounted-entered : (t : Cards) (m c : ℕ) → IsCounted t → m < length t.logs → c < length t.dirty → is_dirty t c ≡ false → IsCounted (entered t m c)
 IsCounted-entered t m c all known h clean =
     let log : List ℕ = log_of t m ++ c ∷ [] in

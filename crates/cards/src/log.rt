@@ -1,6 +1,6 @@
 //! The card log of one mutator.
 
-ghost use Rattle.std.specs.Prelude.{◌≡◌, ◌+◌, ◌<◌, ◌≤◌, [], ◌∷◌, ◌++◌, length};
+ghost use Rattle.std.specs.Prelude.{◌≡◌, ◌+◌, ◌<◌, ◌≤◌, [], ◌∷◌, ◌++◌, Some, length, slice_get};
 ghost use Rattle.std.specs.VecDeque.{deque_capacity, deque_len};
 
 use heap_words::addr::Card;
@@ -43,6 +43,14 @@ impl CardLog {
         ensures { result ≡ length self.now }
     {
         self.cards.len()
+    }
+
+    /// The card at a place, in the order in which they entered.
+    pub(crate) fn get(&self, place: usize) -> Card
+        requires { place < length self.now }
+        ensures { slice_get self.now place ≡ Some result }
+    {
+        Card::new(self.cards.as_slice()[place])
     }
 
     /// A card enters at the end.

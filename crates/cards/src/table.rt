@@ -6,7 +6,7 @@
 //! ```
 
 ghost use Rattle.std.specs.List.{concat};
-ghost use Rattle.std.specs.Prelude.{◌≡◌, ◌⊎◌, Contains, ◌||◌, ◌&&◌, ◌==◌, ◌<◌, ℕ, false, true, not, All, IfNone, IfOk, IfSome, List, [], ◌∷◌, length, slice_set};
+ghost use Rattle.std.specs.Prelude.{◌≡◌, ◌⊎◌, Contains, ◌||◌, ◌&&◌, ◌==◌, ◌<◌, ℕ, false, true, not, All, IfNone, IfOk, IfSome, List, [], ◌∷◌, length, slice_get, slice_index_or, slice_set, Some};
 ghost use Rattle.cards.specs.Cards.{appended, clean_cards, dirtied, flushed, is_dirty, put_in_front, Cards, ListsDirtyOnce};
 
 use crate::log::{CardLog, LOG_LEN};
@@ -71,6 +71,33 @@ impl CardTable {
         ensures { result ≡ length self.now.queue }
     {
         self.queue.len() as u32
+    }
+
+    /// The card at a place of the queue, counted from its front.
+    pub fn queued_card(&self, place: u32) -> Card
+        requires { place < length self.now.queue }
+        ensures { slice_get self.now.queue place ≡ Some result }
+    {
+        Card::new(self.queue[place as usize])
+    }
+
+    /// How many cards are in the mutator's log.
+    pub fn logged(&self, mutator: u32) -> usize
+        requires { mutator < length self.now.logs }
+        ensures { result ≡ length (slice_index_or self.now.logs mutator []) }
+    {
+        let log = &self.logs[mutator as usize];
+        log.len()
+    }
+
+    /// The card at a place of the mutator's log, in the order in which they became dirty.
+    pub fn logged_card(&self, mutator: u32, place: usize) -> Card
+        requires mutator { mutator < length self.now.logs }
+        requires place { place < length (slice_index_or self.now.logs mutator []) }
+        ensures { slice_get (slice_index_or self.now.logs mutator []) place ≡ Some result }
+    {
+        let log = &self.logs[mutator as usize];
+        log.get(place)
     }
 
     /// A clean card becomes dirty at the end of the mutator's log, which goes to the queue if that makes four. Where the

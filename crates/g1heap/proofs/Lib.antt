@@ -1,1 +1,3 @@
-pub mod Yet
+mod Endings
+mod Once
+mod Told

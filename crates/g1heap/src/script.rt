@@ -1,26 +1,45 @@
-//! A script that is read, run and answered by its record.
+//! A script that is read, run in the order of its file, and answered by its record.
 
-ghost use Rattle.std.specs.Prelude.{◌≡◌, OnOk, IfSome, IfErr, All};
-ghost use Rattle.std.specs.Io.KnownBytes.{Keeps};
-ghost use Rattle.g1heap.specs.Runs.{WritesRecord, Explains};
+ghost use Rattle.g1heap.specs.Runs.{ReadsPlan, Answers, Ends};
 
-use script_text::{LineFault, ReadFault, WriteFault, parse, read_text, write_record};
+use crate::faults::JobFault;
+use crate::job::Order;
+use object_graph::{Plan, Record};
+use script_text::{parse, read_text, write_record};
 use std::alloc::Global;
 use std::io::{Read, Write};
 use step_core::{RunFault, run};
-use thiserror::Error;
 
-/// Why no record was written, by the part that failed.
-#[derive(Clone, Copy, Debug, PartialEq, Eq, Error)]
-pub enum ScriptFault {
-    #[error("cannot read")]
-    Read(ReadFault),
-    #[error("{0}")]
-    Line(LineFault),
-    #[error("run: {0}")]
-    Run(RunFault),
-    #[error("cannot write")]
-    Write(WriteFault),
+/// Reads a script to the end of input.
+pub fn read_plan<R: Read>(alloc: Global, reader: &mut R) -> Result<Plan, JobFault>
+    ensures { ReadsPlan (R.remaining reader.old) (R.remaining reader.new) result }
+{
+    let text = match read_text(alloc, reader) {
+        Ok(text) => text,
+        Err(fault) => return Err(JobFault::Read(fault)),
+    };
+    match parse(alloc, text.as_slice()) {
+        Ok(plan) => Ok(plan),
+        Err(fault) => Err(JobFault::Line(fault)),
+    }
+}
+
+/// Writes the record that came of a run, and nothing where the run failed.
+pub fn answer<W: Write>(
+    alloc: Global,
+    outcome: Result<Record, RunFault>,
+    writer: &mut W,
+) -> Result<(), JobFault>
+    ensures { Answers outcome (W.contents writer.old) (W.contents writer.new) result }
+{
+    let history = match outcome {
+        Ok(history) => history,
+        Err(fault) => return Err(JobFault::Run(fault)),
+    };
+    match write_record(alloc, &history, writer) {
+        Ok(()) => Ok(()),
+        Err(fault) => Err(JobFault::Write(fault)),
+    }
 }
 
 /// Reads a script to the end of input, runs it in a new heap, and writes its record. Nothing is written
@@ -29,27 +48,11 @@ pub fn run_script<R: Read, W: Write>(
     alloc: Global,
     reader: &mut R,
     writer: &mut W,
-) -> Result<(), ScriptFault>
-    ensures record { OnOk result (IfSome (R.remaining reader.old) (λ input. WritesRecord input (W.contents writer.old) (W.contents writer.new))) }
-    ensures fault { IfErr result (λ f. IfSome (R.remaining reader.old) (λ input. Explains input (W.contents writer.old) (W.contents writer.new) f)) }
+) -> Result<(), JobFault>
+    ensures { Ends Order.File (R.remaining reader.old) (R.remaining reader.new) (W.contents writer.old) (W.contents writer.new) result }
 {
-    let text = match read_text(alloc, reader) {
-        Ok(text) => text,
-        Err(fault) => return Err(ScriptFault::Read(fault)),
-    };
-    let plan = match parse(alloc, text.as_slice()) {
-        Ok(plan) => plan,
-        Err(fault) => return Err(ScriptFault::Line(fault)),
-    };
-    drop(text);
-    let config = plan.config();
-    let history = match run(alloc, &config, plan.steps()) {
-        Ok(history) => history,
-        Err(fault) => return Err(ScriptFault::Run(fault)),
-    };
+    let plan = read_plan(alloc, reader)?;
+    let outcome = run(alloc, &plan.config(), plan.steps());
     drop(plan);
-    match write_record(alloc, &history, writer) {
-        Ok(()) => Ok(()),
-        Err(fault) => Err(ScriptFault::Write(fault)),
-    }
+    answer(alloc, outcome, writer)
 }

@@ -1,18 +1,28 @@
 //! The program's job on scripts, faulty readers and writers, and command lines.
 
+mod actors;
 mod cases;
 mod drawn;
+mod judged;
+mod judging;
+mod programs;
 mod records;
 
-use crate::job::read_words;
-use crate::perform::perform;
+use crate::faults::{JobFault, JudgeFault, tell};
+use crate::job::{Order, Task, read_words};
+use crate::perform::{conclude, perform};
 use cases::CASES;
+use heap_words::config::NewFault;
 use records::RECORDS;
+use script_text::{Kind, LineFault, ReadFault, WriteFault};
 use std::alloc::Global;
 use std::io;
 use std::io::{Read, Write};
 use std::process::Abort;
+use std::sync::Wait;
 use std::test::Fail;
+use std::thread::Threads;
+use step_core::RunFault;
 
 /// What a job answered and wrote.
 #[derive(Drop)]
@@ -31,17 +41,27 @@ fn words(alloc: Global, given: &[&str]) -> Result<Vec<String>, Fail> {
     Ok(words)
 }
 
-/// Runs a script.
-fn run(alloc: Global, script: &str) -> Result<Outcome, Fail> {
-    let words = words(alloc, &["run", "script.heap"])?;
+/// Does what the words ask for, with a text as the file's.
+fn outcome_of<H: Threads + Wait + Sync>(
+    rt: &H,
+    alloc: Global,
+    given: &[&str],
+    text: &str,
+) -> Result<Outcome, Fail> {
+    let words = words(alloc, given)?;
     let Ok(job) = read_words(alloc, words.as_slice()) else {
         return Err(Fail::from("the words are understood"));
     };
-    let mut reader = script.as_bytes();
+    let mut reader = text.as_bytes();
     let mut out = Vec::new(alloc);
     let mut err = Vec::new(alloc);
-    let status = perform(alloc, &job, &mut reader, &mut out, &mut err);
+    let status = perform(rt, alloc, &job, &mut reader, &mut out, &mut err);
     Ok(Outcome { status, out, err })
+}
+
+/// Runs a script.
+fn run<H: Threads + Wait + Sync>(rt: &H, alloc: Global, script: &str) -> Result<Outcome, Fail> {
+    outcome_of(rt, alloc, &["run", "script.heap"], script)
 }
 
 fn assert_outcome(
@@ -60,7 +80,7 @@ fn assert_outcome(
 #[test]
 fn faulty_scripts(rt: HostRuntime) -> Result<(), Fail> {
     for case in &CASES {
-        let outcome = run(rt.alloc(), case.script)?;
+        let outcome = run(&rt, rt.alloc(), case.script)?;
         assert_outcome(&rt, case.name, &outcome, case.status, case.out, case.err);
     }
     Ok(())
@@ -86,9 +106,27 @@ fn script_of(alloc: Global, record: &str) -> Result<String, Fail> {
 fn whole_records(rt: HostRuntime) -> Result<(), Fail> {
     for (name, record) in &RECORDS {
         let script = script_of(rt.alloc(), record)?;
-        let outcome = run(rt.alloc(), script.as_str())?;
+        let outcome = run(&rt, rt.alloc(), script.as_str())?;
         assert_outcome(&rt, name, &outcome, 0, record, "");
     }
+    Ok(())
+}
+
+/// A script of 10,000 steps and more than 128 KiB.
+#[test]
+fn long_script(rt: HostRuntime) -> Result<(), Fail> {
+    let alloc = rt.alloc();
+    let mut script = String::from_str(alloc, "heap 4 16 8 1 0\n0 new r0 0 1\n")?;
+    let mut record = String::from_str(alloc, "heap 4 16 8 1 0\n1 0 new r0 0 1 = #0\n")?;
+    for count in 2..10_001u64 {
+        write!(script, "0 write r0 0 {count}\n")?;
+        write!(record, "{count} 0 write r0 0 {count} = ok\n")?;
+    }
+    assert!(rt; script.len() > 131_072);
+    let outcome = run(&rt, alloc, script.as_str())?;
+    assert_eq!(rt; outcome.status, 0);
+    assert!(rt; outcome.out.as_slice() == record.as_bytes());
+    assert!(rt; outcome.err.is_empty());
     Ok(())
 }
 
@@ -115,7 +153,7 @@ fn beginnings(rt: HostRuntime) -> Result<(), Fail> {
         let Some(beginning) = script.get(..count) else {
             return Err(Fail::from("the script is ASCII"));
         };
-        let outcome = run(rt.alloc(), beginning)?;
+        let outcome = run(&rt, rt.alloc(), beginning)?;
         if count == 0 {
             assert_outcome(
                 &rt,
@@ -194,7 +232,7 @@ fn broken_reader(rt: HostRuntime) -> Result<(), Fail> {
     };
     let mut out = Vec::new(alloc);
     let mut err = Vec::new(alloc);
-    let status = perform(alloc, &job, &mut reader, &mut out, &mut err);
+    let status = perform(&rt, alloc, &job, &mut reader, &mut out, &mut err);
     let outcome = Outcome { status, out, err };
     assert_outcome(
         &rt,
@@ -223,7 +261,7 @@ fn broken_writer(rt: HostRuntime) -> Result<(), Fail> {
             room,
         };
         let mut err = Vec::new(alloc);
-        let status = perform(alloc, &job, &mut reader, &mut out, &mut err);
+        let status = perform(&rt, alloc, &job, &mut reader, &mut out, &mut err);
         let Some(beginning) = record.get(..room) else {
             return Err(Fail::from("the record is ASCII"));
         };
@@ -244,18 +282,192 @@ fn broken_writer(rt: HostRuntime) -> Result<(), Fail> {
     Ok(())
 }
 
+/// The words of each fault's line.
+static FAULTS: [(JobFault, &str); 16] = [
+    (JobFault::Read(ReadFault::CannotRead), "cannot read"),
+    (JobFault::Read(ReadFault::NoMemory), "cannot read"),
+    (
+        JobFault::Line(LineFault {
+            line: 18_446_744_073_709_551_615,
+            kind: Kind::LongLine,
+        }),
+        "line 18446744073709551615: 2 LongLine",
+    ),
+    (JobFault::Run(RunFault::BadWorkers), "run: 1 BadWorkers"),
+    (JobFault::Run(RunFault::NoMemory), "run: 2 NoMemory"),
+    (JobFault::Run(RunFault::NoWorker), "run: 3 NoWorker"),
+    (JobFault::Run(RunFault::Unfinished), "run: 4 Unfinished"),
+    (
+        JobFault::Run(RunFault::Heap(NewFault::BadRegions)),
+        "heap: 1 BadRegions",
+    ),
+    (
+        JobFault::Run(RunFault::Heap(NewFault::BadWords)),
+        "heap: 2 BadWords",
+    ),
+    (
+        JobFault::Run(RunFault::Heap(NewFault::BadBuffer)),
+        "heap: 3 BadBuffer",
+    ),
+    (
+        JobFault::Run(RunFault::Heap(NewFault::BadMutators)),
+        "heap: 4 BadMutators",
+    ),
+    (
+        JobFault::Judge(JudgeFault::Heap(NewFault::BadRegions)),
+        "heap: 1 BadRegions",
+    ),
+    (
+        JobFault::Judge(JudgeFault::Heap(NewFault::BadMutators)),
+        "heap: 4 BadMutators",
+    ),
+    (JobFault::Judge(JudgeFault::NoMemory), "check: NoMemory"),
+    (JobFault::Write(WriteFault::CannotWrite), "cannot write"),
+    (JobFault::Write(WriteFault::NoMemory), "run: 2 NoMemory"),
+];
+
+/// The line and the status of each fault.
+#[test]
+fn fault_lines(rt: HostRuntime) -> Result<(), Fail> {
+    let alloc = rt.alloc();
+    for (fault, words) in &FAULTS {
+        let mut err = Vec::new(alloc);
+        assert_eq!(rt; tell(*fault, &mut err), Ok(()));
+        assert_eq!(rt; conclude(Err(*fault), &mut err), 1);
+        let twice = format!(in alloc; "g1heap: {words}\ng1heap: {words}\n")?;
+        assert_eq!(rt; err.as_slice(), twice.as_bytes());
+    }
+    Ok(())
+}
+
+/// The file is the very one that the words name.
+#[test]
+fn files_of_jobs(rt: HostRuntime) -> Result<(), Fail> {
+    let alloc = rt.alloc();
+    for file in ["script.heap", "run", "./a folder/b.heap", "/", "é", "0"] {
+        let words = words(alloc, &["run", file])?;
+        let Ok(job) = read_words(alloc, words.as_slice()) else {
+            return Err(Fail::from("the words are understood"));
+        };
+        assert_eq!(rt; job.file(), file);
+        assert_eq!(rt; job.task(), Task::Script(Order::File));
+    }
+    Ok(())
+}
+
+/// The numbers that the words of a job give.
+#[test]
+fn orders_of_jobs(rt: HostRuntime) -> Result<(), Fail> {
+    let alloc = rt.alloc();
+    let lines: [(&[&str], Order); 6] = [
+        (&["run", "a.heap"], Order::File),
+        (&["sim", "a.heap", "--schedule", "7"], by_seed(7, 0, 0)),
+        (
+            &[
+                "sim",
+                "--schedule",
+                "18446744073709551615",
+                "a.heap",
+                "--refiners",
+                "2",
+                "--markers",
+                "3",
+            ],
+            by_seed(18_446_744_073_709_551_615, 2, 3),
+        ),
+        (
+            &["sim", "a.heap", "--schedule=0", "--markers=4294967295"],
+            by_seed(0, 0, 4_294_967_295),
+        ),
+        (
+            &["threads", "--workers", "5", "a.heap"],
+            by_threads(5, 0, 0),
+        ),
+        (
+            &[
+                "threads",
+                "a.heap",
+                "--markers",
+                "4",
+                "--workers",
+                "4294967295",
+                "--refiners",
+                "6",
+            ],
+            by_threads(4_294_967_295, 6, 4),
+        ),
+    ];
+    for (line, order) in lines {
+        let words = words(alloc, line)?;
+        let Ok(job) = read_words(alloc, words.as_slice()) else {
+            return Err(Fail::from("the words are understood"));
+        };
+        assert_eq!(rt; job.file(), "a.heap");
+        assert_eq!(rt; job.task(), Task::Script(order));
+    }
+    Ok(())
+}
+
+fn by_seed(seed: u64, refiners: u32, markers: u32) -> Order {
+    Order::Drawn {
+        seed,
+        refiners,
+        markers,
+    }
+}
+
+fn by_threads(workers: u32, refiners: u32, markers: u32) -> Order {
+    Order::Threads {
+        workers,
+        refiners,
+        markers,
+    }
+}
+
 /// Command lines that aren't understood end with status 2, help with status 0.
 #[test]
 fn command_lines(rt: HostRuntime) -> Result<(), Fail> {
     let alloc = rt.alloc();
-    let lines: [(&[&str], i32); 7] = [
+    let lines: [(&[&str], i32); 30] = [
         (&[], 2),
         (&["--help"], 0),
+        (&["run", "--help"], 0),
+        (&["sim", "--help"], 0),
+        (&["threads", "--help"], 0),
         (&["walk", "script.heap"], 2),
         (&["run"], 2),
         (&["run", "one.heap", "two.heap"], 2),
         (&["run", "one.heap", "--schedule", "1"], 2),
-        (&["check", "one.record"], 2),
+        (&["sim", "one.heap"], 2),
+        (&["sim", "--schedule", "1"], 2),
+        (&["sim", "one.heap", "--schedule"], 2),
+        (&["sim", "one.heap", "--schedule", "-1"], 2),
+        (&["sim", "one.heap", "--schedule", "x"], 2),
+        (
+            &["sim", "one.heap", "--schedule", "18446744073709551616"],
+            2,
+        ),
+        (&["sim", "one.heap", "--schedule", "1", "--workers", "1"], 2),
+        (&["sim", "one.heap", "--schedule", "1", "--markers"], 2),
+        (&["threads", "one.heap"], 2),
+        (&["threads", "--workers", "1"], 2),
+        (&["threads", "one.heap", "--workers", "4294967296"], 2),
+        (
+            &["threads", "one.heap", "--workers", "1", "--marker", "1"],
+            2,
+        ),
+        (
+            &["threads", "one.heap", "--workers", "1", "--schedule", "1"],
+            2,
+        ),
+        (&["check", "--help"], 0),
+        (&["check"], 2),
+        (&["view"], 2),
+        (&["view", "--help"], 0),
+        (&["view", "one.heap", "--markers", "1"], 2),
+        (&["--version"], 0),
+        (&["check", "one.record", "two.record"], 2),
+        (&["check", "one.record", "--workers", "1"], 2),
     ];
     for (line, status) in lines {
         let words = words(alloc, line)?;

@@ -5,18 +5,18 @@ use Rattle.std.specs.List.{AllZip}
 use Rattle.std.proofs.lemmas.Bool.{cases_eq}
 use Rattle.heap_model.specs.Heap.{Heap, Stored, fields, HasField, IsRoot, IsClosed, RootSet, ObjectSet}
 use Rattle.heap_model.specs.Relocation.{IsMoved, Relocates}
-use Rattle.heap_model.specs.Evacuation.{IsReached, ByRootWord, ByOutside, ByInside, place_of, IsWord, IsEvacuating, IsClean, IsEvacuated, released, Copies}
+use Rattle.heap_model.specs.Evacuation.{IsReached, ByRootWord, ByOutside, ByInside, place_after, IsWord, IsEvacuating, IsClean, IsEvacuated, released, Copies}
 use Rattle.heap_model.proofs.Names.{bool_cases}
 use Rattle.heap_model.proofs.Lists.{get_as, AllZip-get, AllZip-get_right, AllZip_map, AllZip-split}
 
-placed_inside : (set : ℕ → Bool) (forward : ℕ → Option ℕ) (a : ℕ) → set a ≡ true → place_of set forward a ≡ forward a
+placed_inside : (set : ℕ → Bool) (forward : ℕ → Option ℕ) (a : ℕ) → set a ≡ true → place_after set forward a ≡ forward a
 placed_inside set forward a e = rw e refl
 
-placed_outside : (set : ℕ → Bool) (forward : ℕ → Option ℕ) (a : ℕ) → set a ≡ false → place_of set forward a ≡ Some a
+placed_outside : (set : ℕ → Bool) (forward : ℕ → Option ℕ) (a : ℕ) → set a ≡ false → place_after set forward a ≡ Some a
 placed_outside set forward a e = rw e refl
 
 -- a clean word that is as it was names what stays
-clean_moved : (set : ℕ → Bool) (forward : ℕ → Option ℕ) (w w' : Option ℕ) → ((a : ℕ) → w' ≡ Some a → set a ≡ false) → IsWord (place_of set forward) w w' → IsMoved (place_of set forward) w w'
+clean_moved : (set : ℕ → Bool) (forward : ℕ → Option ℕ) (w w' : Option ℕ) → ((a : ℕ) → w' ≡ Some a → set a ≡ false) → IsWord (place_after set forward) w w' → IsMoved (place_after set forward) w w'
 clean_moved set forward w w' clean (inr m) = m
 clean_moved set forward None None clean (inl e) = tt
 clean_moved set forward None (Some b) clean (inl e) = cc
@@ -42,25 +42,25 @@ start set h = record {
   out = λ a b _ e. cc;
 }
   where
-    same_words : (ws : List (Option ℕ)) → AllZip (IsWord (place_of set (λ a. None))) ws ws
+    same_words : (ws : List (Option ℕ)) → AllZip (IsWord (place_after set (λ a. None))) ws ws
     same_words [] = tt
     same_words (w ∷ ws) = (inl refl, same_words ws)
 
 module _ (set : ℕ → Bool) (h : Heap) (forward : ℕ → Option ℕ) (now : Heap) (v : IsEvacuating set h forward now) where
   module _ (done : IsEvacuated set now) where
-    clean_words : (xs ys : List (Option ℕ)) → IsClean set ys → AllZip (IsWord (place_of set forward)) xs ys → AllZip (IsMoved (place_of set forward)) xs ys
+    clean_words : (xs ys : List (Option ℕ)) → IsClean set ys → AllZip (IsWord (place_after set forward)) xs ys → AllZip (IsMoved (place_after set forward)) xs ys
     clean_words [] [] c z = tt
     clean_words [] (y ∷ ys) c z = absurd z
     clean_words (x ∷ xs) [] c z = absurd z
     clean_words (x ∷ xs) (y ∷ ys) c z = (clean_moved set forward x y (λ a e. c zero a (ap Some e)) z.0, clean_words xs ys (λ i a e. c (suc i) a e) z.1)
 
-    part_outside : (a b : ℕ) (x : Stored) → h.kept a ≡ Some x → place_of set forward a ≡ Some b → set b ≡ false
+    part_outside : (a b : ℕ) (x : Stored) → h.kept a ≡ Some x → place_after set forward a ≡ Some b → set b ≡ false
     part_outside a b x at e = elim (bool_cases (set a)) [
       | inl k ↦ v.out a b k (sym (placed_inside set forward a k) ∙ e)
       | inr k ↦ let q = placed_outside set forward a k in let same : a ≡ b = cc in ap set (sym same) ∙ k
     ]
 
-    pub evacuated_relocates : Relocates (place_of set forward) h (released set now)
+    pub evacuated_relocates : Relocates (place_after set forward) h (released set now)
     evacuated_relocates = record {
       roots = clean_words h.roots now.roots done.roots v.roots;
       kept = λ a b x at e.
@@ -76,28 +76,36 @@ module _ (set : ℕ → Bool) (h : Heap) (forward : ℕ → Option ℕ) (now : H
     }
 
     -- the word of a moved pointer to the set
-    moved_inside : (a : ℕ) (w : Option ℕ) → IsMoved (place_of set forward) (Some a) w → set a ≡ true → (b : ℕ) × (forward a ≡ Some b)
+    moved_inside : (a : ℕ) (w : Option ℕ) → IsMoved (place_after set forward) (Some a) w → set a ≡ true → (b : ℕ) × (forward a ≡ Some b)
     moved_inside a None m e = absurd m
     moved_inside a (Some b) m e = (b, sym (placed_inside set forward a e) ∙ m)
 
-    field_forwarded : (b c a : ℕ) (p : HasField h b a) → place_of set forward b ≡ Some c → set a ≡ true → (d : ℕ) × (forward a ≡ Some d)
+    field_forwarded : (b c a : ℕ) (p : HasField h b a) → place_after set forward b ≡ Some c → set a ≡ true → (d : ℕ) × (forward a ≡ Some d)
     field_forwarded b c a p e inside =
         let k = v.objects b c p.object p.at e in
+<<<<<<< HEAD
         let moved = clean_words (fields p.object) (fields k.part) (done.objects c k.part k.at (part_outside b c p.object p.at e)) k.words in
         let (w, is, m) = AllZip-get (IsMoved (place_of set forward)) (fields p.object) (fields k.part) moved p.field (Some a) p.is in
+||||||| 3906014
+        let moved = clean_words (fields p.object) (fields k.part) (done.objects c k.part k.at (part_outside b c p.object p.at e)) k.pointers in
+        let (w, is, m) = AllZip-get (IsMoved (place_of set forward)) (fields p.object) (fields k.part) moved p.field (Some a) p.is in
+=======
+        let moved = clean_words (fields p.object) (fields k.part) (done.objects c k.part k.at (part_outside b c p.object p.at e)) k.pointers in
+        let (w, is, m) = AllZip-get (IsMoved (place_after set forward)) (fields p.object) (fields k.part) moved p.field (Some a) p.is in
+>>>>>>> main
         moved_inside a w m inside
 
     -- what is reached is copied
     reached_copied : (a : ℕ) → IsReached set h a → (b : ℕ) × (forward a ≡ Some b)
     reached_copied a (ByRootWord c r inside) =
-        let (w, is, m) = AllZip-get (IsMoved (place_of set forward)) h.roots now.roots (clean_words h.roots now.roots done.roots v.roots) r.place (Some c) r.is in
+        let (w, is, m) = AllZip-get (IsMoved (place_after set forward)) h.roots now.roots (clean_words h.roots now.roots done.roots v.roots) r.place (Some c) r.is in
         moved_inside c w m inside
     reached_copied a (ByOutside b c out p inside) = field_forwarded b b c p (placed_outside set forward b out) inside
     reached_copied a (ByInside b c r p inside) =
         let (d, e) = reached_copied b r in
         field_forwarded b d c p (place_of_reached b r ∙ e) inside
       where
-        place_of_reached : (b : ℕ) → IsReached set h b → place_of set forward b ≡ forward b
+        place_of_reached : (b : ℕ) → IsReached set h b → place_after set forward b ≡ forward b
         place_of_reached b (ByRootWord _ _ inside) = placed_inside set forward b inside
         place_of_reached b (ByOutside _ _ _ _ inside) = placed_inside set forward b inside
         place_of_reached b (ByInside _ _ _ _ inside) = placed_inside set forward b inside
@@ -112,25 +120,33 @@ module _ (set : ℕ → Bool) (h : Heap) (forward : ℕ → Option ℕ) (now : H
         reached_inside a (ByInside _ _ _ _ inside) = inside
 
   -- a root word is updated
-  pub root_updated : (now' : Heap) (j : ℕ) (w w' : Option ℕ) → slice_get h.roots j ≡ Some w → IsMoved (place_of set forward) w w' → RootSet now now' j w' → IsEvacuating set h forward now'
+  pub root_updated : (now' : Heap) (j : ℕ) (w w' : Option ℕ) → slice_get h.roots j ≡ Some w → IsMoved (place_after set forward) w w' → RootSet now now' j w' → IsEvacuating set h forward now'
   root_updated now' j w w' at moved step = record {
+<<<<<<< HEAD
     roots = subst (λ ws. AllZip (IsWord (place_of set forward)) h.roots ws) (sym step.roots) (set_one h.roots now.roots j v.roots at);
     objects = λ a b x e p. let k = v.objects a b x e p in record { part = k.part; at = step.kept b ∙ k.at; name = k.name; values = k.values; shape = k.shape; words = k.words };
+||||||| 3906014
+    roots = subst (λ ws. AllZip (IsWord (place_of set forward)) h.roots ws) (sym step.roots) (set_one h.roots now.roots j v.roots at);
+    objects = λ a b x e p. let k = v.objects a b x e p in record { part = k.part; at = step.kept b ∙ k.at; name = k.name; values = k.values; pointers = k.pointers };
+=======
+    roots = subst (λ ws. AllZip (IsWord (place_after set forward)) h.roots ws) (sym step.roots) (set_one h.roots now.roots j v.roots at);
+    objects = λ a b x e p. let k = v.objects a b x e p in record { part = k.part; at = step.kept b ∙ k.at; name = k.name; values = k.values; pointers = k.pointers };
+>>>>>>> main
     came = λ b y e out. v.came b y (sym (step.kept b) ∙ e) out;
     untouched = λ a e u. step.kept a ∙ v.untouched a e u;
     reached = v.reached;
     out = v.out;
   }
     where
-      set_one : (xs ys : List (Option ℕ)) (i : ℕ) → AllZip (IsWord (place_of set forward)) xs ys → slice_get xs i ≡ Some w → AllZip (IsWord (place_of set forward)) xs (slice_set ys i w')
+      set_one : (xs ys : List (Option ℕ)) (i : ℕ) → AllZip (IsWord (place_after set forward)) xs ys → slice_get xs i ≡ Some w → AllZip (IsWord (place_after set forward)) xs (slice_set ys i w')
       set_one [] [] i z e = tt
       set_one [] (y ∷ ys) i z e = absurd z
       set_one (x ∷ xs) [] i z e = absurd z
-      set_one (x ∷ xs) (y ∷ ys) zero z e = let same : w ≡ x = cc in (inr (subst (λ u. IsMoved (place_of set forward) u w') same moved), z.1)
+      set_one (x ∷ xs) (y ∷ ys) zero z e = let same : w ≡ x = cc in (inr (subst (λ u. IsMoved (place_after set forward) u w') same moved), z.1)
       set_one (x ∷ xs) (y ∷ ys) (suc i) z e = (z.0, set_one xs ys i z.1 e)
 
   -- a word that still names the set is as it was
-  pub word_was : (w : Option ℕ) (c : ℕ) → IsWord (place_of set forward) w (Some c) → set c ≡ true → w ≡ Some c
+  pub word_was : (w : Option ℕ) (c : ℕ) → IsWord (place_after set forward) w (Some c) → set c ≡ true → w ≡ Some c
   word_was w c (inl e) inside = sym e
   word_was None c (inr m) inside = absurd m
   word_was (Some a) c (inr m) inside =
@@ -140,13 +156,13 @@ module _ (set : ℕ → Bool) (h : Heap) (forward : ℕ → Option ℕ) (now : H
       ])
 
   -- what is forwarded is its new value
-  word_updated : (w : Option ℕ) (c d : ℕ) → IsWord (place_of set forward) w (Some c) → set c ≡ true → forward c ≡ Some d → IsMoved (place_of set forward) w (Some d)
-  word_updated w c d k inside f = subst (λ u. IsMoved (place_of set forward) u (Some d)) (sym (word_was w c k inside)) (placed_inside set forward c inside ∙ f)
+  word_updated : (w : Option ℕ) (c d : ℕ) → IsWord (place_after set forward) w (Some c) → set c ≡ true → forward c ≡ Some d → IsMoved (place_after set forward) w (Some d)
+  word_updated w c d k inside f = subst (λ u. IsMoved (place_after set forward) u (Some d)) (sym (word_was w c k inside)) (placed_inside set forward c inside ∙ f)
 
   -- what a present word outside the set still names is reached
   pub root_reached : (j c : ℕ) → slice_get now.roots j ≡ Some (Some c) → set c ≡ true → IsRoot h c
   root_reached j c e inside =
-      let (w, is, k) = AllZip-get_right (IsWord (place_of set forward)) h.roots now.roots v.roots j (Some c) e in
+      let (w, is, k) = AllZip-get_right (IsWord (place_after set forward)) h.roots now.roots v.roots j (Some c) e in
       record { place = j; is = get_as h.roots j w (Some c) is (word_was w c k inside) }
 
   pub field_reached : (b i c : ℕ) (y : Stored) → now.kept b ≡ Some y → set b ≡ false → slice_get (fields y) i ≡ Some (Some c) → set c ≡ true → IsReached set h c
@@ -155,7 +171,13 @@ module _ (set : ℕ → Bool) (h : Heap) (forward : ℕ → Option ℕ) (now : H
       let k = v.objects o.from b o.object o.at o.placed in
       let same : y ≡ k.part = let e1 = k.at in cc in
       let e' = subst (λ (z : Stored). slice_get (fields z) i ≡ Some (Some c)) same e in
+<<<<<<< HEAD
       let (w, is, s) = AllZip-get_right (IsWord (place_of set forward)) (fields o.object) (fields k.part) k.words i (Some c) e' in
+||||||| 3906014
+      let (w, is, s) = AllZip-get_right (IsWord (place_of set forward)) (fields o.object) (fields k.part) k.pointers i (Some c) e' in
+=======
+      let (w, is, s) = AllZip-get_right (IsWord (place_after set forward)) (fields o.object) (fields k.part) k.pointers i (Some c) e' in
+>>>>>>> main
       let p : HasField h o.from c = record { object = o.object; at = o.at; field = i; is = get_as (fields o.object) i w (Some c) is (word_was w c s inside) } in
       elim (bool_cases (set o.from)) [
         | inl q ↦ ByInside o.from c (v.reached o.from b q (sym (placed_inside set forward o.from q) ∙ o.placed)) p inside
@@ -163,9 +185,19 @@ module _ (set : ℕ → Bool) (h : Heap) (forward : ℕ → Option ℕ) (now : H
       ]
 
   -- a pointer field of an object outside the set is updated
+<<<<<<< HEAD
   pub field_updated : (now' : Heap) (b i c d : ℕ) (y y' : Stored) → set b ≡ false → slice_get (fields y) i ≡ Some (Some c) → set c ≡ true → forward c ≡ Some d → ObjectSet now now' b y y' → y'.values ≡ y.values → length y'.pointers ≡ length y.pointers → fields y' ≡ slice_set (fields y) i (Some d) → IsEvacuating set h forward now'
   field_updated now' b i c d y y' out e inside f step values shape words = record {
     roots = subst (λ ws. AllZip (IsWord (place_of set forward)) h.roots ws) (sym step.roots) v.roots;
+||||||| 3906014
+  pub field_updated : (now' : Heap) (b i c d : ℕ) (y y' : Stored) → set b ≡ false → slice_get (fields y) i ≡ Some (Some c) → set c ≡ true → forward c ≡ Some d → ObjectSet now now' b y y' → y'.values ≡ y.values → fields y' ≡ slice_set (fields y) i (Some d) → IsEvacuating set h forward now'
+  field_updated now' b i c d y y' out e inside f step values pointers = record {
+    roots = subst (λ ws. AllZip (IsWord (place_of set forward)) h.roots ws) (sym step.roots) v.roots;
+=======
+  pub field_updated : (now' : Heap) (b i c d : ℕ) (y y' : Stored) → set b ≡ false → slice_get (fields y) i ≡ Some (Some c) → set c ≡ true → forward c ≡ Some d → ObjectSet now now' b y y' → y'.values ≡ y.values → fields y' ≡ slice_set (fields y) i (Some d) → IsEvacuating set h forward now'
+  field_updated now' b i c d y y' out e inside f step values pointers = record {
+    roots = subst (λ ws. AllZip (IsWord (place_after set forward)) h.roots ws) (sym step.roots) v.roots;
+>>>>>>> main
     objects = λ a b0 x at p.
         let k = v.objects a b0 x at p in
         elim (cases_eq b0 b) [
@@ -176,9 +208,17 @@ module _ (set : ℕ → Bool) (h : Heap) (forward : ℕ → Option ℕ) (now : H
                 at = ap now'.kept q ∙ step.is;
                 name = step.name ∙ ap (λ (z : Stored). z.name) (sym same) ∙ k.name;
                 values = values ∙ ap (λ (z : Stored). z.values) (sym same) ∙ k.values;
+<<<<<<< HEAD
                 shape = shape ∙ ap (λ (z : Stored). length z.pointers) (sym same) ∙ k.shape;
                 words = subst (λ ws. AllZip (IsWord (place_of set forward)) (fields x) ws) (sym words)
                     (set_one (fields x) (fields y) i (subst (λ (z : Stored). AllZip (IsWord (place_of set forward)) (fields x) (fields z)) same k.words) e);
+||||||| 3906014
+                pointers = subst (λ ws. AllZip (IsWord (place_of set forward)) (fields x) ws) (sym pointers)
+                    (set_one (fields x) (fields y) i (subst (λ (z : Stored). AllZip (IsWord (place_of set forward)) (fields x) (fields z)) same k.pointers) e);
+=======
+                pointers = subst (λ ws. AllZip (IsWord (place_after set forward)) (fields x) ws) (sym pointers)
+                    (set_one (fields x) (fields y) i (subst (λ (z : Stored). AllZip (IsWord (place_after set forward)) (fields x) (fields z)) same k.pointers) e);
+>>>>>>> main
               }
           | inr n ↦ record { part = k.part; at = step.others b0 n ∙ k.at; name = k.name; values = k.values; shape = k.shape; words = k.words }
         ];
@@ -191,15 +231,15 @@ module _ (set : ℕ → Bool) (h : Heap) (forward : ℕ → Option ℕ) (now : H
     out = v.out;
   }
     where
-      set_one : (xs ys : List (Option ℕ)) (j : ℕ) → AllZip (IsWord (place_of set forward)) xs ys → slice_get ys j ≡ Some (Some c) → AllZip (IsWord (place_of set forward)) xs (slice_set ys j (Some d))
+      set_one : (xs ys : List (Option ℕ)) (j : ℕ) → AllZip (IsWord (place_after set forward)) xs ys → slice_get ys j ≡ Some (Some c) → AllZip (IsWord (place_after set forward)) xs (slice_set ys j (Some d))
       set_one [] [] j z e = tt
       set_one [] (y ∷ ys) j z e = absurd z
       set_one (x ∷ xs) [] j z e = absurd z
-      set_one (x ∷ xs) (y ∷ ys) zero z e = let same : y ≡ Some c = cc in (inr (word_updated x c d (subst (λ u. IsWord (place_of set forward) x u) same z.0) inside f), z.1)
+      set_one (x ∷ xs) (y ∷ ys) zero z e = let same : y ≡ Some c = cc in (inr (word_updated x c d (subst (λ u. IsWord (place_after set forward) x u) same z.0) inside f), z.1)
       set_one (x ∷ xs) (y ∷ ys) (suc j) z e = (z.0, set_one xs ys j z.1 e)
 
   module _ (forward' : ℕ → Option ℕ) (now' : Heap) (a b : ℕ) (x : Stored) (step : Copies set forward forward' now now' a b x) (r : IsReached set h a) where
-    grows : (c d : ℕ) → place_of set forward c ≡ Some d → place_of set forward' c ≡ Some d
+    grows : (c d : ℕ) → place_after set forward c ≡ Some d → place_after set forward' c ≡ Some d
     grows c d e = elim (bool_cases (set c)) [
       | inl k ↦ elim (cases_eq c a) [
         | inl q ↦ absurd (let un = step.unforwarded in let here = ap forward q in let p = placed_inside set forward c k in cc)
@@ -208,21 +248,21 @@ module _ (set : ℕ → Bool) (h : Heap) (forward : ℕ → Option ℕ) (now : H
       | inr k ↦ placed_outside set forward' c k ∙ sym (placed_outside set forward c k) ∙ e
     ]
 
-    word_grows : (w w' : Option ℕ) → IsWord (place_of set forward) w w' → IsWord (place_of set forward') w w'
+    word_grows : (w w' : Option ℕ) → IsWord (place_after set forward) w w' → IsWord (place_after set forward') w w'
     word_grows w w' (inl e) = inl e
     word_grows None None (inr m) = inr tt
     word_grows None (Some d) (inr m) = absurd m
     word_grows (Some c) None (inr m) = absurd m
     word_grows (Some c) (Some d) (inr m) = inr (grows c d m)
 
-    same_words : (ws : List (Option ℕ)) → AllZip (IsWord (place_of set forward')) ws ws
+    same_words : (ws : List (Option ℕ)) → AllZip (IsWord (place_after set forward')) ws ws
     same_words [] = tt
     same_words (w ∷ ws) = (inl refl, same_words ws)
 
     -- what is placed anew is placed as before, or is the copy
-    placed_before : (c d : ℕ) → place_of set forward' c ≡ Some d → ((c ≡ a) × (d ≡ b)) ⊎ ((c ≡ a → ⊥) × (place_of set forward c ≡ Some d))
+    placed_before : (c d : ℕ) → place_after set forward' c ≡ Some d → ((c ≡ a) × (d ≡ b)) ⊎ ((c ≡ a → ⊥) × (place_after set forward c ≡ Some d))
     placed_before c d e = elim (cases_eq c a) [
-      | inl q ↦ inl (q, (let p = placed_inside set forward' a step.inside in let f = step.forwarded in let here = ap (place_of set forward') q in cc))
+      | inl q ↦ inl (q, (let p = placed_inside set forward' a step.inside in let f = step.forwarded in let here = ap (place_after set forward') q in cc))
       | inr n ↦ inr (
         n,
         elim (bool_cases (set c)) [
@@ -232,7 +272,7 @@ module _ (set : ℕ → Bool) (h : Heap) (forward : ℕ → Option ℕ) (now : H
       )
     ]
 
-    out_of : (c d : ℕ) → place_of set forward c ≡ Some d → set d ≡ false
+    out_of : (c d : ℕ) → place_after set forward c ≡ Some d → set d ≡ false
     out_of c d e = elim (bool_cases (set c)) [
       | inl k ↦ v.out c d k (sym (placed_inside set forward c k) ∙ e)
       | inr k ↦ let q = placed_outside set forward c k in let same : c ≡ d = cc in ap set (sym same) ∙ k
@@ -243,14 +283,26 @@ module _ (set : ℕ → Bool) (h : Heap) (forward : ℕ → Option ℕ) (now : H
 
     pub copied : IsEvacuating set h forward' now'
     copied = record {
-      roots = subst (λ ws. AllZip (IsWord (place_of set forward')) h.roots ws) (sym step.roots) (AllZip_map (IsWord (place_of set forward)) (IsWord (place_of set forward')) word_grows h.roots now.roots v.roots);
+      roots = subst (λ ws. AllZip (IsWord (place_after set forward')) h.roots ws) (sym step.roots) (AllZip_map (IsWord (place_after set forward)) (IsWord (place_after set forward')) word_grows h.roots now.roots v.roots);
       objects = λ c d z at e. elim (placed_before c d e) [
         | inl q ↦
             let same : z ≡ x = let e1 = ap h.kept q.0 in let e2 = v.untouched a step.inside step.unforwarded in let e3 = step.object in cc in
+<<<<<<< HEAD
             record { part = x; at = ap now'.kept q.1 ∙ step.copy; name = ap (λ (y : Stored). y.name) (sym same); values = ap (λ (y : Stored). y.values) (sym same); shape = ap (λ (y : Stored). length y.pointers) (sym same); words = subst (λ (y : Stored). AllZip (IsWord (place_of set forward')) (fields y) (fields x)) (sym same) (same_words (fields x)) }
+||||||| 3906014
+            record { part = x; at = ap now'.kept q.1 ∙ step.copy; name = ap (λ (y : Stored). y.name) (sym same); values = ap (λ (y : Stored). y.values) (sym same); pointers = subst (λ (y : Stored). AllZip (IsWord (place_of set forward')) (fields y) (fields x)) (sym same) (same_words (fields x)) }
+=======
+            record { part = x; at = ap now'.kept q.1 ∙ step.copy; name = ap (λ (y : Stored). y.name) (sym same); values = ap (λ (y : Stored). y.values) (sym same); pointers = subst (λ (y : Stored). AllZip (IsWord (place_after set forward')) (fields y) (fields x)) (sym same) (same_words (fields x)) }
+>>>>>>> main
         | inr q ↦
             let k = v.objects c d z at q.1 in
+<<<<<<< HEAD
             record { part = k.part; at = kept_on d k.part k.at (out_of c d q.1); name = k.name; values = k.values; shape = k.shape; words = AllZip_map (IsWord (place_of set forward)) (IsWord (place_of set forward')) word_grows (fields z) (fields k.part) k.words }
+||||||| 3906014
+            record { part = k.part; at = kept_on d k.part k.at (out_of c d q.1); name = k.name; values = k.values; pointers = AllZip_map (IsWord (place_of set forward)) (IsWord (place_of set forward')) word_grows (fields z) (fields k.part) k.pointers }
+=======
+            record { part = k.part; at = kept_on d k.part k.at (out_of c d q.1); name = k.name; values = k.values; pointers = AllZip_map (IsWord (place_after set forward)) (IsWord (place_after set forward')) word_grows (fields z) (fields k.part) k.pointers }
+>>>>>>> main
       ];
       came = λ d y e out. elim (cases_eq d b) [
         | inl q ↦ record { from = a; object = x; at = sym (v.untouched a step.inside step.unforwarded) ∙ step.object; placed = placed_inside set forward' a step.inside ∙ step.forwarded ∙ ap Some (sym q) }
@@ -269,7 +321,7 @@ module _ (set : ℕ → Bool) (h : Heap) (forward : ℕ → Option ℕ) (now : H
     }
 
   -- a present word names an object of the set, as it was, or a present object outside the set
-  pub word_names : (w : Option ℕ) (c : ℕ) → IsWord (place_of set forward) w (Some c) → ((a : ℕ) → w ≡ Some a → (x : Stored) × (h.kept a ≡ Some x)) → ((set c ≡ true) × (x : Stored) × (h.kept c ≡ Some x)) ⊎ ((set c ≡ false) × (y : Stored) × (now.kept c ≡ Some y))
+  pub word_names : (w : Option ℕ) (c : ℕ) → IsWord (place_after set forward) w (Some c) → ((a : ℕ) → w ≡ Some a → (x : Stored) × (h.kept a ≡ Some x)) → ((set c ≡ true) × (x : Stored) × (h.kept c ≡ Some x)) ⊎ ((set c ≡ false) × (y : Stored) × (now.kept c ≡ Some y))
   word_names None c (inl e) f = cc
   word_names None c (inr m) f = absurd m
   word_names (Some a) c (inl e) f =
@@ -294,5 +346,11 @@ module _ (set : ℕ → Bool) (h : Heap) (forward : ℕ → Option ℕ) (now : H
       let k = v.objects o.from b o.object o.at o.placed in
       let same : y ≡ k.part = let e1 = k.at in cc in
       let e' = subst (λ (z : Stored). slice_get (fields z) i ≡ Some (Some c)) same e in
+<<<<<<< HEAD
       let (w, is, s) = AllZip-get_right (IsWord (place_of set forward)) (fields o.object) (fields k.part) k.words i (Some c) e' in
+||||||| 3906014
+      let (w, is, s) = AllZip-get_right (IsWord (place_of set forward)) (fields o.object) (fields k.part) k.pointers i (Some c) e' in
+=======
+      let (w, is, s) = AllZip-get_right (IsWord (place_after set forward)) (fields o.object) (fields k.part) k.pointers i (Some c) e' in
+>>>>>>> main
       word_names w c s (λ a q. closed.field o.from i a o.object o.at (get_as (fields o.object) i w (Some a) is q))

@@ -13,8 +13,8 @@ pub data IsReached (set : ℕ → Bool) (h : Heap) : ℕ → Type 0 where
   ByInside : (b a : ℕ) → IsReached set h b → HasField h b a → set a ≡ true → IsReached set h a
 
 -- where each object stands: in the set where it was forwarded to, else where it was
-abbrev pub place_of : (ℕ → Bool) → (ℕ → Option ℕ) → ℕ → Option ℕ
-place_of set forward a = if set a then forward a else Some a
+abbrev pub place_after : (ℕ → Bool) → (ℕ → Option ℕ) → ℕ → Option ℕ
+place_after set forward a = if set a then forward a else Some a
 
 -- the word is as it was, or names the new place
 abbrev pub IsWord : (ℕ → Option ℕ) → Option ℕ → Option ℕ → Type 0
@@ -33,9 +33,9 @@ pub record IsPart (place : ℕ → Option ℕ) (now : Heap) (x : Stored) (b : �
 -- the set nothing else is kept; what is not forwarded is untouched; what is forwarded is reached, and lies outside
 -- the set
 pub record IsEvacuating (set : ℕ → Bool) (h : Heap) (forward : ℕ → Option ℕ) (now : Heap) : Type 0 where
-  pub roots : AllZip (IsWord (place_of set forward)) h.roots now.roots
-  pub objects : (a b : ℕ) (x : Stored) → h.kept a ≡ Some x → place_of set forward a ≡ Some b → IsPart (place_of set forward) now x b
-  pub came : (b : ℕ) (y : Stored) → now.kept b ≡ Some y → set b ≡ false → Came (place_of set forward) h b
+  pub roots : AllZip (IsWord (place_after set forward)) h.roots now.roots
+  pub objects : (a b : ℕ) (x : Stored) → h.kept a ≡ Some x → place_after set forward a ≡ Some b → IsPart (place_after set forward) now x b
+  pub came : (b : ℕ) (y : Stored) → now.kept b ≡ Some y → set b ≡ false → Came (place_after set forward) h b
   pub untouched : (a : ℕ) → set a ≡ true → forward a ≡ None → now.kept a ≡ h.kept a
   pub reached : (a b : ℕ) → set a ≡ true → forward a ≡ Some b → IsReached set h a
   pub out : (a b : ℕ) → set a ≡ true → forward a ≡ Some b → set b ≡ false

@@ -3,7 +3,7 @@
 ghost use Rattle.std.specs.Prelude.{◌≡◌, ◌⊎◌, ◌↔◌, ℕ, Bool, true, false, Option, Some, None, length, slice_get, slice_set};
 ghost use Rattle.heap_model.specs.Heap.{Heap, Stored, IsRoot, IsClosed, RootSet, ObjectSet, fields};
 ghost use Rattle.heap_model.specs.Relocation.{Relocates, IsMoved};
-ghost use Rattle.heap_model.specs.Evacuation.{IsReached, IsEvacuating, IsEvacuated, place_of, released, Copies};
+ghost use Rattle.heap_model.specs.Evacuation.{IsReached, IsEvacuating, IsEvacuated, place_after, released, Copies};
 
 /// Each turn of the copying leads on: at the start nothing is forwarded; then a reached object is copied, or a root
 /// or a field that names a forwarded object is updated.
@@ -12,7 +12,7 @@ pub fn turn_law()
     ensures copied { (set : ℕ → Bool) (h now now' : Heap) (forward forward' : ℕ → Option ℕ) → IsEvacuating set h forward now
         → (a b : ℕ) (x : Stored) → IsReached set h a → Copies set forward forward' now now' a b x → IsEvacuating set h forward' now' }
     ensures root { (set : ℕ → Bool) (h now now' : Heap) (forward : ℕ → Option ℕ) → IsEvacuating set h forward now
-        → (j : ℕ) (w w' : Option ℕ) → slice_get h.roots j ≡ Some w → IsMoved (place_of set forward) w w' → RootSet now now' j w'
+        → (j : ℕ) (w w' : Option ℕ) → slice_get h.roots j ≡ Some w → IsMoved (place_after set forward) w w' → RootSet now now' j w'
         → IsEvacuating set h forward now' }
     ensures field { (set : ℕ → Bool) (h now now' : Heap) (forward : ℕ → Option ℕ) → IsEvacuating set h forward now
         → (b i c d : ℕ) (y y' : Stored) → set b ≡ false → slice_get (fields y) i ≡ Some (Some c) → set c ≡ true → forward c ≡ Some d
@@ -35,7 +35,7 @@ pub fn named_law()
 
 /// Once no word names the set any more, the copying was a move, and what is copied is what is reached.
 pub fn evacuation_law()
-    ensures moves { (set : ℕ → Bool) (h now : Heap) (forward : ℕ → Option ℕ) → IsEvacuating set h forward now → IsEvacuated set now → Relocates (place_of set forward) h (released set now) }
+    ensures moves { (set : ℕ → Bool) (h now : Heap) (forward : ℕ → Option ℕ) → IsEvacuating set h forward now → IsEvacuated set now → Relocates (place_after set forward) h (released set now) }
     ensures reached { (set : ℕ → Bool) (h now : Heap) (forward : ℕ → Option ℕ) → IsEvacuating set h forward now → IsEvacuated set now
         → (a : ℕ) → IsReached set h a ↔ ((set a ≡ true) × (b : ℕ) × (forward a ≡ Some b)) }
 {}

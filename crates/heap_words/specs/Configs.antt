@@ -1,19 +1,40 @@
 -- The sizes that a heap can have.
-use Rattle.std.specs.Prelude.{◌*◌, ◌^◌, ◌≤◌, IsTrue}
+use Rattle.std.specs.Prelude.{ℕ, ◌*◌, ◌^◌, ◌≤◌, [], ◌∷◌, Contains, IsTrue}
 use Rattle.std.specs.Int.{is_power_of_two}
 use Rattle.heap_words.specs.declared.config.Config.{Config}
+use Rattle.heap_words.specs.declared.config.Format.{Format}
+use Rattle.heap_words.specs.declared.config.Format.TheVariants.{V1, V2}
 use Rattle.heap_words.specs.declared.config.NewFault.{NewFault}
-use Rattle.heap_words.specs.declared.config.NewFault.TheVariants.{BadRegions, BadWords, BadBuffer, BadMutators, NoMemory}
+use Rattle.heap_words.specs.declared.config.NewFault.TheVariants.{BadRegions, BadWords, BadBuffer, BadMutators, NoMemory, BadCard}
+
+-- the most regions that a heap has, the most words of a region, and of a heap
+abbrev pub max_regions : ℕ
+max_regions = 1024
+
+abbrev pub max_region_words : ℕ
+max_region_words = 2 ^ 14
+
+abbrev pub max_words : ℕ
+max_words = 2 ^ 24
+
+-- the most words of a region, and of a heap, that a heap line of the format may ask for
+abbrev pub region_limit : Format → ℕ
+region_limit V1 = 2 ^ 12
+region_limit (V2 card) = max_region_words
+
+abbrev pub heap_limit : Format → ℕ
+heap_limit V1 = 2 ^ 20
+heap_limit (V2 card) = max_words
 
 pub record HasRegions (c : Config) : Type 0 where
   pub at_least : 2 ≤ c.regions
-  pub at_most : c.regions ≤ 1024
+  pub at_most : c.regions ≤ max_regions
 
 pub record HasWords (c : Config) : Type 0 where
   pub power : IsTrue (is_power_of_two c.words)
   pub at_least : 16 ≤ c.words
-  pub at_most : c.words ≤ 4096
-  pub in_all : c.regions * c.words ≤ 2 ^ 20
+  pub at_most : c.words ≤ region_limit c.format
+  pub in_all : c.regions * c.words ≤ heap_limit c.format
 
 -- a buffer is at most half a region
 pub record HasBuffer (c : Config) : Type 0 where
@@ -24,12 +45,26 @@ pub record HasMutators (c : Config) : Type 0 where
   pub at_least : 1 ≤ c.mutators
   pub at_most : c.mutators ≤ 16
 
+-- how many words a card has
+abbrev pub card_length : Format → ℕ
+card_length V1 = 8
+card_length (V2 card) = card
+
+abbrev pub card_words : Config → ℕ
+card_words c = card_length c.format
+
+-- a card has 8, 16, 32 or 64 words, and at most a region
+pub record HasCard (c : Config) : Type 0 where
+  pub length : Contains (8 ∷ 16 ∷ 32 ∷ 64 ∷ []) (card_words c)
+  pub at_most : card_words c ≤ c.words
+
 -- a heap can have these sizes
 pub record Suits (c : Config) : Type 0 where
   pub regions : HasRegions c
   pub words : HasWords c
   pub buffer : HasBuffer c
   pub mutators : HasMutators c
+  pub card : HasCard c
 
 -- the fault holds, and none before it
 abbrev pub IsFirstFault : Config → NewFault → Type 0
@@ -37,6 +72,7 @@ IsFirstFault c BadRegions = ¬ HasRegions c
 IsFirstFault c BadWords = HasRegions c × ¬ HasWords c
 IsFirstFault c BadBuffer = HasRegions c × HasWords c × ¬ HasBuffer c
 IsFirstFault c BadMutators = HasRegions c × HasWords c × HasBuffer c × ¬ HasMutators c
+IsFirstFault c BadCard = HasRegions c × HasWords c × HasBuffer c × HasMutators c × ¬ HasCard c
 IsFirstFault c NoMemory = ⊥
 
 -- why no heap of these sizes was made: its first fault, or want of memory where they suit
@@ -45,4 +81,5 @@ IsNewFault c BadRegions = IsFirstFault c BadRegions
 IsNewFault c BadWords = IsFirstFault c BadWords
 IsNewFault c BadBuffer = IsFirstFault c BadBuffer
 IsNewFault c BadMutators = IsFirstFault c BadMutators
+IsNewFault c BadCard = IsFirstFault c BadCard
 IsNewFault c NoMemory = Suits c

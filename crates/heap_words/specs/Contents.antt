@@ -1,7 +1,7 @@
 -- What the words of a heap hold.
 use Rattle.std.specs.Prelude.{ℕ, zero, suc, ◌+◌, List, [], ◌∷◌, ◌++◌, length, drop, slice_index, Option, Some, None}
 use Rattle.heap_words.specs.declared.header.Header.{Header}
-use Rattle.heap_words.specs.declared.header.Header.TheVariants.{Object, Filler, Forwarded}
+use Rattle.heap_words.specs.declared.header.Header.TheVariants as headers
 use Rattle.heap_words.specs.declared.header.Counts.{Counts}
 use Rattle.heap_words.specs.Headers.{header_of}
 
@@ -12,16 +12,36 @@ header_at words at = header_of (slice_index words at)
 -- the counts of an object's header
 abbrev pub counts_of : Option Header → Option Counts
 counts_of None = None
+<<<<<<< HEAD
 counts_of (Some (Object p w d)) = Some (record { pointers = p; weaks = w; values = d })
 counts_of (Some (Filler n)) = None
 counts_of (Some (Forwarded to)) = None
+||||||| 3906014
+counts_of (Some (Object p d)) = Some (record { pointers = p; values = d })
+counts_of (Some (Filler n)) = None
+counts_of (Some (Forwarded to)) = None
+=======
+counts_of (Some (headers.Object p d)) = Some (record { pointers = p; values = d })
+counts_of (Some (headers.Filler n)) = None
+counts_of (Some (headers.Forwarded to)) = None
+>>>>>>> main
 
 -- how many pointers a header's object has
 abbrev pub pointer_count : Option Header → ℕ
 pointer_count None = 0
+<<<<<<< HEAD
 pointer_count (Some (Object p w d)) = p
 pointer_count (Some (Filler n)) = 0
 pointer_count (Some (Forwarded to)) = 0
+||||||| 3906014
+pointer_count (Some (Object p d)) = p
+pointer_count (Some (Filler n)) = 0
+pointer_count (Some (Forwarded to)) = 0
+=======
+pointer_count (Some (headers.Object p d)) = p
+pointer_count (Some (headers.Filler n)) = 0
+pointer_count (Some (headers.Forwarded to)) = 0
+>>>>>>> main
 
 abbrev pub pointer_count_at : List ℕ → ℕ → ℕ
 pointer_count_at words at = pointer_count (header_at words at)

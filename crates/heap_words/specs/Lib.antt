@@ -1,3 +1,7 @@
 pub mod Headers
 pub mod Contents
 pub mod Configs
+pub mod Bits
+pub mod BitWords
+pub mod Sizes
+pub mod Bounded

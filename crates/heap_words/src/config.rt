@@ -1,13 +1,63 @@
 //! The sizes of a heap, and whether they suit.
 
-ghost use Rattle.std.specs.Prelude.{◌↔◌, IsOk, IfErr};
-ghost use Rattle.heap_words.specs.Configs.{Suits, IsFirstFault};
+ghost use Rattle.std.specs.Prelude.{◌≡◌, ◌↔◌, ◌≤◌, ◌*◌, ◌/◌, IsOk, IfErr, IsTrue};
+ghost use Rattle.std.specs.Int.{is_power_of_two};
+ghost use Rattle.heap_words.specs.Configs.{max_region_words, max_words, region_limit, heap_limit, card_length, card_words, Suits, IsFirstFault};
 
 use thiserror::Error;
+
+/// The most regions that a heap has.
+const MAX_REGIONS: u32 = 1024;
+
+/// Which of the two heap lines gives the sizes. It sets their limits, and the length of a card.
+#[derive(Clone, Copy, Debug, PartialEq, Eq)]
+pub enum Format {
+    /// The line `heap`: 4,096 words a region and 1,048,576 in all at most, and cards of 8 words.
+    V1,
+    /// The line `heap2`: 16,384 words a region and 16,777,216 in all at most, and cards of so many words.
+    V2 {
+        /// How many words a card has.
+        card: u32,
+    },
+}
+
+impl Format {
+    /// The most words that a region has.
+    fn region_limit(self) -> u32
+        ensures { result ≡ region_limit self }
+    {
+        match self {
+            Format::V1 => 1 << 12,
+            Format::V2 { .. } => 1 << 14,
+        }
+    }
+
+    /// The most words that a heap has.
+    fn heap_limit(self) -> u32
+        ensures { result ≡ heap_limit self }
+    {
+        match self {
+            Format::V1 => 1 << 20,
+            Format::V2 { .. } => 1 << 24,
+        }
+    }
+
+    /// How many words a card has.
+    fn card_length(self) -> u32
+        ensures { result ≡ card_length self }
+    {
+        match self {
+            Format::V1 => 8,
+            Format::V2 { card } => card,
+        }
+    }
+}
 
 /// The sizes of a heap, as a heap line gives them.
 #[derive(Clone, Copy, Debug, PartialEq, Eq)]
 pub struct Config {
+    /// Which heap line gives them.
+    pub format: Format,
     /// How many regions there are.
     pub regions: u32,
     /// How many words a region has.
@@ -26,7 +76,7 @@ pub enum NewFault {
     /// There are 2 to 1,024 regions.
     #[error("1 BadRegions")]
     BadRegions,
-    /// A region has a power of two of words, 16 to 4,096, and the heap at most 1,048,576.
+    /// A region has a power of two of words, 16 or more, and the heap at most the words of its format.
     #[error("2 BadWords")]
     BadWords,
     /// A buffer has 4 words or more, and at most half a region.
@@ -38,22 +88,28 @@ pub enum NewFault {
     /// Memory was refused.
     #[error("5 NoMemory")]
     NoMemory,
+    /// A card has 8, 16, 32 or 64 words, and at most a region.
+    #[error("6 BadCard")]
+    BadCard,
 }
 
 impl Config {
-    /// Whether a heap can have these sizes. The fault is the first that holds, in the order of its type;
-    /// it is never `NoMemory`.
+    /// Whether a heap can have these sizes. The fault is the first that holds, in the order of its type, and never
+    /// `NoMemory`.
     pub fn check(&self) -> Result<(), NewFault>
         ensures suits { IsOk result ↔ Suits self.now }
         ensures first { IfErr result (IsFirstFault self.now) }
     {
-        if self.regions < 2 || 1024 < self.regions {
+        if self.regions < 2 || MAX_REGIONS < self.regions {
             return Err(NewFault::BadRegions);
         }
-        if !self.words.is_power_of_two() || self.words < 16 || 4096 < self.words {
+        if !self.words.is_power_of_two()
+            || self.words < 16
+            || self.format.region_limit() < self.words
+        {
             return Err(NewFault::BadWords);
         }
-        if 1 << 20 < self.regions * self.words {
+        if self.format.heap_limit() < self.regions * self.words {
             return Err(NewFault::BadWords);
         }
         if self.buffer < 4 || self.words / 2 < self.buffer {
@@ -62,9 +118,29 @@ impl Config {
         if self.mutators < 1 || 16 < self.mutators {
             return Err(NewFault::BadMutators);
         }
+        let card = self.card_words();
+        if !matches!(card, 8 | 16 | 32 | 64) || self.words < card {
+            return Err(NewFault::BadCard);
+        }
         Ok(())
     }
+
+    /// How many words a card has: a region is a whole number of cards.
+    pub fn card_words(&self) -> u32
+        ensures { result ≡ card_words self.now }
+    {
+        self.format.card_length()
+    }
 }
+
+/// What is known of sizes that suit: the limits of all formats, that a card's length is a power of two, and that a region
+/// is a whole number of cards.
+pub fn config_law()
+    ensures region { (c : Config) → Suits c → c.words ≤ max_region_words }
+    ensures heap { (c : Config) → Suits c → c.regions * c.words ≤ max_words }
+    ensures power { (c : Config) → Suits c → IsTrue (is_power_of_two (card_words c)) }
+    ensures cards { (c : Config) → Suits c → c.words ≡ c.words / card_words c * card_words c }
+{}
 
 #[cfg(test)]
 mod tests {
@@ -73,23 +149,36 @@ mod tests {
 
     #[test]
     fn names_the_first_fault(rt: HostRuntime) {
-        use NewFault::{BadBuffer, BadMutators, BadRegions, BadWords};
-        for (sizes, answer) in [
-            ((2, 16, 4, 1), Ok(())),
-            ((256, 4096, 2048, 16), Ok(())),
-            ((1024, 1024, 8, 1), Ok(())),
-            ((1, 15, 1, 0), Err(BadRegions)),
-            ((1025, 16, 8, 1), Err(BadRegions)),
-            ((2, 15, 1, 0), Err(BadWords)),
-            ((2, 8192, 8, 1), Err(BadWords)),
-            ((512, 4096, 8, 1), Err(BadWords)),
-            ((4, 16, 3, 0), Err(BadBuffer)),
-            ((4, 16, 9, 1), Err(BadBuffer)),
-            ((4, 16, 8, 0), Err(BadMutators)),
-            ((4, 16, 8, 17), Err(BadMutators)),
+        use NewFault::{BadBuffer, BadCard, BadMutators, BadRegions, BadWords};
+        let one = Format::V1;
+        for (format, sizes, answer) in [
+            (one, (2, 16, 4, 1), Ok(())),
+            (one, (256, 4096, 2048, 16), Ok(())),
+            (one, (1024, 1024, 8, 1), Ok(())),
+            (one, (1, 15, 1, 0), Err(BadRegions)),
+            (one, (1025, 16, 8, 1), Err(BadRegions)),
+            (one, (2, 15, 1, 0), Err(BadWords)),
+            (one, (2, 8192, 8, 1), Err(BadWords)),
+            (one, (512, 4096, 8, 1), Err(BadWords)),
+            (one, (4, 16, 3, 0), Err(BadBuffer)),
+            (one, (4, 16, 9, 1), Err(BadBuffer)),
+            (one, (4, 16, 8, 0), Err(BadMutators)),
+            (one, (4, 16, 8, 17), Err(BadMutators)),
+            (Format::V2 { card: 64 }, (1024, 4096, 8, 1), Ok(())),
+            (Format::V2 { card: 64 }, (1024, 16384, 8, 1), Ok(())),
+            (Format::V2 { card: 64 }, (1024, 32768, 8, 1), Err(BadWords)),
+            (Format::V2 { card: 64 }, (2, 64, 8, 1), Ok(())),
+            (Format::V2 { card: 16 }, (4, 16, 8, 1), Ok(())),
+            (Format::V2 { card: 8 }, (4, 16, 8, 1), Ok(())),
+            (Format::V2 { card: 32 }, (4, 16, 8, 1), Err(BadCard)),
+            (Format::V2 { card: 12 }, (4, 16, 8, 1), Err(BadCard)),
+            (Format::V2 { card: 4 }, (4, 16, 8, 1), Err(BadCard)),
+            (Format::V2 { card: 128 }, (4, 256, 8, 1), Err(BadCard)),
+            (Format::V2 { card: 12 }, (4, 16, 8, 0), Err(BadMutators)),
         ] {
             let (regions, words, buffer, mutators) = sizes;
             let config = Config {
+                format,
                 regions,
                 words,
                 buffer,
@@ -112,6 +201,7 @@ mod tests {
             (NewFault::BadBuffer, "3 BadBuffer"),
             (NewFault::BadMutators, "4 BadMutators"),
             (NewFault::NoMemory, "5 NoMemory"),
+            (NewFault::BadCard, "6 BadCard"),
         ] {
             assert_eq!(rt; fault.to_string(rt.alloc())?.as_str(), text);
         }

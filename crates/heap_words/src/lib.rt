@@ -1,4 +1,5 @@
-//! The words of a heap: addresses, headers, pointers, the sizes that a heap can have, and all access to words.
+//! The words of a heap: addresses, headers, pointers, the sizes that a heap can have, all access to words, and sets of
+//! numbers as bits.
 //!
 //! A word is a `u64`, and addresses count words from 0. What stands at an address begins with a header word: an
 //! object's header says how many pointers and data words it has, a filler's how many words it takes, and one of a
@@ -8,6 +9,8 @@
 #![tactic(auto)]
 
 pub mod addr;
+pub mod bits;
+pub mod bounded;
 pub mod config;
 pub mod header;
 pub mod words;

@@ -8,6 +8,7 @@
 //! ```
 
 ghost use Rattle.std.specs.Prelude.{◌≡◌, ◌+◌, ◌<◌, ◌≤◌, ◌∷◌, length, replicate, slice_index, slice_set, take, drop, IfOk};
+ghost use Rattle.heap_words.specs.Sizes.{size_of};
 ghost use Rattle.heap_words.specs.Headers.{header_of, header_word, pointer_of, pointer_word};
 ghost use Rattle.heap_words.specs.Contents.{put, header_at, counts_of, field_count_at};
 ghost use Rattle.heap_words.specs.declared.header.Header.TheVariants as headers;
@@ -145,8 +146,16 @@ impl Words {
         object.word() as usize + 2 + fields as usize + field as usize
     }
 
+<<<<<<< HEAD
     /// A data word of the object at an address, counted from 0 behind the fields that its header tells.
     pub fn get_data(&self, object: Addr, field: u32) -> u64
+||||||| 3906014
+    /// A data word of the object at an address, counted from 0 behind the pointers that its header tells.
+    pub fn get_data(&self, object: Addr, field: u32) -> u64
+=======
+    /// A data word of the object at an address, counted from 0 behind the pointers that its header tells.
+    pub fn get_value(&self, object: Addr, field: u32) -> u64
+>>>>>>> main
         requires at { object < length self.now }
         requires within { object + 2 + field_count_at self.now object + field < length self.now }
         ensures { result ≡ slice_index self.now (object + 2 + field_count_at self.now object + field) }
@@ -155,7 +164,7 @@ impl Words {
     }
 
     /// Sets a data word of the object at an address.
-    pub fn set_data(&mut self, object: Addr, field: u32, value: u64)
+    pub fn set_value(&mut self, object: Addr, field: u32, value: u64)
         requires at { object < length self.old }
         requires within { object + 2 + field_count_at self.old object + field < length self.old }
         ensures { self.new ≡ slice_set self.old (object + 2 + field_count_at self.old object + field) value }
@@ -166,8 +175,16 @@ impl Words {
 
     /// Writes an object whose pointers and weak slots are nil and whose data words are 0.
     pub fn write_object(&mut self, at: Addr, name: u64, counts: Counts)
+<<<<<<< HEAD
         requires { at + (2 + counts.pointers + counts.weaks + counts.values) ≤ length self.old }
         ensures { self.new ≡ put self.old at (header_word (headers.Object counts.pointers counts.weaks counts.values) ∷ name ∷ replicate (counts.pointers + counts.weaks + counts.values) 0) }
+||||||| 3906014
+        requires { at + (2 + counts.pointers + counts.values) ≤ length self.old }
+        ensures { self.new ≡ put self.old at (header_word (headers.Object counts.pointers counts.values) ∷ name ∷ replicate (counts.pointers + counts.values) 0) }
+=======
+        requires { at + size_of counts.pointers counts.values ≤ length self.old }
+        ensures { self.new ≡ put self.old at (header_word (headers.Object counts.pointers counts.values) ∷ name ∷ replicate (counts.pointers + counts.values) 0) }
+>>>>>>> main
     {
         let Counts {
             pointers,
@@ -252,8 +269,16 @@ mod tests {
         words.write_filler(Addr::new(6), FillerSize::new(2));
         words.set_field(object, 0, Some(Addr::new(8)));
         assert!(rt; words.len() == 16);
+<<<<<<< HEAD
         assert!(rt; fields_of(&words, object) == 1);
         words.set_data(object, 1, 9);
+||||||| 3906014
+        assert!(rt; pointers_of(&words, object) == 1);
+        words.set_data(object, 1, 9);
+=======
+        assert!(rt; pointers_of(&words, object) == 1);
+        words.set_value(object, 1, 9);
+>>>>>>> main
         assert!(rt; words.len() == 16);
         words.copy(object, Addr::new(8), 5);
         assert!(rt; words.len() == 16);
@@ -263,9 +288,19 @@ mod tests {
         assert!(rt; fields_of(&words, copy) == 1);
         assert_eq!(rt; words.object_at(copy), Some(small()));
         assert_eq!(rt; words.name(copy), 7);
+<<<<<<< HEAD
         assert_eq!(rt; words.get_field(copy, 0), Some(Addr::new(8)));
         assert_eq!(rt; words.get_data(copy, 0), 0);
         assert_eq!(rt; words.get_data(copy, 1), 9);
+||||||| 3906014
+        assert_eq!(rt; words.get_ptr(copy, 0), Some(Addr::new(8)));
+        assert_eq!(rt; words.get_data(copy, 0), 0);
+        assert_eq!(rt; words.get_data(copy, 1), 9);
+=======
+        assert_eq!(rt; words.get_ptr(copy, 0), Some(Addr::new(8)));
+        assert_eq!(rt; words.get_value(copy, 0), 0);
+        assert_eq!(rt; words.get_value(copy, 1), 9);
+>>>>>>> main
         let size = FillerSize::new(2);
         assert_eq!(rt; words.header(Addr::new(6)), Some(Header::Filler { size }));
         let to = Addr::new(8);

@@ -1,5 +1,3 @@
-pub mod Bits
-pub mod Lowest
 pub mod Counts
 pub mod Ranges
 pub mod KeptLaws
@@ -7,5 +5,7 @@ pub mod ObjectLaws
 pub mod Listed
 pub mod Spans
 pub mod LiveWords
+pub mod Summaries
+pub mod Fingers
 pub mod LiveBounds
 pub mod Samples

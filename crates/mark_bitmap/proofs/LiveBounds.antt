@@ -1,9 +1,10 @@
 -- How large live bounds are, and how they are summed.
+use Rattle.heap_words.specs.Configs.{max_region_words}
 use Rattle.std.proofs.Common.{◌≡◌, ℕ, zero, suc, ◌+◌, ◌-◌, ◌*◌, ◌^◌, ◌<◌, ◌≤◌, Bool, true, false, List, Option, Some, None, length, get_or, refl, sym, ap, ◌∙◌, arith}
 use Rattle.std.specs.Prelude.{if◌then◌else◌, IsSome}
 use Rattle.std.proofs.lemmas.Bool.{lt-ltb}
 use Rattle.heap_model.specs.Heap.{Stored}
-use Rattle.regions.specs.Tiles.{Live, tile_size}
+use Rattle.regions.specs.Tiles.{Object, tile_size}
 use Rattle.regions.specs.Table.{Table, kind_of, top_of, object_at, stored_size, object_words}
 use Rattle.regions.specs.Shaped.{IsShaped}
 use Rattle.regions.specs.declared.row.Kind.TheVariants as kinds
@@ -42,7 +43,7 @@ kept_some false marked o s e = e
 
 -- the marked objects of a region lie between its bottom and its top, and below a top at mark start over which none reaches
 marked_le : (t : Table) (marks : List Bool) (k limit a n : ℕ) → Spans t k
-    → ((x : ℕ) (s : Stored) → k * t.words_per_region ≤ x → x < k * t.words_per_region + t.words_per_region → is_marked marks x ≡ true → object_at t x ≡ Some s → x + tile_size (Live s) ≤ limit)
+    → ((x : ℕ) (s : Stored) → k * t.words_per_region ≤ x → x < k * t.words_per_region + t.words_per_region → is_marked marks x ≡ true → object_at t x ≡ Some s → x + tile_size (Object s) ≤ limit)
     → k * t.words_per_region ≤ a → a + n ≤ k * t.words_per_region + t.words_per_region → marked_words t marks a n ≤ limit - a
 marked_le t marks k limit a n p ends low high =
     let is : (x : ℕ) (s : Stored) → marked_in t marks x ≡ Some s → (is_marked marks x ≡ true) × (object_at t x ≡ Some s) = λ x s e. if_some (is_marked marks x) (object_at t x) s e in
@@ -132,6 +133,9 @@ marked_split t marks (suc n) m (suc whole) a b e f = omega (arith, marked_split 
 abbrev pub words_between : Table → List Bool → ℕ → ℕ → ℕ
 words_between t marks from to = marked_words t marks from (to - from)
 
+pub words_start : (t : Table) (marks : List Bool) (from at : ℕ) → at ≡ from → 0 ≡ words_between t marks from at
+words_start t marks from at e = let none : at - from ≡ 0 = omega (arith, e) in sym (ap (marked_words t marks from) none)
+
 pub words_stay : (t : Table) (marks : List Bool) (from at to : ℕ) → from ≤ at → at ≤ to → ((a : ℕ) → at ≤ a → a < to → is_marked marks a ≡ false) → words_between t marks from to ≡ words_between t marks from at
 words_stay t marks from at to low high none =
     let split = marked_split t marks (at - from) (to - at) (to - from) from at (omega (arith, low, high)) (omega (arith, low)) in
@@ -143,12 +147,9 @@ words_more t marks from at found next low l e =
     let here : (if is_marked marks found then object_words t found else 0) ≡ object_words t found = ap (λ b. if b then object_words t found else 0) l.is_in in
     omega (arith, split, here, words_stay t marks from at found low l.at_least l.lowest)
 
-pub found_object : (t : Table) (tops : List ℕ) (marks : List Bool) (a : ℕ) → MarksObjects t tops marks → is_marked marks a ≡ true → IsSome (object_at t a)
-found_object t tops marks a m h = let o = m.object a h in rw o.1 refl
-
 -- in a region it is no more than the region's words
 pub words_small : (t : Table) (marks : List Bool) (k from to : ℕ) → IsShaped t → kind_of t k ≡ kinds.Ordinary → from ≡ k * t.words_per_region → from ≤ to → to ≤ k * t.words_per_region + t.words_per_region
-    → words_between t marks from to ≤ 2 ^ 12
+    → words_between t marks from to ≤ max_region_words
 words_small t marks k from to shape ordinary e low high =
     let p = spans t k shape ordinary in
     omega (arith, marked_used t marks k from (to - from) p (omega (arith, e)) (omega (arith, low, high)), p.top_le, shape.small, e)
@@ -163,7 +164,7 @@ module _ (t : Table) (marks : List Bool) (from at live : ℕ) (low : from ≤ at
   words_next found next size l e s = omega (arith, so_far, s, words_more t marks from at found next low l e)
 
   pub words_fit : (k found size : ℕ) → IsShaped t → kind_of t k ≡ kinds.Ordinary → from ≡ k * t.words_per_region → found < k * t.words_per_region + t.words_per_region
-      → IsLowest (is_marked marks) at found → size ≡ object_words t found → live + size ≤ 2 ^ 12
+      → IsLowest (is_marked marks) at found → size ≡ object_words t found → live + size ≤ max_region_words
   words_fit k found size shape ordinary e high l s =
       omega (arith, words_next found (found + 1) size l refl s, words_small t marks k from (found + 1) shape ordinary e (omega (arith, low, l.at_least)) (omega (arith, high)))
 

@@ -1,14 +1,15 @@
 -- The words of marked and of kept objects.
-use Rattle.std.proofs.Common.{inl, inr, ◌≡◌, ◌≢◌, ◌↔◌, ℕ, zero, suc, ◌+◌, ◌-◌, ◌*◌, ◌/◌, ◌%◌, ◌<◌, ◌≤◌, Bool, true, false, not, eqb, List, None, length, get_or, refl, sym, ap, ◌∙◌, arith}
-use Rattle.std.specs.Prelude.{if◌then◌else◌}
+use Rattle.std.proofs.Common.{inl, inr, ◌≡◌, ◌≢◌, ◌↔◌, ℕ, zero, suc, ◌+◌, ◌-◌, ◌*◌, ◌/◌, ◌%◌, ◌<◌, ◌≤◌, Bool, true, false, not, eqb, List, Option, Some, None, length, get_or, refl, sym, ap, ◌∙◌, arith}
+use Rattle.std.specs.Prelude.{if◌then◌else◌, MatchOption, IfSome, IsTrue}
+use Rattle.std.specs.Option.{is_some}
 use Rattle.std.proofs.lemmas.Bool.{cases_lt, cases_eq, cases_Bool, eq-eqb, ne_eqb, le-leb, lt-ltb, le-ltb, and_parts, ltb-true, leb-true}
 use Rattle.std.proofs.lemmas.List.{get_or_past}
 use Rattle.regions.specs.Tiles.{total_size}
-use Rattle.regions.specs.Table.{Table, Region, Free, Ordinary, First, Rest, region_tile, region_at, region_number, region_kind, kind_of, region_used, used_of, top_of, tile_in, tile_object, object_at, stored_size, object_words}
+use Rattle.regions.specs.Table.{Table, Region, Free, Ordinary, First, Rest, region_tile, region_at, nth_region, region_kind, kind_of, region_used, used_of, top_of, tile_in, tile_object, object_at, stored_size, object_words}
 use Rattle.regions.specs.Walks.{region_tiles, tiles_of}
 use Rattle.regions.specs.Shaped.{IsShaped}
 use Rattle.regions.specs.declared.row.Kind.TheVariants as kinds
-use Rattle.mark_bitmap.specs.Marks.{is_marked, HasNone, IsLowest}
+use Rattle.mark_bitmap.specs.Marks.{is_marked, HasNoneBelow, IsLowest}
 use Rattle.mark_bitmap.specs.Tops.{Tops, is_in_region}
 use Rattle.mark_bitmap.specs.Kept.{MarksObjects, kept_in}
 use Rattle.mark_bitmap.specs.Live.{marked_words, live_bound_of}
@@ -58,9 +59,9 @@ same_words t t' marks marks' (suc n) a marked words =
 -- what is handed out of a region fits into it
 pub used_le : (t : Table) (k : ℕ) → IsShaped t → used_of t k ≤ t.words_per_region
 unfolding used_of kind_of tiles_of
-used_le t k shape = go (region_number t k) refl
+used_le t k shape = go (nth_region t k) refl
   where
-    go : (r : Region) → region_number t k ≡ r → region_used t.words_per_region (region_number t k) ≤ t.words_per_region
+    go : (r : Region) → nth_region t k ≡ r → region_used t.words_per_region (nth_region t k) ≤ t.words_per_region
     go Free e = rw e (omega arith)
     go (Ordinary ts) e = omega (arith, ap (region_used t.words_per_region) e, ap (λ (r : Region). total_size (region_tiles r)) e, (shape.fitting k).fits (ap region_kind e))
     go (First s) e = rw e (omega arith)
@@ -73,9 +74,9 @@ tops_le t tops marks k shape m = elim (cases_lt k (length t.regions)) [
   | inr past ↦ omega (arith, get_or_past tops k 0 (omega (arith, past, m.each_region)))
 ]
 
-same_region_words : (t t' : Table) (k a : ℕ) → t'.words_per_region ≡ t.words_per_region → region_number t' k ≡ region_number t k
+same_region_words : (t t' : Table) (k a : ℕ) → t'.words_per_region ≡ t.words_per_region → nth_region t' k ≡ nth_region t k
     → k * t.words_per_region ≤ a → a < k * t.words_per_region + t.words_per_region → object_words t' a ≡ object_words t a
-unfolding object_words object_at tile_in region_at region_number
+unfolding object_words object_at tile_in region_at nth_region
 same_region_words t t' k a size same low high =
     let row : a / t.words_per_region ≡ k = div_is a t.words_per_region k low high in
     ap (λ (n : ℕ). stored_size (tile_object (region_tile (get_or t'.regions (a / n) Free) (a % n)))) size
@@ -83,12 +84,12 @@ same_region_words t t' k a size same low high =
     ∙ ap (λ (r : Region). stored_size (tile_object (region_tile r (a % t.words_per_region)))) same
     ∙ ap (λ (n : ℕ). stored_size (tile_object (region_tile (get_or t.regions n Free) (a % t.words_per_region)))) (sym row)
 
-same_region_top : (t t' : Table) (k : ℕ) → t'.words_per_region ≡ t.words_per_region → region_number t' k ≡ region_number t k → top_of t' k ≡ top_of t k
-unfolding used_of region_number
+same_region_top : (t t' : Table) (k : ℕ) → t'.words_per_region ≡ t.words_per_region → nth_region t' k ≡ nth_region t k → top_of t' k ≡ top_of t k
+unfolding used_of nth_region
 same_region_top t t' k size same = rw (size, same) refl
 
 -- a region's live bound is told by its tiles, its marks and its top at mark start
-pub same_bound : (t t' : Table) (tops tops' : List ℕ) (marks marks' : List Bool) (k : ℕ) → IsShaped t → t'.words_per_region ≡ t.words_per_region → region_number t' k ≡ region_number t k
+pub same_bound : (t t' : Table) (tops tops' : List ℕ) (marks marks' : List Bool) (k : ℕ) → IsShaped t → t'.words_per_region ≡ t.words_per_region → nth_region t' k ≡ nth_region t k
     → get_or tops' k 0 ≡ get_or tops k 0 → ((a : ℕ) → is_in_region t.words_per_region k a ≡ true → is_marked marks' a ≡ is_marked marks a)
     → MarksObjects t tops marks → live_bound_of t' tops' marks' k ≡ live_bound_of t tops marks k
 unfolding live_bound_of
@@ -150,19 +151,19 @@ not_dead t tops marks k top start m known top_is start_is differ zero_is =
     let e : eqb top start ≡ true = eq-eqb top start same in
     cc
 
--- no marks from the bottom on
-pub none_found : (t : Table) (tops : List ℕ) (marks : List Bool) (k bottom : ℕ) → get_or tops k 0 ≡ top_of t k → bottom ≡ k * t.words_per_region → HasNone (is_marked marks) bottom → live_bound_of t tops marks k ≡ 0
-none_found t tops marks k bottom top low none = zero_of_dead t tops marks k (record { top = top; none = λ a h _. none a (omega (arith, h, low)) })
-
--- the lowest mark from the bottom on decides
-pub lowest_found : (t : Table) (tops : List ℕ) (marks : List Bool) (k bottom found : ℕ) → MarksObjects t tops marks → k < length t.regions → get_or tops k 0 ≡ top_of t k → bottom ≡ k * t.words_per_region
-    → IsLowest (is_marked marks) bottom found → (get_or tops k 0 ≤ found) ↔ (live_bound_of t tops marks k ≡ 0)
-lowest_found t tops marks k bottom found m known top low l = (
-  λ far. zero_of_dead t tops marks k (record { top = top; none = λ a h under. l.lowest a (omega (arith, h, low)) (omega (arith, under, far)) }),
-  λ zero_is. elim (cases_lt found (get_or tops k 0)) [
-    | inl under ↦ absurd (let e = (dead_of_zero t tops marks k m known zero_is).none found (omega (arith, low, l.at_least)) under in let f = l.is_in in cc)
-    | inr far ↦ far
-  ],
+-- a search below the top at mark start decides
+pub dead_found : (t : Table) (tops : List ℕ) (marks : List Bool) (k bottom start : ℕ) (found : Option ℕ) (is_none : Bool) → MarksObjects t tops marks → k < length t.regions → get_or tops k 0 ≡ top_of t k
+    → bottom ≡ k * t.words_per_region → start ≡ get_or tops k 0 → MatchOption found (HasNoneBelow (is_marked marks) bottom start) (IsLowest (is_marked marks) bottom) → IfSome found (λ x. x < start)
+    → is_some found ≡ not is_none → IsTrue is_none ↔ (live_bound_of t tops marks k ≡ 0)
+dead_found t tops marks k bottom start None true m known top low end none below e = (
+  λ yes. zero_of_dead t tops marks k (record { top = top; none = λ a h under. none a (omega (arith, h, low)) (omega (arith, under, end)) }),
+  λ zero_is. refl,
+)
+dead_found t tops marks k bottom start None false m known top low end none below e = absurd (cc)
+dead_found t tops marks k bottom start (Some found) true m known top low end l below e = absurd (cc)
+dead_found t tops marks k bottom start (Some found) false m known top low end l below e = (
+  λ yes. absurd (cc),
+  λ zero_is. absurd (let f = (dead_of_zero t tops marks k m known zero_is).none found (omega (arith, low, l.at_least)) (omega (arith, below, end)) in let g = l.is_in in cc),
 )
 
 pub same_tops : (t : Table) (tops : List ℕ) (k top start : ℕ) → top ≡ top_of t k → start ≡ get_or tops k 0 → not (eqb top start) ≡ false → get_or tops k 0 ≡ top_of t k

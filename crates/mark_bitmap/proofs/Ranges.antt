@@ -18,8 +18,8 @@ div_low a n z = let f : a / n * n + a % n ≡ a = omega arith in omega arith
 div_high : (a n : ℕ) → 0 < n → a < a / n * n + n
 div_high a n z = let f : a / n * n + a % n ≡ a = omega arith in omega arith
 
-pub region_number : (words k a : ℕ) → is_in_region words k a ≡ true → a / words ≡ k
-region_number words k a h =
+pub nth_region : (words k a : ℕ) → is_in_region words k a ≡ true → a / words ≡ k
+nth_region words k a h =
     let p = and_parts (leb (k * words) a) (ltb a (k * words + words)) h in
     div_is a words k (leb-true (k * words) a p.0) (ltb-true a (k * words + words) p.1)
 
@@ -33,7 +33,7 @@ other_region words k a z h e =
 
 pub below_in : (words : ℕ) (tops : List ℕ) (k a : ℕ) → is_in_region words k a ≡ true → is_below words tops a ≡ ltb a (get_or tops k 0)
 unfolding is_below
-below_in words tops k a h = ap (λ (n : ℕ). ltb a (get_or tops n 0)) (region_number words k a h)
+below_in words tops k a h = ap (λ (n : ℕ). ltb a (get_or tops n 0)) (nth_region words k a h)
 
 pub lies_below : (words : ℕ) (tops : List ℕ) (a : ℕ) → 0 < words → is_below words tops a ≡ true → LiesBelow words tops a
 unfolding is_below

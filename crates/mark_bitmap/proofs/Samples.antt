@@ -4,14 +4,14 @@ use Rattle.std.specs.Prelude.{IsSome, IfSome}
 use Rattle.std.proofs.lemmas.List.{length-replicate}
 use Rattle.std.proofs.lemmas.List.FromFn.{length-map-range_with_len, get_or-map-range_with_len}
 use Rattle.heap_model.specs.Heap.{Stored}
-use Rattle.regions.specs.Tiles.{Tile, Live, Gap, Moved}
+use Rattle.regions.specs.Tiles.{Tile, Object, Filler, Forwarded}
 use Rattle.regions.specs.Table.{Table, tile_in, tile_object, object_at, push_tile, used_of, top_of, kind_of}
 use Rattle.regions.specs.Shaped.{IsShaped}
 use Rattle.regions.specs.Shapes.{tile_shape}
 use Rattle.regions.specs.declared.row.Shape.{Shape}
 use Rattle.regions.specs.declared.row.Shape.TheVariants as shapes
 use Rattle.regions.specs.declared.row.Kind.TheVariants as kinds
-use Rattle.regions.proofs.Placing.{gap_push}
+use Rattle.regions.proofs.Tiles.Placing.{filler_push}
 use Rattle.mark_bitmap.specs.Tops.{bottoms}
 use Rattle.mark_bitmap.specs.Kept.{MarksObjects}
 use Rattle.mark_bitmap.proofs.ObjectLaws.{none_marked}
@@ -33,11 +33,25 @@ fresh_objects t count words tops marks regions size low none =
     }
 
 -- what has an object's shape is one
+<<<<<<< HEAD
 object_shape : (o : Option Tile) (shape : Shape) (p weak d : ℕ) → IsSome o → IfSome o (λ u. shape ≡ tile_shape u) → shape ≡ shapes.Object p weak d → (s : Stored) × (tile_object o ≡ Some s)
 object_shape None shape p weak d some is e = cc
 object_shape (Some (Live s)) shape p weak d some is e = (s, refl)
 object_shape (Some (Gap n)) shape p weak d some is e = cc
 object_shape (Some (Moved to n)) shape p weak d some is e = cc
+||||||| 3906014
+object_shape : (o : Option Tile) (shape : Shape) (p d : ℕ) → IsSome o → IfSome o (λ u. shape ≡ tile_shape u) → shape ≡ shapes.Object p d → (s : Stored) × (tile_object o ≡ Some s)
+object_shape None shape p d some is e = cc
+object_shape (Some (Live s)) shape p d some is e = (s, refl)
+object_shape (Some (Gap n)) shape p d some is e = cc
+object_shape (Some (Moved to n)) shape p d some is e = cc
+=======
+object_shape : (o : Option Tile) (shape : Shape) (p d : ℕ) → IsSome o → IfSome o (λ u. shape ≡ tile_shape u) → shape ≡ shapes.Object p d → (s : Stored) × (tile_object o ≡ Some s)
+object_shape None shape p d some is e = cc
+object_shape (Some (Object s)) shape p d some is e = (s, refl)
+object_shape (Some (Filler n)) shape p d some is e = cc
+object_shape (Some (Forwarded to n)) shape p d some is e = cc
+>>>>>>> main
 
 pub shaped_object : (t : Table) (a : ℕ) (shape : Shape) (p weak d : ℕ) → IsSome (tile_in t a) → IfSome (tile_in t a) (λ u. shape ≡ tile_shape u) → shape ≡ shapes.Object p weak d → (s : Stored) × (object_at t a ≡ Some s)
 unfolding object_at
@@ -45,5 +59,5 @@ shaped_object t a shape p weak d some is e = object_shape (tile_in t a) shape p 
 
 -- a filler just pushed is there
 pub pushed_there : (t t' : Table) (k a n : ℕ) → IsShaped t → k < length t.regions → kind_of t k ≡ kinds.Ordinary → used_of t k + n ≤ t.words_per_region → 0 < n → a ≡ top_of t k
-    → t' ≡ push_tile t k (Gap n) → tile_in t' a ≡ Some (Gap n)
-pushed_there t t' k a n shape known ordinary room z at e = rw (e, at) (gap_push t k (Gap n) shape.positive shape.fitting known ordinary z room tt).is
+    → t' ≡ push_tile t k (Filler n) → tile_in t' a ≡ Some (Filler n)
+pushed_there t t' k a n shape known ordinary room z at e = rw (e, at) (filler_push t k (Filler n) shape.positive shape.fitting known ordinary z room tt).is

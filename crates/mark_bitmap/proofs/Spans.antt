@@ -3,14 +3,14 @@ use Rattle.std.proofs.Common.{inl, inr, ◌≡◌, ◌⊎◌, ℕ, zero, suc, �
 use Rattle.std.proofs.lemmas.Bool.{le-leb}
 use Rattle.std.proofs.lemmas.Bool.Decides.{leb_tells}
 use Rattle.heap_model.specs.Heap.{Stored}
-use Rattle.regions.specs.Tiles.{Tile, Live, tile_size, total_size, tile_at}
-use Rattle.regions.specs.Table.{Table, Region, Free, Ordinary, First, Rest, region_tile, region_at, region_number, region_kind, kind_of, region_used, used_of, top_of, tile_in, tile_object, object_at, stored_size}
+use Rattle.regions.specs.Tiles.{Tile, Object, tile_size, total_size, tile_at}
+use Rattle.regions.specs.Table.{Table, Region, Free, Ordinary, First, Rest, region_tile, region_at, nth_region, region_kind, kind_of, region_used, used_of, top_of, tile_in, tile_object, object_at, stored_size}
 use Rattle.regions.specs.Walks.{region_tiles, tiles_of}
 use Rattle.regions.specs.Shaped.{IsShaped}
 use Rattle.regions.specs.declared.row.Kind.TheVariants as kinds
-use Rattle.regions.proofs.Laws.{object_tile}
-use Rattle.regions.proofs.Parse.{past}
-use Rattle.regions.proofs.Placing.{tile_at-end}
+use Rattle.regions.proofs.Tiles.Laws.{object_tile}
+use Rattle.regions.proofs.Words.Parse.{past}
+use Rattle.regions.proofs.Tiles.Placing.{tile_at-end}
 use Rattle.mark_bitmap.proofs.Ranges.{div_is}
 
 -- no tile starts within another
@@ -30,12 +30,12 @@ none_inside (t ∷ ts) (suc o) (suc p) u e low high =
 -- what is known of the objects that start in region k
 pub record Spans (t : Table) (k : ℕ) : Type 0 where
   pub top_le : top_of t k ≤ k * t.words_per_region + t.words_per_region
-  pub ends : (x : ℕ) (s : Stored) → k * t.words_per_region ≤ x → x < k * t.words_per_region + t.words_per_region → object_at t x ≡ Some s → x + tile_size (Live s) ≤ top_of t k
+  pub ends : (x : ℕ) (s : Stored) → k * t.words_per_region ≤ x → x < k * t.words_per_region + t.words_per_region → object_at t x ≡ Some s → x + tile_size (Object s) ≤ top_of t k
   pub alone : (x y : ℕ) (s : Stored) → k * t.words_per_region ≤ x → x < k * t.words_per_region + t.words_per_region → object_at t x ≡ Some s
-      → x < y → y < x + tile_size (Live s) → object_at t y ≡ None
+      → x < y → y < x + tile_size (Object s) → object_at t y ≡ None
 
-object_here : (t : Table) (k o x : ℕ) (ts : List Tile) → region_number t k ≡ Ordinary ts → o < t.words_per_region → k * t.words_per_region + o ≡ x → object_at t x ≡ tile_object (tile_at o ts)
-unfolding object_at tile_in region_at region_number
+object_here : (t : Table) (k o x : ℕ) (ts : List Tile) → nth_region t k ≡ Ordinary ts → o < t.words_per_region → k * t.words_per_region + o ≡ x → object_at t x ≡ tile_object (tile_at o ts)
+unfolding object_at tile_in region_at nth_region
 object_here t k o x ts is less at =
     let words : ℕ = t.words_per_region in
     let row : x / words ≡ k = div_is x words k (omega (arith, at)) (omega (arith, at, less)) in
@@ -44,39 +44,39 @@ object_here t k o x ts is less at =
     let place : x % words ≡ o = omega (arith, whole, same, at) in
     ap (λ (n : ℕ). tile_object (region_tile (get_or t.regions n Free) (x % words))) row ∙ ap (λ (r : Region). tile_object (region_tile r (x % words))) is ∙ ap (λ (n : ℕ). tile_object (tile_at n ts)) place
 
-tiles_fit : (t : Table) (k : ℕ) (ts : List Tile) → IsShaped t → region_number t k ≡ Ordinary ts → total_size ts ≤ t.words_per_region
+tiles_fit : (t : Table) (k : ℕ) (ts : List Tile) → IsShaped t → nth_region t k ≡ Ordinary ts → total_size ts ≤ t.words_per_region
 unfolding tiles_of kind_of
 tiles_fit t k ts shape is =
     let fits = (shape.fitting k).fits (ap region_kind is) in
     omega (arith, fits, ap (λ (r : Region). total_size (region_tiles r)) is)
 
-tiles_top : (t : Table) (k : ℕ) (ts : List Tile) → region_number t k ≡ Ordinary ts → top_of t k ≡ k * t.words_per_region + total_size ts
+tiles_top : (t : Table) (k : ℕ) (ts : List Tile) → nth_region t k ≡ Ordinary ts → top_of t k ≡ k * t.words_per_region + total_size ts
 unfolding used_of
 tiles_top t k ts is = ap (λ (r : Region). k * t.words_per_region + region_used t.words_per_region r) is
 
-spans_by : (t : Table) (k : ℕ) (ts : List Tile) → IsShaped t → region_number t k ≡ Ordinary ts → Spans t k
+spans_by : (t : Table) (k : ℕ) (ts : List Tile) → IsShaped t → nth_region t k ≡ Ordinary ts → Spans t k
 spans_by t k ts shape is =
     let words : ℕ = t.words_per_region in
     let fits = tiles_fit t k ts shape is in
     let top = tiles_top t k ts is in
-    let tile : (x : ℕ) (s : Stored) → k * words ≤ x → x < k * words + words → object_at t x ≡ Some s → tile_at (x - k * words) ts ≡ Some (Live s) = λ x s low high e.
+    let tile : (x : ℕ) (s : Stored) → k * words ≤ x → x < k * words + words → object_at t x ≡ Some s → tile_at (x - k * words) ts ≡ Some (Object s) = λ x s low high e.
     object_tile _ s (sym (object_here t k (x - k * words) x ts is (omega (arith, low, high)) (omega (arith, low))) ∙ e) in
-    let end : (x : ℕ) (s : Stored) → k * words ≤ x → x < k * words + words → object_at t x ≡ Some s → x + tile_size (Live s) ≤ k * words + total_size ts = λ x s low high e.
-    omega (arith, low, tile_at-end ts (x - k * words) (Live s) (tile x s low high e)) in
+    let end : (x : ℕ) (s : Stored) → k * words ≤ x → x < k * words + words → object_at t x ≡ Some s → x + tile_size (Object s) ≤ k * words + total_size ts = λ x s low high e.
+    omega (arith, low, tile_at-end ts (x - k * words) (Object s) (tile x s low high e)) in
     record {
       top_le = omega (arith, fits, top);
       ends = λ x s low high e. omega (arith, top, end x s low high e);
       alone = λ x y s low high e after before.
           let inside : y < k * words + words = omega (arith, before, end x s low high e, fits) in
           object_here t k (y - k * words) y ts is (omega (arith, inside, low, after)) (omega (arith, low, after))
-          ∙ ap tile_object (none_inside ts (x - k * words) (y - k * words) (Live s) (tile x s low high e) (omega (arith, low, after)) (omega (arith, low, after, before)));
+          ∙ ap tile_object (none_inside ts (x - k * words) (y - k * words) (Object s) (tile x s low high e) (omega (arith, low, after)) (omega (arith, low, after, before)));
     }
 
 pub spans : (t : Table) (k : ℕ) → IsShaped t → kind_of t k ≡ kinds.Ordinary → Spans t k
 unfolding kind_of
-spans t k shape ordinary = go (region_number t k) refl ordinary
+spans t k shape ordinary = go (nth_region t k) refl ordinary
   where
-    go : (r : Region) → region_number t k ≡ r → region_kind r ≡ kinds.Ordinary → Spans t k
+    go : (r : Region) → nth_region t k ≡ r → region_kind r ≡ kinds.Ordinary → Spans t k
     go Free e f = cc
     go (Ordinary ts) e f = spans_by t k ts shape e
     go (First s) e f = cc
@@ -94,7 +94,7 @@ chosen_words g a (suc n) = stored_size (g a) + chosen_words g (suc a) n
 -- chosen objects are objects of region k that end at or below a limit
 pub record IsChoice (t : Table) (k limit : ℕ) (g : ℕ → Option Stored) : Type 0 where
   pub object : (x : ℕ) (s : Stored) → g x ≡ Some s → object_at t x ≡ Some s
-  pub ends : (x : ℕ) (s : Stored) → k * t.words_per_region ≤ x → x < k * t.words_per_region + t.words_per_region → g x ≡ Some s → x + tile_size (Live s) ≤ limit
+  pub ends : (x : ℕ) (s : Stored) → k * t.words_per_region ≤ x → x < k * t.words_per_region + t.words_per_region → g x ≡ Some s → x + tile_size (Object s) ≤ limit
 
 module _ (t : Table) (k limit : ℕ) (g : ℕ → Option Stored) (p : Spans t k) (c : IsChoice t k limit g) where
   not_chosen : (y : ℕ) → object_at t y ≡ None → g y ≡ None
@@ -118,7 +118,7 @@ module _ (t : Table) (k limit : ℕ) (g : ℕ → Option Stored) (p : Spans t k)
     | inr some ↦
         let s : Stored = some.0 in
         let e : object_at t a ≡ Some s = c.object a s some.1 in
-        let size : ℕ = tile_size (Live s) in
+        let size : ℕ = tile_size (Object s) in
         let end : a + size ≤ limit = c.ends a s low (omega (arith, high)) some.1 in
         let rest = chosen_after n (suc a) (size - 1) (omega (arith, low)) (omega (arith, high)) (λ y l h. not_chosen y (p.alone a y s low (omega (arith, high)) e (omega (arith, l)) (omega (arith, h)))) in
         omega (arith, rest, end, ap stored_size some.1)

@@ -1,6 +1,6 @@
 pub mod Marks
-pub mod Words
 pub mod Tops
 pub mod Grey
 pub mod Kept
 pub mod Live
+pub mod Summary

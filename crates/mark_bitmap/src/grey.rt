@@ -1,95 +1,118 @@
 //! The grey objects: marked, and not scanned yet.
 //!
-//! There is no list of them. They are the difference of two bitmaps, and a finger tells where to look: no grey
-//! object starts below it.
+//! There is no list of them. They are the difference of two bitmaps, and fingers tell where to look: one for each 64
+//! addresses, which is set where a grey object starts at one of them. The fingers have levels above them (`summary`), so
+//! the lowest one that is set is found in a few steps, wherever it is.
 //!
 //! ```text
-//!   marked    . . x . . x . . x . .        any        the finger rises to the lowest grey object
-//!   scanned   . . x . . . . . . . .        remove     that object is scanned: it is no longer grey
-//!   grey      . . . . . x . . x . .        add        an object below the finger is marked: the finger
-//!                       ^ finger                      is lowered to it
+//!   address   0 ..          64 ..         128 ..        192 ..
+//!   marked    . x . . x     x . . . .     . . . . .     . . x . x        add        the object's finger is set
+//!   scanned   . x . . x     . . . . .     . . . . .     . . x . .        any        the lowest grey object, by the
+//!   grey      . . . . .     x . . . .     . . . . .     . . . . x                   lowest finger that is set
+//!   finger    no            yes           no            yes              remove     the object is scanned; its finger
+//!                                                                                   falls where no other one is left
 //! ```
 //!
-//! Over a marking cycle: `begin` clears the scanned set; each object that is marked is added; `any` and `remove`
-//! take one grey object after another, until none is left.
+//! Over a marking cycle: `begin` clears the scanned set and the fingers; each object that is marked is added; `any` and
+//! `remove` take one grey object after another, until none is left. Each of the three costs a few words, however many
+//! objects there are and wherever they lie.
 
-ghost use Rattle.std.specs.Prelude.{◌≡◌, ℕ, ◌<◌, List, Bool, true, false, IfOk, IfSome, length, MatchOption, min, replicate, slice_set, unwrap_or};
+ghost use Rattle.std.specs.Prelude.{◌≡◌, ◌≢◌, ℕ, ◌<◌, List, Bool, true, false, IfOk, IfSome, length, MatchOption, replicate, slice_set};
+ghost use Rattle.heap_words.specs.Bits.{has};
 ghost use Rattle.mark_bitmap.specs.Marks.{is_marked, HasNone, IsLowest};
-ghost use Rattle.mark_bitmap.specs.Grey.{Scans, is_grey, IsFinger};
+ghost use Rattle.mark_bitmap.specs.Summary.{HasMember};
+ghost use Rattle.mark_bitmap.specs.Grey.{finger_of, is_grey, nothing_scanned, HasFingers, Scans};
 
 use crate::marks::Marks;
+use crate::summary::Summary;
 use heap_words::addr::Addr;
 use std::alloc::{AllocError, Global};
 use std::marker::Model;
 
-/// Which objects are scanned, and the finger. Clauses see both.
+/// Which objects are scanned, and the fingers. Clauses see both.
 #[derive(Drop)]
 pub struct Grey {
     scanned: Marks,
-    finger: u32,
+    fingers: Summary,
 }
 
 impl Model for Grey {
+    ghost use Rattle.std.specs.Prelude.{◌≡◌, length};
+    ghost use Rattle.std.specs.Int.{div_ceil};
     ghost use Rattle.mark_bitmap.specs.Grey.{Scans};
 
     ghost Value = { Scans };
 
-    ghost view = { λ g. record { scanned = g.scanned; finger = g.finger } };
+    ghost view = { λ g. record { scanned = g.scanned; fingers = g.fingers } };
+
+    ghost invariant = { λ g. length g.fingers ≡ div_ceil (length g.scanned) 64 };
 }
 
 impl Grey {
-    /// Nothing is scanned of the addresses below `count`. No call takes memory afterwards.
+    /// Nothing is scanned of the addresses below `count`, and no finger is set. No call takes memory afterwards.
+    #[tactic(auto, unfolding(crate::specs::Grey::nothing_scanned))]
     pub fn new(alloc: Global, count: u32) -> Result<Grey, AllocError>
-        ensures none { IfOk result (λ grey. grey ≡ record { scanned = replicate count false; finger = 0 }) }
-        ensures finger { IfOk result (λ grey. (marks : List Bool) → IsFinger marks grey) }
+        ensures none { IfOk result (λ grey. grey ≡ nothing_scanned count) }
+        ensures fingers { IfOk result (λ grey. (marks : List Bool) → ((a : ℕ) → is_marked marks a ≡ false) → HasFingers marks grey) }
     {
         Ok(Grey {
             scanned: Marks::new(alloc, count)?,
-            finger: 0,
+            fingers: Summary::new(alloc, count.div_ceil(64))?,
         })
     }
 
-    /// Marking begins: nothing is scanned.
+    /// Marking begins with no marks: nothing is scanned, and no finger is set.
     pub fn clear(&mut self)
-        ensures none { self.new ≡ record { scanned = replicate (length self.old.scanned) false; finger = 0 } }
-        ensures finger { (marks : List Bool) → IsFinger marks self.new }
+        ensures none { self.new ≡ record { scanned = replicate (length self.old.scanned) false; fingers = replicate (length self.old.fingers) false } }
+        ensures fingers { (marks : List Bool) → ((a : ℕ) → is_marked marks a ≡ false) → HasFingers marks self.new }
     {
         self.scanned.clear();
-        self.finger = 0;
+        self.fingers.clear();
     }
 
-    /// An object is marked, which makes it grey: the finger isn't above it afterwards.
+    /// An object is marked, which makes it grey: its finger is set.
+    #[tactic(auto, unfolding(crate::specs::Grey::finger_of))]
     pub fn add(&mut self, object: Addr)
-        ensures lowered { self.new ≡ record { scanned = self.old.scanned; finger = min self.old.finger object } }
-        ensures finger { (marks : List Bool) → IsFinger marks self.old → IsFinger (slice_set marks object true) self.new }
-    {
-        self.finger = self.finger.min(object.word());
-    }
-
-    /// The lowest grey object. The finger rises to it, or past all addresses where there is none.
-    pub fn any(&mut self, marks: &Marks) -> Option<Addr>
-        requires even { length marks.now ≡ length self.old.scanned }
-        requires finger { IsFinger marks.now self.old }
-        ensures lowest { MatchOption result (HasNone (is_grey marks.now self.old) 0) (IsLowest (is_grey marks.now self.old) 0) }
-        ensures within { IfSome result (λ found. found < length marks.now) }
-        ensures raised { self.new ≡ record { scanned = self.old.scanned; finger = unwrap_or result (length self.old.scanned) } }
-        ensures finger { IsFinger marks.now self.new }
-    {
-        let found = marks.next_without(&self.scanned, Addr::new(self.finger));
-        self.finger = match found {
-            Some(object) => object.word(),
-            None => self.scanned.len(),
-        };
-        found
-    }
-
-    /// An object is scanned: it is no longer grey.
-    pub fn remove(&mut self, object: Addr)
         requires { object < length self.old.scanned }
-        ensures scanned { self.new ≡ record { scanned = slice_set self.old.scanned object true; finger = self.old.finger } }
-        ensures finger { (marks : List Bool) → IsFinger marks self.old → IsFinger marks self.new }
+        ensures added { self.new ≡ record { scanned = self.old.scanned; fingers = slice_set self.old.fingers (finger_of object) true } }
+        ensures fingers { (marks : List Bool) → HasFingers marks self.old → HasFingers (slice_set marks object true) self.new }
     {
+        self.fingers.set(object.word() / 64);
+    }
+
+    /// The lowest grey object.
+    #[tactic(auto, unfolding(crate::specs::Grey::finger_of))]
+    pub fn any(&self, marks: &Marks) -> Option<Addr>
+        requires even { length marks.now ≡ length self.now.scanned }
+        requires fingers { HasFingers marks.now self.now }
+        ensures lowest { MatchOption result (HasNone (is_grey marks.now self.now) 0) (IsLowest (is_grey marks.now self.now) 0) }
+        ensures within { IfSome result (λ found. found < length marks.now) }
+    {
+        let end = Addr::new(marks.len());
+        let finger = self.fingers.lowest()?;
+        marks.next_without(&self.scanned, Addr::new(64 * finger), end)
+    }
+
+    /// An object is scanned: it is no longer grey. Its finger is still set only if a grey object is left at one of the
+    /// finger's addresses.
+    #[tactic(auto, unfolding(crate::specs::Grey::finger_of))]
+    pub fn remove(&mut self, marks: &Marks, object: Addr)
+        requires even { length marks.now ≡ length self.old.scanned }
+        requires known { object < length self.old.scanned }
+        ensures scanned { self.new.scanned ≡ slice_set self.old.scanned object true }
+        ensures left { has self.new.fingers (finger_of object) ≡ true → HasMember (is_grey marks.now self.new) (finger_of object) }
+        ensures others { (i : ℕ) → i ≢ finger_of object → has self.new.fingers i ≡ has self.old.fingers i }
+        ensures fingers { HasFingers marks.now self.old → HasFingers marks.now self.new }
+    {
+        marks.law();
         self.scanned.set(object);
+        let finger = object.word() / 64;
+        let first = 64 * finger;
+        let from = Addr::new(first);
+        let to = Addr::new(first.saturating_add(64));
+        if marks.next_without(&self.scanned, from, to).is_none() {
+            self.fingers.remove(finger);
+        }
     }
 
     /// Whether an object is scanned.
@@ -101,13 +124,13 @@ impl Grey {
     }
 }
 
-/// What grey is: marked, and not scanned. With fewer marks the finger is right still. Where none is left, each marked
+/// What grey is: marked, and not scanned. With fewer marks the fingers are right still. Where none is left, each marked
 /// object is scanned.
 pub fn grey_law()
     ensures grey { (marks : List Bool) (scans : Scans) (a : ℕ) → is_marked marks a ≡ true → is_marked scans.scanned a ≡ false → is_grey marks scans a ≡ true }
     ensures marked { (marks : List Bool) (scans : Scans) (a : ℕ) → is_grey marks scans a ≡ true → is_marked marks a ≡ true }
     ensures unscanned { (marks : List Bool) (scans : Scans) (a : ℕ) → is_grey marks scans a ≡ true → is_marked scans.scanned a ≡ false }
-    ensures fewer { (marks marks' : List Bool) (scans : Scans) → ((a : ℕ) → is_marked marks' a ≡ true → is_marked marks a ≡ true) → IsFinger marks scans → IsFinger marks' scans }
+    ensures fewer { (marks marks' : List Bool) (scans : Scans) → ((a : ℕ) → is_marked marks' a ≡ true → is_marked marks a ≡ true) → HasFingers marks scans → HasFingers marks' scans }
     ensures done { (marks : List Bool) (scans : Scans) → HasNone (is_grey marks scans) 0 → (a : ℕ) → is_marked marks a ≡ true → is_marked scans.scanned a ≡ true }
 {}
 
@@ -116,22 +139,39 @@ mod tests {
     use super::*;
     use std::test::Fail;
 
-    /// Grey objects come by rising address; one that is marked below the finger comes next all the same.
+    /// An object is marked, and so it is grey.
+    fn mark(marks: &mut Marks, grey: &mut Grey, at: u32)
+        requires known { at < length marks.old }
+        requires even { length marks.old ≡ length grey.old.scanned }
+        requires fingers { HasFingers marks.old grey.old }
+        ensures marks { length marks.new ≡ length marks.old }
+        ensures scanned { length grey.new.scanned ≡ length grey.old.scanned }
+        ensures fingers { HasFingers marks.new grey.new }
+    {
+        let object = Addr::new(at);
+        marks.set(object);
+        grey.add(object);
+    }
+
+    /// Grey objects come by rising address; one that is marked below another one comes next all the same.
     #[test]
-    fn finds_what_is_below_the_finger(rt: HostRuntime) -> Result<(), Fail> {
+    #[tactic(auto, unfolding(crate::specs::Grey::nothing_scanned))]
+    fn finds_what_is_below(rt: HostRuntime) -> Result<(), Fail> {
         let mut marks = Marks::new(rt.alloc(), 200)?;
         let mut grey = Grey::new(rt.alloc(), 200)?;
-        marks.set(Addr::new(70));
-        grey.add(Addr::new(70));
-        assert_eq!(rt; grey.any(&marks), Some(Addr::new(70)));
-        grey.remove(Addr::new(70));
-        assert!(rt; grey.is_scanned(Addr::new(70)) && grey.any(&marks).is_none());
-        marks.set(Addr::new(3));
-        grey.add(Addr::new(3));
+        mark(&mut marks, &mut grey, 199);
+        mark(&mut marks, &mut grey, 64);
+        assert_eq!(rt; grey.any(&marks), Some(Addr::new(64)));
+        grey.remove(&marks, Addr::new(64));
+        assert!(rt; grey.is_scanned(Addr::new(64)));
+        mark(&mut marks, &mut grey, 3);
         assert_eq!(rt; grey.any(&marks), Some(Addr::new(3)));
+        grey.remove(&marks, Addr::new(3));
+        assert_eq!(rt; grey.any(&marks), Some(Addr::new(199)));
+        grey.remove(&marks, Addr::new(199));
+        assert_eq!(rt; grey.any(&marks), None);
         grey.clear();
-        assert!(rt; !grey.is_scanned(Addr::new(70)));
-        assert_eq!(rt; grey.any(&marks), Some(Addr::new(3)));
+        assert!(rt; !grey.is_scanned(Addr::new(64)));
         Ok(())
     }
 }

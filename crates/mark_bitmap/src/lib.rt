@@ -2,7 +2,8 @@
 //!
 //! To contracts marks are sets of addresses: lists of flags, one for each word of the heap. Two such sets take turns
 //! with the tops at mark start that belong to them, and a third one holds the objects that marking has scanned. So a
-//! heap pays three bits a word for its marking, all reserved when it is made, and no call takes memory afterwards.
+//! heap pays three bits a word for its marking, and one for 63 words that tells where grey objects are, all reserved when it
+//! is made. No call takes memory afterwards.
 //!
 //! ```text
 //!   over a cycle      begin              mark                      remark               until the next begin
@@ -15,9 +16,9 @@
 //! ```
 //!
 //! `marks` is the set, `bitmaps` the two roles, `tams` the tops at mark start, `grey` the objects that are marked and
-//! not scanned. `kept` says what is kept, and `objects` that marks stand at objects, in words that a heap's invariant
-//! can carry, with the laws that each change keeps them. `live` bounds the words of a region's kept objects from above,
-//! and tells a region that has none.
+//! not scanned, by a `summary` of the words that have some. `kept` says what is kept, and `objects` that marks stand at
+//! objects, in words that a heap's invariant can carry, with the laws that each change keeps them. `live` bounds the words
+//! of a region's kept objects from above, and tells a region that has none.
 #![tactic(auto)]
 
 pub mod bitmaps;
@@ -26,6 +27,7 @@ pub mod kept;
 pub mod live;
 pub mod marks;
 pub mod objects;
+pub mod summary;
 pub mod tams;
 #[cfg(test)]
 mod tests;

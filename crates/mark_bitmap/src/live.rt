@@ -9,7 +9,7 @@
 //! ```
 
 ghost use Rattle.std.specs.Prelude.{◌≡◌, ◌↔◌, ℕ, ◌+◌, ◌-◌, ◌*◌, ◌<◌, ◌≤◌, Bool, true, List, None, IsTrue, length, slice_index};
-ghost use Rattle.regions.specs.Table.{Table, kind_of, region_number, top_of};
+ghost use Rattle.regions.specs.Table.{Table, kind_of, nth_region, top_of};
 ghost use Rattle.regions.specs.Shaped.{IsShaped};
 ghost use Rattle.regions.specs.declared.row.Kind.TheVariants as kinds;
 ghost use Rattle.mark_bitmap.specs.Marks.{is_marked};
@@ -23,7 +23,7 @@ use heap_words::addr::{Addr, RegionNo};
 use regions::RegionTable;
 
 /// Whether a region's live bound is zero: nothing was made in it since marking began, and nothing in it is marked. It
-/// takes one search of the bitmap.
+/// takes one search of the region's part of the bitmap.
 pub fn is_dead(table: &RegionTable, tams: &Tams, marks: &Marks, region: RegionNo) -> bool
     requires stands { MarksObjects table.now tams.now.previous marks.now }
     requires known { region < length table.now.regions }
@@ -36,10 +36,7 @@ pub fn is_dead(table: &RegionTable, tams: &Tams, marks: &Marks, region: RegionNo
         return false;
     }
     let bottom = region.number() * table.words_per_region();
-    match marks.next(Addr::new(bottom)) {
-        Some(found) => found.word() >= start.word(),
-        None => true,
-    }
+    marks.next_below(Addr::new(bottom), start).is_none()
 }
 
 /// The words of a region's marked objects below its top at mark start, from one mark to the next.
@@ -51,24 +48,17 @@ fn marked_below(table: &RegionTable, tams: &Tams, marks: &Marks, region: RegionN
         (slice_index tams.now.previous region - region * table.now.words_per_region) }
 {
     table.law();
-    let from = region.number() * table.words_per_region();
-    let to = tams.previous(region).word();
+    let top = tams.previous(region);
     let mut live = 0;
-    let mut at = from;
-    while at < to {
-        let Some(found) = marks.next(Addr::new(at)) else {
-            return live;
-        };
-        if found.word() >= to {
-            return live;
-        }
+    let mut at = region.number() * table.words_per_region();
+    while let Some(found) = marks.next_below(Addr::new(at), top) {
         live += table.object_size(found);
         at = found.word() + 1;
     }
     live
 }
 
-/// A region's live bound. It costs the words of the bitmap and the region's marked objects. Where no marked object
+/// A region's live bound. It costs the region's part of the bitmap and its marked objects. Where no marked object
 /// reaches over the top at mark start, it is at most the region's words.
 pub fn live_bound(table: &RegionTable, tams: &Tams, marks: &Marks, region: RegionNo) -> u32
     requires stands { MarksObjects table.now tams.now.previous marks.now }
@@ -97,7 +87,7 @@ pub fn live_law()
         → IsShaped t → MarksObjects t tops.previous previous → k < length t.regions → kind_of t k ≡ kinds.Ordinary
         → live_bound_of t tops.previous previous k ≡ 0 → slice_index tops.previous k ≡ top_of t k }
     ensures same { (t t' : Table) (tops tops' : List ℕ) (marks marks' : List Bool) (k : ℕ)
-        → IsShaped t → t'.words_per_region ≡ t.words_per_region → region_number t' k ≡ region_number t k
+        → IsShaped t → t'.words_per_region ≡ t.words_per_region → nth_region t' k ≡ nth_region t k
         → slice_index tops' k ≡ slice_index tops k → ((a : ℕ) → is_in_region t.words_per_region k a ≡ true → is_marked marks' a ≡ is_marked marks a)
         → MarksObjects t tops marks → live_bound_of t' tops' marks' k ≡ live_bound_of t tops marks k }
 {}

@@ -1,39 +1,36 @@
-//! Sets of addresses, as bits in words of 64.
+//! Sets of addresses.
 //!
 //! ```text
-//!   address   0  1  2 ..  63 | 64 65 ..  127 | 128 ..
-//!   bit       0  1  0 ..   1 |  0  0 ..    0 |   1 ..
-//!             word 0         | word 1: none  | word 2
-//!                next(2) = 63                next(64) = 128, without a look at each address
+//!   address    0 .. 15  16 ..  20  21 ..  30  31 ..
+//!   object              | c:    |           | d:
+//!   marked     0     0   1      0   0     0   1
+//!                            next(17) = 31, without a look at each address
 //! ```
 //!
 //! Over a marking cycle a set is cleared, then grows as objects are marked, and then stays, but that a region that
-//! is released loses its part of it.
+//! is released loses its part of it. It is kept as bits, one an address.
 
-ghost use Rattle.std.specs.Prelude.{◌≡◌, ℕ, ◌+◌, ◌*◌, ◌<◌, ◌≤◌, List, Bool, false, true, if◌then◌else◌, IfOk, IfSome, length, MatchOption, replicate, slice_set};
+ghost use Rattle.std.specs.Prelude.{◌≡◌, ℕ, ◌+◌, ◌*◌, ◌^◌, ◌<◌, ◌≤◌, List, Bool, false, true, if◌then◌else◌, IfOk, IfSome, length, MatchOption, replicate, slice_set};
 ghost use Rattle.heap_model.specs.Count.{ListsMarked};
-ghost use Rattle.mark_bitmap.specs.Marks.{is_between, is_marked, is_only, marked_count, HasNone, IsLowest};
+ghost use Rattle.mark_bitmap.specs.Marks.{is_between, is_marked, is_only, marked_count, HasNone, HasNoneBelow, IsLowest};
 
 use heap_words::addr::Addr;
+use heap_words::bits::Bits;
 use std::alloc::{AllocError, Global};
 use std::marker::Model;
 
 /// A set of addresses below a length that is given when it is made. Clauses see a flag for each address.
 #[derive(Drop)]
 pub struct Marks {
-    words: Vec<u64>,
-    len: u32,
+    bits: Bits,
 }
 
 impl Model for Marks {
-    ghost use Rattle.std.specs.Prelude.{ℕ, List, Bool, ◌≤◌, ◌*◌, vec_len};
-    ghost use Rattle.mark_bitmap.specs.Words.{marks_of};
+    ghost use Rattle.std.specs.Prelude.{List, Bool};
 
     ghost Value = { List Bool };
 
-    ghost view = { λ s. marks_of s.words.items s.len };
-
-    ghost invariant = { λ s. s.len ≤ 64 * vec_len s.words };
+    ghost view = { λ s. s.bits };
 }
 
 impl Marks {
@@ -41,15 +38,23 @@ impl Marks {
     pub fn new(alloc: Global, count: u32) -> Result<Marks, AllocError>
         ensures { IfOk result (λ marks. marks ≡ replicate count false) }
     {
-        let words = vec![in alloc; 0; count.div_ceil(64) as usize]?;
-        Ok(Marks { words, len: count })
+        Ok(Marks {
+            bits: Bits::new(alloc, count)?,
+        })
+    }
+
+    /// Tells a proof what is known of each set: its addresses are below 2 to the 32nd. It does nothing.
+    pub fn law(&self)
+        ensures { length self.now < 2 ^ 32 }
+    {
+        self.bits.law();
     }
 
     /// How many addresses there are, marked or not.
     pub fn len(&self) -> u32
         ensures { result ≡ length self.now }
     {
-        self.len
+        self.bits.len()
     }
 
     /// Whether an address is marked.
@@ -57,8 +62,7 @@ impl Marks {
         requires { at < length self.now }
         ensures { result ≡ is_marked self.now at }
     {
-        let at = at.word();
-        self.words[at as usize / 64] >> (at % 64) & 1 == 1
+        self.bits.get(at.word())
     }
 
     /// Marks an address.
@@ -66,15 +70,14 @@ impl Marks {
         requires { at < length self.old }
         ensures { self.new ≡ slice_set self.old at true }
     {
-        let at = at.word();
-        self.words[at as usize / 64] |= 1 << (at % 64);
+        self.bits.set(at.word());
     }
 
     /// Clears each address.
     pub fn clear(&mut self)
         ensures { self.new ≡ replicate (length self.old) false }
     {
-        self.words.fill(0);
+        self.bits.clear();
     }
 
     /// Clears the addresses from `from` up to `to`, which is not one of them.
@@ -84,14 +87,7 @@ impl Marks {
         ensures marks { (a : ℕ) → is_marked self.new a
             ≡ (if is_between from to a then false else is_marked self.old a) }
     {
-        let from = from.word();
-        let to = to.word();
-        for index in from / 64..to.div_ceil(64) {
-            let low = from.saturating_sub(64 * index);
-            let high = (to - 64 * index).min(64);
-            let mask = u64::MAX << low & u64::MAX >> (64 - high);
-            self.words[index as usize] &= !mask;
-        }
+        self.bits.clear_range(from.word(), to.word());
     }
 
     /// The lowest marked address at or above `from`.
@@ -99,42 +95,29 @@ impl Marks {
         ensures lowest { MatchOption result (HasNone (is_marked self.now) from) (IsLowest (is_marked self.now) from) }
         ensures within { IfSome result (λ found. found < length self.now) }
     {
-        let from = from.word();
-        for index in from / 64..self.len.div_ceil(64) {
-            let low = from.saturating_sub(64 * index);
-            let word = self.words[index as usize] & u64::MAX << low;
-            if word != 0 {
-                let found = 64 * index + word.trailing_zeros();
-                return if found < self.len {
-                    Some(Addr::new(found))
-                } else {
-                    None
-                };
-            }
-        }
-        None
+        self.bits.next(from.word()).map(Addr::new)
     }
 
-    /// The lowest address at or above `from` that is marked here and not in `other`.
-    pub fn next_without(&self, other: &Marks, from: Addr) -> Option<Addr>
-        requires { length other.now ≡ length self.now }
-        ensures lowest { MatchOption result (HasNone (is_only self.now other.now) from) (IsLowest (is_only self.now other.now) from) }
+    /// The lowest marked address at or above `from` and below `to`. It looks at the bits of this range alone.
+    pub fn next_below(&self, from: Addr, to: Addr) -> Option<Addr>
+        ensures lowest { MatchOption result (HasNoneBelow (is_marked self.now) from to) (IsLowest (is_marked self.now) from) }
+        ensures below { IfSome result (λ found. found < to) }
         ensures within { IfSome result (λ found. found < length self.now) }
     {
-        let from = from.word();
-        for index in from / 64..self.len.div_ceil(64) {
-            let low = from.saturating_sub(64 * index);
-            let word = self.words[index as usize] & !other.words[index as usize] & u64::MAX << low;
-            if word != 0 {
-                let found = 64 * index + word.trailing_zeros();
-                return if found < self.len {
-                    Some(Addr::new(found))
-                } else {
-                    None
-                };
-            }
-        }
-        None
+        self.bits.next_below(from.word(), to.word()).map(Addr::new)
+    }
+
+    /// The lowest address at or above `from` and below `to` that is marked here and not in `other`. It looks at the bits
+    /// of this range alone.
+    pub fn next_without(&self, other: &Marks, from: Addr, to: Addr) -> Option<Addr>
+        requires { length other.now ≡ length self.now }
+        ensures lowest { MatchOption result (HasNoneBelow (is_only self.now other.now) from to) (IsLowest (is_only self.now other.now) from) }
+        ensures below { IfSome result (λ found. found < to) }
+        ensures within { IfSome result (λ found. found < length self.now) }
+    {
+        self.bits
+            .next_without(&other.bits, from.word(), to.word())
+            .map(Addr::new)
     }
 }
 
@@ -165,96 +148,32 @@ mod tests {
     use super::*;
     use std::test::Fail;
 
-    /// The set of these addresses, all below 200.
-    fn set_of(alloc: Global, members: &[u32]) -> Result<Marks, AllocError> {
-        let mut marks = Marks::new(alloc, 200)?;
-        for member in members {
-            if *member < marks.len() {
-                marks.set(Addr::new(*member));
-            }
-        }
-        Ok(marks)
-    }
-
-    /// Whether the set has these addresses, in this order, and no other ones.
-    fn are(marks: &Marks, members: &[u32]) -> bool {
-        let len = marks.len();
-        let mut start = 0;
-        for member in members {
-            let Some(found) = marks.next(Addr::new(start)) else {
-                return false;
-            };
-            if found.word() != *member || *member >= len || !marks.get(found) {
-                return false;
-            }
-            start = found.word() + 1;
-        }
-        marks.next(Addr::new(start)).is_none()
-    }
-
-    /// Over the borders of words of 64 bits, from each place on.
+    /// Each call once: three addresses are marked, found in the set and beside another one, counted, and cleared.
     #[test]
-    fn finds_the_lowest(rt: HostRuntime) -> Result<(), Fail> {
-        let marks = set_of(rt.alloc(), &[199, 64, 0, 128, 63, 127])?;
-        assert!(rt; are(&marks, &[0, 63, 64, 127, 128, 199]));
-        assert_eq!(rt; count_marked(&marks), 6);
-        for (from, found) in [
-            (1, Some(63)),
-            (64, Some(64)),
-            (65, Some(127)),
-            (129, Some(199)),
-            (199, Some(199)),
-            (200, None),
-            (4_000_000_000, None),
-        ] {
-            assert_eq!(rt;
-                marks.next(Addr::new(from)),
-                found.map(Addr::new),
-                "from {from}"
-            );
+    fn holds_addresses(rt: HostRuntime) -> Result<(), Fail> {
+        let mut marks = Marks::new(rt.alloc(), 200)?;
+        let mut other = Marks::new(rt.alloc(), 200)?;
+        assert!(rt; marks.len() == 200 && other.len() == 200);
+        for at in [199, 64, 63] {
+            assert!(rt; at < marks.len());
+            marks.set(Addr::new(at));
         }
-        let none = Marks::new(rt.alloc(), 0)?;
-        assert!(rt; none.len() == 0 && are(&none, &[]) && count_marked(&none) == 0);
-        Ok(())
-    }
-
-    /// What is in the one and not in the other.
-    #[test]
-    fn finds_the_lowest_without(rt: HostRuntime) -> Result<(), Fail> {
-        let marks = set_of(rt.alloc(), &[0, 63, 64, 128])?;
-        let other = set_of(rt.alloc(), &[0, 64, 65, 191])?;
-        if marks.len() == other.len() {
-            for (from, found) in [(0, Some(63)), (63, Some(63)), (64, Some(128)), (129, None)] {
-                assert_eq!(rt;
-                    marks.next_without(&other, Addr::new(from)),
-                    found.map(Addr::new),
-                    "from {from}"
-                );
-            }
-        }
-        Ok(())
-    }
-
-    /// A range within a word, over a border, of whole words, and empty ones.
-    #[test]
-    fn clears_ranges(rt: HostRuntime) -> Result<(), Fail> {
-        let all = [0, 1, 62, 63, 64, 65, 127, 128, 199];
-        for (from, to, left) in [
-            (1, 63, &[0, 63, 64, 65, 127, 128, 199][..]),
-            (63, 65, &[0, 1, 62, 65, 127, 128, 199][..]),
-            (64, 128, &[0, 1, 62, 63, 128, 199][..]),
-            (0, 200, &[][..]),
-            (64, 64, &all[..]),
-            (100, 3, &all[..]),
-        ] {
-            let mut marks = set_of(rt.alloc(), &all)?;
-            if to <= marks.len() {
-                marks.clear_range(Addr::new(from), Addr::new(to));
-            }
-            assert!(rt; are(&marks, left), "from {from} to {to}");
-            marks.clear();
-            assert!(rt; are(&marks, &[]));
-        }
+        assert!(rt; marks.len() == 200);
+        other.set(Addr::new(63));
+        assert!(rt; other.len() == 200);
+        assert!(rt; marks.get(Addr::new(64)) && !marks.get(Addr::new(65)));
+        assert_eq!(rt; count_marked(&marks), 3);
+        assert_eq!(rt; marks.next(Addr::new(0)), Some(Addr::new(63)));
+        assert_eq!(rt; marks.next(Addr::new(65)), Some(Addr::new(199)));
+        assert_eq!(rt; marks.next_below(Addr::new(65), Addr::new(199)), None);
+        assert_eq!(rt;
+            marks.next_without(&other, Addr::new(0), Addr::new(200)),
+            Some(Addr::new(64))
+        );
+        marks.clear_range(Addr::new(60), Addr::new(64));
+        assert_eq!(rt; marks.next(Addr::new(0)), Some(Addr::new(64)));
+        marks.clear();
+        assert_eq!(rt; marks.next(Addr::new(0)), None);
         Ok(())
     }
 }

@@ -1,4 +1,4 @@
-//! Live bounds over tables made by hand.
+//! Object bounds over tables made by hand.
 
 ghost use Rattle.std.specs.Prelude.{◌≡◌, ℕ, ◌<◌, ◌≤◌, ◌^◌, true, false, Some, IsTrue, IsSome, IfOk};
 ghost use Rattle.heap_model.specs.Heap.{Stored};
@@ -10,7 +10,7 @@ use crate::live::{is_dead, live_bound};
 use crate::marks::Marks;
 use crate::tams::Tams;
 use heap_words::addr::{Addr, RegionNo};
-use heap_words::config::Config;
+use heap_words::config::{Config, Format};
 use heap_words::header::{Count, Counts, FillerSize};
 use regions::{Kind, RegionTable, Shape};
 use std::alloc::Global;
@@ -19,6 +19,7 @@ use std::test::Fail;
 /// Four regions of 16 words, of which three are taken.
 fn three_taken(alloc: Global) -> Result<RegionTable, Fail> {
     let sizes = Config {
+        format: Format::V1,
         regions: 4,
         words: 16,
         buffer: 8,
@@ -101,7 +102,7 @@ fn is_object(table: &RegionTable, at: Addr) -> bool
 {
     match table.tile(at) {
         Shape::Object { .. } => true,
-        Shape::Filler { .. } | Shape::Moved { .. } => false,
+        Shape::Filler { .. } | Shape::Forwarded { .. } => false,
     }
 }
 

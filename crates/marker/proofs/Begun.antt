@@ -5,10 +5,10 @@ use Rattle.std.proofs.lemmas.Bool.{lt-ltb}
 use Rattle.std.proofs.lemmas.Option.{slice_get_within}
 use Rattle.heap_model.specs.Heap.{Stored}
 use Rattle.heap_model.specs.Marking.{Begins}
-use Rattle.regions.specs.Tiles.{Tile, Live, tile_size, tile_at, total_size}
-use Rattle.regions.specs.Table.{Region, Free, Ordinary, First, Rest, Table, region_tile, region_at, region_number, region_used, used_of, top_of, tile_in, object_at}
-use Rattle.regions.proofs.Parse.{past}
-use Rattle.regions.proofs.Laws.{object_tile, known_region}
+use Rattle.regions.specs.Tiles.{Tile, Object, tile_size, tile_at, total_size}
+use Rattle.regions.specs.Table.{Region, Free, Ordinary, First, Rest, Table, region_tile, region_at, nth_region, region_used, used_of, top_of, tile_in, object_at}
+use Rattle.regions.proofs.Words.Parse.{past}
+use Rattle.regions.proofs.Tiles.Laws.{object_tile, known_region}
 use Rattle.mark_bitmap.specs.Marks.{is_marked}
 use Rattle.mark_bitmap.specs.Tops.{is_below, below_next}
 use Rattle.satb_log.specs.Logs.{logged}
@@ -20,14 +20,14 @@ use Rattle.marker.proofs.Views.{kept_object}
 use Rattle.marker.proofs.Reached.{Reached}
 
 -- an object starts below the end of its region's tiles
-object_in_total : (ts : List Tile) (o : ℕ) (s : Stored) → tile_at o ts ≡ Some (Live s) → o < total_size ts
+object_in_total : (ts : List Tile) (o : ℕ) (s : Stored) → tile_at o ts ≡ Some (Object s) → o < total_size ts
 object_in_total [] o s e = cc
-object_in_total (t ∷ ts) zero s e = let same : t ≡ Live s = cc in omega (arith, ap tile_size same)
+object_in_total (t ∷ ts) zero s e = let same : t ≡ Object s = cc in omega (arith, ap tile_size same)
 object_in_total (t ∷ ts) (suc o) s e =
-    let p = past (tile_size t) (suc o) _ (Live s) e in
+    let p = past (tile_size t) (suc o) _ (Object s) e in
     omega (arith, p.0, object_in_total ts (suc o - tile_size t) s p.1)
 
-object_in_used : (size : ℕ) (r : Region) (o : ℕ) (s : Stored) → 0 < size → region_tile r o ≡ Some (Live s) → o < region_used size r
+object_in_used : (size : ℕ) (r : Region) (o : ℕ) (s : Stored) → 0 < size → region_tile r o ≡ Some (Object s) → o < region_used size r
 object_in_used size Free o s z e = cc
 object_in_used size (Ordinary ts) o s z e = object_in_total ts o s e
 object_in_used size (First q) zero s z e = omega arith
@@ -37,12 +37,12 @@ object_in_used size (Rest n) o s z e = cc
 -- and below the next top, where this is its region's top
 pub object_below : (t : Table) (tops : List ℕ) (a : ℕ) (s : Stored) → 0 < t.words_per_region
     → ((k : ℕ) → k < length t.regions → get_or tops k 0 ≡ top_of t k) → object_at t a ≡ Some s → is_below t.words_per_region tops a ≡ true
-unfolding object_at tile_in region_at used_of region_number is_below
+unfolding object_at tile_in region_at used_of nth_region is_below
 object_below t tops a s z tops_are e =
     let words : ℕ = t.words_per_region in
     let k : ℕ = a / words in
     let tile = object_tile _ s e in
-    let known = known_region t.regions k (a % words) (Live s) tile in
+    let known = known_region t.regions k (a % words) (Object s) tile in
     let inside = object_in_used words (get_or t.regions k Free) (a % words) s z tile in
     let whole : k * words + a % words ≡ a = omega arith in
     lt-ltb a (get_or tops k 0) (omega (arith, tops_are k known, inside, whole))

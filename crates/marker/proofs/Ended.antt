@@ -66,7 +66,7 @@ agree false true f g = g refl
 agree false false f g = refl
 
 -- where nothing is left to mark, as many objects were scanned as are marked
-pub done_count : (t : Table) (m : Marker) → MarkerStands t m → m.running ≡ true → IsDone (marking_of t m) → m.scans ≡ marked_count m.bitmaps.next
+pub done_count : (t : Table) (m : Marker) → MarkerStands t m → m.running ≡ true → IsDone (marking_of t m) → m.scans.since ≡ marked_count m.bitmaps.next
 done_count t m st run done =
     st.counted run ∙ ap marked_count (same_marks m.grey.scanned m.bitmaps.next st.scanned (λ a. agree (is_marked m.grey.scanned a) (is_marked m.bitmaps.next a) (st.scanned_marked run a) (done.grey a)))
 

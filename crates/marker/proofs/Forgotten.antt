@@ -3,7 +3,7 @@ use Rattle.std.proofs.Common.{inl, inr, ◌≡◌, ◌≢◌, ℕ, ◌+◌, ◌*
 use Rattle.std.specs.Prelude.{if◌then◌else◌}
 use Rattle.std.proofs.lemmas.Bool.{cases_eq, cases_Bool}
 use Rattle.heap_model.specs.Heap.{Stored}
-use Rattle.regions.specs.Table.{Table, Region, Free, Ordinary, First, Rest, region_number, region_kind, kind_of, region_at, tile_in, object_at, used_of, top_of, with_region, released_as, released}
+use Rattle.regions.specs.Table.{Table, Region, Free, Ordinary, First, Rest, nth_region, region_kind, kind_of, region_at, tile_in, object_at, used_of, top_of, with_region, released_as, released}
 use Rattle.regions.specs.declared.row.Kind.TheVariants as kinds
 use Rattle.mark_bitmap.specs.Marks.{is_between, is_marked}
 use Rattle.mark_bitmap.specs.Tops.{Tops, is_in_region, with_bottom}
@@ -94,9 +94,9 @@ table_stands t t' m st count size low high stays stays' follows = record {
 
 released_is : (t : Table) (k : ℕ) → kind_of t k ≡ kinds.Ordinary → released t k ≡ with_region t k Free
 unfolding released kind_of
-released_is t k ordinary = go (region_number t k) refl ordinary
+released_is t k ordinary = go (nth_region t k) refl ordinary
   where
-    go : (r : Region) → region_number t k ≡ r → region_kind r ≡ kinds.Ordinary → released_as (region_number t k) t k ≡ with_region t k Free
+    go : (r : Region) → nth_region t k ≡ r → region_kind r ≡ kinds.Ordinary → released_as (nth_region t k) t k ≡ with_region t k Free
     go Free e f = cc
     go (Ordinary ts) e f = rw e refl
     go (First s) e f = cc
@@ -108,7 +108,7 @@ unfolding object_at tile_in region_at
 same_object t k a apart = rw (get_or-set_other t.regions k (a / t.words_per_region) Free Free apart) refl
 
 same_top : (t : Table) (k j : ℕ) → j ≢ k → top_of (with_region t k Free) j ≡ top_of t j
-unfolding used_of region_number
+unfolding used_of nth_region
 same_top t k j apart = rw (get_or-set_other t.regions k j Free Free apart) refl
 
 low_tops : (t : Table) (tops : List ℕ) (marks : List Bool) (k : ℕ) → MarksObjects t tops marks → get_or tops k 0 ≡ k * t.words_per_region

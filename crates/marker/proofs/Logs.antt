@@ -31,6 +31,7 @@ pub record HasTaken (t : Table) (m m' : Marker) (n : ℕ) : Type 0 where
   pub snapshots : KeepsSnapshots t m m'
   pub emptied : (k : ℕ) → k < n → log_of m'.logs k ≡ []
   pub len : length m'.logs ≡ length m.logs
+  pub scanned : m'.grey.scanned ≡ m.grey.scanned
   pub scans : m'.scans ≡ m.scans
   pub same : SameRoles m m'
 
@@ -101,8 +102,8 @@ pub taken_keeps : (t : Table) (m m' : Marker) (k : ℕ) → MarkerStands t m →
 taken_keeps t m m' k st run same scanned logs marks = same_snapshots t m m' same (λ roots. taken_more t m m' k roots st run same scanned logs marks)
 
 pub one_taken : (t : Table) (m m' m'' : Marker) (n : ℕ) → HasTaken t m m' n → n < length m'.logs → MarkerStands t m'' → KeepsSnapshots t m' m''
-    → m''.logs ≡ set m'.logs n [] → m''.scans ≡ m'.scans → SameRoles m' m'' → HasTaken t m m'' (n + 1)
-one_taken t m m' m'' n p known st keeps logs scans same = record {
+    → m''.logs ≡ set m'.logs n [] → m''.scans ≡ m'.scans → SameRoles m' m'' → m''.grey.scanned ≡ m'.grey.scanned → HasTaken t m m'' (n + 1)
+one_taken t m m' m'' n p known st keeps logs scans same scanned = record {
   stands = st;
   running = same.running ∙ p.running;
   snapshots = snapshots_trans t m m' m'' p.same p.snapshots keeps;
@@ -111,6 +112,7 @@ one_taken t m m' m'' n p known st keeps logs scans same = record {
     | inr e ↦ get_or-set_other m'.logs n k [] [] e ∙ p.emptied k (omega (arith, h, e))
   ];
   len = ap length logs ∙ length-set m'.logs n [] ∙ p.len;
+  scanned = scanned ∙ p.scanned;
   scans = scans ∙ p.scans;
   same = same_trans m m' m'' p.same same;
 }

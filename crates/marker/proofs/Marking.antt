@@ -1,20 +1,19 @@
 -- Scans one after another.
-use Rattle.std.proofs.Common.{inl, ◌≡◌, ℕ, ◌+◌, ◌<◌, Bool, true, List, length, set, refl, sym, ap, ◌∙◌, subst, arith}
+use Rattle.std.proofs.Common.{inl, inr, ◌≡◌, ℕ, ◌+◌, ◌%◌, ◌^◌, ◌<◌, Bool, true, false, List, length, set, refl, sym, ap, ◌∙◌, subst, arith}
+use Rattle.std.proofs.lemmas.Bool.{cases_eq, cases_lt}
+use Rattle.std.proofs.lemmas.List.{get_or-set_same, get_or-set_other, get_or_past}
 use Rattle.heap_model.specs.Heap.{Heap, Shows}
-use Rattle.heap_model.specs.Marking.{KeepsSnapshot}
 use Rattle.regions.specs.Table.{Table}
-use Rattle.mark_bitmap.specs.Marks.{is_marked, marked_count, HasNone}
-use Rattle.mark_bitmap.specs.Tops.{below_next}
-use Rattle.mark_bitmap.specs.Grey.{Scans, IsFinger, is_grey}
+use Rattle.mark_bitmap.specs.Marks.{is_marked, marked_count}
+use Rattle.mark_bitmap.specs.Grey.{is_grey}
 use Rattle.mark_bitmap.proofs.Counts.{marked_count-set}
-use Rattle.satb_log.specs.Logs.{logged}
-use Rattle.marker.specs.Views.{heap_of}
+use Rattle.marker.specs.Counts.{ScanTotals, IsMore, added}
 use Rattle.marker.specs.Stands.{MarkerStands}
-use Rattle.marker.specs.Steps.{KeepsSnapshots, SameRoles}
+use Rattle.marker.specs.Steps.{KeepsSnapshots, SameRoles, Grows}
 use Rattle.marker.specs.declared.marker.Marker.{Marker}
 use Rattle.marker.proofs.Views.{same_heap}
-use Rattle.marker.proofs.Reached.{stands_step, same_trans}
-use Rattle.marker.proofs.Scanned.{grey_is, with_grey}
+use Rattle.marker.proofs.Reached.{same_trans}
+use Rattle.marker.proofs.Scanned.{grey_is}
 
 -- n objects were scanned
 pub record HasScanned (t : Table) (m m' : Marker) (n : ℕ) : Type 0 where
@@ -22,54 +21,48 @@ pub record HasScanned (t : Table) (m m' : Marker) (n : ℕ) : Type 0 where
   pub running : m'.running ≡ true
   pub snapshots : KeepsSnapshots t m m'
   pub count : marked_count m'.grey.scanned ≡ marked_count m.grey.scanned + n
-  pub scans : m'.scans ≡ m.scans + n
+  pub scans : IsMore m.scans m'.scans n
   pub same : SameRoles m m'
   pub logs : m'.logs ≡ m.logs
-
-pub same_refl : (m : Marker) → SameRoles m m
-same_refl m = record { previous = refl; tams = refl; running = refl }
-
-pub snapshots_refl : (t : Table) (m : Marker) → KeepsSnapshots t m m
-snapshots_refl t m = λ s g roots shows keeps. keeps
+  pub grows : Grows m m'
 
 pub snapshots_trans : (t : Table) (m m' m'' : Marker) → SameRoles m m' → KeepsSnapshots t m m' → KeepsSnapshots t m' m'' → KeepsSnapshots t m m''
 snapshots_trans t m m' m'' same p q = λ s g roots shows keeps. q s g roots (subst (λ (h : Heap). Shows g h) (sym (same_heap t roots m m' same)) shows) (p s g roots shows keeps)
 
-pub none_scanned : (t : Table) (m : Marker) → MarkerStands t m → m.running ≡ true → HasScanned t m m 0
-none_scanned t m st run = record { stands = st; running = run; snapshots = snapshots_refl t m; count = omega arith; scans = omega arith; same = same_refl m; logs = refl }
-
-finger_snapshots : (t : Table) (m : Marker) (g : Scans) → g.scanned ≡ m.grey.scanned → KeepsSnapshots t m (with_grey m g)
-finger_snapshots t m g e = λ s graph roots shows keeps.
-    subst (λ (b : List Bool). KeepsSnapshot s (heap_of t roots m) (record { old = below_next t m.tams; marked = is_marked m.bitmaps.next; scanned = is_marked b; logged = logged m.logs })) (sym e) keeps
-
--- the finger moves
-pub finger_moved : (t : Table) (m m' : Marker) (n : ℕ) (g : Scans) → HasScanned t m m' n → g.scanned ≡ m'.grey.scanned → IsFinger m'.bitmaps.next g → HasScanned t m (with_grey m' g) n
-finger_moved t m m' n g p e finger = record {
-  stands = stands_step t m' (with_grey m' g) p.stands p.running (record { previous = refl; tams = refl; running = refl }) (ap length e) refl (λ a l. l) p.stands.next finger (λ a k. inl k)
-      (λ a k. p.stands.scanned_marked p.running a (ap (λ (b : List Bool). is_marked b a) (sym e) ∙ k)) (p.stands.counted p.running ∙ ap marked_count (sym e));
-  running = p.running;
-  snapshots = snapshots_trans t m m' (with_grey m' g) p.same p.snapshots (finger_snapshots t m' g e);
-  count = ap marked_count e ∙ p.count;
-  scans = p.scans;
-  same = record { previous = p.same.previous; tams = p.same.tams; running = p.same.running };
-  logs = p.logs;
+more_one : (s s' s'' : ScanTotals) (n : ℕ) → IsMore s s' n → s'' ≡ added s' → IsMore s s'' (n + 1)
+more_one s s' s'' n p is = record {
+  since = ap (λ (x : ScanTotals). x.since) is ∙ ap (λ (k : ℕ). k + 1) p.since ∙ (let same : s.since + n + 1 ≡ s.since + (n + 1) = omega arith in same);
+  total = (let now = ap (λ (x : ScanTotals). x.total) is in omega (arith, now, p.total));
 }
+
+-- a mark more
+more_marked : (b : List Bool) (n a : ℕ) → is_marked b a ≡ true → is_marked (set b n true) a ≡ true
+more_marked b n a k = elim (cases_eq a n) [
+  | inl q ↦ subst (λ (i : ℕ). is_marked (set b n true) i ≡ true) (sym q) (there b n (subst (λ (i : ℕ). is_marked b i ≡ true) q k))
+  | inr ne ↦ get_or-set_other b n a true false ne ∙ k
+]
+  where
+    there : (b : List Bool) (n : ℕ) → is_marked b n ≡ true → is_marked (set b n true) n ≡ true
+    there b n k = elim (cases_lt n (length b)) [
+      | inl lt ↦ get_or-set_same b n true false lt
+      | inr past ↦ absurd (let none = get_or_past b n false past in cc)
+    ]
 
 -- one object more
 pub one_scanned : (t : Table) (m m' m'' : Marker) (n object : ℕ) → HasScanned t m m' n → is_grey m'.bitmaps.next m'.grey object ≡ true → object < length m'.bitmaps.next
-    → MarkerStands t m'' → KeepsSnapshots t m' m'' → m''.grey.scanned ≡ set m'.grey.scanned object true → m''.scans ≡ m'.scans + 1 → SameRoles m' m'' → m''.logs ≡ m'.logs → HasScanned t m m'' (n + 1)
-one_scanned t m m' m'' n object p grey inside st keeps scanned counted same logs =
+    → MarkerStands t m'' → KeepsSnapshots t m' m'' → m''.grey.scanned ≡ set m'.grey.scanned object true → m''.scans ≡ added m'.scans → SameRoles m' m'' → m''.logs ≡ m'.logs → ((a : ℕ) → is_marked m'.bitmaps.next a ≡ true → is_marked m''.bitmaps.next a ≡ true) → HasScanned t m m'' (n + 1)
+one_scanned t m m' m'' n object p grey inside st keeps scanned counted same logs marked =
     let is = grey_is m'.bitmaps.next m'.grey object grey in
     record {
       stands = st;
       running = same.running ∙ p.running;
       snapshots = snapshots_trans t m m' m'' p.same p.snapshots keeps;
       count = omega (arith, ap marked_count scanned, marked_count-set m'.grey.scanned object (omega (arith, inside, p.stands.scanned)) is.1, p.count);
-      scans = omega (arith, counted, p.scans);
+      scans = more_one m.scans m'.scans m''.scans n p.scans counted;
       same = same_trans m m' m'' p.same same;
       logs = logs ∙ p.logs;
+      grows = record {
+        marked = λ a k. marked a (p.grows.marked a k);
+        scanned = λ a k. ap (λ (b : List Bool). is_marked b a) scanned ∙ more_marked m'.grey.scanned object a (p.grows.scanned a k);
+      };
     }
-
--- no grey object is left, wherever the finger is
-pub none_left : (marks : List Bool) (g g' : Scans) → g'.scanned ≡ g.scanned → HasNone (is_grey marks g) 0 → HasNone (is_grey marks g') 0
-none_left marks g g' e none = λ a h. ap (λ (b : List Bool). is_grey marks (record { scanned = b; finger = 0 }) a) e ∙ none a h

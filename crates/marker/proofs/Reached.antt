@@ -7,7 +7,7 @@ use Rattle.heap_model.specs.Heap.{IsClosed}
 use Rattle.regions.specs.Table.{Table}
 use Rattle.mark_bitmap.specs.Marks.{is_marked, marked_count}
 use Rattle.mark_bitmap.specs.Tops.{Tops, below_next, AreNewer}
-use Rattle.mark_bitmap.specs.Grey.{Scans, IsFinger}
+use Rattle.mark_bitmap.specs.Grey.{Scans, HasFingers}
 use Rattle.mark_bitmap.specs.Kept.{MarksObjects}
 use Rattle.mark_bitmap.proofs.ObjectLaws.{set_objects, within}
 use Rattle.satb_log.specs.Logs.{logged}
@@ -20,9 +20,9 @@ use Rattle.marker.proofs.Views.{same_heap, kept_object, same_kept}
 pub stands_step : (t : Table) (m m' : Marker) → MarkerStands t m → m.running ≡ true → SameRoles m m'
     → length m'.grey.scanned ≡ length m.grey.scanned → length m'.logs ≡ length m.logs
     → ((a : ℕ) → Contains (logged m'.logs) a → Contains (logged m.logs) a)
-    → MarksObjects t m.tams.next m'.bitmaps.next → IsFinger m'.bitmaps.next m'.grey
+    → MarksObjects t m.tams.next m'.bitmaps.next → HasFingers m'.bitmaps.next m'.grey
     → ((a : ℕ) → is_marked m'.bitmaps.next a ≡ true → (is_marked m.bitmaps.next a ≡ true) ⊎ IsKept t m a)
-    → ((a : ℕ) → is_marked m'.grey.scanned a ≡ true → is_marked m'.bitmaps.next a ≡ true) → m'.scans ≡ marked_count m'.grey.scanned
+    → ((a : ℕ) → is_marked m'.grey.scanned a ≡ true → is_marked m'.bitmaps.next a ≡ true) → m'.scans.since ≡ marked_count m'.grey.scanned
     → MarkerStands t m'
 stands_step t m m' st run same scanned len logs next finger came scanned_marked counted =
     let f = st.follows run in
@@ -73,7 +73,7 @@ with_next m n g = record { bitmaps = record { previous = m.bitmaps.previous; nex
 
 pub set_stands : (t : Table) (m : Marker) (a : ℕ) (n : List Bool) (g : Scans) → MarkerStands t m → m.running ≡ true
     → below_next t m.tams a ≡ true → IsKept t m a → n ≡ set m.bitmaps.next a true → g.scanned ≡ m.grey.scanned
-    → IsFinger n g → MarkerStands t (with_next m n g)
+    → HasFingers n g → MarkerStands t (with_next m n g)
 set_stands t m a n g st run below k e scanned finger =
     let object = kept_object t m.tams m.bitmaps.previous a k.object k.is in
     stands_step t m (with_next m n g) st run (record { previous = refl; tams = refl; running = refl }) (ap length scanned) refl (λ b l. l)
@@ -93,7 +93,7 @@ set_marks t m a target n g is h e =
       each = λ b w _. let same : b ≡ a = cc in now b ∙ rw same (get_or-set_same m.bitmaps.next a true false h);
     }
 
--- the wanted addresses that are old are marked, and nothing else has changed but the finger
+-- the wanted addresses that are old are marked, and nothing else has changed but the fingers
 pub record Reached (t : Table) (wanted : ℕ → Type 0) (m m' : Marker) : Type 0 where
   pub stands : MarkerStands t m'
   pub marks : MarksWanted t wanted m m'
@@ -101,16 +101,6 @@ pub record Reached (t : Table) (wanted : ℕ → Type 0) (m m' : Marker) : Type 
   pub scanned : m'.grey.scanned ≡ m.grey.scanned
   pub scans : m'.scans ≡ m.scans
   pub logs : m'.logs ≡ m.logs
-
-pub none_reached : (t : Table) (wanted : ℕ → Type 0) (m : Marker) → MarkerStands t m → ((a : ℕ) → wanted a → ⊥) → Reached t wanted m m
-none_reached t wanted m st none = record {
-  stands = st;
-  marks = record { stays = λ a k. k; only = λ a k. inl k; each = λ a w. absurd (none a w) };
-  same = record { previous = refl; tams = refl; running = refl };
-  scanned = refl;
-  scans = refl;
-  logs = refl;
-}
 
 pub same_trans : (m m' m'' : Marker) → SameRoles m m' → SameRoles m' m'' → SameRoles m m''
 same_trans m m' m'' p q = record {
@@ -154,9 +144,6 @@ among_left words n a i = record { place = i.place; front = omega (arith, i.front
 
 pub among_right : (words : List (Option ℕ)) (n a : ℕ) (w : Option ℕ) → slice_get words n ≡ Some w → w ≡ Some a → IsAmong words (n + 1) a
 among_right words n a w e f = record { place = n; front = omega arith; is = e ∙ ap Some f }
-
-pub among_none : (words : List (Option ℕ)) (a : ℕ) → IsAmong words 0 a → ⊥
-among_none words a i = omega (arith, i.front)
 
 pub among_more : (t : Table) (words : List (Option ℕ)) (n : ℕ) (w : Option ℕ) (m m' m'' : Marker) → slice_get words n ≡ Some w
     → Reached t (IsAmong words n) m m' → Reached t (λ a. w ≡ Some a) m' m'' → Reached t (IsAmong words (n + 1)) m m''

@@ -5,15 +5,35 @@ use Rattle.std.proofs.lemmas.Bool.{cases_lt, cases_eq}
 use Rattle.std.proofs.lemmas.Bool.Decides.{leb_tells}
 use Rattle.std.proofs.lemmas.List.{get_or-replicate, length-replicate, get_or_past}
 use Rattle.std.proofs.lemmas.Option.{slice_get_within, slice_get_read, get_or_from_slice_get}
+<<<<<<< HEAD
 use Rattle.heap_model.specs.Heap.{Stored, IsClosed, fields, with_field}
 use Rattle.heap_model.proofs.Fields.{field_set}
 use Rattle.heap_model.proofs.Lists.{get-set_cases, get-append_cases}
 use Rattle.regions.specs.Tiles.{Tile, Live, Gap, tile_size, tile_at}
 use Rattle.regions.specs.Table.{Region, Free, Table, region_tile, region_at, tile_in, tile_object, object_at, free_table, taken, first_free, set_field, push_tile, replace_tile, new_object, gap, used_of, top_of, kind_of, HasObject}
+||||||| 3906014
+use Rattle.heap_model.specs.Heap.{Stored, IsClosed}
+use Rattle.regions.specs.Tiles.{Tile, Live, Gap, tile_size, tile_at}
+use Rattle.regions.specs.Table.{Region, Free, Table, region_tile, region_at, tile_in, tile_object, object_at, free_table, taken, first_free, set_pointer, push_tile, replace_tile, new_object, gap, used_of, top_of, kind_of, HasObject}
+=======
+use Rattle.heap_model.specs.Heap.{Stored, IsClosed}
+use Rattle.regions.specs.Tiles.{Tile, Object, Filler, tile_size, tile_at}
+use Rattle.regions.specs.Table.{Region, Free, Table, region_tile, region_at, tile_in, tile_object, object_at, free_table, taken, first_free, set_pointer, push_tile, replace_tile, new_object, remainder, used_of, top_of, kind_of, HasObject}
+>>>>>>> main
 use Rattle.regions.specs.declared.row.Kind.TheVariants as kinds
 use Rattle.regions.specs.Shaped.{IsShaped}
+<<<<<<< HEAD
 use Rattle.regions.proofs.Changes.{WritesObject, field_put, object_same}
 use Rattle.regions.proofs.Placing.{region_taken, Pushed, gap_push, Replaces, gap_replaced}
+||||||| 3906014
+use Rattle.regions.proofs.Fields.{with_pointer}
+use Rattle.regions.proofs.Changes.{WritesObject, pointer_put, object_same}
+use Rattle.regions.proofs.Placing.{region_taken, Pushed, gap_push, Replaces, gap_replaced}
+=======
+use Rattle.regions.proofs.Words.Fields.{with_pointer}
+use Rattle.regions.proofs.Tiles.Changes.{WritesObject, pointer_put, object_same}
+use Rattle.regions.proofs.Tiles.Placing.{region_taken, Pushed, filler_push, Replaces, filler_replaced}
+>>>>>>> main
 use Rattle.mark_bitmap.specs.Tops.{is_below, below_previous}
 use Rattle.marker.specs.Views.{heap_of}
 use Rattle.marker.specs.Stands.{IsKept}
@@ -35,9 +55,6 @@ free_size t count size e = (ap (λ (u : Table). length u.regions) e ∙ length-r
 
 pub keeps_refl : (t : Table) → Keeps t t
 keeps_refl t = record { count = refl; size = refl; linked = λ l. l; stays = λ a o. o }
-
-pub keeps_trans : (t t' t'' : Table) → Keeps t t' → Keeps t' t'' → Keeps t t''
-keeps_trans t t' t'' p q = record { count = q.count ∙ p.count; size = q.size ∙ p.size; linked = λ l. q.linked (p.linked l); stays = λ a o. q.stays a (p.stays a o) }
 
 same_objects : (t t' : Table) → length t'.regions ≡ length t.regions → t'.words_per_region ≡ t.words_per_region → ((a : ℕ) → object_at t' a ≡ object_at t a) → Keeps t t'
 same_objects t t' count size same = record {
@@ -91,9 +108,6 @@ nil_alone n i b e =
     let none : get_or (replicate n None) i None ≡ None = get_or-replicate {A = Option ℕ} n i None None inside in
     cc
 
-pub nil_leads : (t : Table) (n : ℕ) → LeadToObjects t (replicate n None)
-nil_leads t n i a e = absurd (nil_alone n i a e)
-
 pub set_leads : (t : Table) (words : List (Option ℕ)) (k a : ℕ) → LeadToObjects t words → HasObject t a → LeadToObjects t (set words k (Some a))
 set_leads t words k a l h i b e =
     let inside : i < length words = let p = slice_get_within (set words k (Some a)) i (Some b) e in omega (arith, p, length-set words k (Some a)) in
@@ -123,27 +137,35 @@ alone t (suc j) h = elim (leb_tells (tile_size t) (suc j)) [ inl q ↦ rw q.0 re
 
 -- an object with nil pointers is made where a filler was pushed
 module _ (t t' t'' : Table) (k a n p name : ℕ) (shape : IsShaped t) (shape' : IsShaped t') (known : k < length t.regions) (ordinary : kind_of t k ≡ kinds.Ordinary)
+<<<<<<< HEAD
     (room : used_of t k + n ≤ t.words_per_region) (size : n ≡ 2 + p) (at : a ≡ top_of t k) (e : t' ≡ push_tile t k (Gap n))
     (e' : t'' ≡ replace_tile t' a (Live (new_object name p 0 0) ∷ gap (n - (2 + p + 0 + 0)))) where
+||||||| 3906014
+    (room : used_of t k + n ≤ t.words_per_region) (size : n ≡ 2 + p) (at : a ≡ top_of t k) (e : t' ≡ push_tile t k (Gap n))
+    (e' : t'' ≡ replace_tile t' a (Live (new_object name p 0) ∷ gap (n - (2 + p + 0)))) where
+=======
+    (room : used_of t k + n ≤ t.words_per_region) (size : n ≡ 2 + p) (at : a ≡ top_of t k) (e : t' ≡ push_tile t k (Filler n))
+    (e' : t'' ≡ replace_tile t' a (Object (new_object name p 0) ∷ remainder (n - (2 + p + 0)))) where
+>>>>>>> main
   abbrev new : Stored
   new = new_object name p 0 0
 
-  push : Pushed t t' k a (Gap n)
-  push = rw (e, at) (gap_push t k (Gap n) shape.positive shape.fitting known ordinary (omega (arith, size)) room tt)
+  push : Pushed t t' k a (Filler n)
+  push = rw (e, at) (filler_push t k (Filler n) shape.positive shape.fitting known ordinary (omega (arith, size)) room tt)
 
   whole : n - (2 + p + 0 + 0) ≡ 0
   whole = omega (arith, size)
 
-  words : tile_size (Live new) ≡ n
+  words : tile_size (Object new) ≡ n
   words = omega (arith, size, length-replicate {A = Option ℕ} p None)
 
-  replaced : Replaces t' t'' a n (Live new ∷ [])
+  replaced : Replaces t' t'' a n (Object new ∷ [])
   replaced =
-      let e2 : t'' ≡ replace_tile t' a (Live new ∷ []) = e' ∙ ap (λ (m : ℕ). replace_tile t' a (Live new ∷ gap m)) whole in
-      subst (λ (u : Table). Replaces t' u a n (Live new ∷ [])) (sym e2)
-      (gap_replaced t' a n (Live new ∷ []) shape'.positive shape'.fitting push.is (omega (arith, size)) (omega (arith, words), tt) (omega (arith, words)) tt)
+      let e2 : t'' ≡ replace_tile t' a (Object new ∷ []) = e' ∙ ap (λ (m : ℕ). replace_tile t' a (Object new ∷ remainder m)) whole in
+      subst (λ (u : Table). Replaces t' u a n (Object new ∷ [])) (sym e2)
+      (filler_replaced t' a n (Object new ∷ []) shape'.positive shape'.fitting push.is (omega (arith, size)) (omega (arith, words), tt) (omega (arith, words)) tt)
 
-  here : tile_in t'' a ≡ Some (Live new)
+  here : tile_in t'' a ≡ Some (Object new)
   here = let z : a + 0 ≡ a = omega arith in ap (tile_in t'') (sym z) ∙ replaced.within 0 (omega (arith, size))
 
   new_is : object_at t'' a ≡ Some new
@@ -157,7 +179,7 @@ module _ (t t' t'' : Table) (k a n p name : ℕ) (shape : IsShaped t) (shape' : 
       | inl inside ↦
           let j : ℕ = y - a in
           let y_is : a + j ≡ y = omega (arith, high) in
-          ap (tile_in t'') (sym y_is) ∙ replaced.within j (omega (arith, high, inside)) ∙ alone (Live new) j (omega (arith, high, apart))
+          ap (tile_in t'') (sym y_is) ∙ replaced.within j (omega (arith, high, inside)) ∙ alone (Object new) j (omega (arith, high, apart))
           ∙ sym (replaced.inside j (omega (arith, high, apart)) (omega (arith, high, inside))) ∙ ap (tile_in t') y_is
       | inr past ↦ replaced.others y (inr past)
     ]
@@ -195,8 +217,8 @@ module _ (t t' t'' : Table) (k a n p name : ℕ) (shape : IsShaped t) (shape' : 
   add_made = record { object = new; is = new_is }
 
 pub add_there : (t t' : Table) (k a n : ℕ) → IsShaped t → k < length t.regions → kind_of t k ≡ kinds.Ordinary → used_of t k + n ≤ t.words_per_region → 0 < n → a ≡ top_of t k
-    → t' ≡ push_tile t k (Gap n) → tile_in t' a ≡ Some (Gap n)
-add_there t t' k a n shape known ordinary room z at e = rw (e, at) (gap_push t k (Gap n) shape.positive shape.fitting known ordinary z room tt).is
+    → t' ≡ push_tile t k (Filler n) → tile_in t' a ≡ Some (Filler n)
+add_there t t' k a n shape known ordinary room z at e = rw (e, at) (filler_push t k (Filler n) shape.positive shape.fitting known ordinary z room tt).is
 
 pub each_push : (P : ℕ → Type 0) (items : List ℕ) (b : ℕ) → ((i a : ℕ) → slice_get items i ≡ Some a → P a) → P b → (i a : ℕ) → slice_get (items ++ b ∷ []) i ≡ Some a → P a
 each_push P [] b all p zero a e = let same : b ≡ a = cc in subst P same p

@@ -1,5 +1,5 @@
 -- A scan is a part of marking that keeps the snapshot invariant.
-use Rattle.std.proofs.Common.{inl, inr, ◌≡◌, ℕ, ◌+◌, ◌-◌, ◌^◌, ◌<◌, Bool, true, false, not, List, Option, Some, length, set, refl, sym, ap, ◌∙◌, subst, arith, length-set}
+use Rattle.std.proofs.Common.{inl, inr, ◌≡◌, ℕ, ◌-◌, ◌^◌, ◌<◌, Bool, true, false, not, List, Option, Some, length, set, refl, sym, ap, ◌∙◌, subst, arith, length-set}
 use Rattle.std.specs.Prelude.{Contains, slice_get, ◌&&◌}
 use Rattle.std.proofs.lemmas.Bool.{cases_lt}
 use Rattle.std.proofs.lemmas.List.{get_or_past}
@@ -14,10 +14,11 @@ use Rattle.regions.specs.Table.{Table, pointers_at}
 use Rattle.regions.specs.Shaped.{IsShaped}
 use Rattle.mark_bitmap.specs.Marks.{is_marked, marked_count}
 use Rattle.mark_bitmap.specs.Tops.{Tops, below_next}
-use Rattle.mark_bitmap.specs.Grey.{Scans, IsFinger, is_grey}
+use Rattle.mark_bitmap.specs.Grey.{Scans, HasFingers, is_grey}
 use Rattle.mark_bitmap.proofs.Counts.{marked_count-set}
 use Rattle.satb_log.specs.Logs.{logged}
 use Rattle.marker.specs.Views.{heap_of, marking_of}
+use Rattle.marker.specs.Counts.{added}
 use Rattle.marker.specs.Stands.{MarkerStands, CanFollow, IsKept}
 use Rattle.marker.specs.Steps.{KeepsSnapshots, SameRoles, IsAmong}
 use Rattle.marker.specs.declared.marker.Marker.{Marker}
@@ -38,12 +39,9 @@ both_true false b e = cc
 pub grey_is : (marks : List Bool) (g : Scans) (a : ℕ) → is_grey marks g a ≡ true → (is_marked marks a ≡ true) × (is_marked g.scanned a ≡ false)
 grey_is marks g a e = both_true (is_marked marks a) (is_marked g.scanned a) e
 
-abbrev pub with_grey : Marker → Scans → Marker
-with_grey m g = record { bitmaps = m.bitmaps; tams = m.tams; grey = g; logs = m.logs; running = m.running; scans = m.scans }
-
--- and one scan more
+-- the marker with another grey set, and one scan more
 abbrev pub with_scan : Marker → Scans → Marker
-with_scan m g = record { bitmaps = m.bitmaps; tams = m.tams; grey = g; logs = m.logs; running = m.running; scans = m.scans + 1 }
+with_scan m g = record { bitmaps = m.bitmaps; tams = m.tams; grey = g; logs = m.logs; running = m.running; scans = added m.scans }
 
 -- where a pointer of a marked object leads is kept
 pub target_kept : (t : Table) (m : Marker) (object place a : ℕ) → CanFollow t m → is_marked m.bitmaps.next object ≡ true
@@ -66,14 +64,9 @@ grey_within t m object st grey =
       | inr past ↦ absurd (let f : is_marked m.bitmaps.next object ≡ false = get_or_past m.bitmaps.next object false past in let g = marked in cc)
     ]
 
--- no more objects are scanned than there are addresses
-pub scans_fit : (t : Table) (m : Marker) → IsShaped t → MarkerStands t m → m.running ≡ true → m.scans < 2 ^ 32 - 1
-scans_fit t m shape st run =
-    omega (arith, st.counted run, count_by-le-length (λ b. b) m.grey.scanned, st.scanned, st.next.each_word, shape.in_all)
-
 pub scan_stands : (t : Table) (m m' : Marker) (object : ℕ) (g : Scans) → MarkerStands t m → m.running ≡ true
     → is_grey m.bitmaps.next m.grey object ≡ true → Reached t (all_pointers t object) m m'
-    → g.scanned ≡ set m'.grey.scanned object true → IsFinger m'.bitmaps.next g → MarkerStands t (with_scan m' g)
+    → g.scanned ≡ set m'.grey.scanned object true → HasFingers m'.bitmaps.next g → MarkerStands t (with_scan m' g)
 scan_stands t m m' object g st run grey p scanned finger =
     let is = grey_is m.bitmaps.next m.grey object grey in
     let on = p.same.running ∙ run in

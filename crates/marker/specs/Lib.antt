@@ -1,3 +1,4 @@
+pub mod Counts
 pub mod Views
 pub mod Stands
 pub mod Steps

@@ -4,7 +4,7 @@ use Rattle.heap_model.specs.Heap.{Stored, IsClosed}
 use Rattle.regions.specs.Table.{Table}
 use Rattle.mark_bitmap.specs.Marks.{is_marked, marked_count}
 use Rattle.mark_bitmap.specs.Tops.{below_next, AreNewer}
-use Rattle.mark_bitmap.specs.Grey.{IsFinger}
+use Rattle.mark_bitmap.specs.Grey.{HasFingers}
 use Rattle.mark_bitmap.specs.Kept.{MarksObjects, kept_in}
 use Rattle.satb_log.specs.Logs.{logged}
 use Rattle.marker.specs.Views.{heap_of}
@@ -23,16 +23,16 @@ pub record CanFollow (t : Table) (m : Marker) : Type 0 where
   pub logged_kept : (a : ℕ) → Contains (logged m.logs) a → IsKept t m a
   pub logged_below : (a : ℕ) → Contains (logged m.logs) a → below_next t m.tams a ≡ true
 
--- marks of both roles stand at objects below their tops, no grey object starts below the finger, and while marking
--- runs no next top lies below the previous one and it can follow every pointer; while it doesn't, nothing is logged
+-- marks of both roles stand at objects below their tops, and while marking runs each grey object has its finger set, no
+-- next top lies below the previous one and it can follow every pointer; while it doesn't, nothing is logged
 pub record MarkerStands (t : Table) (m : Marker) : Type 0 where
   pub previous : MarksObjects t m.tams.previous m.bitmaps.previous
   pub next : MarksObjects t m.tams.next m.bitmaps.next
   pub scanned : length m.grey.scanned ≡ length m.bitmaps.next
-  pub finger : m.running ≡ true → IsFinger m.bitmaps.next m.grey
+  pub finger : m.running ≡ true → HasFingers m.bitmaps.next m.grey
   pub newer : m.running ≡ true → AreNewer m.tams
   pub follows : m.running ≡ true → CanFollow t m
   pub idle : m.running ≡ false → logged m.logs ≡ []
   -- scanned objects are marked, and counted
   pub scanned_marked : m.running ≡ true → (a : ℕ) → is_marked m.grey.scanned a ≡ true → is_marked m.bitmaps.next a ≡ true
-  pub counted : m.running ≡ true → m.scans ≡ marked_count m.grey.scanned
+  pub counted : m.running ≡ true → m.scans.since ≡ marked_count m.grey.scanned

@@ -1,11 +1,13 @@
 -- What parts of marking do to a marker.
-use Rattle.std.specs.Prelude.{◌≡◌, ℕ, ◌<◌, ◌⊎◌, true, List, Option, Some, slice_get}
+use Rattle.std.specs.Prelude.{◌≡◌, ℕ, ◌+◌, ◌<◌, ◌⊎◌, ◌==◌, Bool, true, false, List, [], ◌∷◌, ◌++◌, Option, Some, None, Contains, length, slice_get, slice_set, if◌then◌else◌}
 use Rattle.heap_model.specs.Graph.{Graph}
 use Rattle.heap_model.specs.Heap.{Shows}
 use Rattle.heap_model.specs.Marking.{KeepsSnapshot}
 use Rattle.regions.specs.Table.{Table}
-use Rattle.mark_bitmap.specs.Marks.{is_marked}
+use Rattle.mark_bitmap.specs.Marks.{is_marked, marked_count}
 use Rattle.mark_bitmap.specs.Tops.{below_next}
+use Rattle.satb_log.specs.Logs.{log_of}
+use Rattle.marker.specs.Counts.{IsMore}
 use Rattle.marker.specs.Views.{heap_of, marking_of}
 use Rattle.marker.specs.declared.marker.Marker.{Marker}
 
@@ -30,3 +32,37 @@ pub record MarksWanted (t : Table) (wanted : ℕ → Type 0) (m m' : Marker) : T
   pub stays : (a : ℕ) → is_marked m.bitmaps.next a ≡ true → is_marked m'.bitmaps.next a ≡ true
   pub only : (a : ℕ) → is_marked m'.bitmaps.next a ≡ true → (is_marked m.bitmaps.next a ≡ true) ⊎ wanted a
   pub each : (a : ℕ) → wanted a → below_next t m.tams a ≡ true → is_marked m'.bitmaps.next a ≡ true
+
+-- marks and scanned objects may come, and none goes
+pub record Grows (m m' : Marker) : Type 0 where
+  pub marked : (a : ℕ) → is_marked m.bitmaps.next a ≡ true → is_marked m'.bitmaps.next a ≡ true
+  pub scanned : (a : ℕ) → is_marked m.grey.scanned a ≡ true → is_marked m'.grey.scanned a ≡ true
+
+-- as many objects more are scanned as were counted: none of them twice
+pub record ScansMore (m m' : Marker) : Type 0 where
+  pub count : ℕ
+  pub scanned : marked_count m'.grey.scanned ≡ marked_count m.grey.scanned + count
+  pub scans : IsMore m.scans m'.scans count
+
+-- an address below the next tops enters the mutator's log, and nothing else changes
+abbrev pub saved : Table → Marker → ℕ → Option ℕ → Marker
+saved t m mutator None = m
+saved t m mutator (Some a) = if below_next t m.tams a then record m { logs = slice_set m.logs mutator (log_of m.logs mutator ++ a ∷ []) } else m
+
+-- a mutator's log is empty, and what stood in it is marked. Nothing else changed but the fingers
+pub record HasTakenLog (t : Table) (mutator : ℕ) (m m' : Marker) : Type 0 where
+  pub emptied : m'.logs ≡ slice_set m.logs mutator []
+  pub marks : MarksWanted t (Contains (log_of m.logs mutator)) m m'
+  pub same : SameRoles m m'
+  pub scanned : m'.grey.scanned ≡ m.grey.scanned
+  pub scans : m'.scans ≡ m.scans
+
+-- where the log is full
+abbrev pub TakesFull : Bool → Table → ℕ → Marker → Marker → Type 0
+TakesFull true t mutator m m' = HasTakenLog t mutator m m'
+TakesFull false t mutator m m' = m' ≡ m
+
+-- A mutator overwrites a pointer. While marking runs, the old value is saved, and a log of eight is taken; else nothing changes
+abbrev pub Overwrites : Bool → Table → ℕ → Option ℕ → Marker → Marker → Type 0
+Overwrites false t mutator w m m' = m' ≡ m
+Overwrites true t mutator w m m' = TakesFull (length (log_of (saved t m mutator w).logs mutator) == 8) t mutator (saved t m mutator w) m'

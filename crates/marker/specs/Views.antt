@@ -1,9 +1,11 @@
 -- What the theory of marking sees of a table, the root words and a marker.
-use Rattle.std.specs.Prelude.{ℕ, List, Option}
+use Rattle.std.specs.Prelude.{ℕ, ◌*◌, List, [], Option, false, replicate}
+use Rattle.heap_words.specs.declared.config.Config.{Config}
 use Rattle.heap_model.specs.Heap.{Heap}
 use Rattle.heap_model.specs.Marking.{Marking}
 use Rattle.regions.specs.Table.{Table}
-use Rattle.mark_bitmap.specs.Tops.{exchanged}
+use Rattle.mark_bitmap.specs.Tops.{exchanged, bottoms}
+use Rattle.mark_bitmap.specs.Grey.{nothing_scanned}
 use Rattle.mark_bitmap.specs.Kept.{heap_in, marking_in}
 use Rattle.satb_log.specs.Logs.{logged}
 use Rattle.marker.specs.declared.marker.Marker.{Marker}
@@ -19,3 +21,14 @@ marking_of t m = marking_in t m.tams m.bitmaps.next m.grey (logged m.logs)
 -- the marker with previous and next in each other's place, marks and tops
 abbrev pub with_roles_exchanged : Marker → Marker
 with_roles_exchanged m = record m { bitmaps = record { previous = m.bitmaps.next; next = m.bitmaps.previous }; tams = exchanged m.tams }
+
+-- the marker of a new heap: no marks, all tops at the bottoms, nothing scanned or logged, and marking doesn't run
+unfoldable pub fresh_marker : Config → Marker
+fresh_marker c = record {
+  bitmaps = record { previous = replicate (c.regions * c.words) false; next = replicate (c.regions * c.words) false };
+  tams = record { previous = bottoms c.regions c.words; next = bottoms c.regions c.words };
+  grey = nothing_scanned (c.regions * c.words);
+  logs = replicate c.mutators [];
+  running = false;
+  scans = record { since = 0; total = 0 };
+}

@@ -12,7 +12,8 @@ ghost use Rattle.marker.specs.Views.{heap_of, marking_of, with_roles_exchanged};
 ghost use Rattle.marker.specs.Stands.{MarkerStands, IsKept};
 ghost use Rattle.marker.specs.Clears.{ClearsTable};
 ghost use Rattle.marker.specs.Ends.{EndsExactly};
-ghost use Rattle.marker.specs.Steps.{KeepsSnapshots, SameRoles, MarksWanted};
+ghost use Rattle.marker.specs.Steps.{KeepsSnapshots, SameRoles, MarksWanted, ScansMore, saved};
+ghost use Rattle.marker.specs.Counts.{restarted};
 
 use crate::marker::Marker;
 use heap_words::addr::{Addr, Ptr, RegionNo};
@@ -47,12 +48,12 @@ impl Marker {
         ensures previous_tops { self.new.tams.previous ≡ self.old.tams.previous }
         ensures previous_marks { self.new.bitmaps.previous ≡ self.old.bitmaps.previous }
         ensures logs { self.new.logs ≡ self.old.logs }
-        ensures scans { self.new.scans ≡ 0 }
+        ensures scans { self.new.scans ≡ restarted self.old.scans }
     {
         self.bitmaps.next.clear();
         self.grey.clear();
         set_tops(&mut self.tams, table);
-        self.scans = 0;
+        self.scans.restart();
         self.running = true;
     }
 
@@ -69,7 +70,7 @@ impl Marker {
         ensures previous_tops { self.new.tams.previous ≡ self.old.tams.previous }
         ensures previous_marks { self.new.bitmaps.previous ≡ self.old.bitmaps.previous }
         ensures logs { self.new.logs ≡ self.old.logs }
-        ensures scans { self.new.scans ≡ 0 }
+        ensures scans { self.new.scans ≡ restarted self.old.scans }
     {
         table.law();
         self.start(table);
@@ -104,6 +105,7 @@ impl Marker {
         requires room { length (log_of self.old.logs mutator) < 8 }
         requires kept { (a : ℕ) → overwritten ≡ Some a → IsKept table.now self.old a }
         ensures stands { MarkerStands table.now self.new }
+        ensures after { self.new ≡ saved table.now self.old mutator overwritten }
         ensures saved { IsSaved (marking_of table.now self.old) (marking_of table.now self.new) overwritten }
         ensures full { result ≡ (length (log_of self.new.logs mutator) == 8) }
         ensures most { length (log_of self.new.logs mutator) ≤ 8 }
@@ -143,6 +145,7 @@ impl Marker {
     fn take_logs(&mut self, table: &RegionTable)
         requires stands { MarkerStands table.now self.old }
         requires running { self.old.running ≡ true }
+        ensures scanned { self.new.grey.scanned ≡ self.old.grey.scanned }
         ensures stands { MarkerStands table.now self.new }
         ensures snapshots { KeepsSnapshots table.now self.old self.new }
         ensures emptied { (mutator : ℕ) → mutator < length self.new.logs → log_of self.new.logs mutator ≡ [] }
@@ -165,7 +168,10 @@ impl Marker {
         ensures exact { EndsExactly table.old table.new self.old self.new result }
         ensures cleared { ClearsTable (marking_of table.old (with_roles_exchanged self.new)) table.old table.new }
         ensures count { result ≡ marked_count self.new.bitmaps.previous }
-        ensures scans { self.new.scans ≡ result }
+        ensures scans { self.new.scans.since ≡ result }
+        ensures scanned { (a : ℕ) → is_marked self.old.grey.scanned a ≡ true → is_marked self.new.grey.scanned a ≡ true }
+        ensures counted { self.new.scans.since ≡ marked_count self.new.grey.scanned }
+        ensures work { ScansMore self.old self.new }
         ensures tops { self.new.tams ≡ exchanged self.old.tams }
         ensures marks { self.new.bitmaps.next ≡ self.old.bitmaps.previous }
         ensures mutators { length self.new.logs ≡ length self.old.logs }
@@ -173,8 +179,14 @@ impl Marker {
         table.law();
         self.take_logs(table);
         self.mark(table, u32::MAX);
+<<<<<<< HEAD
         self.clear_weaks(table);
         let count = self.scans;
+||||||| 3906014
+        let count = self.scans;
+=======
+        let count = self.scans.since();
+>>>>>>> main
         self.bitmaps.swap_roles();
         self.tams.swap_roles();
         self.running = false;

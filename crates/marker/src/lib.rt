@@ -28,7 +28,12 @@
 //! call takes memory but `Marker::new`.
 #![tactic(auto)]
 
+<<<<<<< HEAD
 mod clear;
+||||||| 3906014
+=======
+pub mod counts;
+>>>>>>> main
 mod cycle;
 pub mod laws;
 pub mod marker;

@@ -5,7 +5,9 @@ ghost use Rattle.heap_words.specs.Configs.{Suits};
 ghost use Rattle.regions.specs.Table.{Table};
 ghost use Rattle.mark_bitmap.specs.Tops.{below_previous};
 ghost use Rattle.marker.specs.Stands.{MarkerStands};
+ghost use Rattle.marker.specs.Views.{fresh_marker};
 
+use crate::counts::ScanCount;
 use heap_words::config::Config;
 use mark_bitmap::bitmaps::Bitmaps;
 use mark_bitmap::grey::Grey;
@@ -27,14 +29,16 @@ pub struct Marker {
     /// Whether marking runs.
     pub running: bool,
     /// How many objects were scanned since marking began.
-    pub scans: u32,
+    pub scans: ScanCount,
 }
 
 impl Marker {
     /// A marker for a heap of these sizes: it doesn't run, nothing is marked, and every object is kept. No call takes
     /// memory afterwards.
+    #[tactic(auto, unfolding(crate::specs::Views::fresh_marker))]
     pub fn new(alloc: Global, config: &Config) -> Result<Marker, AllocError>
         requires { Suits config.now }
+        ensures fresh { IfOk result (λ marker. marker ≡ fresh_marker config.now) }
         ensures stands { IfOk result (λ marker. (t : Table) → length t.regions ≡ config.now.regions → t.words_per_region ≡ config.now.words → MarkerStands t marker) }
         ensures all_kept { IfOk result (λ marker. (t : Table) (a : ℕ) → t.words_per_region ≡ config.now.words → below_previous t marker.tams a ≡ false) }
         ensures idle { IfOk result (λ marker. marker.running ≡ false) }
@@ -47,14 +51,14 @@ impl Marker {
             grey: Grey::new(alloc, count)?,
             logs: DeletionLogs::new(alloc, config.mutators)?,
             running: false,
-            scans: 0,
+            scans: ScanCount::new(),
         })
     }
 
     /// How many objects were scanned since marking began.
     pub fn scans(&self) -> u32
-        ensures { result ≡ self.now.scans }
+        ensures { result ≡ self.now.scans.since }
     {
-        self.scans
+        self.scans.since()
     }
 }

@@ -11,7 +11,8 @@ ghost use Rattle.mark_bitmap.specs.Marks.{marked_count, HasNone};
 ghost use Rattle.mark_bitmap.specs.Tops.{below_next};
 ghost use Rattle.mark_bitmap.specs.Grey.{is_grey};
 ghost use Rattle.marker.specs.Stands.{MarkerStands, IsKept};
-ghost use Rattle.marker.specs.Steps.{KeepsSnapshots, SameRoles, IsAmong, MarksWanted};
+ghost use Rattle.marker.specs.Steps.{KeepsSnapshots, SameRoles, IsAmong, MarksWanted, Grows};
+ghost use Rattle.marker.specs.Counts.{added, IsMore};
 
 use crate::marker::Marker;
 use heap_words::addr::{Addr, Ptr};
@@ -50,7 +51,7 @@ impl Marker {
         ensures snapshots { KeepsSnapshots table.now self.old self.new }
         ensures marks { MarksWanted table.now (IsAmong (pointers_at table.now object) (length (pointers_at table.now object))) self.old self.new }
         ensures scanned { self.new.grey.scanned ≡ slice_set self.old.grey.scanned object true }
-        ensures counted { self.new.scans ≡ self.old.scans + 1 }
+        ensures counted { self.new.scans ≡ added self.old.scans }
         ensures same { SameRoles self.old self.new }
         ensures logs { self.new.logs ≡ self.old.logs }
     {
@@ -60,8 +61,8 @@ impl Marker {
             let target = table.get_ptr(object, field);
             self.reach(table, target);
         }
-        self.grey.remove(object);
-        self.scans += 1;
+        self.grey.remove(&self.bitmaps.next, object);
+        self.scans.add();
     }
 
     /// Scans up to `units` grey objects, the lowest first, and says how many: fewer only if none is left.
@@ -71,7 +72,8 @@ impl Marker {
         ensures most { result ≤ units }
         ensures none_left { result < units → HasNone (is_grey self.new.bitmaps.next self.new.grey) 0 }
         ensures count { marked_count self.new.grey.scanned ≡ marked_count self.old.grey.scanned + result }
-        ensures scans { self.new.scans ≡ self.old.scans + result }
+        ensures scans { IsMore self.old.scans self.new.scans result }
+        ensures grows { Grows self.old self.new }
         ensures stands { MarkerStands table.now self.new }
         ensures snapshots { KeepsSnapshots table.now self.old self.new }
         ensures same { SameRoles self.old self.new }

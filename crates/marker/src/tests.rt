@@ -8,7 +8,7 @@ ghost use Rattle.marker.specs.Samples.{IsLinked, LeadToObjects, Keeps};
 
 use crate::marker::Marker;
 use heap_words::addr::{Addr, Ptr, RegionNo};
-use heap_words::config::Config;
+use heap_words::config::{Config, Format};
 use heap_words::header::{Count, Counts, FillerSize};
 use regions::{Kind, RegionTable};
 use std::alloc::Global;
@@ -75,6 +75,7 @@ fn sizes() -> Config
     ensures words { result.words ≡ 16 }
 {
     Config {
+        format: Format::V1,
         regions: 4,
         words: 16,
         buffer: 8,

@@ -1,5 +1,6 @@
 -- What each step keeps.
 use Rattle.std.proofs.Common.{◌≡◌, ℕ, ◌+◌, ◌-◌, ◌^◌, Option, Some, None, Bool, true, false, cond, slice_get, Result, Ok, Err, refl, ap, ◌∙◌}
+use Rattle.heap_words.specs.Sizes.{size_of}
 use Rattle.std.specs.Prelude.{◌==◌, nat_lt, IfOk, OnErr}
 use Rattle.object_graph.specs.declared.step.Reply.{Reply}
 use Rattle.object_graph.specs.declared.step.Reply.TheVariants as replies
@@ -32,8 +33,8 @@ abbrev KeepsMutators : Graph → Outcome → Type 0
 KeepsMutators g out = out.1.mutators ≡ g.mutators
 
 act_keeps : (g : Graph) (m : ℕ) (a : Action) → KeepsMutators g (act g m a)
-act_keeps g m (actions.New to p d) =
-    cond_law (KeepsMutators g) (nat_lt g.room (2 + p + d)) (refused g refusals.TooBig) _ refl
+act_keeps g m (actions.New to counts) =
+    cond_law (KeepsMutators g) (nat_lt g.room (size_of counts.pointers counts.values)) (refused g refusals.TooBig) _ refl
     (cond_law (KeepsMutators g) (next_name g == 2 ^ 64 - 1) (refused g refusals.NamesSpent) _ refl refl)
 act_keeps g m (actions.Get to object i) = on_name_law (KeepsMutators g) g (root_at g (register_place m object.number)) _ refl (λ n x. on_field_law (KeepsMutators g) g (slice_get x.pointers i) _ refl (λ v. refl))
 act_keeps g m (actions.Put object i value) = on_name_law (KeepsMutators g) g (root_at g (register_place m object.number)) _ refl (λ n x. on_field_law (KeepsMutators g) g (slice_get x.pointers i) _ refl (λ v. refl))
@@ -64,8 +65,8 @@ abbrev NotFull : Outcome → Type 0
 NotFull out = out.0 ≡ replies.Refused refusals.Full → ⊥
 
 pub act-not_full : (g : Graph) (m : ℕ) (a : Action) → (act g m a).0 ≡ replies.Refused refusals.Full → ⊥
-act-not_full g m (actions.New to p d) =
-    cond_law NotFull (nat_lt g.room (2 + p + d)) (refused g refusals.TooBig) _ (λ h. cc)
+act-not_full g m (actions.New to counts) =
+    cond_law NotFull (nat_lt g.room (size_of counts.pointers counts.values)) (refused g refusals.TooBig) _ (λ h. cc)
     (cond_law NotFull (next_name g == 2 ^ 64 - 1) (refused g refusals.NamesSpent) _ (λ h. cc) (λ h. cc))
 act-not_full g m (actions.Get to object i) = on_name_law NotFull g (root_at g (register_place m object.number)) _ (λ h. cc) (λ n x. on_field_law NotFull g (slice_get x.pointers i) _ (λ h. cc) (λ v h. cc))
 act-not_full g m (actions.Put object i value) = on_name_law NotFull g (root_at g (register_place m object.number)) _ (λ h. cc) (λ n x. on_field_law NotFull g (slice_get x.pointers i) _ (λ h. cc) (λ v h. cc))

@@ -1,6 +1,13 @@
 -- What a mutator's step replies, and the graph after it. The graph alone gives both: there is no heap here, and
 -- nothing is ever freed or moved.
+<<<<<<< HEAD
 use Rattle.std.specs.Prelude.{ℕ, ◌+◌, ◌-◌, ◌^◌, Option, Some, None, length, [], slice_get, slice_set, replicate, nat_lt, ◌==◌, if◌then◌else◌}
+||||||| 3906014
+use Rattle.std.specs.Prelude.{ℕ, ◌+◌, ◌-◌, ◌^◌, Option, Some, None, length, slice_get, slice_set, replicate, nat_lt, ◌==◌, if◌then◌else◌}
+=======
+use Rattle.std.specs.Prelude.{ℕ, ◌+◌, ◌-◌, ◌^◌, Option, Some, None, length, slice_get, slice_set, replicate, nat_lt, ◌==◌, if◌then◌else◌}
+use Rattle.heap_words.specs.Sizes.{size_of}
+>>>>>>> main
 use Rattle.heap_model.specs.Graph.{Object, Graph, next_name, with_root, with_object, with_changed}
 use Rattle.object_graph.specs.State.{register_place, root_at}
 use Rattle.object_graph.specs.declared.step.Action.{Action}
@@ -46,10 +53,16 @@ stored g mutator (Some register) = root_at g (register_place mutator register.nu
 
 -- the steps of a mutator
 abbrev pub act : Graph → ℕ → Action → Outcome
-act g m (actions.New to p d) =
-    if nat_lt g.room (2 + p + d) then refused g refusals.TooBig
+act g m (actions.New to counts) =
+    if nat_lt g.room (size_of counts.pointers counts.values) then refused g refusals.TooBig
     else if next_name g == 2 ^ 64 - 1 then refused g refusals.NamesSpent
+<<<<<<< HEAD
     else (replies.Named (Some (next_name g)), with_object g (record { pointers = replicate p None; weaks = []; values = replicate d 0 }) (register_place m to.number))
+||||||| 3906014
+    else (replies.Named (Some (next_name g)), with_object g (record { pointers = replicate p None; values = replicate d 0 }) (register_place m to.number))
+=======
+    else (replies.Named (Some (next_name g)), with_object g (record { pointers = replicate counts.pointers None; values = replicate counts.values 0 }) (register_place m to.number))
+>>>>>>> main
 act g m (actions.Get to object i) = on_object g m object (λ name x. on_field g (slice_get x.pointers i) (λ value. (replies.Named value, with_root g (register_place m to.number) value)))
 act g m (actions.Put object i value) = on_object g m object (λ name x. on_field g (slice_get x.pointers i) (λ old. (replies.Done, with_changed g name (record x { pointers = slice_set x.pointers i (stored g m value) }))))
 act g m (actions.Read object j) = on_object g m object (λ name x. on_field g (slice_get x.values j) (λ word. (replies.Word word, g)))

@@ -22,9 +22,9 @@ abbrev pub within : List Object → ℕ → Option ℕ
 within objects place = if nat_lt place (length objects) then Some place else None
 
 -- the place in the list of objects of the object that a name is borne by
-abbrev pub place_of : Graph → Option ℕ → Option ℕ
-place_of g None = None
-place_of g (Some name) = within g.objects (name - g.first_name)
+abbrev pub index_of : Graph → Option ℕ → Option ℕ
+index_of g None = None
+index_of g (Some name) = within g.objects (name - g.first_name)
 
 -- the graph, and while a snapshot is kept, that: the graph at the last begin that replied ok, with each name of it that was
 -- touched since then as one root more

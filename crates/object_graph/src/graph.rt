@@ -2,9 +2,20 @@
 
 ghost use Rattle.std.specs.Prelude.{◌≡◌, ◌<◌, ◌≤◌, ◌+◌, ◌*◌, ◌↔◌, ◌≢◌, length, IsTrue, IsOk, IfOk, OnErr};
 
+<<<<<<< HEAD
 use crate::object::{Object, clear_all, copy_all};
 use crate::search::Search;
 use crate::step::{Action, GlobalRoot, Op, Refusal, Register, Reply};
+||||||| 3906014
+use crate::object::Object;
+use crate::step::{Action, CollectorStep, Event, GlobalRoot, Op, Refusal, Register, Reply, Step};
+=======
+use crate::objects::Objects;
+use crate::pointer::Pointer;
+use crate::step::{
+    Action, CollectorStep, Counts, Event, GlobalRoot, Op, Refusal, Register, Reply, Step,
+};
+>>>>>>> main
 use heap_words::config::Config;
 use std::alloc::{AllocError, Global};
 use std::marker::Model;
@@ -15,8 +26,8 @@ pub struct Graph {
     room: u64,
     first_name: u64,
     mutators: u32,
-    objects: Vec<Object>,
-    roots: Vec<Option<u64>>,
+    objects: Objects,
+    roots: Vec<Pointer>,
 }
 
 impl Model for Graph {
@@ -25,13 +36,19 @@ impl Model for Graph {
 
     ghost Value = { model.Graph };
 
-    ghost view = { λ g. record { room = g.room; first_name = g.first_name; mutators = g.mutators; objects = g.objects.items; roots = g.roots.items } };
+    ghost view = { λ g. record { room = g.room; first_name = g.first_name; mutators = g.mutators; objects = g.objects; roots = g.roots.items } };
 
-    ghost invariant = { λ g. IsState (record { room = g.room; first_name = g.first_name; mutators = g.mutators; objects = g.objects.items; roots = g.roots.items }) };
+    ghost invariant = { λ g. IsState (record { room = g.room; first_name = g.first_name; mutators = g.mutators; objects = g.objects; roots = g.roots.items }) };
 }
 
 impl Graph {
+<<<<<<< HEAD
     ghost use Rattle.object_graph.specs.State.{root_at, register_place, place_of, first_graph};
+||||||| 3906014
+    ghost use Rattle.object_graph.specs.State.{root_at, register_place, place_of, first_state};
+=======
+    ghost use Rattle.object_graph.specs.State.{root_at, register_place, index_of, first_state};
+>>>>>>> main
     ghost use Rattle.heap_model.specs.Graph as model;
     ghost use Rattle.heap_model.specs.Graph.{next_name, with_root};
     ghost use Rattle.object_graph.specs.Run.{Creates};
@@ -40,14 +57,14 @@ impl Graph {
     ghost use Rattle.object_graph.specs.Machine.{act, outcome_of, stored};
 
     /// What a mutator's register holds.
-    fn register(&self, mutator: u32, register: Register) -> Option<u64>
+    fn register(&self, mutator: u32, register: Register) -> Pointer
         requires { mutator < self.now.mutators }
         ensures { result ≡ root_at self.now (register_place mutator register.number) }
     {
         self.roots[16 + 8 * mutator as usize + register.number as usize]
     }
 
-    fn set_register(&mut self, mutator: u32, register: Register, value: Option<u64>)
+    fn set_register(&mut self, mutator: u32, register: Register, value: Pointer)
         requires { mutator < self.old.mutators }
         ensures { self.new ≡ with_root self.old (register_place mutator register.number) value }
     {
@@ -57,9 +74,9 @@ impl Graph {
     /// Where the object stands that a register names, if it names one.
     fn place(&self, mutator: u32, register: Register) -> Option<usize>
         requires { mutator < self.now.mutators }
-        ensures { result ≡ place_of self.now (root_at self.now (register_place mutator register.number)) }
+        ensures { result ≡ index_of self.now (root_at self.now (register_place mutator register.number)) }
     {
-        let name = self.register(mutator, register)?;
+        let name = self.register(mutator, register).name()?;
         let place = (name.saturating_sub(self.first_name)) as usize;
         if place < self.objects.len() {
             Some(place)
@@ -72,21 +89,21 @@ impl Graph {
         &mut self,
         mutator: u32,
         to: Register,
-        pointers: u32,
-        values: u32,
+        counts: Counts,
     ) -> Result<Reply, AllocError>
         requires { mutator < self.old.mutators }
-        ensures ok { IfOk result (λ reply. (reply, self.new) ≡ act self.old mutator (Action.New to pointers values)) }
+        ensures ok { IfOk result (λ reply. (reply, self.new) ≡ act self.old mutator (Action.New to counts)) }
         ensures err { OnErr result (self.new ≡ self.old) }
-        ensures memory { ((act self.old mutator (Action.New to pointers values)).0 ≢ Reply.Named (Some (next_name self.old))) → IsOk result }
+        ensures memory { ((act self.old mutator (Action.New to counts)).0 ≢ Reply.Named (Some (next_name self.old))) → IsOk result }
     {
-        if self.room < 2 + u64::from(pointers) + u64::from(values) {
+        if self.room < counts.size() {
             return Ok(Reply::Refused(Refusal::TooBig));
         }
         let name = self.first_name + self.objects.len() as u64;
         if name == u64::MAX {
             return Ok(Reply::Refused(Refusal::NamesSpent));
         }
+<<<<<<< HEAD
         let alloc = *self.objects.allocator();
         let object = Object {
             pointers: vec![in alloc; None; pointers as usize]?,
@@ -95,6 +112,18 @@ impl Graph {
         };
         self.objects.push(object)?;
         self.roots[16 + 8 * mutator as usize + to.number as usize] = Some(name);
+||||||| 3906014
+        let alloc = *self.objects.allocator();
+        let object = Object {
+            pointers: vec![in alloc; None; pointers as usize]?,
+            values: vec![in alloc; 0; values as usize]?,
+        };
+        self.objects.push(object)?;
+        self.roots[16 + 8 * mutator as usize + to.number as usize] = Some(name);
+=======
+        self.objects.push(counts)?;
+        self.set_register(mutator, to, Pointer::to(name));
+>>>>>>> main
         Ok(Reply::Named(Some(name)))
     }
 
@@ -183,12 +212,11 @@ impl Graph {
         let Some(place) = self.place(mutator, object) else {
             return Reply::Refused(Refusal::Nil);
         };
-        let object = &self.objects[place];
-        let Some(value) = object.pointers.get(field as usize).copied() else {
+        let Some(value) = self.objects.get_pointer(place, field) else {
             return Reply::Refused(Refusal::NoField);
         };
         self.set_register(mutator, to, value);
-        Reply::Named(value)
+        Reply::Named(value.name())
     }
 
     fn move_register(&mut self, mutator: u32, to: Register, from: Register) -> Reply
@@ -201,12 +229,12 @@ impl Graph {
     }
 
     /// What `put` stores: nil, or what a register holds.
-    fn stored(&self, mutator: u32, value: Option<Register>) -> Option<u64>
+    fn stored(&self, mutator: u32, value: Option<Register>) -> Pointer
         requires { mutator < self.now.mutators }
         ensures { result ≡ stored self.now mutator value }
     {
         match value {
-            None => None,
+            None => Pointer::nil(),
             Some(register) => self.register(mutator, register),
         }
     }
@@ -219,10 +247,10 @@ impl Graph {
             return Reply::Refused(Refusal::Nil);
         };
         let value = self.stored(mutator, value);
-        if field >= self.objects[place].pointer_count() {
+        if field >= self.objects.pointer_count(place) {
             return Reply::Refused(Refusal::NoField);
         }
-        self.objects[place].set_pointer(field, value);
+        self.objects.set_pointer(place, field, value);
         Reply::Done
     }
 
@@ -233,10 +261,9 @@ impl Graph {
         let Some(place) = self.place(mutator, object) else {
             return Reply::Refused(Refusal::Nil);
         };
-        let object = &self.objects[place];
-        match object.values.get(field as usize) {
+        match self.objects.get_value(place, field) {
             None => Reply::Refused(Refusal::NoField),
-            Some(word) => Reply::Word(*word),
+            Some(word) => Reply::Word(word),
         }
     }
 
@@ -247,10 +274,10 @@ impl Graph {
         let Some(place) = self.place(mutator, object) else {
             return Reply::Refused(Refusal::Nil);
         };
-        if field >= self.objects[place].value_count() {
+        if field >= self.objects.value_count(place) {
             return Reply::Refused(Refusal::NoField);
         }
-        self.objects[place].set_value(field, value);
+        self.objects.set_value(place, field, value);
         Reply::Done
     }
 
@@ -260,7 +287,7 @@ impl Graph {
     {
         let value = self.roots[from.number as usize];
         self.set_register(mutator, to, value);
-        Reply::Named(value)
+        Reply::Named(value.name())
     }
 
     fn save(&mut self, mutator: u32, to: GlobalRoot, from: Register) -> Reply
@@ -280,8 +307,8 @@ impl Graph {
             return Reply::Refused(Refusal::Nil);
         };
         Reply::Shape {
-            pointers: self.objects[place].pointer_count(),
-            values: self.objects[place].value_count(),
+            pointers: self.objects.pointer_count(place),
+            values: self.objects.value_count(place),
         }
     }
 
@@ -305,11 +332,7 @@ impl Graph {
     {
         let mutator = op.mutator;
         match op.action {
-            Action::New {
-                to,
-                pointers,
-                values,
-            } => self.new_object(mutator, to, pointers, values),
+            Action::New { to, counts } => self.new_object(mutator, to, counts),
             Action::Get { to, object, field } => Ok(self.get(mutator, to, object, field)),
             Action::Put {
                 object,
@@ -324,7 +347,7 @@ impl Graph {
             } => Ok(self.write(mutator, object, field, value)),
             Action::Move { to, from } => Ok(self.move_register(mutator, to, from)),
             Action::Drop { register } => {
-                self.set_register(mutator, register, None);
+                self.set_register(mutator, register, Pointer::nil());
                 Ok(Reply::Done)
             }
             Action::Load { to, from } => Ok(self.load(mutator, to, from)),
@@ -351,12 +374,8 @@ impl Graph {
         ensures { IsTrue result ↔ Creates self.now op }
     {
         match op.action {
-            Action::New {
-                pointers,
-                values,
-                ..
-            } => {
-                self.room >= 2 + u64::from(pointers) + u64::from(values)
+            Action::New { counts, .. } => {
+                self.room >= counts.size()
                     && self.first_name + self.objects.len() as u64 != u64::MAX
             }
             Action::NewWeak {
@@ -420,8 +439,8 @@ impl Graph {
             room: u64::from(config.regions) * u64::from(config.words),
             first_name: config.first_name,
             mutators: config.mutators,
-            objects: Vec::new(alloc),
-            roots: vec![in alloc; None; places]?,
+            objects: Objects::new(alloc),
+            roots: vec![in alloc; Pointer::nil(); places]?,
         })
     }
 }

@@ -20,8 +20,15 @@
 
 mod graph;
 mod judge;
+<<<<<<< HEAD
 mod machine;
 mod object;
+||||||| 3906014
+mod object;
+=======
+mod objects;
+mod pointer;
+>>>>>>> main
 mod record;
 mod search;
 mod step;
@@ -29,9 +36,16 @@ mod step;
 mod tests;
 
 pub use graph::Graph;
+<<<<<<< HEAD
 pub use judge::{Verdict, check, judged_once, run_is_sound, run_once};
 pub use object::Object;
+||||||| 3906014
+pub use judge::{Verdict, check, judged_once, run_once};
+pub use object::Object;
+=======
+pub use judge::{Verdict, check, judged_once, run_once};
+>>>>>>> main
 pub use record::{Plan, Record};
 pub use step::{
-    Action, Actor, CollectorStep, Event, GlobalRoot, Op, Refusal, Register, Reply, Step,
+    Action, Actor, CollectorStep, Counts, Event, GlobalRoot, Op, Refusal, Register, Reply, Step,
 };

@@ -104,6 +104,14 @@ impl Record {
         })
     }
 
+    /// A record of these events.
+    pub fn of_events(config: Config, events: Vec<Event>) -> Record
+        requires { AreEvents config events.items }
+        ensures { result ≡ record { config = config; events = events.items } }
+    {
+        Record { config, events }
+    }
+
     /// Adds an event at the end. Refused for memory, the record is unchanged.
     pub fn push(&mut self, event: Event) -> Result<(), AllocError>
         requires { IsEvent self.old.config event }

@@ -1,6 +1,7 @@
 //! The steps of mutators and of the collector, their replies, and events.
 
-ghost use Rattle.std.specs.Prelude.{◌<◌};
+ghost use Rattle.std.specs.Prelude.{◌≡◌, ◌<◌};
+ghost use Rattle.heap_words.specs.Sizes.{size_of};
 
 /// One of a mutator's registers, `r0` to `r7`. A register holds nil or an object's name.
 #[derive(Clone, Copy, Debug, PartialEq, Eq)]
@@ -18,15 +19,30 @@ pub struct GlobalRoot {
     pub ghost in_range: { number < 16 },
 }
 
+/// How many pointers and data words an object has.
+#[derive(Clone, Copy, Debug, PartialEq, Eq)]
+pub struct Counts {
+    pub pointers: u32,
+    pub values: u32,
+}
+
+impl Counts {
+    /// How many words such an object has, with its header and its name.
+    pub fn size(&self) -> u64
+        ensures { result ≡ size_of self.now.pointers self.now.values }
+    {
+        2 + u64::from(self.pointers) + u64::from(self.values)
+    }
+}
+
 /// What a mutator does. Where an object is needed, the register may be nil, and the step is refused; fields
 /// count from 0, pointers, weak slots and data words apart.
 #[derive(Clone, Copy, Debug, PartialEq, Eq)]
 pub enum Action {
-    /// An object of so many nil pointers and data words of 0 is made, and `to` holds its name.
+    /// An object of so many pointers and data words is made, the ones nil, the others 0, and `to` holds its name.
     New {
         to: Register,
-        pointers: u32,
-        values: u32,
+        counts: Counts,
     },
     /// `to` takes the pointer in a field of the object.
     Get {

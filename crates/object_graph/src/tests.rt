@@ -1,4 +1,4 @@
-//! Each step once, each refusal of the graph, and small records before the judge.
+//! Each step once, each refusal of the graph, objects in one list of words, and small records before the judge.
 
 ghost use Rattle.std.specs.Prelude.{◌≡◌, ◌<◌, IfOk};
 ghost use Rattle.object_graph.specs.declared.step.Actor.TheVariants as actors;
@@ -6,12 +6,22 @@ ghost use Rattle.object_graph.specs.declared.step.Step.TheVariants as steps;
 
 use crate::graph::Graph;
 use crate::judge::{Verdict, check};
+use crate::objects::Objects;
+use crate::pointer::Pointer;
 use crate::record::{Plan, Record};
 use crate::step::{
-    Action, Actor, CollectorStep, Event, GlobalRoot, Op, Refusal, Register, Reply, Step,
+    Action, Actor, CollectorStep, Counts, Event, GlobalRoot, Op, Refusal, Register, Reply, Step,
 };
+<<<<<<< HEAD
 use heap_words::config::Config;
 use std::alloc::{AllocError, Global};
+||||||| 3906014
+use heap_words::config::Config;
+use std::alloc::AllocError;
+=======
+use heap_words::config::{Config, Format};
+use std::alloc::AllocError;
+>>>>>>> main
 use std::test::Fail;
 
 /// A heap of 64 words and one mutator.
@@ -19,6 +29,7 @@ fn config(first_name: u64) -> Config
     ensures { result.mutators ≡ 1 }
 {
     Config {
+        format: Format::V1,
         regions: 4,
         words: 16,
         buffer: 8,
@@ -38,8 +49,7 @@ fn new(to: u8, pointers: u32, values: u32) -> Action
 {
     Action::New {
         to: r(to),
-        pointers,
-        values,
+        counts: Counts { pointers, values },
     }
 }
 
@@ -137,6 +147,76 @@ fn refuses_in_order(rt: HostRuntime) -> Result<(), Fail> {
         apply(g, new(0, 0, 0))?,
         Reply::Refused(Refusal::NamesSpent)
     );
+    Ok(())
+}
+
+fn counts(pointers: u32, values: u32) -> Counts {
+    Counts { pointers, values }
+}
+
+/// A pointer's name, where the object and the field are there.
+fn pointer(objects: &Objects, place: usize, field: u32) -> Option<Option<u64>> {
+    if place < objects.len() {
+        Some(objects.get_pointer(place, field)?.name())
+    } else {
+        None
+    }
+}
+
+fn value(objects: &Objects, place: usize, field: u32) -> Option<u64> {
+    if place < objects.len() {
+        objects.get_value(place, field)
+    } else {
+        None
+    }
+}
+
+/// Sets the pointer, where the object and the field are there.
+fn set_pointer(objects: &mut Objects, place: usize, field: u32, value: Pointer) {
+    if place < objects.len() {
+        if field < objects.pointer_count(place) {
+            objects.set_pointer(place, field, value);
+        }
+    }
+}
+
+fn set_value(objects: &mut Objects, place: usize, field: u32, value: u64) {
+    if place < objects.len() {
+        if field < objects.value_count(place) {
+            objects.set_value(place, field, value);
+        }
+    }
+}
+
+#[test]
+fn keeps_objects_apart(rt: HostRuntime) -> Result<(), Fail> {
+    let mut objects = Objects::new(rt.alloc());
+    let o = &mut objects;
+    o.push(counts(2, 1))?;
+    o.push(counts(0, 0))?;
+    o.push(counts(0, 2))?;
+    o.push(counts(1, 0))?;
+    assert_eq!(rt; o.len(), 4);
+    set_pointer(o, 0, 1, Pointer::to(u64::MAX - 1));
+    set_value(o, 0, 0, 7);
+    set_value(o, 2, 1, u64::MAX);
+    set_pointer(o, 3, 0, Pointer::to(0));
+    o.push(counts(1, 1))?;
+    assert_eq!(rt; pointer(o, 0, 0), Some(None));
+    assert_eq!(rt; pointer(o, 0, 1), Some(Some(u64::MAX - 1)));
+    assert_eq!(rt; pointer(o, 0, 2), None);
+    assert_eq!(rt; value(o, 0, 0), Some(7));
+    assert_eq!(rt; value(o, 0, 1), None);
+    assert_eq!(rt; pointer(o, 1, 0), None);
+    assert_eq!(rt; value(o, 1, 0), None);
+    assert_eq!(rt; value(o, 2, 0), Some(0));
+    assert_eq!(rt; value(o, 2, 1), Some(u64::MAX));
+    assert_eq!(rt; pointer(o, 3, 0), Some(Some(0)));
+    assert_eq!(rt; pointer(o, 4, 0), Some(None));
+    assert_eq!(rt; value(o, 4, 0), Some(0));
+    set_pointer(o, 3, 0, Pointer::nil());
+    assert_eq!(rt; pointer(o, 3, 0), Some(None));
+    assert_eq!(rt; pointer(o, 0, 1), Some(Some(u64::MAX - 1)));
     Ok(())
 }
 

@@ -1,7 +1,7 @@
-pub mod Divides
 pub mod Entered
 pub mod Remembered
 pub mod Holders
 pub mod Fields
 pub mod Scanned
+pub mod Counted
 pub mod Samples

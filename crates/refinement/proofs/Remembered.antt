@@ -6,7 +6,7 @@ use Rattle.std.proofs.lemmas.Option.{slice_get_within, slice_get_read, get_or_fr
 use Rattle.heap_model.specs.Heap.{Heap, IsClosed, Stored, fields}
 use Rattle.mark_bitmap.specs.Tops.{is_in_region}
 use Rattle.refinement.specs.Remembering.{field_word, field_card, IsCrossing, Remembers, KeepsFields, IsNoted, SetsField, AddsNil, NoneLeadsInto}
-use Rattle.refinement.proofs.Divides.{div_low, div_high}
+use Rattle.regions.proofs.Words.Divides.{div_low, div_high}
 
 pub crossing_kept : (words : ℕ) (kept kept' : ℕ → Option Stored) (a i v : ℕ) → KeepsFields kept kept' → IsCrossing words kept' a i v → IsCrossing words kept a i v
 crossing_kept words kept kept' a i v f x =
@@ -81,16 +81,6 @@ pub remembers_cleared : (words len region : ℕ) (kept kept' : ℕ → Option St
     → Remembers words kept len dirty covered → Remembers words kept' len dirty covered'
 remembers_cleared words len region kept kept' dirty covered covered' f none g =
     remembers_on words len kept kept' dirty dirty covered covered' (λ a i v x. inl (crossing_kept words kept kept' a i v f x)) (λ c d. d) (λ a i v c x d. g (v / words) c (none a i v x) d)
-
-pub none_leads : (words region : ℕ) (h : Heap) → 0 < words → IsClosed h → ((a : ℕ) → is_in_region words region a ≡ true → h.kept a ≡ None) → NoneLeadsInto words h.kept region
-none_leads words region h z closed none a i v x into =
-    let there = closed.field a i v x.object x.kept_is x.field_is in
-    let low = div_low v words region z into in
-    let high = div_high v words region z into in
-    let inside : is_in_region words region v ≡ true = rw (le-leb (region * words) v low, lt-ltb v (region * words + words) high) refl in
-    let gone = none v inside in
-    let kept = there.1 in
-    absurd (cc)
 
 -- ---- what keeps the fields of what is kept
 pub keeps_same : (kept kept' : ℕ → Option Stored) → ((a : ℕ) → kept' a ≡ kept a) → KeepsFields kept kept'

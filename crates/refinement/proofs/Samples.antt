@@ -6,25 +6,48 @@ use Rattle.std.proofs.lemmas.Bool.Decides.{leb_tells}
 use Rattle.std.proofs.lemmas.List.{get_or-replicate, length-replicate, length-append, get_or_past}
 use Rattle.std.proofs.lemmas.Nat.{div_below}
 use Rattle.std.proofs.lemmas.Option.{slice_get_within, get_or_from_slice_get}
+<<<<<<< HEAD
 use Rattle.heap_model.specs.Heap.{Stored, fields, with_field}
 use Rattle.heap_model.proofs.Fields.{field_set}
 use Rattle.heap_model.proofs.Lists.{get-append_cases}
 use Rattle.regions.specs.Tiles.{Tile, Live, Gap, Moved, tile_size, tile_at}
 use Rattle.regions.specs.Table.{Region, Free, First, Table, region_number, first_run, is_free, with_run, region_tile, region_at, tile_in, tile_object, object_at, free_table, taken, first_free, set_field, push_tile, replace_tile, new_object, gap, used_of, top_of, kind_of, object_fields, fields_at}
+||||||| 3906014
+use Rattle.heap_model.specs.Heap.{Stored}
+use Rattle.regions.specs.Tiles.{Tile, Live, Gap, Moved, tile_size, tile_at}
+use Rattle.regions.specs.Table.{Region, Free, First, Table, region_number, first_run, is_free, with_run, region_tile, region_at, tile_in, tile_object, object_at, free_table, taken, first_free, set_pointer, push_tile, replace_tile, new_object, gap, used_of, top_of, kind_of, object_pointers, pointers_at}
+=======
+use Rattle.heap_model.specs.Heap.{Stored}
+use Rattle.regions.specs.Tiles.{Tile, Object, Filler, Forwarded, tile_size, tile_at}
+use Rattle.regions.specs.Table.{Region, Free, First, Table, nth_region, first_run, is_free, with_run, region_tile, region_at, tile_in, tile_object, object_at, free_table, taken, first_free, set_pointer, push_tile, replace_tile, new_object, remainder, used_of, top_of, kind_of, object_pointers, pointers_at}
+>>>>>>> main
 use Rattle.regions.specs.declared.row.Kind.TheVariants as kinds
 use Rattle.regions.specs.Shaped.{IsShaped}
 use Rattle.regions.specs.Shapes.{tile_shape}
 use Rattle.regions.specs.Walks.{IsHolder}
 use Rattle.regions.specs.declared.row.Shape.{Shape}
 use Rattle.regions.specs.declared.row.Shape.TheVariants as shapes
+<<<<<<< HEAD
 use Rattle.regions.proofs.Changes.{field_put, object_same}
 use Rattle.regions.proofs.Placing.{region_taken, Pushed, gap_push, Replaces, gap_replaced}
 use Rattle.regions.proofs.RunLaws.{TakesRun, run_made, tile_of_region}
+||||||| 3906014
+use Rattle.regions.proofs.Fields.{with_pointer}
+use Rattle.regions.proofs.Changes.{pointer_put, object_same}
+use Rattle.regions.proofs.Placing.{region_taken, Pushed, gap_push, Replaces, gap_replaced}
+use Rattle.regions.proofs.RunLaws.{TakesRun, run_made, tile_of_region}
+=======
+use Rattle.regions.proofs.Words.Fields.{with_pointer}
+use Rattle.regions.proofs.Tiles.Changes.{pointer_put, object_same}
+use Rattle.regions.proofs.Tiles.Placing.{region_taken, Pushed, filler_push, Replaces, filler_replaced}
+use Rattle.regions.proofs.LongRuns.RunLaws.{TakesRun, run_made, tile_of_region}
+>>>>>>> main
 use Rattle.mark_bitmap.specs.Tops.{Tops}
 use Rattle.remembered_sets.specs.Sets.{Sets}
 use Rattle.refinement.specs.Refining.{CanScan}
 use Rattle.refinement.specs.Samples.{IsSample}
-use Rattle.refinement.proofs.Divides.{div_is}
+use Rattle.regions.proofs.Words.Divides.{div_is}
+use Rattle.regions.proofs.Words.FieldAccess.{fields_pointers}
 use Rattle.refinement.proofs.Holders.{field_at, kept_object}
 use Rattle.refinement.proofs.Remembered.{set_here, set_there}
 
@@ -57,9 +80,19 @@ take_sample t t' (Some k) f e s =
 -- a field is set to an address of the heap
 pub link_sample : (t t' : Table) (a i b : ℕ) → 0 < t.words_per_region → i < length (fields_at t a) → b < 64 → t' ≡ set_field t a i (Some b) → IsSample t → IsSample t'
 link_sample t t' a i b z known small e s =
+<<<<<<< HEAD
     let f = field_at t a i known in
     let u : Table = set_field t a i (Some b) in
     let w = field_put t a i (Some b) f.object z f.is in
+||||||| 3906014
+    let f = field_at t a i known in
+    let u : Table = set_pointer t a i (Some b) in
+    let w = pointer_put t a i (Some b) f.object z f.is in
+=======
+    let f = field_at t a i (subst (λ (l : List (Option ℕ)). i < length l) (sym (fields_pointers t a)) known) in
+    let u : Table = set_pointer t a i (Some b) in
+    let w = pointer_put t a i (Some b) f.object z f.is in
+>>>>>>> main
     let near : b / t.words_per_region < length t.regions = rw (s.count, s.words) (div_below b 16 4 (omega arith) small) in
     subst IsSample (sym e) (record {
       count = w.count ∙ s.count;
@@ -98,27 +131,35 @@ alone t (suc j) h = elim (leb_tells (tile_size t) (suc j)) [ inl q ↦ rw q.0 re
 
 -- an object with nil pointers is made where a filler was pushed
 module _ (t t' t'' : Table) (k a n p name : ℕ) (shape : IsShaped t) (shape' : IsShaped t') (known : k < length t.regions) (ordinary : kind_of t k ≡ kinds.Ordinary)
+<<<<<<< HEAD
     (room : used_of t k + n ≤ t.words_per_region) (size : n ≡ 2 + p) (at : a ≡ top_of t k) (e : t' ≡ push_tile t k (Gap n))
     (e' : t'' ≡ replace_tile t' a (Live (new_object name p 0 0) ∷ gap (n - (2 + p + 0 + 0)))) where
+||||||| 3906014
+    (room : used_of t k + n ≤ t.words_per_region) (size : n ≡ 2 + p) (at : a ≡ top_of t k) (e : t' ≡ push_tile t k (Gap n))
+    (e' : t'' ≡ replace_tile t' a (Live (new_object name p 0) ∷ gap (n - (2 + p + 0)))) where
+=======
+    (room : used_of t k + n ≤ t.words_per_region) (size : n ≡ 2 + p) (at : a ≡ top_of t k) (e : t' ≡ push_tile t k (Filler n))
+    (e' : t'' ≡ replace_tile t' a (Object (new_object name p 0) ∷ remainder (n - (2 + p + 0)))) where
+>>>>>>> main
   abbrev new : Stored
   new = new_object name p 0 0
 
-  push : Pushed t t' k a (Gap n)
-  push = rw (e, at) (gap_push t k (Gap n) shape.positive shape.fitting known ordinary (omega (arith, size)) room tt)
+  push : Pushed t t' k a (Filler n)
+  push = rw (e, at) (filler_push t k (Filler n) shape.positive shape.fitting known ordinary (omega (arith, size)) room tt)
 
   whole : n - (2 + p + 0 + 0) ≡ 0
   whole = omega (arith, size)
 
-  words : tile_size (Live new) ≡ n
+  words : tile_size (Object new) ≡ n
   words = omega (arith, size, length-replicate {A = Option ℕ} p None)
 
-  replaced : Replaces t' t'' a n (Live new ∷ [])
+  replaced : Replaces t' t'' a n (Object new ∷ [])
   replaced =
-      let e2 : t'' ≡ replace_tile t' a (Live new ∷ []) = e' ∙ ap (λ (m : ℕ). replace_tile t' a (Live new ∷ gap m)) whole in
-      subst (λ (u : Table). Replaces t' u a n (Live new ∷ [])) (sym e2)
-      (gap_replaced t' a n (Live new ∷ []) shape'.positive shape'.fitting push.is (omega (arith, size)) (omega (arith, words), tt) (omega (arith, words)) tt)
+      let e2 : t'' ≡ replace_tile t' a (Object new ∷ []) = e' ∙ ap (λ (m : ℕ). replace_tile t' a (Object new ∷ remainder m)) whole in
+      subst (λ (u : Table). Replaces t' u a n (Object new ∷ [])) (sym e2)
+      (filler_replaced t' a n (Object new ∷ []) shape'.positive shape'.fitting push.is (omega (arith, size)) (omega (arith, words), tt) (omega (arith, words)) tt)
 
-  here : tile_in t'' a ≡ Some (Live new)
+  here : tile_in t'' a ≡ Some (Object new)
   here = let z : a + 0 ≡ a = omega arith in ap (tile_in t'') (sym z) ∙ replaced.within 0 (omega (arith, size))
 
   new_is : object_at t'' a ≡ Some new
@@ -132,7 +173,7 @@ module _ (t t' t'' : Table) (k a n p name : ℕ) (shape : IsShaped t) (shape' : 
       | inl inside ↦
           let j : ℕ = y - a in
           let y_is : a + j ≡ y = omega (arith, high) in
-          ap (tile_in t'') (sym y_is) ∙ replaced.within j (omega (arith, high, inside)) ∙ alone (Live new) j (omega (arith, high, apart))
+          ap (tile_in t'') (sym y_is) ∙ replaced.within j (omega (arith, high, inside)) ∙ alone (Object new) j (omega (arith, high, apart))
           ∙ sym (replaced.inside j (omega (arith, high, apart)) (omega (arith, high, inside))) ∙ ap (tile_in t') y_is
       | inr past ↦ replaced.others y (inr past)
     ]
@@ -159,8 +200,8 @@ module _ (t t' t'' : Table) (k a n p name : ℕ) (shape : IsShaped t) (shape' : 
       }
 
 pub add_there : (t t' : Table) (k a n : ℕ) → IsShaped t → k < length t.regions → kind_of t k ≡ kinds.Ordinary → used_of t k + n ≤ t.words_per_region → 0 < n → a ≡ top_of t k
-    → t' ≡ push_tile t k (Gap n) → tile_in t' a ≡ Some (Gap n)
-add_there t t' k a n shape known ordinary room z at e = rw (e, at) (gap_push t k (Gap n) shape.positive shape.fitting known ordinary z room tt).is
+    → t' ≡ push_tile t k (Filler n) → tile_in t' a ≡ Some (Filler n)
+add_there t t' k a n shape known ordinary room z at e = rw (e, at) (filler_push t k (Filler n) shape.positive shape.fitting known ordinary z room tt).is
 
 -- an object of nil pointers in the first region of a run
 first_alone : (p name o : ℕ) (x : Stored) → tile_object (region_tile (First (new_object name p 0 0)) o) ≡ Some x → x ≡ new_object name p 0 0
@@ -177,7 +218,7 @@ run_sample t t' m p name (Some k) z n f e s = subst IsSample (sym e) (record {
   inside = λ y i b x h g. rw (r.count, r.size) (elim (cases_eq y (k * t.words_per_region)) [
     | inl same ↦
         let region : y / u.words_per_region ≡ k = ap (λ (w : ℕ). y / w) r.size ∙ div_is y t.words_per_region k (omega arith) (omega arith) in
-        let tile = tile_of_region u y (First new) (ap (region_number u) region ∙ r.first) in
+        let tile = tile_of_region u y (First new) (ap (nth_region u) region ∙ r.first) in
         let is : x ≡ new = first_alone p name (y % u.words_per_region) x (ap tile_object (sym tile) ∙ h) in
         absurd (nil_fields name p i b (ap (λ (q : Stored). slice_get (fields q) i) (sym is) ∙ g))
     | inr apart ↦ s.inside y i b x (ap tile_object (sym (r.others y apart)) ∙ h) g
@@ -202,14 +243,36 @@ sample_scans t tops previous sets s marks count cards = record {
 }
 
 -- a field is known by the shape of its object
+<<<<<<< HEAD
 counted_tile : (o : Option Tile) (p weak d n i : ℕ) (shape : Shape) → IfSome o (λ u. shape ≡ tile_shape u) → IsSome o → shape ≡ shapes.Object p weak d → n ≡ p → i < n → i < length (object_fields (tile_object o))
 counted_tile None p weak d n i shape h some e f l = cc
 counted_tile (Some (Live s)) p weak d n i shape h some e f l =
     let q : shapes.Object p weak d ≡ shapes.Object (length s.pointers) (length s.weaks) (length s.values) = sym e ∙ h in
+||||||| 3906014
+counted_tile : (o : Option Tile) (p d n i : ℕ) (shape : Shape) → IfSome o (λ u. shape ≡ tile_shape u) → IsSome o → shape ≡ shapes.Object p d → n ≡ p → i < n → i < length (object_pointers (tile_object o))
+counted_tile None p d n i shape h some e f l = cc
+counted_tile (Some (Live s)) p d n i shape h some e f l =
+    let q : shapes.Object p d ≡ shapes.Object (length s.pointers) (length s.values) = sym e ∙ h in
+=======
+counted_tile : (o : Option Tile) (p d n i : ℕ) (shape : Shape) → IfSome o (λ u. shape ≡ tile_shape u) → IsSome o → shape ≡ shapes.Object p d → n ≡ p → i < n → i < length (object_pointers (tile_object o))
+counted_tile None p d n i shape h some e f l = cc
+counted_tile (Some (Object s)) p d n i shape h some e f l =
+    let q : shapes.Object p d ≡ shapes.Object (length s.pointers) (length s.values) = sym e ∙ h in
+>>>>>>> main
     let same : p ≡ length s.pointers = cc in
+<<<<<<< HEAD
     omega (arith, length-append s.pointers s.weaks)
 counted_tile (Some (Gap m)) p weak d n i shape h some e f l = cc
 counted_tile (Some (Moved to m)) p weak d n i shape h some e f l = cc
+||||||| 3906014
+    omega arith
+counted_tile (Some (Gap m)) p d n i shape h some e f l = cc
+counted_tile (Some (Moved to m)) p d n i shape h some e f l = cc
+=======
+    omega arith
+counted_tile (Some (Filler m)) p d n i shape h some e f l = cc
+counted_tile (Some (Forwarded to m)) p d n i shape h some e f l = cc
+>>>>>>> main
 
 pub counted : (t : Table) (a i n p weak d : ℕ) (shape : Shape) → IfSome (tile_in t a) (λ u. shape ≡ tile_shape u) → IsSome (tile_in t a) → shape ≡ shapes.Object p weak d → n ≡ p → i < n → i < length (fields_at t a)
 unfolding fields_at object_at

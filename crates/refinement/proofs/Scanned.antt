@@ -7,11 +7,12 @@ use Rattle.regions.specs.Table.{Table, tile_in, object_at, tile_object, top_of}
 use Rattle.regions.specs.Walks.{walk_rest, IsAmong, ArePlaced, IsPlacedTile, IsHolder}
 use Rattle.regions.specs.Shaped.{IsShaped}
 use Rattle.regions.specs.declared.row.Shape.{Shape}
-use Rattle.regions.proofs.WalkTiles.{onward_placed, onward_among}
+use Rattle.regions.proofs.Walks.WalkTiles.{onward_placed, onward_among}
 use Rattle.refinement.specs.Remembering.{field_word, field_card, IsCovered}
 use Rattle.refinement.specs.Refining.{IsObjectCovered, AreObjectsCovered}
-use Rattle.refinement.proofs.Divides.{card_region, card_has_words, div_low, div_high}
-use Rattle.refinement.proofs.Holders.{Stands, field_holder, holder_onward, holder_below}
+use Rattle.regions.proofs.Words.Divides.{card_region, card_has_words, div_low, div_high}
+use Rattle.regions.proofs.Tiles.Holders.{holder_onward, holder_below}
+use Rattle.refinement.proofs.Holders.{Stands, field_holder}
 
 -- nothing is covered less once more is covered
 pub covered_still : (words : ℕ) (kept : ℕ → Option Stored) (len card a : ℕ) (old new : ℕ → ℕ → Bool) → ((r c : ℕ) → old r c ≡ true → new r c ≡ true) → IsObjectCovered words kept len card old a → IsObjectCovered words kept len card new a

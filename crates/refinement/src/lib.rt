@@ -26,7 +26,7 @@ pub mod refine;
 pub mod scan;
 
 pub use refine::refine_one;
-pub use scan::scan_card;
+pub use scan::{is_kept, scan_card};
 
 #[cfg(test)]
 mod tests;

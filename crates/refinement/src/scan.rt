@@ -13,8 +13,16 @@
 
 ghost use Rattle.std.specs.Prelude.{◌≡◌, ◌≢◌, ◌↔◌, true, ℕ, ◌+◌, ◌*◌, ◌/◌, ◌<◌, ◌≤◌, Option, Some, IsSome, IsTrue, length, slice_get};
 ghost use Rattle.heap_model.specs.Heap.{Stored};
+<<<<<<< HEAD
 ghost use Rattle.regions.specs.Table.{object_at, fields_at, tile_in};
 ghost use Rattle.regions.specs.Walks.{IsPlacedTile};
+||||||| 3906014
+ghost use Rattle.regions.specs.Table.{object_at, pointers_at, tile_in};
+ghost use Rattle.regions.specs.Walks.{IsPlacedTile};
+=======
+ghost use Rattle.regions.specs.Table.{object_at, fields_at};
+ghost use Rattle.regions.specs.Walks.{IsHolder, IsPlacedTile};
+>>>>>>> main
 ghost use Rattle.mark_bitmap.specs.Kept.{kept_in};
 ghost use Rattle.remembered_sets.specs.Sets.{card_count, covers};
 ghost use Rattle.refinement.specs.Remembering.{field_word, Gains, IsCovered};
@@ -27,7 +35,7 @@ use regions::{RegionTable, Shape};
 use remembered_sets::RememberedSets;
 
 /// Whether the tile at an address is a kept object.
-fn is_kept(table: &RegionTable, tams: &Tams, marks: &Marks, at: Addr, shape: Shape) -> bool
+pub fn is_kept(table: &RegionTable, tams: &Tams, marks: &Marks, at: Addr, shape: Shape) -> bool
     requires tile { IsPlacedTile table.now at shape }
     requires marks { length marks.now ≡ length table.now.regions * table.now.words_per_region }
     ensures { IsTrue result ↔ IsSome (kept_in table.now tams.now marks.now at) }
@@ -40,7 +48,7 @@ fn is_kept(table: &RegionTable, tams: &Tams, marks: &Marks, at: Addr, shape: Sha
             }
             marks.get(at)
         }
-        Shape::Filler { .. } | Shape::Moved { .. } => false,
+        Shape::Filler { .. } | Shape::Forwarded { .. } => false,
     }
 }
 
@@ -94,7 +102,8 @@ fn scan_object(
     }
 }
 
-/// Adds the card for the fields of kept objects that lie in it, over the tiles of a region from one on.
+/// Adds the card for the fields of kept objects that lie in it, over the tiles of a region from the one on that holds the
+/// card's first word. Answers how many tiles it looked at.
 fn scan_tiles(
     table: &RegionTable,
     tams: &Tams,
@@ -103,27 +112,32 @@ fn scan_tiles(
     card_words: u32,
     card: Card,
     first: Addr,
-)
+) -> u32
     requires stands { CanScan table.now tams.now marks.now card_words sets.old }
     requires card { card < card_count sets.old }
-    requires tile { IsSome (tile_in table.now first) }
+    requires holder { IsHolder table.now first (card * card_words) }
+    ensures looked { result ≤ card_words }
     ensures adds { AddsCard table.now.words_per_region (kept_in table.now tams.now marks.now) card_words card sets.old sets.new }
     ensures covered { AreObjectsCovered table.now (kept_in table.now tams.now marks.now) card_words card (covers sets.new) first }
 {
     table.law();
     let end = card.number() * card_words + card_words;
+    let mut looked = 0;
     for (at, shape) in table.walk_from(first) {
         if at.word() >= end {
-            return;
+            return looked;
         }
+        looked += 1;
         if is_kept(table, tams, marks, at, shape) {
             scan_object(table, sets, card_words, card, at);
         }
     }
+    looked
 }
 
 /// Adds a card to the sets of the regions that its crossing fields lead into, and to no other. It walks from the tile that
-/// holds the card's first word to the card's end.
+/// holds the card's first word to the card's end, and answers how many tiles it looked at: at most one for each word of the
+/// card, and none where no tile holds the first word.
 pub fn scan_card(
     table: &RegionTable,
     tams: &Tams,
@@ -131,9 +145,10 @@ pub fn scan_card(
     sets: &mut RememberedSets,
     card_words: u32,
     card: Card,
-)
+) -> u32
     requires stands { CanScan table.now tams.now marks.now card_words sets.old }
     requires card { card < card_count sets.old }
+    ensures looked { result ≤ card_words }
     ensures covered { IsCovered table.now.words_per_region (kept_in table.now tams.now marks.now) card_words card (covers sets.new) }
     ensures adds { AddsCard table.now.words_per_region (kept_in table.now tams.now marks.now) card_words card sets.old sets.new }
     ensures gains { Gains table.now.words_per_region (kept_in table.now tams.now marks.now) card_words sets.old.cards_per_region card (covers sets.old) (covers sets.new) }
@@ -142,7 +157,8 @@ pub fn scan_card(
 {
     table.law();
     let from = Addr::new(card.number() * card_words);
-    if let Some(first) = table.first_tile(from) {
-        scan_tiles(table, tams, marks, sets, card_words, card, first);
-    }
+    let Some(first) = table.first_tile(from) else {
+        return 0;
+    };
+    scan_tiles(table, tams, marks, sets, card_words, card, first)
 }

@@ -16,7 +16,7 @@ ghost use Rattle.refinement.specs.Samples.{IsSample};
 use crate::{refine_one, scan_card};
 use cards::CardTable;
 use heap_words::addr::{Addr, Card, RegionNo};
-use heap_words::config::Config;
+use heap_words::config::{Config, Format};
 use heap_words::header::{Count, Counts, FillerSize};
 use mark_bitmap::marks::Marks;
 use mark_bitmap::tams::Tams;
@@ -102,6 +102,7 @@ fn free_regions(alloc: Global) -> Result<RegionTable, Fail>
     ensures { IfOk result IsSample }
 {
     let sizes = Config {
+        format: Format::V1,
         regions: 4,
         words: 16,
         buffer: 8,
@@ -153,6 +154,20 @@ fn one_run(alloc: Global) -> Result<RegionTable, Fail>
     Ok(table)
 }
 
+/// Five objects of two words in region 0, which start at 0, 2, 4, 6 and 8.
+fn small_objects(alloc: Global) -> Result<RegionTable, Fail>
+    ensures { IfOk result IsSample }
+{
+    let mut table = free_regions(alloc)?;
+    take(&mut table);
+    add(&mut table, 0, 0);
+    add(&mut table, 0, 0);
+    add(&mut table, 0, 0);
+    add(&mut table, 0, 0);
+    add(&mut table, 0, 0);
+    Ok(table)
+}
+
 /// The table with its marks, and empty sets of two cards a region.
 #[derive(Drop)]
 struct Sample {
@@ -183,8 +198,8 @@ fn over(alloc: Global, table: RegionTable, start: u32) -> Result<Sample, Fail>
     })
 }
 
-/// Scans a card, and says which cards regions 0, 1 and 2 cover then: card c by bit c.
-fn scan(sample: &mut Sample, card: u32) -> (u32, u32, u32)
+/// Scans a card, and says at how many tiles it looked.
+fn look(sample: &mut Sample, card: u32) -> u32
     requires card { card < 8 }
     requires stands { CanScan sample.old.table sample.old.tams sample.old.marks 8 sample.old.sets }
     requires regions { length sample.old.sets.sets ≡ 4 }
@@ -201,7 +216,20 @@ fn scan(sample: &mut Sample, card: u32) -> (u32, u32, u32)
         &mut sample.sets,
         8,
         card,
-    );
+    )
+}
+
+/// Scans a card, and says which cards regions 0, 1 and 2 cover then: card c by bit c.
+fn scan(sample: &mut Sample, card: u32) -> (u32, u32, u32)
+    requires card { card < 8 }
+    requires stands { CanScan sample.old.table sample.old.tams sample.old.marks 8 sample.old.sets }
+    requires regions { length sample.old.sets.sets ≡ 4 }
+    requires cards { card_count sample.old.sets ≡ 8 }
+    ensures stands { CanScan sample.new.table sample.new.tams sample.new.marks 8 sample.new.sets }
+    ensures regions { length sample.new.sets.sets ≡ 4 }
+    ensures cards { card_count sample.new.sets ≡ 8 }
+{
+    look(sample, card);
     covered(&sample.sets)
 }
 
@@ -288,6 +316,20 @@ fn scans_a_run(rt: HostRuntime) -> Result<(), Fail> {
     assert_eq!(rt; scan(&mut sample, 1), (0, 0, 1));
     assert_eq!(rt; scan(&mut sample, 2), (4, 0, 1));
     assert_eq!(rt; scan(&mut sample, 3), (12, 0, 1));
+    Ok(())
+}
+
+/// For card 0 it looks at A and B, for card 1 at B and C, and for card 7 at nothing. Of the small objects it looks at four for
+/// card 0, and at one for card 1.
+#[test]
+fn counts_tiles(rt: HostRuntime) -> Result<(), Fail> {
+    let mut sample = over(rt.alloc(), five_objects(rt.alloc())?, 0)?;
+    assert_eq!(rt; look(&mut sample, 0), 2);
+    assert_eq!(rt; look(&mut sample, 1), 2);
+    assert_eq!(rt; look(&mut sample, 7), 0);
+    let mut sample = over(rt.alloc(), small_objects(rt.alloc())?, 0)?;
+    assert_eq!(rt; look(&mut sample, 0), 4);
+    assert_eq!(rt; look(&mut sample, 1), 1);
     Ok(())
 }
 

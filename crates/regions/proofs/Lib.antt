@@ -1,3 +1,4 @@
+<<<<<<< HEAD
 pub mod Parse
 pub mod RowLemmas
 pub mod Places
@@ -39,10 +40,67 @@ pub mod ShapedMade
 pub mod WalkFrom
 pub mod FirstTile
 pub mod Tops
+||||||| 3906014
+pub mod Parse
+pub mod RowLemmas
+pub mod Places
+pub mod RowWrites
+pub mod Fields
+pub mod Sizes
+pub mod Written
+pub mod Access
+pub mod Making
+pub mod Puts
+pub mod Pushes
+pub mod Replaced
+pub mod Laws
+pub mod Targets
+pub mod Shown
+pub mod WalkLaws
+pub mod WalkMade
+pub mod RunWrites
+pub mod RunWritten
+pub mod Kept
+pub mod ObjectWords
+pub mod Values
+pub mod Copies
+pub mod Forwards
+pub mod RunRows
+pub mod Spliced
+pub mod RunMade
+pub mod Search
+pub mod RunGone
+pub mod MovedLaws
+pub mod TileLaws
+pub mod Totals
+pub mod Changes
+pub mod Placing
+pub mod Gaps
+pub mod ShapedMade
+pub mod WalkFrom
+pub mod FirstTile
+pub mod Tops
+=======
+pub mod Words
+pub mod Rows
+pub mod Tiles
+pub mod LongRuns
+pub mod Walks
+pub mod Cards
+>>>>>>> main
 pub mod Samples
+<<<<<<< HEAD
 pub mod RunLaws
 pub mod Fronts
 pub mod WalkTiles
 pub mod Steps
 pub mod InUse
 pub mod Released
+||||||| 3906014
+pub mod RunLaws
+pub mod Fronts
+pub mod WalkTiles
+pub mod InUse
+pub mod Released
+=======
+>>>>>>> main

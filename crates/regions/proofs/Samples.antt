@@ -2,8 +2,8 @@
 use Rattle.std.proofs.Common.{◌≡◌, ◌≢◌, ℕ, ◌+◌, ◌-◌, ◌*◌, ◌/◌, ◌<◌, ◌≤◌, Option, Some, None, List, [], ◌∷◌, length, refl, ap, ◌∙◌, arith}
 use Rattle.std.specs.Prelude.{IsSome}
 use Rattle.heap_model.specs.Heap.{Stored}
-use Rattle.regions.specs.Tiles.{Live, Gap, Moved}
-use Rattle.regions.specs.Table.{Table, Region, Free, Ordinary, First, Rest, region_at, tile_in, object_at, pointers_at, values_at, put_object, set_pointer, set_value, EachMovedIn, object_words, IsOrdinary, is_free, first_free, taken, region_number, used_of, push_tile, new_object, kind_of, free_table, replace_tile, gap, first_run, with_run, IsReleasable, released}
+use Rattle.regions.specs.Tiles.{Object, Filler, Forwarded}
+use Rattle.regions.specs.Table.{Table, Region, Free, Ordinary, First, Rest, region_at, tile_in, object_at, pointers_at, fields_at, values_at, put_object, set_pointer, set_field, set_value, EachForwardedIn, object_words, IsOrdinary, is_free, first_free, taken, nth_region, used_of, push_tile, new_object, kind_of, free_table, replace_tile, remainder, first_run, with_run, IsReleasable, released}
 use Rattle.regions.specs.declared.row.Kind.TheVariants as kinds
 
 abbrev pub sample : List Region → Table
@@ -14,13 +14,13 @@ abbrev pub filled1 : Table
 filled1 = sample (Ordinary [] ∷ Free ∷ Free ∷ Free ∷ [])
 
 abbrev pub filled2 : Table
-filled2 = sample (Ordinary (Gap 10 ∷ []) ∷ Free ∷ Free ∷ Free ∷ [])
+filled2 = sample (Ordinary (Filler 10 ∷ []) ∷ Free ∷ Free ∷ Free ∷ [])
 
 abbrev pub filled3 : Table
-filled3 = sample (Ordinary (Gap 5 ∷ Gap 5 ∷ []) ∷ Free ∷ Free ∷ Free ∷ [])
+filled3 = sample (Ordinary (Filler 5 ∷ Filler 5 ∷ []) ∷ Free ∷ Free ∷ Free ∷ [])
 
 abbrev pub with_sample : Stored → Table
-with_sample s = sample (Ordinary (Live s ∷ Gap 1 ∷ Gap 5 ∷ []) ∷ Free ∷ Free ∷ Free ∷ [])
+with_sample s = sample (Ordinary (Object s ∷ Filler 1 ∷ Filler 5 ∷ []) ∷ Free ∷ Free ∷ Free ∷ [])
 
 abbrev pub sample_object : Option ℕ → ℕ → Stored
 sample_object p d = record { name = 7; pointers = p ∷ []; weaks = []; values = d ∷ [] }
@@ -29,15 +29,21 @@ pub fill_take : (t t' : Table) → t ≡ free_table 4 16 → t' ≡ taken t (fir
 unfolding free_table
 fill_take t t' e f = f ∙ ap (λ (u : Table). taken u (first_free u)) e
 
-pub fill_push : (t t' : Table) (k n : ℕ) → t ≡ filled1 → t' ≡ push_tile t k (Gap n) → k ≡ 0 → n ≡ 10 → t' ≡ filled2
-unfolding push_tile region_number
+pub fill_push : (t t' : Table) (k n : ℕ) → t ≡ filled1 → t' ≡ push_tile t k (Filler n) → k ≡ 0 → n ≡ 10 → t' ≡ filled2
+unfolding push_tile nth_region
 fill_push t t' k n e f p q = rw (f, e, p, q) refl
 
-pub fill_split : (t t' : Table) (a n m : ℕ) → t ≡ filled2 → t' ≡ replace_tile t a (Gap m ∷ gap (n - m)) → a ≡ 0 → n ≡ 10 → m ≡ 5 → t' ≡ filled3
+pub fill_split : (t t' : Table) (a n m : ℕ) → t ≡ filled2 → t' ≡ replace_tile t a (Filler m ∷ remainder (n - m)) → a ≡ 0 → n ≡ 10 → m ≡ 5 → t' ≡ filled3
 unfolding replace_tile region_at
 fill_split t t' a n m e f p q r = rw (f, e, p, q, r) refl
 
+<<<<<<< HEAD
 pub fill_make : (t t' : Table) (a n p weak d : ℕ) → t ≡ filled3 → t' ≡ replace_tile t a (Live (new_object 7 p weak d) ∷ gap (n - (2 + p + weak + d))) → a ≡ 0 → n ≡ 5 → p ≡ 1 → weak ≡ 0 → d ≡ 1 → t' ≡ with_sample (sample_object None 0)
+||||||| 3906014
+pub fill_make : (t t' : Table) (a n p d : ℕ) → t ≡ filled3 → t' ≡ replace_tile t a (Live (new_object 7 p d) ∷ gap (n - (2 + p + d))) → a ≡ 0 → n ≡ 5 → p ≡ 1 → d ≡ 1 → t' ≡ with_sample (sample_object None 0)
+=======
+pub fill_make : (t t' : Table) (a n p d : ℕ) → t ≡ filled3 → t' ≡ replace_tile t a (Object (new_object 7 p d) ∷ remainder (n - (2 + p + d))) → a ≡ 0 → n ≡ 5 → p ≡ 1 → d ≡ 1 → t' ≡ with_sample (sample_object None 0)
+>>>>>>> main
 unfolding replace_tile region_at
 fill_make t t' a n p weak d e f h i j l k = rw (f, e, h, i, j, l, k) refl
 
@@ -56,18 +62,18 @@ pub record IsUsable (t : Table) (k n : ℕ) : Type 0 where
   pub room : used_of t k + n ≤ t.words_per_region
 
 pub usable1 : (t : Table) (k n : ℕ) → t ≡ filled1 → k ≡ 0 → n ≡ 10 → IsUsable t k n
-unfolding kind_of region_number used_of
+unfolding kind_of nth_region used_of
 usable1 t k n e p q = rw (e, p, q) (record { known = omega arith; ordinary = refl; room = omega arith })
 
 pub usable_filled : (s : Stored) (t : Table) (k : ℕ) → t ≡ with_sample s → k ≡ 0 → (k < length t.regions) × (kind_of t k ≡ kinds.Ordinary)
-unfolding kind_of region_number
+unfolding kind_of nth_region
 usable_filled s t k e p = rw (e, p) (omega arith, refl)
 
-pub filler2 : (t : Table) (a n : ℕ) → t ≡ filled2 → a ≡ 0 → n ≡ 10 → tile_in t a ≡ Some (Gap n)
+pub filler2 : (t : Table) (a n : ℕ) → t ≡ filled2 → a ≡ 0 → n ≡ 10 → tile_in t a ≡ Some (Filler n)
 unfolding tile_in region_at
 filler2 t a n e p q = rw (e, p, q) refl
 
-pub filler3 : (t : Table) (a n : ℕ) → t ≡ filled3 → a ≡ 0 → n ≡ 5 → tile_in t a ≡ Some (Gap n)
+pub filler3 : (t : Table) (a n : ℕ) → t ≡ filled3 → a ≡ 0 → n ≡ 5 → tile_in t a ≡ Some (Filler n)
 unfolding tile_in region_at
 filler3 t a n e p q = rw (e, p, q) refl
 
@@ -93,51 +99,57 @@ abbrev pub moved1 : Table
 moved1 = sample (Ordinary [] ∷ Ordinary [] ∷ Free ∷ Free ∷ [])
 
 abbrev pub moved2 : Table
-moved2 = sample (Ordinary (Gap 4 ∷ []) ∷ Ordinary [] ∷ Free ∷ Free ∷ [])
+moved2 = sample (Ordinary (Filler 4 ∷ []) ∷ Ordinary [] ∷ Free ∷ Free ∷ [])
 
 abbrev pub moving : Stored
 moving = record { name = 7; pointers = []; weaks = []; values = 0 ∷ 0 ∷ [] }
 
 abbrev pub moved3 : Table
-moved3 = sample (Ordinary (Live moving ∷ []) ∷ Ordinary [] ∷ Free ∷ Free ∷ [])
+moved3 = sample (Ordinary (Object moving ∷ []) ∷ Ordinary [] ∷ Free ∷ Free ∷ [])
 
 abbrev pub moved4 : Table
-moved4 = sample (Ordinary (Live moving ∷ []) ∷ Ordinary (Live moving ∷ []) ∷ Free ∷ Free ∷ [])
+moved4 = sample (Ordinary (Object moving ∷ []) ∷ Ordinary (Object moving ∷ []) ∷ Free ∷ Free ∷ [])
 
 abbrev pub moved5 : Table
-moved5 = sample (Ordinary (Moved 16 4 ∷ []) ∷ Ordinary (Live moving ∷ []) ∷ Free ∷ Free ∷ [])
+moved5 = sample (Ordinary (Forwarded 16 4 ∷ []) ∷ Ordinary (Object moving ∷ []) ∷ Free ∷ Free ∷ [])
 
 abbrev pub moved6 : Table
-moved6 = sample (Free ∷ Ordinary (Live moving ∷ []) ∷ Free ∷ Free ∷ [])
+moved6 = sample (Free ∷ Ordinary (Object moving ∷ []) ∷ Free ∷ Free ∷ [])
 
 pub move_take : (t t' : Table) → t ≡ filled1 → t' ≡ taken t (first_free t) → t' ≡ moved1
 move_take t t' e f = f ∙ ap (λ (u : Table). taken u (first_free u)) e
 
-pub move_push : (t t' : Table) (k n : ℕ) → t ≡ moved1 → t' ≡ push_tile t k (Gap n) → k ≡ 0 → n ≡ 4 → t' ≡ moved2
-unfolding push_tile region_number
+pub move_push : (t t' : Table) (k n : ℕ) → t ≡ moved1 → t' ≡ push_tile t k (Filler n) → k ≡ 0 → n ≡ 4 → t' ≡ moved2
+unfolding push_tile nth_region
 move_push t t' k n e f p q = rw (f, e, p, q) refl
 
+<<<<<<< HEAD
 pub move_make : (t t' : Table) (a n p weak d : ℕ) → t ≡ moved2 → t' ≡ replace_tile t a (Live (new_object 7 p weak d) ∷ gap (n - (2 + p + weak + d))) → a ≡ 0 → n ≡ 4 → p ≡ 0 → weak ≡ 0 → d ≡ 2 → t' ≡ moved3
+||||||| 3906014
+pub move_make : (t t' : Table) (a n p d : ℕ) → t ≡ moved2 → t' ≡ replace_tile t a (Live (new_object 7 p d) ∷ gap (n - (2 + p + d))) → a ≡ 0 → n ≡ 4 → p ≡ 0 → d ≡ 2 → t' ≡ moved3
+=======
+pub move_make : (t t' : Table) (a n p d : ℕ) → t ≡ moved2 → t' ≡ replace_tile t a (Object (new_object 7 p d) ∷ remainder (n - (2 + p + d))) → a ≡ 0 → n ≡ 4 → p ≡ 0 → d ≡ 2 → t' ≡ moved3
+>>>>>>> main
 unfolding replace_tile region_at
 move_make t t' a n p weak d e f h i j l k = rw (f, e, h, i, j, l, k) refl
 
-pub move_copy : (t t' : Table) (a k : ℕ) → t ≡ moved3 → ((s : Stored) → object_at t a ≡ Some s → t' ≡ push_tile t k (Live s)) → a ≡ 0 → k ≡ 1 → t' ≡ moved4
-unfolding object_at tile_in region_at push_tile region_number
+pub move_copy : (t t' : Table) (a k : ℕ) → t ≡ moved3 → ((s : Stored) → object_at t a ≡ Some s → t' ≡ push_tile t k (Object s)) → a ≡ 0 → k ≡ 1 → t' ≡ moved4
+unfolding object_at tile_in region_at push_tile nth_region
 move_copy t t' a k e f p q = f moving (rw (e, p) refl) ∙ rw (e, q) refl
 
-pub move_forward : (t t' : Table) (a b : ℕ) → t ≡ moved4 → t' ≡ replace_tile t a (Moved b (object_words t a) ∷ []) → a ≡ 0 → b ≡ 16 → t' ≡ moved5
+pub move_forward : (t t' : Table) (a b : ℕ) → t ≡ moved4 → t' ≡ replace_tile t a (Forwarded b (object_words t a) ∷ []) → a ≡ 0 → b ≡ 16 → t' ≡ moved5
 unfolding replace_tile region_at object_words object_at tile_in
 move_forward t t' a b e f p q = rw (f, e, p, q) refl
 
 pub move_release : (t t' : Table) (k : ℕ) → t ≡ moved5 → t' ≡ released t k → k ≡ 0 → t' ≡ moved6
-unfolding released region_number
+unfolding released nth_region
 move_release t t' k e f p = rw (f, e, p) refl
 
 pub usable_moved1 : (t : Table) (k n : ℕ) → t ≡ moved1 → k ≡ 0 → n ≡ 4 → IsUsable t k n
-unfolding kind_of region_number used_of
+unfolding kind_of nth_region used_of
 usable_moved1 t k n e p q = rw (e, p, q) (record { known = omega arith; ordinary = refl; room = omega arith })
 
-pub filler_moved2 : (t : Table) (a n : ℕ) → t ≡ moved2 → a ≡ 0 → n ≡ 4 → tile_in t a ≡ Some (Gap n)
+pub filler_moved2 : (t : Table) (a n : ℕ) → t ≡ moved2 → a ≡ 0 → n ≡ 4 → tile_in t a ≡ Some (Filler n)
 unfolding tile_in region_at
 filler_moved2 t a n e p q = rw (e, p, q) refl
 
@@ -146,14 +158,14 @@ pub record IsCopyable (t : Table) (a k : ℕ) : Type 0 where
   pub usable : IsUsable t k (object_words t a)
 
 pub copyable3 : (t : Table) (a k : ℕ) → t ≡ moved3 → a ≡ 0 → k ≡ 1 → IsCopyable t a k
-unfolding object_at tile_in region_at kind_of region_number used_of object_words
+unfolding object_at tile_in region_at kind_of nth_region used_of object_words
 copyable3 t a k e p q = rw (e, p, q) (record { object = refl; usable = record { known = omega arith; ordinary = refl; room = omega arith } })
 
 pub record IsForwardable (t : Table) (a b : ℕ) : Type 0 where
   pub object : IsSome (object_at t a)
   pub ordinary : IsOrdinary (region_at t a)
   pub copy : object_words t b ≡ object_words t a
-  pub untargeted : EachMovedIn (λ x. x ≢ a) t.regions
+  pub untargeted : EachForwardedIn (λ x. x ≢ a) t.regions
 
 pub forwardable4 : (t : Table) (a b : ℕ) → t ≡ moved4 → a ≡ 0 → b ≡ 16 → IsForwardable t a b
 unfolding object_at tile_in region_at object_words
@@ -166,10 +178,10 @@ tile5 t a e p = rw (e, p) refl
 pub record CanRelease (t : Table) (k : ℕ) : Type 0 where
   pub known : k < length t.regions
   pub releasable : IsReleasable (kind_of t k)
-  pub untargeted : EachMovedIn (λ to. k ≢ to / t.words_per_region) t.regions
+  pub untargeted : EachForwardedIn (λ to. k ≢ to / t.words_per_region) t.regions
 
 pub releasable5 : (t : Table) (k : ℕ) → t ≡ moved5 → k ≡ 0 → CanRelease t k
-unfolding region_number kind_of
+unfolding nth_region kind_of
 releasable5 t k e p = rw (e, p) (record { known = omega arith; releasable = tt; untargeted = ((λ z. omega arith, tt), (tt, tt)) })
 
 pub known6 : (t : Table) (k n : ℕ) → t ≡ moved6 → k ≡ n → n < 4 → k < length t.regions
@@ -186,11 +198,11 @@ pub run_take : (t t' : Table) (p weak d : ℕ) → t ≡ filled1 → t' ≡ with
 run_take t t' p weak d e f h l i = rw (f, e, h, l, i) refl
 
 pub run_release : (t t' : Table) (k : ℕ) → t ≡ run1 → t' ≡ released t k → k ≡ 1 → t' ≡ filled1
-unfolding released region_number
+unfolding released nth_region
 run_release t t' k e f p = rw (f, e, p) refl
 
 pub releasable_run : (t : Table) (k : ℕ) → t ≡ run1 → k ≡ 1 → CanRelease t k
-unfolding region_number kind_of
+unfolding nth_region kind_of
 releasable_run t k e p = rw (e, p) (record { known = omega arith; releasable = tt; untargeted = (tt, tt) })
 
 pub run_fits : (t : Table) (p weak d : ℕ) → t ≡ filled1 → p ≡ 3 → weak ≡ 0 → d ≡ 20 → (2 + p + weak + d ≤ 2 * t.words_per_region) × (2 * t.words_per_region < 2 + p + weak + d + t.words_per_region)
@@ -198,3 +210,43 @@ run_fits t p weak d e h l i = rw (e, h, l, i) (omega arith, omega arith)
 
 pub known_region : (rs : List Region) (t : Table) (k n : ℕ) → t ≡ sample rs → length rs ≡ 4 → k ≡ n → n < 4 → k < length t.regions
 known_region rs t k n e l p h = rw (e, l, p) h
+
+-- from tile to tile
+abbrev pub stepped2 : Table
+stepped2 = sample (Ordinary (Filler 6 ∷ []) ∷ Free ∷ Free ∷ Free ∷ [])
+
+abbrev pub stepped : Option ℕ → Table
+stepped p = sample (Ordinary (Object (sample_object p 0) ∷ Filler 2 ∷ []) ∷ Free ∷ Free ∷ Free ∷ [])
+
+pub step_push : (t t' : Table) (k n : ℕ) → t ≡ filled1 → t' ≡ push_tile t k (Filler n) → k ≡ 0 → n ≡ 6 → t' ≡ stepped2
+unfolding push_tile nth_region
+step_push t t' k n e f p q = rw (f, e, p, q) refl
+
+pub step_make : (t t' : Table) (a n p d : ℕ) → t ≡ stepped2 → t' ≡ replace_tile t a (Object (new_object 7 p d) ∷ remainder (n - (2 + p + d))) → a ≡ 0 → n ≡ 6 → p ≡ 1 → d ≡ 1 → t' ≡ stepped None
+unfolding replace_tile region_at
+step_make t t' a n p d e f h i j k = rw (f, e, h, i, j, k) refl
+
+pub step_field : (t t' : Table) (a to : ℕ) → t ≡ stepped None → t' ≡ set_field t a 0 (Some to) → a ≡ 0 → to ≡ 4 → t' ≡ stepped (Some 4)
+unfolding set_field object_at tile_in region_at put_object
+step_field t t' a to e f p q = rw (f, e, p, q) refl
+
+pub filler_stepped : (t : Table) (a n : ℕ) → t ≡ stepped2 → a ≡ 0 → n ≡ 6 → tile_in t a ≡ Some (Filler n)
+unfolding tile_in region_at
+filler_stepped t a n e p q = rw (e, p, q) refl
+
+pub usable_step : (t : Table) (k n : ℕ) → t ≡ filled1 → k ≡ 0 → n ≡ 6 → IsUsable t k n
+unfolding kind_of nth_region used_of
+usable_step t k n e p q = rw (e, p, q) (record { known = omega arith; ordinary = refl; room = omega arith })
+
+pub record IsStepped (t : Table) (a : ℕ) : Type 0 where
+  pub object : IsSome (object_at t a)
+  pub tile : IsSome (tile_in t a)
+  pub fields : 0 < length (fields_at t a)
+
+pub stepped_is : (p : Option ℕ) (t : Table) (a : ℕ) → t ≡ stepped p → a ≡ 0 → IsStepped t a
+unfolding object_at tile_in region_at fields_at
+stepped_is p t a e h = rw (e, h) (record { object = refl; tile = refl; fields = omega arith })
+
+pub stepped_rest : (p : Option ℕ) (t : Table) (a : ℕ) → t ≡ stepped p → a ≡ 4 → IsSome (tile_in t a)
+unfolding tile_in region_at
+stepped_rest p t a e h = rw (e, h) refl

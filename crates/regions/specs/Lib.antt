@@ -4,3 +4,4 @@ pub mod Shapes
 pub mod Walks
 pub mod Shaped
 pub mod Rows
+pub mod FirstTiles

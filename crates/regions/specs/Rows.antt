@@ -1,11 +1,14 @@
 -- How the words of the heap are read as regions.
-use Rattle.std.specs.Prelude.{◌≡◌, ℕ, zero, suc, ◌+◌, ◌-◌, ◌*◌, ◌^◌, ◌<◌, ◌≤◌, min, Bool, true, false, Option, Some, None, List, [], ◌∷◌, length, take, drop, slice_index, slice_set}
+use Rattle.std.specs.Prelude.{◌≡◌, ℕ, zero, suc, ◌-◌, ◌*◌, ◌^◌, ◌<◌, ◌≤◌, min, Bool, true, false, Option, Some, None, List, [], ◌∷◌, length, take, drop, slice_index, slice_set, slice_index_or}
+use Rattle.heap_words.specs.Sizes.{size_of}
+use Rattle.heap_words.specs.Configs.{max_words, max_region_words}
 use Rattle.heap_words.specs.declared.header.Header.{Header}
-use Rattle.heap_words.specs.declared.header.Header.TheVariants.{Object, Filler, Forwarded}
+use Rattle.heap_words.specs.declared.header.Header.TheVariants as headers
 use Rattle.heap_words.specs.Headers.{header_of, header_word}
 use Rattle.heap_model.specs.Heap.{Stored}
 use Rattle.regions.specs.Tiles.{stored_of, tiles, IsTiled}
 use Rattle.regions.specs.Table.{Region, Free, Ordinary, First, Rest, Table, HasTargets}
+use Rattle.regions.specs.FirstTiles.{Entries, AreEntries}
 use Rattle.regions.specs.declared.row.Row.{Row}
 use Rattle.regions.specs.declared.row.Kind.{Kind}
 use Rattle.regions.specs.declared.row.Kind.TheVariants as kinds
@@ -13,9 +16,19 @@ use Rattle.regions.specs.declared.row.Kind.TheVariants as kinds
 -- how many words the object of a header has, 1 where it is no object's
 abbrev pub object_size : Option Header → ℕ
 object_size None = 1
+<<<<<<< HEAD
 object_size (Some (Object p weak d)) = 2 + p + weak + d
 object_size (Some (Filler n)) = 1
 object_size (Some (Forwarded to)) = 1
+||||||| 3906014
+object_size (Some (Object p d)) = 2 + p + d
+object_size (Some (Filler n)) = 1
+object_size (Some (Forwarded to)) = 1
+=======
+object_size (Some (headers.Object p d)) = size_of p d
+object_size (Some (headers.Filler n)) = 1
+object_size (Some (headers.Forwarded to)) = 1
+>>>>>>> main
 
 -- the size of the object at an address
 abbrev pub sizes_in : List ℕ → ℕ → ℕ
@@ -24,16 +37,38 @@ sizes_in words a = object_size (header_of (slice_index words a))
 -- where a header's object went
 abbrev pub header_target : Option Header → Option ℕ
 header_target None = None
+<<<<<<< HEAD
 header_target (Some (Object p weak d)) = None
 header_target (Some (Filler n)) = None
 header_target (Some (Forwarded to)) = Some to
+||||||| 3906014
+header_target (Some (Object p d)) = None
+header_target (Some (Filler n)) = None
+header_target (Some (Forwarded to)) = Some to
+=======
+header_target (Some (headers.Object p d)) = None
+header_target (Some (headers.Filler n)) = None
+header_target (Some (headers.Forwarded to)) = Some to
+>>>>>>> main
 
 -- the object of a header
 abbrev pub stored_by : List ℕ → Option Header → Stored
+<<<<<<< HEAD
 stored_by ws None = stored_of 0 0 0 ws
 stored_by ws (Some (Object p weak d)) = stored_of p weak d ws
 stored_by ws (Some (Filler n)) = stored_of 0 0 0 ws
 stored_by ws (Some (Forwarded to)) = stored_of 0 0 0 ws
+||||||| 3906014
+stored_by ws None = stored_of 0 0 ws
+stored_by ws (Some (Object p d)) = stored_of p d ws
+stored_by ws (Some (Filler n)) = stored_of 0 0 ws
+stored_by ws (Some (Forwarded to)) = stored_of 0 0 ws
+=======
+stored_by ws None = stored_of 0 0 ws
+stored_by ws (Some (headers.Object p d)) = stored_of p d ws
+stored_by ws (Some (headers.Filler n)) = stored_of 0 0 ws
+stored_by ws (Some (headers.Forwarded to)) = stored_of 0 0 ws
+>>>>>>> main
 
 -- the object that words begin with
 abbrev pub first_stored : List ℕ → Stored
@@ -59,9 +94,19 @@ regions_of sizes size ws (row ∷ rows) = region_of sizes ws row ∷ regions_of 
 -- the header is an object's
 abbrev pub IsObject : Option Header → Type 0
 IsObject None = ⊥
+<<<<<<< HEAD
 IsObject (Some (Object p weak d)) = Unit {0}
 IsObject (Some (Filler n)) = ⊥
 IsObject (Some (Forwarded to)) = ⊥
+||||||| 3906014
+IsObject (Some (Object p d)) = Unit {0}
+IsObject (Some (Filler n)) = ⊥
+IsObject (Some (Forwarded to)) = ⊥
+=======
+IsObject (Some (headers.Object p d)) = Unit {0}
+IsObject (Some (headers.Filler n)) = ⊥
+IsObject (Some (headers.Forwarded to)) = ⊥
+>>>>>>> main
 
 -- a row that is no later one of a run says what the words of its region are
 abbrev pub IsRow : (ℕ → ℕ) → ℕ → List ℕ → ℕ → Kind → Type 0
@@ -100,16 +145,16 @@ table_by f size words rows = record { words_per_region = size; regions = regions
 
 -- words and rows are a table's, with these sizes of what moved
 pub record IsTableBy (f : ℕ → ℕ) (size : ℕ) (words : List ℕ) (rows : List Row) : Type 0 where
-  pub region_size : (0 < size) × (size ≤ 2 ^ 12)
+  pub region_size : (0 < size) × (size ≤ max_region_words)
   pub covers : length words ≡ length rows * size
-  pub small : length words ≤ 2 ^ 20
+  pub small : length words ≤ max_words
   pub rows_right : AreRows f size 0 words rows
 
 -- words and rows are a table's
 pub record IsTable (size : ℕ) (words : List ℕ) (rows : List Row) : Type 0 where
-  pub region_size : (0 < size) × (size ≤ 2 ^ 12)
+  pub region_size : (0 < size) × (size ≤ max_region_words)
   pub covers : length words ≡ length rows * size
-  pub small : length words ≤ 2 ^ 20
+  pub small : length words ≤ max_words
   pub rows_right : AreRows (sizes_in words) size 0 words rows
   pub targets : HasTargets (table_of size words rows)
 
@@ -123,6 +168,21 @@ kind_is_free kinds.Rest = false
 -- the row of a free region
 abbrev pub free_row : Row
 free_row = record { kind = kinds.Free; used = 0 }
+
+-- no row below n is free
+abbrev pub AreUsedBelow : ℕ → List Row → Type 0
+AreUsedBelow n rows = (k : ℕ) → k < n → kind_is_free (slice_index_or rows k free_row).kind ≡ false
+
+-- words and rows are a table's, with 2 ^ shift words a region, which are whole cards; no row below `lowest` is free; and each card
+-- has its entry
+pub record IsSound (size shift lowest : ℕ) (entries : Entries) (words : List ℕ) (rows : List Row) : Type 0 where
+  pub table : IsTable size words rows
+  pub power : size ≡ 2 ^ shift
+  pub narrow : shift < 32
+  pub used_below : AreUsedBelow lowest rows
+  pub whole_cards : (cards : ℕ) × (size ≡ cards * entries.card_words)
+  pub each_card : length words ≡ length entries.starts * entries.card_words
+  pub first_tiles : AreEntries (table_of size words rows) entries
 
 -- the kind of a run's i-th region
 abbrev pub run_kind : ℕ → Kind
@@ -146,9 +206,9 @@ kind_is_rest kinds.First = false
 kind_is_rest kinds.Rest = true
 
 -- the words with a filler's header at n, unless it has no words
-abbrev pub put_gap : List ℕ → ℕ → ℕ → List ℕ
-put_gap words n zero = words
-put_gap words n (suc m) = slice_set words n (header_word (Filler (suc m)))
+abbrev pub put_remainder : List ℕ → ℕ → ℕ → List ℕ
+put_remainder words n zero = words
+put_remainder words n (suc m) = slice_set words n (header_word (headers.Filler (suc m)))
 
 -- how many weak slots a header's object has
 abbrev pub weak_count : Option Header → ℕ
@@ -160,9 +220,19 @@ weak_count (Some (Forwarded to)) = 0
 -- how many data words a header's object has
 abbrev pub value_count : Option Header → ℕ
 value_count None = 0
+<<<<<<< HEAD
 value_count (Some (Object p weak d)) = d
 value_count (Some (Filler n)) = 0
 value_count (Some (Forwarded to)) = 0
+||||||| 3906014
+value_count (Some (Object p d)) = d
+value_count (Some (Filler n)) = 0
+value_count (Some (Forwarded to)) = 0
+=======
+value_count (Some (headers.Object p d)) = d
+value_count (Some (headers.Filler n)) = 0
+value_count (Some (headers.Forwarded to)) = 0
+>>>>>>> main
 
 -- the address, if there is one, is below the limit
 abbrev pub IsBelow : Option ℕ → ℕ → Type 0

@@ -1,7 +1,17 @@
 -- A table of regions, as callers see it: regions of tiles, and no words.
+<<<<<<< HEAD
 use Rattle.std.specs.Prelude.{◌≡◌, ℕ, zero, suc, ◌+◌, ◌-◌, ◌*◌, ◌/◌, ◌%◌, Option, Some, None, List, [], ◌∷◌, ◌++◌, length, slice_index_or, slice_set, replicate, min, position, Bool, true, false, take, drop, if◌then◌else◌, nat_le}
 use Rattle.heap_model.specs.Heap.{Stored, fields, with_field}
 use Rattle.regions.specs.Tiles.{Tile, Live, Gap, Moved, tile_size, tile_at, replace, total_size}
+||||||| 3906014
+use Rattle.std.specs.Prelude.{◌≡◌, ℕ, zero, suc, ◌+◌, ◌-◌, ◌*◌, ◌/◌, ◌%◌, Option, Some, None, List, [], ◌∷◌, ◌++◌, length, slice_index_or, slice_set, replicate, min, position, Bool, true, false, take, drop, if◌then◌else◌, nat_le}
+use Rattle.heap_model.specs.Heap.{Stored}
+use Rattle.regions.specs.Tiles.{Tile, Live, Gap, Moved, tile_size, tile_at, replace, total_size}
+=======
+use Rattle.std.specs.Prelude.{◌≡◌, ℕ, zero, suc, ◌+◌, ◌-◌, ◌*◌, ◌/◌, ◌%◌, ◌≤◌, Option, Some, None, List, [], ◌∷◌, ◌++◌, slice_index_or, slice_set, replicate, min, position, count_by, Bool, true, false, take, drop, if◌then◌else◌, nat_le}
+use Rattle.heap_model.specs.Heap.{Stored, fields, with_field}
+use Rattle.regions.specs.Tiles.{Tile, Object, Filler, Forwarded, tile_size, tile_at, replace, total_size}
+>>>>>>> main
 use Rattle.regions.specs.declared.row.Kind.{Kind}
 use Rattle.regions.specs.declared.row.Kind.TheVariants as kinds
 
@@ -22,7 +32,7 @@ pub record Table : Type 0 where
 abbrev pub region_tile : Region → ℕ → Option Tile
 region_tile Free o = None
 region_tile (Ordinary ts) o = tile_at o ts
-region_tile (First s) zero = Some (Live s)
+region_tile (First s) zero = Some (Object s)
 region_tile (First s) (suc o) = None
 region_tile (Rest n) o = None
 
@@ -36,9 +46,9 @@ tile_in t a = region_tile (region_at t a) (a % t.words_per_region)
 
 -- the object that a tile is
 abbrev pub tile_object : Option Tile → Option Stored
-tile_object (Some (Live s)) = Some s
-tile_object (Some (Gap n)) = None
-tile_object (Some (Moved to n)) = None
+tile_object (Some (Object s)) = Some s
+tile_object (Some (Filler n)) = None
+tile_object (Some (Forwarded to n)) = None
 tile_object None = None
 
 -- the object that starts at an address
@@ -54,6 +64,7 @@ object_pointers (Some s) = s.pointers
 unfoldable pub pointers_at : Table → ℕ → List (Option ℕ)
 pointers_at t a = object_pointers (object_at t a)
 
+<<<<<<< HEAD
 -- an object's weak slots
 abbrev pub object_weaks : Option Stored → List (Option ℕ)
 object_weaks None = []
@@ -72,10 +83,22 @@ object_fields (Some s) = fields s
 unfoldable pub fields_at : Table → ℕ → List (Option ℕ)
 fields_at t a = object_fields (object_at t a)
 
+||||||| 3906014
+=======
+-- an object's fields: what holds addresses, in address order
+abbrev pub object_fields : Option Stored → List (Option ℕ)
+object_fields None = []
+object_fields (Some s) = fields s
+
+-- the fields of the object at an address, none where there is no object
+unfoldable pub fields_at : Table → ℕ → List (Option ℕ)
+fields_at t a = object_fields (object_at t a)
+
+>>>>>>> main
 -- the region with another object at the offset
 abbrev pub with_object : Region → ℕ → Stored → Region
 with_object Free o s = Free
-with_object (Ordinary ts) o s = Ordinary (replace o (Live s ∷ []) ts)
+with_object (Ordinary ts) o s = Ordinary (replace o (Object s ∷ []) ts)
 with_object (First old) o s = First s
 with_object (Rest n) o s = Rest n
 
@@ -94,24 +117,32 @@ set_pointer_of t a i v (Some s) = put_object t a (record s { pointers = slice_se
 unfoldable pub set_pointer : Table → ℕ → ℕ → Option ℕ → Table
 set_pointer t a i v = set_pointer_of t a i v (object_at t a)
 
+abbrev pub set_field_of : Table → ℕ → ℕ → Option ℕ → Option Stored → Table
+set_field_of t a i v None = t
+set_field_of t a i v (Some s) = put_object t a (with_field s i v)
+
+-- the table with one field of the object at the address changed
+unfoldable pub set_field : Table → ℕ → ℕ → Option ℕ → Table
+set_field t a i v = set_field_of t a i v (object_at t a)
+
 -- the new place of each moved object is so
-abbrev pub EachMoved : (ℕ → Type 0) → List Tile → Type 0
-EachMoved P [] = Unit {0}
-EachMoved P (Live s ∷ ts) = EachMoved P ts
-EachMoved P (Gap n ∷ ts) = EachMoved P ts
-EachMoved P (Moved to n ∷ ts) = P to × EachMoved P ts
+abbrev pub EachForwarded : (ℕ → Type 0) → List Tile → Type 0
+EachForwarded P [] = Unit {0}
+EachForwarded P (Object s ∷ ts) = EachForwarded P ts
+EachForwarded P (Filler n ∷ ts) = EachForwarded P ts
+EachForwarded P (Forwarded to n ∷ ts) = P to × EachForwarded P ts
 
 -- the same in all regions
-abbrev pub EachMovedIn : (ℕ → Type 0) → List Region → Type 0
-EachMovedIn P [] = Unit {0}
-EachMovedIn P (Free ∷ rs) = EachMovedIn P rs
-EachMovedIn P (Ordinary ts ∷ rs) = EachMoved P ts × EachMovedIn P rs
-EachMovedIn P (First s ∷ rs) = EachMovedIn P rs
-EachMovedIn P (Rest n ∷ rs) = EachMovedIn P rs
+abbrev pub EachForwardedIn : (ℕ → Type 0) → List Region → Type 0
+EachForwardedIn P [] = Unit {0}
+EachForwardedIn P (Free ∷ rs) = EachForwardedIn P rs
+EachForwardedIn P (Ordinary ts ∷ rs) = EachForwarded P ts × EachForwardedIn P rs
+EachForwardedIn P (First s ∷ rs) = EachForwardedIn P rs
+EachForwardedIn P (Rest n ∷ rs) = EachForwardedIn P rs
 
 -- nothing is moved now
-abbrev pub HasNoMoved : Table → Type 0
-HasNoMoved t = EachMovedIn (λ _. ⊥) t.regions
+abbrev pub HasNoForwarded : Table → Type 0
+HasNoForwarded t = EachForwardedIn (λ _. ⊥) t.regions
 
 -- an object starts at the address
 pub record HasObject (t : Table) (x : ℕ) : Type 0 where
@@ -120,12 +151,12 @@ pub record HasObject (t : Table) (x : ℕ) : Type 0 where
 
 -- the new place of each moved object is the start of an object
 abbrev pub HasTargets : Table → Type 0
-HasTargets t = EachMovedIn (HasObject t) t.regions
+HasTargets t = EachForwardedIn (HasObject t) t.regions
 
 -- an object's words
 abbrev pub stored_size : Option Stored → ℕ
 stored_size None = 0
-stored_size (Some s) = tile_size (Live s)
+stored_size (Some s) = tile_size (Object s)
 
 -- how many words the object at an address has, 0 where there is none
 unfoldable pub object_words : Table → ℕ → ℕ
@@ -182,6 +213,10 @@ is_free (Rest n) = false
 abbrev pub first_free : Table → Option ℕ
 first_free t = position is_free t.regions
 
+-- how many regions are free
+abbrev pub free_count : Table → ℕ
+free_count t = count_by is_free t.regions
+
 -- the table with another region in place of region k
 abbrev pub with_region : Table → ℕ → Region → Table
 with_region t k r = record { words_per_region = t.words_per_region; regions = slice_set t.regions k r }
@@ -195,16 +230,22 @@ taken t (Some k) = with_region t k (Ordinary [])
 abbrev pub region_used : ℕ → Region → ℕ
 region_used size Free = 0
 region_used size (Ordinary ts) = total_size ts
+<<<<<<< HEAD
 region_used size (First s) = min size (2 + length s.pointers + length s.weaks + length s.values)
+||||||| 3906014
+region_used size (First s) = min size (2 + length s.pointers + length s.values)
+=======
+region_used size (First s) = min size (tile_size (Object s))
+>>>>>>> main
 region_used size (Rest n) = n
 
 -- region k, free past the end
-unfoldable pub region_number : Table → ℕ → Region
-region_number t k = slice_index_or t.regions k Free
+unfoldable pub nth_region : Table → ℕ → Region
+nth_region t k = slice_index_or t.regions k Free
 
 -- how many words of region k are handed out
 unfoldable pub used_of : Table → ℕ → ℕ
-used_of t k = region_used t.words_per_region (region_number t k)
+used_of t k = region_used t.words_per_region (nth_region t k)
 
 -- one more tile at the region's top
 abbrev pub region_with_tile : Region → Tile → Region
@@ -215,7 +256,7 @@ region_with_tile (Rest n) t = Rest n
 
 -- the table with one more tile at the top of region k
 unfoldable pub push_tile : Table → ℕ → Tile → Table
-push_tile t k tile = with_region t k (region_with_tile (region_number t k) tile)
+push_tile t k tile = with_region t k (region_with_tile (nth_region t k) tile)
 
 -- an object just made, with p nil pointers, so many nil weak slots and d zeros
 abbrev pub new_object : ℕ → ℕ → ℕ → ℕ → Stored
@@ -230,7 +271,11 @@ region_kind (Rest n) = kinds.Rest
 
 -- what region k is
 unfoldable pub kind_of : Table → ℕ → Kind
-kind_of t k = region_kind (region_number t k)
+kind_of t k = region_kind (nth_region t k)
+
+-- each object in an ordinary region has at most half of the region's words
+abbrev pub AreHalves : Table → Type 0
+AreHalves t = (a : ℕ) (object : Stored) → object_at t a ≡ Some object → kind_of t (a / t.words_per_region) ≡ kinds.Ordinary → 2 * tile_size (Object object) ≤ t.words_per_region
 
 -- so many free regions of so many words
 unfoldable pub free_table : ℕ → ℕ → Table
@@ -248,9 +293,9 @@ unfoldable pub replace_tile : Table → ℕ → List Tile → Table
 replace_tile t a new = with_region t (a / t.words_per_region) (region_replaced (region_at t a) (a % t.words_per_region) new)
 
 -- a filler, unless it has no words
-abbrev pub gap : ℕ → List Tile
-gap zero = []
-gap (suc n) = Gap (suc n) ∷ []
+abbrev pub remainder : ℕ → List Tile
+remainder zero = []
+remainder (suc n) = Filler (suc n) ∷ []
 
 -- how many elements pass before the first that doesn't
 abbrev pub front_count : {A : Type 0} → (A → Bool) → List A → ℕ
@@ -275,7 +320,7 @@ rests size s i (suc m) = Rest (min size (s - i * size)) ∷ rests size s (suc i)
 -- the regions of a humongous object, m of them
 abbrev pub run_regions : ℕ → Stored → ℕ → List Region
 run_regions size s zero = []
-run_regions size s (suc m) = First s ∷ rests size (tile_size (Live s)) 1 m
+run_regions size s (suc m) = First s ∷ rests size (tile_size (Object s)) 1 m
 
 -- m regions from k on give way to others
 abbrev pub with_regions : Table → ℕ → ℕ → List Region → Table
@@ -316,7 +361,7 @@ released_as (Rest n) t k = t
 
 -- the table once region k is released, and with a run's first all regions of the run
 unfoldable pub released : Table → ℕ → Table
-released t k = released_as (region_number t k) t k
+released t k = released_as (nth_region t k) t k
 
 -- the address behind the words of a region that are handed out
 abbrev pub top_of : Table → ℕ → ℕ
@@ -324,11 +369,11 @@ top_of t k = k * t.words_per_region + used_of t k
 
 -- where a moved tile went
 abbrev pub moved_to : Option Tile → Option ℕ
-moved_to (Some (Live s)) = None
-moved_to (Some (Gap n)) = None
-moved_to (Some (Moved to n)) = Some to
+moved_to (Some (Object s)) = None
+moved_to (Some (Filler n)) = None
+moved_to (Some (Forwarded to n)) = Some to
 moved_to None = None
 
 -- each moved tile's new place is the start of an object, which has the tile's size
 abbrev pub AreTargetsRight : Table → Type 0
-AreTargetsRight t = (x to n : ℕ) → tile_in t x ≡ Some (Moved to n) → HasObject t to × (object_words t to ≡ n)
+AreTargetsRight t = (x to n : ℕ) → tile_in t x ≡ Some (Forwarded to n) → HasObject t to × (object_words t to ≡ n)

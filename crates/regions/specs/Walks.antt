@@ -1,9 +1,15 @@
 -- A walk over a region's tiles.
+<<<<<<< HEAD
 use Rattle.std.specs.Prelude.{◌≡◌, ℕ, zero, suc, ◌+◌, ◌-◌, ◌*◌, ◌/◌, ◌<◌, ◌≤◌, ◌⊎◌, List, [], ◌∷◌, Option, Some, None, length}
+||||||| 3906014
+use Rattle.std.specs.Prelude.{◌≡◌, ℕ, zero, suc, ◌+◌, ◌-◌, ◌*◌, ◌<◌, ◌≤◌, ◌⊎◌, List, [], ◌∷◌, Some, length}
+=======
+use Rattle.std.specs.Prelude.{◌≡◌, ℕ, zero, suc, ◌+◌, ◌-◌, ◌*◌, ◌/◌, ◌<◌, ◌≤◌, ◌⊎◌, List, [], ◌∷◌, Some, IsSome, length}
+>>>>>>> main
 use Rattle.regions.specs.declared.row.Shape.{Shape}
 use Rattle.regions.specs.Shapes.{tile_shape}
-use Rattle.regions.specs.Tiles.{Tile, Live, tile_size, total_size, tile_at}
-use Rattle.regions.specs.Table.{Region, Free, Ordinary, First, Rest, Table, region_number, kind_of, tile_in}
+use Rattle.regions.specs.Tiles.{Tile, Object, tile_size, total_size, tile_at}
+use Rattle.regions.specs.Table.{Region, Free, Ordinary, First, Rest, Table, nth_region, kind_of, tile_in}
 use Rattle.regions.specs.declared.row.Kind.TheVariants as kinds
 use Rattle.heap_words.specs.declared.addr.Addr.{Addr}
 
@@ -11,12 +17,12 @@ use Rattle.heap_words.specs.declared.addr.Addr.{Addr}
 abbrev pub region_tiles : Region → List Tile
 region_tiles Free = []
 region_tiles (Ordinary ts) = ts
-region_tiles (First s) = Live s ∷ []
+region_tiles (First s) = Object s ∷ []
 region_tiles (Rest n) = []
 
 -- the tiles of region k
 unfoldable pub tiles_of : Table → ℕ → List Tile
-tiles_of t k = region_tiles (region_number t k)
+tiles_of t k = region_tiles (nth_region t k)
 
 -- the tiles with their addresses
 abbrev pub placed : ℕ → List Tile → List (Addr × Shape)
@@ -98,6 +104,7 @@ pub record IsRunStart (t : Table) (region first : ℕ) : Type 0 where
   pub below : first ≤ region
   pub rest : (k : ℕ) → first < k → k ≤ region → kind_of t k ≡ kinds.Rest
   pub start : kind_of t first ≡ kinds.Rest → first ≡ 0
+<<<<<<< HEAD
 
 -- a tile starts at an address of region k
 pub record StartsIn (t : Table) (k a : ℕ) : Type 0 where
@@ -114,3 +121,17 @@ IsLowest t k (Some a) = StartsIn t k a × ((b : ℕ) → StartsIn t k b → a �
 abbrev pub IsNextAfter : Table → ℕ → ℕ → Option ℕ → Type 0
 IsNextAfter t k a None = (b : ℕ) → StartsIn t k b → b ≤ a
 IsNextAfter t k a (Some n) = StartsIn t k n × (a < n) × ((b : ℕ) → StartsIn t k b → a < b → n ≤ b)
+||||||| 3906014
+=======
+
+-- the tile behind the one at an address
+pub record IsNext (t : Table) (at next : ℕ) : Type 0 where
+  pub tile : IsSome (tile_in t next)
+  pub above : at < next
+  pub region : next / t.words_per_region ≡ at / t.words_per_region
+  pub between : (b : ℕ) (u : Tile) → at < b → b < next → tile_in t b ≡ Some u → ⊥
+
+-- none of the region's tiles stands behind the one at an address
+abbrev pub IsLast : Table → ℕ → Type 0
+IsLast t at = (b : ℕ) (u : Tile) → at < b → b / t.words_per_region ≡ at / t.words_per_region → tile_in t b ≡ Some u → ⊥
+>>>>>>> main

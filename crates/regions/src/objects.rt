@@ -1,8 +1,18 @@
 //! Reads and writes of objects: each is one access to a word or two, and no walk.
 ghost use Rattle.std.specs.Prelude.{◌≡◌, ◌<◌, length, slice_get, Some, IsSome, IfSome};
+<<<<<<< HEAD
 ghost use Rattle.heap_words.specs.Contents.{header_at, pointer_count_at, field_count_at};
 ghost use Rattle.regions.specs.Table.{object_at, object_words, pointers_at, weaks_at, fields_at, values_at, set_pointer, set_weak, set_field, set_value, tile_in, moved_to};
 ghost use Rattle.regions.specs.Rows.{header_target, weak_count, value_count};
+||||||| 3906014
+ghost use Rattle.heap_words.specs.Contents.{header_at, pointer_count_at};
+ghost use Rattle.regions.specs.Table.{object_at, object_words, pointers_at, values_at, set_pointer, set_value, tile_in, moved_to};
+ghost use Rattle.regions.specs.Rows.{header_target, value_count};
+=======
+ghost use Rattle.heap_words.specs.Contents.{header_at, pointer_count_at};
+ghost use Rattle.regions.specs.Table.{object_at, object_words, pointers_at, fields_at, values_at, set_pointer, set_field, set_value, tile_in, moved_to};
+ghost use Rattle.regions.specs.Rows.{header_target, value_count};
+>>>>>>> main
 
 use crate::table::{RegionTable, size_at};
 use heap_words::addr::{Addr, Ptr};
@@ -84,6 +94,7 @@ impl RegionTable {
         pointers_in(&self.words, object)
     }
 
+<<<<<<< HEAD
     /// How many weak slots the object at an address has.
     pub fn weak_count(&self, object: Addr) -> u32
         requires { IsSome (object_at self.now object) }
@@ -100,6 +111,17 @@ impl RegionTable {
         fields_in(&self.words, object)
     }
 
+||||||| 3906014
+=======
+    /// How many fields the object at an address has, fields being what holds addresses.
+    pub fn field_count(&self, object: Addr) -> u32
+        requires { IsSome (object_at self.now object) }
+        ensures { result ≡ length (fields_at self.now object) }
+    {
+        self.pointer_count(object)
+    }
+
+>>>>>>> main
     /// How many data words the object at an address has.
     pub fn value_count(&self, object: Addr) -> u32
         requires { IsSome (object_at self.now object) }
@@ -166,20 +188,36 @@ impl RegionTable {
         self.words.set_field(object, field, target);
     }
 
+    /// A field of the object at an address, by its place among the fields in address order.
+    pub fn get_field(&self, object: Addr, field: u32) -> Ptr
+        requires { field < length (fields_at self.now object) }
+        ensures { slice_get (fields_at self.now object) field ≡ Some result }
+    {
+        self.get_ptr(object, field)
+    }
+
+    /// Stores an address, or nil, in a field of the object at an address.
+    pub fn set_field(&mut self, object: Addr, field: u32, target: Ptr)
+        requires { field < length (fields_at self.old object) }
+        ensures { self.new ≡ set_field self.old object field target }
+    {
+        self.set_ptr(object, field, target);
+    }
+
     /// A data word of the object at an address.
-    pub fn get_data(&self, object: Addr, field: u32) -> u64
+    pub fn get_value(&self, object: Addr, field: u32) -> u64
         requires { field < length (values_at self.now object) }
         ensures { slice_get (values_at self.now object) field ≡ Some result }
     {
-        self.words.get_data(object, field)
+        self.words.get_value(object, field)
     }
 
     /// Stores a data word in the object at an address.
-    pub fn set_data(&mut self, object: Addr, field: u32, value: u64)
+    pub fn set_value(&mut self, object: Addr, field: u32, value: u64)
         requires { field < length (values_at self.old object) }
         ensures { self.new ≡ set_value self.old object field value }
     {
-        self.words.set_data(object, field, value);
+        self.words.set_value(object, field, value);
     }
 
     /// Where the tile at an address went, if it is an object that was forwarded.

@@ -41,10 +41,16 @@ pub enum Shape {
         size: u32,
     },
     /// An object that went to an address.
+<<<<<<< HEAD
     Moved {
         to: Addr,
         size: u32,
     },
+||||||| 3906014
+    Moved { to: Addr, size: u32 },
+=======
+    Forwarded { to: Addr, size: u32 },
+>>>>>>> main
 }
 
 impl Shape {
@@ -59,7 +65,7 @@ impl Shape {
                 values,
             } => 2 + pointers.get() + u32::from(weaks) + values.get(),
             Shape::Filler { size } => size,
-            Shape::Moved { size, .. } => size,
+            Shape::Forwarded { size, .. } => size,
         }
     }
 }

@@ -1,21 +1,25 @@
 //! Runs: adjacent regions that hold one humongous object.
 ghost use Rattle.std.specs.Prelude.{◌≡◌, ◌+◌, ◌*◌, ◌<◌, ◌≤◌, ◌^◌, length, Some};
+ghost use Rattle.heap_words.specs.Sizes.{size_of};
 ghost use lib.Seq.{paste};
-ghost use Rattle.regions.specs.Table.{first_run, is_free as region_is_free, new_object, run_regions, with_regions, with_run};
-ghost use Rattle.regions.specs.Rows.{kind_is_free, run_rows};
+ghost use Rattle.regions.specs.Table.{first_run, is_free as region_is_free, new_object, run_length, run_regions, with_regions, with_run};
+ghost use Rattle.regions.specs.Rows.{kind_is_free, run_rows, AreUsedBelow};
+ghost use Rattle.heap_words.specs.Configs.{max_words};
 
 use crate::row::{Kind, Row, is_free};
 use crate::table::RegionTable;
+use crate::updates::rests_from;
 use heap_words::addr::{Addr, RegionNo};
 use heap_words::header::Counts;
 
-/// The lowest place from which `count` rows are free.
-fn lowest_run(rows: &[Row], count: usize) -> Option<usize>
-    requires { 0 < count }
+/// The lowest place from which `count` rows are free, where no row below `from` is.
+fn lowest_run(rows: &[Row], count: usize, from: usize) -> Option<usize>
+    requires some { 0 < count }
+    requires used { AreUsedBelow from rows.now }
     ensures { result ≡ first_run (λ row. kind_is_free row.kind) count rows.now }
 {
-    let mut start = 0;
-    for i in 0..rows.len() {
+    let mut start = from;
+    for i in from..rows.len() {
         if is_free(&rows[i]) {
             if i + 1 - start == count {
                 return Some(start);
@@ -30,7 +34,7 @@ fn lowest_run(rows: &[Row], count: usize) -> Option<usize>
 /// Writes the rows of a humongous object of `words` words, in regions of `size` words.
 fn write_run(rows: &mut [Row], at: usize, count: u32, size: u32, words: u32)
     requires within { at + count ≤ length rows.old }
-    requires small { count * size ≤ 2 ^ 20 }
+    requires small { count * size ≤ max_words }
     ensures { rows.new ≡ paste rows.old at (run_rows size words 0 count) count }
 {
     for i in 0..count {
@@ -49,8 +53,16 @@ impl RegionTable {
         requires { 0 < count }
         ensures { result ≡ first_run region_is_free count self.now.regions }
     {
-        let at = lowest_run(&self.rows, count as usize)?;
+        let at = lowest_run(&self.rows, count as usize, self.lowest)?;
         Some(RegionNo::new(at as u32))
+    }
+
+    /// How many regions from one on belong together: those of the run that begins there, or that region alone.
+    pub fn run_length(&self, region: RegionNo) -> u32
+        requires { region < length self.now.regions }
+        ensures { result ≡ run_length self.now region }
+    {
+        1 + rests_from(&self.rows, region.number() as usize + 1) as u32
     }
 
     /// Makes a humongous object at the bottom of the run of `count` free regions that `free_run` found.
@@ -58,13 +70,24 @@ impl RegionTable {
     pub fn make_run(&mut self, first: RegionNo, count: u32, name: u64, counts: Counts)
         requires positive { 0 < count }
         requires lowest { first_run region_is_free count self.old.regions ≡ Some first }
+<<<<<<< HEAD
         requires covers { 2 + counts.pointers + counts.weaks + counts.values ≤ count * self.old.words_per_region }
         requires tight { count * self.old.words_per_region < 2 + counts.pointers + counts.weaks + counts.values + self.old.words_per_region }
         ensures { self.new ≡ with_regions self.old first count (run_regions self.old.words_per_region (new_object name counts.pointers counts.weaks counts.values) count) }
+||||||| 3906014
+        requires covers { 2 + counts.pointers + counts.values ≤ count * self.old.words_per_region }
+        requires tight { count * self.old.words_per_region < 2 + counts.pointers + counts.values + self.old.words_per_region }
+        ensures { self.new ≡ with_regions self.old first count (run_regions self.old.words_per_region (new_object name counts.pointers counts.values) count) }
+=======
+        requires covers { size_of counts.pointers counts.values ≤ count * self.old.words_per_region }
+        requires tight { count * self.old.words_per_region < size_of counts.pointers counts.values + self.old.words_per_region }
+        ensures { self.new ≡ with_regions self.old first count (run_regions self.old.words_per_region (new_object name counts.pointers counts.values) count) }
+>>>>>>> main
     {
         let size = 2 + counts.pointers.get() + u32::from(counts.weaks) + counts.values.get();
         let bottom = first.number() * self.words_per_region;
         self.words.write_object(Addr::new(bottom), name, counts);
+        self.first_tiles.put_object(bottom, size);
         let at = first.number() as usize;
         write_run(&mut self.rows, at, count, self.words_per_region, size);
     }
@@ -73,8 +96,16 @@ impl RegionTable {
     /// none where there is no such run, and then nothing changed.
     pub fn take_run(&mut self, count: u32, name: u64, counts: Counts) -> Option<RegionNo>
         requires positive { 0 < count }
+<<<<<<< HEAD
         requires covers { 2 + counts.pointers + counts.weaks + counts.values ≤ count * self.old.words_per_region }
         requires tight { count * self.old.words_per_region < 2 + counts.pointers + counts.weaks + counts.values + self.old.words_per_region }
+||||||| 3906014
+        requires covers { 2 + counts.pointers + counts.values ≤ count * self.old.words_per_region }
+        requires tight { count * self.old.words_per_region < 2 + counts.pointers + counts.values + self.old.words_per_region }
+=======
+        requires covers { size_of counts.pointers counts.values ≤ count * self.old.words_per_region }
+        requires tight { count * self.old.words_per_region < size_of counts.pointers counts.values + self.old.words_per_region }
+>>>>>>> main
         ensures lowest { result ≡ first_run region_is_free count self.old.regions }
         ensures taken { self.new ≡ with_run self.old count (new_object name counts.pointers counts.weaks counts.values) (first_run region_is_free count self.old.regions) }
     {

@@ -1,13 +1,14 @@
 //! The table: making it, and what is asked of its regions.
-ghost use Rattle.std.specs.Prelude.{◌≡◌, ◌+◌, ◌<◌, length, nat_le, IsOk, IfOk, IfErr, IsSome, IfSome};
+ghost use Rattle.std.specs.Prelude.{◌≡◌, ◌+◌, ◌/◌, ◌<◌, length, nat_le, IsOk, IfOk, IfErr, IsSome, IfSome};
 ghost use Rattle.heap_words.specs.Configs.{Suits, IsNewFault};
 ghost use Rattle.heap_words.specs.Contents.{header_at};
-ghost use Rattle.regions.specs.Table.{free_table, HasNoMoved, kind_of, used_of, top_of, tile_in};
+ghost use Rattle.regions.specs.Table.{free_count, free_table, is_free, nth_region, HasNoForwarded, kind_of, used_of, top_of, tile_in};
 ghost use Rattle.regions.specs.Rows.{sizes_in, IsBelow, header_target};
 ghost use Rattle.regions.specs.Shapes.{tile_shape, shape_by};
 ghost use Rattle.regions.specs.Shaped.{IsShaped};
 ghost use Rattle.regions.specs.declared.row.Kind.TheVariants as kinds;
 
+use crate::first_tiles::FirstTiles;
 use crate::row::{Kind, Row, Shape, free_rows};
 use heap_words::addr::{Addr, RegionNo};
 use heap_words::config::{Config, NewFault};
@@ -22,6 +23,12 @@ pub struct RegionTable {
     pub(crate) words: Words,
     pub(crate) rows: Vec<Row>,
     pub(crate) words_per_region: u32,
+    /// The exponent of the words of a region, which are a power of two: so a region is found by a shift.
+    pub(crate) shift: u32,
+    /// No region below this one is free: so a search for a free one begins here.
+    pub(crate) lowest: usize,
+    /// Where the tile of each card's first word starts.
+    pub(crate) first_tiles: FirstTiles,
 }
 
 impl Model for RegionTable {
@@ -29,11 +36,11 @@ impl Model for RegionTable {
 
     ghost Value = { Table };
 
-    ghost use Rattle.regions.specs.Rows.{table_of, IsTable};
+    ghost use Rattle.regions.specs.Rows.{table_of, IsSound};
 
     ghost view = { λ a. table_of a.words_per_region a.words a.rows.items };
 
-    ghost invariant = { λ a. IsTable a.words_per_region a.words a.rows.items };
+    ghost invariant = { λ a. IsSound a.words_per_region a.shift a.lowest a.first_tiles a.words a.rows.items };
 }
 
 /// The size of the object at an address, 1 where there is none.
@@ -68,7 +75,7 @@ pub(crate) fn shape_at(words: &Words, at: Addr) -> Shape
                 values: data,
             },
             Header::Filler { size } => Shape::Filler { size: size.get() },
-            Header::Forwarded { to } => Shape::Moved {
+            Header::Forwarded { to } => Shape::Forwarded {
                 to,
                 size: size_at(words, to),
             },
@@ -84,7 +91,7 @@ impl RegionTable {
         ensures suits { IsOk result → Suits config.now }
         ensures made { IfOk result (λ t. t ≡ free_table config.now.regions config.now.words) }
         ensures fault { IfErr result (IsNewFault config.now) }
-        ensures unmoved { IfOk result HasNoMoved }
+        ensures unmoved { IfOk result HasNoForwarded }
     {
         config.check()?;
         let count = config.regions as usize * config.words as usize;
@@ -94,10 +101,16 @@ impl RegionTable {
         let Ok(rows) = free_rows(alloc, config.regions as usize) else {
             return Err(NewFault::NoMemory);
         };
+        let Ok(first_tiles) = FirstTiles::new(alloc, count as u32, config.card_words()) else {
+            return Err(NewFault::NoMemory);
+        };
         Ok(RegionTable {
             words,
             rows,
             words_per_region: config.words,
+            shift: config.words.ilog2(),
+            lowest: 0,
+            first_tiles,
         })
     }
 
@@ -115,6 +128,13 @@ impl RegionTable {
         self.words_per_region
     }
 
+    /// The region of an address.
+    pub fn region_of(&self, at: Addr) -> RegionNo
+        ensures { result ≡ at / self.now.words_per_region }
+    {
+        RegionNo::new(at.word() >> self.shift)
+    }
+
     /// How many regions there are.
     pub fn region_count(&self) -> u32
         ensures { result ≡ length self.now.regions }
@@ -128,6 +148,32 @@ impl RegionTable {
         ensures { result ≡ kind_of self.now region }
     {
         self.rows[region.number() as usize].kind
+    }
+
+    /// How many regions are free.
+    pub fn free_count(&self) -> u32
+        ensures { result ≡ free_count self.now }
+    {
+        let mut count = 0;
+        for number in 0..self.region_count() {
+            if self.is_free(RegionNo::new(number)) {
+                count += 1;
+            }
+        }
+        count
+    }
+
+    /// Whether a region is free.
+    fn is_free(&self, region: RegionNo) -> bool
+        requires { region < length self.now.regions }
+        ensures { result ≡ is_free (nth_region self.now region) }
+    {
+        match self.kind(region) {
+            Kind::Free => true,
+            Kind::Ordinary => false,
+            Kind::First => false,
+            Kind::Rest => false,
+        }
     }
 
     /// The address behind the words of a region that are handed out: a free region's bottom, an ordinary one's

@@ -4,7 +4,7 @@ ghost use Rattle.regions.specs.Table.{free_table, object_at, pointers_at, values
 use crate::row::{Kind, Shape};
 use crate::table::RegionTable;
 use heap_words::addr::{Addr, Ptr, RegionNo};
-use heap_words::config::{Config, NewFault};
+use heap_words::config::{Config, Format, NewFault};
 use heap_words::header::{Count, Counts, FillerSize};
 use std::alloc::Global;
 use std::test::Fail;
@@ -28,6 +28,7 @@ fn small_table(alloc: Global) -> Result<RegionTable, NewFault>
     ensures { IfOk result (λ t. t ≡ free_table 4 16) }
 {
     let config = Config {
+        format: Format::V1,
         regions: 4,
         words: 16,
         buffer: 8,
@@ -54,7 +55,7 @@ fn fields(table: &RegionTable, object: Addr) -> (Ptr, u64)
     requires pointers { 0 < length (pointers_at table.now object) }
     requires values { 0 < length (values_at table.now object) }
 {
-    (table.get_ptr(object, 0), table.get_data(object, 0))
+    (table.get_ptr(object, 0), table.get_value(object, 0))
 }
 
 #[test]
@@ -70,6 +71,7 @@ fn makes_what_suits(rt: HostRuntime) {
     ] {
         let (regions, words, buffer, mutators) = sizes;
         let config = Config {
+            format: Format::V1,
             regions,
             words,
             buffer,
@@ -104,7 +106,7 @@ fn fills_a_region(rt: HostRuntime) -> Result<(), Fail> {
     );
     table.make_object(object, FillerSize::new(5), 7, counts(1, 1));
     table.set_ptr(object, 0, Some(rest));
-    table.set_data(object, 0, 9);
+    table.set_value(object, 0, 9);
     assert_eq!(rt; about(&table, object), (7, 1, 1, 4));
     assert_eq!(rt; fields(&table, object), (Some(rest), 9));
     assert!(rt; table.has_room(region, 6));
@@ -125,6 +127,28 @@ fn fills_a_region(rt: HostRuntime) -> Result<(), Fail> {
     Ok(())
 }
 
+/// Free regions are counted, a field names a filler, and the filler is the tile behind the field's object.
+#[test]
+fn steps_over_tiles(rt: HostRuntime) -> Result<(), Fail> {
+    let Ok(mut table) = small_table(rt.alloc()) else {
+        return Err(Fail::from("a table is made"));
+    };
+    let region = RegionNo::new(0);
+    let object = Addr::new(0);
+    let rest = Addr::new(4);
+    assert_eq!(rt; table.free_count(), 4);
+    assert_eq!(rt; table.take_free(), Some(region));
+    assert_eq!(rt; table.free_count(), 3);
+    assert_eq!(rt; table.push_filler(region, FillerSize::new(6)), object);
+    table.make_object(object, FillerSize::new(6), 7, counts(1, 1));
+    table.set_field(object, 0, Some(rest));
+    assert_eq!(rt; table.field_count(object), 1);
+    assert_eq!(rt; table.get_field(object, 0), Some(rest));
+    assert_eq!(rt; table.next_tile(object), Some(rest));
+    assert_eq!(rt; table.next_tile(rest), None);
+    Ok(())
+}
+
 /// An object is copied to another region and forwarded, and its old region released.
 #[test]
 fn moves_an_object(rt: HostRuntime) -> Result<(), Fail> {
@@ -142,7 +166,7 @@ fn moves_an_object(rt: HostRuntime) -> Result<(), Fail> {
     assert_eq!(rt; table.copy_object(object, to), copy);
     table.forward(object, copy);
     assert_eq!(rt; table.target(object), Some(copy));
-    assert_eq!(rt; table.tile(object), Shape::Moved { to: copy, size: 4 });
+    assert_eq!(rt; table.tile(object), Shape::Forwarded { to: copy, size: 4 });
     table.release(from);
     assert_eq!(rt; table.kind(from), Kind::Free);
     assert_eq!(rt; table.top(to), Addr::new(20));
@@ -162,6 +186,7 @@ fn holds_a_run(rt: HostRuntime) -> Result<(), Fail> {
     assert_eq!(rt; table.take_run(2, 8, counts(3, 20)), Some(first));
     assert_eq!(rt; table.kind(first), Kind::First);
     assert_eq!(rt; table.kind(later), Kind::Rest);
+    assert_eq!(rt; table.run_length(first), 2);
     assert_eq!(rt; table.top(first), Addr::new(32));
     assert_eq!(rt; table.top(later), Addr::new(41));
     assert_eq!(rt; table.first_tile(Addr::new(40)), Some(Addr::new(16)));

@@ -1,10 +1,11 @@
 //! Changes of regions and tiles.
 ghost use Rattle.std.specs.Prelude.{◌≡◌, ◌≢◌, ◌+◌, ◌-◌, ◌/◌, ◌<◌, ◌≤◌, ◌^◌, ◌∷◌, [], length, drop, position, replicate, Some, IsSome};
+ghost use Rattle.heap_words.specs.Sizes.{size_of};
 ghost use lib.Seq.{paste};
 ghost use Rattle.heap_model.specs.Heap.{Stored};
-ghost use Rattle.regions.specs.Tiles.{Live, Gap, Moved};
-ghost use Rattle.regions.specs.Table.{first_free, taken, kind_of, used_of, top_of, region_at, IsOrdinary, IsReleasable, released, EachMovedIn, tile_in, object_at, object_words, push_tile, replace_tile, new_object, front_count, gap};
-ghost use Rattle.regions.specs.Rows.{kind_is_free, kind_is_rest, free_row, put_gap};
+ghost use Rattle.regions.specs.Tiles.{Object, Filler, Forwarded};
+ghost use Rattle.regions.specs.Table.{first_free, taken, kind_of, used_of, top_of, region_at, IsOrdinary, IsReleasable, released, EachForwardedIn, tile_in, object_at, object_words, push_tile, replace_tile, new_object, front_count, remainder};
+ghost use Rattle.regions.specs.Rows.{kind_is_free, kind_is_rest, free_row, put_remainder, AreUsedBelow};
 ghost use Rattle.regions.specs.declared.row.Kind.TheVariants as kinds;
 
 use crate::row::{Kind, Row, is_free, is_rest};
@@ -13,14 +14,21 @@ use heap_words::addr::{Addr, RegionNo};
 use heap_words::header::{Counts, FillerSize};
 use heap_words::words::Words;
 
-fn lowest_free(rows: &[Row]) -> Option<usize>
+/// The lowest free row, where none below `from` is free.
+fn lowest_free(rows: &[Row], from: usize) -> Option<usize>
+    requires { AreUsedBelow from rows.now }
     ensures { result ≡ position (λ row. kind_is_free row.kind) rows.now }
 {
-    rows.iter().position(is_free)
+    for i in from..rows.len() {
+        if is_free(&rows[i]) {
+            return Some(i);
+        }
+    }
+    None
 }
 
 /// How many rows from one on are of a run's later regions.
-fn rests_from(rows: &[Row], from: usize) -> usize
+pub(crate) fn rests_from(rows: &[Row], from: usize) -> usize
     requires { from ≤ length rows.now }
     ensures { result ≡ front_count (λ row. kind_is_rest row.kind) (drop from rows.now) }
 {
@@ -46,10 +54,10 @@ fn write_free(rows: &mut [Row], at: usize, count: usize)
 }
 
 /// Writes a filler's header, unless the filler has no words.
-fn write_gap(words: &mut Words, at: u32, size: u32)
+fn write_remainder(words: &mut Words, at: u32, size: u32)
     requires within { at + size ≤ length words.old }
     requires small { size < 2 ^ 24 }
-    ensures { words.new ≡ put_gap words.old at size }
+    ensures { words.new ≡ put_remainder words.old at size }
 {
     if size > 0 {
         words.write_filler(Addr::new(at), FillerSize::new(size));
@@ -62,11 +70,12 @@ impl RegionTable {
         ensures lowest { result ≡ first_free self.old }
         ensures taken { self.new ≡ taken self.old (first_free self.old) }
     {
-        let at = lowest_free(&self.rows)?;
+        let at = lowest_free(&self.rows, self.lowest)?;
         self.rows[at] = Row {
             kind: Kind::Ordinary,
             used: 0,
         };
+        self.lowest = at + 1;
         Some(RegionNo::new(at as u32))
     }
 
@@ -74,12 +83,13 @@ impl RegionTable {
     pub fn release(&mut self, region: RegionNo)
         requires known { region < length self.old.regions }
         requires releasable { IsReleasable (kind_of self.old region) }
-        requires untargeted { EachMovedIn (λ to. region ≢ to / self.old.words_per_region) self.old.regions }
+        requires untargeted { EachForwardedIn (λ to. region ≢ to / self.old.words_per_region) self.old.regions }
         ensures { self.new ≡ released self.old region }
     {
         let at = region.number() as usize;
         let rests = rests_from(&self.rows, at + 1);
         write_free(&mut self.rows, at, rests + 1);
+        self.lowest = self.lowest.min(at);
     }
 
     /// Puts a filler at the top of an ordinary region, and says where it starts.
@@ -88,11 +98,12 @@ impl RegionTable {
         requires ordinary { kind_of self.old region ≡ kinds.Ordinary }
         requires room { used_of self.old region + size ≤ self.old.words_per_region }
         ensures at { result ≡ top_of self.old region }
-        ensures pushed { self.new ≡ push_tile self.old region (Gap size) }
+        ensures pushed { self.new ≡ push_tile self.old region (Filler size) }
     {
         let more = size.get();
         let at = self.top(region);
         self.words.write_filler(at, size);
+        self.first_tiles.put_filler(at.word(), more);
         let number = region.number() as usize;
         let used = self.rows[number].used;
         self.rows[number] = Row {
@@ -105,28 +116,44 @@ impl RegionTable {
     /// Splits a filler of `filler` words: `size` of them stay at its start, and the rest is a filler of its own
     /// or nothing. The result is the address of the rest.
     pub fn split_filler(&mut self, at: Addr, filler: FillerSize, size: FillerSize) -> Addr
-        requires there { tile_in self.old at ≡ Some (Gap filler) }
+        requires there { tile_in self.old at ≡ Some (Filler filler) }
         requires room { size ≤ filler }
         ensures rest { result ≡ at + size }
-        ensures split { self.new ≡ replace_tile self.old at (Gap size ∷ gap (filler - size)) }
+        ensures split { self.new ≡ replace_tile self.old at (Filler size ∷ remainder (filler - size)) }
     {
         let kept = size.get();
         self.words.write_filler(at, size);
         let behind = at.word() + kept;
-        write_gap(&mut self.words, behind, filler.get() - kept);
+        write_remainder(&mut self.words, behind, filler.get() - kept);
+        self.first_tiles.put_filler(at.word(), kept);
+        self.first_tiles
+            .move_filler(behind, at.word() + filler.get());
         Addr::new(behind)
     }
 
     /// Makes an object at the start of a filler of `filler` words: its pointers and weak slots are nil and its data words 0.
     /// The rest is a filler again or nothing.
     pub fn make_object(&mut self, at: Addr, filler: FillerSize, name: u64, counts: Counts)
+<<<<<<< HEAD
         requires there { tile_in self.old at ≡ Some (Gap filler) }
         requires room { 2 + counts.pointers + counts.weaks + counts.values ≤ filler }
         ensures { self.new ≡ replace_tile self.old at (Live (new_object name counts.pointers counts.weaks counts.values) ∷ gap (filler - (2 + counts.pointers + counts.weaks + counts.values))) }
+||||||| 3906014
+        requires there { tile_in self.old at ≡ Some (Gap filler) }
+        requires room { 2 + counts.pointers + counts.values ≤ filler }
+        ensures { self.new ≡ replace_tile self.old at (Live (new_object name counts.pointers counts.values) ∷ gap (filler - (2 + counts.pointers + counts.values))) }
+=======
+        requires there { tile_in self.old at ≡ Some (Filler filler) }
+        requires room { size_of counts.pointers counts.values ≤ filler }
+        ensures { self.new ≡ replace_tile self.old at (Object (new_object name counts.pointers counts.values) ∷ remainder (filler - size_of counts.pointers counts.values)) }
+>>>>>>> main
     {
         let size = 2 + counts.pointers.get() + u32::from(counts.weaks) + counts.values.get();
         self.words.write_object(at, name, counts);
-        write_gap(&mut self.words, at.word() + size, filler.get() - size);
+        write_remainder(&mut self.words, at.word() + size, filler.get() - size);
+        self.first_tiles.put_front(at.word(), size, filler.get());
+        self.first_tiles
+            .move_filler(at.word() + size, at.word() + filler.get());
     }
 
     /// The object at `from` becomes forwarded to its copy at `to`.
@@ -135,8 +162,8 @@ impl RegionTable {
         requires ordinary { IsOrdinary (region_at self.old from) }
         requires copy { object_words self.old to ≡ object_words self.old from }
         requires apart { to ≢ from }
-        requires untargeted { EachMovedIn (λ x. x ≢ from) self.old.regions }
-        ensures { self.new ≡ replace_tile self.old from (Moved to (object_words self.old from) ∷ []) }
+        requires untargeted { EachForwardedIn (λ x. x ≢ from) self.old.regions }
+        ensures { self.new ≡ replace_tile self.old from (Forwarded to (object_words self.old from) ∷ []) }
     {
         self.words.write_forwarded(from, to);
     }
@@ -148,17 +175,18 @@ impl RegionTable {
         requires ordinary { kind_of self.old region ≡ kinds.Ordinary }
         requires room { used_of self.old region + object_words self.old from ≤ self.old.words_per_region }
         ensures at { result ≡ top_of self.old region }
-        ensures pushed { (s : Stored) → object_at self.old from ≡ Some s → self.new ≡ push_tile self.old region (Live s) }
+        ensures pushed { (s : Stored) → object_at self.old from ≡ Some s → self.new ≡ push_tile self.old region (Object s) }
     {
-        let at = self.top(region);
+        let to = self.top(region);
         let size = self.object_size(from);
-        self.words.copy(from, at, size);
+        self.words.copy(from, to, size);
+        self.first_tiles.put_object(to.word(), size);
         let number = region.number() as usize;
         let used = self.rows[number].used;
         self.rows[number] = Row {
             kind: Kind::Ordinary,
             used: used + size,
         };
-        at
+        to
     }
 }

@@ -1,10 +1,16 @@
-//! Walks over a region's tiles, and the tile that holds a word.
-ghost use Rattle.std.specs.Prelude.{◌≡◌, ◌↔◌, ◌+◌, ◌*◌, ◌/◌, ◌%◌, ◌<◌, length, IsSome, IsTrue, IfSome};
+//! Walks over a region's tiles, the tile behind another one, and the tile that holds a word.
+ghost use Rattle.std.specs.Prelude.{◌≡◌, ◌↔◌, ◌+◌, ◌*◌, ◌/◌, ◌%◌, ◌<◌, length, IsSome, IsTrue, IfSome, IfNone};
 ghost use Rattle.std.specs.Iterator.{YieldsFirst, item_count};
 ghost use Rattle.regions.specs.Tiles.{total_size};
 ghost use Rattle.regions.specs.Table.{kind_of, tile_in, top_of};
 ghost use Rattle.regions.specs.declared.row.Kind.TheVariants as kinds;
+<<<<<<< HEAD
 ghost use Rattle.regions.specs.Walks.{tiles_of, placed, walk_rest, IsCut, IsWalk, IsTileBehind, IsHolder, IsRunStart, IsLowest, IsNextAfter};
+||||||| 3906014
+ghost use Rattle.regions.specs.Walks.{tiles_of, placed, walk_rest, IsCut, IsWalk, IsTileBehind, IsHolder, IsRunStart};
+=======
+ghost use Rattle.regions.specs.Walks.{tiles_of, placed, walk_rest, IsCut, IsWalk, IsTileBehind, IsHolder, IsRunStart, IsNext, IsLast};
+>>>>>>> main
 
 use crate::row::{Kind, Shape};
 use crate::table::{RegionTable, shape_at, size_at};
@@ -71,17 +77,17 @@ impl RegionTable {
         ensures { result ≡ walk_rest self.now (at / self.now.words_per_region) (at % self.now.words_per_region) }
     {
         self.law();
-        let words = self.words_per_region();
-        let region = RegionNo::new(at.word() / words);
+        let region = self.region_of(at);
         let end = self.tile_words(region);
         Walk {
             table: self,
             region,
-            offset: at.word() % words,
+            offset: at.word() - region.number() * self.words_per_region(),
             end,
         }
     }
 
+<<<<<<< HEAD
     /// The lowest address of a region at which a tile starts. With `next_tile` it goes over a region whose objects change
     /// meanwhile.
     pub fn lowest_tile(&self, region: RegionNo) -> Option<Addr>
@@ -114,45 +120,50 @@ impl RegionTable {
         }
     }
 
+||||||| 3906014
+=======
+    /// Where the tile behind the one at an address starts, none where that is its region's last, as the one object of a
+    /// run is. With it a region is gone through while its tiles change and more come.
+    pub fn next_tile(&self, at: Addr) -> Option<Addr>
+        requires { IsSome (tile_in self.now at) }
+        ensures next { IfSome result (IsNext self.now at) }
+        ensures last { IfNone result (IsLast self.now at) }
+    {
+        self.law();
+        let region = self.region_of(at);
+        let next = at.word() + self.tile(at).size();
+        match self.kind(region) {
+            Kind::Ordinary => {
+                if next < self.top(region).word() {
+                    Some(Addr::new(next))
+                } else {
+                    None
+                }
+            }
+            Kind::Free | Kind::First | Kind::Rest => None,
+        }
+    }
+
+>>>>>>> main
     /// Where the tile that holds a word starts: in a run its object. None where the word is at or above its
-    /// region's top.
+    /// region's top. It looks at the tiles from the one on that holds the first word of the word's card.
     pub fn first_tile(&self, word: Addr) -> Option<Addr>
         requires { word < length self.now.regions * self.now.words_per_region }
         ensures found { IsSome result ↔ (word < top_of self.now (word / self.now.words_per_region)) }
         ensures holder { IfSome result (λ a. IsHolder self.now a word) }
     {
         self.law();
-        let region = self.run_start(word.word() / self.words_per_region());
-        for (at, shape) in self.walk(RegionNo::new(region)) {
+        if self.top(self.region_of(word)).word() <= word.word() {
+            return None;
+        }
+        let card = self.first_tiles.card_of(word.word());
+        let start = Addr::new(self.first_tiles.start(card));
+        for (at, shape) in self.walk_from(start) {
             if word.word() < at.word() + shape.size() {
                 return Some(at);
             }
         }
         None
-    }
-
-    /// The region at or below this one where a run that reaches it begins.
-    fn run_start(&self, region: u32) -> u32
-        requires { region < length self.now.regions }
-        ensures { IsRunStart self.now region result }
-    {
-        for back in 0..region {
-            if !self.is_later(region - back) {
-                return region - back;
-            }
-        }
-        0
-    }
-
-    /// Whether a region is a later one of a run.
-    fn is_later(&self, region: u32) -> bool
-        requires { region < length self.now.regions }
-        ensures { IsTrue result ↔ (kind_of self.now region ≡ kinds.Rest) }
-    {
-        match self.kind(RegionNo::new(region)) {
-            Kind::Rest => true,
-            Kind::Free | Kind::Ordinary | Kind::First => false,
-        }
     }
 
     /// The tile at an offset of a region, with its address and its size.

@@ -22,10 +22,6 @@ source_marked s region card shaped known h =
 all_sets : (l : List CardSet) (w n : ℕ) → length l ≡ n → 0 < w → All (IsSet n (n * w)) l → AreSets (record { sets = l; cards_per_region = w })
 all_sets l w n e some h = record { some_cards = some; each = subst (λ m. All (IsSet m (m * w)) l) (sym e) h }
 
-pub AreSets-empty : (regions w : ℕ) → 0 < w → AreSets (empty_sets regions w)
-AreSets-empty regions w some =
-    all_sets (replicate regions (empty_set regions)) w regions (length-replicate regions (empty_set regions)) some (All-replicate (IsSet regions (regions * w)) regions (empty_set regions) (IsSet-empty regions (regions * w)))
-
 with_set : (s : Sets) (region : ℕ) (new : CardSet) → AreSets s → IsSet (length s.sets) (card_count s) new → AreSets (record { sets = set s.sets region new; cards_per_region = s.cards_per_region })
 with_set s region new all h =
     all_sets (set s.sets region new) s.cards_per_region (length s.sets) (length-set s.sets region new) all.some_cards (All-set (IsSet (length s.sets) (card_count s)) s.sets region new h all.each)

@@ -6,7 +6,7 @@ use Rattle.remembered_sets.specs.declared.sets.RememberedSets.TheInside.{Inside}
 
 -- what contracts see of the fields
 abbrev pub set_of : SetInside → CardSet
-set_of s = record { inline = s.inline.items; sources = s.sources.items }
+set_of s = record { inline = s.inline.items; sources = s.sources }
 
 abbrev pub sets_of : Inside → Sets
 sets_of s = record { sets = s.sets.items; cards_per_region = s.cards_per_region }

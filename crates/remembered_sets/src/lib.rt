@@ -15,10 +15,11 @@
 //!   clear(1)                      -                            -
 //! ```
 //!
-//! A set has a fixed size: room for sixteen cards, and a mark for each region that may be marked whole. It may cover
+//! A set has a fixed size: room for sixteen cards, and a bit for each region that may be marked whole. It may cover
 //! more than was added, never less, and no call but the making takes memory or fails.
 #![tactic(auto)]
 
+mod flags;
 mod set;
 pub mod sets;
 

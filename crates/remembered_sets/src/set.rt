@@ -1,9 +1,13 @@
 //! The remembered set of one region.
 
-ghost use Rattle.std.specs.Prelude.{◌≡◌, ◌<◌, IfOk, length};
+ghost use Rattle.std.specs.Prelude.{◌≡◌, ◌||◌, ◌<◌, ◌*◌, ◌/◌, ℕ, false, All, IfOk, Some, length, slice_get, slice_index_or};
+ghost use Rattle.heap_words.specs.Bits.{has};
 ghost use Rattle.remembered_sets.specs.Sets.{empty_set, set_covers, set_with};
 
+use crate::flags::{flag_each, flag_sources};
 use heap_words::addr::Card;
+use heap_words::bits::Bits;
+use heap_words::bounded::BoundedBits;
 use smallvec::SmallVec;
 use std::alloc::{AllocError, Global};
 use std::marker::Model;
@@ -15,7 +19,7 @@ pub(crate) const INLINE: usize = 16;
 #[derive(Drop)]
 pub(crate) struct RememberedSet {
     inline: SmallVec<u32, 16>,
-    sources: Vec<bool>,
+    sources: Bits,
 }
 
 impl Model for RememberedSet {
@@ -35,7 +39,7 @@ impl RememberedSet {
     pub(crate) fn new(alloc: Global, regions: u32) -> Result<RememberedSet, AllocError>
         ensures { IfOk result (λ set. set ≡ empty_set regions) }
     {
-        let sources = vec![in alloc; false; regions as usize]?;
+        let sources = Bits::new(alloc, regions)?;
         let inline = SmallVec::new(alloc);
         Ok(RememberedSet { inline, sources })
     }
@@ -45,7 +49,30 @@ impl RememberedSet {
         requires { source < length self.now.sources }
         ensures { result ≡ set_covers self.now card source }
     {
-        self.inline.as_slice().contains(&card.number()) || self.sources[source as usize]
+        self.inline.as_slice().contains(&card.number()) || self.sources.get(source)
+    }
+
+    /// How many cards stand one by one.
+    pub(crate) fn len(&self) -> usize
+        ensures { result ≡ length self.now.inline }
+    {
+        self.inline.len()
+    }
+
+    /// A card of those that stand one by one, in the order in which they came.
+    pub(crate) fn card(&self, place: usize) -> Card
+        requires { place < length self.now.inline }
+        ensures { slice_get self.now.inline place ≡ Some result }
+    {
+        Card::new(self.inline.as_slice()[place])
+    }
+
+    /// Whether all cards of the region `source` are in the set.
+    pub(crate) fn is_whole(&self, source: u32) -> bool
+        requires { source < length self.now.sources }
+        ensures { result ≡ slice_index_or self.now.sources source false }
+    {
+        self.sources.get(source)
     }
 
     /// Adds a card that lies in the region `source`: inline while there is room, else by a mark for its region. A card
@@ -60,8 +87,20 @@ impl RememberedSet {
         if self.inline.len() < INLINE {
             self.inline.push_reserved(card.number());
         } else {
-            self.sources[source as usize] = true;
+            self.sources.set(source);
         }
+    }
+
+    /// Flags the cards that the set covers, and leaves the other flags.
+    pub(crate) fn mark(&self, cards_per_region: u32, flags: &mut BoundedBits)
+        requires some_cards { 0 < cards_per_region }
+        requires known { All (λ c. c < length flags.old) self.now.inline }
+        requires each { length flags.old ≡ length self.now.sources * cards_per_region }
+        ensures flags { (c : ℕ) → has flags.new c ≡ (has flags.old c || set_covers self.now c (c / cards_per_region)) }
+        ensures len { length flags.new ≡ length flags.old }
+    {
+        flag_each(flags, self.inline.as_slice());
+        flag_sources(flags, &self.sources, cards_per_region);
     }
 
     /// The set is empty.
@@ -69,6 +108,6 @@ impl RememberedSet {
         ensures { self.new ≡ empty_set (length self.old.sources) }
     {
         self.inline.clear();
-        self.sources.fill(false);
+        self.sources.clear();
     }
 }

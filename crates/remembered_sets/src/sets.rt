@@ -6,11 +6,13 @@
 //!   sources     -     3            -     -        card c lies in region c / cards_per_region
 //! ```
 
-ghost use Rattle.std.specs.Prelude.{◌≡◌, ◌≢◌, ◌⊎◌, ◌/◌, ◌<◌, All, ℕ, false, true, IfOk, length, List};
+ghost use Rattle.std.specs.Prelude.{◌≡◌, ◌≢◌, ◌⊎◌, ◌||◌, ◌/◌, ◌<◌, All, ℕ, false, true, IfOk, Some, length, slice_get, slice_index_or, List};
+ghost use Rattle.heap_words.specs.Bits.{has};
 ghost use Rattle.remembered_sets.specs.Sets.{added, after_all, card_count, cleared, covers, empty_sets, set_of, Change, AreSets, LeavesSet, Sets};
 
 use crate::set::RememberedSet;
 use heap_words::addr::{Card, RegionNo};
+use heap_words::bounded::BoundedBits;
 use std::alloc::{AllocError, Global};
 use std::marker::Model;
 
@@ -72,6 +74,35 @@ impl RememberedSets {
         set.covers(card, source)
     }
 
+    /// How many cards stand one by one in the region's set.
+    pub fn card_count(&self, region: RegionNo) -> usize
+        requires { region < length self.now.sets }
+        ensures { result ≡ length (set_of self.now region).inline }
+    {
+        let set = &self.sets[region.number() as usize];
+        set.len()
+    }
+
+    /// A card of those that stand one by one in the region's set, in the order in which they came.
+    pub fn card(&self, region: RegionNo, place: usize) -> Card
+        requires region { region < length self.now.sets }
+        requires place { place < length (set_of self.now region).inline }
+        ensures { slice_get (set_of self.now region).inline place ≡ Some result }
+    {
+        let set = &self.sets[region.number() as usize];
+        set.card(place)
+    }
+
+    /// Whether the region's set covers all cards of the region `source` by a mark.
+    pub fn is_whole(&self, region: RegionNo, source: RegionNo) -> bool
+        requires region { region < length self.now.sets }
+        requires source { source < length self.now.sets }
+        ensures { result ≡ slice_index_or (set_of self.now region).sources source false }
+    {
+        let set = &self.sets[region.number() as usize];
+        set.is_whole(source.number())
+    }
+
     /// Adds a card to the region's set. A card that it covers changes nothing.
     pub fn add(&mut self, region: RegionNo, card: Card)
         requires region { region < length self.old.sets }
@@ -82,6 +113,18 @@ impl RememberedSets {
         let source = card.number() / self.cards_per_region;
         let set = &mut self.sets[region.number() as usize];
         set.add(card, source);
+    }
+
+    /// Flags the cards that the region's set covers, and leaves the other flags. It costs the set's own cards and the regions
+    /// that it marks, and for both a look at words that hold 64 flags each.
+    pub fn mark_cards(&self, region: RegionNo, flags: &mut BoundedBits)
+        requires region { region < length self.now.sets }
+        requires each { length flags.old ≡ card_count self.now }
+        ensures flags { (c : ℕ) → has flags.new c ≡ (has flags.old c || covers self.now region c) }
+        ensures len { length flags.new ≡ length flags.old }
+    {
+        let set = &self.sets[region.number() as usize];
+        set.mark(self.cards_per_region, flags);
     }
 
     /// The region's set is empty.

@@ -4,6 +4,7 @@ ghost use Rattle.std.specs.Prelude.{◌≡◌, IfOk, length};
 
 use crate::RememberedSets;
 use heap_words::addr::{Card, RegionNo};
+use heap_words::bounded::BoundedBits;
 use std::alloc::{AllocError, Global};
 use std::test::Fail;
 
@@ -81,5 +82,33 @@ fn keeps_sets_apart(rt: HostRuntime) -> Result<(), Fail> {
     assert!(rt; sets.covers(second, Card::new(5)) && !sets.covers(first, Card::new(5)));
     sets.clear(first);
     assert!(rt; !sets.covers(first, Card::new(2)) && sets.covers(second, Card::new(5)));
+    Ok(())
+}
+
+/// Marking flags what the set covers, inline and by whole regions, beside what was flagged before. Another region's set
+/// flags nothing.
+#[test]
+fn marks_cards(rt: HostRuntime) -> Result<(), Fail> {
+    let mut sets = filled(rt.alloc())?;
+    let region = RegionNo::new(7);
+    let mut flags = BoundedBits::new(rt.alloc(), 128)?;
+    assert!(rt; flags.len() == 128);
+    flags.set(127);
+    assert!(rt; flags.len() == 128);
+    sets.mark_cards(RegionNo::new(6), &mut flags);
+    assert!(rt; flags.len() == 128);
+    for card in 0..128 {
+        assert_eq!(rt; flags.get(card), card == 127, "{card}");
+    }
+    sets.add(region, Card::new(50));
+    sets.mark_cards(region, &mut flags);
+    assert!(rt; flags.len() == 128);
+    for card in 0..128 {
+        assert_eq!(rt;
+            flags.get(card),
+            card % 3 == 0 && card < 48 || card / 16 == 3 || card == 127,
+            "{card}"
+        );
+    }
     Ok(())
 }

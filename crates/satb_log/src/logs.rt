@@ -3,7 +3,7 @@
 //! Over a marking cycle: all logs are empty when marking begins; each mutator's stores fill its own; a full one is
 //! drained within the store that filled it; at the end all are drained.
 
-ghost use Rattle.std.specs.Prelude.{◌≡◌, ◌⊎◌, ℕ, ◌<◌, ◌≤◌, List, [], ◌∷◌, ◌++◌, ◌==◌, Contains, IfOk, length, replicate, slice_set};
+ghost use Rattle.std.specs.Prelude.{◌≡◌, ◌⊎◌, ℕ, ◌<◌, ◌≤◌, List, [], ◌∷◌, ◌++◌, ◌==◌, Contains, IfOk, length, replicate, slice_get, slice_set, Some};
 ghost use Rattle.satb_log.specs.Logs.{log_of, logged};
 
 use crate::log::DeletionLog;
@@ -64,6 +64,16 @@ impl DeletionLogs {
     {
         let log = &self.logs[mutator as usize];
         log.is_full()
+    }
+
+    /// The address at a place of the mutator's log, in the order in which they were logged.
+    pub fn logged(&self, mutator: u32, place: usize) -> Addr
+        requires known { mutator < length self.now }
+        requires place { place < length (log_of self.now mutator) }
+        ensures { slice_get (log_of self.now mutator) place ≡ Some result }
+    {
+        let log = &self.logs[mutator as usize];
+        log.get(place)
     }
 
     /// An address enters the mutator's log at its end. Whether the log is full now.

@@ -29,7 +29,7 @@ val (Some r) = rw (reg r) refl
 -- what is spelled so is read so
 pub action_again : (a : Action) → Fits a → action_of (action_words a) ≡ Some a
 unfolding action_of long_action_of pair_action_of lone_action_of new_of get_of put_of write_of read_of move_of drop_of load_of save_of shape_of
-action_again (actions.New to p d) fits = rw (reg to, num small p (omega arith) fits.0, num small d (omega arith) fits.1) refl
+action_again (actions.New to counts) fits = rw (reg to, num small counts.pointers (omega arith) fits.0, num small counts.values (omega arith) fits.1) refl
 action_again (actions.Get to object i) fits = rw (reg to, reg object, num small i (omega arith) fits) refl
 action_again (actions.Put object i value) fits = rw (reg object, num small i (omega arith) fits, val value) refl
 action_again (actions.Read object j) fits = rw (reg object, num small j (omega arith) fits) refl
@@ -94,13 +94,13 @@ value_of_is word (Some r) e =
 new_is : (verb a b c : List ℕ) (x : Action) → verb ≡ codes "new" → new_of a b c ≡ Some x → ReadFrom verb (a ∷ b ∷ c ∷ []) x
 unfolding new_of
 new_is verb a b c x v e =
-    let p0 = option_bind (register_of a) (λ y0. number_of small b >>= λ y1. number_of small c >>= λ y2. Some (actions.New y0 y1 y2)) x e in
-    let p1 = option_bind (number_of small b) (λ y1. number_of small c >>= λ y2. Some (actions.New p0.0 y1 y2)) x p0.2 in
-    let p2 = option_bind (number_of small c) (λ y2. Some (actions.New p0.0 p1.0 y2)) x p1.2 in
+    let p0 = option_bind (register_of a) (λ y0. number_of small b >>= λ y1. number_of small c >>= λ y2. Some (actions.New y0 (record { pointers = y1; values = y2 }))) x e in
+    let p1 = option_bind (number_of small b) (λ y1. number_of small c >>= λ y2. Some (actions.New p0.0 (record { pointers = y1; values = y2 }))) x p0.2 in
+    let p2 = option_bind (number_of small c) (λ y2. Some (actions.New p0.0 (record { pointers = p1.0; values = y2 }))) x p1.2 in
     let q0 = register_of_is a p0.0 p0.1 in
     let q1 = number_of_is small b p1.0 p1.1 in
     let q2 = number_of_is small c p2.0 p2.1 in
-    subst (λ (done : Action). ReadFrom verb (a ∷ b ∷ c ∷ []) done) (some_is (actions.New p0.0 p1.0 p2.0) x p2.2) (record { words = words4 verb a b c _ _ _ _ v q0 q1.0 q2.0; fits = (q1.1, q2.1) })
+    subst (λ (done : Action). ReadFrom verb (a ∷ b ∷ c ∷ []) done) (some_is (actions.New p0.0 (record { pointers = p1.0; values = p2.0 })) x p2.2) (record { words = words4 verb a b c _ _ _ _ v q0 q1.0 q2.0; fits = (q1.1, q2.1) })
 
 get_is : (verb a b c : List ℕ) (x : Action) → verb ≡ codes "get" → get_of a b c ≡ Some x → ReadFrom verb (a ∷ b ∷ c ∷ []) x
 unfolding get_of

@@ -1,15 +1,17 @@
 -- The collector's steps and heap lines, read from their words.
-use Rattle.std.proofs.Common.{◌≡◌, ℕ, ◌≤◌, true, cond, List, [], ◌∷◌, Some, None, refl, sym, ap, subst, ◌∙◌, inl, inr}
+use Rattle.std.proofs.Common.{◌≡◌, ℕ, ◌≤◌, true, cond, List, [], ◌∷◌, ◌++◌, Some, None, refl, sym, ap, subst, ◌∙◌, inl, inr}
 use Rattle.std.specs.Prelude.{codes}
 use Rattle.std.specs.Fmt.{decimal}
 use Rattle.std.specs.Str.{bytes_eq}
 use Rattle.std.proofs.lemmas.Slice.Eq.{bytes_eq-Decides}
 use Rattle.heap_words.specs.declared.config.Config.{Config}
+use Rattle.heap_words.specs.declared.config.Format.{Format}
+use Rattle.heap_words.specs.declared.config.Format.TheVariants.{V1, V2}
 use Rattle.object_graph.specs.declared.step.CollectorStep.{CollectorStep}
 use Rattle.object_graph.specs.declared.step.CollectorStep.TheVariants as collector
-use Rattle.script_text.specs.Reading.{◌>>=◌, number_of, small, large, collection_of, heap_of}
-use Rattle.script_text.specs.Fits.{CollectionFits, ConfigFits}
-use Rattle.script_text.specs.Spelling.{collection_words, heap_words}
+use Rattle.script_text.specs.Reading.{◌>>=◌, number_of, small, large, collection_of, sizes_in, sizes_of}
+use Rattle.script_text.specs.Fits.{CollectionFits, FormatFits, ConfigFits}
+use Rattle.script_text.specs.Spelling.{collection_words, verb_of, size_words, words_of_card, heap_words}
 use Rattle.script_text.proofs.Numbers.{number_of_is}
 use Rattle.script_text.proofs.Actions.{option_bind, chosen}
 
@@ -72,43 +74,64 @@ pub record AreSizes (words : List (List ℕ)) (c : Config) : Type 0 where
   pub spelled : words ≡ heap_words c
   pub fits : ConfigFits c
 
-sizes : ℕ → ℕ → ℕ → ℕ → ℕ → Config
-sizes n r b m f = record { regions = n; words = r; buffer = b; mutators = m; first_name = f }
+sizes : Format → ℕ → ℕ → ℕ → ℕ → ℕ → Config
+sizes fm n r b m f = record { format = fm; regions = n; words = r; buffer = b; mutators = m; first_name = f }
 
 config_some : (c d : Config) → Some c ≡ Some d → c ≡ d
 config_some c d e = cc
 
-words6 : (a b c d e f w x y z u v : List ℕ) → a ≡ w → b ≡ x → c ≡ y → d ≡ z → e ≡ u → f ≡ v → a ∷ b ∷ c ∷ d ∷ e ∷ f ∷ [] ≡ w ∷ x ∷ y ∷ z ∷ u ∷ v ∷ []
-words6 a b c d e f w x y z u v p q r s t o = cc
+words5 : (b c d e f x y z u v : List ℕ) → b ≡ x → c ≡ y → d ≡ z → e ≡ u → f ≡ v → b ∷ c ∷ d ∷ e ∷ f ∷ [] ≡ x ∷ y ∷ z ∷ u ∷ v ∷ []
+words5 b c d e f x y z u v q r s t o = cc
 
-sized : (verb n r b m f : List ℕ) (vn vr vb vm vf : ℕ) (c : Config) → verb ≡ codes "heap" → (n ≡ decimal vn) × (vn ≤ small) → (r ≡ decimal vr) × (vr ≤ small) → (b ≡ decimal vb) × (vb ≤ small) → (m ≡ decimal vm) × (vm ≤ small) → (f ≡ decimal vf) × (vf ≤ large) → Some (sizes vn vr vb vm vf) ≡ Some c → AreSizes (verb ∷ n ∷ r ∷ b ∷ m ∷ f ∷ []) c
+-- sizes, the words of their numbers, and the format
+record AreSpelled (words : List (List ℕ)) (fm : Format) (c : Config) : Type 0 where
+  spelled : words ≡ size_words c
+  format : c.format ≡ fm
+  regions : c.regions ≤ small
+  size : c.words ≤ small
+  buffer : c.buffer ≤ small
+  mutators : c.mutators ≤ small
+  first_name : c.first_name ≤ large
+
+sized : (fm : Format) (n r b m f : List ℕ) (vn vr vb vm vf : ℕ) (c : Config) → (n ≡ decimal vn) × (vn ≤ small) → (r ≡ decimal vr) × (vr ≤ small) → (b ≡ decimal vb) × (vb ≤ small) → (m ≡ decimal vm) × (vm ≤ small) → (f ≡ decimal vf) × (vf ≤ large) → Some (sizes fm vn vr vb vm vf) ≡ Some c → AreSpelled (n ∷ r ∷ b ∷ m ∷ f ∷ []) fm c
 unfolding sizes
-sized verb n r b m f vn vr vb vm vf c v q0 q1 q2 q3 q4 e =
-    subst (AreSizes (verb ∷ n ∷ r ∷ b ∷ m ∷ f ∷ [])) (config_some (sizes vn vr vb vm vf) c e) (record {
-      spelled = words6 verb n r b m f _ _ _ _ _ _ v q0.0 q1.0 q2.0 q3.0 q4.0;
-      fits = record { regions = q0.1; words = q1.1; buffer = q2.1; mutators = q3.1; first_name = q4.1 };
+sized fm n r b m f vn vr vb vm vf c q0 q1 q2 q3 q4 e =
+    subst (AreSpelled (n ∷ r ∷ b ∷ m ∷ f ∷ []) fm) (config_some (sizes fm vn vr vb vm vf) c e) (record {
+      spelled = words5 n r b m f _ _ _ _ _ q0.0 q1.0 q2.0 q3.0 q4.0;
+      format = refl;
+      regions = q0.1;
+      size = q1.1;
+      buffer = q2.1;
+      mutators = q3.1;
+      first_name = q4.1;
     })
 
-five : (verb n r b m f : List ℕ) (c : Config) → verb ≡ codes "heap" → (number_of small n >>= λ vn. number_of small r >>= λ vr. number_of small b >>= λ vb. number_of small m >>= λ vm. number_of large f >>= λ vf. Some (sizes vn vr vb vm vf)) ≡ Some c → AreSizes (verb ∷ n ∷ r ∷ b ∷ m ∷ f ∷ []) c
-unfolding sizes
-five verb n r b m f c v e =
-    let p0 = option_bind (number_of small n) (λ vn. number_of small r >>= λ vr. number_of small b >>= λ vb. number_of small m >>= λ vm. number_of large f >>= λ vf. Some (sizes vn vr vb vm vf)) c e in
-    let p1 = option_bind (number_of small r) (λ vr. number_of small b >>= λ vb. number_of small m >>= λ vm. number_of large f >>= λ vf. Some (sizes p0.0 vr vb vm vf)) c p0.2 in
-    let p2 = option_bind (number_of small b) (λ vb. number_of small m >>= λ vm. number_of large f >>= λ vf. Some (sizes p0.0 p1.0 vb vm vf)) c p1.2 in
-    let p3 = option_bind (number_of small m) (λ vm. number_of large f >>= λ vf. Some (sizes p0.0 p1.0 p2.0 vm vf)) c p2.2 in
-    let p4 = option_bind (number_of large f) (λ vf. Some (sizes p0.0 p1.0 p2.0 p3.0 vf)) c p3.2 in
+five : (fm : Format) (n r b m f : List ℕ) (c : Config) → sizes_in fm n r b m f ≡ Some c → AreSpelled (n ∷ r ∷ b ∷ m ∷ f ∷ []) fm c
+unfolding sizes sizes_in
+five fm n r b m f c e =
+    let p0 = option_bind (number_of small n) (λ vn. number_of small r >>= λ vr. number_of small b >>= λ vb. number_of small m >>= λ vm. number_of large f >>= λ vf. Some (sizes fm vn vr vb vm vf)) c e in
+    let p1 = option_bind (number_of small r) (λ vr. number_of small b >>= λ vb. number_of small m >>= λ vm. number_of large f >>= λ vf. Some (sizes fm p0.0 vr vb vm vf)) c p0.2 in
+    let p2 = option_bind (number_of small b) (λ vb. number_of small m >>= λ vm. number_of large f >>= λ vf. Some (sizes fm p0.0 p1.0 vb vm vf)) c p1.2 in
+    let p3 = option_bind (number_of small m) (λ vm. number_of large f >>= λ vf. Some (sizes fm p0.0 p1.0 p2.0 vm vf)) c p2.2 in
+    let p4 = option_bind (number_of large f) (λ vf. Some (sizes fm p0.0 p1.0 p2.0 p3.0 vf)) c p3.2 in
     let q0 = number_of_is small n p0.0 p0.1 in
     let q1 = number_of_is small r p1.0 p1.1 in
     let q2 = number_of_is small b p2.0 p2.1 in
     let q3 = number_of_is small m p3.0 p3.1 in
     let q4 = number_of_is large f p4.0 p4.1 in
-    sized verb n r b m f p0.0 p1.0 p2.0 p3.0 p4.0 c v q0 q1 q2 q3 q4 p4.2
+    sized fm n r b m f p0.0 p1.0 p2.0 p3.0 p4.0 c q0 q1 q2 q3 q4 p4.2
+
+lined : (verb : List ℕ) (words : List (List ℕ)) (fm : Format) (c : Config) → verb ≡ verb_of fm → AreSpelled words fm c → verb ∷ words ++ words_of_card fm ≡ heap_words c
+lined verb words fm c v a = rw (v, a.spelled, a.format) refl
+
+fitted : (words : List (List ℕ)) (fm : Format) (c : Config) → AreSpelled words fm c → FormatFits fm → ConfigFits c
+fitted words fm c a fits = record { format = subst FormatFits (sym a.format) fits; regions = a.regions; words = a.size; buffer = a.buffer; mutators = a.mutators; first_name = a.first_name }
 
 no_config : (c : Config) → None ≡ Some c → ⊥
 no_config c e = cc
 
-pub heap_is : (ws : List (List ℕ)) (c : Config) → heap_of ws ≡ Some c → AreSizes ws c
-unfolding heap_of sizes
+pub heap_is : (ws : List (List ℕ)) (c : Config) → sizes_of ws ≡ Some c → AreSizes ws c
+unfolding sizes_of
 heap_is [] c e = absurd cc
 heap_is (verb ∷ []) c e = absurd cc
 heap_is (verb ∷ n ∷ []) c e = absurd cc
@@ -116,8 +139,22 @@ heap_is (verb ∷ n ∷ r ∷ []) c e = absurd cc
 heap_is (verb ∷ n ∷ r ∷ b ∷ []) c e = absurd cc
 heap_is (verb ∷ n ∷ r ∷ b ∷ m ∷ []) c e = absurd cc
 heap_is (verb ∷ n ∷ r ∷ b ∷ m ∷ f ∷ []) c e =
-    elim (chosen (bytes_eq verb (codes "heap")) (number_of small n >>= λ vn. number_of small r >>= λ vr. number_of small b >>= λ vb. number_of small m >>= λ vm. number_of large f >>= λ vf. Some (sizes vn vr vb vm vf)) None c e) [
-      | inl h ↦ five verb n r b m f c ((bytes_eq-Decides verb (codes "heap")).0 h.0) h.1
+    elim (chosen (bytes_eq verb (codes "heap")) (sizes_in V1 n r b m f) None c e) [
+      | inl h ↦
+          let a = five V1 n r b m f c h.1 in
+          record { spelled = lined verb (n ∷ r ∷ b ∷ m ∷ f ∷ []) V1 c ((bytes_eq-Decides verb (codes "heap")).0 h.0) a; fits = fitted (n ∷ r ∷ b ∷ m ∷ f ∷ []) V1 c a tt }
       | inr h ↦ absurd (no_config c h.1)
     ]
-heap_is (verb ∷ n ∷ r ∷ b ∷ m ∷ f ∷ g ∷ ws) c e = absurd cc
+heap_is (verb ∷ n ∷ r ∷ b ∷ m ∷ f ∷ card ∷ []) c e =
+    elim (chosen (bytes_eq verb (codes "heap2")) (number_of small card >>= λ k. sizes_in (V2 k) n r b m f) None c e) [
+      | inl h ↦
+          let p = option_bind (number_of small card) (λ k. sizes_in (V2 k) n r b m f) c h.1 in
+          let q = number_of_is small card p.0 p.1 in
+          let a = five (V2 p.0) n r b m f c p.2 in
+          record {
+            spelled = ap (λ (w : List ℕ). verb ∷ n ∷ r ∷ b ∷ m ∷ f ∷ w ∷ []) q.0 ∙ lined verb (n ∷ r ∷ b ∷ m ∷ f ∷ []) (V2 p.0) c ((bytes_eq-Decides verb (codes "heap2")).0 h.0) a;
+            fits = fitted (n ∷ r ∷ b ∷ m ∷ f ∷ []) (V2 p.0) c a q.1;
+          }
+      | inr h ↦ absurd (no_config c h.1)
+    ]
+heap_is (verb ∷ n ∷ r ∷ b ∷ m ∷ f ∷ g ∷ h ∷ ws) c e = absurd cc

@@ -1,10 +1,9 @@
 -- How many digits a number has, and where they are put.
-use Rattle.std.proofs.Common.{◌≡◌, ℕ, zero, suc, ◌+◌, ◌*◌, ◌/◌, ◌%◌, ◌^◌, ◌<◌, ◌≤◌, List, [], ◌∷◌, ◌++◌, length, take, drop, sym, ap, ◌∙◌, append_assoc, arith, inl, inr}
+use Rattle.std.proofs.Common.{◌≡◌, ℕ, zero, suc, ◌+◌, ◌*◌, ◌/◌, ◌%◌, ◌^◌, ◌<◌, ◌≤◌, List, [], ◌∷◌, ◌++◌, length, take, drop, sym, ap, ◌∙◌, append_assoc, arith}
 use Rattle.std.specs.Fmt.{decimal}
 use Rattle.std.proofs.Math.Nat.{pow-succ'}
 use Rattle.std.proofs.Math.Seq.{take-append_seam}
-use Rattle.std.proofs.lemmas.Bool.{cases_lt}
-use Rattle.std.proofs.lemmas.Fmt.{decimal_step, decimal_nonempty}
+use Rattle.std.proofs.lemmas.Fmt.{decimal_step, decimal_nonempty, length-decimal-le}
 use Rattle.std.proofs.lemmas.List.{length-append, length-take-le, take-append-drop}
 
 ten_power : (k : ℕ) → 0 < 10 ^ k
@@ -22,16 +21,12 @@ more_digits (suc k) n le small =
     let all : length (decimal n) ≡ length (decimal (n / 10)) + 1 = ap length (decimal_step n many small) ∙ length-append (decimal (n / 10)) ((48 + n % 10) ∷ []) in
     omega arith
 
-pub power_le : (a n : ℕ) → a ≤ n → 10 ^ a ≤ 10 ^ n
-power_le a zero le = let none : a ≡ 0 = omega arith in rw none (omega arith)
-power_le a (suc n) le =
-    elim (cases_lt a (suc n)) [
-      | inl lt ↦ (let rest : 10 ^ a ≤ 10 ^ n = power_le a n (omega arith) in let e : 10 ^ suc n ≡ 10 * 10 ^ n = pow-succ' 10 n in omega arith)
-      | inr ge ↦ (let same : a ≡ suc n = omega arith in rw same (omega arith))
-    ]
-
-pub power_next : (b k : ℕ) → b ≡ 10 ^ k → b * 10 ≡ 10 ^ (k + 1)
-power_next b k e = let next : k + 1 ≡ suc k = omega arith in rw next (let power : 10 ^ suc k ≡ 10 * 10 ^ k = pow-succ' 10 k in omega arith)
+-- between two powers of ten
+pub digits_are : (k n : ℕ) → 10 ^ k ≤ n → n < 10 ^ (k + 1) → n < 2 ^ 64 → k + 1 ≡ length (decimal n)
+digits_are k n low high small =
+    let some : k < length (decimal n) = more_digits k n low small in
+    let most : length (decimal n) ≤ k + 1 = length-decimal-le (k + 1) n (omega arith) high small in
+    omega arith
 
 -- what is written behind the first bytes, and nothing before them
 pub put_behind : (old new text : List ℕ) (at start end : ℕ) → at ≤ length old → start + length text ≡ end → end ≡ at + length text → drop start new ≡ text ++ drop end old → take start new ≡ take start old → take end new ≡ take at old ++ text

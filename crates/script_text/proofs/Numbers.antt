@@ -41,9 +41,6 @@ own = numerals_by_value (AllDigits 10) tells_digits
 pub after_more : (n : ℕ) (word : List ℕ) (at : ℕ) → at < length word → digits_value_after 10 n (drop at word) ≡ digits_value_after 10 (n * 10 + digit_value (get_or word at 0)) (drop (at + 1) word)
 after_more n word at lt = let next : at + 1 ≡ suc at = omega arith in rw (next, drop-cons word at 0) refl
 
-pub digits_more : (word : List ℕ) (at : ℕ) → at < length word → digit_value (get_or word at 0) < 10 → AllDigits 10 (drop (at + 1) word) → AllDigits 10 (drop at word)
-digits_more word at lt digit rest = let next : at + 1 ≡ suc at = omega arith in rw (drop-cons word at 0) (digit, rw next at rest)
-
 pub digit_is : (b : ℕ) → 48 ≤ b → b ≤ 57 → digit_value b ≡ b - 48
 digit_is b low high = let e : digit_value b + 48 ≡ b = digit_value_digit b (omega arith, omega arith) in omega arith
 

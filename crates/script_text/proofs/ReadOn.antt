@@ -9,7 +9,7 @@ use Rattle.object_graph.specs.declared.step.Step.{Step}
 use Rattle.script_text.specs.declared.fault.Kind.{Kind}
 use Rattle.script_text.specs.declared.fault.Kind.TheVariants as kinds
 use Rattle.script_text.specs.declared.fault.LineFault.{LineFault}
-use Rattle.script_text.specs.Lines.{◌>>=◌, pieces_of, heap_line_of, step_line_of, steps_of, pieces_script, script_of, FailsBy}
+use Rattle.script_text.specs.Lines.{◌>>=◌, pieces_of, heap_line_of, step_line_of, steps_of, pieces_script, script_of}
 
 abbrev pub fault : ℕ → Kind → LineFault
 fault n k = record { line = n; kind = k }
@@ -34,7 +34,7 @@ cond_some : (t : Bool) (ps qs : List (List ℕ)) → (x : List ℕ) × (xs : Lis
 cond_some true ps qs some = ([], ps, refl)
 cond_some false ps qs some = some
 
-pieces_some : (text : List ℕ) → (x : List ℕ) × (xs : List (List ℕ)) × (pieces_of text ≡ x ∷ xs)
+pub pieces_some : (text : List ℕ) → (x : List ℕ) × (xs : List (List ℕ)) × (pieces_of text ≡ x ∷ xs)
 pieces_some [] = ([], [], refl)
 pieces_some (b ∷ text) = cond_some (b == 10) (slice_split (λ d. d == 10) text) (onto_first b (slice_split (λ d. d == 10) text)) (onto_first_some b (slice_split (λ d. d == 10) text))
 
@@ -100,17 +100,6 @@ pub is_cut : (p : StepList) (n : ℕ) (c : Config) (rest : List ℕ) (total : Re
 unfolding steps_of
 is_cut p n c rest total e some so_far =
     sym so_far ∙ ap (λ (ps : List (List ℕ)). read_on p (steps_of n c ps)) e ∙ rw some refl
-
--- a fault that is no lack of memory is the text's
-pub fault_is : {Y : Type 0} (k : Kind) (n : ℕ) (total : Result Y LineFault) → total ≡ Err (fault n k) → FailsBy k (fault n k) total
-fault_is kinds.NoMemory n total e = tt
-fault_is kinds.Cut n total e = e
-fault_is kinds.LongLine n total e = e
-fault_is kinds.BadHeap n total e = e
-fault_is kinds.BadActor n total e = e
-fault_is kinds.BadStep n total e = e
-fault_is kinds.BadCount n total e = e
-fault_is kinds.BadReply n total e = e
 
 pub read_from : (p : StepList) (c : Config) (r : Result (List Step) LineFault) (total : Result StepList LineFault) → p ≡ begun c → read_on (begun c) r ≡ total → read_on p r ≡ total
 read_from p c r total e h = rw e h

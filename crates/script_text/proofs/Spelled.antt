@@ -17,10 +17,10 @@ use Rattle.script_text.specs.Spelling.{register_word, global_word, value_word, s
 use Rattle.script_text.specs.Lines.{words_of}
 use Rattle.script_text.proofs.Numbers.{register_word_is}
 
--- a word has no space and no line feed, and at most 20 bytes
+-- a word has no space and no line feed, and at most 21 bytes
 pub record IsWord (w : List ℕ) : Type 0 where
   pub clear : All (λ b. 32 < b) w
-  pub short : length w ≤ 20
+  pub short : length w ≤ 21
 
 abbrev pub AreWords : List (List ℕ) → Type 0
 AreWords ws = All IsWord ws
@@ -38,8 +38,8 @@ clear_by [] e = All-nil (λ b. 32 < b)
 clear_by (b ∷ w) e = let parts = both_true (nat_lt 32 b) (is_clear w) e in All-cons (λ b. 32 < b) b w (ltb-true 32 b parts.0) (clear_by w parts.1)
 
 -- a verb
-pub literal : (w : List ℕ) → is_clear w ≡ true → nat_le (length w) 20 ≡ true → IsWord w
-literal w clear short = record { clear = clear_by w clear; short = leb-true (length w) 20 short }
+pub literal : (w : List ℕ) → is_clear w ≡ true → nat_le (length w) 21 ≡ true → IsWord w
+literal w clear short = record { clear = clear_by w clear; short = leb-true (length w) 21 short }
 
 digits_clear : (w : List ℕ) → AllDigits 10 w → All (λ b. 32 < b) w
 digits_clear [] digits = All-nil (λ b. 32 < b)
@@ -48,8 +48,11 @@ digits_clear (b ∷ w) digits = let range = digit_from_value b digits.0 in All-c
 decimal_clear : (n : ℕ) → n < 2 ^ 64 → All (λ b. 32 < b) (decimal n)
 decimal_clear n fits = digits_clear (decimal n) (decimal_is_IsNumeral n fits).0.1
 
+pub number_short : (n : ℕ) → n ≤ large → length (decimal n) ≤ 20
+number_short n fits = length-decimal-le 20 n (omega arith) (omega arith) (omega arith)
+
 pub number_word : (n : ℕ) → n ≤ large → IsWord (decimal n)
-number_word n fits = record { clear = decimal_clear n (omega arith); short = length-decimal-le 20 n (omega arith) (omega arith) (omega arith) }
+number_word n fits = record { clear = decimal_clear n (omega arith); short = omega (arith, number_short n fits) }
 
 pub small_word : (n : ℕ) → n ≤ small → IsWord (decimal n)
 small_word n fits = number_word n (omega arith)
@@ -105,9 +108,9 @@ pub no_feed : (w : List ℕ) (ws : List (List ℕ)) → AreWords (w ∷ ws) → 
 no_feed w ws words = no_byte 31 10 (spaced (w ∷ ws)) (omega arith) (line_above w ws words)
 
 -- a line of n words behind the first
-pub spaced_short : (w : List ℕ) (ws : List (List ℕ)) → AreWords ws → length (spaced (w ∷ ws)) ≤ length w + 21 * length ws
+pub spaced_short : (w : List ℕ) (ws : List (List ℕ)) → AreWords ws → length (spaced (w ∷ ws)) ≤ length w + 22 * length ws
 spaced_short w [] words = omega arith
 spaced_short w (x ∷ ws) words =
-    let first : length x ≤ 20 = (All-head IsWord x ws words).short in
-    let rest : length (spaced (x ∷ ws)) ≤ length x + 21 * length ws = spaced_short x ws (All-tail IsWord x ws words) in
+    let first : length x ≤ 21 = (All-head IsWord x ws words).short in
+    let rest : length (spaced (x ∷ ws)) ≤ length x + 22 * length ws = spaced_short x ws (All-tail IsWord x ws words) in
     omega (arith, length-append w (32 ∷ spaced (x ∷ ws)))

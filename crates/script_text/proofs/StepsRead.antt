@@ -13,10 +13,10 @@ use Rattle.object_graph.specs.declared.step.Step.{Step}
 use Rattle.object_graph.specs.declared.step.Step.TheVariants as steps
 use Rattle.script_text.specs.declared.fault.Kind.{Kind}
 use Rattle.script_text.specs.declared.fault.Kind.TheVariants as kinds
-use Rattle.script_text.specs.Reading.{number_of, small, action_of, collection_of, heap_of}
-use Rattle.script_text.specs.Fits.{StepFits, ConfigFits, is_step_yet}
+use Rattle.script_text.specs.Reading.{number_of, small, action_of, collection_of, sizes_of}
+use Rattle.script_text.specs.Fits.{StepFits, ConfigFits}
 use Rattle.script_text.specs.Spelling.{action_words, collection_words, step_words, heap_words, spaced}
-use Rattle.script_text.specs.Lines.{◌>>=◌, or_fault, words_of, mutator_of, any_step_of, step_of, step_line_of, heap_line_of}
+use Rattle.script_text.specs.Lines.{◌>>=◌, or_fault, words_of, mutator_of, step_of, step_of, step_line_of, heap_line_of}
 use Rattle.script_text.proofs.Numbers.{number_of_is}
 use Rattle.script_text.proofs.Actions.{action_is}
 use Rattle.script_text.proofs.Collections.{collection_is, heap_is}
@@ -26,11 +26,11 @@ pub result_bind : {A B E : Type 0} (r : Result A E) (f : A → Result B E) (y : 
 result_bind (Ok x) f y e = (x, refl, e)
 result_bind (Err d) f y e = absurd cc
 
-or_fault_is : {A : Type 0} (o : Option A) (k : Kind) (x : A) → or_fault o k ≡ Ok x → o ≡ Some x
+pub or_fault_is : {A : Type 0} (o : Option A) (k : Kind) (x : A) → or_fault o k ≡ Ok x → o ≡ Some x
 or_fault_is None k x e = absurd cc
 or_fault_is (Some y) k x e = cc
 
-either : {A E : Type 0} (b : Bool) (x y : Result A E) (z : A) → cond b x y ≡ Ok z → ((b ≡ true) × (x ≡ Ok z)) ⊎ ((b ≡ false) × (y ≡ Ok z))
+pub either : {A E : Type 0} (b : Bool) (x y : Result A E) (z : A) → cond b x y ≡ Ok z → ((b ≡ true) × (x ≡ Ok z)) ⊎ ((b ≡ false) × (y ≡ Ok z))
 either true x y z e = inl (refl, e)
 either false x y z e = inr (refl, e)
 
@@ -45,7 +45,7 @@ step_ok : (s t : Step) → found s ≡ found t → s ≡ t
 step_ok s t e = cc
 
 -- a number of a mutator
-mutator_is : (c : Config) (word : List ℕ) (m : ℕ) → mutator_of c word ≡ Ok m → (word ≡ decimal m) × (m < c.mutators)
+pub mutator_is : (c : Config) (word : List ℕ) (m : ℕ) → mutator_of c word ≡ Ok m → (word ≡ decimal m) × (m < c.mutators)
 unfolding mutator_of
 mutator_is c word m e =
     let read = result_bind (or_fault (number_of small word) kinds.BadActor) (λ n. cond (nat_lt n c.mutators) (Ok n) (Err kinds.BadActor)) m e in
@@ -87,10 +87,10 @@ mutator_read c actor rest s e =
       fits = action.1;
     })
 
-any_step_is : (c : Config) (ws : List (List ℕ)) (s : Step) → any_step_of c ws ≡ Ok s → IsRead c ws s
-unfolding any_step_of
-any_step_is c [] s e = absurd cc
-any_step_is c (actor ∷ rest) s e =
+step_is : (c : Config) (ws : List (List ℕ)) (s : Step) → step_of c ws ≡ Ok s → IsRead c ws s
+unfolding step_of
+step_is c [] s e = absurd cc
+step_is c (actor ∷ rest) s e =
     elim (either (bytes_eq actor (codes "gc")) (or_fault (collection_of rest) kinds.BadStep >>= λ k. Ok (steps.Collector k)) (mutator_of c actor >>= λ m. or_fault (action_of rest) kinds.BadStep >>= λ a. Ok (mutator_step m a)) s e) [
       | inl h ↦ collector_read c actor rest s h.0 h.1
       | inr h ↦ mutator_read c actor rest s h.1
@@ -101,20 +101,16 @@ pub record IsLine (c : Config) (text : List ℕ) (s : Step) : Type 0 where
   pub spelled : text ≡ spaced (step_words s)
   pub owned : IsStep c s
   pub fits : StepFits s
-  pub yet : is_step_yet s ≡ true
 
-joined : (text : List ℕ) (ws : List (List ℕ)) → words_of text ≡ ws → text ≡ spaced ws
+pub joined : (text : List ℕ) (ws : List (List ℕ)) → words_of text ≡ ws → text ≡ spaced ws
 joined text ws e = sym (join_with_byte-slice_split 32 text) ∙ ap spaced e
 
 words_line : (c : Config) (text : List ℕ) (s : Step) → step_of c (words_of text) ≡ Ok s → IsLine c text s
-unfolding step_of
 words_line c text s e =
-    let read = result_bind (any_step_of c (words_of text)) (λ t. cond (is_step_yet t) (Ok t) (Err kinds.BadStep)) s e in
-    let step = any_step_is c (words_of text) read.0 read.1 in
-    let yet = guarded (is_step_yet read.0) read.0 s kinds.BadStep read.2 in
-    subst (IsLine c text) yet.1 (record { spelled = joined text (step_words read.0) step.spelled; owned = step.owned; fits = step.fits; yet = yet.0 })
+    let step = step_is c (words_of text) s e in
+    record { spelled = joined text (step_words s) step.spelled; owned = step.owned; fits = step.fits }
 
-too_long : {A : Type 0} (b : Bool) (k : Kind) (r : Result A Kind) (x : A) → cond b (Err k) r ≡ Ok x → r ≡ Ok x
+pub too_long : {A : Type 0} (b : Bool) (k : Kind) (r : Result A Kind) (x : A) → cond b (Err k) r ≡ Ok x → r ≡ Ok x
 too_long true k r x e = absurd cc
 too_long false k r x e = e
 
@@ -125,5 +121,5 @@ step_line_is c text s e = words_line c text s (too_long (nat_lt 120 (length text
 pub heap_line_is : (text : List ℕ) (c : Config) → heap_line_of text ≡ Ok c → (text ≡ spaced (heap_words c)) × ConfigFits c
 unfolding heap_line_of
 heap_line_is text c e =
-    let sizes = heap_is (words_of text) c (or_fault_is (heap_of (words_of text)) kinds.BadHeap c (too_long (nat_lt 120 (length text)) kinds.LongLine (or_fault (heap_of (words_of text)) kinds.BadHeap) c e)) in
+    let sizes = heap_is (words_of text) c (or_fault_is (sizes_of (words_of text)) kinds.BadHeap c (too_long (nat_lt 120 (length text)) kinds.LongLine (or_fault (sizes_of (words_of text)) kinds.BadHeap) c e)) in
     (joined text (heap_words c) sizes.spelled, sizes.fits)

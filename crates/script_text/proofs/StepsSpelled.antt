@@ -1,13 +1,17 @@
 -- The words of a step, and that the step is read from them.
-use Rattle.std.proofs.Common.{◌≡◌, ℕ, ◌^◌, ◌<◌, ◌≤◌, Bool, true, false, eqb, List, [], ◌∷◌, length, get_or, Option, Some, Ok, refl, ap, ◌∙◌, arith}
+use Rattle.std.proofs.Common.{◌≡◌, ℕ, ◌^◌, ◌+◌, ◌<◌, ◌≤◌, Bool, true, false, eqb, List, [], ◌∷◌, ◌++◌, length, get_or, Option, Some, Ok, refl, ap, ◌∙◌, arith}
 use Rattle.std.specs.Prelude.{codes}
 use Rattle.std.specs.Fmt.{decimal}
 use Rattle.std.specs.Str.{bytes_eq}
 use Rattle.std.proofs.lemmas.Bool.{lt-ltb, le-ltb}
+use Rattle.std.proofs.lemmas.Fmt.{length-decimal-le}
+use Rattle.std.proofs.lemmas.List.{length-append}
 use Rattle.std.proofs.lemmas.Slice.Eq.{bytes_eq-Decides}
 use Rattle.std.specs.List.{All}
-use Rattle.std.proofs.lemmas.List.Elements.{All-cons}
+use Rattle.std.proofs.lemmas.List.Elements.{All-nil, All-cons, All-append}
 use Rattle.heap_words.specs.declared.config.Config.{Config}
+use Rattle.heap_words.specs.declared.config.Format.{Format}
+use Rattle.heap_words.specs.declared.config.Format.TheVariants.{V1, V2}
 use Rattle.object_graph.specs.Actors.{IsStep}
 use Rattle.object_graph.specs.declared.step.Action.{Action}
 use Rattle.object_graph.specs.declared.step.Action.TheVariants as actions
@@ -16,16 +20,16 @@ use Rattle.object_graph.specs.declared.step.CollectorStep.TheVariants as collect
 use Rattle.object_graph.specs.declared.step.Step.{Step}
 use Rattle.object_graph.specs.declared.step.Step.TheVariants as steps
 use Rattle.script_text.specs.declared.fault.Kind.TheVariants as kinds
-use Rattle.script_text.specs.Reading.{small, large, collection_of, heap_of}
-use Rattle.script_text.specs.Fits.{Fits, CollectionFits, StepFits, ConfigFits, is_step_yet}
-use Rattle.script_text.specs.Spelling.{action_words, collection_words, step_words, heap_words, spaced}
-use Rattle.script_text.specs.Lines.{or_fault, words_of, mutator_of, any_step_of, step_of, step_line_of, heap_line_of}
+use Rattle.script_text.specs.Reading.{small, large, collection_of, sizes_in, sizes_of}
+use Rattle.script_text.specs.Fits.{Fits, CollectionFits, StepFits, FormatFits, ConfigFits}
+use Rattle.script_text.specs.Spelling.{action_words, collection_words, step_words, verb_of, size_words, words_of_card, heap_words, spaced}
+use Rattle.script_text.specs.Lines.{or_fault, words_of, mutator_of, step_of, step_line_of, heap_line_of}
 use Rattle.script_text.proofs.Numbers.{number_of_some, first_is_digit}
 use Rattle.script_text.proofs.Actions.{action_again}
 use Rattle.script_text.proofs.Spelled.{IsWord, AreWords, literal, number_word, small_word, register_is_word, global_is_word, value_is_word, word1, word2, word3, word4, words_again, spaced_short, no_feed}
 
-action_is_words : (a : Action) → Fits a → AreWords (action_words a)
-action_is_words (actions.New to p d) fits = word4 _ _ _ _ (literal (codes "new") refl refl) (register_is_word to) (small_word p fits.0) (small_word d fits.1)
+pub action_is_words : (a : Action) → Fits a → AreWords (action_words a)
+action_is_words (actions.New to counts) fits = word4 _ _ _ _ (literal (codes "new") refl refl) (register_is_word to) (small_word counts.pointers fits.0) (small_word counts.values fits.1)
 action_is_words (actions.Get to object i) fits = word4 _ _ _ _ (literal (codes "get") refl refl) (register_is_word to) (register_is_word object) (small_word i fits)
 action_is_words (actions.Put object i value) fits = word4 _ _ _ _ (literal (codes "put") refl refl) (register_is_word object) (small_word i fits) (value_is_word value)
 action_is_words (actions.Read object j) fits = word3 _ _ _ (literal (codes "read") refl refl) (register_is_word object) (small_word j fits)
@@ -37,7 +41,7 @@ action_is_words (actions.Save to from) fits = word3 _ _ _ (literal (codes "save"
 action_is_words (actions.Shape object) fits = word2 _ _ (literal (codes "shape") refl refl) (register_is_word object)
 
 few_action_words : (a : Action) → length (action_words a) ≤ 4
-few_action_words (actions.New to p d) = omega arith
+few_action_words (actions.New to counts) = omega arith
 few_action_words (actions.Get to object i) = omega arith
 few_action_words (actions.Put object i value) = omega arith
 few_action_words (actions.Read object j) = omega arith
@@ -48,7 +52,7 @@ few_action_words (actions.Load to from) = omega arith
 few_action_words (actions.Save to from) = omega arith
 few_action_words (actions.Shape object) = omega arith
 
-collection_is_words : (k : CollectorStep) → CollectionFits k → AreWords (collection_words k)
+pub collection_is_words : (k : CollectorStep) → CollectionFits k → AreWords (collection_words k)
 collection_is_words collector.Begin fits = word1 _ (literal (codes "begin") refl refl)
 collection_is_words (collector.Mark k) fits = word2 _ _ (literal (codes "mark") refl refl) (small_word k fits)
 collection_is_words collector.Remark fits = word1 _ (literal (codes "remark") refl refl)
@@ -56,7 +60,7 @@ collection_is_words collector.Cleanup fits = word1 _ (literal (codes "cleanup") 
 collection_is_words (collector.Refine k) fits = word2 _ _ (literal (codes "refine") refl refl) (small_word k fits)
 collection_is_words (collector.Pause b) fits = word2 _ _ (literal (codes "pause") refl refl) (small_word b fits)
 
-few_collection_words : (k : CollectorStep) → length (collection_words k) ≤ 4
+pub few_collection_words : (k : CollectorStep) → length (collection_words k) ≤ 4
 few_collection_words collector.Begin = omega arith
 few_collection_words (collector.Mark k) = omega arith
 few_collection_words collector.Remark = omega arith
@@ -64,7 +68,7 @@ few_collection_words collector.Cleanup = omega arith
 few_collection_words (collector.Refine k) = omega arith
 few_collection_words (collector.Pause b) = omega arith
 
-collection_again : (k : CollectorStep) → CollectionFits k → collection_of (collection_words k) ≡ Some k
+pub collection_again : (k : CollectorStep) → CollectionFits k → collection_of (collection_words k) ≡ Some k
 unfolding collection_of
 collection_again collector.Begin fits = refl
 collection_again (collector.Mark k) fits = rw (number_of_some small (decimal k) k (omega arith) refl fits) refl
@@ -78,25 +82,21 @@ false_by true never = absurd (never refl)
 false_by false never = refl
 
 -- a number is no collector
-not_gc : (m : ℕ) → m < 2 ^ 64 → bytes_eq (decimal m) (codes "gc") ≡ false
+pub not_gc : (m : ℕ) → m < 2 ^ 64 → bytes_eq (decimal m) (codes "gc") ≡ false
 not_gc m fits = false_by (bytes_eq (decimal m) (codes "gc")) (λ e.
     let same : decimal m ≡ codes "gc" = (bytes_eq-Decides (decimal m) (codes "gc")).0 e in
     let digit = first_is_digit (decimal m) m fits refl in
     let first : get_or (decimal m) 0 0 ≡ 103 = ap (λ (w : List ℕ). get_or w 0 0) same in
     omega arith)
 
-mutator_again : (c : Config) (m : ℕ) → m < c.mutators → c.mutators ≤ small → mutator_of c (decimal m) ≡ Ok m
+pub mutator_again : (c : Config) (m : ℕ) → m < c.mutators → c.mutators ≤ small → mutator_of c (decimal m) ≡ Ok m
 unfolding mutator_of
 mutator_again c m known fits = rw (number_of_some small (decimal m) m (omega arith) refl (omega arith), lt-ltb m c.mutators known) refl
 
-any_step_again : (c : Config) (s : Step) → c.mutators ≤ small → IsStep c s → StepFits s → any_step_of c (step_words s) ≡ Ok s
-unfolding any_step_of
-any_step_again c (steps.Mutator o) few known fits = rw (not_gc o.mutator (omega arith), mutator_again c o.mutator known few, action_again o.action fits) refl
-any_step_again c (steps.Collector k) few known fits = rw (collection_again k fits) refl
-
-step_again : (c : Config) (s : Step) → c.mutators ≤ small → IsStep c s → StepFits s → is_step_yet s ≡ true → step_of c (step_words s) ≡ Ok s
+step_again : (c : Config) (s : Step) → c.mutators ≤ small → IsStep c s → StepFits s → step_of c (step_words s) ≡ Ok s
 unfolding step_of
-step_again c s few known fits yet = rw (any_step_again c s few known fits, yet) refl
+step_again c (steps.Mutator o) few known fits = rw (not_gc o.mutator (omega arith), mutator_again c o.mutator known few, action_again o.action fits) refl
+step_again c (steps.Collector k) few known fits = rw (collection_again k fits) refl
 
 step_is_words : (c : Config) (s : Step) → c.mutators ≤ small → IsStep c s → StepFits s → AreWords (step_words s)
 step_is_words c (steps.Mutator o) few known fits = All-cons IsWord (decimal o.mutator) (action_words o.action) (small_word o.mutator (omega arith)) (action_is_words o.action fits)
@@ -104,7 +104,7 @@ step_is_words c (steps.Collector k) few known fits = All-cons IsWord (codes "gc"
 
 step_short : (c : Config) (s : Step) → c.mutators ≤ small → IsStep c s → StepFits s → length (spaced (step_words s)) ≤ 120
 step_short c (steps.Mutator o) few known fits =
-    let first : length (decimal o.mutator) ≤ 20 = (small_word o.mutator (omega arith)).short in
+    let first : length (decimal o.mutator) ≤ 21 = (small_word o.mutator (omega arith)).short in
     let all = spaced_short (decimal o.mutator) (action_words o.action) (action_is_words o.action fits) in
     let count = few_action_words o.action in
     omega arith
@@ -118,38 +118,80 @@ step_words_again c (steps.Mutator o) few known fits = words_again (decimal o.mut
 step_words_again c (steps.Collector k) few known fits = words_again (codes "gc") (collection_words k) (step_is_words c (steps.Collector k) few known fits)
 
 -- the line of a step is read as that step
-pub step_line_again : (c : Config) (s : Step) → c.mutators ≤ small → IsStep c s → StepFits s → is_step_yet s ≡ true → step_line_of c (spaced (step_words s)) ≡ Ok s
+pub step_line_again : (c : Config) (s : Step) → c.mutators ≤ small → IsStep c s → StepFits s → step_line_of c (spaced (step_words s)) ≡ Ok s
 unfolding step_line_of
-step_line_again c s few known fits yet =
-    rw (le-ltb 120 (length (spaced (step_words s))) (step_short c s few known fits)) (ap (step_of c) (step_words_again c s few known fits) ∙ step_again c s few known fits yet)
+step_line_again c s few known fits =
+    rw (le-ltb 120 (length (spaced (step_words s))) (step_short c s few known fits)) (ap (step_of c) (step_words_again c s few known fits) ∙ step_again c s few known fits)
 
 -- no line feed stands in the line of a step
 pub step_no_feed : (c : Config) (s : Step) → c.mutators ≤ small → IsStep c s → StepFits s → All (λ b. eqb b 10 ≡ false) (spaced (step_words s))
 step_no_feed c (steps.Mutator o) few known fits = no_feed (decimal o.mutator) (action_words o.action) (step_is_words c (steps.Mutator o) few known fits)
 step_no_feed c (steps.Collector k) few known fits = no_feed (codes "gc") (collection_words k) (step_is_words c (steps.Collector k) few known fits)
 
-heap_sizes : Config → List (List ℕ)
-heap_sizes c = decimal c.regions ∷ decimal c.words ∷ decimal c.buffer ∷ decimal c.mutators ∷ decimal c.first_name ∷ []
-
-sizes_are_words : (c : Config) → ConfigFits c → AreWords (heap_sizes c)
-unfolding heap_sizes
+sizes_are_words : (c : Config) → ConfigFits c → AreWords (size_words c)
 sizes_are_words c fits = All-cons IsWord (decimal c.regions) (decimal c.words ∷ decimal c.buffer ∷ decimal c.mutators ∷ decimal c.first_name ∷ []) (small_word c.regions fits.regions) (word4 _ _ _ _ (small_word c.words fits.words) (small_word c.buffer fits.buffer) (small_word c.mutators fits.mutators) (number_word c.first_name fits.first_name))
 
+card_is_words : (f : Format) → FormatFits f → AreWords (words_of_card f)
+card_is_words V1 fits = All-nil IsWord
+card_is_words (V2 card) fits = All-cons IsWord (decimal card) [] (small_word card fits) (All-nil IsWord)
+
+-- what stands behind the verb
+behind_verb : Config → List (List ℕ)
+behind_verb c = size_words c ++ words_of_card c.format
+
+rest_is_words : (c : Config) → ConfigFits c → AreWords (behind_verb c)
+unfolding behind_verb
+rest_is_words c fits = All-append IsWord (size_words c) (words_of_card c.format) (sizes_are_words c fits) (card_is_words c.format fits.format)
+
+verb_is_word : (f : Format) → IsWord (verb_of f)
+verb_is_word V1 = literal (codes "heap") refl refl
+verb_is_word (V2 card) = literal (codes "heap2") refl refl
+
+verb_short : (f : Format) → length (verb_of f) ≤ 5
+verb_short V1 = omega arith
+verb_short (V2 card) = omega arith
+
 heap_is_words : (c : Config) → ConfigFits c → AreWords (heap_words c)
-unfolding heap_sizes
-heap_is_words c fits = All-cons IsWord (codes "heap") (heap_sizes c) (literal (codes "heap") refl refl) (sizes_are_words c fits)
+unfolding behind_verb
+heap_is_words c fits = All-cons IsWord (verb_of c.format) (behind_verb c) (verb_is_word c.format) (rest_is_words c fits)
 
 pub heap_no_feed : (c : Config) → ConfigFits c → All (λ b. eqb b 10 ≡ false) (spaced (heap_words c))
-unfolding heap_sizes
-heap_no_feed c fits = no_feed (codes "heap") (heap_sizes c) (heap_is_words c fits)
+unfolding behind_verb
+heap_no_feed c fits = no_feed (verb_of c.format) (behind_verb c) (heap_is_words c fits)
+
+-- a number of 32 bits has ten digits at most
+ten_digits : (n : ℕ) → n ≤ small → length (decimal n) ≤ 10
+ten_digits n le = length-decimal-le 10 n (omega arith) (omega arith) (omega arith)
+
+spaced_next : (w x : List ℕ) (ws : List (List ℕ)) → length (spaced (w ∷ x ∷ ws)) ≡ length w + 1 + length (spaced (x ∷ ws))
+spaced_next w x ws = omega (arith, length-append w (32 ∷ spaced (x ∷ ws)))
+
+ending_short : (f : Format) (name : List ℕ) → FormatFits f → length (spaced (name ∷ words_of_card f)) ≤ length name + 11
+ending_short V1 name fits = omega arith
+ending_short (V2 card) name fits = let ten = ten_digits card fits in omega (arith, spaced_next name (decimal card) [])
 
 heap_short : (c : Config) → ConfigFits c → length (spaced (heap_words c)) ≤ 120
-unfolding heap_sizes
-heap_short c fits = let all = spaced_short (codes "heap") (heap_sizes c) (sizes_are_words c fits) in omega arith
+unfolding behind_verb
+heap_short c fits =
+    let verb = verb_short c.format in
+    let regions = ten_digits c.regions fits.regions in
+    let words = ten_digits c.words fits.words in
+    let buffer = ten_digits c.buffer fits.buffer in
+    let mutators = ten_digits c.mutators fits.mutators in
+    let name = (number_word c.first_name fits.first_name).short in
+    let ending = ending_short c.format (decimal c.first_name) fits.format in
+    omega (
+      arith,
+      spaced_next (verb_of c.format) (decimal c.regions) (decimal c.words ∷ decimal c.buffer ∷ decimal c.mutators ∷ decimal c.first_name ∷ words_of_card c.format),
+      spaced_next (decimal c.regions) (decimal c.words) (decimal c.buffer ∷ decimal c.mutators ∷ decimal c.first_name ∷ words_of_card c.format),
+      spaced_next (decimal c.words) (decimal c.buffer) (decimal c.mutators ∷ decimal c.first_name ∷ words_of_card c.format),
+      spaced_next (decimal c.buffer) (decimal c.mutators) (decimal c.first_name ∷ words_of_card c.format),
+      spaced_next (decimal c.mutators) (decimal c.first_name) (words_of_card c.format),
+    )
 
-heap_again : (c : Config) → ConfigFits c → heap_of (heap_words c) ≡ Some c
-unfolding heap_of
-heap_again c fits =
+sizes_again : (c : Config) → ConfigFits c → sizes_in c.format (decimal c.regions) (decimal c.words) (decimal c.buffer) (decimal c.mutators) (decimal c.first_name) ≡ Some c
+unfolding sizes_in
+sizes_again c fits =
     let r = number_of_some small (decimal c.regions) c.regions (let f = fits.regions in omega arith) refl fits.regions in
     let w = number_of_some small (decimal c.words) c.words (let f = fits.words in omega arith) refl fits.words in
     let b = number_of_some small (decimal c.buffer) c.buffer (let f = fits.buffer in omega arith) refl fits.buffer in
@@ -157,9 +199,19 @@ heap_again c fits =
     let n = number_of_some large (decimal c.first_name) c.first_name (let f = fits.first_name in omega arith) refl fits.first_name in
     rw (r, w, b, m, n) refl
 
+lines_again : (f : Format) (c : Config) (n r b m g : List ℕ) → FormatFits f → sizes_in f n r b m g ≡ Some c → sizes_of (verb_of f ∷ n ∷ r ∷ b ∷ m ∷ g ∷ words_of_card f) ≡ Some c
+unfolding sizes_of
+lines_again V1 c n r b m g fits again = again
+lines_again (V2 card) c n r b m g fits again =
+    let k = number_of_some small (decimal card) card (omega arith) refl fits in
+    rw k again
+
+heap_again : (c : Config) → ConfigFits c → sizes_of (heap_words c) ≡ Some c
+heap_again c fits = lines_again c.format c _ _ _ _ _ fits.format (sizes_again c fits)
+
 -- the heap line is read as its sizes
 pub heap_line_again : (c : Config) → ConfigFits c → heap_line_of (spaced (heap_words c)) ≡ Ok c
-unfolding heap_line_of heap_sizes
+unfolding heap_line_of behind_verb
 heap_line_again c fits =
-    let words : words_of (spaced (heap_words c)) ≡ heap_words c = words_again (codes "heap") (heap_sizes c) (heap_is_words c fits) in
-    rw (le-ltb 120 (length (spaced (heap_words c))) (heap_short c fits)) (ap (λ (ws : List (List ℕ)). or_fault (heap_of ws) kinds.BadHeap) words ∙ ap (λ (o : Option Config). or_fault o kinds.BadHeap) (heap_again c fits))
+    let words : words_of (spaced (heap_words c)) ≡ heap_words c = words_again (verb_of c.format) (behind_verb c) (heap_is_words c fits) in
+    rw (le-ltb 120 (length (spaced (heap_words c))) (heap_short c fits)) (ap (λ (ws : List (List ℕ)). or_fault (sizes_of ws) kinds.BadHeap) words ∙ ap (λ (o : Option Config). or_fault o kinds.BadHeap) (heap_again c fits))

@@ -1,5 +1,5 @@
 -- Whole texts: what is read is spelled so, and what is spelled so is read.
-use Rattle.std.proofs.Common.{◌≡◌, ℕ, ◌+◌, ◌≤◌, true, eqb, List, [], ◌∷◌, ◌++◌, length, Result, Ok, Err, refl, sym, ap, subst, ◌∙◌, append_assoc}
+use Rattle.std.proofs.Common.{◌≡◌, ℕ, ◌+◌, ◌≤◌, eqb, List, [], ◌∷◌, ◌++◌, length, Result, Ok, Err, refl, sym, ap, subst, ◌∙◌, append_assoc}
 use Rattle.std.specs.Prelude.{◌==◌}
 use Rattle.std.specs.List.{All, join_with_byte, flat_map}
 use Rattle.std.proofs.lemmas.Bool.{eqb-true}
@@ -14,7 +14,7 @@ use Rattle.script_text.specs.declared.fault.Kind.{Kind}
 use Rattle.script_text.specs.declared.fault.Kind.TheVariants as kinds
 use Rattle.script_text.specs.declared.fault.LineFault.{LineFault}
 use Rattle.script_text.specs.Reading.{small}
-use Rattle.script_text.specs.Fits.{StepFits, is_step_yet, IsScript}
+use Rattle.script_text.specs.Fits.{StepFits, IsScript}
 use Rattle.script_text.specs.Spelling.{step_words, heap_words, spaced, line, script_text}
 use Rattle.script_text.specs.Lines.{◌>>=◌, at, pieces_of, step_line_of, heap_line_of, steps_of, pieces_script, script_of}
 use Rattle.script_text.proofs.ReadOn.{fault, begun, read_on, script_begins, steps_more}
@@ -29,9 +29,8 @@ record AreRead (c : Config) (text : List ℕ) (ss : List Step) : Type 0 where
   spelled : text ≡ lines ss
   owned : All (IsStep c) ss
   fits : All StepFits ss
-  yet : All (λ s. is_step_yet s ≡ true) ss
 
-at_ok : {A : Type 0} (n : ℕ) (r : Result A Kind) (x : A) → at n r ≡ Ok x → r ≡ Ok x
+pub at_ok : {A : Type 0} (n : ℕ) (r : Result A Kind) (x : A) → at n r ≡ Ok x → r ≡ Ok x
 at_ok n (Ok y) x e = cc
 at_ok n (Err k) x e = absurd cc
 
@@ -42,7 +41,7 @@ ok_list : (x y : List Step) → done x ≡ done y → x ≡ y
 ok_list x y e = cc
 
 none_read : (c : Config) (text : List ℕ) → text ≡ [] → AreRead c text []
-none_read c text none = record { spelled = none; owned = All-nil (IsStep c); fits = All-nil StepFits; yet = All-nil (λ s. is_step_yet s ≡ true) }
+none_read c text none = record { spelled = none; owned = All-nil (IsStep c); fits = All-nil StepFits }
 
 -- a line, its line feed and the lines behind it
 one_line : (text first rest : List ℕ) (s : Step) (ss : List Step) → text ≡ first ++ 10 ∷ rest → first ≡ spaced (step_words s) → rest ≡ lines ss → text ≡ lines (s ∷ ss)
@@ -55,7 +54,6 @@ one_read c text first rest s ss cut head tail = record {
   spelled = one_line text first rest s ss cut head.spelled tail.spelled;
   owned = All-cons (IsStep c) s ss head.owned tail.owned;
   fits = All-cons StepFits s ss head.fits tail.fits;
-  yet = All-cons (λ t. is_step_yet t ≡ true) s ss head.yet tail.yet;
 }
 
 steps_read : (ps : List (List ℕ)) (n : ℕ) (c : Config) (p : List ℕ) (ss : List Step) → steps_of n c (p ∷ ps) ≡ Ok ss → AreRead c (join_with_byte 10 (p ∷ ps)) ss
@@ -96,7 +94,7 @@ pieces_read (first ∷ next ∷ ps) p e =
     subst (IsText (join_with_byte 10 (first ∷ next ∷ ps))) (plan_ok (plan head.0 tail.0) p tail.2) (record {
       spelled = ap (λ (t : List ℕ). t ++ 10 ∷ join_with_byte 10 (next ∷ ps)) heap.0 ∙ ap (λ (t : List ℕ). spaced (heap_words head.0) ++ 10 ∷ t) rest.spelled
           ∙ sym (append_assoc (spaced (heap_words head.0)) (10 ∷ []) (lines tail.0));
-      good = record { config = heap.1; owned = rest.owned; fits = rest.fits; yet = rest.yet };
+      good = record { config = heap.1; owned = rest.owned; fits = rest.fits };
     })
 
 pub text_read : (text : List ℕ) (p : StepList) → script_of text ≡ Ok p → (text ≡ script_text p) × IsScript p
@@ -119,17 +117,16 @@ record AreGood (c : Config) (ss : List Step) : Type 0 where
   few : c.mutators ≤ small
   owned : All (IsStep c) ss
   fits : All StepFits ss
-  yet : All (λ s. is_step_yet s ≡ true) ss
 
 good_rest : (c : Config) (s : Step) (ss : List Step) → AreGood c (s ∷ ss) → AreGood c ss
-good_rest c s ss good = record { few = good.few; owned = All-tail (IsStep c) s ss good.owned; fits = All-tail StepFits s ss good.fits; yet = All-tail (λ t. is_step_yet t ≡ true) s ss good.yet }
+good_rest c s ss good = record { few = good.few; owned = All-tail (IsStep c) s ss good.owned; fits = All-tail StepFits s ss good.fits }
 
 steps_again : (ss : List Step) (n : ℕ) (c : Config) → AreGood c ss → steps_of n c (pieces ss) ≡ Ok ss
 unfolding steps_of pieces
 steps_again [] n c good = refl
 steps_again (s ∷ ss) n c good =
     let more = some_piece ss in
-    let first = step_line_again c s good.few (All-head (IsStep c) s ss good.owned) (All-head StepFits s ss good.fits) (All-head (λ t. is_step_yet t ≡ true) s ss good.yet) in
+    let first = step_line_again c s good.few (All-head (IsStep c) s ss good.owned) (All-head StepFits s ss good.fits) in
     let rest : steps_of (n + 1) c (pieces ss) ≡ Ok ss = steps_again ss (n + 1) c (good_rest c s ss good) in
     steps_more n c (spaced (step_words s)) (pieces ss) more.0 more.1 s more.2 first ∙ ap (λ (r : Result (List Step) LineFault). r >>= λ ts. Ok (s ∷ ts)) rest
 
@@ -143,7 +140,7 @@ pieces_again (s ∷ ss) c good =
 
 pub text_again : (p : StepList) → IsScript p → script_of (script_text p) ≡ Ok p
 text_again p script =
-    let good : AreGood p.config p.steps = record { few = script.config.mutators; owned = script.owned; fits = script.fits; yet = script.yet } in
+    let good : AreGood p.config p.steps = record { few = script.config.mutators; owned = script.owned; fits = script.fits } in
     let clear = heap_no_feed p.config script.config in
     let cut : pieces_of (script_text p) ≡ spaced (heap_words p.config) ∷ pieces p.steps =
     ap pieces_of (append_assoc (spaced (heap_words p.config)) (10 ∷ []) (lines p.steps)) ∙ slice_split_at (λ b. eqb b 10) (spaced (heap_words p.config)) 10 (lines p.steps) clear refl

@@ -53,11 +53,6 @@ more_held text more whole first now held new before grown put =
       rest = put ∙ ap (λ (t : List ℕ). t ++ more) before.rest ∙ sym (drop-append-le before.done text more before.within);
     })
 
--- all that was held is written
-pub all_written : (text : List ℕ) (first old new : Option (List ℕ)) (held : List ℕ) → IsWriting text first old held → Appends old new held → Appends first new text
-all_written text first old new held before appends =
-    subst (λ (t : List ℕ). Appends first new t) (ap (λ (t : List ℕ). take before.done text ++ t) before.rest ∙ take-append-drop before.done text) (Appends-trans first old new (take before.done text) held before.written appends)
-
 abbrev pub Stops : List ℕ → Option (List ℕ) → Option (List ℕ) → Type 0
 Stops text old new = (n : ℕ) × (n < length text) × Appends old new (take n text)
 

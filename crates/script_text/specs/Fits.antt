@@ -1,18 +1,23 @@
--- The scripts that have a text.
-use Rattle.std.specs.Prelude.{◌≤◌, Bool, true, false, All, IsTrue}
+-- The scripts and the records that have a text.
+use Rattle.std.specs.Prelude.{◌≤◌, All, None, Some, length}
 use Rattle.heap_words.specs.declared.config.Config.{Config}
-use Rattle.object_graph.specs.Actors.{StepList, AreSteps}
+use Rattle.heap_words.specs.declared.config.Format.{Format}
+use Rattle.heap_words.specs.declared.config.Format.TheVariants.{V1, V2}
+use Rattle.object_graph.specs.Actors.{StepList, AreSteps, EventList, AreEvents}
 use Rattle.object_graph.specs.declared.step.Action.{Action}
 use Rattle.object_graph.specs.declared.step.Action.TheVariants as actions
 use Rattle.object_graph.specs.declared.step.CollectorStep.{CollectorStep}
 use Rattle.object_graph.specs.declared.step.CollectorStep.TheVariants as collector
 use Rattle.object_graph.specs.declared.step.Step.{Step}
 use Rattle.object_graph.specs.declared.step.Step.TheVariants as steps
+use Rattle.object_graph.specs.declared.step.Reply.{Reply}
+use Rattle.object_graph.specs.declared.step.Reply.TheVariants as replies
+use Rattle.object_graph.specs.declared.step.Event.{Event}
 use Rattle.script_text.specs.Reading.{small, large}
 
 -- the numbers of an action are those of its type
 abbrev pub Fits : Action → Type 0
-Fits (actions.New to p d) = (p ≤ small) × (d ≤ small)
+Fits (actions.New to counts) = (counts.pointers ≤ small) × (counts.values ≤ small)
 Fits (actions.Get to object i) = i ≤ small
 Fits (actions.Put object i value) = i ≤ small
 Fits (actions.Read object j) = j ≤ small
@@ -35,26 +40,42 @@ abbrev pub StepFits : Step → Type 0
 StepFits (steps.Mutator o) = Fits o.action
 StepFits (steps.Collector k) = CollectionFits k
 
+abbrev pub FormatFits : Format → Type 0
+FormatFits V1 = Unit {0}
+FormatFits (V2 card) = card ≤ small
+
 pub record ConfigFits (c : Config) : Type 0 where
+  pub format : FormatFits c.format
   pub regions : c.regions ≤ small
   pub words : c.words ≤ small
   pub buffer : c.buffer ≤ small
   pub mutators : c.mutators ≤ small
   pub first_name : c.first_name ≤ large
 
--- the steps that a script may have yet: all but a pause
-abbrev pub is_step_yet : Step → Bool
-is_step_yet (steps.Mutator o) = true
-is_step_yet (steps.Collector collector.Begin) = true
-is_step_yet (steps.Collector (collector.Mark k)) = true
-is_step_yet (steps.Collector collector.Remark) = true
-is_step_yet (steps.Collector collector.Cleanup) = true
-is_step_yet (steps.Collector (collector.Refine k)) = true
-is_step_yet (steps.Collector (collector.Pause b)) = false
-
 -- a script that has a text
 pub record IsScript (p : StepList) : Type 0 where
   pub config : ConfigFits p.config
   pub owned : AreSteps p.config p.steps
   pub fits : All StepFits p.steps
-  pub yet : All (λ s. IsTrue (is_step_yet s)) p.steps
+
+abbrev pub ReplyFits : Reply → Type 0
+ReplyFits replies.Done = Unit {0}
+ReplyFits (replies.Named None) = Unit {0}
+ReplyFits (replies.Named (Some n)) = n ≤ large
+ReplyFits (replies.Word w) = w ≤ large
+ReplyFits (replies.Shape p d) = (p ≤ small) × (d ≤ small)
+ReplyFits (replies.Marked n) = n ≤ small
+ReplyFits (replies.Reclaimed n) = n ≤ small
+ReplyFits (replies.Refined n) = n ≤ small
+ReplyFits (replies.Moved n w) = (n ≤ small) × (w ≤ small)
+ReplyFits (replies.Refused why) = Unit {0}
+
+abbrev pub EventFits : Event → Type 0
+EventFits e = StepFits e.step × ReplyFits e.reply
+
+-- a record that has a text
+pub record IsRecord (r : EventList) : Type 0 where
+  pub config : ConfigFits r.config
+  pub owned : AreEvents r.config r.events
+  pub fits : All EventFits r.events
+  pub few : length r.events ≤ large

@@ -1,5 +1,5 @@
 -- The lines of a script, and the first fault.
-use Rattle.std.specs.Prelude.{◌≡◌, ℕ, ◌+◌, List, [], ◌∷◌, Option, Some, None, Result, Ok, Err, nat_lt, ◌==◌, if◌then◌else◌, codes, length}
+use Rattle.std.specs.Prelude.{◌≡◌, ℕ, ◌+◌, ◌<◌, ◌≤◌, List, [], ◌∷◌, Option, Some, None, Result, Ok, Err, nat_lt, ◌==◌, if◌then◌else◌, codes, length}
 use Rattle.std.specs.List.{slice_split}
 use Rattle.std.specs.Str.{bytes_eq}
 use Rattle.heap_words.specs.declared.config.Config.{Config}
@@ -9,8 +9,7 @@ use Rattle.object_graph.specs.declared.step.Step.TheVariants as steps
 use Rattle.script_text.specs.declared.fault.Kind.{Kind}
 use Rattle.script_text.specs.declared.fault.Kind.TheVariants as kinds
 use Rattle.script_text.specs.declared.fault.LineFault.{LineFault}
-use Rattle.script_text.specs.Reading.{number_of, small, action_of, collection_of, heap_of}
-use Rattle.script_text.specs.Fits.{is_step_yet}
+use Rattle.script_text.specs.Reading.{number_of, small, action_of, collection_of, sizes_of}
 
 infixl 10 ◌>>=◌
 abbrev pub ◌>>=◌ : {A B E : Type 0} → Result A E → (A → Result B E) → Result B E
@@ -34,9 +33,10 @@ mutator_of c word = do
   m ← or_fault (number_of small word) kinds.BadActor
   if nat_lt m c.mutators then Ok m else Err kinds.BadActor
 
-unfoldable pub any_step_of : Config → List (List ℕ) → Result Step Kind
-any_step_of c [] = Err kinds.BadActor
-any_step_of c (actor ∷ rest) =
+-- a step of its actor
+unfoldable pub step_of : Config → List (List ℕ) → Result Step Kind
+step_of c [] = Err kinds.BadActor
+step_of c (actor ∷ rest) =
     if bytes_eq actor (codes "gc") then (do
       k ← or_fault (collection_of rest) kinds.BadStep
       Ok (steps.Collector k))
@@ -45,18 +45,12 @@ any_step_of c (actor ∷ rest) =
       a ← or_fault (action_of rest) kinds.BadStep
       Ok (steps.Mutator (record { mutator = m; action = a })))
 
--- a step that a script may have yet
-unfoldable pub step_of : Config → List (List ℕ) → Result Step Kind
-step_of c words = do
-  s ← any_step_of c words
-  if is_step_yet s then Ok s else Err kinds.BadStep
-
 -- a line of at most 120 bytes
 unfoldable pub step_line_of : Config → List ℕ → Result Step Kind
 step_line_of c line = if nat_lt 120 (length line) then Err kinds.LongLine else step_of c (words_of line)
 
 unfoldable pub heap_line_of : List ℕ → Result Config Kind
-heap_line_of line = if nat_lt 120 (length line) then Err kinds.LongLine else or_fault (heap_of (words_of line)) kinds.BadHeap
+heap_line_of line = if nat_lt 120 (length line) then Err kinds.LongLine else or_fault (sizes_of (words_of line)) kinds.BadHeap
 
 -- a fault of line n
 abbrev pub at : {A : Type 0} → ℕ → Result A Kind → Result A LineFault
@@ -84,11 +78,18 @@ pieces_script (line ∷ next ∷ lines) = do
 abbrev pub script_of : List ℕ → Result StepList LineFault
 script_of text = pieces_script (pieces_of text)
 
--- What a function returned is what reading gives, unless memory ran out.
-abbrev pub FailsBy : {Y : Type 0} → Kind → LineFault → Result Y LineFault → Type 0
-FailsBy kinds.NoMemory f read = Unit {0}
-FailsBy _ f read = read ≡ Err f
+-- Memory was refused while a line of the text was read: a line feed ends it, and neither it nor a line before it has a fault.
+pub record StopsAt {Y : Type 0} (line : ℕ) (text : List ℕ) (read : Result Y LineFault) : Type 0 where
+  pub counted : 1 ≤ line
+  pub ended : line < length (pieces_of text)
+  pub before : (first : LineFault) → read ≡ Err first → line < first.line
 
-abbrev pub Gives : {X Y : Type 0} → (X → Y) → Result X LineFault → Result Y LineFault → Type 0
-Gives view (Ok x) read = read ≡ Ok (view x)
-Gives view (Err f) read = FailsBy f.kind f read
+-- the fault is the text's first one, or want of memory at a line before that
+abbrev pub FailsBy : {Y : Type 0} → Kind → LineFault → List ℕ → Result Y LineFault → Type 0
+FailsBy kinds.NoMemory fault text read = StopsAt fault.line text read
+FailsBy _ fault text read = read ≡ Err fault
+
+-- what a function returned of a text is what reading it gives
+abbrev pub Gives : {Y : Type 0} → Result Y LineFault → List ℕ → Result Y LineFault → Type 0
+Gives (Ok x) text read = read ≡ Ok x
+Gives (Err fault) text read = FailsBy fault.kind fault text read

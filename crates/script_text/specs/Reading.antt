@@ -6,6 +6,8 @@ use Rattle.std.specs.Str.Parse.{digits_value}
 use Rattle.std.proofs.lemmas.Bool.{cases_lt}
 use Rattle.std.proofs.Common.{inl, inr}
 use Rattle.heap_words.specs.declared.config.Config.{Config}
+use Rattle.heap_words.specs.declared.config.Format.{Format}
+use Rattle.heap_words.specs.declared.config.Format.TheVariants.{V1, V2}
 use Rattle.object_graph.specs.declared.step.Register.{Register}
 use Rattle.object_graph.specs.declared.step.GlobalRoot.{GlobalRoot}
 use Rattle.object_graph.specs.declared.step.Action.{Action}
@@ -54,7 +56,7 @@ new_of a b c = do
   to ← register_of a
   p ← number_of small b
   d ← number_of small c
-  Some (actions.New to p d)
+  Some (actions.New to (record { pointers = p; values = d }))
 
 unfoldable pub get_of : List ℕ → List ℕ → List ℕ → Option Action
 get_of a b c = do
@@ -161,14 +163,22 @@ collection_of (verb ∷ a ∷ []) =
     else None
 collection_of _ = None
 
-unfoldable pub heap_of : List (List ℕ) → Option Config
-heap_of (verb ∷ regions ∷ size ∷ buffer ∷ mutators ∷ first_name ∷ []) =
-    if bytes_eq verb (codes "heap") then (do
-      n ← number_of small regions
-      r ← number_of small size
-      b ← number_of small buffer
-      m ← number_of small mutators
-      f ← number_of large first_name
-      Some (record { regions = n; words = r; buffer = b; mutators = m; first_name = f }))
+-- the sizes that five words give, behind the verb of the format
+unfoldable pub sizes_in : Format → List ℕ → List ℕ → List ℕ → List ℕ → List ℕ → Option Config
+sizes_in format regions size buffer mutators first_name = do
+  n ← number_of small regions
+  r ← number_of small size
+  b ← number_of small buffer
+  m ← number_of small mutators
+  f ← number_of large first_name
+  Some (record { format = format; regions = n; words = r; buffer = b; mutators = m; first_name = f })
+
+unfoldable pub sizes_of : List (List ℕ) → Option Config
+sizes_of (verb ∷ regions ∷ size ∷ buffer ∷ mutators ∷ first_name ∷ []) =
+    if bytes_eq verb (codes "heap") then sizes_in V1 regions size buffer mutators first_name else None
+sizes_of (verb ∷ regions ∷ size ∷ buffer ∷ mutators ∷ first_name ∷ card ∷ []) =
+    if bytes_eq verb (codes "heap2") then (do
+      c ← number_of small card
+      sizes_in (V2 c) regions size buffer mutators first_name)
     else None
-heap_of _ = None
+sizes_of _ = None

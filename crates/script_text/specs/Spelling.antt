@@ -3,6 +3,8 @@ use Rattle.std.specs.Prelude.{ℕ, List, [], ◌∷◌, ◌++◌, Option, Some, 
 use Rattle.std.specs.List.{join_with_byte, flat_map}
 use Rattle.std.specs.Fmt.{decimal}
 use Rattle.heap_words.specs.declared.config.Config.{Config}
+use Rattle.heap_words.specs.declared.config.Format.{Format}
+use Rattle.heap_words.specs.declared.config.Format.TheVariants.{V1, V2}
 use Rattle.object_graph.specs.Actors.{StepList}
 use Rattle.object_graph.specs.declared.step.Register.{Register}
 use Rattle.object_graph.specs.declared.step.GlobalRoot.{GlobalRoot}
@@ -24,7 +26,7 @@ value_word None = codes "nil"
 value_word (Some r) = register_word r
 
 abbrev pub action_words : Action → List (List ℕ)
-action_words (actions.New to p d) = codes "new" ∷ register_word to ∷ decimal p ∷ decimal d ∷ []
+action_words (actions.New to counts) = codes "new" ∷ register_word to ∷ decimal counts.pointers ∷ decimal counts.values ∷ []
 action_words (actions.Get to object i) = codes "get" ∷ register_word to ∷ register_word object ∷ decimal i ∷ []
 action_words (actions.Put object i value) = codes "put" ∷ register_word object ∷ decimal i ∷ value_word value ∷ []
 action_words (actions.Read object j) = codes "read" ∷ register_word object ∷ decimal j ∷ []
@@ -47,8 +49,20 @@ abbrev pub step_words : Step → List (List ℕ)
 step_words (steps.Mutator o) = decimal o.mutator ∷ action_words o.action
 step_words (steps.Collector k) = codes "gc" ∷ collection_words k
 
+abbrev pub size_words : Config → List (List ℕ)
+size_words c = decimal c.regions ∷ decimal c.words ∷ decimal c.buffer ∷ decimal c.mutators ∷ decimal c.first_name ∷ []
+
+-- the words of a heap line: the second format's ends with the length of a card
+abbrev pub verb_of : Format → List ℕ
+verb_of V1 = codes "heap"
+verb_of (V2 card) = codes "heap2"
+
+abbrev pub words_of_card : Format → List (List ℕ)
+words_of_card V1 = []
+words_of_card (V2 card) = decimal card ∷ []
+
 abbrev pub heap_words : Config → List (List ℕ)
-heap_words c = codes "heap" ∷ decimal c.regions ∷ decimal c.words ∷ decimal c.buffer ∷ decimal c.mutators ∷ decimal c.first_name ∷ []
+heap_words c = verb_of c.format ∷ size_words c ++ words_of_card c.format
 
 -- the words, parted by single spaces
 abbrev pub spaced : List (List ℕ) → List ℕ

@@ -16,7 +16,7 @@ pub(crate) fn put_byte(buffer: &mut [u8], at: usize, byte: u8) -> usize
 }
 
 /// Puts a text behind the first `at` bytes, and answers where it ends.
-pub(crate) fn put_text(buffer: &mut [u8], at: usize, text: &[u8]) -> usize
+pub fn put_text(buffer: &mut [u8], at: usize, text: &[u8]) -> usize
     requires { at + length text.now ≤ length buffer.old }
     ensures put { take result buffer.new ≡ take at buffer.old ++ text.now }
     ensures end { result ≡ at + length text.now }
@@ -26,21 +26,37 @@ pub(crate) fn put_text(buffer: &mut [u8], at: usize, text: &[u8]) -> usize
     end
 }
 
+/// How many digits a number below 10,000 has.
+fn short_digit_count(number: u64) -> usize
+    requires { number < 10000 }
+    ensures { result ≡ length (decimal number) }
+{
+    if number < 10 {
+        1
+    } else if number < 100 {
+        2
+    } else if number < 1_000 {
+        3
+    } else {
+        4
+    }
+}
+
 /// How many digits a number has.
 fn digit_count(number: u64) -> usize
     ensures { result ≡ length (decimal number) }
 {
-    let mut count = 1;
-    let mut bound = 10u64;
-    while count < 19 && number >= bound {
-        count += 1;
-        bound *= 10;
+    let mut count = 0;
+    let mut left = number;
+    while left >= 10_000 {
+        left /= 10_000;
+        count += 4;
     }
-    if number >= bound { count + 1 } else { count }
+    count + short_digit_count(left)
 }
 
 /// Puts a number behind the first `at` bytes, and answers where it ends. A number has at most 20 digits.
-pub(crate) fn put_number(buffer: &mut [u8], at: usize, number: u64) -> usize
+pub fn put_number(buffer: &mut [u8], at: usize, number: u64) -> usize
     requires { at + 20 ≤ length buffer.old }
     ensures put { take result buffer.new ≡ take at buffer.old ++ decimal number }
     ensures end { result ≤ at + 20 }

@@ -1,5 +1,9 @@
 //! Why a text could not be read or written.
 
+ghost use Rattle.std.specs.Prelude.{◌≡◌, ◌≤◌, ◌+◌, ◌++◌, length, take};
+ghost use Rattle.script_text.specs.Faults.{kind_text, fault_text};
+
+use crate::bytes::{put_number, put_text};
 use std::error::Error;
 use std::fmt;
 
@@ -24,6 +28,23 @@ pub enum Kind {
     NoMemory,
 }
 
+/// The kind's number and its name.
+fn kind_text(kind: Kind) -> &'static str
+    ensures text { result.now ≡ kind_text kind }
+    ensures short { length result.now ≤ 10 }
+{
+    match kind {
+        Kind::Cut => "1 Cut",
+        Kind::LongLine => "2 LongLine",
+        Kind::BadHeap => "3 BadHeap",
+        Kind::BadActor => "4 BadActor",
+        Kind::BadStep => "5 BadStep",
+        Kind::BadCount => "6 BadCount",
+        Kind::BadReply => "7 BadReply",
+        Kind::NoMemory => "8 NoMemory",
+    }
+}
+
 impl fmt::Display for Kind {
     ghost use Rattle.std.specs.Prelude.{Some};
     ghost use Rattle.script_text.specs.Faults.{kind_text};
@@ -31,16 +52,7 @@ impl fmt::Display for Kind {
     ghost output = { λ k. Some (kind_text k) };
 
     fn fmt<W: fmt::Write>(&self, f: &mut fmt::Formatter<W>) -> fmt::Result {
-        match self {
-            Kind::Cut => write!(f, "1 Cut"),
-            Kind::LongLine => write!(f, "2 LongLine"),
-            Kind::BadHeap => write!(f, "3 BadHeap"),
-            Kind::BadActor => write!(f, "4 BadActor"),
-            Kind::BadStep => write!(f, "5 BadStep"),
-            Kind::BadCount => write!(f, "6 BadCount"),
-            Kind::BadReply => write!(f, "7 BadReply"),
-            Kind::NoMemory => write!(f, "8 NoMemory"),
-        }
+        f.write_str(kind_text(*self))
     }
 }
 
@@ -63,6 +75,18 @@ impl fmt::Display for LineFault {
 }
 
 impl Error for LineFault {}
+
+/// Puts a fault's text behind the first `at` bytes of a buffer, and answers where it ends.
+pub fn put_fault(buffer: &mut [u8], at: usize, fault: LineFault) -> usize
+    requires { at + 40 ≤ length buffer.old }
+    ensures put { take result buffer.new ≡ take at buffer.old ++ fault_text fault }
+    ensures end { result ≤ at + 40 }
+{
+    let at = put_text(buffer, at, b"line ");
+    let at = put_number(buffer, at, fault.line);
+    let at = put_text(buffer, at, b": ");
+    put_text(buffer, at, kind_text(fault.kind).as_bytes())
+}
 
 /// Why a text could not be read.
 #[derive(Clone, Copy, Debug, PartialEq, Eq)]

@@ -1,9 +1,13 @@
-//! Laws of the texts of scripts.
+//! Laws of the texts of scripts and records.
 
 ghost use Rattle.std.specs.Prelude.{◌≡◌, ℕ, List, Some, Ok};
-ghost use Rattle.object_graph.specs.Actors.{StepList};
+ghost use Rattle.object_graph.specs.Actors.{StepList, EventList};
 ghost use Rattle.object_graph.specs.declared.step.Action.{Action};
-ghost use Rattle.script_text.specs.Fits.{Fits, IsScript};
+ghost use Rattle.object_graph.specs.declared.step.Reply.{Reply};
+ghost use Rattle.script_text.specs.EventWords.{reply_of};
+ghost use Rattle.script_text.specs.Events.{record_of};
+ghost use Rattle.script_text.specs.Records.{reply_words, record_text};
+ghost use Rattle.script_text.specs.Fits.{Fits, ReplyFits, IsScript, IsRecord};
 ghost use Rattle.script_text.specs.Reading.{action_of};
 ghost use Rattle.script_text.specs.Spelling.{action_words, script_text};
 ghost use Rattle.script_text.specs.Lines.{script_of};
@@ -18,8 +22,24 @@ pub fn spelled_is_read()
     ensures { (p : StepList) → IsScript p → script_of (script_text p) ≡ Ok p }
 {}
 
-/// Of any mutator's step, a script's yet or not: its words are read as that step, and no others are.
+/// Of any mutator's step: its words are read as that step, and no others are.
 pub fn action_is_read()
     ensures again { (a : Action) → Fits a → action_of (action_words a) ≡ Some a }
     ensures only { (ws : List (List ℕ)) (a : Action) → action_of ws ≡ Some a → (ws ≡ action_words a) × Fits a }
+{}
+
+/// Of any reply: its words are read as that reply, and no others are.
+pub fn reply_is_read()
+    ensures again { (r : Reply) → ReplyFits r → reply_of (reply_words r) ≡ Some r }
+    ensures only { (ws : List (List ℕ)) (r : Reply) → reply_of ws ≡ Some r → (ws ≡ reply_words r) × ReplyFits r }
+{}
+
+/// What is read of a record's text is spelled so, in the whole text.
+pub fn read_record_is_spelled()
+    ensures { (text : List ℕ) (r : EventList) → record_of text ≡ Ok r → (text ≡ record_text r) × IsRecord r }
+{}
+
+/// A record that is spelled so is read.
+pub fn spelled_record_is_read()
+    ensures { (r : EventList) → IsRecord r → record_of (record_text r) ≡ Ok r }
 {}

@@ -5,30 +5,44 @@
 //! feed ends each line, the last one too.
 //!
 //! ```text
-//! reader --read_text--> bytes --parse--> Plan        Record --write_record--> writer
+//! reader --read_text--> bytes --parse--> Plan           Record --write_record--> writer
+//!                        bytes --parse_record--> Record
 //! ```
 //!
 //! - `read_text` gives all bytes to the end of input, or says that a read failed.
 //! - `parse` gives the plan that a text spells, or the first line with a fault and the first fault of that line.
 //!   What is read of a text is spelled so in the whole of it, and each script's text is read as that script.
+//! - `parse_record` does the same of a record's text, and so gives back the record that was written (`written_record_is_read`).
 //! - `write_record` appends the text of a record and no more, or a beginning of it and a fault. It holds one
 //!   buffer, however long the record is.
+//! - `put_text`, `put_number`, `put_fault` and `write_bytes` are for other lines of a program: they put texts into a buffer, and
+//!   write bytes in their order.
 #![tactic(auto)]
 
 mod bytes;
+mod events;
 mod fault;
 mod input;
 mod laws;
 mod lines;
+mod records;
+mod replies;
 mod script;
 mod steps;
 #[cfg(test)]
 mod tests;
 mod words;
 mod writing;
+mod written;
 
-pub use fault::{Kind, LineFault, ReadFault, WriteFault};
+pub use bytes::{put_number, put_text};
+pub use fault::{Kind, LineFault, ReadFault, WriteFault, put_fault};
 pub use input::read_text;
-pub use laws::{action_is_read, read_is_spelled, spelled_is_read};
+pub use laws::{
+    action_is_read, read_is_spelled, read_record_is_spelled, reply_is_read, spelled_is_read,
+    spelled_record_is_read,
+};
+pub use records::parse_record;
 pub use script::parse;
-pub use writing::write_record;
+pub use writing::{write_bytes, write_record};
+pub use written::written_record_is_read;

@@ -1,13 +1,13 @@
 //! Lines of a record, put into a buffer with room for them. Each call puts its text behind the first `at`
 //! bytes and answers where it ends.
 
-ghost use Rattle.std.specs.Prelude.{◌≡◌, ◌≤◌, ◌<◌, ◌+◌, ◌++◌, length, take, codes};
+ghost use Rattle.std.specs.Prelude.{◌≡◌, ◌≤◌, ◌<◌, ◌+◌, ◌++◌, ◌∷◌, length, take, codes};
 ghost use Rattle.std.specs.Fmt.{decimal};
-ghost use Rattle.script_text.specs.Spelling.{register_word, global_word, value_word, action_words, collection_words, heap_words, spaced, line};
+ghost use Rattle.script_text.specs.Spelling.{register_word, global_word, value_word, action_words, collection_words, verb_of, words_of_card, heap_words, spaced, line};
 ghost use Rattle.script_text.specs.Records.{actor_word, reply_words, event_line};
 
 use crate::bytes::{put_byte, put_number, put_small, put_text};
-use heap_words::config::Config;
+use heap_words::config::{Config, Format};
 use object_graph::{
     Action, Actor, CollectorStep, Event, GlobalRoot, Refusal, Register, Reply, Step,
 };
@@ -25,18 +25,42 @@ fn put_count(buffer: &mut [u8], at: usize, word: &[u8], count: u32) -> usize
     put_small(buffer, at, count)
 }
 
+/// The verb of a heap line, and a space.
+fn verb_text(format: Format) -> &'static [u8]
+    ensures text { result.now ≡ verb_of format ++ codes " " }
+    ensures short { length result.now ≤ 6 }
+{
+    match format {
+        Format::V1 => b"heap ",
+        Format::V2 { .. } => b"heap2 ",
+    }
+}
+
+/// The first name, and the length of a card where the format has one.
+fn put_ending(buffer: &mut [u8], at: usize, first_name: u64, format: Format) -> usize
+    requires { at + 31 ≤ length buffer.old }
+    ensures put { take result buffer.new ≡ take at buffer.old ++ spaced (decimal first_name ∷ words_of_card format) }
+    ensures end { result ≤ at + 31 }
+{
+    let at = put_number(buffer, at, first_name);
+    match format {
+        Format::V1 => at,
+        Format::V2 { card } => put_count(buffer, at, b" ", card),
+    }
+}
+
 /// The heap line.
 pub(crate) fn put_heap(buffer: &mut [u8], at: usize, config: &Config) -> usize
     requires { at + LINE_ROOM ≤ length buffer.old }
     ensures put { take result buffer.new ≡ take at buffer.old ++ line (heap_words config.now) }
     ensures end { result ≤ at + LINE_ROOM }
 {
-    let at = put_count(buffer, at, b"heap ", config.regions);
+    let at = put_count(buffer, at, verb_text(config.format), config.regions);
     let at = put_count(buffer, at, b" ", config.words);
     let at = put_count(buffer, at, b" ", config.buffer);
     let at = put_count(buffer, at, b" ", config.mutators);
     let at = put_byte(buffer, at, b' ');
-    let at = put_number(buffer, at, config.first_name);
+    let at = put_ending(buffer, at, config.first_name, config.format);
     put_byte(buffer, at, b'\n')
 }
 
@@ -115,13 +139,9 @@ fn put_action(buffer: &mut [u8], at: usize, action: Action) -> usize
     ensures end { result ≤ at + 48 }
 {
     match action {
-        Action::New {
-            to,
-            pointers,
-            values,
-        } => {
-            let at = put_field(buffer, at, b"new ", to, pointers);
-            put_count(buffer, at, b" ", values)
+        Action::New { to, counts } => {
+            let at = put_field(buffer, at, b"new ", to, counts.pointers);
+            put_count(buffer, at, b" ", counts.values)
         }
         Action::Get { to, object, field } => {
             let at = put_named(buffer, at, b"get ", to);

@@ -1,78 +1,106 @@
 //! Scripts, read line by line.
 
-ghost use Rattle.std.specs.Prelude.{◌≡◌, map, IfOk};
+ghost use Rattle.std.specs.Prelude.{◌≡◌, map, take, IfOk};
 ghost use Rattle.object_graph.specs.Actors.{IsStep};
-ghost use Rattle.script_text.specs.Reading.{heap_of};
-ghost use Rattle.script_text.specs.Lines.{heap_line_of, step_line_of, Gives, script_of};
+ghost use Rattle.script_text.specs.Reading.{sizes_in, sizes_of};
+ghost use Rattle.script_text.specs.Lines.{words_of, heap_line_of, step_line_of, Gives, script_of};
 
 use crate::fault::{Kind, LineFault};
 use crate::steps::step;
-use crate::words::{Line, first_line, number, small_number};
-use heap_words::config::Config;
+use crate::words::{number, small_number, split_line};
+use heap_words::config::{Config, Format};
 use object_graph::{Plan, Step};
 use std::alloc::Global;
 
 /// The most bytes of a line before its line feed.
-const LONGEST_LINE: usize = 120;
+pub(crate) const LONGEST_LINE: usize = 120;
+
+/// The sizes that five words give, in a heap line of the format.
+#[tactic(auto, unfolding(crate::specs::Reading::sizes_in))]
+fn sizes(
+    format: Format,
+    regions: &[u8],
+    size: &[u8],
+    buffer: &[u8],
+    mutators: &[u8],
+    first_name: &[u8],
+) -> Option<Config>
+    ensures { result ≡ sizes_in format regions.now size.now buffer.now mutators.now first_name.now }
+{
+    let regions = small_number(regions)?;
+    let words = small_number(size)?;
+    let buffer = small_number(buffer)?;
+    let mutators = small_number(mutators)?;
+    let first_name = number(first_name, u64::MAX)?;
+    Some(Config {
+        format,
+        regions,
+        words,
+        buffer,
+        mutators,
+        first_name,
+    })
+}
 
 /// The sizes that a heap line's words give.
-#[tactic(auto, unfolding(crate::specs::Reading::heap_of))]
+#[tactic(auto, unfolding(crate::specs::Reading::sizes_of))]
 fn heap(words: &[&[u8]]) -> Option<Config>
-    ensures { result ≡ heap_of (map (λ w. w.now) words.now) }
+    ensures { result ≡ sizes_of (map (λ w. w.now) words.now) }
 {
     match words {
         [verb, regions, size, buffer, mutators, first_name] => {
             if *verb != b"heap".as_slice() {
                 return None;
             }
-            let regions = small_number(regions)?;
-            let words = small_number(size)?;
-            let buffer = small_number(buffer)?;
-            let mutators = small_number(mutators)?;
-            let first_name = number(first_name, u64::MAX)?;
-            Some(Config {
-                regions,
-                words,
-                buffer,
-                mutators,
-                first_name,
-            })
+            sizes(Format::V1, regions, size, buffer, mutators, first_name)
+        }
+        [verb, regions, size, buffer, mutators, first_name, card] => {
+            if *verb != b"heap2".as_slice() {
+                return None;
+            }
+            let card = small_number(card)?;
+            let format = Format::V2 { card };
+            sizes(format, regions, size, buffer, mutators, first_name)
         }
         _ => None,
     }
 }
 
-/// The sizes that the heap line gives.
+/// The sizes that the heap line gives, whose first words these are.
 #[tactic(auto, unfolding(crate::specs::Lines::heap_line_of))]
-fn heap_line(line: &Line) -> Result<Config, Kind>
-    ensures { result ≡ heap_line_of line.now.bytes.now }
+pub(crate) fn heap_line(line: &[u8], words: &[&[u8]]) -> Result<Config, Kind>
+    requires { map (λ w. w.now) words.now ≡ take 11 (words_of line.now) }
+    ensures { result ≡ heap_line_of line.now }
 {
-    if line.bytes.len() > LONGEST_LINE {
+    if line.len() > LONGEST_LINE {
         return Err(Kind::LongLine);
     }
-    match heap(line.words()) {
+    match heap(words) {
         Some(config) => Ok(config),
         None => Err(Kind::BadHeap),
     }
 }
 
-/// The step that a line gives.
+/// The step that a line gives, whose first words these are.
 #[tactic(auto, unfolding(crate::specs::Lines::step_line_of))]
-fn step_line(config: &Config, line: &Line) -> Result<Step, Kind>
-    ensures exact { result ≡ step_line_of config.now line.now.bytes.now }
+fn step_line(config: &Config, line: &[u8], words: &[&[u8]]) -> Result<Step, Kind>
+    requires { map (λ w. w.now) words.now ≡ take 11 (words_of line.now) }
+    ensures exact { result ≡ step_line_of config.now line.now }
     ensures known { IfOk result (IsStep config.now) }
 {
-    if line.bytes.len() > LONGEST_LINE {
+    if line.len() > LONGEST_LINE {
         return Err(Kind::LongLine);
     }
-    step(config, line.words())
+    step(config, words)
 }
 
-/// The plan that a script's text spells, or the first fault of the text.
+/// The plan that a script's text spells, or the first fault of the text. Where memory is refused, the line at which it was wanted: no
+/// line up to that one has a fault.
 pub fn parse(alloc: Global, text: &[u8]) -> Result<Plan, LineFault>
-    ensures { Gives (λ p. p) result (script_of text.now) }
+    ensures { Gives result text.now (script_of text.now) }
 {
-    let Some(first) = first_line(text) else {
+    let mut words: [&[u8]; 11] = [&text[..0]; 11];
+    let Some(first) = split_line(text, &mut words) else {
         if text.is_empty() {
             return Err(LineFault {
                 line: 1,
@@ -84,15 +112,15 @@ pub fn parse(alloc: Global, text: &[u8]) -> Result<Plan, LineFault>
             kind: Kind::Cut,
         });
     };
-    let config = match heap_line(&first) {
+    let config = match heap_line(&text[..first.length], &words[..first.count]) {
         Ok(config) => config,
         Err(kind) => return Err(LineFault { line: 1, kind }),
     };
     let mut plan = Plan::new(alloc, config);
-    let mut rest = &text[first.bytes.len() + 1..];
+    let mut rest = &text[first.length + 1..];
     let mut number = 2u64;
-    while let Some(line) = first_line(rest) {
-        let step = match step_line(&config, &line) {
+    while let Some(line) = split_line(rest, &mut words) {
+        let step = match step_line(&config, &rest[..line.length], &words[..line.count]) {
             Ok(step) => step,
             Err(kind) => return Err(LineFault { line: number, kind }),
         };
@@ -102,7 +130,7 @@ pub fn parse(alloc: Global, text: &[u8]) -> Result<Plan, LineFault>
                 kind: Kind::NoMemory,
             });
         };
-        rest = &rest[line.bytes.len() + 1..];
+        rest = &rest[line.length + 1..];
         number += 1;
     }
     if rest.is_empty() {

@@ -2,14 +2,13 @@
 
 ghost use Rattle.std.specs.Prelude.{◌≡◌, ◌<◌, map, IfOk};
 ghost use Rattle.script_text.specs.Reading.{number_of, small, register_of, global_of, value_of, new_of, get_of, put_of, write_of, read_of, move_of, drop_of, load_of, save_of, shape_of, long_action_of, pair_action_of, lone_action_of, action_of, collection_of};
-ghost use Rattle.script_text.specs.Lines.{mutator_of, any_step_of, step_of};
-ghost use Rattle.script_text.specs.Fits.{is_step_yet};
+ghost use Rattle.script_text.specs.Lines.{mutator_of, step_of};
 ghost use Rattle.object_graph.specs.Actors.{IsStep};
 
 use crate::fault::Kind;
 use crate::words::{global, number, register, small_number, value};
 use heap_words::config::Config;
-use object_graph::{Action, CollectorStep, Op, Step};
+use object_graph::{Action, CollectorStep, Counts, Op, Step};
 
 #[tactic(auto, unfolding(crate::specs::Reading::new_of))]
 fn new_action(to: &[u8], pointers: &[u8], values: &[u8]) -> Option<Action>
@@ -18,11 +17,8 @@ fn new_action(to: &[u8], pointers: &[u8], values: &[u8]) -> Option<Action>
     let to = register(to)?;
     let pointers = small_number(pointers)?;
     let values = small_number(values)?;
-    Some(Action::New {
-        to,
-        pointers,
-        values,
-    })
+    let counts = Counts { pointers, values };
+    Some(Action::New { to, counts })
 }
 
 #[tactic(auto, unfolding(crate::specs::Reading::get_of))]
@@ -167,7 +163,7 @@ fn lone_action(verb: &[u8], a: &[u8]) -> Option<Action>
 
 /// A mutator's step.
 #[tactic(auto, unfolding(crate::specs::Reading::action_of))]
-fn action(words: &[&[u8]]) -> Option<Action>
+pub(crate) fn action(words: &[&[u8]]) -> Option<Action>
     ensures { result ≡ action_of (map (λ w. w.now) words.now) }
 {
     match words {
@@ -180,7 +176,7 @@ fn action(words: &[&[u8]]) -> Option<Action>
 
 /// A step of the collector.
 #[tactic(auto, unfolding(crate::specs::Reading::collection_of))]
-fn collection(words: &[&[u8]]) -> Option<CollectorStep>
+pub(crate) fn collection(words: &[&[u8]]) -> Option<CollectorStep>
     ensures { result ≡ collection_of (map (λ w. w.now) words.now) }
 {
     match words {
@@ -215,7 +211,7 @@ fn collection(words: &[&[u8]]) -> Option<CollectorStep>
 
 /// The mutator that a word names.
 #[tactic(auto, unfolding(crate::specs::Lines::mutator_of))]
-fn mutator(config: &Config, word: &[u8]) -> Result<u32, Kind>
+pub(crate) fn mutator(config: &Config, word: &[u8]) -> Result<u32, Kind>
     ensures exact { result ≡ mutator_of config.now word.now }
     ensures known { IfOk result (λ m. m < config.now.mutators) }
 {
@@ -230,9 +226,9 @@ fn mutator(config: &Config, word: &[u8]) -> Result<u32, Kind>
 }
 
 /// A step of its actor.
-#[tactic(auto, unfolding(crate::specs::Lines::any_step_of))]
-fn any_step(config: &Config, words: &[&[u8]]) -> Result<Step, Kind>
-    ensures exact { result ≡ any_step_of config.now (map (λ w. w.now) words.now) }
+#[tactic(auto, unfolding(crate::specs::Lines::step_of))]
+pub(crate) fn step(config: &Config, words: &[&[u8]]) -> Result<Step, Kind>
+    ensures exact { result ≡ step_of config.now (map (λ w. w.now) words.now) }
     ensures known { IfOk result (IsStep config.now) }
 {
     let [actor, rest @ ..] = words else {
@@ -249,29 +245,4 @@ fn any_step(config: &Config, words: &[&[u8]]) -> Result<Step, Kind>
         return Err(Kind::BadStep);
     };
     Ok(Step::Mutator(Op { mutator, action }))
-}
-
-/// Whether a script may have this step yet.
-fn is_yet(step: &Step) -> bool
-    ensures { result ≡ is_step_yet step.now }
-{
-    match step {
-        Step::Mutator(_) => true,
-        Step::Collector(CollectorStep::Pause(_)) => false,
-        Step::Collector(_) => true,
-    }
-}
-
-/// A step of its actor that a script may have.
-#[tactic(auto, unfolding(crate::specs::Lines::step_of))]
-pub(crate) fn step(config: &Config, words: &[&[u8]]) -> Result<Step, Kind>
-    ensures exact { result ≡ step_of config.now (map (λ w. w.now) words.now) }
-    ensures known { IfOk result (IsStep config.now) }
-{
-    let step = any_step(config, words)?;
-    if is_yet(&step) {
-        Ok(step)
-    } else {
-        Err(Kind::BadStep)
-    }
 }

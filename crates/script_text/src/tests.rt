@@ -1,9 +1,10 @@
 //! What no clause says: the worked examples, the printed forms, and readers and writers that fail.
 
-use crate::{Kind, LineFault, ReadFault, WriteFault, parse, read_text, write_record};
-use heap_words::config::Config;
+use crate::{Kind, LineFault, ReadFault, WriteFault, parse, parse_record, read_text, write_record};
+use heap_words::config::{Config, Format};
 use object_graph::{
-    Action, Actor, CollectorStep, Event, GlobalRoot, Op, Record, Refusal, Register, Reply, Step,
+    Action, Actor, CollectorStep, Counts, Event, GlobalRoot, Op, Record, Refusal, Register, Reply,
+    Step,
 };
 use std::alloc::Global;
 use std::io;
@@ -11,6 +12,7 @@ use std::io::{ErrorKind, Read, Write};
 use std::test::Fail;
 
 const CONFIG: Config = Config {
+    format: Format::V1,
     regions: 4,
     words: 16,
     buffer: 8,
@@ -20,7 +22,8 @@ const CONFIG: Config = Config {
 
 #[test]
 fn good_script(rt: HostRuntime) -> Result<(), Fail> {
-    let text = b"heap 4 16 8 2 0\n0 new r0 1 4294967295\n1 get r7 r0 0\n0 read r1 10\n";
+    let text =
+        b"heap 4 16 8 2 0\n0 new r0 1 4294967295\n1 get r7 r0 0\n0 read r1 10\ngc pause 4294967295\n";
     let Ok(plan) = parse(rt.alloc(), text) else {
         return Err(Fail::from("this is a script"));
     };
@@ -30,8 +33,10 @@ fn good_script(rt: HostRuntime) -> Result<(), Fail> {
             mutator: 0,
             action: Action::New {
                 to: Register { number: 0 },
-                pointers: 1,
-                values: 4_294_967_295,
+                counts: Counts {
+                    pointers: 1,
+                    values: 4_294_967_295,
+                },
             },
         }),
         Step::Mutator(Op {
@@ -49,6 +54,7 @@ fn good_script(rt: HostRuntime) -> Result<(), Fail> {
                 field: 10,
             },
         }),
+        Step::Collector(CollectorStep::Pause(4_294_967_295)),
     ];
     assert_eq!(rt; plan.steps(), steps.as_slice());
     Ok(())
@@ -65,7 +71,7 @@ fn fault_of(alloc: Global, text: &[u8]) -> Option<LineFault> {
 #[test]
 fn faults(rt: HostRuntime) -> Result<(), Fail> {
     let alloc = rt.alloc();
-    let rows: [(&str, u64, Kind); 22] = [
+    let rows: [(&str, u64, Kind); 24] = [
         ("", 1, Kind::BadHeap),
         ("\n", 1, Kind::BadHeap),
         ("heap 4 16 8 1 0", 1, Kind::Cut),
@@ -86,12 +92,146 @@ fn faults(rt: HostRuntime) -> Result<(), Fail> {
         ("heap 4 16 8 1 0\nm0 mark 4\n", 2, Kind::BadActor),
         ("heap 4 16 8 1 0\n0 begin\n", 2, Kind::BadStep),
         ("heap 4 16 8 1 0\n\n", 2, Kind::BadActor),
+        ("heap 4 16 8 1 0\ngc pause\n", 2, Kind::BadStep),
+        ("heap 4 16 8 1 0\ngc pause 4294967296\n", 2, Kind::BadStep),
         ("heap 4 16 8 1 0\n0 read r0 0\nx\ny\n", 3, Kind::BadActor),
         ("heap 4 16 8 1 0\nx\n0 read r0 0", 2, Kind::BadActor),
     ];
     for (text, line, kind) in rows {
         let fault = fault_of(alloc, text.as_bytes());
         assert_eq!(rt; fault, Some(LineFault { line, kind }), "{text}");
+    }
+    Ok(())
+}
+
+/// The fault of a record's text; none where it is a record.
+fn record_fault_of(alloc: Global, text: &[u8]) -> Option<LineFault> {
+    match parse_record(alloc, text) {
+        Ok(_) => None,
+        Err(fault) => Some(fault),
+    }
+}
+
+#[test]
+fn record_faults(rt: HostRuntime) -> Result<(), Fail> {
+    let alloc = rt.alloc();
+    let rows: [(&str, Kind); 32] = [
+        ("2 0 drop r0 = ok", Kind::BadCount),
+        ("01 0 drop r0 = ok", Kind::BadCount),
+        ("0 0 drop r0 = ok", Kind::BadCount),
+        ("", Kind::BadCount),
+        ("2 x drop r0 = ok", Kind::BadCount),
+        ("1", Kind::BadActor),
+        ("1 = ok", Kind::BadActor),
+        ("1 1 drop r0 = ok", Kind::BadActor),
+        ("1 m8 mark 4 = ok", Kind::BadActor),
+        ("1 m00 mark 4 = ok", Kind::BadActor),
+        ("1 0 drop = ok", Kind::BadStep),
+        ("1 0 = ok", Kind::BadStep),
+        ("1 0 drop r0 =ok", Kind::BadStep),
+        ("1 0 drop r0 =", Kind::BadStep),
+        ("1 m0 refine 2 = refined 0", Kind::BadStep),
+        ("1 f0 mark 4 = ok", Kind::BadStep),
+        ("1 0 put r0 0 nil 1 1 1 1 1 1 = ok", Kind::BadStep),
+        ("1 0 drop r0", Kind::BadReply),
+        ("1 0 drop r0 = ", Kind::BadReply),
+        ("1 0 drop r0 = ok = ok", Kind::BadReply),
+        ("1 0 drop r0 = done", Kind::BadReply),
+        ("1 0 drop r0 = refused 1 NoField", Kind::BadReply),
+        ("1 0 drop r0 = refused 8 NoMemory", Kind::BadReply),
+        ("1 0 drop r0 = refused", Kind::BadReply),
+        ("1 0 drop r0 = #", Kind::BadReply),
+        ("1 0 drop r0 = #18446744073709551616", Kind::BadReply),
+        ("1 gc remark = marked 4294967296", Kind::BadReply),
+        ("1 gc pause 1 = moved 1 4294967296", Kind::BadReply),
+        ("1 gc pause 1 = moved 1", Kind::BadReply),
+        ("1 0 shape r0 = 4294967296 0", Kind::BadReply),
+        ("1 gc remark = marked 00", Kind::BadReply),
+        ("1 0 write r0 0 0 = moved 1 1 1", Kind::BadReply),
+    ];
+    for (line, kind) in rows {
+        let text = format!(in alloc; "heap 4 16 8 1 0\n{line}\n")?;
+        let fault = record_fault_of(alloc, text.as_bytes());
+        assert_eq!(rt; fault, Some(LineFault { line: 2, kind }), "{line}");
+    }
+    let empty = LineFault {
+        line: 1,
+        kind: Kind::BadHeap,
+    };
+    assert_eq!(rt; record_fault_of(alloc, b""), Some(empty));
+    Ok(())
+}
+
+/// Records, each with its number of events.
+const RECORDS: [(&str, usize); 9] = [
+    ("heap 4 16 8 1 0\n", 0),
+    (
+        "heap 4 16 8 1 0\n1 0 new r0 1 1 = #0\n2 0 read r0 0 = 0\n3 0 get r1 r0 0 = nil\n",
+        3,
+    ),
+    (
+        "heap 4 16 8 2 0\n1 0 new r0 0 1 = #0\n2 0 save g0 r0 = ok\n3 1 load r1 g0 = #0\n4 1 write r1 0 2 = ok\n5 0 write r0 0 1 = ok\n6 1 read r1 0 = 1\n",
+        6,
+    ),
+    (
+        "heap 4 16 8 1 0\n1 0 new r0 0 1 = refused 3 Full\n2 0 read r0 0 = refused 1 Nil\n3 gc remark = marked 99\n",
+        3,
+    ),
+    ("heap 4 16 8 1 0\n1 0 drop r0 = nil\n", 1),
+    (
+        "heap 4 16 8 1 0\n1 m7 mark 9 = refused 7 NotMarking\n2 f7 refine 1 = refined 5\n",
+        2,
+    ),
+    (
+        "heap 4 16 8 1 0\n1 gc begin = reclaimed 7\n2 gc begin = refused 6 MarkRunning\n3 gc cleanup = moved 1 4294967295\n4 gc pause 0 = 4294967295 0\n",
+        4,
+    ),
+    (
+        "heap 4 16 8 1 18446744073709551614\n1 0 new r7 0 0 = #18446744073709551614\n2 0 new r7 0 0 = refused 5 NamesSpent\n3 0 new r7 31 32 = refused 4 TooBig\n4 0 put r7 0 nil = refused 2 NoField\n5 0 read r7 0 = 18446744073709551615\n",
+        5,
+    ),
+    (
+        "heap 6 16 4 1 0\n1 0 new r0 1 0 = #0\n2 0 new r1 0 1 = #1\n3 0 write r1 0 5 = ok\n4 0 put r0 0 r1 = ok\n5 0 drop r1 = ok\n6 gc begin = ok\n7 0 new r1 2 2 = #2\n8 0 new r2 2 2 = #3\n9 0 new r3 2 2 = #4\n10 0 new r4 2 2 = #5\n11 0 get r5 r0 0 = #1\n12 0 put r4 0 r5 = ok\n13 0 put r0 0 nil = ok\n14 0 drop r5 = ok\n15 0 drop r3 = ok\n16 gc pause 100 = moved 2 12\n17 gc refine 5 = refined 1\n18 gc mark 10 = ok\n19 gc remark = marked 2\n20 0 get r6 r4 0 = #1\n21 0 read r6 0 = 5\n",
+        21,
+    ),
+];
+
+#[test]
+fn records_are_read_back(rt: HostRuntime) -> Result<(), Fail> {
+    let alloc = rt.alloc();
+    for (text, events) in RECORDS {
+        let Ok(history) = parse_record(alloc, text.as_bytes()) else {
+            return Err(Fail::from("this is a record"));
+        };
+        assert_eq!(rt; history.events().len(), events, "{text}");
+        let mut written = Vec::new(alloc);
+        let Ok(()) = write_record(alloc, &history, &mut written) else {
+            return Err(Fail::from("this can be written"));
+        };
+        assert_eq!(rt; written.as_slice(), text.as_bytes(), "{text}");
+    }
+    Ok(())
+}
+
+#[test]
+fn beginnings_of_records(rt: HostRuntime) -> Result<(), Fail> {
+    let alloc = rt.alloc();
+    for (text, _) in RECORDS {
+        let text = text.as_bytes();
+        let mut line = 1u64;
+        for end in 1..text.len() {
+            let fault = record_fault_of(alloc, &text[..end]);
+            if text[end - 1] == b'\n' {
+                line = line.saturating_add(1);
+                assert_eq!(rt; fault, None, "{end}");
+            } else {
+                let cut = LineFault {
+                    line,
+                    kind: Kind::Cut,
+                };
+                assert_eq!(rt; fault, Some(cut), "{end}");
+            }
+        }
     }
     Ok(())
 }
@@ -208,8 +348,10 @@ fn many_forms(alloc: Global) -> Result<Record, Fail> {
         (
             Action::New {
                 to: a,
-                pointers: 4,
-                values: 4_294_967_295,
+                counts: Counts {
+                    pointers: 4,
+                    values: 4_294_967_295,
+                },
             },
             Reply::Named(Some(18_446_744_073_709_551_615)),
         ),

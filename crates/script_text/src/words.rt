@@ -9,32 +9,23 @@ ghost use Rattle.object_graph.specs.declared.step.Register.{Register};
 
 use object_graph::{GlobalRoot, Register};
 
-/// A line without its line feed, and its words. Only the first seven are kept: no good line has more.
+/// The line at the front of a text, without its line feed: how many bytes it has, and how many of its words are kept.
 #[derive(Clone, Copy)]
-pub(crate) struct Line<'a> {
-    pub(crate) bytes: &'a [u8],
-    words: [&'a [u8]; 7],
-    count: usize,
-    ghost within: { count ≤ 7 },
-    ghost split: { map (λ w. w.now) (take count words) ≡ take 7 (words_of bytes.now) },
+pub(crate) struct Front {
+    pub(crate) length: usize,
+    pub(crate) count: usize,
 }
 
-impl<'a> Line<'a> {
-    /// The first seven words.
-    pub(crate) fn words(&self) -> &[&'a [u8]]
-        ensures { map (λ w. w.now) result.now ≡ take 7 (words_of self.now.bytes.now) }
-    {
-        &self.words[..self.count]
-    }
-}
-
-/// The line at the front of a text, where a line feed ends it.
-pub(crate) fn first_line(text: &[u8]) -> Option<Line<'_>>
-    ensures some { IfSome result (λ l. pieces_of text.now ≡ l.bytes.now ∷ pieces_of (drop (length l.bytes.now + 1) text.now)) }
-    ensures within { IfSome result (λ l. length l.bytes.now < length text.now) }
+/// Finds the line at the front of a text, where a line feed ends it, and puts its first eleven words into `words`. No good
+/// line has more. Where there is no line, `words` may have changed too.
+pub(crate) fn split_line<'a>(text: &'a [u8], words: &mut [&'a [u8]]) -> Option<Front>
+    requires { length words.old ≡ 11 }
+    ensures line { IfSome result (λ f. pieces_of text.now ≡ take f.length text.now ∷ pieces_of (drop (f.length + 1) text.now)) }
+    ensures within { IfSome result (λ f. f.length < length text.now) }
+    ensures kept { IfSome result (λ f. f.count ≤ 11) }
+    ensures words { IfSome result (λ f. map (λ w. w.now) (take f.count words.new) ≡ take 11 (words_of (take f.length text.now))) }
     ensures none { IfNone result (pieces_of text.now ≡ text.now ∷ []) }
 {
-    let mut words: [&[u8]; 7] = [&text[..0]; 7];
     let mut count = 0;
     let mut start = 0;
     let mut at = 0;
@@ -45,17 +36,13 @@ pub(crate) fn first_line(text: &[u8]) -> Option<Line<'_>>
             continue;
         }
         if byte == b'\n' {
-            if count < 7 {
+            if count < 11 {
                 words[count] = &text[start..at];
                 count += 1;
             }
-            return Some(Line {
-                bytes: &text[..at],
-                words,
-                count,
-            });
+            return Some(Front { length: at, count });
         }
-        if byte == b' ' && count < 7 {
+        if byte == b' ' && count < 11 {
             words[count] = &text[start..at];
             count += 1;
             start = at + 1;

@@ -8,26 +8,40 @@ use crate::fault::WriteFault;
 use crate::lines::{LINE_ROOM, put_event, put_heap};
 use object_graph::Record;
 use std::alloc::Global;
-use std::io::Write;
+use std::io::{ErrorKind, Write};
 
 /// How many bytes are gathered before they are written out.
 const ROOM: usize = 8192;
 
-/// Writes bytes in their order. Where it fails, a beginning of them is written.
-fn write_bytes<W: Write>(writer: &mut W, bytes: &[u8]) -> Result<(), WriteFault>
+/// How often a writer is asked: one that is interrupted each time is given up then.
+const MOST_WRITES: u64 = u64::MAX;
+
+/// Writes bytes in their order. Where it fails, a beginning of them is written. A write that is interrupted is tried again.
+pub fn write_bytes<W: Write>(writer: &mut W, bytes: &[u8]) -> Result<(), WriteFault>
     ensures ok { OnOk result (Appends (W.contents writer.old) (W.contents writer.new) bytes.now) }
     ensures err { OnErr result ((n : ℕ) × (n < length bytes.now) × Appends (W.contents writer.old) (W.contents writer.new) (take n bytes.now)) }
     ensures memory { result ≢ Err WriteFault.NoMemory }
 {
     let mut done = 0;
-    while done < bytes.len() {
+    for _ in 0..MOST_WRITES {
+        if done == bytes.len() {
+            return Ok(());
+        }
         match writer.write(&bytes[done..]) {
             Ok(0) => return Err(WriteFault::CannotWrite),
             Ok(count) => done += count,
-            Err(_) => return Err(WriteFault::CannotWrite),
+            Err(error) => {
+                if error.kind() != ErrorKind::Interrupted {
+                    return Err(WriteFault::CannotWrite);
+                }
+            }
         }
     }
-    Ok(())
+    if done == bytes.len() {
+        Ok(())
+    } else {
+        Err(WriteFault::CannotWrite)
+    }
 }
 
 /// Makes room for a line behind the first `at` bytes: where there is none, writes them out. Answers how many

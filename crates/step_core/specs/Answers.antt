@@ -1,5 +1,6 @@
 -- What a step answers, in the words of the graph.
-use Rattle.std.specs.Prelude.{◌≡◌, ℕ, ◌+◌, ◌*◌, ◌<◌, ◌⊎◌, Some, None}
+use Rattle.std.specs.Prelude.{◌≡◌, ℕ, Some, None}
+use Rattle.heap_words.specs.Sizes.{size_of}
 use Rattle.heap_model.specs.Graph.{Graph, next_name}
 use Rattle.object_graph.specs.Machine.{act}
 use Rattle.object_graph.specs.Run.{Happens}
@@ -12,20 +13,20 @@ use Rattle.object_graph.specs.declared.step.Reply.{Reply}
 use Rattle.object_graph.specs.declared.step.Reply.TheVariants as replies
 use Rattle.object_graph.specs.declared.step.Refusal.TheVariants as refusals
 use Rattle.alloc_buffers.specs.Placement.{place_of}
-use Rattle.step_core.specs.Stands.{CoreState, ShowsGraph, Stands}
+use Rattle.step_core.specs.Stands.{CoreState, State, ShowsGraph, Stands}
 
 -- the reply is the graph's, and the core shows the graph after it
 pub record Acts (g : Graph) (m : ℕ) (a : Action) (reply : Reply) (c : CoreState) : Type 0 where
   pub reply_is : reply ≡ (act g m a).0
   pub shows : ShowsGraph (act g m a).1 c
 
--- no place for so many words: they are more than half a region, or placement finds none
+-- placement finds no place for so many words
 abbrev pub HasNoPlace : CoreState → ℕ → ℕ → Type 0
-HasNoPlace c m size = (c.table.words_per_region < 2 * size) ⊎ (place_of c.table c.buffers m size ≡ None)
+HasNoPlace c m size = place_of c.table c.buffers m size ≡ None
 
 -- the graph creates an object, and the heap has no place for it
 abbrev pub IsFull : Graph → ℕ → Action → CoreState → Type 0
-IsFull g m (actions.New to p d) c = ((act g m (actions.New to p d)).0 ≡ replies.Named (Some (next_name g))) × HasNoPlace c m (2 + p + d)
+IsFull g m (actions.New to counts) c = ((act g m (actions.New to counts)).0 ≡ replies.Named (Some (next_name g))) × HasNoPlace c m (size_of counts.pointers counts.values)
 IsFull g m _ c = ⊥
 
 -- the same of a step: the collector creates nothing
@@ -40,12 +41,16 @@ pub record RepliesFull (g : Graph) (m : ℕ) (a : Action) (c : CoreState) (reply
   pub same : c' ≡ c
 
 -- the snapshot after a step: the present graph where marking begins
-abbrev pub snapshot_after : Graph → Graph → Step → Reply → Graph
-snapshot_after s g (steps.Collector collector.Begin) replies.Done = g
-snapshot_after s g _ _ = s
+abbrev pub snapshot_after : State → Step → Reply → Graph
+snapshot_after s (steps.Collector collector.Begin) replies.Done = s.graph
+snapshot_after s _ _ = s.snapshot
 
--- the step takes the graph to another one, for which the core stands then, and for the snapshot after the step
-pub record Follows (g s : Graph) (step : Step) (reply : Reply) (c : CoreState) : Type 0 where
+-- the state after a step that leads to this graph
+abbrev pub state_after : State → Step → Reply → Graph → State
+state_after s step reply after = record { graph = after; snapshot = snapshot_after s step reply }
+
+-- the step takes the graph to another one, and the core stands for the state after it
+pub record Follows (s : State) (step : Step) (reply : Reply) (c : CoreState) : Type 0 where
   pub after : Graph
-  pub happens : Happens g step reply after
-  pub stands : Stands after (snapshot_after s g step reply) c
+  pub happens : Happens s.graph step reply after
+  pub stands : Stands (state_after s step reply after) c

@@ -1,15 +1,20 @@
 -- What each step of the collector does to a core, exactly.
-use Rattle.std.specs.Prelude.{◌≡◌, ◌≢◌, ℕ, suc, ◌+◌, ◌<◌, ◌≤◌, ◌↔◌, ⊤, Bool, true, false, Some, [], ◌∷◌, length, drop, min, count_by}
+use Rattle.std.specs.Prelude.{◌≡◌, ◌≢◌, ◌⊎◌, ℕ, ◌+◌, ◌-◌, ◌*◌, ◌<◌, ◌≤◌, ◌↔◌, true, false, Some, None, List, length, slice_get, slice_index}
 use Rattle.heap_model.specs.Graph.{Graph, IsReachable}
 use Rattle.heap_model.specs.Heap.{Stored}
 use Rattle.heap_model.specs.Marking.{Begins}
-use Rattle.regions.specs.Table.{Table, Free, region_number, is_free, kind_of}
+use Rattle.regions.specs.Tiles.{Object, tile_size}
+use Rattle.regions.specs.Table.{Free, First, nth_region, kind_of, top_of}
 use Rattle.regions.specs.declared.row.Kind.TheVariants as kinds
 use Rattle.alloc_buffers.specs.Placement.{retired}
-use Rattle.mark_bitmap.specs.Marks.{HasNone}
+use Rattle.mark_bitmap.specs.Marks.{is_marked, marked_count, HasNone}
+use Rattle.mark_bitmap.specs.Tops.{exchanged, is_in_region}
 use Rattle.mark_bitmap.specs.Grey.{is_grey}
 use Rattle.mark_bitmap.specs.Live.{live_bound_of}
 use Rattle.marker.specs.Ends.{EndsMarking}
+use Rattle.marker.specs.Counts.{IsMore, restarted}
+use Rattle.marker.specs.Steps.{Grows, SameRoles, ScansMore}
+use Rattle.remembered_sets.specs.Sets.{empty_set, set_of}
 use Rattle.object_graph.specs.declared.step.CollectorStep.{CollectorStep}
 use Rattle.object_graph.specs.declared.step.CollectorStep.TheVariants as collector
 use Rattle.object_graph.specs.declared.step.Step.{Step}
@@ -17,113 +22,111 @@ use Rattle.object_graph.specs.declared.step.Step.TheVariants as steps
 use Rattle.object_graph.specs.declared.step.Reply.{Reply}
 use Rattle.object_graph.specs.declared.step.Reply.TheVariants as replies
 use Rattle.object_graph.specs.declared.step.Refusal.TheVariants as refusals
-use Rattle.step_core.specs.Stands.{CoreState, kept_of, heap_of, marking_of, Stands}
+use Rattle.step_core.specs.Stands.{CoreState, kept_of, heap_of, marking_of, State, Stands}
+use Rattle.step_core.specs.Mutators.{ActsOn}
+use Rattle.region_choice.specs.declared.LiveRow.{LiveRow}
+use Rattle.evacuation.specs.Evacuates.{is_chosen}
+use Rattle.step_core.specs.Reclaimed.{IsReclaimed}
+use Rattle.step_core.specs.Refining.{HasRefined}
+use Rattle.step_core.specs.Pause.{HasPaused, IsChosen}
 
--- a region was in use, and is free now
-pub record IsReclaimed (t t' : Table) (k : ℕ) : Type 0 where
-  pub used : kind_of t k ≢ kinds.Free
-  pub free : kind_of t' k ≡ kinds.Free
-
--- what a region can be reclaimed for: nothing in it is live. It is an ordinary one, and no objects are cut from it now
-pub record IsDead (c : CoreState) (k : ℕ) : Type 0 where
+-- an ordinary region of which nothing is live, and from which no objects are cut now
+pub record IsDeadRegion (c : CoreState) (k : ℕ) : Type 0 where
   pub ordinary : kind_of c.table k ≡ kinds.Ordinary
   pub other : c.buffers.current ≢ Some k
   pub live_bound : live_bound_of c.table c.marker.tams.previous c.marker.bitmaps.previous k ≡ 0
 
--- the same objects are kept in the same places, and the roots hold the same
-pub record KeepsAll (c c' : CoreState) : Type 0 where
-  pub config : c'.config ≡ c.config
-  pub kept : (a : ℕ) → kept_of c' a ≡ kept_of c a
-  pub roots : c'.roots ≡ c.roots
-  pub next : c'.next ≡ c.next
+-- region k is one of a run whose object isn't kept
+pub record IsDeadRun (c : CoreState) (k : ℕ) : Type 0 where
+  pub first : ℕ
+  pub object : Stored
+  pub begins : nth_region c.table first ≡ First object
+  pub low : first ≤ k
+  pub reaches : (k - first) * c.table.words_per_region < tile_size (Object object)
+  pub dead : kept_of c (first * c.table.words_per_region) ≡ None
 
--- marking runs: what roots name is marked, nothing is scanned, and no buffer is open, so that what is made from now
--- on is new
+-- what a region can be reclaimed for: nothing in it is live
+abbrev pub IsDead : CoreState → ℕ → Type 0
+IsDead c k = IsDeadRegion c k ⊎ IsDeadRun c k
+
+-- Marking runs: what roots name is marked, nothing is scanned, and no buffer is open, so that what is made from now
+-- on is new. What is kept stays
 pub record HasBegun (c c' : CoreState) : Type 0 where
-  pub all : KeepsAll c c'
-  pub table : c'.table ≡ c.table
-  pub buffers : c'.buffers ≡ retired c.buffers
+  pub same : c' ≡ record c { buffers = retired c.buffers; marker = c'.marker }
   pub running : c'.marker.running ≡ true
   pub begins : Begins (heap_of c') (marking_of c')
-  pub scans : c'.marker.scans ≡ 0
+  pub scans : c'.marker.scans ≡ restarted c.marker.scans
+  pub tops : (k : ℕ) → k < length c.table.regions → slice_index c'.marker.tams.next k ≡ top_of c.table k
+  pub previous_tops : c'.marker.tams.previous ≡ c.marker.tams.previous
+  pub previous_marks : c'.marker.bitmaps.previous ≡ c.marker.bitmaps.previous
 
--- so many grey objects were scanned, k at most, and fewer only if no grey object is left
+-- So many grey objects were scanned, k at most, and fewer only if no grey object is left. What was marked or scanned is so still, and
+-- the logs, the tops and what is kept stay
 pub record HasMarked (k : ℕ) (c c' : CoreState) : Type 0 where
-  pub all : KeepsAll c c'
-  pub table : c'.table ≡ c.table
-  pub buffers : c'.buffers ≡ c.buffers
-  pub running : c'.marker.running ≡ true
+  pub same : c' ≡ record c { marker = c'.marker }
   pub units : ℕ
   pub most : units ≤ k
   pub none_left : units < k → HasNone (is_grey c'.marker.bitmaps.next c'.marker.grey) 0
-  pub scans : c'.marker.scans ≡ c.marker.scans + units
+  pub scans : IsMore c.marker.scans c'.marker.scans units
+  pub scanned : marked_count c'.marker.grey.scanned ≡ marked_count c.marker.grey.scanned + units
+  pub grows : Grows c.marker c'.marker
+  pub roles : SameRoles c.marker c'.marker
+  pub logs : c'.marker.logs ≡ c.marker.logs
 
--- marking is over. The names marked are those that were reachable in the snapshot, n of them, each scanned once; what
+-- Marking is over. The names marked are those that were reachable in the snapshot, n of them, each scanned once; what
 -- is kept from now on is those and what was made since, and where the snapshot is still the graph, what is reachable
 pub record HasRemarked (n : ℕ) (c c' : CoreState) : Type 0 where
-  pub config : c'.config ≡ c.config
-  pub roots : c'.roots ≡ c.roots
-  pub next : c'.next ≡ c.next
-  pub table : c'.table ≡ c.table
-  pub buffers : c'.buffers ≡ c.buffers
+  pub same : c' ≡ record c { marker = c'.marker }
   pub over : c'.marker.running ≡ false
-  pub ends : (g s : Graph) → Stands g s c → EndsMarking s g c.table c.roots c.marker c'.marker n
-  pub quiet : (g : Graph) → Stands g g c → (a : ℕ) (x : Stored) → kept_of c' a ≡ Some x → IsReachable g x.name
-  pub scans : c'.marker.scans ≡ n
+  pub ends : (s : State) → Stands s c → EndsMarking s.snapshot s.graph c.table c.roots c.marker c'.marker n
+  pub quiet : (g : Graph) → Stands (record { graph = g; snapshot = g }) c → (a : ℕ) (x : Stored) → kept_of c' a ≡ Some x → IsReachable g x.name
+  pub scans : c'.marker.scans.since ≡ n
+  pub counted : c'.marker.scans.since ≡ marked_count c'.marker.grey.scanned
+  pub work : ScansMore c.marker c'.marker
+  pub scanned : (a : ℕ) → is_marked c.marker.grey.scanned a ≡ true → is_marked c'.marker.grey.scanned a ≡ true
+  pub tops : c'.marker.tams ≡ exchanged c.marker.tams
+  pub marks : c'.marker.bitmaps.next ≡ c.marker.bitmaps.previous
 
--- one dead region is free now, and the others are as they were, dead or not
-pub record HasReleased (k : ℕ) (c c' : CoreState) : Type 0 where
-  pub all : KeepsAll c c'
-  pub buffers : c'.buffers ≡ c.buffers
-  pub idle : c'.marker.running ≡ false
-  pub count : length c'.table.regions ≡ length c.table.regions
-  pub free : region_number c'.table k ≡ Free
-  pub others : (j : ℕ) → j ≢ k → region_number c'.table j ≡ region_number c.table j
-  pub dead : (j : ℕ) → j ≢ k → IsDead c' j ↔ IsDead c j
-  pub more : count_by is_free c'.table.regions ≡ suc (count_by is_free c.table.regions)
+-- a free region as in a new heap: its set is empty, its tops at mark start are its bottom, and it has no marks
+pub record IsAsNew (c : CoreState) (k : ℕ) : Type 0 where
+  pub free : nth_region c.table k ≡ Free
+  pub set : set_of c.sets k ≡ empty_set (length c.sets.sets)
+  pub previous_top : slice_index c.marker.tams.previous k ≡ k * c.table.words_per_region
+  pub next_top : slice_index c.marker.tams.next k ≡ k * c.table.words_per_region
+  pub previous_marks : (a : ℕ) → is_in_region c.table.words_per_region k a ≡ true → is_marked c.marker.bitmaps.previous a ≡ false
+  pub next_marks : (a : ℕ) → is_in_region c.table.words_per_region k a ≡ true → is_marked c.marker.bitmaps.next a ≡ false
 
--- the dead regions, n of them, are reclaimed, and no others
+-- a region is as it was, with its set, its tops at mark start and its marks
+pub record IsAsBefore (c c' : CoreState) (k : ℕ) : Type 0 where
+  pub region : nth_region c'.table k ≡ nth_region c.table k
+  pub set : set_of c'.sets k ≡ set_of c.sets k
+  pub previous_top : slice_index c'.marker.tams.previous k ≡ slice_index c.marker.tams.previous k
+  pub next_top : slice_index c'.marker.tams.next k ≡ slice_index c.marker.tams.next k
+  pub previous_marks : (a : ℕ) → is_in_region c.table.words_per_region k a ≡ true → is_marked c'.marker.bitmaps.previous a ≡ is_marked c.marker.bitmaps.previous a
+  pub next_marks : (a : ℕ) → is_in_region c.table.words_per_region k a ≡ true → is_marked c'.marker.bitmaps.next a ≡ is_marked c.marker.bitmaps.next a
+
+-- regions change, with their sets, tops and marks, and else nothing does; and what is kept stays
+pub record ChangesRegions (c c' : CoreState) : Type 0 where
+  pub same : c' ≡ record c { table = c'.table; marker = c'.marker; sets = c'.sets }
+  pub marker : c'.marker ≡ record c.marker { tams = c'.marker.tams; bitmaps = c'.marker.bitmaps }
+  pub size : c'.table.words_per_region ≡ c.table.words_per_region
+  pub kept : (a : ℕ) → kept_of c' a ≡ kept_of c a
+
+-- the dead regions are so many: they stand in a list, each once, and no others
+pub record CountsDead (c : CoreState) (n : ℕ) : Type 0 where
+  pub regions : List ℕ
+  pub distinct : (i j k : ℕ) → slice_get regions i ≡ Some k → slice_get regions j ≡ Some k → i ≡ j
+  pub only : (i k : ℕ) → slice_get regions i ≡ Some k → IsDead c k
+  pub each : (k : ℕ) → IsDead c k → (i : ℕ) × (slice_get regions i ≡ Some k)
+  pub count : n ≡ length regions
+
+-- the dead regions, n of them, are as in a new heap now, and every other region is as it was
 pub record HasCleaned (n : ℕ) (c c' : CoreState) : Type 0 where
-  pub all : KeepsAll c c'
-  pub buffers : c'.buffers ≡ c.buffers
-  pub idle : c'.marker.running ≡ false
+  pub changes : ChangesRegions c c'
+  pub count : CountsDead c n
   pub reclaimed : (k : ℕ) → IsReclaimed c.table c'.table k ↔ IsDead c k
-  pub count : count_by is_free c'.table.regions ≡ count_by is_free c.table.regions + n
-
--- the card was the queue's front, and isn't in it now
-pub record HasTaken (card : ℕ) (c c' : CoreState) : Type 0 where
-  pub all : KeepsAll c c'
-  pub table : c'.table ≡ c.table
-  pub buffers : c'.buffers ≡ c.buffers
-  pub marker : c'.marker ≡ c.marker
-  pub queue : c.cards.queue ≡ card ∷ c'.cards.queue
-  pub logs : c'.cards.logs ≡ c.cards.logs
-
--- the front of the queue was refined, and nothing else of the core changed but what sets cover; or the queue is empty, and
--- nothing changed
-abbrev pub RefinesCard : Bool → CoreState → CoreState → Type 0
-RefinesCard true c c' = (card : ℕ) × HasTaken card c c'
-RefinesCard false c c' = (c.cards.queue ≡ []) × (c' ≡ c)
-
--- the first n cards of the queue were refined, k at most, and fewer only if there are no more; the rest of the queue stays, and
--- what stands in the logs
-pub record HasRefined (k n : ℕ) (c c' : CoreState) : Type 0 where
-  pub all : KeepsAll c c'
-  pub table : c'.table ≡ c.table
-  pub buffers : c'.buffers ≡ c.buffers
-  pub marker : c'.marker ≡ c.marker
-  pub count : n ≡ min k (length c.cards.queue)
-  pub queue : c'.cards.queue ≡ drop n c.cards.queue
-  pub logs : c'.cards.logs ≡ c.cards.logs
-
--- a step of the collector that the heap does: a part of a marking cycle, and refinement
-abbrev pub IsCycleStep : CollectorStep → Type 0
-IsCycleStep collector.Begin = ⊤
-IsCycleStep (collector.Mark k) = ⊤
-IsCycleStep collector.Remark = ⊤
-IsCycleStep collector.Cleanup = ⊤
-IsCycleStep (collector.Refine k) = ⊤
-IsCycleStep (collector.Pause k) = ⊥
+  pub dead : (k : ℕ) → IsDead c k → IsAsNew c' k
+  pub others : (k : ℕ) → (IsDead c k → ⊥) → IsAsBefore c c' k
 
 -- a step of the collector is done, or refused, which changes nothing. Begin and cleanup are refused while marking runs,
 -- mark and remark while it doesn't
@@ -137,17 +140,31 @@ Collects collector.Remark (replies.Refused refusals.NotMarking) c c' = (c.marker
 Collects collector.Cleanup (replies.Reclaimed n) c c' = (c.marker.running ≡ false) × HasCleaned n c c'
 Collects collector.Cleanup (replies.Refused refusals.MarkRunning) c c' = (c.marker.running ≡ true) × (c' ≡ c)
 Collects (collector.Refine k) (replies.Refined n) c c' = HasRefined k n c c'
+Collects (collector.Pause budget) (replies.Moved n w) c c' = HasPaused budget n w c c'
 Collects _ _ _ _ = ⊥
 
--- a mutator's step does none of the collector's work: marking runs as before, no object is scanned, and each region in
--- use stays in use
+-- the heap's sizes stay, and each region in use stays in use
 pub record LeavesRegions (c c' : CoreState) : Type 0 where
   pub config : c'.config ≡ c.config
-  pub running : c'.marker.running ≡ c.marker.running
-  pub scans : c'.marker.scans ≡ c.marker.scans
   pub in_use : (k : ℕ) → kind_of c.table k ≢ kinds.Free → kind_of c'.table k ≢ kinds.Free
 
 -- what a step does to the core, whatever graph it stands for
 abbrev pub Does : Step → Reply → CoreState → CoreState → Type 0
-Does (steps.Mutator o) reply c c' = LeavesRegions c c'
+Does (steps.Mutator o) reply c c' = ActsOn o.mutator o.action reply c c'
 Does (steps.Collector k) reply c c' = Collects k reply c c'
+
+-- a region of the collection set of a pause with this budget
+pub record IsInSet (budget : ℕ) (c : CoreState) (k : ℕ) : Type 0 where
+  pub chosen : List LiveRow
+  pub choice : IsChosen c.table c.marker.tams c.marker.bitmaps.previous c.marker.running budget chosen
+  pub inside : is_chosen chosen k ≡ true
+
+-- what a step may reclaim: a cleanup dead regions, a pause its collection set, any other step nothing
+abbrev pub MayReclaim : Step → CoreState → ℕ → Type 0
+MayReclaim (steps.Mutator o) c k = ⊥
+MayReclaim (steps.Collector collector.Begin) c k = ⊥
+MayReclaim (steps.Collector (collector.Mark n)) c k = ⊥
+MayReclaim (steps.Collector collector.Remark) c k = ⊥
+MayReclaim (steps.Collector collector.Cleanup) c k = IsDead c k
+MayReclaim (steps.Collector (collector.Refine n)) c k = ⊥
+MayReclaim (steps.Collector (collector.Pause budget)) c k = IsInSet budget c k

@@ -1,43 +1,55 @@
 -- The cores and graphs of a run.
-use Rattle.std.specs.Prelude.{◌≡◌, ◌<◌, List, [], ◌∷◌}
+use Rattle.std.specs.Prelude.{◌≡◌, ◌↔◌, List, [], ◌∷◌}
 use Rattle.heap_words.specs.declared.config.Config.{Config}
 use Rattle.heap_words.specs.Configs.{Suits, IsFirstFault}
-use Rattle.heap_model.specs.Graph.{Graph}
 use Rattle.object_graph.specs.declared.step.Actor.{Actor}
 use Rattle.object_graph.specs.declared.step.Actor.TheVariants as actors
 use Rattle.object_graph.specs.declared.step.Event.{Event}
 use Rattle.object_graph.specs.declared.step.Step.{Step}
 use Rattle.object_graph.specs.declared.step.Step.TheVariants as steps
-use Rattle.object_graph.specs.State.{first_state}
+use Rattle.object_graph.specs.declared.step.Reply.TheVariants as replies
+use Rattle.object_graph.specs.declared.step.Refusal.TheVariants as refusals
+use Rattle.cards.specs.Cards.{ListsDirtyOnce}
 use Rattle.step_core.specs.declared.runs.RunFault.{RunFault}
 use Rattle.step_core.specs.declared.runs.RunFault.TheVariants as faults
-use Rattle.step_core.specs.Stands.{CoreState, Stands, IsWhole}
-use Rattle.step_core.specs.Answers.{Follows, snapshot_after}
-use Rattle.step_core.specs.Cycle.{Does, IsCycleStep}
+use Rattle.step_core.specs.Stands.{CoreState, State, Stands, IsCore, IsWhole}
+use Rattle.step_core.specs.Fresh.{fresh_core, fresh_state}
+use Rattle.step_core.specs.Answers.{Follows, IsFullStep, state_after}
+use Rattle.step_core.specs.Cycle.{Does}
 
--- Graphs, snapshots and cores between the events: each core stands for its graph and its snapshot. After each event every
--- object that a root reaches stands, whole and once, in regions in use
-abbrev pub IsHistory : Graph → Graph → CoreState → List Event → Graph → Graph → CoreState → Type 0
-IsHistory g s c [] g' s' c' = (g' ≡ g) × (s' ≡ s) × (c' ≡ c)
-IsHistory g s c (e ∷ es) g' s' c' = (mid : CoreState) × (f : Follows g s e.step e.reply mid) × Does e.step e.reply c mid × IsWhole f.after mid
-    × IsHistory f.after (snapshot_after s g e.step e.reply) mid es g' s' c'
+-- An event takes a core that stands for a state to the next. The reply is Full exactly where there is no place; the next core
+-- keeps what every core keeps, its dirty cards are listed once, and every object that a root reaches stands, whole and once, in regions in use
+pub record Passes (s : State) (c : CoreState) (e : Event) (c' : CoreState) : Type 0 where
+  pub follows : Follows s e.step e.reply c'
+  pub does : Does e.step e.reply c c'
+  pub full : (e.reply ≡ replies.Refused refusals.Full) ↔ IsFullStep s.graph e.step c
+  pub core : IsCore c'
+  pub listed : ListsDirtyOnce c'.cards
+  pub whole : IsWhole follows.after c'
 
--- a history from a graph, a snapshot and a core on, to some graph and snapshot for which the last core stands
-pub record Runs (g s : Graph) (c : CoreState) (es : List Event) (c' : CoreState) : Type 0 where
-  pub last : Graph
-  pub snapshot : Graph
-  pub stands : Stands last snapshot c'
-  pub history : IsHistory g s c es last snapshot c'
+-- states and cores between the events: each core stands for its state
+abbrev pub IsHistory : State → CoreState → List Event → State → CoreState → Type 0
+IsHistory s c [] s' c' = (s' ≡ s) × (c' ≡ c)
+IsHistory s c (e ∷ es) s' c' = (mid : CoreState) × (p : Passes s c e mid) × IsHistory (state_after s e.step e.reply p.follows.after) mid es s' c'
 
--- the events of a new heap: a history from the first graph on, which is the first snapshot too
-pub record RunsFromNew (config : Config) (es : List Event) : Type 0 where
-  pub first : CoreState
-  pub last : CoreState
-  pub begins : Stands (first_state config) (first_state config) first
-  pub runs : Runs (first_state config) (first_state config) first es last
+-- a history from a state and a core on, to some state for which the last core stands
+pub record Runs (s : State) (c : CoreState) (es : List Event) (c' : CoreState) : Type 0 where
+  pub last : State
+  pub stands : Stands last c'
+  pub history : IsHistory s c es last c'
 
-abbrev pub step_of : Event → Step
-step_of e = e.step
+-- the events of a new heap, up to a core: a history from the new core on, which stands for the first graph
+pub record RunsTo (config : Config) (es : List Event) (c : CoreState) : Type 0 where
+  pub core : IsCore (fresh_core config)
+  pub stands : Stands (fresh_state config) (fresh_core config)
+  pub runs : Runs (fresh_state config) (fresh_core config) es c
+
+-- the same, up to some core
+abbrev pub RunsFromNew : Config → List Event → Type 0
+RunsFromNew config es = (last : CoreState) × RunsTo config es last
+
+abbrev pub step_in : Event → Step
+step_in e = e.step
 
 abbrev pub actor_in : Event → Actor
 actor_in e = e.actor
@@ -46,11 +58,6 @@ actor_in e = e.actor
 abbrev pub actor_of : Step → Actor
 actor_of (steps.Mutator o) = actors.Mutator o.mutator
 actor_of (steps.Collector k) = actors.Collector
-
--- a step that the heap does: a mutator's, its number below the count, or a part of a marking cycle
-abbrev pub IsStepYet : Config → Step → Type 0
-IsStepYet config (steps.Mutator o) = o.mutator < config.mutators
-IsStepYet config (steps.Collector k) = IsCycleStep k
 
 -- the only faults of a run by itself: want of memory, where the heap's sizes suit, and their first fault
 abbrev pub IsRunFault : Config → RunFault → Type 0

@@ -1,4 +1,10 @@
 pub mod Stands
+pub mod Fresh
 pub mod Answers
+pub mod Mutators
+pub mod Reclaimed
+pub mod Refining
+pub mod Pause
 pub mod Cycle
+pub mod Cleaning
 pub mod Histories

@@ -1,16 +1,19 @@
 -- A core, and the graph that it stands for.
-use Rattle.std.specs.Prelude.{◌≡◌, ℕ, ◌+◌, ◌-◌, ◌*◌, ◌^◌, ◌<◌, ◌≤◌, ⊤, List, Option, Some, None, length, slice_get, slice_index, true}
+use Rattle.std.specs.Prelude.{◌≡◌, ℕ, ◌+◌, ◌-◌, ◌*◌, ◌/◌, ◌^◌, ◌<◌, ◌≤◌, ⊤, List, Option, Some, None, length, slice_get, slice_index, true}
 use Rattle.std.specs.List.{AllZip}
 use Rattle.heap_words.specs.declared.config.Config.{Config}
-use Rattle.heap_words.specs.Configs.{Suits}
+use Rattle.heap_words.specs.Configs.{Suits, card_words}
 use Rattle.heap_model.specs.Graph.{Graph, Object, next_name, object_named, IsReachable}
 use Rattle.heap_model.specs.Heap.{Heap, Stored, Shows, IsShown, IsRoot, StandsOnce}
 use Rattle.heap_model.specs.Marking.{Marking, KeepsSnapshot}
-use Rattle.regions.specs.Tiles.{Live, tile_size}
-use Rattle.regions.specs.Table.{Table, object_at, HasNoMoved}
+use Rattle.regions.specs.Tiles as tiles
+use Rattle.regions.specs.Tiles.{tile_size}
+use Rattle.regions.specs.Table.{Table, object_at, object_words, kind_of, HasNoForwarded, AreHalves}
+use Rattle.regions.specs.declared.row.Kind.TheVariants as kinds
 use Rattle.regions.specs.Shaped.{AreInUse}
 use Rattle.alloc_buffers.specs.Placement.{Buffers, BuffersStand, AreAbove}
 use Rattle.mark_bitmap.specs.Kept.{kept_in}
+use Rattle.mark_bitmap.specs.Tops.{is_in_region}
 use Rattle.satb_log.specs.Logs.{log_of}
 use Rattle.marker.specs.declared.marker.Marker.{Marker}
 use Rattle.marker.specs.Stands.{MarkerStands}
@@ -18,6 +21,7 @@ use Rattle.marker.specs.Views as views
 use Rattle.cards.specs.Cards.{Cards, is_dirty}
 use Rattle.remembered_sets.specs.Sets.{Sets, card_count, covers}
 use Rattle.refinement.specs.Remembering.{Remembers}
+use Rattle.evacuation.specs.Rooms.{RoomSizes}
 use Rattle.object_graph.specs.State.{root_at}
 
 pub record CoreState : Type 0 where
@@ -28,6 +32,10 @@ pub record CoreState : Type 0 where
   pub cards : Cards
   -- the remembered set of each region
   pub sets : Sets
+  -- the room that a pause uses
+  pub room : RoomSizes
+  -- for how many candidates of a pause there is room
+  pub row_room : ℕ
   -- the globals, and each mutator's registers
   pub roots : List (Option ℕ)
   -- the name of the next object
@@ -45,14 +53,10 @@ heap_of c = record { kept = kept_of c; roots = c.roots }
 abbrev pub marking_of : CoreState → Marking
 marking_of c = views.marking_of c.table c.marker
 
--- how many words a card has
-abbrev pub card_words : ℕ
-card_words = 8
-
 -- cross-region pointers are remembered: the card of each field of a kept object that leads into another region than
 -- its word's is dirty, or the other region's set covers it
 abbrev pub RemembersFields : CoreState → Type 0
-RemembersFields c = Remembers c.table.words_per_region (kept_of c) card_words (is_dirty c.cards) (covers c.sets)
+RemembersFields c = Remembers c.table.words_per_region (kept_of c) (card_words c.config) (is_dirty c.cards) (covers c.sets)
 
 -- the heap shows the graph, whose next name is the core's
 pub record ShowsGraph (g : Graph) (c : CoreState) : Type 0 where
@@ -66,19 +70,29 @@ pub record KeepsFrom (s : Graph) (c : CoreState) : Type 0 where
   pub earlier : next_name s ≤ c.next
   pub marking : c.marker.running ≡ true → KeepsSnapshot s (heap_of c) (marking_of c)
 
--- the core stands for the present graph g and the snapshot s, the graph when marking last began
-pub record Stands (g s : Graph) (c : CoreState) : Type 0 where
-  pub shows : ShowsGraph g c
-  pub keeps : KeepsFrom s c
+-- what a core stands for: the present graph, and the snapshot, the graph when marking last began
+pub record State : Type 0 where
+  pub graph : Graph
+  pub snapshot : Graph
+
+-- the core shows the graph, and keeps what the snapshot needs
+pub record Stands (s : State) (c : CoreState) : Type 0 where
+  pub shows : ShowsGraph s.graph c
+  pub keeps : KeepsFrom s.snapshot c
 
 -- each name that a root reaches is borne by one kept object, which has the graph's contents; and every word of
 -- a kept object lies in a region that isn't free
 pub record IsWhole (g : Graph) (c : CoreState) : Type 0 where
   pub once : (n : ℕ) → IsReachable g n → StandsOnce g (heap_of c) n
-  pub in_use : (a : ℕ) (s : Stored) → kept_of c a ≡ Some s → AreInUse c.table a (tile_size (Live s))
+  pub in_use : (a : ℕ) (s : Stored) → kept_of c a ≡ Some s → AreInUse c.table a (tile_size (tiles.Object s))
+
+-- no object of an ordinary region that starts below the region's top at mark start reaches over it
+abbrev pub EndsBelow : Table → List ℕ → Type 0
+EndsBelow t tops = (k a : ℕ) → kind_of t k ≡ kinds.Ordinary → is_in_region t.words_per_region k a ≡ true → a < slice_index tops k → a + object_words t a ≤ slice_index tops k
 
 -- The layers below fit one another: they have the sizes of the configuration, open buffers are fillers of the table,
--- nothing has moved, what is still to be handed out lies at or above both tops at mark start, and no deletion log is full
+-- nothing has moved, what is still to be handed out lies at or above both tops at mark start, and no deletion log is full. Objects
+-- of ordinary regions have at most half a region's words, and none reaches over a top at mark start
 pub record LayersFit (config : Config) (t : Table) (b : Buffers) (m : Marker) : Type 0 where
   pub region_size : t.words_per_region ≡ config.words
   pub region_count : length t.regions ≡ config.regions
@@ -86,30 +100,39 @@ pub record LayersFit (config : Config) (t : Table) (b : Buffers) (m : Marker) : 
   pub open_buffers : length b.open_buffers ≡ config.mutators
   pub logs : length m.logs ≡ config.mutators
   pub buffers : BuffersStand t b
-  pub unmoved : HasNoMoved t
+  pub unmoved : HasNoForwarded t
   pub marker : MarkerStands t m
   pub above_previous : AreAbove t b (slice_index m.tams.previous)
   pub above_next : AreAbove t b (slice_index m.tams.next)
   pub room : (mutator : ℕ) → length (log_of m.logs mutator) < 8
+  pub halves : AreHalves t
+  pub ends_previous : EndsBelow t m.tams.previous
+  pub ends_next : EndsBelow t m.tams.next
 
 -- a region is a whole number of cards, and each mutator has a card log, each region a set
 pub record CardsFit (config : Config) (cards : Cards) (sets : Sets) : Type 0 where
-  pub whole_cards : config.words ≡ sets.cards_per_region * card_words
+  pub whole_cards : config.words ≡ sets.cards_per_region * card_words config
   pub each_region : length sets.sets ≡ config.regions
   pub each_card : length cards.dirty ≡ card_count sets
   pub each_mutator : length cards.logs ≡ config.mutators
 
--- What every core keeps. There is a graph that it stands for, and a snapshot: so each root is the start of an object
+-- a pause has room for each region and each card
+pub record IsRoomFor (config : Config) (room : RoomSizes) : Type 0 where
+  pub regions : room.regions ≡ config.regions
+  pub cards : room.cards ≡ config.regions * (config.words / card_words config)
+
+-- What every core keeps. There is a state that it stands for: so each root is the start of an object
 pub record IsCore (c : CoreState) : Type 0 where
   pub suits : Suits c.config
   pub layers : LayersFit c.config c.table c.buffers c.marker
   pub cards : CardsFit c.config c.cards c.sets
   pub remembers : RemembersFields c
+  pub room : IsRoomFor c.config c.room
+  pub rows : c.config.regions ≤ c.row_room
   pub places : length c.roots ≡ 16 + 8 * c.config.mutators
   pub names : c.next < 2 ^ 64
-  pub graph : Graph
-  pub snapshot : Graph
-  pub stands : Stands graph snapshot c
+  pub state : State
+  pub stands : Stands state c
 
 -- a word that shows something: nil, or the start of a kept object
 pub record IsWordOf (h : Heap) (w : Option ℕ) : Type 0 where

@@ -22,13 +22,16 @@
 ghost use Rattle.std.specs.Prelude.{◌≡◌, ℕ, ◌<◌, Option, Some, length, slice_set};
 ghost use Rattle.heap_model.specs.Graph.{Graph, Object, object_named, with_changed};
 ghost use Rattle.heap_model.specs.Heap.{Stored, IsRoot, IsHeld, IsShown};
-ghost use Rattle.regions.specs.Table.{pointers_at};
+ghost use Rattle.regions.specs.Table.{pointers_at, set_pointer};
 ghost use Rattle.cards.specs.Cards.{is_dirty};
 ghost use Rattle.refinement.specs.Remembering.{field_word, IsNoted};
-ghost use Rattle.step_core.specs.Stands.{card_words, ShowsGraph, KeepsFrom, heap_of, kept_of};
+ghost use Rattle.heap_words.specs.Configs.{card_words};
+ghost use Rattle.step_core.specs.Stands.{ShowsGraph, KeepsFrom, heap_of, kept_of};
+ghost use Rattle.marker.specs.Steps.{Overwrites};
+ghost use Rattle.step_core.specs.Mutators.{noted, pointer_of, with_pointer};
 ghost use Rattle.step_core.specs.Cycle.{LeavesRegions};
 
-use crate::heap::{CARD_WORDS, Core};
+use crate::heap::Core;
 use heap_words::addr::{Addr, Card, Ptr};
 
 impl Core {
@@ -39,7 +42,8 @@ impl Core {
         requires rooted { IsRoot (heap_of self.old) object }
         requires field { field < length (pointers_at self.old.table object) }
         ensures same { self.new ≡ record self.old { cards = self.new.cards } }
-        ensures noted { IsNoted self.new.table.words_per_region card_words (is_dirty self.new.cards) (field_word object field) target.now }
+        ensures cards { self.new.cards ≡ noted self.old mutator (field_word object field) target.now }
+        ensures noted { IsNoted self.new.table.words_per_region (card_words self.new.config) (is_dirty self.new.cards) (field_word object field) target.now }
     {
         let Some(to) = target else {
             return;
@@ -48,7 +52,8 @@ impl Core {
         let words = self.table.words_per_region();
         let word = object.word() + 2 + field;
         if to.word() / words != word / words {
-            self.cards.dirty(mutator, Card::new(word / CARD_WORDS));
+            self.cards
+                .dirty(mutator, Card::new(word / self.config.card_words()));
         }
     }
 
@@ -61,6 +66,8 @@ impl Core {
         ensures shows { (g : Graph) (x : Stored) (o : Object) (v : Option ℕ) → ShowsGraph g self.old → kept_of self.old object ≡ Some x → object_named g x.name ≡ Some o
             → IsShown (heap_of self.old) target v → ShowsGraph (with_changed g x.name (record { pointers = slice_set o.pointers field v; values = o.values })) self.new }
         ensures keeps { (s : Graph) → KeepsFrom s self.old → KeepsFrom s self.new }
+        ensures core { self.new ≡ record (with_pointer self.old mutator object field target) { marker = self.new.marker } }
+        ensures marker { Overwrites self.old.marker.running self.old.table mutator (pointer_of self.old object field) self.old.marker self.new.marker }
         ensures leaves { LeavesRegions self.old self.new }
     {
         self.note(mutator, object, field, &target);
@@ -73,10 +80,12 @@ impl Core {
         requires rooted { IsRoot (heap_of self.old) object }
         requires field { field < length (pointers_at self.old.table object) }
         requires held { IsHeld (heap_of self.old) target }
-        requires noted { IsNoted self.old.table.words_per_region card_words (is_dirty self.old.cards) (field_word object field) target }
+        requires noted { IsNoted self.old.table.words_per_region (card_words self.old.config) (is_dirty self.old.cards) (field_word object field) target }
         ensures shows { (g : Graph) (x : Stored) (o : Object) (v : Option ℕ) → ShowsGraph g self.old → kept_of self.old object ≡ Some x → object_named g x.name ≡ Some o
             → IsShown (heap_of self.old) target v → ShowsGraph (with_changed g x.name (record { pointers = slice_set o.pointers field v; values = o.values })) self.new }
         ensures keeps { (s : Graph) → KeepsFrom s self.old → KeepsFrom s self.new }
+        ensures core { self.new ≡ record self.old { table = set_pointer self.old.table object field target; marker = self.new.marker } }
+        ensures marker { Overwrites self.old.marker.running self.old.table mutator (pointer_of self.old object field) self.old.marker self.new.marker }
         ensures leaves { LeavesRegions self.old self.new }
     {
         if !self.marker.running {

@@ -30,6 +30,7 @@ impl Core {
         ensures keeps { (g : Graph) → ShowsGraph g self.old → KeepsFrom g self.new }
         ensures begun { HasBegun self.old self.new }
     {
+        self.table.law();
         self.buffers.retire_all();
         self.marker.begin(&self.table, self.roots.as_slice());
     }

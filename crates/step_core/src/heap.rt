@@ -4,27 +4,28 @@ ghost use Rattle.std.specs.Prelude.{◌≡◌, ℕ, ◌<◌, ◌≤◌, ◌+◌,
 ghost use Rattle.heap_words.specs.Configs.{Suits, IsNewFault};
 ghost use Rattle.heap_model.specs.Graph.{Graph};
 ghost use Rattle.heap_model.specs.Heap.{IsShown, IsHeld};
-ghost use Rattle.object_graph.specs.State.{first_state, register_place, with_root, root_at};
-ghost use Rattle.step_core.specs.Stands.{ShowsGraph, KeepsFrom, Stands, IsWhole, heap_of, IsWordOf, IsRootWord, Leads, name_in, RemembersFields};
+ghost use Rattle.object_graph.specs.State.{register_place, with_root, root_at};
+ghost use Rattle.step_core.specs.Stands.{ShowsGraph, KeepsFrom, State, Stands, IsCore, IsWhole, heap_of, IsWordOf, IsRootWord, Leads, name_in, RemembersFields};
 ghost use Rattle.cards.specs.Cards.{ListsDirtyOnce};
+ghost use Rattle.step_core.specs.Fresh.{fresh_core, fresh_state};
+ghost use Rattle.step_core.specs.Mutators.{register_of, with_root_word};
 ghost use Rattle.step_core.specs.Cycle.{LeavesRegions};
 
 use alloc_buffers::AllocBuffers;
 use cards::CardTable;
+use evacuation::PauseRoom;
 use heap_words::addr::{Addr, Ptr};
 use heap_words::config::{Config, NewFault};
 use marker::Marker;
 use object_graph::Register;
+use region_choice::LiveRow;
 use regions::RegionTable;
 use remembered_sets::RememberedSets;
 use std::alloc::{AllocError, Global};
 use std::marker::Model;
 
-/// How many words a card has.
-pub(crate) const CARD_WORDS: u32 = 8;
-
-/// A heap: its table of regions, its allocation buffers, its marker, its dirty cards and remembered sets, its roots and the
-/// name of its next object.
+/// A heap: its table of regions, its allocation buffers, its marker, its dirty cards and remembered sets, the room that a pause
+/// uses, its roots and the name of its next object.
 #[derive(Drop)]
 pub struct Core {
     pub(crate) config: Config,
@@ -33,18 +34,21 @@ pub struct Core {
     pub(crate) marker: Marker,
     pub(crate) cards: CardTable,
     pub(crate) sets: RememberedSets,
+    pub(crate) room: PauseRoom,
+    pub(crate) rows: Vec<LiveRow>,
     pub(crate) roots: Vec<Ptr>,
     pub(crate) next: u64,
 }
 
 impl Model for Core {
+    ghost use Rattle.std.specs.Vec.{vec_capacity};
     ghost use Rattle.step_core.specs.Stands.{CoreState, IsCore};
 
     ghost Value = { CoreState };
 
-    ghost view = { λ c. record { config = c.config; table = c.table; buffers = c.buffers; marker = c.marker; cards = c.cards; sets = c.sets; roots = c.roots.items; next = c.next } };
+    ghost view = { λ c. record { config = c.config; table = c.table; buffers = c.buffers; marker = c.marker; cards = c.cards; sets = c.sets; room = c.room; row_room = vec_capacity c.rows; roots = c.roots.items; next = c.next } };
 
-    ghost invariant = { λ c. IsCore (record { config = c.config; table = c.table; buffers = c.buffers; marker = c.marker; cards = c.cards; sets = c.sets; roots = c.roots.items; next = c.next }) };
+    ghost invariant = { λ c. IsCore (record { config = c.config; table = c.table; buffers = c.buffers; marker = c.marker; cards = c.cards; sets = c.sets; room = c.room; row_room = vec_capacity c.rows; roots = c.roots.items; next = c.next }) };
 }
 
 /// Where a mutator's register stands among the roots, behind the 16 globals.
@@ -63,8 +67,9 @@ fn nil_roots(alloc: Global, count: usize) -> Result<Vec<Ptr>, AllocError>
 impl Core {
     /// A heap with no objects, whose roots are nil.
     pub fn new(alloc: Global, config: &Config) -> Result<Core, NewFault>
-        ensures stands { IfOk result (Stands (first_state config.now) (first_state config.now)) }
-        ensures idle { IfOk result (λ c. c.marker.running ≡ false) }
+        ensures fresh { IfOk result (λ c. c ≡ fresh_core config.now) }
+        ensures core { IfOk result IsCore }
+        ensures stands { IfOk result (Stands (fresh_state config.now)) }
         ensures config { IfOk result (λ c. c.config ≡ config.now) }
         ensures suits { OnOk result (Suits config.now) }
         ensures fault { IfErr result (IsNewFault config.now) }
@@ -79,7 +84,7 @@ impl Core {
         let Ok(marker) = Marker::new(alloc, config) else {
             return Err(NewFault::NoMemory);
         };
-        let cards_per_region = config.words / CARD_WORDS;
+        let cards_per_region = config.words / config.card_words();
         let Ok(cards) = CardTable::new(alloc, config.regions * cards_per_region, config.mutators)
         else {
             return Err(NewFault::NoMemory);
@@ -90,6 +95,13 @@ impl Core {
         let Ok(roots) = nil_roots(alloc, 16 + 8 * config.mutators as usize) else {
             return Err(NewFault::NoMemory);
         };
+        let Ok(room) = PauseRoom::new(alloc, config.regions, config.regions * cards_per_region)
+        else {
+            return Err(NewFault::NoMemory);
+        };
+        let Ok(rows) = Vec::with_capacity(alloc, config.regions as usize) else {
+            return Err(NewFault::NoMemory);
+        };
         Ok(Core {
             config: *config,
             table,
@@ -97,6 +109,8 @@ impl Core {
             marker,
             cards,
             sets,
+            room,
+            rows,
             roots,
             next: config.first_name,
         })
@@ -119,7 +133,7 @@ impl Core {
 
     /// How many objects were scanned since marking began.
     pub fn scans(&self) -> u32
-        ensures { result ≡ self.now.marker.scans }
+        ensures { result ≡ self.now.marker.scans.since }
     {
         self.marker.scans()
     }
@@ -131,9 +145,10 @@ impl Core {
         self.cards.queued()
     }
 
-    /// Tells a proof that cross-region pointers are remembered, and that a card is dirty exactly when it is listed, once. It
-    /// does nothing.
+    /// Tells a proof what every core keeps, that cross-region pointers are remembered among it, and that a card is dirty exactly
+    /// when it is listed, once. It does nothing.
     pub fn remembers(&self)
+        ensures core { IsCore self.now }
         ensures fields { RemembersFields self.now }
         ensures cards { ListsDirtyOnce self.now.cards }
     {
@@ -143,7 +158,7 @@ impl Core {
     /// Tells a proof that each object that a root reaches stands, whole and once, in regions in use. It
     /// does nothing.
     pub fn whole(&self)
-        ensures { (g s : Graph) → Stands g s self.now → IsWhole g self.now }
+        ensures { (s : State) → Stands s self.now → IsWhole s.graph self.now }
     {
         self.table.law();
     }
@@ -166,6 +181,7 @@ impl Core {
         requires held { IsHeld (heap_of self.old) value }
         ensures shows { (g : Graph) (v : Option ℕ) → ShowsGraph g self.old → IsShown (heap_of self.old) value v → ShowsGraph (with_root g place v) self.new }
         ensures keeps { (s : Graph) → KeepsFrom s self.old → KeepsFrom s self.new }
+        ensures after { self.new ≡ with_root_word self.old place value }
         ensures leaves { LeavesRegions self.old self.new }
     {
         self.roots[place] = value;
@@ -174,6 +190,7 @@ impl Core {
     /// What a mutator's register holds.
     pub(crate) fn register(&self, mutator: u32, register: Register) -> Ptr
         requires { mutator < self.now.config.mutators }
+        ensures value { result ≡ register_of self.now mutator register }
         ensures word { IsWordOf (heap_of self.now) result }
         ensures rooted { IsRootWord (heap_of self.now) result }
         ensures leads { Leads self.now (register_place mutator register.number) result }
@@ -188,6 +205,7 @@ impl Core {
         requires held { IsHeld (heap_of self.old) value }
         ensures shows { (g : Graph) (v : Option ℕ) → ShowsGraph g self.old → IsShown (heap_of self.old) value v → ShowsGraph (with_root g (register_place mutator register.number) v) self.new }
         ensures keeps { (s : Graph) → KeepsFrom s self.old → KeepsFrom s self.new }
+        ensures after { self.new ≡ with_root_word self.old (register_place mutator register.number) value }
         ensures leaves { LeavesRegions self.old self.new }
     {
         let place = register_index(mutator, register);

@@ -15,28 +15,33 @@
 //!
 //! What is promised, for every graph and snapshot that the core stands for: a step's reply is one that the graph gives, and
 //! the core stands for the graph and the snapshot after it; or the reply is Full and nothing changed, exactly where the graph
-//! creates an object and the heap has no place for it. What each step of the collector does is said exactly (`Collects`): regions
-//! are reclaimed by `cleanup` alone, those that hold nothing live. Cross-region pointers are remembered at every moment: the
+//! creates an object and the heap has no place for it. What each step does to each part of the core is
+//! said exactly (`Does`), and a refused step leaves it as it was: regions
+//! are reclaimed by `cleanup`, those that hold nothing live, and by `pause`, those that it evacuates. Cross-region pointers are remembered at every moment: the
 //! card of each field that leads into another region is dirty, or that region's set covers it. No step takes memory. `run` does
 //! a list of steps in a new heap; after each of them every object that a root reaches stands, whole and once, in regions in use.
 //!
 //! `steps` has the mutator's steps, `barrier` what a store does beside the store, `cycle` the steps of marking, `cleanup` the
-//! reclaiming, `refine` refinement, `step` any step, `runs` a list of them.
+//! reclaiming, `refine` refinement, `candidates` the choice of what a pause evacuates, `pause` the pause, `step` any step,
+//! `runs` a list of them, `readers` what is read of a core from outside.
 //!
 //! A field is read or written in constant time: no step tests or walks its region to see that an address is an object.
 #![tactic(auto)]
 
 mod barrier;
+mod candidates;
 mod cleanup;
 mod cycle;
 mod heap;
+mod mutator;
+mod pause;
+mod readers;
 mod refine;
 mod runs;
 mod step;
-mod steps;
 
 pub use heap::Core;
-pub use runs::{RunFault, run};
+pub use runs::{RunFault, run, run_fault, run_to_core};
 
 #[cfg(test)]
 mod tests;

@@ -9,9 +9,9 @@
 ghost use Rattle.std.specs.Prelude.{◌≡◌};
 ghost use Rattle.heap_model.specs.Graph.{Graph};
 ghost use Rattle.step_core.specs.Stands.{ShowsGraph, KeepsFrom};
-ghost use Rattle.step_core.specs.Cycle.{RefinesCard, HasRefined};
+ghost use Rattle.step_core.specs.Refining.{RefinesCard, HasRefined};
 
-use crate::heap::{CARD_WORDS, Core};
+use crate::heap::Core;
 use refinement::refine_one;
 
 impl Core {
@@ -27,7 +27,7 @@ impl Core {
             &self.marker.bitmaps.previous,
             &mut self.cards,
             &mut self.sets,
-            CARD_WORDS,
+            self.config.card_words(),
         )
     }
 

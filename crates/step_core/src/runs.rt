@@ -5,10 +5,10 @@ ghost use Rattle.heap_words.specs.Configs.{Suits, IsNewFault};
 ghost use Rattle.heap_model.specs.Graph.{Graph};
 ghost use Rattle.object_graph.specs.State.{first_state};
 ghost use Rattle.object_graph.specs.Run.{IsRun};
-ghost use Rattle.object_graph.specs.Actors.{IsStepOf};
+ghost use Rattle.object_graph.specs.Actors.{IsStep, IsStepOf};
 ghost use Rattle.heap_words.specs.declared.config.Config.{Config};
-ghost use Rattle.step_core.specs.Stands.{Stands};
-ghost use Rattle.step_core.specs.Histories.{Runs, RunsFromNew, step_of, actor_in, actor_of, IsStepYet, IsRunFault};
+ghost use Rattle.step_core.specs.Stands.{State, Stands};
+ghost use Rattle.step_core.specs.Histories.{Runs, RunsTo, RunsFromNew, step_in, actor_in, actor_of, IsRunFault};
 
 use crate::heap::Core;
 use heap_words::config::{Config, NewFault};
@@ -39,7 +39,7 @@ pub enum RunFault {
 /// Who takes a step of a script: the mutator itself, or the collector.
 fn actor_of(step: &Step) -> Actor
     ensures actor { result ≡ actor_of step.now }
-    ensures own { (config : Config) → IsStepYet config step.now → IsStepOf config result step.now }
+    ensures own { (config : Config) → IsStep config step.now → IsStepOf config result step.now }
 {
     match step {
         Step::Mutator(op) => Actor::Mutator(op.mutator),
@@ -49,17 +49,18 @@ fn actor_of(step: &Step) -> Actor
 
 /// Does the steps in order, in a core.
 fn run_on(alloc: Global, core: &mut Core, steps: &[Step]) -> Result<Record, AllocError>
-    requires { All (IsStepYet core.old.config) steps.now }
+    requires { All (IsStep core.old.config) steps.now }
     ensures config { IfOk result (λ r. r.config ≡ core.old.config) }
-    ensures steps { IfOk result (λ r. map step_of r.events ≡ steps.now) }
+    ensures steps { IfOk result (λ r. map step_in r.events ≡ steps.now) }
     ensures actors { IfOk result (λ r. map actor_in r.events ≡ map actor_of steps.now) }
-    ensures runs { IfOk result (λ r. (g s : Graph) → Stands g s core.old → Runs g s core.old r.events core.new) }
+    ensures runs { IfOk result (λ r. (s : State) → Stands s core.old → Runs s core.old r.events core.new) }
 {
     let config = core.config();
     let mut done = Record::with_room(alloc, config, steps.len())?;
     for step in steps {
         let reply = core.step(*step);
         core.whole();
+        core.remembers();
         done.push(Event {
             actor: actor_of(step),
             step: *step,
@@ -69,17 +70,21 @@ fn run_on(alloc: Global, core: &mut Core, steps: &[Step]) -> Result<Record, Allo
     Ok(done)
 }
 
-/// Does the steps in order, in a new heap. The record's events are the steps in their order, each with its actor and
-/// its reply; between them stand cores and graphs, each core standing for its graph, with every object that
-/// a root reaches whole and once in the heap.
-pub fn run(alloc: Global, config: &Config, steps: &[Step]) -> Result<Record, RunFault>
-    requires { All (IsStepYet config.now) steps.now }
-    ensures config { IfOk result (λ r. r.config ≡ config.now) }
-    ensures steps { IfOk result (λ r. map step_of r.events ≡ steps.now) }
-    ensures actors { IfOk result (λ r. map actor_in r.events ≡ map actor_of steps.now) }
-    ensures history { IfOk result (λ r. RunsFromNew config.now r.events) }
+/// Does the steps in order, in a new heap, and answers the record and the core after the last step. The record's events
+/// are the steps in their order, each with its actor and its reply; between them stand cores and graphs, each core
+/// standing for its graph, with every object that a root reaches whole and once in the heap.
+pub fn run_to_core(
+    alloc: Global,
+    config: &Config,
+    steps: &[Step],
+) -> Result<(Record, Core), RunFault>
+    requires { All (IsStep config.now) steps.now }
+    ensures config { IfOk result (λ r. r.0.config ≡ config.now) }
+    ensures steps { IfOk result (λ r. map step_in r.0.events ≡ steps.now) }
+    ensures actors { IfOk result (λ r. map actor_in r.0.events ≡ map actor_of steps.now) }
+    ensures history { IfOk result (λ r. RunsTo config.now r.0.events r.1) }
     // The replies are those of the graph.
-    ensures run { IfOk result (λ r. (last : Graph) × IsRun (first_state config.now) r.events last) }
+    ensures run { IfOk result (λ r. (last : Graph) × IsRun (first_state config.now) r.0.events last) }
     ensures suits { OnOk result (Suits config.now) }
     ensures fault { IfErr result (IsRunFault config.now) }
 {
@@ -90,11 +95,30 @@ pub fn run(alloc: Global, config: &Config, steps: &[Step]) -> Result<Record, Run
     let Ok(done) = run_on(alloc, &mut core, steps) else {
         return Err(RunFault::NoMemory);
     };
+    Ok((done, core))
+}
+
+/// Does the steps in order, in a new heap, and answers the record: that of `run_to_core`.
+pub fn run(alloc: Global, config: &Config, steps: &[Step]) -> Result<Record, RunFault>
+    requires { All (IsStep config.now) steps.now }
+    ensures config { IfOk result (λ r. r.config ≡ config.now) }
+    ensures steps { IfOk result (λ r. map step_in r.events ≡ steps.now) }
+    ensures actors { IfOk result (λ r. map actor_in r.events ≡ map actor_of steps.now) }
+    ensures history { IfOk result (λ r. RunsFromNew config.now r.events) }
+    // The replies are those of the graph.
+    ensures run { IfOk result (λ r. (last : Graph) × IsRun (first_state config.now) r.events last) }
+    ensures suits { OnOk result (Suits config.now) }
+    ensures fault { IfErr result (IsRunFault config.now) }
+{
+    let (done, _core) = match run_to_core(alloc, config, steps) {
+        Ok(both) => both,
+        Err(fault) => return Err(fault),
+    };
     Ok(done)
 }
 
 /// The run's fault where no heap was made.
-fn run_fault(fault: NewFault) -> RunFault
+pub fn run_fault(fault: NewFault) -> RunFault
     ensures { (config : Config) → IsNewFault config fault → IsRunFault config result }
 {
     match fault {

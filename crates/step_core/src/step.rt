@@ -1,14 +1,14 @@
 //! A step: a mutator's, or the collector's.
 
-ghost use Rattle.std.specs.Prelude.{◌≡◌, ◌↔◌, ◌<◌};
-ghost use Rattle.heap_model.specs.Graph.{Graph};
+ghost use Rattle.std.specs.Prelude.{◌≡◌, ◌↔◌, ℕ, ◌<◌};
+ghost use Rattle.object_graph.specs.Actors.{IsStep};
 ghost use Rattle.object_graph.specs.declared.step.Step.TheVariants as steps;
 ghost use Rattle.object_graph.specs.declared.step.Reply.TheVariants as replies;
 ghost use Rattle.object_graph.specs.declared.step.Refusal.TheVariants as refusals;
-ghost use Rattle.step_core.specs.Stands.{Stands};
+ghost use Rattle.step_core.specs.Stands.{State, Stands};
 ghost use Rattle.step_core.specs.Answers.{Follows, IsFullStep};
-ghost use Rattle.step_core.specs.Cycle.{Collects, Does, IsCycleStep};
-ghost use Rattle.step_core.specs.Histories.{IsStepYet};
+ghost use Rattle.step_core.specs.Reclaimed.{IsReclaimed};
+ghost use Rattle.step_core.specs.Cycle.{Collects, Does, MayReclaim};
 
 use crate::heap::Core;
 use object_graph::{CollectorStep, Refusal, Reply, Step};
@@ -16,9 +16,9 @@ use object_graph::{CollectorStep, Refusal, Reply, Step};
 impl Core {
     /// Does a step of the collector, or refuses it.
     fn collect(&mut self, step: CollectorStep) -> Reply
-        requires { IsCycleStep step }
-        ensures follows { (g s : Graph) → Stands g s self.old → Follows g s (steps.Collector step) result self.new }
+        ensures follows { (s : State) → Stands s self.old → Follows s (steps.Collector step) result self.new }
         ensures collects { Collects step result self.old self.new }
+        ensures reclaims { (k : ℕ) → IsReclaimed self.old.table self.new.table k → MayReclaim (steps.Collector step) self.old k }
         ensures config { self.new.config ≡ self.old.config }
     {
         match step {
@@ -49,19 +49,26 @@ impl Core {
                 Reply::Reclaimed(self.cleanup())
             }
             CollectorStep::Refine(cards) => Reply::Refined(self.refine(cards)),
-            CollectorStep::Pause(_) => unreachable!(),
+            CollectorStep::Pause(budget) => {
+                let moved = self.pause(budget);
+                Reply::Moved {
+                    regions: moved.regions as u32,
+                    words: moved.words,
+                }
+            }
         }
     }
 
     /// Does a step. The reply is one that the graph gives, and the core stands for the graph after it. It is Full exactly
     /// where the graph would create an object and the heap has no place for it; a step of the collector is refused exactly
-    /// where marking runs and it mustn't, or doesn't and it must. Regions are reclaimed by a cleanup alone, those that
-    /// hold nothing live. No step takes memory.
+    /// where marking runs and it mustn't, or doesn't and it must. Regions are reclaimed by a cleanup, those that
+    /// hold nothing live, and by a pause, those that it evacuates. No step takes memory.
     pub fn step(&mut self, step: Step) -> Reply
-        requires { IsStepYet self.old.config step }
-        ensures follows { (g s : Graph) → Stands g s self.old → Follows g s step result self.new }
+        requires { IsStep self.old.config step }
+        ensures follows { (s : State) → Stands s self.old → Follows s step result self.new }
         ensures does { Does step result self.old self.new }
-        ensures full { (g s : Graph) → Stands g s self.old → (result ≡ replies.Refused refusals.Full) ↔ IsFullStep g step self.old }
+        ensures reclaims { (k : ℕ) → IsReclaimed self.old.table self.new.table k → MayReclaim step self.old k }
+        ensures full { (s : State) → Stands s self.old → (result ≡ replies.Refused refusals.Full) ↔ IsFullStep s.graph step self.old }
         ensures config { self.new.config ≡ self.old.config }
     {
         match step {

@@ -2,13 +2,18 @@
 
 ghost use Rattle.std.specs.Prelude.{◌≡◌, ◌<◌};
 
+mod humongous;
+mod pauses;
+mod places;
+
 use crate::{Core, RunFault, run};
 use heap_words::addr::{Card, RegionNo};
-use heap_words::config::{Config, NewFault};
-use object_graph::{Action, CollectorStep, GlobalRoot, Op, Refusal, Register, Reply, Step};
+use heap_words::config::{Config, Format, NewFault};
+use object_graph::{Action, CollectorStep, Counts, GlobalRoot, Op, Refusal, Register, Reply, Step};
 use std::test::Fail;
 
 const CONFIG: Config = Config {
+    format: Format::V1,
     regions: 4,
     words: 16,
     buffer: 8,
@@ -34,8 +39,10 @@ fn every_action(rt: HostRuntime) -> Result<(), Fail> {
             0,
             Action::New {
                 to: r0,
-                pointers: 2,
-                values: 1,
+                counts: Counts {
+                    pointers: 2,
+                    values: 1,
+                },
             },
             Reply::Named(Some(7)),
         ),
@@ -43,8 +50,10 @@ fn every_action(rt: HostRuntime) -> Result<(), Fail> {
             0,
             Action::New {
                 to: r1,
-                pointers: 0,
-                values: 1,
+                counts: Counts {
+                    pointers: 0,
+                    values: 1,
+                },
             },
             Reply::Named(Some(8)),
         ),
@@ -116,8 +125,10 @@ fn every_action(rt: HostRuntime) -> Result<(), Fail> {
             1,
             Action::New {
                 to: r0,
-                pointers: 9,
-                values: 0,
+                counts: Counts {
+                    pointers: 40,
+                    values: 20,
+                },
             },
             Reply::Refused(Refusal::Full),
         ),
@@ -133,18 +144,9 @@ fn every_action(rt: HostRuntime) -> Result<(), Fail> {
     Ok(())
 }
 
-/// A step of the collector that the heap does, None for another one.
-fn collect(core: &mut Core, step: CollectorStep) -> Option<Reply> {
-    match step {
-        CollectorStep::Begin => Some(core.step(Step::Collector(CollectorStep::Begin))),
-        CollectorStep::Mark(units) => Some(core.step(Step::Collector(CollectorStep::Mark(units)))),
-        CollectorStep::Remark => Some(core.step(Step::Collector(CollectorStep::Remark))),
-        CollectorStep::Cleanup => Some(core.step(Step::Collector(CollectorStep::Cleanup))),
-        CollectorStep::Refine(cards) => Some(core.step(Step::Collector(CollectorStep::Refine(
-            cards,
-        )))),
-        CollectorStep::Pause(_) => None,
-    }
+/// A step of the collector.
+fn collect(core: &mut Core, step: CollectorStep) -> Reply {
+    core.step(Step::Collector(step))
 }
 
 /// A mutator's action, None for a mutator that isn't there.
@@ -169,13 +171,17 @@ fn a_marking_cycle(rt: HostRuntime) -> Result<(), Fail> {
     let made = [
         Action::New {
             to: r0,
-            pointers: 1,
-            values: 0,
+            counts: Counts {
+                pointers: 1,
+                values: 0,
+            },
         },
         Action::New {
             to: r1,
-            pointers: 0,
-            values: 1,
+            counts: Counts {
+                pointers: 0,
+                values: 1,
+            },
         },
         Action::Put {
             object: r0,
@@ -207,7 +213,7 @@ fn a_marking_cycle(rt: HostRuntime) -> Result<(), Fail> {
         (CollectorStep::Cleanup, Reply::Reclaimed(0), false, 1),
     ];
     for (step, reply, marking, scans) in before {
-        assert_eq!(rt; collect(&mut core, step), Some(reply));
+        assert_eq!(rt; collect(&mut core, step), reply);
         assert!(rt; core.marking() == marking && core.scans() == scans);
     }
     let deleted = Action::Put {
@@ -217,7 +223,7 @@ fn a_marking_cycle(rt: HostRuntime) -> Result<(), Fail> {
     };
     assert_eq!(rt; act(&mut core, 0, deleted), Some(Reply::Done));
     for (step, reply, marking, scans) in after {
-        assert_eq!(rt; collect(&mut core, step), Some(reply));
+        assert_eq!(rt; collect(&mut core, step), reply);
         assert!(rt; core.marking() == marking && core.scans() == scans);
     }
     Ok(())
@@ -233,8 +239,10 @@ fn reclaims_regions(rt: HostRuntime) -> Result<(), Fail> {
     };
     let half = Action::New {
         to: r0,
-        pointers: 3,
-        values: 3,
+        counts: Counts {
+            pointers: 3,
+            values: 3,
+        },
     };
     for round in 0..3u64 {
         for place in 0..6u64 {
@@ -243,14 +251,11 @@ fn reclaims_regions(rt: HostRuntime) -> Result<(), Fail> {
                 Some(Reply::Named(Some(7 + 6 * round + place)))
             );
         }
-        assert_eq!(rt; collect(&mut core, CollectorStep::Begin), Some(Reply::Done));
-        assert_eq!(rt;
-            collect(&mut core, CollectorStep::Remark),
-            Some(Reply::Marked(1))
-        );
+        assert_eq!(rt; collect(&mut core, CollectorStep::Begin), Reply::Done);
+        assert_eq!(rt; collect(&mut core, CollectorStep::Remark), Reply::Marked(1));
         assert_eq!(rt;
             collect(&mut core, CollectorStep::Cleanup),
-            Some(Reply::Reclaimed(if round == 0 { 2 } else { 3 }))
+            Reply::Reclaimed(if round == 0 { 2 } else { 3 })
         );
     }
     Ok(())
@@ -263,6 +268,7 @@ fn a_card_log_fills(rt: HostRuntime) -> Result<(), Fail> {
     let Ok(mut core) = Core::new(
         rt.alloc(),
         &Config {
+            format: Format::V1,
             buffer: 4,
             ..CONFIG
         },
@@ -272,8 +278,10 @@ fn a_card_log_fills(rt: HostRuntime) -> Result<(), Fail> {
     for number in 0..5u8 {
         let action = Action::New {
             to: register(number),
-            pointers: if number < 4 { 4 } else { 2 },
-            values: 2,
+            counts: Counts {
+                pointers: if number < 4 { 4 } else { 2 },
+                values: 2,
+            },
         };
         assert!(rt; act(&mut core, 0, action).is_some());
     }
@@ -287,22 +295,22 @@ fn a_card_log_fills(rt: HostRuntime) -> Result<(), Fail> {
     }
     assert_eq!(rt;
         collect(&mut core, CollectorStep::Refine(9)),
-        Some(Reply::Refined(0))
+        Reply::Refined(0)
     );
     assert_eq!(rt; act(&mut core, 0, put(3, 0)), Some(Reply::Done));
     assert_eq!(rt; core.queued(), 4);
     assert_eq!(rt;
         collect(&mut core, CollectorStep::Refine(3)),
-        Some(Reply::Refined(3))
+        Reply::Refined(3)
     );
     assert_eq!(rt;
         collect(&mut core, CollectorStep::Refine(9)),
-        Some(Reply::Refined(1))
+        Reply::Refined(1)
     );
     assert_eq!(rt; act(&mut core, 0, put(0, 2)), Some(Reply::Done));
     assert_eq!(rt;
         collect(&mut core, CollectorStep::Refine(9)),
-        Some(Reply::Refined(0))
+        Reply::Refined(0)
     );
     for card in 0..8u32 {
         for region in 0..4u32 {
@@ -329,6 +337,30 @@ fn remembers(core: &Core, region: u32, card: u32) -> Option<(bool, bool)> {
     Some((covered, core.cards.is_dirty(Card::new(card))))
 }
 
+/// A run of two steps has an event for each, and the calls that tell a proof something change nothing.
+#[test]
+fn a_run(rt: HostRuntime) -> Result<(), Fail> {
+    let steps = [
+        Step::Collector(CollectorStep::Begin),
+        Step::Collector(CollectorStep::Remark),
+    ];
+    let Ok(record) = run(rt.alloc(), &CONFIG, &steps) else {
+        return Err(Fail::from("a run of two steps"));
+    };
+    let replies = [Reply::Done, Reply::Marked(0)];
+    assert_eq!(rt; record.events().len(), 2);
+    for (event, reply) in record.events().iter().zip(replies) {
+        assert_eq!(rt; event.reply, reply);
+    }
+    let Ok(core) = Core::new(rt.alloc(), &CONFIG) else {
+        return Err(Fail::from("a core"));
+    };
+    core.remembers();
+    core.whole();
+    assert!(rt; core.queued() == 0 && !core.marking());
+    Ok(())
+}
+
 /// The faults of a run print as they are told.
 #[test]
 fn faults(rt: HostRuntime) -> Result<(), Fail> {
@@ -344,6 +376,7 @@ fn faults(rt: HostRuntime) -> Result<(), Fail> {
         assert_eq!(rt; printed.as_str(), text);
     }
     let small = Config {
+        format: Format::V1,
         regions: 1,
         ..CONFIG
     };

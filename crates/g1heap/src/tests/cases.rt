@@ -9,7 +9,7 @@ pub(super) struct Case {
     pub err: &'static str,
 }
 
-pub(super) static CASES: [Case; 66] = [
+pub(super) static CASES: [Case; 76] = [
     Case {
         name: "words-not-a-power-of-two",
         script: "heap 4 24 8 1 0\n",
@@ -466,10 +466,80 @@ pub(super) static CASES: [Case; 66] = [
         err: "g1heap: line 2: 4 BadActor\n",
     },
     Case {
+        name: "numbers-at-their-limits-are-steps",
+        script: "heap 4 16 8 1 0\n0 new r0 4294967295 4294967295\n0 write r0 4294967295 18446744073709551615\ngc pause 4294967295\n",
+        status: 0,
+        out: "heap 4 16 8 1 0\n1 0 new r0 4294967295 4294967295 = refused 4 TooBig\n2 0 write r0 4294967295 18446744073709551615 = refused 1 Nil\n3 gc pause 4294967295 = moved 0 0\n",
+        err: "",
+    },
+    Case {
         name: "weak-slots-256",
         script: "heap 4 16 8 1 0\n0 newweak r0 0 256 0\n",
         status: 1,
         out: "",
         err: "g1heap: line 2: 5 BadStep\n",
+    },
+    Case {
+        name: "second-format-region-too-large",
+        script: "heap2 1024 32768 8 1 0 64\n",
+        status: 1,
+        out: "",
+        err: "g1heap: heap: 2 BadWords\n",
+    },
+    Case {
+        name: "second-format-card-over-region",
+        script: "heap2 4 16 8 1 0 32\n",
+        status: 1,
+        out: "",
+        err: "g1heap: heap: 6 BadCard\n",
+    },
+    Case {
+        name: "second-format-card-12",
+        script: "heap2 4 16 8 1 0 12\n",
+        status: 1,
+        out: "",
+        err: "g1heap: heap: 6 BadCard\n",
+    },
+    Case {
+        name: "second-format-mutators-before-card",
+        script: "heap2 4 16 8 0 0 12\n",
+        status: 1,
+        out: "",
+        err: "g1heap: heap: 4 BadMutators\n",
+    },
+    Case {
+        name: "second-format-card-4",
+        script: "heap2 4 16 8 1 0 4\n",
+        status: 1,
+        out: "",
+        err: "g1heap: heap: 6 BadCard\n",
+    },
+    Case {
+        name: "second-format-card-128",
+        script: "heap2 4 256 8 1 0 128\n",
+        status: 1,
+        out: "",
+        err: "g1heap: heap: 6 BadCard\n",
+    },
+    Case {
+        name: "second-format-card-largest-number",
+        script: "heap2 4 16 8 1 0 4294967295\n",
+        status: 1,
+        out: "",
+        err: "g1heap: heap: 6 BadCard\n",
+    },
+    Case {
+        name: "second-format-card-too-large-to-read",
+        script: "heap2 4 16 8 1 0 4294967296\n",
+        status: 1,
+        out: "",
+        err: "g1heap: line 1: 3 BadHeap\n",
+    },
+    Case {
+        name: "second-format-without-card",
+        script: "heap2 4 16 8 1 0\n",
+        status: 1,
+        out: "",
+        err: "g1heap: line 1: 3 BadHeap\n",
     },
 ];

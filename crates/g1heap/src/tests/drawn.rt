@@ -1,12 +1,12 @@
-//! 20,000 scripts drawn at random: each runs without a fault, and its record is a run of the graph.
+//! 50,000 scripts drawn at random: each runs without a fault, and its record is a run of the graph.
 
 ghost use Rattle.std.specs.Prelude.{◌≡◌, ◌<◌, All, IfOk};
-ghost use Rattle.step_core.specs.Histories.{IsStepYet};
-ghost use Rattle.step_core.specs.Cycle.{IsCycleStep};
+ghost use Rattle.object_graph.specs.Actors.{IsStep};
 
-use heap_words::config::Config;
+use heap_words::config::{Config, Format};
 use object_graph::{
-    Action, CollectorStep, GlobalRoot, Op, Refusal, Register, Reply, Step, Verdict, check,
+    Action, CollectorStep, Counts, Event, GlobalRoot, Op, Refusal, Register, Reply, Step, Verdict,
+    check,
 };
 use rand_core::utils::NextWord;
 use rand_pcg::Lcg64Xsh32;
@@ -43,30 +43,53 @@ fn stored(draw: &mut Lcg64Xsh32) -> Option<Register> {
     }
 }
 
+/// Eight words at most, and now and then up to 64, which is humongous.
+fn counts(draw: &mut Lcg64Xsh32) -> Counts {
+    if below(draw, 8) == 0 {
+        Counts {
+            pointers: below(draw, 32),
+            values: below(draw, 32),
+        }
+    } else {
+        Counts {
+            pointers: below(draw, 5),
+            values: below(draw, 3),
+        }
+    }
+}
+
+/// One of the first fields, or any one.
+fn field(draw: &mut Lcg64Xsh32) -> u32 {
+    if below(draw, 6) == 0 {
+        below(draw, 32)
+    } else {
+        below(draw, 3)
+    }
+}
+
 fn action(draw: &mut Lcg64Xsh32) -> Action {
     match below(draw, 16) {
         0..=3 => Action::New {
             to: register(draw),
-            pointers: below(draw, 5),
-            values: below(draw, 3),
+            counts: counts(draw),
         },
         4 => Action::Get {
             to: register(draw),
             object: register(draw),
-            field: below(draw, 3),
+            field: field(draw),
         },
         5..=9 => Action::Put {
             object: register(draw),
-            field: below(draw, 3),
+            field: field(draw),
             value: stored(draw),
         },
         10 => Action::Read {
             object: register(draw),
-            field: below(draw, 3),
+            field: field(draw),
         },
         11 => Action::Write {
             object: register(draw),
-            field: below(draw, 3),
+            field: field(draw),
             value: u64::from(below(draw, 100)),
         },
         12 => Action::Move {
@@ -87,21 +110,30 @@ fn action(draw: &mut Lcg64Xsh32) -> Action {
     }
 }
 
-fn collection(draw: &mut Lcg64Xsh32) -> CollectorStep
-    ensures { IsCycleStep result }
-{
-    match below(draw, 7) {
-        5..=6 => CollectorStep::Refine(below(draw, 5)),
-        0 => CollectorStep::Begin,
-        1 => CollectorStep::Mark(below(draw, 3)),
-        2..=3 => CollectorStep::Remark,
-        _ => CollectorStep::Cleanup,
+/// None, a few words, many, or more than any heap has.
+fn budget(draw: &mut Lcg64Xsh32) -> u32 {
+    match below(draw, 4) {
+        0 => below(draw, 2) * below(draw, 8),
+        1 => below(draw, 32),
+        2 => below(draw, 200),
+        _ => u32::MAX - below(draw, 2),
+    }
+}
+
+fn collection(draw: &mut Lcg64Xsh32) -> CollectorStep {
+    match below(draw, 10) {
+        0..=1 => CollectorStep::Begin,
+        2 => CollectorStep::Mark(below(draw, 3)),
+        3..=4 => CollectorStep::Remark,
+        5 => CollectorStep::Cleanup,
+        6..=7 => CollectorStep::Refine(below(draw, 5)),
+        _ => CollectorStep::Pause(budget(draw)),
     }
 }
 
 fn step(config: &Config, draw: &mut Lcg64Xsh32) -> Step
     requires { 0 < config.now.mutators }
-    ensures { IsStepYet config.now result }
+    ensures { IsStep config.now result }
 {
     if below(draw, 4) == 0 {
         return Step::Collector(collection(draw));
@@ -118,7 +150,7 @@ fn script(
     count: u32,
 ) -> Result<Vec<Step>, AllocError>
     requires { 0 < config.now.mutators }
-    ensures { IfOk result (λ steps. All (IsStepYet config.now) steps.items) }
+    ensures { IfOk result (λ steps. All (IsStep config.now) steps.items) }
 {
     let mut steps = Vec::new(alloc);
     for _ in 0..count {
@@ -127,12 +159,23 @@ fn script(
     Ok(steps)
 }
 
-/// Three to twelve regions of 16 or 32 words, and one or two mutators.
+/// Either format; in the second a card of 8 words, 16, or as many as a region.
+fn format(words: u32, draw: &mut Lcg64Xsh32) -> Format {
+    match below(draw, 6) {
+        0 => Format::V2 { card: 8 },
+        1 => Format::V2 { card: 16 },
+        2 => Format::V2 { card: words },
+        _ => Format::V1,
+    }
+}
+
+/// Three to twelve regions of 16 or 32 words, one or two mutators, and either format.
 fn sizes(draw: &mut Lcg64Xsh32) -> Config
     ensures { 0 < result.mutators }
 {
     let words = if below(draw, 2) == 0 { 16 } else { 32 };
     Config {
+        format: format(words, draw),
         regions: 3 + below(draw, 10),
         words,
         buffer: 4 + below(draw, 5),
@@ -141,40 +184,92 @@ fn sizes(draw: &mut Lcg64Xsh32) -> Config
     }
 }
 
-/// What happened in all records together: how many regions were reclaimed, objects marked, cards refined, and steps refused
-/// for want of room.
-#[derive(Drop)]
+/// What happened in all records together.
+#[derive(Debug, Drop)]
 struct Tally {
+    /// Whether marking runs, in the present record.
+    marking: bool,
+    /// Regions that a cleanup reclaimed.
     reclaimed: u64,
+    /// Objects that were marked.
     marked: u64,
+    /// Steps that were refused for want of room.
     full: u64,
+    /// Cards that were refined.
     refined: u64,
+    /// Pauses that copied something.
+    copying: u64,
+    /// Those of them while marking ran.
+    copying_while_marking: u64,
+    /// Regions that a pause reclaimed.
+    evacuated: u64,
+    /// Humongous objects that were made.
+    humongous: u64,
+}
+
+/// How many words a new object has that an event made, 0 where it made none.
+fn made_words(event: &Event) -> u64 {
+    let Reply::Named(Some(_)) = event.reply else {
+        return 0;
+    };
+    match event.step {
+        Step::Mutator(op) => match op.action {
+            Action::New { counts, .. } => counts.size(),
+            _ => 0,
+        },
+        Step::Collector(_) => 0,
+    }
 }
 
 impl Tally {
-    fn count(&mut self, reply: Reply) {
-        match reply {
+    fn count(&mut self, config: &Config, event: &Event) {
+        if made_words(event) > u64::from(config.words / 2) {
+            self.humongous = self.humongous.saturating_add(1);
+        }
+        if event.step == Step::Collector(CollectorStep::Begin) && event.reply == Reply::Done {
+            self.marking = true;
+        }
+        match event.reply {
             Reply::Reclaimed(count) => {
                 self.reclaimed = self.reclaimed.saturating_add(u64::from(count));
             }
-            Reply::Marked(count) => self.marked = self.marked.saturating_add(u64::from(count)),
+            Reply::Marked(count) => {
+                self.marking = false;
+                self.marked = self.marked.saturating_add(u64::from(count));
+            }
             Reply::Refined(count) => self.refined = self.refined.saturating_add(u64::from(count)),
+            Reply::Moved { regions, words } => self.count_pause(regions, words),
             Reply::Refused(Refusal::Full) => self.full = self.full.saturating_add(1),
             _ => {}
         }
     }
+
+    fn count_pause(&mut self, regions: u32, words: u32) {
+        self.evacuated = self.evacuated.saturating_add(u64::from(regions));
+        if words > 0 {
+            self.copying = self.copying.saturating_add(1);
+            if self.marking {
+                self.copying_while_marking = self.copying_while_marking.saturating_add(1);
+            }
+        }
+    }
 }
 
-/// 5,000 scripts of 80 steps, drawn from these seeds on. Many objects are marked, regions are reclaimed, often a heap is full,
-/// and cards are refined.
+/// 10,000 scripts of 80 steps, drawn from these seeds on. Many objects are marked, regions are reclaimed by cleanups and by pauses,
+/// pauses copy, while marking runs too, often a heap is full, cards are refined, and many objects are humongous.
 fn drawn_from(rt: &impl Abort, alloc: Global, first: u64) -> Result<(), Fail> {
     let mut tally = Tally {
+        marking: false,
         reclaimed: 0,
         marked: 0,
         full: 0,
         refined: 0,
+        copying: 0,
+        copying_while_marking: 0,
+        evacuated: 0,
+        humongous: 0,
     };
-    for place in 0..5_000u64 {
+    for place in 0..10_000u64 {
         let seed = first.wrapping_add(place);
         let mut draw = Lcg64Xsh32::new(seed, 54);
         let config = sizes(&mut draw);
@@ -184,12 +279,23 @@ fn drawn_from(rt: &impl Abort, alloc: Global, first: u64) -> Result<(), Fail> {
         };
         let verdict = check(alloc, &record)?;
         assert_eq!(rt; verdict, Verdict::Yes(80), "seed {seed}");
+        tally.marking = false;
         for event in record.events() {
-            tally.count(event.reply);
+            tally.count(&config, event);
         }
     }
-    assert!(rt; tally.reclaimed > 1_000 && tally.marked > 20_000);
-    assert!(rt; tally.full > 4_500 && tally.refined > 80);
+    assert!(rt;
+        tally.reclaimed > 2_500 && tally.marked > 38_000 && tally.humongous > 10_000,
+        "{tally:?}"
+    );
+    assert!(rt;
+        tally.full > 25_000 && tally.refined > 400 && tally.evacuated > 21_000,
+        "{tally:?}"
+    );
+    assert!(rt;
+        tally.copying > 12_000 && tally.copying_while_marking > 3_500,
+        "{tally:?}"
+    );
     Ok(())
 }
 
@@ -199,16 +305,21 @@ fn drawn_scripts(rt: HostRuntime) -> Result<(), Fail> {
 }
 
 #[test]
-fn more_drawn_scripts(rt: HostRuntime) -> Result<(), Fail> {
-    drawn_from(&rt, rt.alloc(), 5_000)
-}
-
-#[test]
-fn third_drawn_scripts(rt: HostRuntime) -> Result<(), Fail> {
+fn second_drawn_scripts(rt: HostRuntime) -> Result<(), Fail> {
     drawn_from(&rt, rt.alloc(), 10_000)
 }
 
 #[test]
+fn third_drawn_scripts(rt: HostRuntime) -> Result<(), Fail> {
+    drawn_from(&rt, rt.alloc(), 20_000)
+}
+
+#[test]
+fn fourth_drawn_scripts(rt: HostRuntime) -> Result<(), Fail> {
+    drawn_from(&rt, rt.alloc(), 30_000)
+}
+
+#[test]
 fn last_drawn_scripts(rt: HostRuntime) -> Result<(), Fail> {
-    drawn_from(&rt, rt.alloc(), 15_000)
+    drawn_from(&rt, rt.alloc(), 40_000)
 }

@@ -1,8 +1,14 @@
-use Rattle.script_text.proofs.Texts.{text_read}
-use Rattle.g1heap.proofs.Yet.{steps_yet}
+use Rattle.std.proofs.Common.{subst}
+use Rattle.object_graph.specs.Actors.{StepList}
+use Rattle.g1heap.proofs.Endings.{Comes, ends, comes_in_order, same_plan}
+use Rattle.g1heap.specs.declared.job.Order.TheVariants.{File}
 use Rattle.g1heap.proofs.script.run_script.Goals as goal
 
-pub run-requires : goal.run-requires
-run-requires g c =
-    let script = (text_read c.as_slice.result.now c.in-Ok-parse.plan c.in-Ok-parse.ensures).1 in
-    rw (c.config-config.ensures, c.steps.ensures.steps) (steps_yet c.in-Ok-parse.plan.config c.in-Ok-parse.plan.steps script.owned script.yet)
+pub returns : goal.returns
+returns g c =
+    let run = c.run-outcome.ensures in
+    let plan : StepList = record { config = c.config.result; steps = c.steps.result.now } in
+    let same = same_plan c.config.result c.steps.result.now c.in_ok-plan.plan c.config.ensures c.steps.ensures.steps in
+    ends File c.in_ok-plan.plan _ _ _ _ c.run-outcome.result c.answer.result c.in_ok-plan.ensures
+    (subst (λ (p : StepList). Comes File p c.run-outcome.result) same (comes_in_order plan c.run-outcome.result run.config run.steps run.actors run.history run.run run.fault))
+    c.answer.ensures

@@ -1,13 +1,14 @@
-use Rattle.std.proofs.Common.{◌≡◌, ◌≤◌, ◌-◌}
+use Rattle.std.proofs.Common.{◌≡◌, ◌≤◌, ◌-◌, ◌*◌}
+use Rattle.std.specs.Prelude.{slice_index}
 use Rattle.mark_bitmap.proofs.LiveBounds.{words_between}
 use Rattle.mark_bitmap.proofs.live.marked_below.Given as goal
 
-abbrev pub invariant-loop-at : goal.invariant-loop-at
-invariant-loop-at l = record {
-  low : l.from ≤ l.at;
-  high : l.at ≤ l.to;
-  live : l.live ≡ words_between l.table l.marks l.from l.at;
+abbrev pub invariant-loop-found : goal.invariant-loop-found
+invariant-loop-found l = record {
+  low : l.fn.region * l.table.words_per_region ≤ l.at;
+  high : l.at ≤ slice_index l.tams.previous l.fn.region;
+  live : l.live ≡ words_between l.table l.marks (l.fn.region * l.table.words_per_region) l.at;
 }
 
-abbrev pub decreases-loop-at : goal.decreases-loop-at
-decreases-loop-at l = l.to - l.at
+abbrev pub decreases-loop-found : goal.decreases-loop-found
+decreases-loop-found l = slice_index l.tams.previous l.fn.region - l.at

@@ -9,3 +9,6 @@ begin-requires-clause-closed c =
 pub returns-clause-kept : goal.returns-clause-kept
 returns-clause-kept c = λ a h.
     object_kept c.args.table.now c.in_ok-marker.marker c.begin.new.self a (λ b. c.in_ok-marker.ensures.all_kept c.args.table.now b (c.requires.words ∙ sym c.sizes.ensures.words)) c.begin.ensures.previous_tops h
+
+pub begin-requires-clause-stands : goal.begin-requires-clause-stands
+begin-requires-clause-stands c = c.in_ok-marker.ensures.stands c.args.table.now (c.requires.count ∙ sym c.sizes.ensures.regions) (c.requires.words ∙ sym c.sizes.ensures.words)

@@ -1,4 +1,5 @@
-use Rattle.std.proofs.Common.{refl, arith}
+use Rattle.std.proofs.Common.{[], ◌∷◌, refl, arith}
+use Rattle.marker.proofs.Logs.{contained}
 use Rattle.marker.proofs.tests.sizes.Goals as goal
 
 pub returns-clause-suits : goal.returns-clause-suits
@@ -8,4 +9,5 @@ returns-clause-suits c = record {
   words = record { power = refl; at_least = omega arith; at_most = omega arith; in_all = omega arith };
   buffer = record { at_least = omega arith; at_most = omega arith };
   mutators = record { at_least = omega arith; at_most = omega arith };
+  card = record { length = contained (8 ∷ 16 ∷ 32 ∷ 64 ∷ []) 0 8 refl; at_most = omega arith };
 }

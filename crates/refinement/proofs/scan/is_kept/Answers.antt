@@ -2,7 +2,7 @@ use Rattle.std.proofs.Common.{◌≡◌, subst, ⊎_elim, true, false}
 use Rattle.regions.specs.declared.row.Shape.{Shape}
 use Rattle.regions.specs.Walks.{IsPlacedTile}
 use Rattle.mark_bitmap.specs.Tops.{below_previous}
-use Rattle.refinement.proofs.Holders.{shape_object, shape_filler, shape_moved, shape_within, kept_above, kept_marked, kept_nothing}
+use Rattle.refinement.proofs.Holders.{shape_object, shape_filler, shape_forwarded, shape_within, kept_above, kept_marked, kept_nothing}
 use Rattle.refinement.proofs.scan.is_kept.Goals as goal
 
 pub returns-then-not-is_below_previous : goal.returns-then-not-is_below_previous
@@ -26,5 +26,5 @@ pub returns-in-Filler : goal.returns-in-Filler
 returns-in-Filler c =
     kept_nothing c.args.table.now c.args.tams.now c.args.marks.now c.args.at (⊎_elim
     (λ p. shape_filler c.args.table.now c.args.at p.0 (subst (λ (s : Shape). IsPlacedTile c.args.table.now c.args.at s) p.1 c.requires.tile))
-    (λ p. shape_moved c.args.table.now c.args.at p.0 p.1 (subst (λ (s : Shape). IsPlacedTile c.args.table.now c.args.at s) p.2 c.requires.tile))
+    (λ p. shape_forwarded c.args.table.now c.args.at p.0 p.1 (subst (λ (s : Shape). IsPlacedTile c.args.table.now c.args.at s) p.2 c.requires.tile))
     c.in-Filler.is)

@@ -5,7 +5,7 @@ use Rattle.regions.specs.Walks.{IsHolder}
 use Rattle.mark_bitmap.specs.Kept.{kept_in}
 use Rattle.remembered_sets.specs.Sets.{covers}
 use Rattle.refinement.specs.Remembering.{LeadsInside}
-use Rattle.refinement.proofs.Divides.{card_has_words}
+use Rattle.regions.proofs.Words.Divides.{card_has_words}
 use Rattle.refinement.proofs.Entered.{adds_gains}
 use Rattle.refinement.proofs.Fields.{adds_fit, card_end}
 use Rattle.refinement.proofs.Holders.{kept_object}
@@ -25,27 +25,27 @@ first_tile-requires c =
     let from : c.new-from.result ≡ c.args.card * c.args.card_words = c.new-from.ensures ∙ ap (λ (n : ℕ). n * c.args.card_words) c.number.ensures in
     omega (arith, e, z, from)
 
-pub returns-in-Some-clause-covered : goal.returns-in-Some-clause-covered
-returns-in-Some-clause-covered c =
+pub returns-clause-covered : goal.returns-clause-covered
+returns-clause-covered c =
     let from : c.new-from.result ≡ c.args.card * c.args.card_words = c.new-from.ensures ∙ ap (λ (n : ℕ). n * c.args.card_words) c.number.ensures in
     let holder = subst (λ (w : ℕ). IsHolder c.args.table.now c.in-Some.first w) from c.in-Some.ensures.holder in
     card_covered c.args.table.now c.law.ensures (kept_in c.args.table.now c.args.tams.now c.args.marks.now) (kept_object c.args.table.now c.args.tams.now c.args.marks.now)
     c.args.card_words c.args.card c.in-Some.first c.args.sets.now.cards_per_region c.requires.stands.fit.whole_cards (covers c.scan_tiles.new.sets) holder c.scan_tiles.ensures.covered
 
-pub returns-in-Some-clause-gains : goal.returns-in-Some-clause-gains
-returns-in-Some-clause-gains c =
+pub returns-clause-gains : goal.returns-clause-gains
+returns-clause-gains c =
     let inside = subst (λ (n : ℕ). LeadsInside c.args.table.now.words_per_region n (kept_in c.args.table.now c.args.tams.now c.args.marks.now)) (sym c.requires.stands.fit.each_region) c.requires.stands.inside in
     adds_gains c.args.table.now.words_per_region (kept_in c.args.table.now c.args.tams.now c.args.marks.now) c.args.card_words c.args.card c.args.sets.now c.scan_tiles.new.sets inside c.scan_tiles.ensures.adds
 
-pub returns-in-Some-clause-stands : goal.returns-in-Some-clause-stands
-returns-in-Some-clause-stands c = record {
+pub returns-clause-stands : goal.returns-clause-stands
+returns-clause-stands c = record {
   fit = (adds_fit c.args.table.now (kept_in c.args.table.now c.args.tams.now c.args.marks.now) c.args.card_words c.args.card c.args.sets.now c.scan_tiles.new.sets c.requires.stands.fit c.scan_tiles.ensures.adds).0;
   each_word = c.requires.stands.each_word;
   inside = c.requires.stands.inside;
 }
 
-pub returns-in-Some-clause-count : goal.returns-in-Some-clause-count
-returns-in-Some-clause-count c =
+pub returns-clause-count : goal.returns-clause-count
+returns-clause-count c =
     (adds_fit c.args.table.now (kept_in c.args.table.now c.args.tams.now c.args.marks.now) c.args.card_words c.args.card c.args.sets.now c.scan_tiles.new.sets c.requires.stands.fit c.scan_tiles.ensures.adds).1
 
 pub returns-in_default-clause-covered : goal.returns-in_default-clause-covered

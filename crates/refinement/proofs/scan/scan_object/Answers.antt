@@ -1,6 +1,6 @@
 use Rattle.std.proofs.Common.{◌+◌, ◌<◌, refl, sym, subst, ℕ, arith}
 use Rattle.regions.specs.Table.{object_at}
-use Rattle.refinement.proofs.Divides.{card_has_words}
+use Rattle.regions.proofs.Words.Divides.{card_has_words}
 use Rattle.refinement.proofs.Fields.{adds_fit, card_end, fields_in_card, partly_last, partly_next}
 use Rattle.refinement.proofs.Holders.{object_small}
 use Rattle.refinement.proofs.scan.scan_object.Goals as goal

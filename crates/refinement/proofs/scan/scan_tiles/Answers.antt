@@ -2,10 +2,11 @@ use Rattle.std.proofs.Common.{◌≡◌, ◌∙◌, ◌*◌, ◌<◌, ℕ, ap, s
 use Rattle.mark_bitmap.specs.Kept.{kept_in}
 use Rattle.remembered_sets.specs.Sets.{covers}
 use Rattle.refinement.specs.Remembering.{LeadsInside}
-use Rattle.refinement.proofs.Divides.{card_has_words}
+use Rattle.regions.proofs.Words.Divides.{card_has_words}
+use Rattle.refinement.proofs.Counted.{count_first, count_next}
 use Rattle.refinement.proofs.Entered.{adds_none, adds_more, adds_grows}
 use Rattle.refinement.proofs.Fields.{adds_fit, card_end}
-use Rattle.refinement.proofs.Holders.{kept_object, not_kept, points_inside, same_object, tile_there}
+use Rattle.refinement.proofs.Holders.{kept_object, not_kept, fields_inside, same_object}
 use Rattle.refinement.proofs.Scanned.{covered_dead, turn_first, turn_last, turn_next, turn_past, turn_placed}
 use Rattle.refinement.proofs.scan.scan_tiles.Goals as goal
 
@@ -23,11 +24,14 @@ overflow_add-end c =
 
 pub loop-at-init : goal.loop-at-init
 loop-at-init c =
-    let u = tile_there c.args.table.now c.args.first c.requires.tile in
+    let z = card_has_words c.args.card_words c.args.table.now.words_per_region c.args.sets.now.cards_per_region c.law.ensures.positive c.requires.stands.fit.whole_cards in
+    let h = c.requires.holder in
+    let walk = c.into_iter-at-iterator.ensures.into_iter_gives ∙ c.walk_from-at-items.ensures in
     record {
       adds = adds_none c.args.table.now.words_per_region (kept_in c.args.table.now c.args.tams.now c.args.marks.now) c.args.card_words c.args.card c.args.sets.now;
       turn = turn_first c.args.table.now c.law.ensures (kept_in c.args.table.now c.args.tams.now c.args.marks.now) (kept_object c.args.table.now c.args.tams.now c.args.marks.now)
-          c.args.card_words c.args.card c.args.first (covers c.args.sets.now) c.into_iter-at-iterator.result u.0 u.1 (c.into_iter-at-iterator.ensures.into_iter_gives ∙ c.walk_from-at-items.ensures);
+          c.args.card_words c.args.card c.args.first (covers c.args.sets.now) c.into_iter-at-iterator.result h.tile h.tile_is walk;
+      count = count_first c.args.table.now c.args.card_words c.args.card c.args.first c.into_iter-at-iterator.result c.law.ensures z h walk;
     }
 
 pub returns-then-word-end-clause-adds : goal.returns-then-word-end-clause-adds
@@ -47,7 +51,7 @@ is_kept-requires-clause-tile c =
 
 pub scan_object-requires-clause-inside : goal.scan_object-requires-clause-inside
 scan_object-requires-clause-inside c =
-    points_inside c.args.table.now (kept_in c.args.table.now c.args.tams.now c.args.marks.now) c.in-Some.at (kept_object c.args.table.now c.args.tams.now c.args.marks.now) c.requires.stands.inside (c.is_kept.ensures.0 c.if-is_kept.true)
+    fields_inside c.args.table.now (kept_in c.args.table.now c.args.tams.now c.args.marks.now) c.in-Some.at (kept_object c.args.table.now c.args.tams.now c.args.marks.now) c.requires.stands.inside (c.is_kept.ensures.0 c.if-is_kept.true)
 
 pub scan_object-requires-clause-fit : goal.scan_object-requires-clause-fit
 scan_object-requires-clause-fit c =
@@ -72,6 +76,7 @@ loop-at-preserved-then-is_kept c =
       adds = adds_more words kept c.args.card_words c.args.card c.args.sets.now c.loop-at.sets c.scan_object.new.sets p.adds q.adds;
       turn = turn_next c.args.table.now c.law.ensures kept stands c.args.card_words c.args.card c.args.first (covers c.loop-at.sets) (covers c.scan_object.new.sets) c.loop-at.at-iterator c.next.new.self c.in-Some.at c.in-Some.shape
           p.turn c.in-Some.ensures.steps (adds_grows words kept c.args.card_words c.args.card c.loop-at.sets c.scan_object.new.sets inside q.adds) q.covered;
+      count = count_next c.args.card_words c.args.card c.loop-at.looked c.in-Some.at c.in-Some.shape c.loop-at.at-iterator c.next.new.self p.count c.in-Some.ensures.steps c.word.result c.number.result c.word.ensures c.number.ensures c.if-word-end.false;
     }
 
 pub loop-at-preserved : goal.loop-at-preserved
@@ -83,6 +88,7 @@ loop-at-preserved c =
       adds = p.adds;
       turn = turn_next c.args.table.now c.law.ensures kept (kept_object c.args.table.now c.args.tams.now c.args.marks.now) c.args.card_words c.args.card c.args.first (covers c.loop-at.sets) (covers c.loop-at.sets) c.loop-at.at-iterator c.next.new.self c.in-Some.at c.in-Some.shape
           p.turn c.in-Some.ensures.steps (λ r card was. was) (covered_dead c.args.table.now.words_per_region kept c.args.card_words c.args.card c.in-Some.at (covers c.loop-at.sets) none);
+      count = count_next c.args.card_words c.args.card c.loop-at.looked c.in-Some.at c.in-Some.shape c.loop-at.at-iterator c.next.new.self p.count c.in-Some.ensures.steps c.word.result c.number.result c.word.ensures c.number.ensures c.if-word-end.false;
     }
 
 pub returns-clause-adds : goal.returns-clause-adds

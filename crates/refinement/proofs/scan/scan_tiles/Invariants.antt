@@ -1,6 +1,7 @@
 use Rattle.mark_bitmap.specs.Kept.{kept_in}
 use Rattle.remembered_sets.specs.Sets.{covers}
 use Rattle.refinement.specs.Refining.{AddsCard}
+use Rattle.refinement.proofs.Counted.{IsCount}
 use Rattle.refinement.proofs.Scanned.{IsTurn}
 use Rattle.refinement.proofs.scan.scan_tiles.Given as goal
 
@@ -8,4 +9,5 @@ abbrev pub invariant-loop-at : goal.invariant-loop-at
 invariant-loop-at l = record {
   adds : AddsCard l.table.words_per_region (kept_in l.table l.tams l.marks) l.card_words l.card l.fn.sets l.sets;
   turn : IsTurn l.table (kept_in l.table l.tams l.marks) l.card_words l.card l.fn.first (covers l.sets) l.at-iterator;
+  count : IsCount l.card_words l.card l.looked l.at-iterator;
 }

@@ -1,4 +1,4 @@
-use Rattle.regions.proofs.Search.{IsScanned}
+use Rattle.regions.proofs.Rows.Search.{IsScanned}
 use Rattle.regions.proofs.runs.lowest_run.Given as goal
 
 abbrev pub invariant-loop-i : goal.invariant-loop-i

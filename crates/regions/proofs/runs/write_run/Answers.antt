@@ -1,5 +1,5 @@
 use Rattle.std.proofs.Common.{◌≡◌, ◌-◌, ◌*◌, min, ap, ◌∙◌}
-use Rattle.regions.proofs.RunMade.{run_row_put, row_first, row_rest}
+use Rattle.regions.proofs.LongRuns.RunMade.{run_row_put, row_first, row_rest}
 use Rattle.regions.proofs.runs.write_run.Goals.{then-i-eq0, else-i-eq0}
 use Rattle.regions.proofs.runs.write_run.Goals as goal
 

@@ -33,8 +33,8 @@ set_ptr-requires g c =
     let t4 = fill_make _ _ _ _ _ _ _ t3 c.make_object.ensures c.new-object.ensures c.new-4.ensures c.counts.ensures.pointers_are c.counts.ensures.weaks_are c.counts.ensures.values_are in
     (sample_is _ _ _ _ t4 c.new-object.ensures).pointers
 
-pub set_data-requires : goal.set_data-requires
-set_data-requires g c =
+pub set_value-requires : goal.set_value-requires
+set_value-requires g c =
     let t1 = fill_take _ _ c.in-Ok.ensures c.take_free.ensures.taken in
     let t2 = fill_push _ _ _ _ t1 c.push_filler.ensures.pushed c.new-region.ensures c.new.ensures in
     let t3 = fill_split _ _ _ _ _ t2 c.split_filler.ensures.split c.new-object.ensures c.new-2.ensures c.new-3.ensures in
@@ -49,7 +49,7 @@ about-requires g c =
     let t3 = fill_split _ _ _ _ _ t2 c.split_filler.ensures.split c.new-object.ensures c.new-2.ensures c.new-3.ensures in
     let t4 = fill_make _ _ _ _ _ _ _ t3 c.make_object.ensures c.new-object.ensures c.new-4.ensures c.counts.ensures.pointers_are c.counts.ensures.weaks_are c.counts.ensures.values_are in
     let t5 = fill_pointer _ _ _ _ t4 c.set_ptr.ensures c.new-object.ensures c.new-rest.ensures in
-    let t6 = fill_value _ _ _ t5 c.set_data.ensures c.new-object.ensures in
+    let t6 = fill_value _ _ _ t5 c.set_value.ensures c.new-object.ensures in
     (sample_is _ _ _ _ t6 c.new-object.ensures).object
 
 pub fields-requires-clause-pointers : goal.fields-requires-clause-pointers
@@ -59,7 +59,7 @@ fields-requires-clause-pointers g c =
     let t3 = fill_split _ _ _ _ _ t2 c.split_filler.ensures.split c.new-object.ensures c.new-2.ensures c.new-3.ensures in
     let t4 = fill_make _ _ _ _ _ _ _ t3 c.make_object.ensures c.new-object.ensures c.new-4.ensures c.counts.ensures.pointers_are c.counts.ensures.weaks_are c.counts.ensures.values_are in
     let t5 = fill_pointer _ _ _ _ t4 c.set_ptr.ensures c.new-object.ensures c.new-rest.ensures in
-    let t6 = fill_value _ _ _ t5 c.set_data.ensures c.new-object.ensures in
+    let t6 = fill_value _ _ _ t5 c.set_value.ensures c.new-object.ensures in
     (sample_is _ _ _ _ t6 c.new-object.ensures).pointers
 
 pub fields-requires-clause-values : goal.fields-requires-clause-values
@@ -69,7 +69,7 @@ fields-requires-clause-values g c =
     let t3 = fill_split _ _ _ _ _ t2 c.split_filler.ensures.split c.new-object.ensures c.new-2.ensures c.new-3.ensures in
     let t4 = fill_make _ _ _ _ _ _ _ t3 c.make_object.ensures c.new-object.ensures c.new-4.ensures c.counts.ensures.pointers_are c.counts.ensures.weaks_are c.counts.ensures.values_are in
     let t5 = fill_pointer _ _ _ _ t4 c.set_ptr.ensures c.new-object.ensures c.new-rest.ensures in
-    let t6 = fill_value _ _ _ t5 c.set_data.ensures c.new-object.ensures in
+    let t6 = fill_value _ _ _ t5 c.set_value.ensures c.new-object.ensures in
     (sample_is _ _ _ _ t6 c.new-object.ensures).values
 
 pub has_room-requires-clause-known : goal.has_room-requires-clause-known
@@ -79,7 +79,7 @@ has_room-requires-clause-known g c =
     let t3 = fill_split _ _ _ _ _ t2 c.split_filler.ensures.split c.new-object.ensures c.new-2.ensures c.new-3.ensures in
     let t4 = fill_make _ _ _ _ _ _ _ t3 c.make_object.ensures c.new-object.ensures c.new-4.ensures c.counts.ensures.pointers_are c.counts.ensures.weaks_are c.counts.ensures.values_are in
     let t5 = fill_pointer _ _ _ _ t4 c.set_ptr.ensures c.new-object.ensures c.new-rest.ensures in
-    let t6 = fill_value _ _ _ t5 c.set_data.ensures c.new-object.ensures in
+    let t6 = fill_value _ _ _ t5 c.set_value.ensures c.new-object.ensures in
     (usable_filled _ _ _ t6 c.new-region.ensures).0
 
 pub has_room-requires-clause-ordinary : goal.has_room-requires-clause-ordinary
@@ -89,7 +89,7 @@ has_room-requires-clause-ordinary g c =
     let t3 = fill_split _ _ _ _ _ t2 c.split_filler.ensures.split c.new-object.ensures c.new-2.ensures c.new-3.ensures in
     let t4 = fill_make _ _ _ _ _ _ _ t3 c.make_object.ensures c.new-object.ensures c.new-4.ensures c.counts.ensures.pointers_are c.counts.ensures.weaks_are c.counts.ensures.values_are in
     let t5 = fill_pointer _ _ _ _ t4 c.set_ptr.ensures c.new-object.ensures c.new-rest.ensures in
-    let t6 = fill_value _ _ _ t5 c.set_data.ensures c.new-object.ensures in
+    let t6 = fill_value _ _ _ t5 c.set_value.ensures c.new-object.ensures in
     (usable_filled _ _ _ t6 c.new-region.ensures).1
 
 pub has_room-requires-2-clause-known : goal.has_room-requires-2-clause-known
@@ -99,7 +99,7 @@ has_room-requires-2-clause-known g c =
     let t3 = fill_split _ _ _ _ _ t2 c.split_filler.ensures.split c.new-object.ensures c.new-2.ensures c.new-3.ensures in
     let t4 = fill_make _ _ _ _ _ _ _ t3 c.make_object.ensures c.new-object.ensures c.new-4.ensures c.counts.ensures.pointers_are c.counts.ensures.weaks_are c.counts.ensures.values_are in
     let t5 = fill_pointer _ _ _ _ t4 c.set_ptr.ensures c.new-object.ensures c.new-rest.ensures in
-    let t6 = fill_value _ _ _ t5 c.set_data.ensures c.new-object.ensures in
+    let t6 = fill_value _ _ _ t5 c.set_value.ensures c.new-object.ensures in
     (usable_filled _ _ _ t6 c.new-region.ensures).0
 
 pub has_room-requires-2-clause-ordinary : goal.has_room-requires-2-clause-ordinary
@@ -109,7 +109,7 @@ has_room-requires-2-clause-ordinary g c =
     let t3 = fill_split _ _ _ _ _ t2 c.split_filler.ensures.split c.new-object.ensures c.new-2.ensures c.new-3.ensures in
     let t4 = fill_make _ _ _ _ _ _ _ t3 c.make_object.ensures c.new-object.ensures c.new-4.ensures c.counts.ensures.pointers_are c.counts.ensures.weaks_are c.counts.ensures.values_are in
     let t5 = fill_pointer _ _ _ _ t4 c.set_ptr.ensures c.new-object.ensures c.new-rest.ensures in
-    let t6 = fill_value _ _ _ t5 c.set_data.ensures c.new-object.ensures in
+    let t6 = fill_value _ _ _ t5 c.set_value.ensures c.new-object.ensures in
     (usable_filled _ _ _ t6 c.new-region.ensures).1
 
 pub walk-at-items-requires : goal.walk-at-items-requires
@@ -119,7 +119,7 @@ walk-at-items-requires g c =
     let t3 = fill_split _ _ _ _ _ t2 c.split_filler.ensures.split c.new-object.ensures c.new-2.ensures c.new-3.ensures in
     let t4 = fill_make _ _ _ _ _ _ _ t3 c.make_object.ensures c.new-object.ensures c.new-4.ensures c.counts.ensures.pointers_are c.counts.ensures.weaks_are c.counts.ensures.values_are in
     let t5 = fill_pointer _ _ _ _ t4 c.set_ptr.ensures c.new-object.ensures c.new-rest.ensures in
-    let t6 = fill_value _ _ _ t5 c.set_data.ensures c.new-object.ensures in
+    let t6 = fill_value _ _ _ t5 c.set_value.ensures c.new-object.ensures in
     (usable_filled _ _ _ t6 c.new-region.ensures).0
 
 pub walk_from-requires : goal.walk_from-requires
@@ -129,7 +129,7 @@ walk_from-requires g c =
     let t3 = fill_split _ _ _ _ _ t2 c.split_filler.ensures.split c.new-object.ensures c.new-2.ensures c.new-3.ensures in
     let t4 = fill_make _ _ _ _ _ _ _ t3 c.make_object.ensures c.new-object.ensures c.new-4.ensures c.counts.ensures.pointers_are c.counts.ensures.weaks_are c.counts.ensures.values_are in
     let t5 = fill_pointer _ _ _ _ t4 c.set_ptr.ensures c.new-object.ensures c.new-rest.ensures in
-    let t6 = fill_value _ _ _ t5 c.set_data.ensures c.new-object.ensures in
+    let t6 = fill_value _ _ _ t5 c.set_value.ensures c.new-object.ensures in
     rest_is_tile _ _ _ _ t6 c.new-rest.ensures
 
 pub first_tile-requires : goal.first_tile-requires
@@ -139,7 +139,7 @@ first_tile-requires g c =
     let t3 = fill_split _ _ _ _ _ t2 c.split_filler.ensures.split c.new-object.ensures c.new-2.ensures c.new-3.ensures in
     let t4 = fill_make _ _ _ _ _ _ _ t3 c.make_object.ensures c.new-object.ensures c.new-4.ensures c.counts.ensures.pointers_are c.counts.ensures.weaks_are c.counts.ensures.values_are in
     let t5 = fill_pointer _ _ _ _ t4 c.set_ptr.ensures c.new-object.ensures c.new-rest.ensures in
-    let t6 = fill_value _ _ _ t5 c.set_data.ensures c.new-object.ensures in
+    let t6 = fill_value _ _ _ t5 c.set_value.ensures c.new-object.ensures in
     word_inside _ _ _ _ t6 refl c.new-5.ensures (omega arith)
 
 pub first_tile-requires-2 : goal.first_tile-requires-2
@@ -149,7 +149,7 @@ first_tile-requires-2 g c =
     let t3 = fill_split _ _ _ _ _ t2 c.split_filler.ensures.split c.new-object.ensures c.new-2.ensures c.new-3.ensures in
     let t4 = fill_make _ _ _ _ _ _ _ t3 c.make_object.ensures c.new-object.ensures c.new-4.ensures c.counts.ensures.pointers_are c.counts.ensures.weaks_are c.counts.ensures.values_are in
     let t5 = fill_pointer _ _ _ _ t4 c.set_ptr.ensures c.new-object.ensures c.new-rest.ensures in
-    let t6 = fill_value _ _ _ t5 c.set_data.ensures c.new-object.ensures in
+    let t6 = fill_value _ _ _ t5 c.set_value.ensures c.new-object.ensures in
     word_inside _ _ _ _ t6 refl c.new-7.ensures (omega arith)
 
 pub first_tile-requires-3 : goal.first_tile-requires-3
@@ -159,5 +159,5 @@ first_tile-requires-3 g c =
     let t3 = fill_split _ _ _ _ _ t2 c.split_filler.ensures.split c.new-object.ensures c.new-2.ensures c.new-3.ensures in
     let t4 = fill_make _ _ _ _ _ _ _ t3 c.make_object.ensures c.new-object.ensures c.new-4.ensures c.counts.ensures.pointers_are c.counts.ensures.weaks_are c.counts.ensures.values_are in
     let t5 = fill_pointer _ _ _ _ t4 c.set_ptr.ensures c.new-object.ensures c.new-rest.ensures in
-    let t6 = fill_value _ _ _ t5 c.set_data.ensures c.new-object.ensures in
+    let t6 = fill_value _ _ _ t5 c.set_value.ensures c.new-object.ensures in
     word_inside _ _ _ _ t6 refl c.new-8.ensures (omega arith)

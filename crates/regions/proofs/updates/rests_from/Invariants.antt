@@ -1,4 +1,4 @@
-use Rattle.regions.proofs.RunGone.{IsCounted}
+use Rattle.regions.proofs.LongRuns.RunGone.{IsCounted}
 use Rattle.regions.proofs.updates.rests_from.Given as goal
 
 abbrev pub invariant-loop-i : goal.invariant-loop-i

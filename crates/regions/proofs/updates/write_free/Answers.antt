@@ -1,4 +1,4 @@
-use Rattle.regions.proofs.RunGone.{free_row_put}
+use Rattle.regions.proofs.LongRuns.RunGone.{free_row_put}
 use Rattle.regions.proofs.updates.write_free.Goals as goal
 
 pub loop-i-preserved : goal.loop-i-preserved

@@ -1,31 +1,15 @@
-use Rattle.std.proofs.Common.{refl, arith}
-use Rattle.std.proofs.lemmas.Fmt.{decimal_nonempty, length-decimal-le}
-use Rattle.script_text.proofs.Digits.{more_digits, power_le, power_next}
+use Rattle.std.proofs.Common.{arith}
+use Rattle.std.proofs.lemmas.Fmt.{length-decimal-le}
+use Rattle.itoa.proofs.Decimal.{length_four}
 use Rattle.script_text.proofs.bytes.digit_count.Goals as goal
-use Rattle.script_text.proofs.bytes.digit_count.Goals.{then-loop-count-test+else-number-bound, else-loop-count-test}
 
-pub loop-count-init : goal.loop-count-init
-loop-count-init c = record { some = omega arith; most = omega arith; bound = refl; digits = decimal_nonempty c.args.number (omega arith) }
+pub overflow_add-count : goal.overflow_add-count
+overflow_add-count c = let most = length-decimal-le 20 c.args.number (omega arith) (omega arith) (omega arith) in let so_far = c.loop-left.invariant.digits in let more = length_four c.loop-left.left (omega arith) (omega arith) in omega arith
 
-pub overflow_mul-bound : goal.overflow_mul-bound
-overflow_mul-bound c = let le = power_le c.loop-count.count 18 (omega arith) in omega arith
-
-pub loop-count-preserved : goal.loop-count-preserved
-loop-count-preserved c = record {
-  some = omega arith;
-  most = omega arith;
-  bound = power_next c.loop-count.bound c.loop-count.count c.loop-count.invariant.bound;
-  digits = let more = more_digits c.loop-count.count c.args.number (omega arith) (omega arith) in omega arith;
+pub loop-left-preserved : goal.loop-left-preserved
+loop-left-preserved c = record {
+  digits = let so_far = c.loop-left.invariant.digits in let more = length_four c.loop-left.left (omega arith) (omega arith) in omega arith;
 }
 
-pub returns-then-number-bound-2 : goal.returns-then-number-bound-2
-returns-then-number-bound-2 c =
-    let more = more_digits c.loop-count.count c.args.number (omega arith) (omega arith) in
-    let most = length-decimal-le 20 c.args.number (omega arith) (omega arith) (omega arith) in
-    elim c.loop-count-test.branch [
-      | then-loop-count-test+else-number-bound w ↦ absurd (omega arith)
-      | else-loop-count-test w ↦ omega arith
-    ]
-
-pub returns-else-number-bound-2 : goal.returns-else-number-bound-2
-returns-else-number-bound-2 c = let most = length-decimal-le c.loop-count.count c.args.number (omega arith) (omega arith) (omega arith) in omega arith
+pub overflow_add-result : goal.overflow_add-result
+overflow_add-result c = let most = length-decimal-le 20 c.args.number (omega arith) (omega arith) (omega arith) in let so_far = c.loop-left.invariant.digits in let short = c.short_digit_count.ensures in omega arith

@@ -5,9 +5,12 @@ use Rattle.script_text.proofs.script.parse.Given as goal
 
 abbrev pub invariant-loop-line : goal.invariant-loop-line
 invariant-loop-line l = record {
+  room : length l.words ≡ 11;
   so_far : read_on l.plan (steps_of l.number l.config (pieces_of l.rest)) ≡ script_of l.text;
   config : l.plan.config ≡ l.config;
   number : l.number + length l.rest ≤ 2 + length l.text;
+  from : 1 ≤ l.number;
+  count : l.number + length (pieces_of l.rest) ≡ length (pieces_of l.text) + 1;
 }
 
 abbrev pub decreases-loop-line : goal.decreases-loop-line

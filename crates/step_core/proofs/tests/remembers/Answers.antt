@@ -1,5 +1,5 @@
 use Rattle.std.proofs.Common.{arith}
-use Rattle.step_core.proofs.Noting.{card_known}
+use Rattle.step_core.proofs.Mutating.Noting.{card_known}
 use Rattle.step_core.proofs.tests.remembers.Goals as goal
 
 pub covers-covered-requires-clause-card : goal.covers-covered-requires-clause-card

@@ -1,4 +1,4 @@
-use Rattle.std.proofs.Common.{◌≡◌, true, ap}
+use Rattle.std.proofs.Common.{arith, ◌≡◌, true, ap}
 use Rattle.mark_bitmap.specs.Tops.{below_next}
 use Rattle.mark_bitmap.specs.Grey.{Scans}
 use Rattle.marker.proofs.Reached.{old_within, set_stands, set_marks}
@@ -17,12 +17,17 @@ set-requires c =
 pub returns-clause-stands : goal.returns-clause-stands
 returns-clause-stands c =
     let below : below_next c.args.table.now c.args.self.now.tams c.in-Some.at ≡ true = cc in
-    let finger = c.add.ensures.finger c.args.self.now.bitmaps.next (c.requires.stands.finger c.requires.running) in
+    let finger = c.add.ensures.fingers c.args.self.now.bitmaps.next (c.requires.stands.finger c.requires.running) in
     set_stands c.args.table.now c.args.self.now c.in-Some.at c.set.new.self c.add.new.self c.requires.stands c.requires.running below
-    (c.requires.kept c.in-Some.at c.in-Some.is below) c.set.ensures (ap (λ (g : Scans). g.scanned) c.add.ensures.lowered) (rw c.set.ensures finger)
+    (c.requires.kept c.in-Some.at c.in-Some.is below) c.set.ensures (ap (λ (g : Scans). g.scanned) c.add.ensures.added) (rw c.set.ensures finger)
 
 pub returns-clause-marks : goal.returns-clause-marks
 returns-clause-marks c =
     let below : below_next c.args.table.now c.args.self.now.tams c.in-Some.at ≡ true = cc in
     let inside = old_within c.args.table.now c.args.self.now c.in-Some.at c.law.ensures.positive c.requires.stands below in
     set_marks c.args.table.now c.args.self.now c.in-Some.at c.args.target c.set.new.self c.add.new.self c.in-Some.is inside c.set.ensures
+
+pub add-requires : goal.add-requires
+add-requires c =
+    let below : below_next c.args.table.now c.args.self.now.tams c.in-Some.at ≡ true = cc in
+    omega (arith, old_within c.args.table.now c.args.self.now c.in-Some.at c.law.ensures.positive c.requires.stands below, c.requires.stands.scanned)

@@ -1,5 +1,4 @@
 use Rattle.std.proofs.Common.{◌≡◌, ◌≤◌, ℕ, Some, length, ap, ◌∙◌, subst, arith}
-use Rattle.mark_bitmap.specs.Grey.{Scans}
 use Rattle.regions.specs.Table.{pointers_at}
 use Rattle.regions.specs.Table.{Table}
 use Rattle.marker.specs.Steps.{IsAmong}
@@ -27,10 +26,15 @@ all_reached t m m' object n count e low high p = subst (λ (k : ℕ). Reached t 
 pub returns-clause-stands : goal.returns-clause-stands
 returns-clause-stands c =
     let p = all_reached c.args.table.now c.args.self.now c.loop-field.self c.args.object c.loop-field.field c.pointer_count-count.result c.pointer_count-count.ensures c.loop-field-test.false c.loop-field.auto.field-end c.loop-field.invariant in
-    scan_stands c.args.table.now c.args.self.now c.loop-field.self c.args.object c.remove.new.self c.requires.stands c.requires.running c.requires.grey p (ap (λ (g : Scans). g.scanned) c.remove.ensures.scanned)
-    (c.remove.ensures.finger c.loop-field.self.bitmaps.next (p.stands.finger (p.same.running ∙ c.requires.running)))
+    rw c.add.ensures (scan_stands c.args.table.now c.args.self.now c.loop-field.self c.args.object c.remove.new.self c.requires.stands c.requires.running c.requires.grey p c.remove.ensures.scanned
+    (c.remove.ensures.fingers (p.stands.finger (p.same.running ∙ c.requires.running))))
 
 pub returns-clause-snapshots : goal.returns-clause-snapshots
 returns-clause-snapshots c =
     let p = all_reached c.args.table.now c.args.self.now c.loop-field.self c.args.object c.loop-field.field c.pointer_count-count.result c.pointer_count-count.ensures c.loop-field-test.false c.loop-field.auto.field-end c.loop-field.invariant in
-    scan_keeps c.args.table.now c.args.self.now c.loop-field.self c.args.object c.remove.new.self c.requires.stands c.requires.running c.requires.grey p (ap (λ (g : Scans). g.scanned) c.remove.ensures.scanned)
+    scan_keeps c.args.table.now c.args.self.now c.loop-field.self c.args.object c.remove.new.self c.requires.stands c.requires.running c.requires.grey p c.remove.ensures.scanned
+
+pub returns-clause-marks : goal.returns-clause-marks
+returns-clause-marks c =
+    let p = all_reached c.args.table.now c.args.self.now c.loop-field.self c.args.object c.loop-field.field c.pointer_count-count.result c.pointer_count-count.ensures c.loop-field-test.false c.loop-field.auto.field-end c.loop-field.invariant in
+    record { stays = p.marks.stays; only = p.marks.only; each = p.marks.each }

@@ -1,3 +1,4 @@
+<<<<<<< HEAD
 use Rattle.std.proofs.Common.{arith, ◌∙◌}
 use Rattle.regions.proofs.ObjectWords.{object_there}
 use Rattle.regions.proofs.FieldAccess.{header_fields}
@@ -12,3 +13,12 @@ pub returns : goal.returns
 returns c =
     let o = object_there _ _ _ _ _ c.self.invariant c.self.view_is c.requires in
     c.fields_in.ensures ∙ header_fields _ _ _ _ o.1
+||||||| 3906014
+=======
+use Rattle.std.proofs.Common.{ℕ, List, Option, length, sym, ap, ◌∙◌}
+use Rattle.regions.proofs.Words.FieldAccess.{fields_pointers}
+use Rattle.regions.proofs.table.RegionTable.field_count.Goals as goal
+
+pub returns : goal.returns
+returns c = c.pointer_count.ensures ∙ ap (λ (l : List (Option ℕ)). length l) (sym (fields_pointers c.args.self.now c.args.object))
+>>>>>>> main

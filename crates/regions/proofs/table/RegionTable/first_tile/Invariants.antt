@@ -1,5 +1,5 @@
-use Rattle.regions.proofs.FirstTile.{IsSearch}
+use Rattle.regions.proofs.Cards.FirstTile.{IsSearching}
 use Rattle.regions.proofs.table.RegionTable.first_tile.Given as goal
 
 abbrev pub invariant-loop-at : goal.invariant-loop-at
-invariant-loop-at l = IsSearch l.self l.region l.word l.at-iterator
+invariant-loop-at l = IsSearching l.self l.word l.at-iterator

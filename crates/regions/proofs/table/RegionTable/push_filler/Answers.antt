@@ -1,16 +1,20 @@
-use Rattle.std.proofs.Common.{arith, ◌≡◌, ◌+◌, ◌*◌, ℕ, sym, ap, ◌∙◌, get_or}
+use Rattle.std.proofs.Common.{arith, ◌≡◌, ◌<◌, ◌+◌, ◌*◌, ℕ, sym, ap, ◌∙◌, get_or}
 use Rattle.regions.specs.Table.{used_of}
 use Rattle.std.proofs.lemmas.List.{get_or_read}
 use Rattle.regions.specs.declared.row.Row.{Row}
 use Rattle.regions.specs.Rows.{free_row}
-use Rattle.regions.proofs.Making.{known, top_is}
-use Rattle.regions.proofs.Gaps.{gap_pushed}
+use Rattle.regions.proofs.Tiles.Making.{known, top_is}
+use Rattle.regions.proofs.Tiles.Fillers.{filler_added}
+use Rattle.std.proofs.Common.{refl}
+use Rattle.regions.proofs.Rows.UsedBelow.{used_set}
+use Rattle.regions.proofs.Cards.Entries.{push_sound, filler_written}
+use Rattle.regions.specs.Tiles.{Filler}
 use Rattle.regions.proofs.table.RegionTable.push_filler.Goals as goal
 
 pub write_filler-requires : goal.write_filler-requires
 write_filler-requires c =
     let n = known _ _ _ _ _ c.self.view_is c.requires.known in
-    let t = top_is _ _ _ _ _ c.self.invariant c.self.view_is c.requires.known c.requires.ordinary in
+    let t = top_is _ _ _ _ _ c.self.invariant.table c.self.view_is c.requires.known c.requires.ordinary in
     let at : c.top-at.result ≡ c.args.region * c.self.inside.words_per_region + used_of c.args.self.now c.args.region = c.top-at.ensures ∙ ap (λ (m : ℕ). c.args.region * m + used_of c.args.self.now c.args.region) (sym n.size_is) in
     omega (arith, at, t.room, n.size_is, c.requires.room, c.get-more.ensures.value, c.get-more.ensures.positive)
 
@@ -22,23 +26,39 @@ index-requires c =
 pub overflow_add-used : goal.overflow_add-used
 overflow_add-used c =
     let n = known _ _ _ _ _ c.self.view_is c.requires.known in
-    let t = top_is _ _ _ _ _ c.self.invariant c.self.view_is c.requires.known c.requires.ordinary in
+    let t = top_is _ _ _ _ _ c.self.invariant.table c.self.view_is c.requires.known c.requires.ordinary in
     let read = get_or_read c.self.inside.rows.items _ _ (omega (arith, n.in_rows, c.number-number.ensures)) c.index.ensures free_row ∙ ap (λ k. get_or c.self.inside.rows.items k free_row) c.number-number.ensures in
-    rw read (omega (arith, t.used_le, c.self.invariant.region_size.1, c.get-more.ensures.small))
+    rw read (omega (arith, t.used_le, c.self.invariant.table.region_size.1, c.get-more.ensures.small))
 
 pub index_mut-requires : goal.index_mut-requires
 index_mut-requires c =
     let n = known _ _ _ _ _ c.self.view_is c.requires.known in
     omega (arith, n.in_rows, c.number-number.ensures)
 
+pub put_filler-requires-clause-within : goal.put_filler-requires-clause-within
+put_filler-requires-clause-within c =
+    let n = known _ _ _ _ _ c.self.view_is c.requires.known in
+    let t = top_is _ _ _ _ _ c.self.invariant.table c.self.view_is c.requires.known c.requires.ordinary in
+    let at : c.top-at.result ≡ c.args.region * c.self.inside.words_per_region + used_of c.args.self.now c.args.region = c.top-at.ensures ∙ ap (λ (m : ℕ). c.args.region * m + used_of c.args.self.now c.args.region) (sym n.size_is) in
+    omega (arith, at, t.room, n.size_is, c.requires.room, c.get-more.ensures.value, c.word.ensures, c.self.invariant.table.small, c.self.invariant.each_card)
+
+pub put_filler-requires-clause-small : goal.put_filler-requires-clause-small
+put_filler-requires-clause-small c =
+    let n = known _ _ _ _ _ c.self.view_is c.requires.known in
+    let t = top_is _ _ _ _ _ c.self.invariant.table c.self.view_is c.requires.known c.requires.ordinary in
+    let at : c.top-at.result ≡ c.args.region * c.self.inside.words_per_region + used_of c.args.self.now c.args.region = c.top-at.ensures ∙ ap (λ (m : ℕ). c.args.region * m + used_of c.args.self.now c.args.region) (sym n.size_is) in
+    omega (arith, at, t.room, n.size_is, c.requires.room, c.get-more.ensures.value, c.word.ensures, c.self.invariant.table.small, c.self.invariant.each_card)
+
 pub invariant_of-self : goal.invariant_of-self
 invariant_of-self c =
     let n = known _ _ _ _ _ c.self.view_is c.requires.known in
     let read = get_or_read c.self.inside.rows.items _ _ (omega (arith, n.in_rows, c.number-number.ensures)) c.index.ensures free_row ∙ ap (λ k. get_or c.self.inside.rows.items k free_row) c.number-number.ensures in
-    (gap_pushed _ _ _ _ _ c.args.size _ _ _ _ _ c.self.invariant c.self.view_is c.requires.known c.requires.ordinary c.requires.room (omega (arith, c.get-more.ensures.value, c.get-more.ensures.positive)) c.top-at.ensures (ap (λ (row : Row). row.used) read) c.get-more.ensures.value c.number-number.ensures c.write_filler.ensures).is_table
+    let w = filler_added _ _ _ _ _ c.args.size _ _ _ _ _ c.self.invariant.table c.self.view_is c.requires.known c.requires.ordinary c.requires.room (omega (arith, c.get-more.ensures.value, c.get-more.ensures.positive)) c.top-at.ensures (ap (λ (row : Row). row.used) read) c.get-more.ensures.value c.number-number.ensures c.write_filler.ensures in
+    let some : 0 < c.args.size = omega (arith, c.get-more.ensures.value, c.get-more.ensures.positive) in
+    push_sound _ _ _ _ _ _ _ c.self.invariant c.self.view_is _ _ _ _ c.args.region _ _ (Filler c.args.size) c.requires.known c.requires.ordinary some c.requires.room tt (c.word.ensures ∙ c.top-at.ensures) c.get-more.ensures.value c.put_filler.ensures.card_words c.put_filler.ensures.len (filler_written _ _ _ _ _ _ _ refl c.get-more.ensures.value c.put_filler.ensures.entries) (used_set _ _ _ _ (omega (arith, n.in_rows, c.number-number.ensures)) refl c.self.invariant.used_below) w
 
 pub returns-clause-pushed : goal.returns-clause-pushed
 returns-clause-pushed c =
     let n = known _ _ _ _ _ c.self.view_is c.requires.known in
     let read = get_or_read c.self.inside.rows.items _ _ (omega (arith, n.in_rows, c.number-number.ensures)) c.index.ensures free_row ∙ ap (λ k. get_or c.self.inside.rows.items k free_row) c.number-number.ensures in
-    (gap_pushed _ _ _ _ _ c.args.size _ _ _ _ _ c.self.invariant c.self.view_is c.requires.known c.requires.ordinary c.requires.room (omega (arith, c.get-more.ensures.value, c.get-more.ensures.positive)) c.top-at.ensures (ap (λ (row : Row). row.used) read) c.get-more.ensures.value c.number-number.ensures c.write_filler.ensures).table_is
+    (filler_added _ _ _ _ _ c.args.size _ _ _ _ _ c.self.invariant.table c.self.view_is c.requires.known c.requires.ordinary c.requires.room (omega (arith, c.get-more.ensures.value, c.get-more.ensures.positive)) c.top-at.ensures (ap (λ (row : Row). row.used) read) c.get-more.ensures.value c.number-number.ensures c.write_filler.ensures).table_is

@@ -4,9 +4,9 @@ use Rattle.regions.specs.declared.row.Row.{Row}
 use Rattle.regions.specs.declared.row.Kind.TheVariants as kinds
 use Rattle.regions.specs.Table.{kind_of}
 use Rattle.regions.specs.Rows.{free_row}
-use Rattle.regions.proofs.Making.{known, kind_is}
-use Rattle.regions.proofs.WalkMade.{walk_ordinary}
-use Rattle.regions.proofs.WalkFrom.{walk_first, walk_free, walk_rests}
+use Rattle.regions.proofs.Tiles.Making.{known, kind_is}
+use Rattle.regions.proofs.Walks.WalkMade.{walk_ordinary}
+use Rattle.regions.proofs.Walks.WalkFrom.{walk_first, walk_free, walk_rests}
 use Rattle.regions.proofs.table.RegionTable.tile_words.Goals as goal
 
 pub index-row-requires : goal.index-row-requires
@@ -19,22 +19,22 @@ returns-in-Ordinary c =
     let n = known _ _ _ _ _ c.self.view_is c.requires in
     let read = get_or_read c.self.inside.rows.items _ _ (omega (arith, n.in_rows, c.number.ensures)) c.index-row.ensures free_row ∙ ap (λ k. get_or c.self.inside.rows.items k free_row) c.number.ensures in
     let is : kind_of c.args.self.now c.args.region ≡ kinds.Ordinary = kind_is _ _ _ _ _ n ∙ sym (ap (λ (row : Row). row.kind) read) ∙ c.in-Ordinary.is in
-    rw read (walk_ordinary _ _ _ _ _ c.self.invariant c.self.view_is c.requires is)
+    rw read (walk_ordinary _ _ _ _ _ c.self.invariant.table c.self.view_is c.requires is)
 
 pub overflow_mul-number : goal.overflow_mul-number
 overflow_mul-number c =
     let n = known _ _ _ _ _ c.self.view_is c.requires in
     let read = get_or_read c.self.inside.rows.items _ _ (omega (arith, n.in_rows, c.number.ensures)) c.index-row.ensures free_row ∙ ap (λ k. get_or c.self.inside.rows.items k free_row) c.number.ensures in
     let is : kind_of c.args.self.now c.args.region ≡ kinds.First = kind_is _ _ _ _ _ n ∙ sym (ap (λ (row : Row). row.kind) read) ∙ c.in-First.is in
-    let w = walk_first _ _ _ _ _ c.self.invariant c.self.view_is c.requires is in
-    rw c.number-in-First.ensures (omega (arith, w.1, c.self.invariant.small))
+    let w = walk_first _ _ _ _ _ c.self.invariant.table c.self.view_is c.requires is in
+    rw c.number-in-First.ensures (omega (arith, w.1, c.self.invariant.table.small))
 
 pub size_at-requires : goal.size_at-requires
 size_at-requires c =
     let n = known _ _ _ _ _ c.self.view_is c.requires in
     let read = get_or_read c.self.inside.rows.items _ _ (omega (arith, n.in_rows, c.number.ensures)) c.index-row.ensures free_row ∙ ap (λ k. get_or c.self.inside.rows.items k free_row) c.number.ensures in
     let is : kind_of c.args.self.now c.args.region ≡ kinds.First = kind_is _ _ _ _ _ n ∙ sym (ap (λ (row : Row). row.kind) read) ∙ c.in-First.is in
-    let w = walk_first _ _ _ _ _ c.self.invariant c.self.view_is c.requires is in
+    let w = walk_first _ _ _ _ _ c.self.invariant.table c.self.view_is c.requires is in
     rw (c.new.ensures, c.number-in-First.ensures) w.1
 
 pub returns-in-First : goal.returns-in-First
@@ -42,7 +42,7 @@ returns-in-First c =
     let n = known _ _ _ _ _ c.self.view_is c.requires in
     let read = get_or_read c.self.inside.rows.items _ _ (omega (arith, n.in_rows, c.number.ensures)) c.index-row.ensures free_row ∙ ap (λ k. get_or c.self.inside.rows.items k free_row) c.number.ensures in
     let is : kind_of c.args.self.now c.args.region ≡ kinds.First = kind_is _ _ _ _ _ n ∙ sym (ap (λ (row : Row). row.kind) read) ∙ c.in-First.is in
-    rw (c.size_at.ensures, c.new.ensures, c.number-in-First.ensures) (walk_first _ _ _ _ _ c.self.invariant c.self.view_is c.requires is).0
+    rw (c.size_at.ensures, c.new.ensures, c.number-in-First.ensures) (walk_first _ _ _ _ _ c.self.invariant.table c.self.view_is c.requires is).0
 
 pub returns-in-Free : goal.returns-in-Free
 returns-in-Free c =

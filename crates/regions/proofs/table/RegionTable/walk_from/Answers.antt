@@ -1,20 +1,18 @@
-use Rattle.std.proofs.Common.{◌≡◌, ◌/◌, ◌%◌, ℕ, refl, ◌∙◌, arith}
-use Rattle.regions.proofs.WalkFrom.{begins, tile_region}
+use Rattle.std.proofs.Common.{◌≡◌, ◌/◌, ◌%◌, ◌-◌, ◌*◌, ◌<◌, ℕ, ◌∙◌, arith}
+use Rattle.regions.proofs.Walks.WalkFrom.{begins, tile_region}
 use Rattle.regions.proofs.table.RegionTable.walk_from.Goals as goal
 
-quotient : (x w a s : ℕ) → x ≡ a → w ≡ s → x / w ≡ a / s
-quotient x w a s e f = rw (e, f) refl
-
-remainder : (x w a s : ℕ) → x ≡ a → w ≡ s → x % w ≡ a % s
-remainder x w a s e f = rw (e, f) refl
+rest_is : (a w x k n : ℕ) → 0 < w → x ≡ a → k ≡ a / w → n ≡ w → x - k * n ≡ a % w
+rest_is a w x k n z e f g = rw (e, f, g) (omega arith)
 
 pub tile_words-end-requires : goal.tile_words-end-requires
 tile_words-end-requires c =
-    let e = c.new-region.ensures ∙ quotient _ _ _ _ c.word.ensures c.words_per_region-words.ensures in
+    let e = c.region_of-region.ensures in
     let k = tile_region _ _ c.requires in
     omega (arith, k, e)
 
 pub invariant_of-result : goal.invariant_of-result
 invariant_of-result c =
-    let e = c.new-region.ensures ∙ quotient _ _ _ _ c.word.ensures c.words_per_region-words.ensures in
-    begins _ c.args.at _ _ _ c.requires e (remainder _ _ _ _ c.word-2.ensures c.words_per_region-words.ensures) c.tile_words-end.ensures
+    let e = c.region_of-region.ensures in
+    let offset : c.word.result - c.number.result * c.words_per_region.result ≡ c.args.at % c.args.self.now.words_per_region = rest_is c.args.at c.args.self.now.words_per_region _ _ _ c.law.ensures.positive c.word.ensures (c.number.ensures ∙ e) c.words_per_region.ensures in
+    begins _ c.args.at _ _ _ c.requires e offset c.tile_words-end.ensures

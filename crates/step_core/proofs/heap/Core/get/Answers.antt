@@ -1,7 +1,7 @@
 use Rattle.std.proofs.Common.{length, ap, sym, ◌∙◌, Option, ℕ, List, arith}
 use Rattle.std.specs.Prelude.{slice_get}
-use Rattle.step_core.proofs.Acting.{get_past, get_done}
-use Rattle.step_core.proofs.Keeping.{object_led, pointers_of, field_of, field_can_be_stored}
+use Rattle.step_core.proofs.Mutating.Acting.{get_past, get_done}
+use Rattle.step_core.proofs.Cores.Keeping.{object_led, pointers_of, field_of, field_can_be_stored}
 use Rattle.step_core.proofs.heap.Core.get.Goals as goal
 
 pub pointer_count-requires : goal.pointer_count-requires

@@ -1,6 +1,6 @@
 use Rattle.std.proofs.Common.{◌∙◌, ap}
 use Rattle.object_graph.specs.declared.step.Reply.TheVariants as replies
-use Rattle.step_core.proofs.Reading.{shown_name}
+use Rattle.step_core.proofs.Mutating.Reading.{shown_name}
 use Rattle.step_core.proofs.heap.Core.load.Goals as goal
 
 pub returns-clause-acts : goal.returns-clause-acts

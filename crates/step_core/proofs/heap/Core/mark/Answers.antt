@@ -1,6 +1,6 @@
 use Rattle.std.proofs.Common.{◌≡◌, true}
 use Rattle.step_core.specs.Stands.{ShowsGraph, KeepsFrom}
-use Rattle.step_core.proofs.Cycling.{to_fields, marked_shows, marked_keeps, marked_kept, marked_from}
+use Rattle.step_core.proofs.Cycles.Cycling.{to_fields, marked_shows, marked_keeps, marked_kept, marked_from}
 use Rattle.step_core.proofs.heap.Core.mark.Goals as goal
 
 pub invariant_of-self : goal.invariant_of-self
@@ -17,4 +17,4 @@ returns-clause-keeps c = let b = c.mark.ensures in let run = to_fields _ _ c.sel
 
 pub returns-clause-marked : goal.returns-clause-marked
 returns-clause-marked c = let b = c.mark.ensures in let run = to_fields _ _ c.self.view_is (λ d. d.marker.running ≡ true) c.requires in
-    marked_from _ c.self.invariant run _ b.stands b.same b.snapshots b.logs _ c.self.view_is c.args.units _ b.most b.none_left b.scans
+    marked_from _ c.self.invariant run _ b.stands b.same b.snapshots b.logs _ c.self.view_is c.args.units _ b.most b.none_left b.scans b.count b.grows

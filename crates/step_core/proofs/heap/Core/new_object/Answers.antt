@@ -1,34 +1,39 @@
 use Rattle.std.proofs.Common.{◌≡◌, ◌*◌, ℕ, arith, subst, sym, ap, ◌∙◌, inl}
 use Rattle.step_core.specs.Stands.{CoreState, ShowsGraph, KeepsFrom}
-use Rattle.step_core.proofs.Creating.{new_acts, new_kept, new_keeps, new_leaves, has_place}
+use Rattle.step_core.proofs.Cores.Added.{creates}
+use Rattle.step_core.proofs.Mutating.Creating.{new_acts, new_kept, new_keeps, new_leaves}
 use Rattle.step_core.proofs.heap.Core.new_object.Goals as goal
 
 pub invariant_of-self-2 : goal.invariant_of-self-2
 invariant_of-self-2 c =
-    let filled = rw (c.new.ensures, c.new-2.ensures, c.new-3.ensures) at c.make_object.ensures in
-    let words : c.from-3.result * c.from-4.result ≡ c.self.inside.config.regions * c.self.inside.config.words = ap (λ (n : ℕ). n * c.from-4.result) c.from-3.ensures ∙ ap (λ (n : ℕ). c.self.inside.config.regions * n) c.from-4.ensures in
-    rw c.register_index.ensures (new_kept _ c.args.mutator c.args.to _ _ _ _ _ c.args.pointers c.args.values c.self.invariant c.in-Ok.ensures.placed c.law-2.ensures.positive c.law-2.ensures.fitting (omega (arith, c.from.ensures, c.from-2.ensures)) filled (omega (arith, words, c.from.ensures, c.from-2.ensures)) c.if-self.false)
+    let made = rw (c.new.ensures, c.new-2.ensures) at c.make-at.ensures.made in
+    let words : c.from.result * c.from-2.result ≡ c.self.inside.config.regions * c.self.inside.config.words = ap (λ (n : ℕ). n * c.from-2.result) c.from.ensures ∙ ap (λ (n : ℕ). c.self.inside.config.regions * n) c.from-2.ensures in
+    let layers = c.self.invariant.layers in
+    let w = creates _ _ _ _ c.in-Ok.place _ c.self.inside.next c.args.counts.pointers c.args.counts.values c.law.ensures c.law-2.ensures layers.unmoved layers.buffers c.in-Ok.ensures.placed (omega (arith, c.size-size.ensures)) in
+    rw (c.register_index.ensures, c.make-at.ensures.at, made) (new_kept _ c.args.mutator c.args.to _ _ _ c.args.counts.pointers c.args.counts.values c.self.invariant w (omega (arith, words, c.size-size.ensures)) c.if-self.false)
 
 pub returns-clause-acts : goal.returns-clause-acts
 returns-clause-acts c = λ g s.
-    let filled = rw (c.new.ensures, c.new-2.ensures, c.new-3.ensures) at c.make_object.ensures in
-    let words : c.from-3.result * c.from-4.result ≡ c.self.inside.config.regions * c.self.inside.config.words = ap (λ (n : ℕ). n * c.from-4.result) c.from-3.ensures ∙ ap (λ (n : ℕ). c.self.inside.config.regions * n) c.from-4.ensures in
+    let made = rw (c.new.ensures, c.new-2.ensures) at c.make-at.ensures.made in
+    let words : c.from.result * c.from-2.result ≡ c.self.inside.config.regions * c.self.inside.config.words = ap (λ (n : ℕ). n * c.from-2.result) c.from.ensures ∙ ap (λ (n : ℕ). c.self.inside.config.regions * n) c.from-2.ensures in
+    let layers = c.self.invariant.layers in
+    let w = creates _ _ _ _ c.in-Ok.place _ c.self.inside.next c.args.counts.pointers c.args.counts.values c.law.ensures c.law-2.ensures layers.unmoved layers.buffers c.in-Ok.ensures.placed (omega (arith, c.size-size.ensures)) in
     let s' = subst (λ (d : CoreState). ShowsGraph g d) (sym c.self.view_is) s in
-    inl (rw c.register_index.ensures (new_acts _ c.args.mutator c.args.to _ _ _ _ _ c.args.pointers c.args.values c.self.invariant c.in-Ok.ensures.placed c.law-2.ensures.positive c.law-2.ensures.fitting (omega (arith, c.from.ensures, c.from-2.ensures)) filled (omega (arith, words, c.from.ensures, c.from-2.ensures)) c.if-self.false g s'))
-
-pub returns-clause-full : goal.returns-clause-full
-returns-clause-full c = λ none name e.
-    has_place _ _ c.args.mutator _ _ c.self.view_is c.self.invariant (omega (arith, c.from.ensures, c.from-2.ensures)) (omega (arith, c.from.ensures, c.from-2.ensures, c.from-5.ensures)) _ c.in-Ok.ensures.place none
+    inl (rw (c.register_index.ensures, c.make-at.ensures.at, made) (new_acts _ c.args.mutator c.args.to _ _ _ c.args.counts.pointers c.args.counts.values c.self.invariant w (omega (arith, words, c.size-size.ensures)) c.if-self.false g s'))
 
 pub returns-clause-keeps : goal.returns-clause-keeps
 returns-clause-keeps c = λ s f.
-    let filled = rw (c.new.ensures, c.new-2.ensures, c.new-3.ensures) at c.make_object.ensures in
-    let words : c.from-3.result * c.from-4.result ≡ c.self.inside.config.regions * c.self.inside.config.words = ap (λ (n : ℕ). n * c.from-4.result) c.from-3.ensures ∙ ap (λ (n : ℕ). c.self.inside.config.regions * n) c.from-4.ensures in
+    let made = rw (c.new.ensures, c.new-2.ensures) at c.make-at.ensures.made in
+    let words : c.from.result * c.from-2.result ≡ c.self.inside.config.regions * c.self.inside.config.words = ap (λ (n : ℕ). n * c.from-2.result) c.from.ensures ∙ ap (λ (n : ℕ). c.self.inside.config.regions * n) c.from-2.ensures in
+    let layers = c.self.invariant.layers in
+    let w = creates _ _ _ _ c.in-Ok.place _ c.self.inside.next c.args.counts.pointers c.args.counts.values c.law.ensures c.law-2.ensures layers.unmoved layers.buffers c.in-Ok.ensures.placed (omega (arith, c.size-size.ensures)) in
     let f' = subst (λ (d : CoreState). KeepsFrom s d) (sym c.self.view_is) f in
-    rw c.register_index.ensures (new_keeps _ c.args.mutator c.args.to _ _ _ _ _ c.args.pointers c.args.values c.self.invariant c.in-Ok.ensures.placed c.law-2.ensures.positive c.law-2.ensures.fitting (omega (arith, c.from.ensures, c.from-2.ensures)) filled (omega (arith, words, c.from.ensures, c.from-2.ensures)) c.if-self.false s f')
+    rw (c.register_index.ensures, c.make-at.ensures.at, made) (new_keeps _ c.args.mutator c.args.to _ _ _ c.args.counts.pointers c.args.counts.values c.self.invariant w (omega (arith, words, c.size-size.ensures)) c.if-self.false s f')
 
 pub returns-clause-leaves : goal.returns-clause-leaves
 returns-clause-leaves c =
-    let filled = rw (c.new.ensures, c.new-2.ensures, c.new-3.ensures) at c.make_object.ensures in
-    let words : c.from-3.result * c.from-4.result ≡ c.self.inside.config.regions * c.self.inside.config.words = ap (λ (n : ℕ). n * c.from-4.result) c.from-3.ensures ∙ ap (λ (n : ℕ). c.self.inside.config.regions * n) c.from-4.ensures in
-    rw c.register_index.ensures (new_leaves _ c.args.mutator c.args.to _ _ _ _ _ c.args.pointers c.args.values c.self.invariant c.in-Ok.ensures.placed c.law-2.ensures.positive c.law-2.ensures.fitting (omega (arith, c.from.ensures, c.from-2.ensures)) filled (omega (arith, words, c.from.ensures, c.from-2.ensures)) c.if-self.false _ c.self.view_is)
+    let made = rw (c.new.ensures, c.new-2.ensures) at c.make-at.ensures.made in
+    let words : c.from.result * c.from-2.result ≡ c.self.inside.config.regions * c.self.inside.config.words = ap (λ (n : ℕ). n * c.from-2.result) c.from.ensures ∙ ap (λ (n : ℕ). c.self.inside.config.regions * n) c.from-2.ensures in
+    let layers = c.self.invariant.layers in
+    let w = creates _ _ _ _ c.in-Ok.place _ c.self.inside.next c.args.counts.pointers c.args.counts.values c.law.ensures c.law-2.ensures layers.unmoved layers.buffers c.in-Ok.ensures.placed (omega (arith, c.size-size.ensures)) in
+    rw (c.register_index.ensures, c.make-at.ensures.at, made) (new_leaves _ c.args.mutator c.args.to _ _ _ c.args.counts.pointers c.args.counts.values c.self.invariant w (omega (arith, words, c.size-size.ensures)) c.if-self.false _ c.self.view_is)

@@ -1,8 +1,9 @@
 use Rattle.std.proofs.Common.{◌+◌, ◌<◌, ◌/◌, ◌∙◌, ℕ, length, ap, arith, subst, sym}
-use Rattle.step_core.proofs.Cycling.{to_fields}
-use Rattle.step_core.proofs.Noting.{field_inside, card_inside, dirtied_kept, noted_so}
+use Rattle.step_core.proofs.Cycles.Cycling.{to_fields}
+use Rattle.step_core.proofs.Mutating.Noting.{field_inside, card_inside, dirtied_kept, noted_so}
 use Rattle.heap_model.specs.Heap.{IsRoot}
 use Rattle.regions.specs.Table.{pointers_at}
+use Rattle.heap_words.specs.Configs.{card_words}
 use Rattle.step_core.specs.Stands.{heap_of}
 use Rattle.step_core.proofs.heap.Core.note.Goals as goal
 
@@ -11,7 +12,8 @@ dirty-requires-clause-card c =
     let root = to_fields _ _ c.self.view_is (λ d. IsRoot (heap_of d) c.args.object) c.requires.rooted in
     let within = to_fields _ _ c.self.view_is (λ d. c.args.field < length (pointers_at d.table c.args.object)) c.requires.field in
     let inside = field_inside _ c.args.object c.args.field c.self.invariant c.law.ensures root within in
-    let known = subst (λ (n : ℕ). n < length c.self.inside.cards.dirty) (sym c.new.ensures)
+    let card = c.new.ensures ∙ ap (λ (n : ℕ). (c.word.result + 2 + c.args.field) / n) c.card_words.ensures in
+    let known = subst (λ (n : ℕ). n < length c.self.inside.cards.dirty) (sym card)
     (card_inside _ (c.word.result + 2 + c.args.field) c.self.invariant (omega (arith, inside, c.word.ensures))) in
     known
 
@@ -20,7 +22,8 @@ invariant_of-self c =
     let root = to_fields _ _ c.self.view_is (λ d. IsRoot (heap_of d) c.args.object) c.requires.rooted in
     let within = to_fields _ _ c.self.view_is (λ d. c.args.field < length (pointers_at d.table c.args.object)) c.requires.field in
     let inside = field_inside _ c.args.object c.args.field c.self.invariant c.law.ensures root within in
-    let known = subst (λ (n : ℕ). n < length c.self.inside.cards.dirty) (sym c.new.ensures)
+    let card = c.new.ensures ∙ ap (λ (n : ℕ). (c.word.result + 2 + c.args.field) / n) c.card_words.ensures in
+    let known = subst (λ (n : ℕ). n < length c.self.inside.cards.dirty) (sym card)
     (card_inside _ (c.word.result + 2 + c.args.field) c.self.invariant (omega (arith, inside, c.word.ensures))) in
     let d = c.dirty.ensures in
     dirtied_kept _ c.self.invariant c.args.mutator c.new.result _ known d.after d.cards d.mutators
@@ -44,8 +47,9 @@ returns-then-word-words-clause-noted c =
     let root = to_fields _ _ c.self.view_is (λ d. IsRoot (heap_of d) c.args.object) c.requires.rooted in
     let within = to_fields _ _ c.self.view_is (λ d. c.args.field < length (pointers_at d.table c.args.object)) c.requires.field in
     let inside = field_inside _ c.args.object c.args.field c.self.invariant c.law.ensures root within in
-    let known = subst (λ (n : ℕ). n < length c.self.inside.cards.dirty) (sym c.new.ensures)
+    let card = c.new.ensures ∙ ap (λ (n : ℕ). (c.word.result + 2 + c.args.field) / n) c.card_words.ensures in
+    let known = subst (λ (n : ℕ). n < length c.self.inside.cards.dirty) (sym card)
     (card_inside _ (c.word.result + 2 + c.args.field) c.self.invariant (omega (arith, inside, c.word.ensures))) in
     let d = c.dirty.ensures in
     noted_so _ c.self.invariant c.args.mutator c.new.result _ known d.after d.cards d.mutators c.args.object c.args.field c.args.target.now c.in-Some.to c.in-Some.is
-    (c.new.ensures ∙ ap (λ (n : ℕ). (n + 2 + c.args.field) / 8) c.word.ensures)
+    (card ∙ ap (λ (n : ℕ). (n + 2 + c.args.field) / card_words c.self.inside.config) c.word.ensures)

@@ -1,7 +1,7 @@
 use Rattle.std.proofs.Common.{length, ap, ◌∙◌, arith}
-use Rattle.step_core.proofs.Acting.{put_past, put_done}
+use Rattle.step_core.proofs.Mutating.Acting.{put_past, put_done}
 use Rattle.regions.specs.Table.{Table, pointers_at}
-use Rattle.step_core.proofs.Keeping.{object_led, table_of}
+use Rattle.step_core.proofs.Cores.Keeping.{object_led, table_of}
 use Rattle.step_core.proofs.heap.Core.put.Goals as goal
 
 pub pointer_count-requires : goal.pointer_count-requires

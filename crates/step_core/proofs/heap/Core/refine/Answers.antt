@@ -1,4 +1,4 @@
-use Rattle.step_core.proofs.Refined.{one_more, queue_ended}
+use Rattle.step_core.proofs.Pauses.Refined.{one_more, queue_ended}
 use Rattle.step_core.proofs.heap.Core.refine.Goals as goal
 
 pub returns-then-not-refine_card-clause-refined : goal.returns-then-not-refine_card-clause-refined

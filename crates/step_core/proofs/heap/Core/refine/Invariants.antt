@@ -1,6 +1,6 @@
 use Rattle.heap_model.specs.Graph.{Graph}
 use Rattle.step_core.specs.Stands.{ShowsGraph, KeepsFrom}
-use Rattle.step_core.proofs.Refined.{RefinesSome}
+use Rattle.step_core.proofs.Pauses.Refined.{RefinesSome}
 use Rattle.step_core.proofs.heap.Core.refine.Given as goal
 
 abbrev pub invariant-loop-done : goal.invariant-loop-done

@@ -1,24 +1,24 @@
 use Rattle.step_core.specs.Stands.{ShowsGraph, KeepsFrom}
-use Rattle.step_core.proofs.Cycling.{to_fields}
-use Rattle.step_core.proofs.Refined.{can_scan, cards_show, cards_keep, refined_kept, refined_from}
+use Rattle.step_core.proofs.Cycles.Cycling.{to_fields}
+use Rattle.step_core.proofs.Pauses.Refined.{can_scan, cards_show, cards_keep, refined_kept, refined_from}
 use Rattle.step_core.proofs.heap.Core.refine_card.Goals as goal
 
 pub refine_one-requires-clause-stands : goal.refine_one-requires-clause-stands
-refine_one-requires-clause-stands c = can_scan _ c.self.invariant
+refine_one-requires-clause-stands c = rw c.card_words.ensures (can_scan _ c.self.invariant)
 
 pub refine_one-requires-clause-cards : goal.refine_one-requires-clause-cards
 refine_one-requires-clause-cards c = c.self.invariant.cards.each_card
 
 pub invariant_of-self : goal.invariant_of-self
-invariant_of-self c = let r = c.refine_one.ensures in refined_kept _ c.self.invariant _ _ _ r.stands r.cards r.refines r.remembers
+invariant_of-self c = let r = rw c.card_words.ensures at c.refine_one.ensures in refined_kept _ c.self.invariant _ _ _ r.stands r.cards r.refines r.remembers
 
 pub returns-clause-shows : goal.returns-clause-shows
-returns-clause-shows c = let r = c.refine_one.ensures in
+returns-clause-shows c = let r = rw c.card_words.ensures at c.refine_one.ensures in
     λ g s. cards_show _ c.self.invariant _ _ _ r.stands r.cards r.refines r.remembers g (to_fields _ _ c.self.view_is (λ d. ShowsGraph g d) s)
 
 pub returns-clause-keeps : goal.returns-clause-keeps
-returns-clause-keeps c = let r = c.refine_one.ensures in
+returns-clause-keeps c = let r = rw c.card_words.ensures at c.refine_one.ensures in
     λ s f. cards_keep _ c.self.invariant _ _ _ r.stands r.cards r.refines r.remembers s (to_fields _ _ c.self.view_is (λ d. KeepsFrom s d) f)
 
 pub returns-clause-refined : goal.returns-clause-refined
-returns-clause-refined c = let r = c.refine_one.ensures in refined_from _ c.self.invariant _ _ _ r.stands r.cards r.refines r.remembers _ c.self.view_is
+returns-clause-refined c = let r = rw c.card_words.ensures at c.refine_one.ensures in refined_from _ c.self.invariant _ _ _ r.stands r.cards r.refines r.remembers _ c.self.view_is

@@ -1,4 +1,4 @@
-use Rattle.step_core.proofs.Keeping.{root_kept, root_kept_from, root_leaves, root_after}
+use Rattle.step_core.proofs.Cores.Keeping.{root_kept, root_kept_from, root_leaves, root_after}
 use Rattle.step_core.proofs.heap.Core.set_root.Goals as goal
 
 pub invariant_of-self : goal.invariant_of-self

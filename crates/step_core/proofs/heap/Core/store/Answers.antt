@@ -1,5 +1,5 @@
 use Rattle.std.proofs.Common.{◌∙◌}
-use Rattle.step_core.proofs.Noting.{held_noted, kept_noted, shown_noted, shows_noted, keeps_noted}
+use Rattle.step_core.proofs.Mutating.Noting.{held_noted, kept_noted, shown_noted, shows_noted, keeps_noted}
 use Rattle.step_core.proofs.heap.Core.store.Goals as goal
 
 pub store_noted-requires-clause-held : goal.store_noted-requires-clause-held

@@ -1,5 +1,6 @@
-use Rattle.std.proofs.Common.{◌∙◌, sym, ap, List, [], ℕ, length, length-set}
-use Rattle.step_core.proofs.Stored.{was_kept, store_shows, idle_shows, store_leaves, idle_leaves, idle_kept, saved_stands, saved_keeps, saved_kept, saved_room, taken_room, taken_kept, taken_keeps, roles_trans, known_log}
+use Rattle.std.proofs.Common.{refl, ◌∙◌, sym, ap, List, [], ℕ, length, length-set}
+use Rattle.step_core.proofs.Mutating.Stored.{was_kept, store_shows, idle_shows, store_leaves, idle_leaves, idle_kept, saved_stands, saved_keeps, saved_kept, saved_room, taken_room, taken_kept, taken_keeps, roles_trans, known_log}
+use Rattle.step_core.proofs.Mutating.Overwritten.{log_taken, overwrites_full, overwrites_room}
 use Rattle.step_core.proofs.heap.Core.store_noted.Goals as goal
 
 pub invariant_of-self : goal.invariant_of-self
@@ -46,8 +47,7 @@ returns-then-full-clause-keeps c =
 
 pub returns-then-full-clause-leaves : goal.returns-then-full-clause-leaves
 returns-then-full-clause-leaves c =
-    let s = c.save-full.ensures in
-    store_leaves _ _ c.self.view_is c.self.invariant c.args.object c.args.field c.args.target c.requires.rooted c.requires.field c.requires.held c.requires.noted _ c.set_ptr-2.ensures _ (c.take_log.ensures.same.running ∙ s.same.running) (c.take_log.ensures.scans ∙ s.scans)
+    store_leaves _ _ c.self.view_is c.self.invariant c.args.object c.args.field c.args.target c.requires.rooted c.requires.field c.requires.held c.requires.noted _ c.set_ptr-2.ensures _
 
 pub returns-else-full-clause-shows : goal.returns-else-full-clause-shows
 returns-else-full-clause-shows c = store_shows _ _ c.self.view_is c.self.invariant c.args.object c.args.field c.args.target c.requires.rooted c.requires.field c.requires.held c.requires.noted _ c.set_ptr-2.ensures _ c.save-full.ensures.same
@@ -59,5 +59,16 @@ returns-else-full-clause-keeps c =
 
 pub returns-else-full-clause-leaves : goal.returns-else-full-clause-leaves
 returns-else-full-clause-leaves c =
+    store_leaves _ _ c.self.view_is c.self.invariant c.args.object c.args.field c.args.target c.requires.rooted c.requires.field c.requires.held c.requires.noted _ c.set_ptr-2.ensures _
+
+pub returns-then-full-clause-marker : goal.returns-then-full-clause-marker
+returns-then-full-clause-marker c =
     let s = c.save-full.ensures in
-    store_leaves _ _ c.self.view_is c.self.invariant c.args.object c.args.field c.args.target c.requires.rooted c.requires.field c.requires.held c.requires.noted _ c.set_ptr-2.ensures _ s.same.running s.scans
+    let t = c.take_log.ensures in
+    overwrites_full _ _ c.self.view_is c.args.object c.args.field c.args.mutator _ c.get_ptr-overwritten.ensures c.if-not-self.false _ _ s.after (sym s.full ∙ c.if-full.true)
+    (log_taken _ _ c.args.object c.args.field c.args.target c.args.mutator _ _ c.set_ptr-2.ensures t.emptied t.marks t.same t.scanned t.scans)
+
+pub returns-else-full-clause-marker : goal.returns-else-full-clause-marker
+returns-else-full-clause-marker c =
+    let s = c.save-full.ensures in
+    overwrites_room _ _ c.self.view_is c.args.object c.args.field c.args.mutator _ c.get_ptr-overwritten.ensures c.if-not-self.false _ _ s.after (sym s.full ∙ c.if-full.false) refl

@@ -1,6 +1,6 @@
 use Rattle.std.proofs.Common.{length, ap, ◌∙◌, ℕ, List, arith}
-use Rattle.step_core.proofs.Acting.{write_past}
-use Rattle.step_core.proofs.Keeping.{object_led, values_of, write_after, write_kept, write_kept_from, write_leaves}
+use Rattle.step_core.proofs.Mutating.Acting.{write_past}
+use Rattle.step_core.proofs.Cores.Keeping.{object_led, values_of, write_after, write_kept, write_kept_from, write_leaves}
 use Rattle.step_core.proofs.heap.Core.write.Goals as goal
 
 pub value_count-requires : goal.value_count-requires
@@ -12,16 +12,16 @@ returns-then-field-value_count-clause-acts c = let l = c.in-Some.ensures.leads i
 
 pub invariant_of-self : goal.invariant_of-self
 invariant_of-self c = let l = c.in-Some.ensures.leads in
-    write_kept _ _ c.self.view_is c.self.invariant c.args.mutator c.args.object _ c.args.field c.args.value _ l (omega (arith, c.value_count.ensures)) c.set_data.ensures
+    write_kept _ _ c.self.view_is c.self.invariant c.args.mutator c.args.object _ c.args.field c.args.value _ l (omega (arith, c.value_count.ensures)) c.set_value.ensures
 
 pub returns-clause-acts : goal.returns-clause-acts
 returns-clause-acts c = let l = c.in-Some.ensures.leads in
-    write_after _ _ c.self.view_is c.self.invariant c.args.mutator c.args.object _ c.args.field c.args.value _ l (omega (arith, c.value_count.ensures)) c.set_data.ensures
+    write_after _ _ c.self.view_is c.self.invariant c.args.mutator c.args.object _ c.args.field c.args.value _ l (omega (arith, c.value_count.ensures)) c.set_value.ensures
 
 pub returns-clause-keeps : goal.returns-clause-keeps
 returns-clause-keeps c = let l = c.in-Some.ensures.leads in
-    write_kept_from _ _ c.self.view_is c.self.invariant c.args.mutator c.args.object _ c.args.field c.args.value _ l (omega (arith, c.value_count.ensures)) c.set_data.ensures
+    write_kept_from _ _ c.self.view_is c.self.invariant c.args.mutator c.args.object _ c.args.field c.args.value _ l (omega (arith, c.value_count.ensures)) c.set_value.ensures
 
 pub returns-clause-leaves : goal.returns-clause-leaves
 returns-clause-leaves c = let l = c.in-Some.ensures.leads in
-    write_leaves _ _ c.self.view_is c.self.invariant c.args.mutator c.args.object _ c.args.field c.args.value _ l (omega (arith, c.value_count.ensures)) c.set_data.ensures
+    write_leaves _ _ c.self.view_is c.self.invariant c.args.mutator c.args.object _ c.args.field c.args.value _ l (omega (arith, c.value_count.ensures)) c.set_value.ensures

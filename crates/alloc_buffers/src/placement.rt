@@ -1,0 +1,197 @@
+//! Where an object goes: into a buffer, beside the buffers, or into a run of its own.
+
+ghost use Rattle.std.specs.Prelude.{◌≡◌, ◌<◌, ◌≤◌, ◌+◌, ◌-◌, ◌*◌, ◌^◌, ◌↔◌, ◌∷◌, length, Some, None, IfOk, OnErr, IsErr, IfSome, IfNone, slice_get};
+ghost use Rattle.regions.specs.Table.{used_of, kind_of, tile_in, push_tile, replace_tile, remainder};
+ghost use Rattle.regions.specs.Tiles.{Filler};
+ghost use Rattle.regions.specs.declared.row.Kind.TheVariants as kinds;
+ghost use Rattle.alloc_buffers.specs.Placement.{room_for, place_of, small_place_of, run_count, CanPlace, IsPlaced, IsPlace, HasRoom, in_buffer, alone, in_new_buffer};
+
+use crate::buffers::{AllocBuffers, Buffer, open_buffer};
+use heap_words::addr::{Addr, RegionNo};
+use heap_words::header::FillerSize;
+use regions::RegionTable;
+use thiserror::Error;
+
+/// No free region, or no run of free regions, is left where one is needed.
+#[derive(Clone, Copy, Debug, PartialEq, Eq, Error)]
+#[error("no free region is left")]
+pub struct Full;
+
+/// Where an object is to be made.
+#[derive(Clone, Copy, Debug, PartialEq, Eq)]
+pub enum Place {
+    /// Over a filler of the object's size, which starts at an address.
+    Filler(Addr),
+    /// In the lowest run of so many free regions, from the bottom of the first one on.
+    Run { first: RegionNo, count: u32 },
+}
+
+/// A region with room for so many words.
+fn room(table: &mut RegionTable, current: Option<u32>, words: u32) -> Option<u32>
+    requires known { IfSome current (λ k. k < length table.old.regions) }
+    requires ordinary { IfSome current (λ k. kind_of table.old k ≡ kinds.Ordinary) }
+    requires small { words ≤ table.old.words_per_region }
+    ensures room { IfSome result (λ k. HasRoom table.old table.new k words) }
+    ensures none { IfNone result (room_for table.old current words ≡ None) }
+    ensures same { IfNone result (table.new ≡ table.old) }
+    ensures some { IfSome result (λ k. room_for table.old current words ≡ Some (record { region = k; table = table.new })) }
+{
+    if let Some(number) = current {
+        if table.has_room(RegionNo::new(number), words) {
+            return Some(number);
+        }
+    }
+    let region = table.take_free()?;
+    Some(region.number())
+}
+
+/// A filler of so many words at the top of a region.
+fn push_filler(table: &mut RegionTable, region: RegionNo, size: u32) -> Addr
+    requires known { region < length table.old.regions }
+    requires ordinary { kind_of table.old region ≡ kinds.Ordinary }
+    requires positive { 0 < size }
+    requires room { used_of table.old region + size ≤ table.old.words_per_region }
+    ensures at { result ≡ region * table.old.words_per_region + used_of table.old region }
+    ensures pushed { table.new ≡ push_tile table.old region (Filler size) }
+{
+    table.law();
+    table.push_filler(region, FillerSize::new(size))
+}
+
+/// Splits a filler, and answers where its second part starts.
+fn split_filler(table: &mut RegionTable, at: Addr, rest: u32, size: u32) -> Addr
+    requires filler { tile_in table.old at ≡ Some (Filler rest) }
+    requires positive { 0 < size }
+    requires room { size ≤ rest }
+    requires small { rest < 2 ^ 24 }
+    ensures rest { result ≡ at + size }
+    ensures split { table.new ≡ replace_tile table.old at (Filler size ∷ remainder (rest - size)) }
+{
+    table.split_filler(at, FillerSize::new(rest), FillerSize::new(size))
+}
+
+/// How many regions of `words` words a humongous object takes.
+fn count_regions(words: u32, size: u32) -> u32
+    requires words { 0 < words }
+    requires small { size + words ≤ 2 ^ 32 }
+    ensures { result ≡ run_count words size }
+{
+    (size + (words - 1)) / words
+}
+
+impl AllocBuffers {
+    /// The place of an object of so many words for a mutator. A small one's is a filler of that size, which belongs to no
+    /// buffer, and no object changed. A humongous one's is the lowest run of free regions that it needs, and nothing
+    /// changed: buffers stay open.
+    pub fn place(&mut self, table: &mut RegionTable, mutator: u32, size: u32) -> Result<Place, Full>
+        requires mutator { mutator < length self.old.open_buffers }
+        requires within { size ≤ length table.old.regions * table.old.words_per_region }
+        requires ready { CanPlace table.old self.old size }
+        ensures place { IfOk result (λ p. place_of table.old self.old mutator size ≡ Some (record { place = p; table = table.new; buffers = self.new })) }
+        ensures full { IsErr result ↔ (place_of table.old self.old mutator size ≡ None) }
+        ensures table_same { OnErr result (table.new ≡ table.old) }
+        ensures buffers_same { OnErr result (self.new ≡ self.old) }
+        ensures placed { IfOk result (λ p. IsPlace table.old table.new self.old self.new size p) }
+    {
+        table.law();
+        let words = table.words_per_region();
+        if 2 * size <= words {
+            return match self.find(table, mutator, size) {
+                Some(at) => Ok(Place::Filler(at)),
+                None => Err(Full),
+            };
+        }
+        let count = count_regions(words, size);
+        match table.free_run(count) {
+            Some(first) => Ok(Place::Run { first, count }),
+            None => Err(Full),
+        }
+    }
+
+    /// The place of an object of at most half a region.
+    fn find(&mut self, table: &mut RegionTable, mutator: u32, size: u32) -> Option<Addr>
+        requires mutator { mutator < length self.old.open_buffers }
+        requires small { size ≤ table.old.words_per_region }
+        requires ready { CanPlace table.old self.old size }
+        ensures some { IfSome result (λ a. small_place_of table.old self.old mutator size ≡ Some (record { place = Place.Filler a; table = table.new; buffers = self.new })) }
+        ensures none { IfNone result (small_place_of table.old self.old mutator size ≡ None) }
+        ensures table_same { IfNone result (table.new ≡ table.old) }
+        ensures buffers_same { IfNone result (self.new ≡ self.old) }
+        ensures placed { IfSome result (λ a. IsPlaced table.old table.new self.old self.new size a) }
+    {
+        if let Some(open) = self.open_buffers[mutator as usize] {
+            if size <= open.rest {
+                return Some(self.place_inside(table, mutator, size, open));
+            }
+        }
+        if size <= self.words {
+            self.place_in_new(table, mutator, size)
+        } else {
+            self.place_alone(table, size)
+        }
+    }
+
+    /// At the start of the mutator's buffer.
+    fn place_inside(
+        &mut self,
+        table: &mut RegionTable,
+        mutator: u32,
+        size: u32,
+        buffer: Buffer,
+    ) -> Addr
+        requires mutator { mutator < length self.old.open_buffers }
+        requires ready { CanPlace table.old self.old size }
+        requires opened { slice_get self.old.open_buffers mutator ≡ Some (Some buffer) }
+        requires room { size ≤ buffer.rest }
+        ensures some { in_buffer table.old self.old mutator size buffer ≡ record { place = Place.Filler result; table = table.new; buffers = self.new } }
+        ensures placed { IsPlaced table.old table.new self.old self.new size result }
+    {
+        table.law();
+        let next = split_filler(table, Addr::new(buffer.next), buffer.rest, size);
+        self.open_buffers[mutator as usize] = open_buffer(next.word(), buffer.rest - size);
+        Addr::new(buffer.next)
+    }
+
+    /// Words of its own.
+    fn place_alone(&mut self, table: &mut RegionTable, size: u32) -> Option<Addr>
+        requires small { size ≤ table.old.words_per_region }
+        requires ready { CanPlace table.old self.old size }
+        ensures some { IfSome result (λ a. alone self.old size (room_for table.old self.old.current size) ≡ Some (record { place = Place.Filler a; table = table.new; buffers = self.new })) }
+        ensures none { IfNone result (alone self.old size (room_for table.old self.old.current size) ≡ None) }
+        ensures table_same { IfNone result (table.new ≡ table.old) }
+        ensures buffers_same { IfNone result (self.new ≡ self.old) }
+        ensures placed { IfSome result (λ a. IsPlaced table.old table.new self.old self.new size a) }
+    {
+        let region = room(table, self.current, size)?;
+        table.law();
+        let at = push_filler(table, RegionNo::new(region), size);
+        self.current = Some(region);
+        Some(at)
+    }
+
+    /// At the start of a new buffer.
+    fn place_in_new(&mut self, table: &mut RegionTable, mutator: u32, size: u32) -> Option<Addr>
+        requires mutator { mutator < length self.old.open_buffers }
+        requires ready { CanPlace table.old self.old size }
+        requires fits { size ≤ self.old.words }
+        ensures some { IfSome result (λ a. in_new_buffer self.old mutator size (room_for table.old self.old.current self.old.words) ≡ Some (record { place = Place.Filler a; table = table.new; buffers = self.new })) }
+        ensures none { IfNone result (in_new_buffer self.old mutator size (room_for table.old self.old.current self.old.words) ≡ None) }
+        ensures table_same { IfNone result (table.new ≡ table.old) }
+        ensures buffers_same { IfNone result (self.new ≡ self.old) }
+        ensures placed { IfSome result (λ a. IsPlaced table.old table.new self.old self.new size a) }
+    {
+        let region = room(table, self.current, self.words)?;
+        table.law();
+        let at = push_filler(table, RegionNo::new(region), size);
+        let rest = self.words - size;
+        self.current = Some(region);
+        if rest == 0 {
+            self.open_buffers[mutator as usize] = None;
+            return Some(at);
+        }
+        table.law();
+        let next = push_filler(table, RegionNo::new(region), rest);
+        self.open_buffers[mutator as usize] = open_buffer(next.word(), rest);
+        Some(at)
+    }
+}

@@ -1,0 +1,4 @@
+pub mod LeftWords
+pub mod ObjectCopied
+pub mod TableCopied
+pub mod NewPlace

@@ -1,0 +1,4 @@
+pub mod Updated
+pub mod Written
+pub mod InTable
+pub mod FieldCards

@@ -1,0 +1,7 @@
+pub mod Lists
+pub mod Turns
+pub mod Copies
+pub mod FieldUpdates
+pub mod Loops
+pub mod WholePause
+pub mod Samples

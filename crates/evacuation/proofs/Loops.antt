@@ -1,0 +1,5 @@
+pub mod RootWords
+pub mod VisitedCards
+pub mod OutsideCards
+pub mod ObjectFields
+pub mod Destinations

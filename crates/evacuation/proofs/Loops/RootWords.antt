@@ -1,0 +1,63 @@
+-- Roots.
+use Rattle.std.proofs.Common.{◌≡◌, ℕ, suc, ◌+◌, ◌≤◌, Bool, true, List, [], ◌∷◌, Option, Some, None, length, refl, sym, ◌∙◌, subst, inl, inr, arith}
+use Rattle.std.specs.Prelude.{slice_get, slice_set}
+use Rattle.std.specs.List.{AllZip}
+use Rattle.std.proofs.lemmas.Bool.{cases_eq, cases_Bool}
+use Rattle.std.proofs.lemmas.List.{length-set}
+use Rattle.heap_model.specs.Relocation.{IsMoved}
+use Rattle.heap_model.specs.Evacuation.{ByRootWord, place_after}
+use Rattle.heap_model.proofs.Lists.{get-set_same, get-set_other}
+use Rattle.evacuation.specs.Space.{Layout, Plan, IsPlan, IsNamed, AreRootsMoved, set_of}
+use Rattle.evacuation.proofs.Lists.{get_below}
+
+module _ (set : ℕ → Bool) (f f' : ℕ → Option ℕ) (grows : (a b : ℕ) → f a ≡ Some b → f' a ≡ Some b) where
+  place_grows : (a b : ℕ) → place_after set f a ≡ Some b → place_after set f' a ≡ Some b
+  place_grows a b e = elim (cases_Bool (set a)) [
+    | inl k ↦ (let e' : f a ≡ Some b = rw k at e in rw k (grows a b e'))
+    | inr k ↦ (let e' : Some a ≡ Some b = rw k at e in rw k e')
+  ]
+
+  pub moved_grows : (w w' : Option ℕ) → IsMoved (place_after set f) w w' → IsMoved (place_after set f') w w'
+  moved_grows None None m = tt
+  moved_grows None (Some b) m = absurd m
+  moved_grows (Some a) None m = absurd m
+  moved_grows (Some a) (Some b) m = place_grows a b m
+
+  pub roots_more : (before now : List (Option ℕ)) (i : ℕ) (w w' : Option ℕ) → AreRootsMoved (place_after set f) before now i → slice_get now i ≡ Some w → IsMoved (place_after set f') w w' → AreRootsMoved (place_after set f') before (slice_set now i w') (i + 1)
+  roots_more before now i w w' r here m = record {
+    moved = λ j v v' h e e'. elim (cases_eq i j) [
+      | inl q ↦
+          let k1 = get-set_same now i w' w here in
+          let k2 : slice_get (slice_set now i w') i ≡ Some v' = subst (λ (n : ℕ). slice_get (slice_set now i w') n ≡ Some v') (sym q) e' in
+          let k3 : w' ≡ v' = cc in
+          let k4 = r.same i (omega arith) in
+          let k5 : slice_get before i ≡ Some v = subst (λ (n : ℕ). slice_get before n ≡ Some v) (sym q) e in
+          let k6 : w ≡ v = cc in
+          subst (λ (u : Option ℕ). IsMoved (place_after set f') v u) k3 (subst (λ (u : Option ℕ). IsMoved (place_after set f') u w') k6 m)
+      | inr n ↦ moved_grows v v' (r.moved j v v' (omega arith) e (sym (get-set_other now i j w' n) ∙ e'))
+    ];
+    same = λ j h. get-set_other now i j w' (λ q. absurd (omega arith)) ∙ r.same j (omega arith);
+    count = length-set now i w' ∙ r.count;
+  }
+
+zip_places : (R : Option ℕ → Option ℕ → Type 0) (xs ys : List (Option ℕ)) → length ys ≡ length xs → ((j : ℕ) (w w' : Option ℕ) → slice_get xs j ≡ Some w → slice_get ys j ≡ Some w' → R w w') → AllZip R xs ys
+zip_places R [] [] n f = tt
+zip_places R [] (y ∷ ys) n f = absurd (omega arith)
+zip_places R (x ∷ xs) [] n f = absurd (omega arith)
+zip_places R (x ∷ xs) (y ∷ ys) n f = (f 0 x y refl refl, zip_places R xs ys (omega arith) (λ j w w' e e'. f (suc j) w w' e e'))
+
+pub roots_all : (place : ℕ → Option ℕ) (before now : List (Option ℕ)) (i : ℕ) → AreRootsMoved place before now i → length now ≤ i → AllZip (IsMoved place) before now
+roots_all place before now i r h = zip_places (IsMoved place) before now r.count (λ j w w' e e'. r.moved j w w' (let k = get_below now j w' e' in omega arith) e e')
+
+pub root_named : (l : Layout) (p : Plan) (place : ℕ → Option ℕ) (now : List (Option ℕ)) (i c : ℕ) → IsPlan l p → AreRootsMoved place p.heap.roots now i → slice_get now i ≡ Some (Some c) → set_of l c ≡ true → IsNamed l p c
+root_named l p place now i c q r e inside =
+    let e' = sym (r.same i (omega arith)) ∙ e in
+    let (x, at) = q.closed.root i c e' in
+    record { object = x; at = at; inside = inside; reached = ByRootWord c (record { place = i; is = e' }) inside }
+
+-- the roots stay moved while more is forwarded
+pub roots_grow : (set : ℕ → Bool) (f f' : ℕ → Option ℕ) → ((a b : ℕ) → f a ≡ Some b → f' a ≡ Some b) → (xs ys : List (Option ℕ)) → AllZip (IsMoved (place_after set f)) xs ys → AllZip (IsMoved (place_after set f')) xs ys
+roots_grow set f f' grows [] [] z = tt
+roots_grow set f f' grows [] (y ∷ ys) z = absurd z
+roots_grow set f f' grows (x ∷ xs) [] z = absurd z
+roots_grow set f f' grows (x ∷ xs) (y ∷ ys) z = (moved_grows set f f' grows x y z.0, roots_grow set f f' grows xs ys z.1)

@@ -1,0 +1,152 @@
+-- One turn after another.
+use Rattle.std.proofs.Common.{◌≡◌, ℕ, get_or, ap, ◌+◌, ◌*◌, ◌/◌, ◌≤◌, Bool, true, false, List, Option, Some, None, length, refl, sym, ◌∙◌, subst, inl, inr, arith, ◌⊎◌}
+use Rattle.std.specs.Prelude.{slice_get}
+use Rattle.std.proofs.lemmas.Option.{slice_get-get_or}
+use Rattle.evacuation.proofs.Lists.{get_below}
+use Rattle.heap_model.specs.Heap.{Stored, fields}
+use Rattle.object_copy.specs.Copies.{Places}
+use Rattle.refinement.specs.Remembering.{field_word}
+use Rattle.evacuation.specs.Space.{Layout, Space, IsTaken, IsAfter, NewCrossing, IsObject, IsClean, IsNoted, IsSettled, IsUpdated, IsFieldClean, IsFieldSettled, IsObjectSettled, flag, set_of}
+
+pub noted_grows : (l : Layout) (t t' : List Bool) (at : ℕ) (w : Option ℕ) → ((c : ℕ) → flag t c ≡ true → flag t' c ≡ true) → IsNoted l t at w → IsNoted l t' at w
+noted_grows l t t' at None f s = tt
+noted_grows l t t' at (Some c) f s = elim s [ inl q ↦ inl q | inr q ↦ inr (f (at / l.card_words) q) ]
+
+pub settled_grows : (l : Layout) (t t' : List Bool) (at : ℕ) (w : Option ℕ) → ((c : ℕ) → flag t c ≡ true → flag t' c ≡ true) → IsSettled l t at w → IsSettled l t' at w
+settled_grows l t t' at w f s = (s.0, noted_grows l t t' at w f s.1)
+
+pub updated_grows : (l : Layout) (t t' : List Bool) (at : ℕ) (v w : Option ℕ) → ((c : ℕ) → flag t c ≡ true → flag t' c ≡ true) → IsUpdated l t at v w → IsUpdated l t' at v w
+updated_grows l t t' at v w f u = record { target = u.target; named = u.named; inside = u.inside; settled = settled_grows l t t' at w f u.settled }
+
+-- a word that names nothing of the set isn't updated
+clean_stays : (l : Layout) (t : List Bool) (at : ℕ) (v w : Option ℕ) → IsClean l v → IsUpdated l t at v w → ⊥
+clean_stays l t at v w c u =
+    let c' : IsClean l (Some u.target) = subst (IsClean l) u.named c in
+    let i = u.inside in
+    absurd cc
+
+pub same_after : (l : Layout) (t : List Bool) (s : Space) (d : Places) → IsAfter l t t s s d d
+same_after l t s d = record {
+  noted_grows = λ j e. e;
+  noted_length = refl;
+  noted_for = λ c e. inl e;
+  forward_grows = λ a b e. e;
+  taken_grows = λ i j e. e;
+  used_grows = λ k. omega arith;
+  stays = λ b y o e. (y, e, refl);
+  new_above = λ b y o e. inl (y, e);
+  closed = λ k w n. (λ b y r e. (y, e), n);
+  fields = λ b y y' i w o e e' g. inl (let r : y ≡ y' = cc in subst (λ (z : Stored). slice_get (fields z) i ≡ Some w) (sym r) g);
+}
+
+-- more is noted, and nothing else changes
+pub noted_after : (l : Layout) (t t' : List Bool) (s : Space) (d : Places) → ((c : ℕ) → flag t c ≡ true → flag t' c ≡ true) → length t' ≡ length t → ((c : ℕ) → flag t' c ≡ true → (flag t c ≡ true) ⊎ NewCrossing l s s d c) → IsAfter l t t' s s d d
+noted_after l t t' s d f n g = record {
+  noted_grows = f;
+  noted_length = n;
+  noted_for = g;
+  forward_grows = λ a b e. e;
+  taken_grows = λ i j e. e;
+  used_grows = λ k. omega arith;
+  stays = λ b y o e. (y, e, refl);
+  new_above = λ b y o e. inl (y, e);
+  closed = λ k w n. (λ b y r e. (y, e), n);
+  fields = λ b y y' i w o e e' g. inl (let r : y ≡ y' = cc in subst (λ (z : Stored). slice_get (fields z) i ≡ Some w) (sym r) g);
+}
+
+above_more : (at a b c : ℕ) → at + b ≤ c → a ≤ b → at + a ≤ c
+above_more at a b c h k = omega arith
+
+-- a clean field stays as it is
+crossing_on : (l : Layout) (t t' t'' : List Bool) (s s' s'' : Space) (d d' d'' : Places) (c : ℕ) → IsAfter l t' t'' s' s'' d' d'' → NewCrossing l s s' d' c → NewCrossing l s s'' d'' c
+crossing_on l t t' t'' s s' s'' d d' d'' c b x =
+    let (z, e, n) = b.stays x.at x.object x.outside x.here in
+    let within = get_below (fields x.object) x.index (Some x.target) x.field in
+    let w = get_or (fields z) x.index None in
+    let is : slice_get (fields z) x.index ≡ Some w = slice_get-get_or (fields z) x.index None (omega arith) in
+    record {
+      at = x.at;
+      index = x.index;
+      target = x.target;
+      object = z;
+      here = e;
+      outside = x.outside;
+      field = elim (b.fields x.at x.object z x.index w x.outside x.here e is) [
+        | inl h ↦ (let f = x.field in let same : w ≡ Some x.target = cc in is ∙ ap Some same)
+        | inr h ↦ absurd (let f = x.field in let same : Some x.target ≡ h.0 = (let g = h.1 in cc) in clean_stays l t'' (field_word x.at x.index) h.0 w (subst (IsClean l) same x.clean) h.2)
+      ];
+      clean = x.clean;
+      in_card = x.in_card;
+      leaves = x.leaves;
+      is_new = elim x.is_new [ inl k ↦ inl (record { at = k.at; is = b.taken_grows k.at (x.at / l.words) k.is }) | inr k ↦ inr k ];
+    }
+
+crossing_back : (l : Layout) (t t' : List Bool) (s s' s'' : Space) (d d' d'' : Places) (c : ℕ) → IsAfter l t t' s s' d d' → NewCrossing l s' s'' d'' c → NewCrossing l s s'' d'' c
+crossing_back l t t' s s' s'' d d' d'' c a x = record {
+  at = x.at;
+  index = x.index;
+  target = x.target;
+  object = x.object;
+  here = x.here;
+  outside = x.outside;
+  field = x.field;
+  clean = x.clean;
+  in_card = x.in_card;
+  leaves = x.leaves;
+  is_new = elim x.is_new [
+    | inl k ↦ inl k
+    | inr k ↦ inr (λ y e.
+        let (z, f, n) = a.stays x.at y x.outside e in
+        let (v, g, i) = k z f in
+        elim (a.fields x.at y z x.index (Some v) x.outside e f g) [
+          | inl h ↦ (v, h, i)
+          | inr h ↦ absurd (let q = h.2.settled.0 in cc)
+        ])
+  ];
+}
+
+pub after_after : (l : Layout) (t t' t'' : List Bool) (s s' s'' : Space) (d d' d'' : Places) → IsAfter l t t' s s' d d' → IsAfter l t' t'' s' s'' d' d'' → IsAfter l t t'' s s'' d d''
+after_after l t t' t'' s s' s'' d d' d'' a b = record {
+  noted_grows = λ j e. b.noted_grows j (a.noted_grows j e);
+  noted_length = b.noted_length ∙ a.noted_length;
+  noted_for = λ c e. elim (b.noted_for c e) [
+    | inl o ↦ elim (a.noted_for c o) [ inl z ↦ inl z | inr x ↦ inr (crossing_on l t t' t'' s s' s'' d d' d'' c b x) ]
+    | inr x ↦ inr (crossing_back l t t' s s' s'' d d' d'' c a x)
+  ];
+  forward_grows = λ c f e. b.forward_grows c f (a.forward_grows c f e);
+  taken_grows = λ i j e. b.taken_grows i j (a.taken_grows i j e);
+  used_grows = λ k. let p = a.used_grows k in let q = b.used_grows k in omega arith;
+  stays = λ c y o e. let (z, q, n) = a.stays c y o e in let (z', q', n') = b.stays c z o q in (z', q', n' ∙ n);
+  new_above = λ c y o e. elim (b.new_above c y o e) [
+    | inl q ↦ a.new_above c q.0 o q.1
+    | inr q ↦ inr (above_more (c / l.words * l.words) (s.used (c / l.words)) (s'.used (c / l.words)) c q (a.used_grows (c / l.words)))
+  ];
+  closed = λ k w n.
+      let (e, m) = a.closed k w n in
+      let (e', m') = b.closed k (record { at = w.at; is = a.taken_grows w.at k w.is }) m in
+      (λ c y r q. let (y', q') = e' c y r q in e c y' r q', m');
+  fields = λ c y y' i w o e e' g.
+      let (z, q, n) = a.stays c y o e in
+      elim (b.fields c z y' i w o q e' g) [
+        | inl h ↦ elim (a.fields c y z i w o e q h) [ inl m ↦ inl m | inr m ↦ inr (m.0, m.1, updated_grows l t' t'' (field_word c i) m.0 w b.noted_grows m.2) ]
+        | inr h ↦ elim (a.fields c y z i h.0 o e q h.1) [
+          | inl m ↦ inr (h.0, m, h.2)
+          | inr m ↦ absurd (clean_stays l t'' (field_word c i) h.0 w m.2.settled.0 h.2)
+        ]
+      ];
+}
+
+-- what is clean or settled stays so
+pub clean_after : (l : Layout) (t t' : List Bool) (s s' : Space) (d d' : Places) (b i : ℕ) → IsAfter l t t' s s' d d' → set_of l b ≡ false → IsObject s b → IsFieldClean l s b i → IsFieldClean l s' b i
+clean_after l t t' s s' d d' b i a out o clean z w e g =
+    elim (a.fields b o.0 z i w out o.1 e g) [ inl q ↦ clean o.0 w o.1 q | inr q ↦ q.2.settled.0 ]
+
+pub settled_after : (l : Layout) (t t' : List Bool) (s s' : Space) (d d' : Places) (b i : ℕ) → IsAfter l t t' s s' d d' → set_of l b ≡ false → IsObject s b → IsFieldSettled l t s b i → IsFieldSettled l t' s' b i
+settled_after l t t' s s' d d' b i a out o settled z w e g =
+    elim (a.fields b o.0 z i w out o.1 e g) [ inl q ↦ settled_grows l t t' (field_word b i) w a.noted_grows (settled o.0 w o.1 q) | inr q ↦ q.2.settled ]
+
+pub object_settled_after : (l : Layout) (t t' : List Bool) (s s' : Space) (d d' : Places) (b : ℕ) → IsAfter l t t' s s' d d' → set_of l b ≡ false → IsObject s b → IsObjectSettled l t s b → IsObjectSettled l t' s' b
+object_settled_after l t t' s s' d d' b a out o settled i = settled_after l t t' s s' d d' b i a out o (settled i)
+
+pub taken_after : (l : Layout) (t t' : List Bool) (s s' : Space) (d d' : Places) (k : ℕ) → IsAfter l t t' s s' d d' → IsTaken d k → IsTaken d' k
+taken_after l t t' s s' d d' k a w = record { at = w.at; is = a.taken_grows w.at k w.is }

@@ -1,0 +1,5 @@
+pub mod Beginning
+pub mod Asked
+pub mod HeapAfter
+pub mod ChosenReleased
+pub mod RisingQueue

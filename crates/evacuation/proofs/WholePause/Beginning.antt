@@ -1,0 +1,104 @@
+-- A pause begins.
+use Rattle.std.proofs.Common.{◌≡◌, ℕ, ◌*◌, ◌/◌, ◌%◌, ◌≤◌, Bool, true, false, [], Option, Some, None, length, refl, sym, ap, ◌∙◌, subst, inl, arith}
+use Rattle.std.proofs.lemmas.List.Sums.{count_by-le-length}
+use Rattle.heap_model.specs.Heap.{Stored}
+use Rattle.heap_model.specs.Evacuation.{IsEvacuating}
+use Rattle.heap_model.proofs.Evacuated.{start}
+use Rattle.regions.specs.Tiles.{Tile, Object, Forwarded}
+use Rattle.regions.specs.Table.{Region, Free, Ordinary, First, Rest, Table, HasNoForwarded, is_free, kind_of, moved_to, region_at, region_kind, nth_region, region_tile, tile_in, free_count}
+use Rattle.regions.specs.Rows.{kind_is_free}
+use Rattle.regions.specs.Tiles.{Filler}
+use Rattle.regions.specs.declared.row.Kind.TheVariants as kinds
+use Rattle.regions.proofs.Tiles.ForwardedLaws.{moved_in}
+use Rattle.regions.proofs.Words.Sizes.{EachForwardedIn-imp}
+use Rattle.object_copy.specs.Copies.{no_places}
+use Rattle.object_copy.proofs.Frees.{free_by_kind}
+use Rattle.object_copy.proofs.Copied.{tile_of_object}
+use Rattle.evacuation.specs.Space.{IsTaken, flag}
+use Rattle.evacuation.specs.Turns.{Pause, IsPause, IsTurn, TableStays, in_set, kept_now, plan, space}
+
+pub no_tile : (t : Table) (a : ℕ) → kind_of t (a / t.words_per_region) ≡ kinds.Free → tile_in t a ≡ None
+unfolding kind_of tile_in region_at nth_region
+no_tile t a e = go (nth_region t (a / t.words_per_region)) refl
+  where
+    go : (r : Region) → nth_region t (a / t.words_per_region) ≡ r → tile_in t a ≡ None
+    go Free f = ap (λ (q : Region). region_tile q (a % t.words_per_region)) f
+    go (Ordinary ts) f = absurd (let g = sym (ap region_kind f) ∙ e in cc)
+    go (First s) f = absurd (let g = sym (ap region_kind f) ∙ e in cc)
+    go (Rest n) f = absurd (let g = sym (ap region_kind f) ∙ e in cc)
+
+not_moved : (t : Table) (a : ℕ) → HasNoForwarded t → moved_to (tile_in t a) ≡ None
+not_moved t a m = go (tile_in t a) refl
+  where
+    go : (o : Option Tile) → tile_in t a ≡ o → moved_to (tile_in t a) ≡ None
+    go None e = ap moved_to e
+    go (Some (Object s)) e = ap moved_to e
+    go (Some (Filler n)) e = ap moved_to e
+    go (Some (Forwarded to n)) e = absurd (moved_in (λ _. ⊥) t a to n m e)
+
+kept_start : (p : Pause) → kept_now p p.start ≡ (plan p).heap.kept
+unfolding kept_now
+kept_start p = refl
+
+module _ (p : Pause) (q : IsPause p) (room : 2 * (space p p.start).left ≤ free_count p.start * p.start.words_per_region) (limit : (space p p.start).left ≤ p.limit) (n : ℕ) (list : n ≡ length p.start.regions) where
+  t : Table
+  t = p.start
+
+  no_free_chosen : (k : ℕ) → is_free (nth_region p.start k) ≡ true → flag p.chosen k ≡ false
+  no_free_chosen k e = go (flag p.chosen k) refl
+    where
+      go : (b : Bool) → flag p.chosen k ≡ b → flag p.chosen k ≡ false
+      go false f = f
+      go true f = absurd (let o = q.ordinary k f in let g = free_by_kind p.start k in let h = ap kind_is_free o in cc)
+
+  evacuating : IsEvacuating (in_set p) (plan p).heap (space p p.start).forward (record { kept = kept_now p p.start; roots = p.roots })
+  evacuating =
+      subst (λ (k : ℕ → Option Stored). IsEvacuating (in_set p) (plan p).heap (space p p.start).forward (record { kept = k; roots = p.roots })) (sym (kept_start p))
+      (subst (λ (f : ℕ → Option ℕ). IsEvacuating (in_set p) (plan p).heap f (plan p).heap) (λ i a. sym (not_moved p.start a q.unmoved) i) (start (in_set p) (plan p).heap))
+
+  stays : TableStays p p.start
+  stays = record {
+    size = refl;
+    count = refl;
+    chosen = q.ordinary;
+    was_free = λ k e. inl e;
+    kinds_same = λ k e m. refl;
+    used = λ k e m. refl;
+    objects = λ a x o e. (x, e, record { name = refl; values = refl; count = refl });
+    none = λ a o m e. e;
+    unkept = λ a o m e. refl;
+    filled = λ k f o. absurd (let n : kinds.Free ≡ kinds.Ordinary = sym f ∙ o in cc);
+    small = λ a x o f e. absurd (let g = tile_of_object p.start a x e in let h = no_tile p.start a f in cc);
+    moved = λ a to m e. absurd (let g = not_moved p.start a q.unmoved in let h = ap moved_to e in cc);
+    live = λ a u f e. absurd (let g = no_tile p.start a f in cc);
+    targets = EachForwardedIn-imp (λ _. ⊥) (λ to. in_set p to ≡ false) p.start.regions (λ to x. absurd x) q.unmoved;
+  }
+
+  none_taken : (k : ℕ) → IsTaken (no_places n) k → ⊥
+  none_taken k w = let e = w.is in absurd cc
+
+  pub start_turn : IsTurn p p.start (no_places n)
+  start_turn = record {
+    copying = record {
+      heap = evacuating;
+      free = no_free_chosen;
+      taken = λ k w. absurd (none_taken k w);
+      last = λ k e. absurd cc;
+      last_at = λ k i e f. absurd cc;
+      apart = λ k w. absurd (none_taken k w);
+      placed = λ a b i e. absurd (let g = not_moved p.start a q.unmoved in cc);
+      room = room;
+      list = (let c = count_by-le-length is_free p.start.regions in omega arith);
+      limit = (let l = limit in omega arith);
+      tally = record {
+        from = [];
+        distinct = λ i j a e. absurd cc;
+        forwarded = λ i a e. absurd cc;
+        each = λ a b i e. absurd (let g = not_moved p.start a q.unmoved in cc);
+        total = refl;
+      };
+      places = (let l = list in omega arith);
+    };
+    table = stays;
+    taken = λ k w. absurd (none_taken k w);
+  }

@@ -1,0 +1,16 @@
+use Rattle.std.proofs.Common.{◌≤◌, ◌<◌, ℕ}
+use Rattle.evacuation.specs.Space.{IsFieldClean, IsStill}
+use Rattle.evacuation.specs.Turns.{IsTurn, After, EachCard, layout, space}
+use Rattle.evacuation.proofs.outside.update_object.Given as goal
+
+abbrev pub ghost-update_field : goal.ghost-update_field
+ghost-update_field g a = g.pause
+
+abbrev pub invariant-loop-field : goal.invariant-loop-field
+invariant-loop-field g l = record {
+  turn : IsTurn g.pause l.table l.destinations;
+  after : After g.pause l.initial.noted l.noted l.initial.table l.table l.initial.destinations l.destinations;
+  each : EachCard g.pause l.noted;
+  still : IsStill (space g.pause l.table) l.at l.count;
+  clean : (i : ℕ) → l.start ≤ i → i < l.field → IsFieldClean (layout g.pause) (space g.pause l.table) l.at i;
+}

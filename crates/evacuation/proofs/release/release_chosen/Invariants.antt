@@ -1,0 +1,13 @@
+use Rattle.std.proofs.Common.{take}
+use Rattle.evacuation.specs.Evacuates.{MarksAfter}
+use Rattle.evacuation.specs.Releasing.{AreCleared, AreReleased, NoneForwardedInto}
+use Rattle.evacuation.proofs.release.release_chosen.Given as goal
+
+abbrev pub invariant-loop-row : goal.invariant-loop-row
+invariant-loop-row l = record {
+  table : AreReleased (take l.row-index l.rows) l.initial.table l.table;
+  unmoved : NoneForwardedInto l.rows l.initial.table.words_per_region l.table;
+  previous : MarksAfter l.initial.table.words_per_region (take l.row-index l.rows) l.initial.tams.previous l.tams.previous l.initial.bitmaps.previous l.bitmaps.previous;
+  next : MarksAfter l.initial.table.words_per_region (take l.row-index l.rows) l.initial.tams.next l.tams.next l.initial.bitmaps.next l.bitmaps.next;
+  sets : AreCleared (take l.row-index l.rows) l.initial.sets l.sets;
+}

@@ -1,0 +1,15 @@
+use Rattle.std.proofs.Common.{List, Bool}
+use Rattle.heap_model.specs.Evacuation.{place_after}
+use Rattle.evacuation.specs.Space.{AreRootsMoved}
+use Rattle.evacuation.specs.Turns.{IsTurn, After, in_set, space}
+use Rattle.evacuation.proofs.roots.update_roots.Given as goal
+
+abbrev pub ghost-new_word : goal.ghost-new_word
+ghost-new_word g a = g.pause
+
+abbrev pub invariant-loop-i : goal.invariant-loop-i
+invariant-loop-i g l = record {
+  turn : IsTurn g.pause l.table l.destinations;
+  after : (noted : List Bool) → After g.pause noted noted l.initial.table l.table l.initial.destinations l.destinations;
+  roots : AreRootsMoved (place_after (in_set g.pause) (space g.pause l.table).forward) g.pause.roots l.roots l.i;
+}

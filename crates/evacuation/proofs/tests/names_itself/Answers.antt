@@ -1,0 +1,39 @@
+use Rattle.regions.proofs.Samples.{fill_take}
+use Rattle.evacuation.proofs.Samples as samples
+use Rattle.evacuation.proofs.Samples.{usable, is_cut, filler_there, is_made, has_field}
+use Rattle.evacuation.proofs.tests.names_itself.Goals as goal
+
+pub push_filler-requires-clause-known : goal.push_filler-requires-clause-known
+push_filler-requires-clause-known c =
+    let t1 = fill_take _ _ c.in_ok-table.ensures.free c.take_free.ensures.taken in
+    (usable _ _ _ t1 c.new.ensures c.new-2.ensures).known
+
+pub push_filler-requires-clause-ordinary : goal.push_filler-requires-clause-ordinary
+push_filler-requires-clause-ordinary c =
+    let t1 = fill_take _ _ c.in_ok-table.ensures.free c.take_free.ensures.taken in
+    (usable _ _ _ t1 c.new.ensures c.new-2.ensures).ordinary
+
+pub push_filler-requires-clause-room : goal.push_filler-requires-clause-room
+push_filler-requires-clause-room c =
+    let t1 = fill_take _ _ c.in_ok-table.ensures.free c.take_free.ensures.taken in
+    (usable _ _ _ t1 c.new.ensures c.new-2.ensures).room
+
+pub make_object-requires-clause-there : goal.make_object-requires-clause-there
+make_object-requires-clause-there c =
+    let t1 = fill_take _ _ c.in_ok-table.ensures.free c.take_free.ensures.taken in
+    let t2 = is_cut _ _ _ _ t1 c.push_filler.ensures.pushed c.new.ensures c.new-2.ensures in
+    filler_there _ _ _ t2 c.new-object.ensures c.new-5.ensures
+
+pub set_field-requires : goal.set_field-requires
+set_field-requires c =
+    let t1 = fill_take _ _ c.in_ok-table.ensures.free c.take_free.ensures.taken in
+    let t2 = is_cut _ _ _ _ t1 c.push_filler.ensures.pushed c.new.ensures c.new-2.ensures in
+    let t3 = is_made _ _ _ _ _ _ t2 c.make_object.ensures c.new-object.ensures c.new-5.ensures c.new-3.ensures c.new-4.ensures in
+    has_field _ _ t3 c.new-object.ensures
+
+pub returns : goal.returns
+returns c =
+    let t1 = fill_take _ _ c.in_ok-table.ensures.free c.take_free.ensures.taken in
+    let t2 = is_cut _ _ _ _ t1 c.push_filler.ensures.pushed c.new.ensures c.new-2.ensures in
+    let t3 = is_made _ _ _ _ _ _ t2 c.make_object.ensures c.new-object.ensures c.new-5.ensures c.new-3.ensures c.new-4.ensures in
+    samples.names_itself _ _ _ t3 c.set_field.ensures c.new-object.ensures

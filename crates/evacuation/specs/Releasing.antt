@@ -1,0 +1,24 @@
+-- What releasing the chosen regions changes.
+use Rattle.std.specs.Prelude.{◌≡◌, ℕ, ◌/◌, true, false, List, length}
+use Rattle.regions.specs.Table.{Table, Free, nth_region, EachForwardedIn}
+use Rattle.remembered_sets.specs.Sets.{Sets, empty_set, set_of}
+use Rattle.region_choice.specs.declared.LiveRow.{LiveRow}
+use Rattle.evacuation.specs.Evacuates.{is_chosen}
+
+-- the rows' regions are free, and the others are as they were
+pub record AreReleased (rows : List LiveRow) (t t' : Table) : Type 0 where
+  pub size : t'.words_per_region ≡ t.words_per_region
+  pub count : length t'.regions ≡ length t.regions
+  pub gone : (k : ℕ) → is_chosen rows k ≡ true → nth_region t' k ≡ Free
+  pub others : (k : ℕ) → is_chosen rows k ≡ false → nth_region t' k ≡ nth_region t k
+
+-- the rows' regions have empty sets, and the other sets stay
+pub record AreCleared (rows : List LiveRow) (s s' : Sets) : Type 0 where
+  pub cards : s'.cards_per_region ≡ s.cards_per_region
+  pub count : length s'.sets ≡ length s.sets
+  pub cleared : (k : ℕ) → is_chosen rows k ≡ true → set_of s' k ≡ empty_set (length s.sets)
+  pub others : (k : ℕ) → is_chosen rows k ≡ false → set_of s' k ≡ set_of s k
+
+-- nothing moved into the rows' regions
+abbrev pub NoneForwardedInto : List LiveRow → ℕ → Table → Type 0
+NoneForwardedInto rows words t = EachForwardedIn (λ to. is_chosen rows (to / words) ≡ false) t.regions

@@ -1,0 +1,15 @@
+-- Room for a pause.
+use Rattle.std.specs.Prelude.{◌≡◌, ℕ, ◌+◌, vec_len, length}
+use Rattle.evacuation.specs.declared.room.PauseRoom.TheInside.{Inside}
+
+-- how many regions and cards there is room for
+pub record RoomSizes : Type 0 where
+  pub regions : ℕ
+  pub cards : ℕ
+
+abbrev pub sizes_of : Inside → RoomSizes
+sizes_of r = record { regions = vec_len r.chosen; cards = length r.noted }
+
+pub record IsSound (r : Inside) : Type 0 where
+  pub each_card : length r.visited ≡ length r.noted
+  pub each_region : length r.destinations.regions + r.destinations.room ≡ vec_len r.chosen

@@ -1,0 +1,239 @@
+-- What copying sees of a heap, and what it keeps from one copied object to the next.
+use Rattle.std.specs.Prelude.{◌≡◌, ◌≢◌, ◌⊎◌, ◌≤◌, ◌<◌, ℕ, ◌+◌, ◌*◌, ◌/◌, ◌^◌, Bool, true, false, List, [], ◌∷◌, ◌++◌, Option, Some, None, slice_get, slice_index_or, length, ⊤}
+use Rattle.heap_model.specs.Heap.{Heap, Stored, IsClosed, fields, with_field}
+use Rattle.heap_model.specs.Relocation.{IsMoved}
+use Rattle.heap_model.specs.Evacuation.{IsEvacuating, IsReached, place_after}
+use Rattle.regions.specs.Tiles.{Object, tile_size}
+use Rattle.object_copy.specs.Copies.{Places}
+use Rattle.refinement.specs.Remembering.{field_word}
+use Rattle.evacuation.specs.Evacuates.{words_at}
+
+-- what stays the same: how many words a region and a card have, and which regions are evacuated
+pub record Layout : Type 0 where
+  pub words : ℕ
+  pub card_words : ℕ
+  pub chosen : ℕ → Bool
+
+abbrev pub set_of : Layout → ℕ → Bool
+set_of l a = l.chosen (a / l.words)
+
+-- the heap at the start, the most words to be copied, and how many destinations there can be
+pub record Plan : Type 0 where
+  pub heap : Heap
+  pub limit : ℕ
+  pub places : ℕ
+
+pub record Space : Type 0 where
+  pub object : ℕ → Option Stored  -- the kept object at an address
+  pub forward : ℕ → Option ℕ  -- where the object at an address went
+  pub used : ℕ → ℕ  -- how many words of a region are handed out
+  pub free : ℕ → Bool  -- whether a region is free
+  pub free_count : ℕ
+  pub left : ℕ  -- the words of the kept objects in the regions that are evacuated
+
+abbrev pub flag : List Bool → ℕ → Bool
+flag flags k = slice_index_or flags k false
+
+abbrev pub words_of : Stored → ℕ
+words_of x = tile_size (Object x)
+
+abbrev pub IsObject : Space → ℕ → Type 0
+IsObject s a = (x : Stored) × (s.object a ≡ Some x)
+
+pub record IsField (s : Space) (a i : ℕ) : Type 0 where
+  pub object : Stored
+  pub at : s.object a ≡ Some object
+  pub within : i < length (fields object)
+
+abbrev pub filled : Space → Option ℕ → Option ℕ
+filled s None = None
+filled s (Some k) = Some (s.used k)
+
+-- ---- room: each object has at most half of a region's words, so a destination that is closed for want of room is more
+-- than half full
+abbrev pub HasRoom : ℕ → ℕ → Option ℕ → ℕ → Type 0
+HasRoom words free None left = 2 * left ≤ free * words
+HasRoom words free (Some fill) left = 2 * (left + fill) ≤ (free + 1) * words
+
+-- what was copied, each once, and its words
+pub record IsTally (set : ℕ → Bool) (h : Heap) (forward : ℕ → Option ℕ) (words : ℕ) : Type 0 where
+  pub from : List ℕ
+  pub distinct : (i j a : ℕ) → slice_get from i ≡ Some a → slice_get from j ≡ Some a → i ≡ j
+  pub forwarded : (i a : ℕ) → slice_get from i ≡ Some a → (set a ≡ true) × (b : ℕ) × (forward a ≡ Some b)
+  pub each : (a b : ℕ) → set a ≡ true → forward a ≡ Some b → (i : ℕ) × (slice_get from i ≡ Some a)
+  pub total : words_at h.kept from ≡ words
+
+pub record IsPlan (l : Layout) (p : Plan) : Type 0 where
+  pub closed : IsClosed p.heap
+  pub small : (a : ℕ) (x : Stored) → p.heap.kept a ≡ Some x → set_of l a ≡ true → 2 * words_of x ≤ l.words
+  pub limit : p.limit < 2 ^ 32
+
+pub record IsTaken (d : Places) (k : ℕ) : Type 0 where
+  pub at : ℕ
+  pub is : slice_get d.regions at ≡ Some k
+
+abbrev pub seen_as : Space → Heap → Heap
+seen_as s h = record { kept = s.object; roots = h.roots }
+
+-- between two copies. The roots are left aside
+pub record IsCopying (l : Layout) (p : Plan) (s : Space) (d : Places) : Type 0 where
+  pub heap : IsEvacuating (set_of l) p.heap s.forward (seen_as s p.heap)
+  pub free : (k : ℕ) → s.free k ≡ true → l.chosen k ≡ false
+  pub taken : (k : ℕ) → IsTaken d k → l.chosen k ≡ false
+  pub last : (k : ℕ) → d.last ≡ Some k → IsTaken d k
+  pub last_at : (k i : ℕ) → d.last ≡ Some k → slice_get d.regions i ≡ Some k → i + 1 ≡ length d.regions
+  pub apart : (k : ℕ) → IsTaken d k → s.free k ≡ false
+  pub placed : (a b : ℕ) → set_of l a ≡ true → s.forward a ≡ Some b → IsTaken d (b / l.words)
+  pub room : HasRoom l.words s.free_count (filled s d.last) s.left
+  pub list : s.free_count ≤ d.room
+  pub limit : d.words + s.left ≤ p.limit
+  pub tally : IsTally (set_of l) p.heap s.forward d.words
+  pub places : length d.regions + d.room ≡ p.places
+
+-- an object of the set that is reached
+pub record IsNamed (l : Layout) (p : Plan) (a : ℕ) : Type 0 where
+  pub object : Stored
+  pub at : p.heap.kept a ≡ Some object
+  pub inside : set_of l a ≡ true
+  pub reached : IsReached (set_of l) p.heap a
+
+-- ---- fields
+-- the word names nothing of the set
+abbrev pub IsClean : Layout → Option ℕ → Type 0
+IsClean l None = ⊤
+IsClean l (Some c) = set_of l c ≡ false
+
+-- where the word's target lies in another region, the word's card is noted
+abbrev pub IsNoted : Layout → List Bool → ℕ → Option ℕ → Type 0
+IsNoted l noted at None = ⊤
+IsNoted l noted at (Some c) = (c / l.words ≡ at / l.words) ⊎ (flag noted (at / l.card_words) ≡ true)
+
+abbrev pub IsSettled : Layout → List Bool → ℕ → Option ℕ → Type 0
+IsSettled l noted at w = IsClean l w × IsNoted l noted at w
+
+-- a word that named the set, and is settled now
+pub record IsUpdated (l : Layout) (noted : List Bool) (at : ℕ) (was is : Option ℕ) : Type 0 where
+  pub target : ℕ
+  pub named : was ≡ Some target
+  pub inside : set_of l target ≡ true
+  pub settled : IsSettled l noted at is
+
+-- an object of so many fields stands here
+abbrev pub IsStill : Space → ℕ → ℕ → Type 0
+IsStill s b n = (y : Stored) × (s.object b ≡ Some y) × (length (fields y) ≡ n)
+
+-- a field outside the set that leads to another region: a copy's, or one that named the set
+pub record NewCrossing (l : Layout) (s s' : Space) (d' : Places) (card : ℕ) : Type 0 where
+  pub at : ℕ
+  pub index : ℕ
+  pub target : ℕ
+  pub object : Stored
+  pub here : s'.object at ≡ Some object
+  pub outside : set_of l at ≡ false
+  pub field : slice_get (fields object) index ≡ Some (Some target)
+  pub clean : set_of l target ≡ false
+  pub in_card : field_word at index / l.card_words ≡ card
+  pub leaves : target / l.words ≢ field_word at index / l.words
+  pub is_new : IsTaken d' (at / l.words) ⊎ ((y : Stored) → s.object at ≡ Some y → (v : ℕ) × (slice_get (fields y) index ≡ Some (Some v)) × (set_of l v ≡ true))
+
+-- Objects outside the set stay, and each of their fields is as it was or was updated. New ones stand above what was handed out
+-- before, and none in a closed destination
+pub record IsAfter (l : Layout) (noted noted' : List Bool) (s s' : Space) (d d' : Places) : Type 0 where
+  pub noted_grows : (c : ℕ) → flag noted c ≡ true → flag noted' c ≡ true
+  pub noted_length : length noted' ≡ length noted
+  pub noted_for : (c : ℕ) → flag noted' c ≡ true → (flag noted c ≡ true) ⊎ NewCrossing l s s' d' c
+  pub forward_grows : (a b : ℕ) → s.forward a ≡ Some b → s'.forward a ≡ Some b
+  pub taken_grows : (i k : ℕ) → slice_get d.regions i ≡ Some k → slice_get d'.regions i ≡ Some k
+  pub used_grows : (k : ℕ) → s.used k ≤ s'.used k
+  pub stays : (b : ℕ) (y : Stored) → set_of l b ≡ false → s.object b ≡ Some y → IsStill s' b (length (fields y))
+  pub new_above : (b : ℕ) (y : Stored) → set_of l b ≡ false → s'.object b ≡ Some y → IsObject s b ⊎ (b / l.words * l.words + s.used (b / l.words) ≤ b)
+  pub closed : (k : ℕ) → IsTaken d k → d.last ≢ Some k → ((b : ℕ) (y : Stored) → b / l.words ≡ k → s'.object b ≡ Some y → IsObject s b) × (d'.last ≢ Some k)
+  pub fields : (b : ℕ) (y y' : Stored) (i : ℕ) (w : Option ℕ) → set_of l b ≡ false → s.object b ≡ Some y → s'.object b ≡ Some y' → slice_get (fields y') i ≡ Some w
+      → (slice_get (fields y) i ≡ Some w) ⊎ ((v : Option ℕ) × (slice_get (fields y) i ≡ Some v) × IsUpdated l noted' (field_word b i) v w)
+
+abbrev pub IsFieldClean : Layout → Space → ℕ → ℕ → Type 0
+IsFieldClean l s b i = (y : Stored) (w : Option ℕ) → s.object b ≡ Some y → slice_get (fields y) i ≡ Some w → IsClean l w
+
+abbrev pub IsFieldSettled : Layout → List Bool → Space → ℕ → ℕ → Type 0
+IsFieldSettled l noted s b i = (y : Stored) (w : Option ℕ) → s.object b ≡ Some y → slice_get (fields y) i ≡ Some w → IsSettled l noted (field_word b i) w
+
+abbrev pub IsObjectSettled : Layout → List Bool → Space → ℕ → Type 0
+IsObjectSettled l noted s b = (i : ℕ) → IsFieldSettled l noted s b i
+
+-- each object of the region is settled
+abbrev pub IsRegionSettled : Layout → List Bool → Space → ℕ → Type 0
+IsRegionSettled l noted s k = (b : ℕ) (y : Stored) → b / l.words ≡ k → s.object b ≡ Some y → IsObjectSettled l noted s b
+
+-- a field of an object that stood outside the set at the start, in a card that is visited
+pub record IsVisited (l : Layout) (p : Plan) (visited : List Bool) (b i : ℕ) : Type 0 where
+  pub object : Stored
+  pub at : p.heap.kept b ≡ Some object
+  pub outside : set_of l b ≡ false
+  pub within : i < length (fields object)
+  pub card : flag visited (field_word b i / l.card_words) ≡ true
+
+-- those of the cards below one are clean
+abbrev pub AreClean : Layout → Plan → List Bool → Space → ℕ → Type 0
+AreClean l p visited s card = (b i : ℕ) → IsVisited l p visited b i → field_word b i / l.card_words < card → IsFieldClean l s b i
+
+-- a field outside the set that names the set lies in a card that is visited
+abbrev pub AllVisited : Layout → Plan → List Bool → Type 0
+AllVisited l p visited = (b i a : ℕ) (x : Stored) → p.heap.kept b ≡ Some x → set_of l b ≡ false → slice_get (fields x) i ≡ Some (Some a) → set_of l a ≡ true → flag visited (field_word b i / l.card_words) ≡ true
+
+-- ---- roots
+-- the word's target is where it is now
+pub record IsNewWord (l : Layout) (s : Space) (w w' : Option ℕ) : Type 0 where
+  pub moved : IsMoved (place_after (set_of l) s.forward) w w'
+  pub outside : IsClean l w'
+
+-- the roots up to here are updated
+pub record AreRootsMoved (place : ℕ → Option ℕ) (before now : List (Option ℕ)) (i : ℕ) : Type 0 where
+  pub moved : (j : ℕ) (w w' : Option ℕ) → j < i → slice_get before j ≡ Some w → slice_get now j ≡ Some w' → IsMoved place w w'
+  pub same : (j : ℕ) → i ≤ j → slice_get now j ≡ slice_get before j
+  pub count : length now ≡ length before
+
+-- ---- one copy
+-- copies go to the open destination, or to a free region where the object doesn't fit there
+pub record GoesOn (l : Layout) (s s' : Space) (d d' : Places) (k : ℕ) : Type 0 where
+  pub last : d.last ≡ Some k
+  pub regions : d'.regions ≡ d.regions
+  pub room : d'.room ≡ d.room
+  pub free_count : s'.free_count ≡ s.free_count
+  pub free : (j : ℕ) → s'.free j ≡ s.free j
+
+pub record TakesNext (l : Layout) (s s' : Space) (d d' : Places) (k size : ℕ) : Type 0 where
+  pub was_free : s.free k ≡ true
+  pub empty : s.used k ≡ 0
+  pub regions : d'.regions ≡ d.regions ++ k ∷ []
+  pub room : d'.room + 1 ≡ d.room
+  pub free_count : s'.free_count + 1 ≡ s.free_count
+  pub taken : s'.free k ≡ false
+  pub free : (j : ℕ) → j ≢ k → s'.free j ≡ s.free j
+  pub full : (f : ℕ) → filled s d.last ≡ Some f → l.words < f + size
+
+pub record CopiesTo (l : Layout) (s s' : Space) (d d' : Places) (from to : ℕ) (x : Stored) : Type 0 where
+  pub region : ℕ
+  pub last : d'.last ≡ Some region
+  pub words : d'.words ≡ d.words + words_of x
+  pub at_region : to / l.words ≡ region
+  pub above : region * l.words + s.used region ≤ to
+  pub room : s.object to ≡ None
+  pub forwarded : s'.forward from ≡ Some to
+  pub forward_others : (c : ℕ) → (c ≡ from → ⊥) → s'.forward c ≡ s.forward c
+  pub copy : s'.object to ≡ Some x
+  pub gone : s'.object from ≡ None
+  pub others : (c : ℕ) → (c ≡ from → ⊥) → (c ≡ to → ⊥) → s'.object c ≡ s.object c
+  pub used : s'.used region ≡ s.used region + words_of x
+  pub used_same : (j : ℕ) → j ≢ region → s'.used j ≡ s.used j
+  pub left : l.chosen region ≡ false → s'.left + words_of x ≡ s.left
+  pub how : GoesOn l s s' d d' region ⊎ TakesNext l s s' d d' region (words_of x)
+
+-- a field of the object is another one
+pub record SetsField (s s' : Space) (a i : ℕ) (w : Option ℕ) (x : Stored) : Type 0 where
+  pub object : s'.object a ≡ Some (with_field x i w)
+  pub others : (c : ℕ) → (c ≡ a → ⊥) → s'.object c ≡ s.object c
+  pub forward : (c : ℕ) → s'.forward c ≡ s.forward c
+  pub used : (k : ℕ) → s'.used k ≡ s.used k
+  pub free : (k : ℕ) → s'.free k ≡ s.free k
+  pub free_count : s'.free_count ≡ s.free_count
+  pub left : s'.left ≡ s.left

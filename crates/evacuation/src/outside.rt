@@ -1,0 +1,231 @@
+//! The fields of objects outside the set, card by card.
+//!
+//! Only cards that the remembered sets of the chosen regions cover are visited: no other field outside names the set. A card
+//! is walked from the tile that holds its first word. Copies may come to other regions meanwhile, so a cursor walks, no
+//! iterator.
+
+ghost use Rattle.std.specs.Prelude.{◌≡◌, ◌<◌, ◌+◌, ◌*◌, ◌/◌, ℕ, Bool, List, Some, IsSome, false, length};
+ghost use Rattle.regions.specs.Table.{tile_in};
+ghost use Rattle.regions.specs.Walks.{IsHolder};
+ghost use Rattle.refinement.specs.Remembering.{field_word};
+ghost use Rattle.evacuation.specs.Space.{IsFieldClean, IsObject, IsVisited, AreClean};
+ghost use Rattle.evacuation.specs.Turns.{Pause, IsPause, IsTurn, After, EachCard, in_set, layout, plan, space};
+ghost use Rattle.evacuation.specs.Cursors.{AreCardsFieldsClean, IsCardClean};
+
+use crate::fields::{is_inside, update_field};
+use heap_words::addr::Addr;
+use heap_words::bounded::BoundedBits;
+use mark_bitmap::marks::Marks;
+use mark_bitmap::tams::Tams;
+use object_copy::Destinations;
+use refinement::is_kept;
+use regions::RegionTable;
+
+/// Each field of an object that lies in a card names the new place of its target.
+fn update_object(
+    table: &mut RegionTable,
+    destinations: &mut Destinations,
+    set: &[bool],
+    noted: &mut BoundedBits,
+    card_words: u32,
+    card: u32,
+    at: Addr,
+)
+    ghost pause: { Pause }
+    requires premises { IsPause pause }
+    requires turn { IsTurn pause table.old destinations.old }
+    requires flags { set.now ≡ pause.chosen }
+    requires card { card_words ≡ pause.card_words }
+    requires each_card { EachCard pause noted.old }
+    requires known { card < length pause.start.regions * pause.cards_per_region }
+    requires outside { in_set pause at ≡ false }
+    requires object { IsObject (space pause table.old) at }
+    ensures turn { IsTurn pause table.new destinations.new }
+    ensures after { After pause noted.old noted.new table.old table.new destinations.old destinations.new }
+    ensures each_card { EachCard pause noted.new }
+    ensures clean { AreCardsFieldsClean pause table.new card at }
+{
+    table.law();
+    let first = at.word() + 2;
+    let from = card * card_words;
+    let to = from + card_words;
+    let count = table.field_count(at);
+    let start = from.saturating_sub(first);
+    let end = to.saturating_sub(first).min(count);
+    for field in start..end {
+        update_field(table, destinations, set, noted, card_words, at, field);
+    }
+}
+
+/// The fields of one card, from the tile on that holds its first word.
+fn update_tiles(
+    table: &mut RegionTable,
+    destinations: &mut Destinations,
+    set: &[bool],
+    noted: &mut BoundedBits,
+    card_words: u32,
+    tams: &Tams,
+    marks: &Marks,
+    card: u32,
+    first: Addr,
+)
+    ghost pause: { Pause }
+    requires premises { IsPause pause }
+    requires turn { IsTurn pause table.old destinations.old }
+    requires flags { set.now ≡ pause.chosen }
+    requires card { card_words ≡ pause.card_words }
+    requires each_card { EachCard pause noted.old }
+    requires tams { tams.now ≡ pause.tams }
+    requires marks { marks.now ≡ pause.previous }
+    requires known { card < length pause.start.regions * pause.cards_per_region }
+    requires holder { IsHolder table.old first (card * card_words) }
+    ensures turn { IsTurn pause table.new destinations.new }
+    ensures after { After pause noted.old noted.new table.old table.new destinations.old destinations.new }
+    ensures each_card { EachCard pause noted.new }
+    ensures clean { (visited : List Bool) → IsCardClean pause visited table.new card }
+{
+    table.law();
+    let end = card * card_words + card_words;
+    let mut at = first;
+    'tiles: loop {
+        if at.word() >= end {
+            break 'tiles;
+        }
+        update_tile(
+            table,
+            destinations,
+            set,
+            noted,
+            card_words,
+            tams,
+            marks,
+            card,
+            at,
+        );
+        let Some(next) = table.next_tile(at) else {
+            break 'tiles;
+        };
+        at = next;
+    }
+}
+
+/// The fields of one card.
+fn update_card(
+    table: &mut RegionTable,
+    destinations: &mut Destinations,
+    set: &[bool],
+    noted: &mut BoundedBits,
+    card_words: u32,
+    tams: &Tams,
+    marks: &Marks,
+    card: u32,
+)
+    ghost pause: { Pause }
+    requires premises { IsPause pause }
+    requires turn { IsTurn pause table.old destinations.old }
+    requires flags { set.now ≡ pause.chosen }
+    requires card { card_words ≡ pause.card_words }
+    requires each_card { EachCard pause noted.old }
+    requires tams { tams.now ≡ pause.tams }
+    requires marks { marks.now ≡ pause.previous }
+    requires known { card < length pause.start.regions * pause.cards_per_region }
+    ensures turn { IsTurn pause table.new destinations.new }
+    ensures after { After pause noted.old noted.new table.old table.new destinations.old destinations.new }
+    ensures each_card { EachCard pause noted.new }
+    ensures clean { (visited : List Bool) → IsCardClean pause visited table.new card }
+{
+    table.law();
+    if let Some(first) = table.first_tile(Addr::new(card * card_words)) {
+        update_tiles(
+            table,
+            destinations,
+            set,
+            noted,
+            card_words,
+            tams,
+            marks,
+            card,
+            first,
+        );
+    }
+}
+
+/// The fields of one tile that lie in a card, if the tile is a kept object outside the set.
+fn update_tile(
+    table: &mut RegionTable,
+    destinations: &mut Destinations,
+    set: &[bool],
+    noted: &mut BoundedBits,
+    card_words: u32,
+    tams: &Tams,
+    marks: &Marks,
+    card: u32,
+    at: Addr,
+)
+    ghost pause: { Pause }
+    requires premises { IsPause pause }
+    requires turn { IsTurn pause table.old destinations.old }
+    requires flags { set.now ≡ pause.chosen }
+    requires card { card_words ≡ pause.card_words }
+    requires each_card { EachCard pause noted.old }
+    requires tams { tams.now ≡ pause.tams }
+    requires marks { marks.now ≡ pause.previous }
+    requires known { card < length pause.start.regions * pause.cards_per_region }
+    requires tile { IsSome (tile_in table.old at) }
+    ensures turn { IsTurn pause table.new destinations.new }
+    ensures after { After pause noted.old noted.new table.old table.new destinations.old destinations.new }
+    ensures each_card { EachCard pause noted.new }
+    ensures tile { IsSome (tile_in table.new at) }
+    ensures clean { (visited : List Bool) (i : ℕ) → IsVisited (layout pause) (plan pause) visited at i → field_word at i / pause.card_words ≡ card → IsFieldClean (layout pause) (space pause table.new) at i }
+{
+    table.law();
+    let shape = table.tile(at);
+    if is_inside(table, set, at) {
+        return;
+    }
+    if is_kept(table, tams, marks, at, shape) {
+        update_object(table, destinations, set, noted, card_words, card, at);
+    }
+}
+
+/// The fields of all cards that are to be visited, by rising number.
+pub(crate) fn update_cards(
+    table: &mut RegionTable,
+    destinations: &mut Destinations,
+    set: &[bool],
+    noted: &mut BoundedBits,
+    card_words: u32,
+    tams: &Tams,
+    marks: &Marks,
+    visited: &BoundedBits,
+)
+    ghost pause: { Pause }
+    requires premises { IsPause pause }
+    requires turn { IsTurn pause table.old destinations.old }
+    requires flags { set.now ≡ pause.chosen }
+    requires card { card_words ≡ pause.card_words }
+    requires each_card { EachCard pause noted.old }
+    requires tams { tams.now ≡ pause.tams }
+    requires marks { marks.now ≡ pause.previous }
+    requires visited { EachCard pause visited.now }
+    ensures turn { IsTurn pause table.new destinations.new }
+    ensures after { After pause noted.old noted.new table.old table.new destinations.old destinations.new }
+    ensures each_card { EachCard pause noted.new }
+    ensures clean { AreClean (layout pause) (plan pause) visited.now (space pause table.new) (length visited.now) }
+{
+    visited.law();
+    let mut start = 0;
+    while let Some(card) = visited.next(start) {
+        update_card(
+            table,
+            destinations,
+            set,
+            noted,
+            card_words,
+            tams,
+            marks,
+            card,
+        );
+        start = card + 1;
+    }
+}

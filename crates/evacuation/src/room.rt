@@ -1,0 +1,96 @@
+//! Room for a pause, which is made with the heap.
+//!
+//! ```text
+//!                  in a pause                                    one entry for
+//!   destinations   where copies go                               a region
+//!   chosen         whether a region is evacuated                 a region
+//!   visited        cards to look at, in regions in use           a card, as a bit
+//!   noted          cards with a field that crosses regions now   a card, as a bit
+//! ```
+//!
+//! Sets of cards are bits, so that a pause goes from one member to the next, and clears a set by words of 64 cards.
+
+ghost use Rattle.std.specs.Prelude.{◌≡◌, ◌<◌, ℕ, All, false, IfOk, length};
+ghost use Rattle.std.specs.List.Sorted.{IsStrictlyIncreasing};
+ghost use Rattle.cards.specs.Cards.{is_dirty};
+ghost use Rattle.evacuation.specs.Evacuates.{is_chosen};
+ghost use Rattle.evacuation.specs.Space.{flag};
+ghost use Rattle.evacuation.specs.Rooms.{RoomSizes};
+
+use cards::CardTable;
+use heap_words::addr::Card;
+use heap_words::bounded::BoundedBits;
+use object_copy::Destinations;
+use region_choice::LiveRow;
+use std::alloc::{AllocError, Global};
+use std::marker::Model;
+
+/// The destinations, a flag for each region that is evacuated, and the sets of the cards that are visited and noted. What it holds
+/// counts within a pause alone: clauses see how many regions and cards it has room for.
+#[derive(Drop)]
+pub struct PauseRoom {
+    pub(crate) destinations: Destinations,
+    pub(crate) chosen: Vec<bool>,
+    pub(crate) visited: BoundedBits,
+    pub(crate) noted: BoundedBits,
+}
+
+impl Model for PauseRoom {
+    ghost use Rattle.evacuation.specs.Rooms.{RoomSizes, sizes_of, IsSound};
+
+    ghost Value = { RoomSizes };
+
+    ghost view = { sizes_of };
+
+    ghost invariant = { IsSound };
+}
+
+fn flags(alloc: Global, count: u32) -> Result<Vec<bool>, AllocError>
+    ensures { IfOk result (λ v. length v.items ≡ count) }
+{
+    vec![in alloc; false; count as usize]
+}
+
+impl PauseRoom {
+    /// Room for so many regions and cards. No call takes memory afterwards.
+    pub fn new(alloc: Global, regions: u32, cards: u32) -> Result<PauseRoom, AllocError>
+        ensures { IfOk result (λ room. room ≡ record { regions = regions; cards = cards }) }
+    {
+        Ok(PauseRoom {
+            destinations: Destinations::new(alloc, regions)?,
+            chosen: flags(alloc, regions)?,
+            visited: BoundedBits::new(alloc, cards)?,
+            noted: BoundedBits::new(alloc, cards)?,
+        })
+    }
+}
+
+/// Flags the rows' regions, and no others.
+pub(crate) fn flag_chosen(set: &mut [bool], rows: &[LiveRow])
+    requires { All (λ row. row.region < length set.old) rows.now }
+    ensures flags { (k : ℕ) → flag set.new k ≡ is_chosen rows.now k }
+    ensures len { length set.new ≡ length set.old }
+{
+    set.fill(false);
+    for row in rows {
+        set[row.region.number() as usize] = true;
+    }
+}
+
+/// The noted cards become dirty at the queue's end, by rising number.
+pub(crate) fn dirty_noted(cards: &mut CardTable, noted: &BoundedBits)
+    requires clean { (card : ℕ) → is_dirty cards.old card ≡ false }
+    requires len { length noted.now ≡ length cards.old.dirty }
+    ensures dirty { (card : ℕ) → is_dirty cards.new card ≡ flag noted.now card }
+    ensures logs { cards.new.logs ≡ cards.old.logs }
+    ensures queue { IsStrictlyIncreasing cards.new.queue }
+    ensures len { length cards.new.dirty ≡ length cards.old.dirty }
+{
+    cards.law();
+    noted.law();
+    let mut start = 0;
+    while let Some(card) = noted.next(start) {
+        cards.append(Card::new(card));
+        start = card + 1;
+    }
+}

@@ -1,0 +1,148 @@
+//! A pause and the cards that it visits, in small heaps: four regions of sixteen words, of which region 0 alone is in use, and
+//! cards of eight.
+
+ghost use Rattle.std.specs.Prelude.{◌≡◌, ◌*◌, ◌<◌, IfOk, length};
+ghost use Rattle.regions.specs.Table.{free_table};
+ghost use Rattle.refinement.specs.Samples.{IsSample};
+ghost use Rattle.evacuation.specs.Samples.{NamesItself};
+
+use crate::visited::flag_visited;
+use crate::{Moved, PauseRoom, evacuate};
+use cards::CardTable;
+use heap_words::addr::{Addr, Card, Ptr, RegionNo};
+use heap_words::bounded::BoundedBits;
+use heap_words::config::{Config, Format};
+use heap_words::header::{Count, Counts, FillerSize};
+use mark_bitmap::bitmaps::Bitmaps;
+use mark_bitmap::tams::Tams;
+use region_choice::LiveRow;
+use regions::{RegionTable, Shape};
+use remembered_sets::RememberedSets;
+use std::alloc::Global;
+use std::test::Fail;
+
+/// Takes the lowest free region.
+fn take(table: &mut RegionTable)
+    requires { IsSample table.old }
+    ensures { IsSample table.new }
+{
+    table.take_free();
+}
+
+/// Four free regions.
+fn free_regions(alloc: Global) -> Result<RegionTable, Fail>
+    ensures sample { IfOk result IsSample }
+    ensures free { IfOk result (λ table. table ≡ free_table 4 16) }
+{
+    let sizes = Config {
+        format: Format::V1,
+        regions: 4,
+        words: 16,
+        buffer: 8,
+        mutators: 1,
+        first_name: 0,
+    };
+    let Ok(table) = RegionTable::new(alloc, &sizes) else {
+        return Err(Fail::from("a table is made"));
+    };
+    Ok(table)
+}
+
+/// The chosen region 3 covers card 1, in region 0, and card 2, in region 1, where copies may come to stand: card 1 alone is
+/// visited. What region 2 covers isn't asked for, and what was flagged before doesn't count.
+#[test]
+fn visits_no_card_of_a_free_region(rt: HostRuntime) -> Result<(), Fail> {
+    let mut table = free_regions(rt.alloc())?;
+    take(&mut table);
+    let mut sets = RememberedSets::new(rt.alloc(), 4, 2)?;
+    let region = RegionNo::new(3);
+    sets.add(region, Card::new(1));
+    sets.add(region, Card::new(2));
+    sets.add(RegionNo::new(2), Card::new(0));
+    let rows = [LiveRow {
+        region,
+        live_bound: 0,
+    }];
+    let mut visited = BoundedBits::new(rt.alloc(), 8)?;
+    visited.set_range(0, 8);
+    flag_visited(&mut visited, &table, &sets, &rows, 8);
+    assert!(rt; visited.len() == 8);
+    for card in 0..8 {
+        assert_eq!(rt; visited.get(card), card == 1, "{card}");
+    }
+    Ok(())
+}
+
+/// Region 0 is taken, and has an object at 0 whose one pointer names the object itself.
+fn names_itself(alloc: Global) -> Result<RegionTable, Fail>
+    ensures { IfOk result NamesItself }
+{
+    let mut table = free_regions(alloc)?;
+    let object = Addr::new(0);
+    table.take_free();
+    table.push_filler(RegionNo::new(0), FillerSize::new(3));
+    let counts = Counts {
+        pointers: Count::new(1),
+        values: Count::new(0),
+    };
+    table.make_object(object, FillerSize::new(3), 7, counts);
+    table.set_field(object, 0, Some(object));
+    Ok(table)
+}
+
+/// The first field of the object that holds a word, nil where there is none.
+fn first_field(table: &RegionTable, word: Addr) -> Ptr
+    requires { word < length table.now.regions * table.now.words_per_region }
+{
+    let at = table.first_tile(word)?;
+    let Shape::Object { pointers, .. } = table.tile(at) else {
+        return None;
+    };
+    if 0 < pointers.get() {
+        table.get_field(at, 0)
+    } else {
+        None
+    }
+}
+
+/// The object is copied once, to the lowest free region, and the root and the copy's field name the copy.
+#[test]
+fn copies_what_names_itself(rt: HostRuntime) -> Result<(), Fail> {
+    let mut table = names_itself(rt.alloc())?;
+    let mut tams = Tams::new(rt.alloc(), 4, 16)?;
+    let mut bitmaps = Bitmaps::new(rt.alloc(), 64)?;
+    let mut cards = CardTable::new(rt.alloc(), 8, 1)?;
+    let mut sets = RememberedSets::new(rt.alloc(), 4, 2)?;
+    let mut room = PauseRoom::new(rt.alloc(), 4, 8)?;
+    let mut roots = [Some(Addr::new(0))];
+    let rows = [LiveRow {
+        region: RegionNo::new(0),
+        live_bound: 3,
+    }];
+    let moved = evacuate(
+        &mut table,
+        &mut tams,
+        &mut bitmaps,
+        &mut cards,
+        &mut sets,
+        &mut roots,
+        &mut room,
+        &rows,
+        8,
+    );
+    let place = Addr::new(16);
+    assert_eq!(rt;
+        moved,
+        Moved {
+            regions: 1,
+            words: 3
+        }
+    );
+    assert_eq!(rt; roots[0], Some(place));
+    assert_eq!(rt; table.free_count(), 3);
+    assert_eq!(rt; cards.queued(), 0);
+    let last = Addr::new(18);
+    assert_eq!(rt; table.first_tile(last), Some(place));
+    assert_eq!(rt; first_field(&table, last), Some(place));
+    Ok(())
+}

@@ -1,0 +1,16 @@
+use Rattle.std.proofs.Common.{subst}
+use Rattle.object_graph.specs.Actors.{StepList}
+use Rattle.g1heap.specs.Runs.{IsRunInOrder}
+use Rattle.g1heap.proofs.Endings.{same_plan, if_ok}
+use Rattle.g1heap.proofs.view.view_of.Goals as goal
+
+pub returns-in-Ok-clause-run : goal.returns-in-Ok-clause-run
+returns-in-Ok-clause-run c =
+    let run = c.in-Ok.ensures in
+    let same = same_plan c.config.result c.steps.result.now c.args.plan.now c.config.ensures c.steps.ensures.steps in
+    let (last, is) = run.run in
+    if_ok c.text_of.result (
+      c.in-Ok._record,
+      subst (λ (p : StepList). IsRunInOrder p c.in-Ok._record) same
+          (record { config = run.config; steps = run.steps; actors = run.actors; last = last; run = is; history = (c.in-Ok.core, run.history) }),
+    )

@@ -1,0 +1,114 @@
+//! Why a job wasn't done, and the lines on standard error, one for each fault.
+
+ghost use Rattle.std.specs.Prelude.{◌≡◌, ℕ, ◌≤◌, ◌<◌, ◌+◌, ◌++◌, OnOk, OnErr, length, take};
+ghost use Rattle.std.specs.Io.KnownBytes.{Appends};
+ghost use Rattle.g1heap.specs.FaultLines.{sizes_words, run_words, judge_words, write_words, fault_words, fault_line};
+
+use heap_words::config::NewFault;
+use script_text::{LineFault, ReadFault, WriteFault, put_fault, put_text, write_bytes};
+use std::io::Write;
+use step_core::RunFault;
+use thiserror::Error;
+
+/// Why a record wasn't judged.
+#[derive(Clone, Copy, Debug, PartialEq, Eq, Error)]
+pub enum JudgeFault {
+    /// No heap can have the sizes of the heap line.
+    #[error("heap: {0}")]
+    Heap(NewFault),
+    /// Memory was refused.
+    #[error("check: NoMemory")]
+    NoMemory,
+}
+
+/// Why a job wasn't done, by the part that failed.
+#[derive(Clone, Copy, Debug, PartialEq, Eq, Error)]
+pub enum JobFault {
+    #[error("cannot read")]
+    Read(ReadFault),
+    #[error("{0}")]
+    Line(LineFault),
+    #[error("run: {0}")]
+    Run(RunFault),
+    #[error("{0}")]
+    Judge(JudgeFault),
+    #[error("cannot write")]
+    Write(WriteFault),
+}
+
+/// The room that a line needs.
+const ROOM: usize = 64;
+
+fn sizes_words(fault: NewFault) -> &'static [u8]
+    ensures words { result.now ≡ sizes_words fault }
+    ensures short { length result.now ≤ 40 }
+{
+    match fault {
+        NewFault::BadRegions => b"heap: 1 BadRegions",
+        NewFault::BadWords => b"heap: 2 BadWords",
+        NewFault::BadBuffer => b"heap: 3 BadBuffer",
+        NewFault::BadMutators => b"heap: 4 BadMutators",
+        NewFault::NoMemory => b"heap: 5 NoMemory",
+        NewFault::BadCard => b"heap: 6 BadCard",
+    }
+}
+
+fn run_words(fault: RunFault) -> &'static [u8]
+    ensures words { result.now ≡ run_words fault }
+    ensures short { length result.now ≤ 40 }
+{
+    match fault {
+        RunFault::BadWorkers => b"run: 1 BadWorkers",
+        RunFault::NoMemory => b"run: 2 NoMemory",
+        RunFault::NoWorker => b"run: 3 NoWorker",
+        RunFault::Unfinished => b"run: 4 Unfinished",
+        RunFault::Heap(fault) => sizes_words(fault),
+    }
+}
+
+fn judge_words(fault: JudgeFault) -> &'static [u8]
+    ensures words { result.now ≡ judge_words fault }
+    ensures short { length result.now ≤ 40 }
+{
+    match fault {
+        JudgeFault::Heap(fault) => sizes_words(fault),
+        JudgeFault::NoMemory => b"check: NoMemory",
+    }
+}
+
+fn write_words(fault: WriteFault) -> &'static [u8]
+    ensures words { result.now ≡ write_words fault }
+    ensures short { length result.now ≤ 40 }
+{
+    match fault {
+        WriteFault::CannotWrite => b"cannot write",
+        WriteFault::NoMemory => b"run: 2 NoMemory",
+    }
+}
+
+/// Puts a fault's words behind the first `at` bytes of a buffer, and answers where they end.
+fn put_words(buffer: &mut [u8], at: usize, fault: JobFault) -> usize
+    requires { at + 40 ≤ length buffer.old }
+    ensures put { take result buffer.new ≡ take at buffer.old ++ fault_words fault }
+    ensures end { result ≤ at + 40 }
+{
+    match fault {
+        JobFault::Read(_) => put_text(buffer, at, b"cannot read"),
+        JobFault::Line(fault) => put_fault(buffer, at, fault),
+        JobFault::Run(fault) => put_text(buffer, at, run_words(fault)),
+        JobFault::Judge(fault) => put_text(buffer, at, judge_words(fault)),
+        JobFault::Write(fault) => put_text(buffer, at, write_words(fault)),
+    }
+}
+
+/// Writes a fault's line. Where that fails, a beginning of the line is written.
+pub fn tell<E: Write>(fault: JobFault, err: &mut E) -> Result<(), WriteFault>
+    ensures ok { OnOk result (Appends (E.contents err.old) (E.contents err.new) (fault_line fault)) }
+    ensures err { OnErr result ((n : ℕ) × (n < length (fault_line fault)) × Appends (E.contents err.old) (E.contents err.new) (take n (fault_line fault))) }
+{
+    let mut buffer = [0u8; ROOM];
+    let at = put_text(&mut buffer, 0, b"g1heap: ");
+    let at = put_words(&mut buffer, at, fault);
+    let at = put_text(&mut buffer, at, b"\n");
+    write_bytes(err, &buffer[..at])
+}

@@ -1,0 +1,132 @@
+//! A record that is read, judged and answered by the verdict.
+
+ghost use Rattle.std.specs.Prelude.{◌≡◌, ◌≢◌, ◌<◌, ◌≤◌, ◌↔◌, ℕ, List, Option, OnOk, OnErr, length, take};
+ghost use Rattle.std.specs.Io.KnownBytes.{Appends};
+ghost use Rattle.object_graph.specs.declared.judge.Verdict.{Verdict};
+ghost use Rattle.g1heap.specs.Verdicts.{verdict_word, verdict_number, verdict_line, IsJudged, Judges, TellsVerdict, PerformsCheck, IsTextOfRun, IsTextBrokenAt, ToldYes, ToldNo};
+
+use crate::faults::{JobFault, JudgeFault, tell};
+use object_graph::{Verdict, check, judged_once};
+use script_text::{
+    WriteFault, parse_record, put_number, put_text, read_record_is_spelled, read_text,
+    spelled_record_is_read, write_bytes,
+};
+use std::alloc::Global;
+use std::io::{Read, Write};
+
+/// The room that a verdict's line needs.
+const ROOM: usize = 32;
+
+/// The word that tells a verdict, and a space.
+fn verdict_word(verdict: Verdict) -> &'static [u8]
+    ensures word { result.now ≡ verdict_word verdict }
+    ensures short { length result.now ≤ 4 }
+{
+    match verdict {
+        Verdict::Yes(_) => b"yes ",
+        Verdict::No(_) => b"no ",
+    }
+}
+
+/// The number that a verdict names.
+fn verdict_number(verdict: Verdict) -> u64
+    ensures { result ≡ verdict_number verdict }
+{
+    match verdict {
+        Verdict::Yes(events) => events,
+        Verdict::No(event) => event,
+    }
+}
+
+/// Writes the line of a verdict. Where that fails, a beginning of the line is written. It takes no memory.
+fn write_verdict<W: Write>(verdict: Verdict, writer: &mut W) -> Result<(), WriteFault>
+    ensures ok { OnOk result (Appends (W.contents writer.old) (W.contents writer.new) (verdict_line verdict)) }
+    ensures err { OnErr result ((n : ℕ) × (n < length (verdict_line verdict)) × Appends (W.contents writer.old) (W.contents writer.new) (take n (verdict_line verdict))) }
+    ensures memory { result ≢ Err WriteFault.NoMemory }
+{
+    let mut buffer = [0u8; ROOM];
+    let at = put_text(&mut buffer, 0, verdict_word(verdict));
+    let at = put_number(&mut buffer, at, verdict_number(verdict));
+    let at = put_text(&mut buffer, at, b"\n");
+    write_bytes(writer, &buffer[..at])
+}
+
+/// Reads a record to the end of input, judges it by the graph alone, and writes the verdict: `yes` and the number of events, or `no` and
+/// the first event that isn't allowed, counted from 1. Nothing is written before the judge has ended.
+pub fn judge_record<R: Read, W: Write>(
+    alloc: Global,
+    reader: &mut R,
+    writer: &mut W,
+) -> Result<Verdict, JobFault>
+    ensures { Judges (R.remaining reader.old) (R.remaining reader.new) (W.contents writer.old) (W.contents writer.new) result }
+{
+    let text = match read_text(alloc, reader) {
+        Ok(text) => text,
+        Err(fault) => return Err(JobFault::Read(fault)),
+    };
+    let history = match parse_record(alloc, text.as_slice()) {
+        Ok(history) => history,
+        Err(fault) => return Err(JobFault::Line(fault)),
+    };
+    drop(text);
+    let config = history.config();
+    if let Err(fault) = config.check() {
+        return Err(JobFault::Judge(JudgeFault::Heap(fault)));
+    }
+    let Ok(verdict) = check(alloc, &history) else {
+        return Err(JobFault::Judge(JudgeFault::NoMemory));
+    };
+    match write_verdict(verdict, writer) {
+        Ok(()) => Ok(verdict),
+        Err(fault) => Err(JobFault::Write(fault)),
+    }
+}
+
+/// Tells a verdict, and answers the program's status: 0 for yes, 3 for no, 1 for a fault, with its line on standard error. That a write of
+/// this line fails changes nothing.
+pub fn conclude_verdict<E: Write>(outcome: Result<Verdict, JobFault>, err: &mut E) -> u8
+    ensures { TellsVerdict (E.contents err.old) (E.contents err.new) outcome result }
+{
+    match outcome {
+        Ok(Verdict::Yes(_)) => 0,
+        Ok(Verdict::No(_)) => 3,
+        Err(fault) => {
+            let _ = tell(fault, err);
+            1
+        }
+    }
+}
+
+/// Judges a record, and answers the program's status.
+pub fn perform_check<R: Read, W: Write, E: Write>(
+    alloc: Global,
+    reader: &mut R,
+    out: &mut W,
+    err: &mut E,
+) -> u8
+    ensures { PerformsCheck (R.remaining reader.old) (R.remaining reader.new) (W.contents out.old) (W.contents out.new) (E.contents err.old) (E.contents err.new) result }
+{
+    let outcome = judge_record(alloc, reader, out);
+    conclude_verdict(outcome, err)
+}
+
+/// Which verdict a text gets: yes exactly where it is a record's text whose sizes suit and whose events are a run of the graph, with their
+/// number; no exactly where the graph allows the events before the n-th and none goes on with that one. No text gets two verdicts.
+pub fn verdict_law()
+    ensures yes { (input : List ℕ) (n : ℕ) → IsJudged input (Verdict.Yes n) ↔ IsTextOfRun input n }
+    ensures no { (input : List ℕ) (n : ℕ) → IsJudged input (Verdict.No n) ↔ IsTextBrokenAt input n }
+    ensures once { (input : List ℕ) (a b : Verdict) → IsJudged input a → IsJudged input b → a ≡ b }
+{
+    read_record_is_spelled();
+    spelled_record_is_read();
+    judged_once();
+}
+
+/// What the status says by itself: 0, the file was the text of a run, and the verdict says so; 3, it was the text of a record that breaks, and
+/// the verdict names the event.
+pub fn status_law()
+    ensures yes { (given left old new err told : Option (List ℕ)) → PerformsCheck given left old new err told 0 → ToldYes given left old new err told }
+    ensures no { (given left old new err told : Option (List ℕ)) → PerformsCheck given left old new err told 3 → ToldNo given left old new err told }
+{
+    verdict_law();
+}

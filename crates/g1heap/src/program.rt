@@ -1,0 +1,116 @@
+//! The whole program: its words, the file that they name, and the status.
+
+ghost use Rattle.std.specs.Prelude.{◌≡◌, ◌≢◌, ◌≤◌, ◌⊎◌, List, ℕ, Option, None};
+ghost use Rattle.std.specs.Io.KnownBytes.{Keeps};
+ghost use Rattle.clap.specs.Values.{kind_of};
+ghost use Rattle.g1heap.specs.FaultLines.{TellsLine};
+ghost use Rattle.g1heap.specs.Jobs.{DoesJob};
+
+use crate::faults::JobFault;
+use crate::job::{Job, Task, misspelt, read_words};
+use crate::judge::conclude_verdict;
+use crate::perform::{conclude, perform};
+use clap::Error;
+use clap::error::ErrorKind;
+use script_text::ReadFault;
+use std::alloc::Global;
+use std::env::Env;
+use std::fs::Files;
+use std::io::{Read, Write};
+use std::sync::Wait;
+use std::thread::Threads;
+use std::{env, fs, io};
+use step_core::RunFault;
+
+/// Tells that a job's file can't be read, and answers the program's status.
+fn conclude_unread<E: Write>(task: Task, err: &mut E) -> u8
+    ensures { (old new : Option (List ℕ)) → Keeps old new → DoesJob task None None old new (E.contents err.old) (E.contents err.new) result }
+{
+    match task {
+        Task::Script(_) => conclude(Err(JobFault::Read(ReadFault::CannotRead)), err),
+        Task::Check => conclude_verdict(Err(JobFault::Read(ReadFault::CannotRead)), err),
+        Task::View => conclude(Err(JobFault::Read(ReadFault::CannotRead)), err),
+    }
+}
+
+/// Opens the job's file and does the job, and answers the program's status.
+pub fn open_and_perform<H: Files + Threads + Wait + Sync, W: Write, E: Write>(
+    rt: &H,
+    alloc: Global,
+    job: &Job,
+    out: &mut W,
+    err: &mut E,
+) -> u8
+    ensures { (given left : Option (List ℕ)) × DoesJob job.now.task given left (W.contents out.old) (W.contents out.new) (E.contents err.old) (E.contents err.new) result }
+{
+    match fs::open(rt, job.file()) {
+        Ok(mut file) => perform(rt, alloc, job, &mut file, out, err),
+        Err(_) => conclude_unread(job.task(), err),
+    }
+}
+
+/// Does the job with the file that it names, or with `input` where that is `-`, and answers the program's status.
+fn read_and_perform<H: Files + Threads + Wait + Sync, I: Read, W: Write, E: Write>(
+    rt: &H,
+    alloc: Global,
+    job: &Job,
+    input: &mut I,
+    out: &mut W,
+    err: &mut E,
+) -> u8
+    ensures { (given left : Option (List ℕ)) × DoesJob job.now.task given left (W.contents out.old) (W.contents out.new) (E.contents err.old) (E.contents err.new) result }
+{
+    if job.file() == "-" {
+        return perform(rt, alloc, job, input, out, err);
+    }
+    open_and_perform(rt, alloc, job, out, err)
+}
+
+/// Answers words that ask for no job: status 0 for help, which goes to standard output, and 2 for a mistake, whose text goes to
+/// standard error; 1 where memory was refused.
+pub fn refuse<W: Write, E: Write>(error: &Error, out: &mut W, err: &mut E) -> u8
+    ensures memory { kind_of error.now ≡ ErrorKind.OutOfMemory → (result ≡ 1) × Keeps (W.contents out.old) (W.contents out.new) × TellsLine (JobFault.Run RunFault.NoMemory) (E.contents err.old) (E.contents err.new) }
+    ensures mistake { kind_of error.now ≢ ErrorKind.OutOfMemory → kind_of error.now ≢ ErrorKind.DisplayHelp → kind_of error.now ≢ ErrorKind.DisplayVersion → (result ≡ 2) × Keeps (W.contents out.old) (W.contents out.new) }
+    ensures help { (kind_of error.now ≡ ErrorKind.DisplayHelp) ⊎ (kind_of error.now ≡ ErrorKind.DisplayVersion) → (result ≡ 0) × Keeps (E.contents err.old) (E.contents err.new) }
+{
+    if error.kind() == ErrorKind::OutOfMemory {
+        return conclude(Err(JobFault::Run(RunFault::NoMemory)), err);
+    }
+    if error.use_stderr() {
+        let _ = write!(err, "{error}");
+        2
+    } else {
+        let _ = write!(out, "{error}");
+        0
+    }
+}
+
+/// The words of the command line, the program's name first. A fault is want of memory, or a word that isn't text.
+fn words<R: Env + AllocGlobal>(rt: &R) -> io::Result<Vec<String>> {
+    let args = env::args(rt)?;
+    Ok(args.collect(rt.alloc())?)
+}
+
+/// Does what the command line asks for, and answers the program's status.
+pub fn program<R: Env + Files + AllocGlobal + Threads + Wait + Sync, I: Read, W: Write, E: Write>(
+    rt: &R,
+    input: &mut I,
+    out: &mut W,
+    err: &mut E,
+) -> u8
+    ensures { result ≤ 3 }
+{
+    let words = match words(rt) {
+        Ok(words) => words,
+        Err(error) => {
+            if error.kind() == io::ErrorKind::OutOfMemory {
+                return conclude(Err(JobFault::Run(RunFault::NoMemory)), err);
+            }
+            return refuse(&misspelt(rt.alloc()), out, err);
+        }
+    };
+    match read_words(rt.alloc(), words.as_slice()) {
+        Ok(job) => read_and_perform(rt, rt.alloc(), &job, input, out, err),
+        Err(error) => refuse(&error, out, err),
+    }
+}

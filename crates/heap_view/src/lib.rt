@@ -1,0 +1,62 @@
+//! A view of a heap: its regions, objects, cards and roots as they stand, as lines for a person's eyes.
+//!
+//! ```text
+//!   heap 4 16 8 1 0                                  regions, their words, a buffer's words, mutators, first name
+//!   next name 3
+//!   marking runs, objects scanned: 1
+//!   region 0: ordinary, current, 16 of 16 words handed out
+//!     top at mark start 0, next 8, live bound 16     addresses of the last marking and of the one that runs; words
+//!     remembered cards: 2 4, all of region 3         fields in these cards may lead into this region
+//!     at 0: #0, pointers #1 nil, data 7, kept, scanned
+//!     at 5: filler of 3                              words of no object
+//!     ..
+//!   region 1: free
+//!   queue of cards: 0
+//!   globals: g3 #0 at 0
+//!   mutator 0: r0 #0 at 0, r2 #2 at 8
+//!     open buffer at 12, 4 words left
+//!     card log: 1
+//!     deletion log: #1
+//! ```
+//!
+//! Whether an object is kept is told by the last marking that came to its end: it is, if it was made since that marking began, or was
+//! marked. While marking runs, `new` is an object that was made since it began, `unmarked` one that it hasn't found yet, `grey` one
+//! that it has found and hasn't scanned, `scanned` one whose fields it has followed.
+//!
+//! A view reads the heap and changes nothing of it. It takes no memory, and its cost grows with the heap: the writer gets many short
+//! pieces, so give it one that gathers them.
+#![tactic(auto)]
+
+mod card_lines;
+mod names;
+mod region_lines;
+mod root_lines;
+#[cfg(test)]
+mod tests;
+
+use std::io::{Result, Write};
+use step_core::Core;
+
+/// Writes the sizes, the next name, and whether marking runs.
+fn write_head<W: Write>(core: &Core, writer: &mut W) -> Result<()> {
+    let config = core.config();
+    writeln!(
+        writer,
+        "heap {} {} {} {} {}",
+        config.regions, config.words, config.buffer, config.mutators, config.first_name
+    )?;
+    writeln!(writer, "next name {}", core.next_name())?;
+    if core.marking() {
+        writeln!(writer, "marking runs, objects scanned: {}", core.scans())
+    } else {
+        writeln!(writer, "marking doesn't run")
+    }
+}
+
+/// Writes a view of the heap, a line for each region, tile and mutator at least. Where the writer fails, a beginning of it is written.
+pub fn write_view<W: Write>(core: &Core, writer: &mut W) -> Result<()> {
+    write_head(core, writer)?;
+    region_lines::write_regions(core, writer)?;
+    card_lines::write_queue(core, writer)?;
+    root_lines::write_roots(core, writer)
+}

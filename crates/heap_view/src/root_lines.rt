@@ -1,0 +1,90 @@
+//! Roots, and what each mutator has: its registers, its buffer and its logs.
+
+ghost use Rattle.std.specs.Prelude.{◌<◌, ◌+◌, ◌*◌, ◌≤◌, length};
+
+use crate::card_lines::write_card_log;
+use crate::names::write_name;
+use heap_words::addr::Ptr;
+use std::io::{Result, Write};
+use step_core::Core;
+
+/// Writes the roots of a list that aren't nil, each behind its letter and its number.
+fn write_places<W: Write>(
+    core: &Core,
+    writer: &mut W,
+    letter: &'static str,
+    roots: &[Ptr],
+) -> Result<()> {
+    let mut some = false;
+    for (number, root) in roots.iter().enumerate() {
+        if let Some(at) = *root {
+            let mark = if some { "," } else { "" };
+            write!(writer, "{mark} {letter}{number} ")?;
+            write_name(core.table(), writer, Some(at))?;
+            write!(writer, " at {}", at.word())?;
+            some = true;
+        }
+    }
+    if some {
+        writeln!(writer)
+    } else {
+        writeln!(writer, " all nil")
+    }
+}
+
+/// Writes what is left of a mutator's buffer, if one is open.
+fn write_buffer<W: Write>(core: &Core, writer: &mut W, mutator: u32) -> Result<()>
+    requires { mutator < core.now.config.mutators }
+{
+    core.remembers();
+    let Some(buffer) = core.buffers().open_buffer(mutator) else {
+        return Ok(());
+    };
+    writeln!(
+        writer,
+        "  open buffer at {}, {} words left",
+        buffer.next, buffer.rest
+    )
+}
+
+/// Writes a mutator's deletion log, if it isn't empty.
+fn write_deletion_log<W: Write>(core: &Core, writer: &mut W, mutator: u32) -> Result<()>
+    requires { mutator < core.now.config.mutators }
+{
+    core.remembers();
+    let logs = &core.marker().logs;
+    let count = logs.len(mutator);
+    if count == 0 {
+        return Ok(());
+    }
+    write!(writer, "  deletion log:")?;
+    for place in 0..count {
+        write!(writer, " ")?;
+        write_name(core.table(), writer, Some(logs.logged(mutator, place)))?;
+    }
+    writeln!(writer)
+}
+
+/// Writes a mutator.
+fn write_mutator<W: Write>(core: &Core, writer: &mut W, mutator: u32) -> Result<()>
+    requires { mutator < core.now.config.mutators }
+{
+    core.remembers();
+    write!(writer, "mutator {mutator}:")?;
+    let first = 16 + 8 * mutator as usize;
+    write_places(core, writer, "r", &core.roots()[first..first + 8])?;
+    write_buffer(core, writer, mutator)?;
+    write_card_log(core, writer, mutator)?;
+    write_deletion_log(core, writer, mutator)
+}
+
+/// Writes the globals, and each mutator.
+pub(crate) fn write_roots<W: Write>(core: &Core, writer: &mut W) -> Result<()> {
+    core.remembers();
+    write!(writer, "globals:")?;
+    write_places(core, writer, "g", &core.roots()[..16])?;
+    for mutator in 0..core.config().mutators {
+        write_mutator(core, writer, mutator)?;
+    }
+    Ok(())
+}

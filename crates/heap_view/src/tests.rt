@@ -1,0 +1,282 @@
+//! Views of small heaps, written by hand, and a writer that fails.
+
+use crate::write_view;
+use script_text::parse;
+use std::alloc::Global;
+use std::io;
+use std::io::{ErrorKind, Write};
+use std::process::Abort;
+use std::test::Fail;
+use step_core::{Core, run_to_core};
+
+/// The heap after a script.
+fn heap_after(alloc: Global, script: &str) -> Result<Core, Fail> {
+    let Ok(plan) = parse(alloc, script.as_bytes()) else {
+        return Err(Fail::from("this is a script"));
+    };
+    let config = plan.config();
+    let Ok((_, core)) = run_to_core(alloc, &config, plan.steps()) else {
+        return Err(Fail::from("a run"));
+    };
+    Ok(core)
+}
+
+/// The heap after a script has this view.
+fn assert_view(rt: &impl Abort, alloc: Global, script: &str, view: &str) -> Result<(), Fail> {
+    let core = heap_after(alloc, script)?;
+    let mut written = Vec::new(alloc);
+    write_view(&core, &mut written)?;
+    assert_eq!(rt; written.as_slice(), view.as_bytes(), "{script}");
+    Ok(())
+}
+
+#[test]
+fn a_new_heap(rt: HostRuntime) -> Result<(), Fail> {
+    let view = "\
+heap 2 16 8 1 5
+next name 5
+marking doesn't run
+region 0: free
+region 1: free
+queue of cards: none
+globals: all nil
+mutator 0: all nil
+";
+    assert_view(&rt, rt.alloc(), "heap 2 16 8 1 5\n", view)
+}
+
+/// Marking runs: an object is scanned, two are grey, one is new. Each mutator has a dirty card, and one a saved pointer.
+#[test]
+fn while_marking(rt: HostRuntime) -> Result<(), Fail> {
+    let script = "\
+heap 4 16 8 2 0
+0 new r0 2 1
+0 new r1 0 2
+0 new r2 1 4
+0 write r1 1 9
+0 put r0 0 r1
+0 put r0 1 r2
+0 save g3 r0
+gc begin
+gc mark 1
+0 put r0 0 nil
+0 drop r1
+1 new r0 1 0
+1 put r0 0 r0
+1 load r7 g3
+1 put r0 0 r7
+";
+    let view = "\
+heap 4 16 8 2 0
+next name 4
+marking runs, objects scanned: 1
+region 0: ordinary, 16 of 16 words handed out
+  top at mark start 0, next 16, live bound 16
+  at 0: #0, pointers nil #2, data 0, kept, scanned
+  at 5: filler of 3
+  at 8: #1, data 0 9, kept, grey
+  at 12: filler of 4
+region 1: ordinary, current, 16 of 16 words handed out
+  top at mark start 16, next 24, live bound 16
+  at 16: #2, pointers nil, data 0 0 0 0, kept, grey
+  at 23: filler of 1
+  at 24: #3, pointers #0, kept, new
+  at 27: filler of 5
+region 2: free
+region 3: free
+queue of cards: none
+globals: g3 #0 at 0
+mutator 0: r0 #0 at 0, r2 #2 at 16
+  card log: 0
+  deletion log: #1
+mutator 1: r0 #3 at 24, r7 #0 at 0
+  open buffer at 27, 5 words left
+  card log: 3
+";
+    assert_view(&rt, rt.alloc(), script, view)
+}
+
+/// A run of three regions, and after a pause two copies in region 4. One of the cards that the pause made dirty is refined.
+#[test]
+fn a_run_and_a_pause(rt: HostRuntime) -> Result<(), Fail> {
+    let script = "\
+heap 6 16 8 1 10
+0 new r0 1 0
+0 new r1 20 12
+0 new r2 0 1
+0 write r2 0 9
+0 put r0 0 r1
+0 put r1 19 r2
+0 drop r2
+0 save g0 r1
+0 drop r1
+gc pause 100
+gc refine 1
+";
+    let view = "\
+heap 6 16 8 1 10
+next name 13
+marking doesn't run
+region 0: free
+region 1: first of a run of 3, 16 of 16 words handed out
+  top at mark start 16
+  remembered cards: 0
+  at 16: #11, pointers nil nil nil nil nil nil nil nil and 12 more, data 0 0 0 0 0 0 0 0 and 4 more, kept
+region 2: rest of a run, 16 of 16 words handed out
+  top at mark start 32
+region 3: rest of a run, 2 of 16 words handed out
+  top at mark start 48
+region 4: ordinary, 6 of 16 words handed out
+  top at mark start 64, live bound 6
+  remembered cards: 4
+  at 64: #10, pointers #11, kept
+  at 67: #12, data 9, kept
+region 5: free
+queue of cards: 8
+globals: g0 #11 at 16
+mutator 0: r0 #10 at 64
+";
+    assert_view(&rt, rt.alloc(), script, view)
+}
+
+/// Three cards lead into region 1.
+#[test]
+fn remembered_cards(rt: HostRuntime) -> Result<(), Fail> {
+    let script = "\
+heap 4 16 8 1 0
+0 new r0 4 2
+0 new r1 4 2
+0 new r2 4 2
+0 new r3 4 2
+0 new r4 4 2
+0 put r0 0 r2
+0 put r1 0 r2
+0 put r4 3 r2
+gc pause 0
+";
+    let view = "\
+heap 4 16 8 1 0
+next name 5
+marking doesn't run
+region 0: ordinary, 16 of 16 words handed out
+  top at mark start 0, live bound 16
+  at 0: #0, pointers #2 nil nil nil, data 0 0, kept
+  at 8: #1, pointers #2 nil nil nil, data 0 0, kept
+region 1: ordinary, 16 of 16 words handed out
+  top at mark start 16, live bound 16
+  remembered cards: 0 1 4
+  at 16: #2, pointers nil nil nil nil, data 0 0, kept
+  at 24: #3, pointers nil nil nil nil, data 0 0, kept
+region 2: ordinary, 8 of 16 words handed out
+  top at mark start 32, live bound 8
+  at 32: #4, pointers nil nil nil #2, data 0 0, kept
+region 3: free
+queue of cards: none
+globals: all nil
+mutator 0: r0 #0 at 0, r1 #1 at 8, r2 #2 at 16, r3 #3 at 24, r4 #4 at 32
+";
+    assert_view(&rt, rt.alloc(), script, view)
+}
+
+/// Eighteen cards of region 1 lead into region 0: sixteen stand one by one in its set, and then all of region 1 does.
+#[test]
+fn a_full_set(rt: HostRuntime) -> Result<(), Fail> {
+    let alloc = rt.alloc();
+    let mut script = String::new(alloc);
+    script.push_str("heap 3 256 128 1 0\n0 new r7 0 0\n0 new r6 0 126\n")?;
+    for _ in 0..18 {
+        script.push_str("0 new r0 1 5\n0 put r0 0 r7\n")?;
+    }
+    script.push_str("gc pause 0\n")?;
+    let core = heap_after(alloc, script.as_str())?;
+    let mut written = Vec::new(alloc);
+    write_view(&core, &mut written)?;
+    let start = "\
+heap 3 256 128 1 0
+next name 20
+marking doesn't run
+region 0: ordinary, 256 of 256 words handed out
+  top at mark start 0, live bound 256
+  remembered cards: 32 33 34 35 36 37 38 39 40 41 42 43 44 45 46 47, all of region 1
+  at 0: #0, kept
+  at 2: filler of 126
+";
+    assert!(rt; written.as_slice().starts_with(start.as_bytes()));
+    Ok(())
+}
+
+/// A dead object's pointer may lead to where no object is any more.
+#[test]
+fn a_dead_pointer(rt: HostRuntime) -> Result<(), Fail> {
+    let script = "\
+heap 3 16 8 1 0
+0 new r0 4 2
+0 new r1 1 5
+0 new r2 4 2
+0 put r1 0 r2
+0 drop r1
+0 drop r2
+gc begin
+gc remark
+gc pause 0
+";
+    let view = "\
+heap 3 16 8 1 0
+next name 3
+marking doesn't run
+region 0: ordinary, 16 of 16 words handed out
+  top at mark start 16, live bound 8
+  at 0: #0, pointers nil nil nil nil, data 0 0, kept
+  at 8: #1, pointers no object at 16, data 0 0 0 0 0, dead
+region 1: free
+region 2: free
+queue of cards: none
+globals: all nil
+mutator 0: r0 #0 at 0
+";
+    assert_view(&rt, rt.alloc(), script, view)
+}
+
+/// A writer that takes a byte at a time, and so many in all.
+#[derive(Drop)]
+struct Small {
+    taken: Vec<u8>,
+    room: usize,
+}
+
+impl Write for Small {
+    fn write(&mut self, buf: &[u8]) -> io::Result<usize> {
+        if buf.is_empty() {
+            return Ok(0);
+        }
+        if self.taken.len() < self.room {
+            self.taken.push(buf[0])?;
+            return Ok(1);
+        }
+        Err(io::Error::from(ErrorKind::Other))
+    }
+
+    fn flush(&mut self) -> io::Result<()> {
+        Ok(())
+    }
+}
+
+/// Wherever a writer fails, the view fails, and a beginning of it is written.
+#[test]
+fn a_writer_that_fails(rt: HostRuntime) -> Result<(), Fail> {
+    let alloc = rt.alloc();
+    let core = heap_after(
+        alloc,
+        "heap 4 16 8 1 0\n0 new r0 1 1\n0 put r0 0 r0\ngc begin\n",
+    )?;
+    let mut whole = Vec::new(alloc);
+    write_view(&core, &mut whole)?;
+    assert!(rt; whole.len() > 100);
+    for room in 0..whole.len() {
+        let taken = Vec::new(alloc);
+        let mut writer = Small { taken, room };
+        assert!(rt; write_view(&core, &mut writer).is_err(), "{room}");
+        assert_eq!(rt; writer.taken.as_slice(), &whole[..room], "{room}");
+    }
+    Ok(())
+}

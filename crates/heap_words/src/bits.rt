@@ -1,0 +1,309 @@
+//! Sets of numbers, as bits in words of 64.
+//!
+//! ```text
+//!   number    0  1  2 ..  63 | 64 65 ..  127 | 128 ..
+//!   bit       0  1  0 ..   1 |  0  0 ..    0 |   1 ..
+//!             word 0         | word 1: none  | word 2
+//!                next(2) = 63                next(64) = 128, without a look at each number
+//!                                            next_below(64, 128): none, without a look at word 2
+//! ```
+//!
+//! A set takes one bit a number, all reserved when it is made. To clear it, or a range of it, touches its words and not each
+//! number, and to go over its members costs the members and the words between them.
+
+ghost use Rattle.std.specs.Prelude.{◌≡◌, ℕ, ◌+◌, ◌*◌, ◌^◌, ◌<◌, ◌≤◌, List, Bool, false, true, if◌then◌else◌, IfOk, IfSome, length, MatchOption, replicate, slice_set};
+ghost use Rattle.std.specs.Int.{bit_at};
+ghost use Rattle.heap_words.specs.Bits.{has, has_alone, is_between, HasNone, HasNoneBelow, IsLowest};
+
+use std::alloc::{AllocError, Global};
+use std::marker::Model;
+
+/// A set of numbers below a length that is given when it is made. Clauses see a flag for each number.
+#[derive(Drop)]
+pub struct Bits {
+    words: Vec<u64>,
+    len: u32,
+}
+
+impl Model for Bits {
+    ghost use Rattle.std.specs.Prelude.{ℕ, List, Bool, ◌≤◌, ◌*◌, vec_len};
+    ghost use Rattle.heap_words.specs.BitWords.{flags_of};
+
+    ghost Value = { List Bool };
+
+    ghost view = { λ s. flags_of s.words.items s.len };
+
+    ghost invariant = { λ s. s.len ≤ 64 * vec_len s.words };
+}
+
+/// The bits of a word that stand for numbers from `from` up to `to`, which is not one of them. The word's first bit stands
+/// for 64 times its index.
+fn mask_of(index: u32, from: u32, to: u32) -> u64
+    requires starts { from < 64 * index + 64 }
+    requires ends { 64 * index < to }
+    ensures { (j : ℕ) → j < 64 → bit_at result j ≡ (if is_between from to (64 * index + j) then 1 else 0) }
+{
+    let low = from.saturating_sub(64 * index);
+    let high = (to - 64 * index).min(64);
+    u64::MAX << low & u64::MAX >> (64 - high)
+}
+
+impl Bits {
+    /// The empty set of the numbers below `count`. No call takes memory afterwards.
+    pub fn new(alloc: Global, count: u32) -> Result<Bits, AllocError>
+        ensures { IfOk result (λ bits. bits ≡ replicate count false) }
+    {
+        let words = vec![in alloc; 0; count.div_ceil(64) as usize]?;
+        Ok(Bits { words, len: count })
+    }
+
+    /// Tells a proof what is known of each set: its numbers are below 2 to the 32nd. It does nothing.
+    pub fn law(&self)
+        ensures { length self.now < 2 ^ 32 }
+    {
+        let _len = self.len;
+    }
+
+    /// How many numbers there are, in the set or not.
+    pub fn len(&self) -> u32
+        ensures { result ≡ length self.now }
+    {
+        self.len
+    }
+
+    /// Whether a number is in the set.
+    pub fn get(&self, number: u32) -> bool
+        requires { number < length self.now }
+        ensures { result ≡ has self.now number }
+    {
+        self.words[number as usize / 64] >> (number % 64) & 1 == 1
+    }
+
+    /// A number is in the set.
+    pub fn set(&mut self, number: u32)
+        requires { number < length self.old }
+        ensures { self.new ≡ slice_set self.old number true }
+    {
+        self.words[number as usize / 64] |= 1 << (number % 64);
+    }
+
+    /// A number is not in the set.
+    pub fn remove(&mut self, number: u32)
+        requires { number < length self.old }
+        ensures { self.new ≡ slice_set self.old number false }
+    {
+        self.law();
+        self.clear_range(number, number + 1);
+    }
+
+    /// The set is empty.
+    pub fn clear(&mut self)
+        ensures { self.new ≡ replicate (length self.old) false }
+    {
+        self.words.fill(0);
+    }
+
+    /// The numbers from `from` up to `to`, which is not one of them, are in the set.
+    pub fn set_range(&mut self, from: u32, to: u32)
+        requires { to ≤ length self.old }
+        ensures len { length self.new ≡ length self.old }
+        ensures flags { (a : ℕ) → has self.new a ≡ (if is_between from to a then true else has self.old a) }
+    {
+        for index in from / 64..to.div_ceil(64) {
+            self.words[index as usize] |= mask_of(index, from, to);
+        }
+    }
+
+    /// The numbers from `from` up to `to`, which is not one of them, are not in the set.
+    pub fn clear_range(&mut self, from: u32, to: u32)
+        requires { to ≤ length self.old }
+        ensures len { length self.new ≡ length self.old }
+        ensures flags { (a : ℕ) → has self.new a ≡ (if is_between from to a then false else has self.old a) }
+    {
+        for index in from / 64..to.div_ceil(64) {
+            self.words[index as usize] &= !mask_of(index, from, to);
+        }
+    }
+
+    /// The lowest number of the set at or above `from`.
+    pub fn next(&self, from: u32) -> Option<u32>
+        ensures lowest { MatchOption result (HasNone (has self.now) from) (IsLowest (has self.now) from) }
+        ensures within { IfSome result (λ found. found < length self.now) }
+    {
+        self.next_below(from, self.len)
+    }
+
+    /// The lowest number of the set at or above `from` and below `to`. It looks at the words of this range alone.
+    pub fn next_below(&self, from: u32, to: u32) -> Option<u32>
+        ensures lowest { MatchOption result (HasNoneBelow (has self.now) from to) (IsLowest (has self.now) from) }
+        ensures below { IfSome result (λ found. found < to) }
+        ensures within { IfSome result (λ found. found < length self.now) }
+    {
+        let end = to.min(self.len);
+        for index in from / 64..end.div_ceil(64) {
+            let all = self.words[index as usize];
+            if all == 0 {
+                continue;
+            }
+            let low = from.saturating_sub(64 * index);
+            let word = all & u64::MAX << low;
+            if word != 0 {
+                let found = 64 * index + word.trailing_zeros();
+                return if found < end { Some(found) } else { None };
+            }
+        }
+        None
+    }
+
+    /// The lowest number at or above `from` and below `to` that is in this set and not in `other`. It looks at the words
+    /// of this range alone.
+    pub fn next_without(&self, other: &Bits, from: u32, to: u32) -> Option<u32>
+        requires { length other.now ≡ length self.now }
+        ensures lowest { MatchOption result (HasNoneBelow (has_alone self.now other.now) from to) (IsLowest (has_alone self.now other.now) from) }
+        ensures below { IfSome result (λ found. found < to) }
+        ensures within { IfSome result (λ found. found < length self.now) }
+    {
+        let end = to.min(self.len);
+        for index in from / 64..end.div_ceil(64) {
+            let low = from.saturating_sub(64 * index);
+            let word = self.words[index as usize] & !other.words[index as usize] & u64::MAX << low;
+            if word != 0 {
+                let found = 64 * index + word.trailing_zeros();
+                return if found < end { Some(found) } else { None };
+            }
+        }
+        None
+    }
+}
+
+#[cfg(test)]
+mod tests {
+    use super::*;
+    use std::test::Fail;
+
+    /// The set of these numbers, all below 200.
+    fn set_of(alloc: Global, members: &[u32]) -> Result<Bits, AllocError> {
+        let mut bits = Bits::new(alloc, 200)?;
+        for member in members {
+            if *member < bits.len() {
+                bits.set(*member);
+            }
+        }
+        Ok(bits)
+    }
+
+    /// Whether the set has these numbers, in this order, and no other ones.
+    fn are(bits: &Bits, members: &[u32]) -> bool {
+        let len = bits.len();
+        let mut start = 0;
+        for member in members {
+            let Some(found) = bits.next(start) else {
+                return false;
+            };
+            if found != *member || *member >= len || !bits.get(found) {
+                return false;
+            }
+            start = found + 1;
+        }
+        bits.next(start).is_none()
+    }
+
+    /// Over the borders of words of 64 bits, from each place on.
+    #[test]
+    fn finds_the_lowest(rt: HostRuntime) -> Result<(), Fail> {
+        let bits = set_of(rt.alloc(), &[199, 64, 0, 128, 63, 127])?;
+        assert!(rt; are(&bits, &[0, 63, 64, 127, 128, 199]));
+        for (from, found) in [
+            (1, Some(63)),
+            (64, Some(64)),
+            (65, Some(127)),
+            (129, Some(199)),
+            (199, Some(199)),
+            (200, None),
+            (4_000_000_000, None),
+        ] {
+            assert_eq!(rt; bits.next(from), found, "from {from}");
+        }
+        for (from, to, found) in [
+            (0, 1, Some(0)),
+            (1, 63, None),
+            (1, 64, Some(63)),
+            (64, 64, None),
+            (65, 128, Some(127)),
+            (129, 199, None),
+            (129, 4_000_000_000, Some(199)),
+            (199, 3, None),
+        ] {
+            assert_eq!(rt; bits.next_below(from, to), found, "from {from} to {to}");
+        }
+        let none = Bits::new(rt.alloc(), 0)?;
+        assert!(rt; none.len() == 0 && are(&none, &[]));
+        Ok(())
+    }
+
+    /// What is in the one and not in the other.
+    #[test]
+    fn finds_the_lowest_without(rt: HostRuntime) -> Result<(), Fail> {
+        let bits = set_of(rt.alloc(), &[0, 63, 64, 128])?;
+        let other = set_of(rt.alloc(), &[0, 64, 65, 191])?;
+        if bits.len() == other.len() {
+            for (from, to, found) in [
+                (0, 63, None),
+                (0, 64, Some(63)),
+                (64, 200, Some(128)),
+                (64, 128, None),
+                (129, 200, None),
+            ] {
+                assert_eq!(rt;
+                    bits.next_without(&other, from, to),
+                    found,
+                    "from {from} to {to}"
+                );
+            }
+        }
+        Ok(())
+    }
+
+    /// A range within a word, over a border, of whole words, and empty ones: what is left of a set when the range is
+    /// cleared.
+    #[test]
+    fn clears_ranges(rt: HostRuntime) -> Result<(), Fail> {
+        let all = [0, 1, 62, 63, 64, 65, 127, 128, 199];
+        for (from, to, left) in [
+            (1, 63, &[0, 63, 64, 65, 127, 128, 199][..]),
+            (63, 65, &[0, 1, 62, 65, 127, 128, 199][..]),
+            (64, 128, &[0, 1, 62, 63, 128, 199][..]),
+            (0, 200, &[][..]),
+            (64, 64, &all[..]),
+            (100, 3, &all[..]),
+        ] {
+            let mut bits = set_of(rt.alloc(), &all)?;
+            if to <= bits.len() {
+                bits.clear_range(from, to);
+            }
+            assert!(rt; are(&bits, left), "from {from} to {to}");
+            bits.clear();
+            assert!(rt; are(&bits, &[]));
+        }
+        Ok(())
+    }
+
+    /// The numbers of a range, beside what was in the set before.
+    #[test]
+    fn sets_ranges(rt: HostRuntime) -> Result<(), Fail> {
+        for (from, to, members) in [
+            (5, 8, &[5, 6, 7, 64][..]),
+            (62, 66, &[62, 63, 64, 65][..]),
+            (198, 200, &[64, 198, 199][..]),
+            (64, 64, &[64][..]),
+            (100, 3, &[64][..]),
+        ] {
+            let mut bits = set_of(rt.alloc(), &[64])?;
+            if to <= bits.len() {
+                bits.set_range(from, to);
+            }
+            assert!(rt; are(&bits, members), "from {from} to {to}");
+        }
+        Ok(())
+    }
+}

@@ -1,6 +1,0 @@
-use Rattle.std.proofs.Common.{◌*◌}
-use Rattle.mark_bitmap.proofs.Lowest.{NoneTo, only}
-use Rattle.mark_bitmap.proofs.marks.Marks.next_without.Given as goal
-
-abbrev pub invariant-loop-index : goal.invariant-loop-index
-invariant-loop-index l = NoneTo (only l.self-inside.words.items l.other-inside.words.items) l.fn.from (64 * l.index)

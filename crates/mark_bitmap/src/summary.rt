@@ -1,0 +1,164 @@
+//! Sets of numbers whose lowest member is found in three steps, however far it lies.
+//!
+//! Above the set stands a set of groups, each of 64 numbers, that has the groups with a member; and above that a set of
+//! blocks, each of 64 groups.
+//!
+//! ```text
+//!   blocks     0: yes                              | 1: no ..             one number for 4,096
+//!   groups     0: no     | 1: yes    | 2: no  ..   | 64: no ..            one number for 64
+//!   members    0 ..  63  | 64 ..  70 | 128 ..      | 4,096 ..
+//!                               ^ lowest: block 0, in it group 1, in it 70
+//! ```
+//!
+//! A number that comes enters each level, and one that goes leaves each level where it was the last one. So a call
+//! costs a word a level, whatever the set has. That holds for up to 262,144 numbers, of which the blocks fit one word;
+//! with more the lowest block is searched for.
+
+ghost use Rattle.std.specs.Prelude.{◌≡◌, ◌≢◌, ℕ, ◌*◌, ◌/◌, ◌<◌, Bool, List, false, true, IfOk, IfSome, length, MatchOption, replicate, slice_set};
+ghost use Rattle.std.specs.Int.{div_ceil};
+ghost use Rattle.heap_words.specs.Bits.{has, HasNone, IsLowest};
+ghost use Rattle.mark_bitmap.specs.Summary.{HasMember, HasNoMember, IsMember, IsSummary};
+
+use heap_words::bits::Bits;
+use std::alloc::{AllocError, Global};
+use std::marker::Model;
+
+/// A set of numbers below a length that is given when it is made. Clauses see a flag for each number.
+#[derive(Drop)]
+pub struct Summary {
+    members: Bits,
+    groups: Bits,
+    blocks: Bits,
+}
+
+impl Model for Summary {
+    ghost use Rattle.std.specs.Prelude.{List, Bool};
+    ghost use Rattle.mark_bitmap.specs.Summary.{AreLevels};
+
+    ghost Value = { List Bool };
+
+    ghost view = { λ s. s.members };
+
+    ghost invariant = { λ s. AreLevels s.members s.groups s.blocks };
+}
+
+/// The lowest member of a group.
+fn lowest_of(set: &Bits, group: u32) -> Option<u32>
+    requires { 64 * group < length set.now }
+    ensures { MatchOption result (HasNoMember (has set.now) group) (IsMember (has set.now) group) }
+{
+    set.law();
+    let first = 64 * group;
+    set.next_below(first, first.saturating_add(64))
+}
+
+/// A group leaves the groups if it has no member.
+fn leave(set: &Bits, groups: &mut Bits, group: u32)
+    requires known { group < length groups.old }
+    requires count { length groups.old ≡ div_ceil (length set.now) 64 }
+    requires each { (a : ℕ) → has set.now a ≡ true → has groups.old (a / 64) ≡ true }
+    requires others { (i : ℕ) → i ≢ group → has groups.old i ≡ true → HasMember (has set.now) i }
+    ensures count { length groups.new ≡ length groups.old }
+    ensures fewer { (i : ℕ) → has groups.new i ≡ true → has groups.old i ≡ true }
+    ensures others { (i : ℕ) → i ≢ group → has groups.new i ≡ has groups.old i }
+    ensures summary { IsSummary (has set.now) groups.new }
+{
+    if lowest_of(set, group).is_none() {
+        groups.remove(group);
+    }
+}
+
+impl Summary {
+    /// The empty set of the numbers below `count`. No call takes memory afterwards.
+    pub fn new(alloc: Global, count: u32) -> Result<Summary, AllocError>
+        ensures { IfOk result (λ summary. summary ≡ replicate count false) }
+    {
+        let groups = count.div_ceil(64);
+        Ok(Summary {
+            members: Bits::new(alloc, count)?,
+            groups: Bits::new(alloc, groups)?,
+            blocks: Bits::new(alloc, groups.div_ceil(64))?,
+        })
+    }
+
+    /// A number is in the set.
+    pub fn set(&mut self, number: u32)
+        requires { number < length self.old }
+        ensures { self.new ≡ slice_set self.old number true }
+    {
+        self.members.set(number);
+        self.groups.set(number / 64);
+        self.blocks.set(number / 64 / 64);
+    }
+
+    /// A number is not in the set.
+    pub fn remove(&mut self, number: u32)
+        requires { number < length self.old }
+        ensures { self.new ≡ slice_set self.old number false }
+    {
+        self.members.remove(number);
+        leave(&self.members, &mut self.groups, number / 64);
+        leave(&self.groups, &mut self.blocks, number / 64 / 64);
+    }
+
+    /// The set is empty.
+    pub fn clear(&mut self)
+        ensures { self.new ≡ replicate (length self.old) false }
+    {
+        self.members.clear();
+        self.groups.clear();
+        self.blocks.clear();
+    }
+
+    /// The lowest number of the set.
+    pub fn lowest(&self) -> Option<u32>
+        ensures lowest { MatchOption result (HasNone (has self.now) 0) (IsLowest (has self.now) 0) }
+        ensures within { IfSome result (λ found. found < length self.now) }
+    {
+        let block = self.blocks.next(0)?;
+        let group = lowest_of(&self.groups, block)?;
+        lowest_of(&self.members, group)
+    }
+}
+
+#[cfg(test)]
+mod tests {
+    use super::*;
+    use std::test::Fail;
+
+    /// Takes the lowest member again and again: whether they are these, and no others.
+    fn gives(set: &mut Summary, members: &[u32]) -> bool {
+        for member in members {
+            let Some(found) = set.lowest() else {
+                return false;
+            };
+            if found != *member {
+                return false;
+            }
+            set.remove(found);
+        }
+        set.lowest().is_none()
+    }
+
+    /// A lower member comes first, and once it is gone the next one, in another group or block; then the numbers at the
+    /// borders of groups and blocks.
+    #[test]
+    fn finds_the_lowest(rt: HostRuntime) -> Result<(), Fail> {
+        let mut set = Summary::new(rt.alloc(), 10_000)?;
+        set.set(4_096);
+        set.set(63);
+        assert_eq!(rt; set.lowest(), Some(63));
+        set.remove(63);
+        assert_eq!(rt; set.lowest(), Some(4_096));
+        set.clear();
+        assert_eq!(rt; set.lowest(), None);
+        set.set(9_999);
+        set.set(4_096);
+        set.set(4_095);
+        set.set(64);
+        set.set(63);
+        set.set(0);
+        assert!(rt; gives(&mut set, &[0, 63, 64, 4_095, 4_096, 9_999]));
+        Ok(())
+    }
+}

@@ -1,0 +1,12 @@
+pub mod Lines
+pub mod Filling
+pub mod Rows
+pub mod Draws
+pub mod Drops
+pub mod Own
+pub mod Counts
+pub mod New
+pub mod Rounds
+pub mod Faults
+pub mod Places
+pub mod Plans

@@ -1,0 +1,47 @@
+-- The events of a journal are those of a record, and its core goes on by a step.
+use Rattle.std.proofs.Common.{◌≡◌, List, [], ◌∷◌, ◌++◌}
+use Rattle.std.specs.Prelude.{◌↔◌}
+use Rattle.heap_words.specs.declared.config.Config.{Config}
+use Rattle.object_graph.specs.Actors.{AreEvents, IsStepOf}
+use Rattle.object_graph.specs.declared.step.Actor.{Actor}
+use Rattle.object_graph.specs.declared.step.Actor.TheVariants.{Mutator, Collector, Marker, Refiner}
+use Rattle.object_graph.specs.declared.step.Step.{Step}
+use Rattle.object_graph.specs.declared.step.Event.{Event}
+use Rattle.step_core.specs.Stands.{CoreState, State, Stands, IsCore, IsWhole}
+use Rattle.step_core.specs.Fresh.{fresh_core, fresh_state}
+use Rattle.step_core.specs.Histories.{RunsTo, Runs}
+use Rattle.cards.specs.Cards.{ListsDirtyOnce}
+use Rattle.object_graph.specs.declared.step.Reply.TheVariants as replies
+use Rattle.object_graph.specs.declared.step.Refusal.TheVariants as refusals
+use Rattle.step_core.specs.Answers.{Follows, IsFullStep}
+use Rattle.step_core.specs.Cycle.{Does}
+use Rattle.step_core.proofs.Cores.Following.{goes_on, none_yet}
+use Rattle.mutators.specs.Scripts.{IsOwn, AreOwn}
+use Rattle.std.proofs.Common.{sym, subst}
+
+own_is : (c : Config) (a : Actor) (s : Step) → IsOwn c a s → IsStepOf c a s
+own_is c (Mutator i) s own = own
+own_is c Collector s own = own
+own_is c (Marker i) s own = subst (λ (x : Step). IsStepOf c (Marker i) x) (sym own.1) own.0
+own_is c (Refiner i) s own = subst (λ (x : Step). IsStepOf c (Refiner i) x) (sym own.1) own.0
+
+pub own_events : (c : Config) (es : List Event) → AreOwn c es → AreEvents c es
+own_events c es own k d within = own_is c _ _ (own k d within)
+
+-- a new heap has come to no events
+pub runs_none : (config : Config) (c : CoreState) → c ≡ fresh_core config → IsCore c → Stands (fresh_state config) c → RunsTo config [] c
+runs_none config c fresh core st = record {
+  core = subst IsCore fresh core;
+  stands = subst (λ (d : CoreState). Stands (fresh_state config) d) fresh st;
+  runs = subst (λ (d : CoreState). Runs (fresh_state config) d [] c) fresh (none_yet (fresh_state config) c st);
+}
+
+-- one event more
+pub runs_on : (config : Config) (es : List Event) (e : Event) (c c' : CoreState) → RunsTo config es c → ((s : State) → Stands s c → Follows s e.step e.reply c')
+    → Does e.step e.reply c c' → ((s : State) → Stands s c → (e.reply ≡ replies.Refused refusals.Full) ↔ IsFullStep s.graph e.step c) → IsCore c' → ListsDirtyOnce c'.cards
+    → ((s : State) → Stands s c' → IsWhole s.graph c') → RunsTo config (es ++ e ∷ []) c'
+runs_on config es e c c' r follows does full core listed whole = record {
+  core = r.core;
+  stands = r.stands;
+  runs = goes_on (fresh_state config) (fresh_core config) es e c c' r.runs follows does full core listed whole;
+}

@@ -1,0 +1,5 @@
+pub mod Scripts
+pub mod Journals
+pub mod Turns
+pub mod Interleavings
+pub mod Draws

@@ -1,0 +1,176 @@
+//! The actors' turns in the order that the words of a seed draw.
+//!
+//! ```text
+//!   lines left   0: 2  1: 1  gc: 0     word 7   the actor at place 7 mod 2 of those with lines left: mutator 1
+//!                0: 2  1: 0  gc: 0     word 4   mutator 0
+//! ```
+
+ghost use Rattle.std.specs.Prelude.{◌≡◌, ℕ, ◌+◌, ◌<◌, ◌≤◌, ◌↔◌, ◌≢◌, ◌⊎◌, false, OnOk, IfOk, IfErr, length, take, drop, ◌++◌, if◌then◌else◌};
+ghost use Rattle.rand_pcg.specs.Pcg.{pcg32};
+ghost use Rattle.step_core.specs.Histories.{IsRunFault};
+ghost use Rattle.mutators.specs.Scripts.{scripted, is_scripted};
+ghost use Rattle.mutators.specs.Turns.{SamePlan, IsCast};
+ghost use Rattle.mutators.specs.Draws.{open_places, lefts_of, pick, Picks, LeavesScripts, IsRound, has_background, scripted_actors, drawn_by};
+ghost use Rattle.mutators.specs.Interleavings.{IsAsked, AreAsked, IsRunOf};
+
+use crate::journal::Journal;
+use object_graph::{Actor, Plan, Record};
+use rand_core::utils::NextWord;
+use rand_pcg::Lcg64Xsh32;
+use std::alloc::{AllocError, Global};
+use step_core::{RunFault, run_fault};
+
+fn draw(words: &mut Lcg64Xsh32) -> u32
+    ensures value { result ≡ (pcg32 words.old).0 }
+    ensures next { words.new ≡ (pcg32 words.old).1 }
+{
+    words.next_word()
+}
+
+fn background_at(place: u32, markers: u32, refiners: u32) -> Actor
+    requires place { place < markers + refiners }
+    requires small { (markers ≤ 8) × (refiners ≤ 8) }
+    ensures asked { IsAsked markers refiners result }
+    ensures background { is_scripted result ≡ false }
+    ensures cast { (m : ℕ) → IsCast m result }
+{
+    if place < markers {
+        Actor::Marker(place as u8)
+    } else {
+        Actor::Refiner((place - markers) as u8)
+    }
+}
+
+fn scripted_at(mutators: usize, place: usize) -> Actor
+    requires place { place ≤ mutators }
+    requires few { mutators ≤ 16 }
+    ensures is { result ≡ scripted mutators place }
+    ensures cast { IsCast mutators result }
+{
+    if place == mutators {
+        Actor::Collector
+    } else {
+        Actor::Mutator(place as u32)
+    }
+}
+
+/// The places of the scripted actors that have lines left, in order.
+fn open_places(alloc: Global, journal: &Journal) -> Result<Vec<usize>, AllocError>
+    ensures { IfOk result (λ v. v.items ≡ open_places (lefts_of journal.now)) }
+{
+    let mutators = journal.config().mutators as usize;
+    let mut unfinished = Vec::new(alloc);
+    for k in 0..mutators + 1 {
+        if journal.is_left(k) {
+            unfinished.push(k)?;
+        }
+    }
+    Ok(unfinished)
+}
+
+/// Takes the n-th place out, if it isn't to be kept.
+fn keep_if(places: &mut Vec<usize>, n: usize, kept: bool)
+    requires { n < length places.old.items }
+    ensures { places.new.items ≡ (if kept then places.old.items else (take n places.old.items ++ drop (n + 1) places.old.items)) }
+{
+    if !kept {
+        let _ = places.remove(n);
+    }
+}
+
+/// The turn of a scripted actor, which leaves the open places once its script is at its end.
+fn scripted_round(
+    journal: &mut Journal,
+    unfinished: &mut Vec<usize>,
+    word: u32,
+) -> Result<(), AllocError>
+    requires unfinished { unfinished.old.items ≡ open_places (lefts_of journal.old) }
+    requires some { 0 < length unfinished.old.items }
+    ensures plan { SamePlan journal.old journal.new }
+    ensures picks { OnOk result (Picks journal.old journal.new (pick word (lefts_of journal.old))) }
+    ensures unfinished { OnOk result (unfinished.new.items ≡ open_places (lefts_of journal.new)) }
+    ensures asked { (markers refiners : ℕ) → OnOk result (AreAsked markers refiners journal.old.events → AreAsked markers refiners journal.new.events) }
+{
+    let n = word as usize % unfinished.len();
+    let place = unfinished[n];
+    let mutators = journal.config().mutators as usize;
+    journal.turn(scripted_at(mutators, place))?;
+    keep_if(unfinished, n, journal.is_left(place));
+    Ok(())
+}
+
+fn background_round(
+    journal: &mut Journal,
+    word: u32,
+    markers: u32,
+    refiners: u32,
+) -> Result<(), AllocError>
+    requires some { 0 < markers + refiners }
+    requires small { (markers ≤ 8) × (refiners ≤ 8) }
+    ensures plan { SamePlan journal.old journal.new }
+    ensures leaves { OnOk result (LeavesScripts journal.old journal.new) }
+    ensures asked { OnOk result (AreAsked markers refiners journal.old.events → AreAsked markers refiners journal.new.events) }
+{
+    let actor = background_at(word % (markers + refiners), markers, refiners);
+    journal.turn(actor)?;
+    Ok(())
+}
+
+/// A round: a word picks the scripted actor that takes a turn and, where there are background actors, another word one of those.
+fn one_round(
+    journal: &mut Journal,
+    unfinished: &mut Vec<usize>,
+    words: &mut Lcg64Xsh32,
+    markers: u32,
+    refiners: u32,
+) -> Result<(), AllocError>
+    requires unfinished { unfinished.old.items ≡ open_places (lefts_of journal.old) }
+    requires some { 0 < length unfinished.old.items }
+    requires small { (markers ≤ 8) × (refiners ≤ 8) }
+    ensures plan { SamePlan journal.old journal.new }
+    ensures unfinished { OnOk result (unfinished.new.items ≡ open_places (lefts_of journal.new)) }
+    ensures round { OnOk result (IsRound pcg32 (has_background markers refiners) journal.old words.old journal.new words.new) }
+    ensures asked { OnOk result (AreAsked markers refiners journal.old.events → AreAsked markers refiners journal.new.events) }
+{
+    let word = draw(words);
+    scripted_round(journal, unfinished, word)?;
+    if markers + refiners == 0 {
+        return Ok(());
+    }
+    let other = draw(words);
+    background_round(journal, other, markers, refiners)?;
+    Ok(())
+}
+
+/// Does a plan's scripts in a new heap, in the order that the words of a seed draw, with so many refiners and markers beside.
+/// The record's events are an interleaving of the whole scripts, and the scripted actors take their turns in the order drawn.
+pub fn simulate(
+    alloc: Global,
+    plan: &Plan,
+    seed: u64,
+    refiners: u32,
+    markers: u32,
+) -> Result<Record, RunFault>
+    ensures run { IfOk result (IsRunOf plan.now markers refiners) }
+    ensures drawn { IfOk result (λ r. scripted_actors r.events ≡ drawn_by seed markers refiners plan.now) }
+    ensures bad { (result ≡ Err RunFault.BadWorkers) ↔ ((8 < refiners) ⊎ (8 < markers)) }
+    ensures fault { IfErr result (λ f. f ≢ RunFault.BadWorkers → IsRunFault plan.now.config f) }
+{
+    if refiners > 8 || markers > 8 {
+        return Err(RunFault::BadWorkers);
+    }
+    let mut journal = match Journal::new(alloc, plan) {
+        Ok(journal) => journal,
+        Err(fault) => return Err(run_fault(fault)),
+    };
+    let Ok(mut unfinished) = open_places(alloc, &journal) else {
+        return Err(RunFault::NoMemory);
+    };
+    let mut words = Lcg64Xsh32::new(seed, 54);
+    'rounds: while !unfinished.is_empty() {
+        let Ok(()) = one_round(&mut journal, &mut unfinished, &mut words, markers, refiners) else {
+            return Err(RunFault::NoMemory);
+        };
+    }
+    Ok(journal.into_record())
+}

@@ -1,0 +1,407 @@
+//! The actors' turns in threads.
+//!
+//! ```text
+//!   queue of places   2 0 3        worker w: pops 1, locks, gives the actor there one turn, unlocks, pushes 1 back
+//!   places            0 .. m-1 the mutators, m the collector, then the markers, then the refiners
+//! ```
+//!
+//! Each worker counts its done turns in its share of a ledger, whose book lies under the lock and has the number of events: so the
+//! counts that the workers hand back sum to it.
+
+ghost use Rattle.std.specs.Prelude.{◌≡◌, ℕ, ◌+◌, ◌≤◌, ◌<◌, [], length, sum, slice_index, vec_capacity, vec_len, IfOk, IfErr, IfSome, None, true, ◌≢◌, ◌↔◌, ◌⊎◌};
+ghost use Rattle.crossbeam_queue.specs.Passes.{IsPassOf};
+ghost use Rattle.heap_words.specs.Configs.{Suits};
+ghost use Rattle.heap_words.specs.declared.config.Config.{Config};
+ghost use Rattle.mutators.specs.Turns.{IsCast};
+ghost use Rattle.mutators.specs.Interleavings.{IsAsked, IsOf, IsRunOf, IsThreadsFault};
+
+use crate::journal::Journal;
+use crate::shared::{Below, Crew, Places, Shared};
+use crossbeam_queue::Pass;
+use object_graph::{Actor, Plan, Record};
+use std::alloc::{AllocError, Global};
+use std::marker::Brand;
+use std::sync::atomic::{AtomicU64, Ordering};
+use std::sync::ledger::{Blank, Share};
+use std::sync::{Mutex, Wait};
+use std::thread;
+use std::thread::{JoinHandle, Threads};
+use step_core::{RunFault, run_fault};
+
+/// The record of a run in threads, and how many turns of each worker were done.
+#[derive(Debug, Drop)]
+pub struct Threaded {
+    pub history: Record,
+    pub done: [u64; 32],
+}
+
+/// How many actors of each kind there are.
+#[derive(Clone, Copy)]
+struct Cast {
+    mutators: u32,
+    markers: u32,
+    refiners: u32,
+    ghost small: { (mutators ≤ 16) × (markers ≤ 8) × (refiners ≤ 8) },
+}
+
+impl Cast {
+    fn count(self) -> u32
+        ensures { result ≡ self.mutators + 1 + self.markers + self.refiners }
+    {
+        self.mutators + 1 + self.markers + self.refiners
+    }
+
+    fn actor_at(self, place: u32) -> Actor
+        requires { place < self.mutators + 1 + self.markers + self.refiners }
+        ensures cast { IsCast self.mutators result }
+        ensures asked { IsAsked self.markers self.refiners result }
+    {
+        if place < self.mutators {
+            return Actor::Mutator(place);
+        }
+        let place = place - self.mutators;
+        if place == 0 {
+            return Actor::Collector;
+        }
+        let place = place - 1;
+        if place < self.markers {
+            Actor::Marker(place as u8)
+        } else {
+            Actor::Refiner((place - self.markers) as u8)
+        }
+    }
+}
+
+/// What a worker hands back: its part, with its count for the amount.
+#[derive(Drop)]
+struct Spent<C: Crew> {
+    count: u64,
+    share: Share<C>,
+    ghost one_part: { share.parts ≡ 1 },
+    ghost counted: { share.amount ≡ count },
+}
+
+/// A worker that runs, or what one that could not be started gave back.
+#[derive(Drop)]
+enum Hand<C: Crew> {
+    Running(JoinHandle<Spent<C>>),
+    Idle(Spent<C>),
+}
+
+fn unspent<C: Crew>(share: Share<C>) -> Spent<C>
+    requires part { share.parts ≡ 1 }
+    requires amount { share.amount ≡ 0 }
+{
+    Spent { count: 0, share }
+}
+
+/// Where the worker's number is the one that is skipped, it does nothing.
+fn work<C: Crew, F: Fn(u32) + Sync, R: Wait>(
+    rt: &R,
+    shared: &Mutex<Shared<C>>,
+    places: &Places<C>,
+    cast: Cast,
+    mut pass: Pass<u32, ()>,
+    mut share: Share<C>,
+    worker: u32,
+    skipped: &AtomicU64,
+    seen: &F,
+) -> Spent<C>
+    requires pass { IsPassOf places.now pass }
+    requires part { share.parts ≡ 1 }
+    requires amount { share.amount ≡ 0 }
+    requires cast { (cast.mutators ≡ C.plan.config.mutators) × (cast.markers ≡ C.markers) × (cast.refiners ≡ C.refiners) }
+    requires places { cast.mutators + 1 + cast.markers + cast.refiners ≡ C.places }
+    requires seen { F.pre seen.now worker }
+{
+    if skipped.load(Ordering::SeqCst) == u64::from(worker) {
+        return unspent(share);
+    }
+    let mut held: Option<u32> = None;
+    let mut count = 0u64;
+    for _ in rt.forever() {
+        if held.is_none() {
+            held = places.pop_as::<Below<C>, R>(rt, &mut pass);
+        }
+        let mut guard = shared.lock(rt);
+        if guard.is_over() {
+            break;
+        }
+        let Some(place) = held else {
+            continue;
+        };
+        let is_done = guard.turn(cast.actor_at(place), &mut share);
+        drop(guard);
+        held = places.push_as::<Below<C>, R>(rt, &mut pass, place).err();
+        if is_done {
+            count += 1;
+            seen(worker);
+        }
+    }
+    Spent { count, share }
+}
+
+struct Gathered<C: Crew> {
+    all: Share<C>,
+    done: [u64; 32],
+    started: u32,
+}
+
+/// Joins the workers, the last one first, and puts their parts together.
+fn join_all<C: Crew, R: Threads>(
+    rt: &R,
+    mut all: Share<C>,
+    mut hands: Vec<Hand<C>>,
+    started: u32,
+) -> Gathered<C>
+    requires few { vec_len hands ≤ 32 }
+    requires amount { all.amount ≡ 0 }
+    ensures parts { result.all.parts ≡ all.parts + vec_len hands }
+    ensures amount { sum result.done ≡ result.all.amount }
+    ensures rest { (w : ℕ) → vec_len hands ≤ w → slice_index result.done w ≡ 0 }
+{
+    let mut done = [0u64; 32];
+    'join: while let Some(hand) = hands.pop() {
+        let Spent { count, share } = match hand {
+            Hand::Running(handle) => handle.join(rt),
+            Hand::Idle(spent) => spent,
+        };
+        all.merge(share);
+        done[hands.len()] = count;
+    }
+    Gathered { all, done, started }
+}
+
+/// Starts the workers, joins them, and puts their parts together.
+fn start_all<'x, C: Crew + Send + Sync, F: Fn(u32) + Sync, R: Threads + Wait + Sync>(
+    rt: &'x R,
+    shared: &'x Mutex<Shared<C>>,
+    places: &'x Places<C>,
+    skipped: &'x AtomicU64,
+    seen: &'x F,
+    cast: Cast,
+    workers: u32,
+    all: Share<C>,
+    pass: Pass<u32, ()>,
+    hands: Vec<Hand<C>>,
+) -> Gathered<C>
+    requires workers { workers ≤ 32 }
+    requires pass { IsPassOf places.now pass }
+    requires whole { (all.parts ≡ workers + 1) × (all.amount ≡ 0) }
+    requires cast { (cast.mutators ≡ C.plan.config.mutators) × (cast.markers ≡ C.markers) × (cast.refiners ≡ C.refiners) }
+    requires places { cast.mutators + 1 + cast.markers + cast.refiners ≡ C.places }
+    requires hands { (hands.items ≡ []) × (workers ≤ vec_capacity hands) }
+    requires seen { (w : ℕ) → w < 32 → F.pre seen.now w }
+    ensures parts { result.all.parts ≡ workers + 1 }
+    ensures amount { sum result.done ≡ result.all.amount }
+    ensures rest { (w : ℕ) → workers ≤ w → slice_index result.done w ≡ 0 }
+{
+    thread::scope(
+        thread::scope_env(),
+        rt,
+        move |scope| -> Gathered<C>
+            requires { (workers ≤ 32) × IsPassOf places.now pass × ((all.parts ≡ workers + 1) × (all.amount ≡ 0)) × ((cast.mutators ≡ C.plan.config.mutators) × (cast.markers ≡ C.markers) × (cast.refiners ≡ C.refiners)) × (cast.mutators + 1 + cast.markers + cast.refiners ≡ C.places) × ((hands.items ≡ []) × (workers ≤ vec_capacity hands)) × ((w : ℕ) → w < 32 → F.pre seen.now w) }
+            ensures { (result.all.parts ≡ workers + 1) × (sum result.done ≡ result.all.amount) × ((w : ℕ) → workers ≤ w → slice_index result.done w ≡ 0) }
+        {
+            let mut all = all;
+            let mut pass = pass;
+            let mut hands = hands;
+            let mut started = 0u32;
+            'start: for worker in 0..workers {
+                let share = all.split_off(1, 0);
+                let mine = places.another::<Below<C>>(&mut pass);
+                let job = move || -> Spent<C>
+                    requires { IsPassOf places.now mine × (share.parts ≡ 1) × (share.amount ≡ 0) × ((cast.mutators ≡ C.plan.config.mutators) × (cast.markers ≡ C.markers) × (cast.refiners ≡ C.refiners)) × (cast.mutators + 1 + cast.markers + cast.refiners ≡ C.places) × F.pre seen.now worker }
+                { work(rt, shared, places, cast, mine, share, worker, skipped, seen) };
+                match scope.spawn(job) {
+                    Ok(handle) => {
+                        started += 1;
+                        hands.push_reserved(Hand::Running(handle));
+                    }
+                    Err(refused) => {
+                        skipped.store(u64::from(worker), Ordering::SeqCst);
+                        hands.push_reserved(Hand::Idle((refused.value)()));
+                    }
+                }
+            }
+            join_all(rt, all, hands, started)
+        },
+    )
+}
+
+/// The queue with every place in it, and room for the workers.
+struct Room<C: Crew> {
+    queue: Places<C>,
+    pass: Pass<u32, ()>,
+    hands: Vec<Hand<C>>,
+}
+
+fn room_of<C: Crew, R: Wait>(
+    rt: &R,
+    alloc: Global,
+    cast: Cast,
+    workers: u32,
+) -> Result<Room<C>, AllocError>
+    requires { cast.mutators + 1 + cast.markers + cast.refiners ≡ C.places }
+    ensures pass { IfOk result (λ r. IsPassOf r.queue r.pass) }
+    ensures hands { IfOk result (λ r. (r.hands.items ≡ []) × (workers ≤ vec_capacity r.hands)) }
+{
+    let (queue, mut pass) = Places::<C>::ruled(alloc, cast.count() as usize)?;
+    for place in 0..cast.count() {
+        let _ = queue.push_as::<Below<C>, R>(rt, &mut pass, place);
+    }
+    let hands = Vec::with_capacity(alloc, workers as usize)?;
+    Ok(Room { queue, pass, hands })
+}
+
+/// The fault of a run whose workers are joined, if it has one.
+fn stopped_by(fault: bool, started: u32, is_ended: bool) -> Option<RunFault>
+    ensures fault { IfSome result (λ f. (config : Config) → Suits config → IsThreadsFault config f) }
+    ensures ended { result ≡ None → is_ended ≡ true }
+{
+    if fault {
+        return Some(RunFault::NoMemory);
+    }
+    if started == 0 {
+        return Some(RunFault::NoWorker);
+    }
+    if is_ended {
+        None
+    } else {
+        Some(RunFault::Unfinished)
+    }
+}
+
+/// What a run comes to once its workers are joined.
+fn finish(
+    plan: &Plan,
+    cast: Cast,
+    journal: Journal,
+    fault: bool,
+    started: u32,
+    done: [u64; 32],
+) -> Result<Threaded, RunFault>
+    requires { IsOf plan.now cast.markers cast.refiners journal }
+    ensures run { IfOk result (λ t. IsRunOf plan.now cast.markers cast.refiners t.history) }
+    ensures done { IfOk result (λ t. t.done ≡ done) }
+    ensures events { IfOk result (λ t. t.history.events ≡ journal.events) }
+    ensures fault { IfErr result (λ f. Suits plan.now.config → IsThreadsFault plan.now.config f) }
+{
+    let is_ended = journal.is_ended();
+    if let Some(fault) = stopped_by(fault, started, is_ended) {
+        return Err(fault);
+    }
+    Ok(Threaded {
+        history: journal.into_record(),
+        done,
+    })
+}
+
+fn gather<C: Crew + Send + Sync, F: Fn(u32) + Sync, R: Threads + Wait + Sync>(
+    rt: &R,
+    alloc: Global,
+    blank: Blank,
+    journal: Journal,
+    plan: &Plan,
+    cast: Cast,
+    workers: u32,
+    seen: &F,
+) -> Result<Threaded, RunFault>
+    requires name { blank.name ≡ C.name }
+    requires parts { (blank.parts ≡ C.parts) × (blank.parts ≡ workers + 1) }
+    requires workers { workers ≤ 32 }
+    requires plan { plan.now ≡ C.plan }
+    requires cast { (cast.mutators ≡ C.plan.config.mutators) × (cast.markers ≡ C.markers) × (cast.refiners ≡ C.refiners) }
+    requires places { cast.mutators + 1 + cast.markers + cast.refiners ≡ C.places }
+    requires of { IsOf C.plan C.markers C.refiners journal }
+    requires empty { length journal.events ≡ 0 }
+    requires seen { (w : ℕ) → w < 32 → F.pre seen.now w }
+    ensures run { IfOk result (λ t. IsRunOf plan.now cast.markers cast.refiners t.history) }
+    ensures counts { IfOk result (λ t. sum t.done ≡ length t.history.events) }
+    ensures rest { IfOk result (λ t. (w : ℕ) → workers ≤ w → slice_index t.done w ≡ 0) }
+    ensures fault { IfErr result (λ f. Suits plan.now.config → IsThreadsFault plan.now.config f) }
+{
+    let (book, all) = blank.open::<C>();
+    let Ok(Room { queue, pass, hands }) = room_of::<C, R>(rt, alloc, cast, workers) else {
+        return Err(RunFault::NoMemory);
+    };
+    let shared = Mutex::new(Shared::new(journal, book));
+    let skipped = AtomicU64::new(u64::MAX);
+    let Gathered {
+        mut all,
+        done,
+        started,
+    } = start_all(
+        rt, &shared, &queue, &skipped, seen, cast, workers, all, pass, hands,
+    );
+    let (journal, fault) = shared.into_inner().close(&mut all);
+    finish(plan, cast, journal, fault, started, done)
+}
+
+/// Does a plan's scripts in a new heap by so many workers, with so many refiners and markers beside, and calls `seen` with a worker's
+/// number after each of its done turns. The record's events are an interleaving of the whole scripts; the counts of done
+/// turns sum to their number.
+pub fn run_threads_seen<F: Fn(u32) + Sync, R: Threads + Wait + Sync>(
+    rt: &R,
+    alloc: Global,
+    plan: &Plan,
+    workers: u32,
+    refiners: u32,
+    markers: u32,
+    seen: &F,
+) -> Result<Threaded, RunFault>
+    requires seen { (w : ℕ) → w < 32 → F.pre seen.now w }
+    ensures run { IfOk result (λ t. IsRunOf plan.now markers refiners t.history) }
+    ensures counts { IfOk result (λ t. sum t.done ≡ length t.history.events) }
+    ensures rest { IfOk result (λ t. (w : ℕ) → workers ≤ w → slice_index t.done w ≡ 0) }
+    ensures bad { (result ≡ Err RunFault.BadWorkers) ↔ ((workers ≡ 0) ⊎ (32 < workers) ⊎ (8 < refiners) ⊎ (8 < markers)) }
+    ensures fault { IfErr result (λ f. f ≢ RunFault.BadWorkers → IsThreadsFault plan.now.config f) }
+{
+    if workers == 0 || workers > 32 || refiners > 8 || markers > 8 {
+        return Err(RunFault::BadWorkers);
+    }
+    let journal = match Journal::new(alloc, plan) {
+        Ok(journal) => journal,
+        Err(fault) => return Err(run_fault(fault)),
+    };
+    let cast = Cast {
+        mutators: journal.config().mutators,
+        markers,
+        refiners,
+    };
+    gather::<Brand, F, R>(
+        rt,
+        alloc,
+        Blank::new(u64::from(workers) + 1),
+        journal,
+        plan,
+        cast,
+        workers,
+        seen,
+    )
+}
+
+/// The same, without a look at the workers.
+pub fn run_threads<R: Threads + Wait + Sync>(
+    rt: &R,
+    alloc: Global,
+    plan: &Plan,
+    workers: u32,
+    refiners: u32,
+    markers: u32,
+) -> Result<Record, RunFault>
+    ensures run { IfOk result (IsRunOf plan.now markers refiners) }
+    ensures bad { (result ≡ Err RunFault.BadWorkers) ↔ ((workers ≡ 0) ⊎ (32 < workers) ⊎ (8 < refiners) ⊎ (8 < markers)) }
+    ensures fault { IfErr result (λ f. f ≢ RunFault.BadWorkers → IsThreadsFault plan.now.config f) }
+{
+    let Threaded { history, done: _ } = run_threads_seen(
+        rt,
+        alloc,
+        plan,
+        workers,
+        refiners,
+        markers,
+        &|_| {},
+    )?;
+    Ok(history)
+}

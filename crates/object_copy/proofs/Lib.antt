@@ -1,0 +1,4 @@
+pub mod Frees
+pub mod Opened
+pub mod Copied
+pub mod Samples

@@ -1,0 +1,67 @@
+//! Copies in a small heap: four regions of sixteen words.
+//!
+//! ```text
+//!               region 0              region 1
+//!   before      | object of 4 words   free
+//!   after       | to 16               | object of 4 words
+//! ```
+
+ghost use Rattle.std.specs.Prelude.{IfOk};
+ghost use Rattle.object_copy.specs.Samples.{IsCopyable};
+
+use crate::{Destinations, copy};
+use heap_words::addr::{Addr, RegionNo};
+use heap_words::config::{Config, Format};
+use heap_words::header::{Count, Counts, FillerSize};
+use regions::RegionTable;
+use std::alloc::Global;
+use std::test::Fail;
+
+/// Region 0 is taken and has an object of two data words, and the others are free.
+fn one_object(alloc: Global) -> Result<RegionTable, Fail>
+    ensures { IfOk result IsCopyable }
+{
+    let sizes = Config {
+        format: Format::V1,
+        regions: 4,
+        words: 16,
+        buffer: 8,
+        mutators: 1,
+        first_name: 0,
+    };
+    let Ok(mut table) = RegionTable::new(alloc, &sizes) else {
+        return Err(Fail::from("a table is made"));
+    };
+    table.take_free();
+    let object = Addr::new(0);
+    table.push_filler(RegionNo::new(0), FillerSize::new(4));
+    let counts = Counts {
+        pointers: Count::new(0),
+        values: Count::new(2),
+    };
+    table.make_object(object, FillerSize::new(4), 7, counts);
+    Ok(table)
+}
+
+/// The copy stands at the bottom of the lowest free region, and the object is forwarded to it.
+#[test]
+fn copies_to_the_lowest_free_region(rt: HostRuntime) -> Result<(), Fail> {
+    let mut table = one_object(rt.alloc())?;
+    let mut destinations = Destinations::new(rt.alloc(), 4)?;
+    let object = Addr::new(0);
+    let place = Addr::new(16);
+    let region = RegionNo::new(1);
+    assert_eq!(rt; destinations.last(), None);
+    assert_eq!(rt; copy(&mut table, &mut destinations, object), place);
+    assert_eq!(rt; destinations.last(), Some(region));
+    assert_eq!(rt; destinations.region(0), Some(region));
+    assert_eq!(rt; destinations.region(1), None);
+    assert_eq!(rt; destinations.words(), 4);
+    assert_eq!(rt; table.free_count(), 2);
+    assert_eq!(rt; table.first_tile(Addr::new(19)), Some(place));
+    destinations.close();
+    assert_eq!(rt; destinations.last(), None);
+    assert_eq!(rt; destinations.region(0), None);
+    assert_eq!(rt; destinations.words(), 0);
+    Ok(())
+}

@@ -1,0 +1,4 @@
+pub mod FirstTile
+pub mod CardStarts
+pub mod FirstTiles
+pub mod Entries

@@ -1,0 +1,250 @@
+-- First tiles over each change of the table.
+use Rattle.std.proofs.Common.{◌≡◌, ◌≢◌, ℕ, zero, suc, ◌+◌, ◌-◌, ◌*◌, ◌/◌, ◌%◌, ◌<◌, ◌≤◌, Bool, true, false, Some, None, Option, List, [], ◌∷◌, length, length-set, get_or, replicate, inl, inr, refl, sym, ap, ◌∙◌, subst, arith, leb, ltb}
+use Rattle.std.specs.Prelude.{if◌then◌else◌, ◌&&◌, ◌==◌}
+use Rattle.std.proofs.lemmas.Bool.{cases_lt, le-leb, lt-leb, lt-ltb, le-ltb}
+use Rattle.std.proofs.lemmas.List.{length-replicate}
+use Rattle.heap_words.specs.Bits.{is_between}
+use Rattle.heap_model.specs.Heap.{Stored}
+use Rattle.regions.specs.Tiles.{Tile, Object, Filler, Forwarded, tile_size, tile_at, total_size}
+use Rattle.regions.specs.Table.{Table, Region, Free, Ordinary, First, Rest, nth_region, region_tile, tile_in, object_at, object_pointers, object_values, new_object, pointers_at, values_at, set_pointer, set_value, remainder, is_free, first_free, taken, replace_tile, push_tile, IsOrdinary, region_at, with_regions, run_regions, first_run, released, run_length, kind_of, used_of, top_of, free_table, EachForwarded, IsReleasable, object_words}
+use Rattle.regions.specs.Rows.{table_of, IsSound, AreUsedBelow, sizes_in}
+use Rattle.regions.specs.FirstTiles.{Entries, AreEntries, entry_of, last_card}
+use Rattle.regions.specs.Shaped.{IsShaped}
+use Rattle.regions.specs.declared.row.Kind.TheVariants as kinds
+use Rattle.regions.specs.declared.row.Row.{Row}
+use Rattle.regions.proofs.Tiles.Targets.{IsWrittenTable}
+use Rattle.regions.proofs.Tiles.Making.{length-regions_of}
+use Rattle.regions.proofs.Tiles.ShapedMade.{shaped_of, first_object, kind_at}
+use Rattle.regions.proofs.Tiles.Laws.{object_tile}
+use Rattle.regions.proofs.Tiles.Changes.{WritesObject, pointer_put, value_put}
+use Rattle.regions.proofs.Tiles.Placing.{remainder_total, remainder_positive, remainder_unmoved, Replaces, filler_replaced, filler_push, region_taken}
+use Rattle.regions.proofs.LongRuns.RunLaws.{frees, Releases, ordinary_released, run_released, run_made}
+use Rattle.regions.proofs.Tiles.TileLaws.{Forwards, object_forwarded}
+use Rattle.regions.proofs.Words.ObjectWords.{words_of}
+use Rattle.regions.proofs.Cards.FirstTiles.{entries_added, entries_same, entries_fewer, entries_cut, if_between, if_below, if_above}
+
+pub sound_changed : (size shift lowest low : ℕ) (entries new : Entries) (words words' : List ℕ) (rows rows' : List Row) (t t' : Table) → IsSound size shift lowest entries words rows → table_of size words rows ≡ t
+    → IsWrittenTable size words' rows' t' → length t'.regions ≡ length t.regions → new.card_words ≡ entries.card_words → length new.starts ≡ length entries.starts
+    → AreUsedBelow low rows' → (AreEntries t entries → AreEntries t' new) → IsSound size shift low new words' rows'
+sound_changed size shift lowest low entries new words words' rows rows' t t' s e w count len each used right =
+    let before : length t.regions ≡ length rows = ap (λ (u : Table). length u.regions) (sym e) ∙ length-regions_of (sizes_in words) size rows words in
+    let after : length t'.regions ≡ length rows' = ap (λ (u : Table). length u.regions) (sym w.table_is) ∙ length-regions_of (sizes_in words') size rows' words' in
+    let same : length words' ≡ length words = w.is_table.covers ∙ ap (λ (n : ℕ). n * size) (sym after ∙ count ∙ before) ∙ sym s.table.covers in
+    record {
+      table = w.is_table;
+      power = s.power;
+      narrow = s.narrow;
+      used_below = used;
+      whole_cards = rw len s.whole_cards;
+      each_card = rw (each, len) (same ∙ s.each_card);
+      first_tiles = subst (λ (u : Table). AreEntries u new) (sym w.table_is) (right (subst (λ (u : Table). AreEntries u entries) e s.first_tiles));
+    }
+
+-- no region of a new table has a tile
+pub free_entries : (count size : ℕ) (entries : Entries) → AreEntries (free_table count size) entries
+unfolding free_table tile_in region_at
+free_entries count size entries a c u h low high = absurd (let z : None ≡ Some u = sym (none (a / size)) ∙ h in cc)
+  where
+    none : (k : ℕ) → region_tile (get_or (replicate count Free) k Free) (a % size) ≡ None
+    none k = ap (λ (r : Region). region_tile r (a % size)) (frees count k)
+
+pub new_size : (name p d : ℕ) → tile_size (Object (new_object name p d)) ≡ 2 + p + d
+new_size name p d = omega (arith, length-replicate {A = Option ℕ} p None, length-replicate {A = ℕ} d 0)
+
+-- the entries of a filler, by other names of its place and size
+pub filler_entries : (size shift lowest : ℕ) (entries : Entries) (words : List ℕ) (rows : List Row) (t : Table) (x n at m c : ℕ) → IsSound size shift lowest entries words rows → table_of size words rows ≡ t
+    → tile_in t x ≡ Some (Filler n) → at ≡ x → m ≡ n → at ≤ c * entries.card_words → c * entries.card_words < at + m
+    → get_or entries.starts c 0 ≡ entry_of entries.card_words at (Filler m) (c * entries.card_words)
+filler_entries size shift lowest entries words rows t x n at m c s e was there long low high =
+    s.first_tiles at c (Filler m) (ap (λ (u : Table). tile_in u at) e ∙ ap (tile_in t) there ∙ was ∙ ap (λ (k : ℕ). Some (Filler k)) (sym long)) low high
+
+-- what was written for a tile, by another name of its place and size
+pub filler_written : (new old : List ℕ) (cw at x n m : ℕ) → at ≡ x → n ≡ m
+    → ((c : ℕ) → get_or new c 0 ≡ (if is_between at (at + n) (c * cw) then entry_of cw at (Filler n) (c * cw) else get_or old c 0))
+    → (c : ℕ) → get_or new c 0 ≡ (if is_between x (x + n) (c * cw) then entry_of cw x (Filler m) (c * cw) else get_or old c 0)
+filler_written new old cw at x n m e f h c =
+    h c ∙ ap (λ (b : ℕ). if is_between b (b + n) (c * cw) then entry_of cw b (Filler n) (c * cw) else get_or old c 0) e
+    ∙ ap (λ (k : ℕ). if is_between x (x + n) (c * cw) then entry_of cw x (Filler k) (c * cw) else get_or old c 0) f
+
+pub object_written : (new old : List ℕ) (cw at x n : ℕ) → at ≡ x
+    → ((c : ℕ) → get_or new c 0 ≡ (if is_between at (at + n) (c * cw) then at else get_or old c 0))
+    → (c : ℕ) → get_or new c 0 ≡ (if is_between x (x + n) (c * cw) then x else get_or old c 0)
+object_written new old cw at x n e h c = h c ∙ ap (λ (b : ℕ). if is_between b (b + n) (c * cw) then b else get_or old c 0) e
+
+-- ---- an object is written
+tile_of : (t : Table) (a : ℕ) (s : Stored) → object_at t a ≡ Some s → tile_in t a ≡ Some (Object s)
+unfolding object_at
+tile_of t a s h = object_tile (tile_in t a) s h
+
+object_entries : (t t' : Table) (entries : Entries) (x : ℕ) (s s' : Stored) → WritesObject t t' x s s' → tile_size (Object s') ≡ tile_size (Object s) → AreEntries t entries → AreEntries t' entries
+object_entries t t' entries x s s' w size e = entries_same t t' entries x (Object s) (Object s') (tile_of t x s w.was) (tile_of t' x s' w.is) w.others size (λ n. refl) e
+
+pointer_object : (t : Table) (x i : ℕ) → i < length (pointers_at t x) → (s : Stored) × (object_at t x ≡ Some s)
+unfolding pointers_at
+pointer_object t x i h = go (object_at t x) refl h
+  where
+    go : (o : Option Stored) → object_at t x ≡ o → i < length (object_pointers o) → (s : Stored) × (object_at t x ≡ Some s)
+    go None e b = absurd (omega arith)
+    go (Some s) e b = (s, e)
+
+value_object : (t : Table) (x i : ℕ) → i < length (values_at t x) → (s : Stored) × (object_at t x ≡ Some s)
+unfolding values_at
+value_object t x i h = go (object_at t x) refl h
+  where
+    go : (o : Option Stored) → object_at t x ≡ o → i < length (object_values o) → (s : Stored) × (object_at t x ≡ Some s)
+    go None e b = absurd (omega arith)
+    go (Some s) e b = (s, e)
+
+module _ (size shift lowest : ℕ) (entries : Entries) (words : List ℕ) (rows : List Row) (t : Table) (s : IsSound size shift lowest entries words rows) (e : table_of size words rows ≡ t) where
+  shaped : IsShaped t
+  shaped = shaped_of size words rows t s.table e
+
+  pub pointer_sound : (words' : List ℕ) (x i : ℕ) (v : Option ℕ) → i < length (pointers_at t x) → IsWrittenTable size words' rows (set_pointer t x i v) → IsSound size shift lowest entries words' rows
+  pointer_sound words' x i v h w =
+      let o = pointer_object t x i h in
+      let put = pointer_put t x i v o.0 shaped.positive o.1 in
+      sound_changed size shift lowest lowest entries entries words words' rows rows t (set_pointer t x i v) s e w put.count refl refl s.used_below (object_entries t (set_pointer t x i v) entries x o.0 _ put (ap (λ n. 2 + n + length o.0.values) (length-set o.0.pointers i v)))
+
+  pub value_sound : (words' : List ℕ) (x i v : ℕ) → i < length (values_at t x) → IsWrittenTable size words' rows (set_value t x i v) → IsSound size shift lowest entries words' rows
+  value_sound words' x i v h w =
+      let o = value_object t x i h in
+      let put = value_put t x i v o.0 shaped.positive o.1 in
+      sound_changed size shift lowest lowest entries entries words words' rows rows t (set_value t x i v) s e w put.count refl refl s.used_below (object_entries t (set_value t x i v) entries x o.0 _ put (ap (λ n. 2 + length o.0.pointers + n) (length-set o.0.values i v)))
+
+  pub forward_sound : (words' : List ℕ) (t' : Table) (a to n : ℕ) (x : Stored) → Forwards t t' a to n → tile_in t a ≡ Some (Object x) → tile_size (Object x) ≡ n → IsWrittenTable size words' rows t' → IsSound size shift lowest entries words' rows
+  forward_sound words' t' a to n x f was long w =
+      sound_changed size shift lowest lowest entries entries words words' rows rows t t' s e w f.count refl refl s.used_below (entries_same t t' entries a (Object x) (Forwarded to n) was f.is f.others (sym long) (λ m. refl))
+
+  -- a region is taken, or regions are released
+  pub fewer_sound : (words' : List ℕ) (rows' : List Row) (low : ℕ) (t' : Table) → length t'.regions ≡ length t.regions → ((y : ℕ) (u : Tile) → tile_in t' y ≡ Some u → tile_in t y ≡ Some u) → AreUsedBelow low rows' → IsWrittenTable size words' rows' t' → IsSound size shift low entries words' rows'
+  fewer_sound words' rows' low t' count fewer used w =
+      sound_changed size shift lowest low entries entries words words' rows rows' t t' s e w count refl refl used (entries_fewer t t' entries fewer)
+
+  -- a tile more
+  pub added_sound : (new : Entries) (words' : List ℕ) (rows' : List Row) (low : ℕ) (t' : Table) (a n : ℕ) (tile : Tile) → length t'.regions ≡ length t.regions → tile_in t' a ≡ Some tile → ((y : ℕ) → y ≢ a → tile_in t' y ≡ tile_in t y)
+      → n ≡ tile_size tile → new.card_words ≡ entries.card_words → length new.starts ≡ length entries.starts
+      → ((c : ℕ) → get_or new.starts c 0 ≡ (if is_between a (a + n) (c * entries.card_words) then entry_of entries.card_words a tile (c * entries.card_words) else get_or entries.starts c 0))
+      → AreUsedBelow low rows' → IsWrittenTable size words' rows' t' → IsSound size shift low new words' rows'
+  added_sound new words' rows' low t' a n tile count is others long len each written used w =
+      let cw : ℕ = entries.card_words in
+      sound_changed size shift lowest low entries new words words' rows rows' t t' s e w count len each used (entries_added t t' entries new a tile (shaped_of size words' rows' t' w.is_table w.table_is) len is others
+      (λ c low high. written c ∙ if_between a (a + n) (c * cw) (entry_of cw a tile (c * cw)) (get_or entries.starts c 0) low (omega arith))
+      (λ c apart. written c ∙ elim apart [
+        | inl b ↦ if_below a (a + n) (c * cw) (entry_of cw a tile (c * cw)) (get_or entries.starts c 0) b
+        | inr b ↦ if_above a (a + n) (c * cw) (entry_of cw a tile (c * cw)) (get_or entries.starts c 0) (omega arith)
+      ]))
+
+  -- a tile cut off a filler's front
+  pub cut_sound : (mid new : Entries) (words' : List ℕ) (t' : Table) (x n r : ℕ) (tile : Tile) → Replaces t t' x n (tile ∷ remainder r) → tile_in t x ≡ Some (Filler n) → 0 < tile_size tile → tile_size tile + r ≡ n
+      → mid.card_words ≡ entries.card_words → new.card_words ≡ mid.card_words → length mid.starts ≡ length entries.starts → length new.starts ≡ length mid.starts
+      → ((c : ℕ) → get_or mid.starts c 0 ≡ (if is_between x (x + tile_size tile) (c * entries.card_words) then entry_of entries.card_words x tile (c * entries.card_words) else get_or entries.starts c 0))
+      → ((c : ℕ) → get_or new.starts c 0 ≡ (if is_between (x + tile_size tile) (x + n) (c * mid.card_words) && (c * mid.card_words == last_card mid.card_words (x + n)) then x + tile_size tile else get_or mid.starts c 0))
+      → IsWrittenTable size words' rows t' → IsSound size shift lowest new words' rows
+  cut_sound mid new words' t' x n r tile cut was some sum len len2 each each2 first second w =
+      let cw : ℕ = entries.card_words in
+      let end : ℕ = x + tile_size tile in
+      let two : (c : ℕ) → get_or new.starts c 0 ≡ (if is_between end (x + n) (c * cw) && (c * cw == last_card cw (x + n)) then end else get_or mid.starts c 0) = rw (← len) second in
+      sound_changed size shift lowest lowest entries new words words' rows rows t t' s e w cut.count (len2 ∙ len) (each2 ∙ each) s.used_below
+      (entries_cut t t' entries new x n r tile (shaped_of size words' rows t' w.is_table w.table_is) (len2 ∙ len) was sum (cut_first cut some sum) (cut_rest cut some sum) cut.others
+      (λ c low high. two c ∙ both_below end (x + n) (c * cw) (c * cw == last_card cw (x + n)) end (get_or mid.starts c 0) high ∙ first c ∙ if_between x end (c * cw) (entry_of cw x tile (c * cw)) (get_or entries.starts c 0) low high)
+      (λ c low high. two c ∙ both_inside end (x + n) (c * cw) (c * cw == last_card cw (x + n)) end (get_or mid.starts c 0) low high ∙ ap (λ (m : ℕ). if c * cw == last_card cw (x + n) then end else m) (first c ∙ if_above x end (c * cw) (entry_of cw x tile (c * cw)) (get_or entries.starts c 0) low))
+      (λ c apart. two c ∙ elim apart [
+        | inl b ↦ both_below end (x + n) (c * cw) (c * cw == last_card cw (x + n)) end (get_or mid.starts c 0) (omega arith) ∙ first c ∙ if_below x end (c * cw) (entry_of cw x tile (c * cw)) (get_or entries.starts c 0) b
+        | inr b ↦ both_above end (x + n) (c * cw) (c * cw == last_card cw (x + n)) end (get_or mid.starts c 0) b ∙ first c ∙ if_above x end (c * cw) (entry_of cw x tile (c * cw)) (get_or entries.starts c 0) (omega arith)
+      ]))
+    where
+      at_zero : x + 0 ≡ x
+      at_zero = omega arith
+
+      cut_first : Replaces t t' x n (tile ∷ remainder r) → 0 < tile_size tile → tile_size tile + r ≡ n → tile_in t' x ≡ Some tile
+      cut_first c z k = ap (tile_in t') (sym at_zero) ∙ c.within 0 (omega arith)
+
+      cut_rest : Replaces t t' x n (tile ∷ remainder r) → 0 < tile_size tile → tile_size tile + r ≡ n → 0 < r → tile_in t' (x + tile_size tile) ≡ Some (Filler r)
+      cut_rest c z k p = c.within (tile_size tile) (omega arith) ∙ behind_first (tile_size tile) r refl z p
+        where
+          behind_first : (m r : ℕ) → tile_size tile ≡ m → 0 < m → 0 < r → tile_at m (tile ∷ remainder r) ≡ Some (Filler r)
+          behind_first zero r q z p = absurd (omega arith)
+          behind_first (suc m) zero q z p = absurd (omega arith)
+          behind_first (suc m) (suc r) q z p =
+              let none : suc m - suc m ≡ 0 = omega arith in
+              rw (q, le-leb (suc m) (suc m) (omega arith), none) refl
+
+      both_below : (from to w : ℕ) (b : Bool) (a d : ℕ) → w < from → (if is_between from to w && b then a else d) ≡ d
+      both_below from to w b a d h = rw (lt-leb from w h) refl
+
+      both_inside : (from to w : ℕ) (b : Bool) (a d : ℕ) → from ≤ w → w < to → (if is_between from to w && b then a else d) ≡ (if b then a else d)
+      both_inside from to w b a d l h = rw (le-leb from w l, lt-ltb w to h) refl
+
+      both_above : (from to w : ℕ) (b : Bool) (a d : ℕ) → to ≤ w → (if is_between from to w && b then a else d) ≡ d
+      both_above from to w b a d h = go (leb from w)
+        where
+          none : ltb w to ≡ false
+          none = le-ltb w to h
+
+          go : (k : Bool) → (if (k && ltb w to) && b then a else d) ≡ d
+          go true = rw none refl
+          go false = refl
+
+  pub taken_sound : (words' : List ℕ) (rows' : List Row) (low k : ℕ) → first_free t ≡ Some k → AreUsedBelow low rows' → IsWrittenTable size words' rows' (taken t (first_free t)) → IsSound size shift low entries words' rows'
+  taken_sound words' rows' low k first used w =
+      let taken_is = region_taken t k first in
+      fewer_sound words' rows' low (taken t (Some k)) taken_is.count (λ y u h. sym (taken_is.others y) ∙ h) used (subst (λ (o : Option ℕ). IsWrittenTable size words' rows' (taken t o)) first w)
+
+  pub release_sound : (words' : List ℕ) (rows' : List Row) (low k : ℕ) → k < length t.regions → IsReleasable (kind_of t k) → AreUsedBelow low rows' → IsWrittenTable size words' rows' (released t k) → IsSound size shift low entries words' rows'
+  release_sound words' rows' low k known can used w = go (nth_region t k) refl
+    where
+      gone : (m : ℕ) → Releases t (released t k) k m → IsSound size shift low entries words' rows'
+      gone m x = fewer_sound words' rows' low (released t k) x.count (λ y u h. elim (cases_lt (y / t.words_per_region) k) [
+        | inl b ↦ sym (x.others y (inl b)) ∙ h
+        | inr b ↦ elim (cases_lt (y / t.words_per_region) (k + m)) [
+          | inl f ↦ absurd (let z : None ≡ Some u = sym (x.gone y b f) ∙ h in cc)
+          | inr f ↦ sym (x.others y (inr f)) ∙ h
+        ]
+      ]) used w
+
+      go : (r : Region) → nth_region t k ≡ r → IsSound size shift low entries words' rows'
+      go Free e = absurd (subst IsReleasable (kind_at t k Free e) can)
+      go (Ordinary ts) e = gone 1 (ordinary_released t k known (kind_at t k (Ordinary ts) e))
+      go (First o) e = gone (run_length t k) (run_released t k o known e)
+      go (Rest n) e = absurd (subst IsReleasable (kind_at t k (Rest n) e) can)
+
+  pub push_sound : (new : Entries) (words' : List ℕ) (rows' : List Row) (low k at n : ℕ) (tile : Tile) → k < length t.regions → kind_of t k ≡ kinds.Ordinary → 0 < tile_size tile → used_of t k + tile_size tile ≤ t.words_per_region → EachForwarded (λ _. ⊥) (tile ∷ [])
+      → at ≡ top_of t k → n ≡ tile_size tile → new.card_words ≡ entries.card_words → length new.starts ≡ length entries.starts
+      → ((c : ℕ) → get_or new.starts c 0 ≡ (if is_between at (at + n) (c * entries.card_words) then entry_of entries.card_words at tile (c * entries.card_words) else get_or entries.starts c 0))
+      → AreUsedBelow low rows' → IsWrittenTable size words' rows' (push_tile t k tile) → IsSound size shift low new words' rows'
+  push_sound new words' rows' low k at n tile known ordinary some room unmoved there long len each written used w =
+      let push = filler_push t k tile shaped.positive shaped.fitting known ordinary some room unmoved in
+      added_sound new words' rows' low (push_tile t k tile) at n tile push.count (ap (tile_in (push_tile t k tile)) there ∙ push.is) (λ y apart. push.others y (λ z. apart (z ∙ sym there))) long len each written used w
+
+  pub run_sound : (new : Entries) (words' : List ℕ) (rows' : List Row) (low k m at n : ℕ) (o : Stored) → 0 < m → first_run is_free m t.regions ≡ Some k → at ≡ k * t.words_per_region → n ≡ tile_size (Object o)
+      → new.card_words ≡ entries.card_words → length new.starts ≡ length entries.starts
+      → ((c : ℕ) → get_or new.starts c 0 ≡ (if is_between at (at + n) (c * entries.card_words) then at else get_or entries.starts c 0))
+      → AreUsedBelow low rows' → IsWrittenTable size words' rows' (with_regions t k m (run_regions t.words_per_region o m)) → IsSound size shift low new words' rows'
+  run_sound new words' rows' low k m at n o some first there long len each written used w =
+      let t' : Table = with_regions t k m (run_regions t.words_per_region o m) in
+      let made = run_made t k m o shaped.positive some first in
+      let here : tile_in t' (k * t.words_per_region) ≡ Some (Object o) = tile_of t' (k * t.words_per_region) o (first_object t' k o shaped.positive made.first) in
+      added_sound new words' rows' low t' at n (Object o) made.count (ap (tile_in t') there ∙ here) (λ y apart. made.others y (λ z. apart (z ∙ sym there))) long len each written used w
+
+  pub front_sound : (mid new : Entries) (words' : List ℕ) (x n r at b end : ℕ) (tile : Tile) → tile_in t x ≡ Some (Filler n) → 0 < tile_size tile → tile_size tile + r ≡ n → EachForwarded (λ _. ⊥) (tile ∷ [])
+      → b ≡ tile_size tile → at ≡ x + tile_size tile → end ≡ x + n
+      → mid.card_words ≡ entries.card_words → new.card_words ≡ mid.card_words → length mid.starts ≡ length entries.starts → length new.starts ≡ length mid.starts
+      → ((c : ℕ) → get_or mid.starts c 0 ≡ (if is_between x (x + b) (c * entries.card_words) then entry_of entries.card_words x tile (c * entries.card_words) else get_or entries.starts c 0))
+      → ((c : ℕ) → get_or new.starts c 0 ≡ (if is_between at end (c * mid.card_words) && (c * mid.card_words == last_card mid.card_words end) then at else get_or mid.starts c 0))
+      → IsWrittenTable size words' rows (replace_tile t x (tile ∷ remainder r)) → IsSound size shift lowest new words' rows
+  front_sound mid new words' x n r at b end tile was some sum unmoved b_is at_is end_is len len2 each each2 first second w =
+      let total : total_size (tile ∷ remainder r) ≡ n = ap (λ (m : ℕ). tile_size tile + m) (remainder_total r) ∙ sum in
+      let cut = filler_replaced t x n (tile ∷ remainder r) shaped.positive shaped.fitting was (omega arith) (some, remainder_positive r) total (joined_unmoved tile r unmoved) in
+      cut_sound mid new words' (replace_tile t x (tile ∷ remainder r)) x n r tile cut was some sum len len2 each each2 (rw b_is at first) (rw (at_is, end_is) at second) w
+    where
+      joined_unmoved : (u : Tile) (r : ℕ) → EachForwarded (λ _. ⊥) (u ∷ []) → EachForwarded (λ _. ⊥) (u ∷ remainder r)
+      joined_unmoved (Object o) r h = remainder_unmoved r
+      joined_unmoved (Filler m) r h = remainder_unmoved r
+      joined_unmoved (Forwarded to m) r h = absurd h.0
+
+  pub forwarded_sound : (words' : List ℕ) (a to : ℕ) (o : Stored) → object_at t a ≡ Some o → IsOrdinary (region_at t a) → IsWrittenTable size words' rows (replace_tile t a (Forwarded to (object_words t a) ∷ [])) → IsSound size shift lowest entries words' rows
+  forwarded_sound words' a to o there ordinary w =
+      let is = tile_of t a o there in
+      let long = words_of t a o there in
+      let f = object_forwarded t a to o shaped.positive ordinary is in
+      forward_sound words' (replace_tile t a (Forwarded to (tile_size (Object o)) ∷ [])) a to (tile_size (Object o)) o f is refl (rw long at w)

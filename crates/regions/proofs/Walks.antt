@@ -1,0 +1,4 @@
+pub mod WalkLaws
+pub mod WalkMade
+pub mod WalkFrom
+pub mod WalkTiles

@@ -1,0 +1,12 @@
+pub mod Parse
+pub mod Places
+pub mod Fields
+pub mod Sizes
+pub mod Written
+pub mod Access
+pub mod Puts
+pub mod ObjectWords
+pub mod Values
+pub mod Copies
+pub mod FieldAccess
+pub mod Divides

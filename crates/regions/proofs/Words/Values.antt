@@ -1,0 +1,102 @@
+-- Reads and writes of an object's data.
+use Rattle.std.proofs.Common.{◌≡◌, ℕ, suc, ◌+◌, ◌<◌, ◌≤◌, Option, Some, None, List, [], ◌∷◌, length, take, drop, get_or, set, refl, sym, ◌∙◌, ap, arith, inl, inr}
+use Rattle.std.proofs.lemmas.List.{length-set, drop-drop, drop-set-add, take-set-le, get_or-drop, get_or-take}
+use Rattle.std.specs.List.{slice_get}
+use Rattle.std.proofs.lemmas.Option.{slice_get-get_or}
+use Rattle.heap_words.specs.Headers.{header_of}
+use Rattle.heap_model.specs.Heap.{Stored}
+use Rattle.regions.specs.Tiles.{Object, tile_size, stored_of}
+use Rattle.regions.specs.Table.{Table, object_at, values_at, object_values, set_value, put_object}
+use Rattle.regions.specs.Rows.{sizes_in, table_of, IsTable}
+use Rattle.heap_words.specs.Contents.{field_count}
+use Rattle.regions.specs.declared.row.Row.{Row}
+use Rattle.regions.proofs.Words.Places.{IsIn, object_place}
+use Rattle.regions.proofs.Words.Fields.{Turns, take_set}
+use Rattle.regions.proofs.Words.Written.{write_ordinary}
+use Rattle.regions.proofs.LongRuns.RunWritten.{write_first}
+use Rattle.regions.proofs.Tiles.Targets.{IsWrittenTable}
+use Rattle.regions.proofs.Tiles.Kept.{put_kept}
+use Rattle.regions.proofs.Words.ObjectWords.{there}
+
+pub record HasValue (t : Table) (x i : ℕ) : Type 0 where
+  pub object : Stored
+  pub object_is : object_at t x ≡ Some object
+  pub within : i < length object.values
+
+has_value : (t : Table) (x i : ℕ) → i < length (values_at t x) → HasValue t x i
+unfolding values_at
+has_value t x i h = go (object_at t x) refl h
+  where
+    go : (o : Option Stored) → object_at t x ≡ o → i < length (object_values o) → HasValue t x i
+    go None e l = absurd (omega arith)
+    go (Some s) e l = record { object = s; object_is = e; within = l }
+
+value_word_at : (words : List ℕ) (x i : ℕ) (s : Stored) → IsIn words x s → i < length s.values → slice_get s.values i ≡ Some (get_or words (x + 2 + (length s.pointers + length s.weaks) + i) 0)
+value_word_at words x i s g h =
+    let p : ℕ = length s.pointers in
+    let d : ℕ = length s.values in
+    let weak : ℕ = length s.weaks in
+    let rest : List ℕ = drop (suc (p + weak)) (drop (x + 1) words) in
+    let are : s.values ≡ take d rest = ap (λ (r : Stored). r.values) g.stored_is in
+    let at : rest ≡ drop (x + 1 + suc (p + weak)) words = drop-drop (suc (p + weak)) (x + 1) words in
+    let e1 = slice_get-get_or s.values i 0 h in
+    let e2 : get_or s.values i 0 ≡ get_or (take d rest) i 0 = ap (λ (vs : List ℕ). get_or vs i 0) are in
+    let e3 : get_or (take d rest) i 0 ≡ get_or rest i 0 = get_or-take d rest i 0 h in
+    let e4 : get_or rest i 0 ≡ get_or words (x + 1 + suc (p + weak) + i) 0 = ap (λ (vs : List ℕ). get_or vs i 0) at ∙ get_or-drop (x + 1 + suc (p + weak)) words i 0 in
+    let place : x + 1 + suc (p + weak) + i ≡ x + 2 + (p + weak) + i = omega arith in
+    e1 ∙ ap Some (e2 ∙ e3 ∙ e4 ∙ ap (λ a. get_or words a 0) place)
+
+pub record IsValueRead (words : List ℕ) (t : Table) (x i : ℕ) : Type 0 where
+  pub at : x < length words
+  pub in_words : x + 2 + field_count (header_of (get_or words x 0)) + i < length words
+  pub value : slice_get (values_at t x) i ≡ Some (get_or words (x + 2 + field_count (header_of (get_or words x 0)) + i) 0)
+
+pub value_read : (size : ℕ) (words : List ℕ) (rows : List Row) (t : Table) (x i : ℕ) → IsTable size words rows → table_of size words rows ≡ t → i < length (values_at t x) → IsValueRead words t x i
+unfolding values_at
+value_read size words rows t x i g e h =
+    let p = has_value t x i h in
+    let o = there size words rows t x p.object g e p.object_is in
+    let count : field_count (header_of (get_or words x 0)) ≡ length p.object.pointers + length p.object.weaks = ap field_count o.is_in.header_is in
+    record {
+      at = omega (arith, o.is_in.fits);
+      in_words = omega (arith, o.is_in.fits, p.within);
+      value = rw (p.object_is, count) (value_word_at words x i p.object o.is_in p.within);
+    }
+
+abbrev pub with_value : Stored → ℕ → ℕ → Stored
+with_value s i v = record s { values = set s.values i v }
+
+stored_of-set_value : (p weak d : ℕ) (body : List ℕ) (i v : ℕ) → 1 + p + weak + d ≤ length body → stored_of p weak d (set body (suc (p + weak) + i) v) ≡ with_value (stored_of p weak d body) i v
+stored_of-set_value p weak d [] i v l = absurd (omega arith)
+stored_of-set_value p weak d (w ∷ ws) i v l =
+    let at : suc (p + weak) + i ≡ suc (p + weak + i) = omega arith in
+    let from : p + weak + i ≡ p + (weak + i) = omega arith in
+    let a : take p (set ws (p + weak + i) v) ≡ take p ws = take-set-le p ws (p + weak + i) v (omega arith) in
+    let b : take weak (drop p (set ws (p + weak + i) v)) ≡ take weak (drop p ws) = ap (λ n. take weak (drop p (set ws n v))) from ∙ ap (take weak) (drop-set-add p ws (weak + i) v) ∙ take-set-le weak (drop p ws) (weak + i) v (omega arith) in
+    let e : take d (drop (p + weak) (set ws (p + weak + i) v)) ≡ set (take d (drop (p + weak) ws)) i v = ap (take d) (drop-set-add (p + weak) ws i v) ∙ take_set d (drop (p + weak) ws) i v in
+    rw (at, a, b, e) refl
+
+turns_value : (s : Stored) (i v : ℕ) → Turns s (suc (length s.pointers + length s.weaks) + i) v (with_value s i v)
+turns_value s i v = λ body l e. stored_of-set_value _ _ _ body i v l ∙ ap (λ (r : Stored). with_value r i v) (sym e)
+
+pub set_value-is : (t : Table) (x i v : ℕ) (s : Stored) → object_at t x ≡ Some s → set_value t x i v ≡ put_object t x (with_value s i v)
+unfolding set_value
+set_value-is t x i v s e = rw e refl
+
+pub value_written : (size : ℕ) (words : List ℕ) (rows : List Row) (t : Table) (x i v : ℕ) → IsTable size words rows → table_of size words rows ≡ t → i < length (values_at t x) → IsWrittenTable size (set words (x + 2 + field_count (header_of (get_or words x 0)) + i) v) rows (set_value t x i v)
+value_written size words rows t x i v g e h =
+    let p = has_value t x i h in
+    let o = there size words rows t x p.object g e p.object_is in
+    let u : Table = table_of size words rows in
+    let s' : Stored = with_value p.object i v in
+    let j : ℕ = suc (length p.object.pointers + length p.object.weaks) + i in
+    let count : field_count (header_of (get_or words x 0)) ≡ length p.object.pointers + length p.object.weaks = ap field_count o.is_in.header_is in
+    let at : object_at u x ≡ Some p.object = ap (λ (u : Table). object_at u x) e ∙ p.object_is in
+    let place : x + 2 + field_count (header_of (get_or words x 0)) + i ≡ x + suc j = omega arith in
+    let is : put_object u x s' ≡ set_value t x i v = rw e (sym (set_value-is t x i v p.object p.object_is)) in
+    let same : tile_size (Object s') ≡ tile_size (Object p.object) = simp length-set in
+    let kept = put_kept u x p.object s' g.region_size.0 at same g.targets in
+    elim (object_place (sizes_in words) size words rows x p.object at) [
+      | inl q ↦ rw (place, ← is) (write_ordinary size words rows x j v p.object s' g q (omega (arith, p.within)) (turns_value p.object i v) kept)
+      | inr q ↦ rw (place, ← is) (write_first size words rows x j v p.object s' g q (omega (arith, p.within)) (turns_value p.object i v) kept)
+    ]

@@ -1,0 +1,39 @@
+-- The entries that say where the tile of a card's first word starts.
+use Rattle.std.specs.Prelude.{◌≡◌, ℕ, ◌+◌, ◌-◌, ◌*◌, ◌/◌, ◌^◌, ◌<◌, ◌≤◌, Some, List, slice_index, nat_le, ◌==◌, if◌then◌else◌}
+use Rattle.regions.specs.Tiles.{Tile, Object, Filler, Forwarded, tile_size}
+use Rattle.regions.specs.Table.{Table, tile_in}
+
+-- the first word of the last card that begins below an end
+abbrev pub last_card : ℕ → ℕ → ℕ
+last_card card_words end = (end - 1) / card_words * card_words
+
+-- the entry of the card that begins at word w of the tile that starts at a: in a filler the last card that begins there, whose
+-- entry is the filler's start
+abbrev pub entry_of : ℕ → ℕ → Tile → ℕ → ℕ
+entry_of card_words a (Object s) w = a
+entry_of card_words a (Filler n) w = if w == last_card card_words (a + n) then a else last_card card_words (a + n)
+entry_of card_words a (Forwarded to n) w = a
+
+-- an entry for each card, and how many words a card has
+pub record Entries : Type 0 where
+  pub card_words : ℕ
+  pub starts : List ℕ
+
+-- so many words are a power of two, fewer than a region can have
+pub record IsPower (size shift : ℕ) : Type 0 where
+  pub is : size ≡ 2 ^ shift
+  pub narrow : shift < 12
+
+-- each card that begins in a tile has its entry
+abbrev pub AreEntries : Table → Entries → Type 0
+AreEntries t entries = (a c : ℕ) (tile : Tile) → tile_in t a ≡ Some tile
+    → a ≤ c * entries.card_words → c * entries.card_words < a + tile_size tile
+    → slice_index entries.starts c ≡ entry_of entries.card_words a tile (c * entries.card_words)
+
+-- what an entry leads to: itself, or where a later card's entry says
+abbrev pub led_to : ℕ → List ℕ → ℕ → ℕ → ℕ
+led_to card_words starts w entry = if nat_le entry w then entry else slice_index starts (entry / card_words)
+
+-- where the entries say that the tile of a card's first word starts
+abbrev pub start_in : ℕ → List ℕ → ℕ → ℕ
+start_in card_words starts c = led_to card_words starts (c * card_words) (slice_index starts c)

@@ -1,0 +1,282 @@
+-- What is read of an event's line is spelled so.
+use Rattle.std.proofs.Common.{◌≡◌, ℕ, ◌<◌, ◌≤◌, Bool, true, false, cond, eqb, List, [], ◌∷◌, ◌++◌, length, Option, Some, None, Result, Ok, Err, refl, sym, ap, subst, ◌∙◌, append_assoc, arith, inl, inr}
+use Rattle.std.specs.Prelude.{nat_lt, codes, IfOk}
+use Rattle.std.specs.Fmt.{decimal}
+use Rattle.std.specs.Str.{bytes_eq}
+use Rattle.std.proofs.lemmas.Bool.{eqb-true}
+use Rattle.std.proofs.lemmas.Slice.Eq.{bytes_eq-Decides}
+use Rattle.heap_words.specs.declared.config.Config.{Config}
+use Rattle.object_graph.specs.Actors.{IsStepOf, IsEvent}
+use Rattle.object_graph.specs.declared.step.Action.{Action}
+use Rattle.object_graph.specs.declared.step.Action.TheVariants as actions
+use Rattle.object_graph.specs.declared.step.CollectorStep.{CollectorStep}
+use Rattle.object_graph.specs.declared.step.CollectorStep.TheVariants as collector
+use Rattle.object_graph.specs.declared.step.Actor.{Actor}
+use Rattle.object_graph.specs.declared.step.Actor.TheVariants as actors
+use Rattle.object_graph.specs.declared.step.Step.{Step}
+use Rattle.object_graph.specs.declared.step.Step.TheVariants as steps
+use Rattle.object_graph.specs.declared.step.Reply.{Reply}
+use Rattle.object_graph.specs.declared.step.Reply.TheVariants as replies
+use Rattle.object_graph.specs.declared.step.Event.{Event}
+use Rattle.script_text.specs.declared.fault.Kind.{Kind}
+use Rattle.script_text.specs.declared.fault.Kind.TheVariants as kinds
+use Rattle.script_text.specs.Reading.{number_of, large, action_of, collection_of}
+use Rattle.script_text.specs.Fits.{StepFits, CollectionFits, EventFits}
+use Rattle.script_text.specs.Spelling.{action_words, collection_words, spaced}
+use Rattle.script_text.specs.Records.{actor_word, body_words, reply_words}
+use Rattle.script_text.specs.EventWords.{background_of, marker_step, refiner_step, taken_of, step_part, reply_part, reply_of, answer_of}
+use Rattle.script_text.specs.Lines.{◌>>=◌, or_fault, words_of, mutator_of}
+use Rattle.script_text.specs.Events.{foreground_of, actor_of, counted_of, event_of, event_line_of}
+use Rattle.script_text.proofs.Numbers.{number_of_is}
+use Rattle.script_text.proofs.Actions.{option_bind, action_is}
+use Rattle.script_text.proofs.Collections.{collection_is}
+use Rattle.script_text.proofs.StepsRead.{result_bind, or_fault_is, either, mutator_is, joined, too_long}
+use Rattle.script_text.proofs.ReplyLaws.{pick, reply_is}
+use Rattle.script_text.proofs.Parting.{parted}
+
+-- the words of an event
+abbrev pub event_words : ℕ → Event → List (List ℕ)
+event_words n e = decimal n ∷ actor_word e.actor ∷ (body_words e.step ++ codes "=" ∷ reply_words e.reply)
+
+-- the line of an event, without its line feed
+abbrev pub event_text : ℕ → Event → List ℕ
+event_text n e = spaced (decimal n ∷ actor_word e.actor ∷ spaced (body_words e.step) ∷ codes "=" ∷ spaced (reply_words e.reply) ∷ [])
+
+abbrev pub KnownActor : Config → Actor → Type 0
+KnownActor c (actors.Mutator m) = m < c.mutators
+KnownActor c actors.Collector = Unit {0}
+KnownActor c (actors.Marker i) = i < 8
+KnownActor c (actors.Refiner i) = i < 8
+
+-- an actor, and its word
+record IsActorWord (c : Config) (word : List ℕ) (a : Actor) : Type 0 where
+  spelled : word ≡ actor_word a
+  known : KnownActor c a
+
+actor_some : (a b : Actor) → Some a ≡ Some b → a ≡ b
+actor_some a b e = cc
+
+abbrev named : Actor → Result Actor Kind
+named a = Ok a
+
+actor_ok : (a b : Actor) → named a ≡ named b → a ≡ b
+actor_ok a b e = cc
+
+no_actor : (a : Actor) → None ≡ Some a → ⊥
+no_actor a e = cc
+
+first_byte : (b d : ℕ) (digits rest : List ℕ) → b ≡ d → digits ≡ rest → b ∷ digits ≡ d ∷ rest
+first_byte b d digits rest e f = cc
+
+same_actor : (c : Config) (word : List ℕ) (a b : Actor) → word ≡ actor_word a → KnownActor c a → a ≡ b → IsActorWord c word b
+same_actor c word a b spelled known e = subst (IsActorWord c word) e (record { spelled = spelled; known = known })
+
+background_is : (c : Config) (word : List ℕ) (a : Actor) → background_of word ≡ Some a → IsActorWord c word a
+unfolding background_of
+background_is c [] a e = absurd (no_actor a e)
+background_is c (b ∷ digits) a e =
+    pick (eqb b 109) _ _ a e
+    (λ h f.
+    let read = option_bind (number_of 7 digits) (λ i. Some (actors.Marker i)) a f in
+    let number = number_of_is 7 digits read.0 read.1 in
+    let few = number.1 in
+    same_actor c (b ∷ digits) (actors.Marker read.0) a (first_byte b 109 digits (decimal read.0) (eqb-true b 109 h) number.0) (omega arith) (actor_some (actors.Marker read.0) a read.2))
+    (λ other e1. pick (eqb b 102) _ _ a e1
+    (λ h f.
+    let read = option_bind (number_of 7 digits) (λ i. Some (actors.Refiner i)) a f in
+    let number = number_of_is 7 digits read.0 read.1 in
+    let few = number.1 in
+    same_actor c (b ∷ digits) (actors.Refiner read.0) a (first_byte b 102 digits (decimal read.0) (eqb-true b 102 h) number.0) (omega arith) (actor_some (actors.Refiner read.0) a read.2))
+    (λ other2 e2. absurd (no_actor a e2)))
+
+foreground_is : (c : Config) (word : List ℕ) (o : Option Actor) (a : Actor) → background_of word ≡ o → foreground_of c word o ≡ Ok a → IsActorWord c word a
+unfolding foreground_of
+foreground_is c word (Some b) a is e = subst (IsActorWord c word) (actor_ok b a e) (background_is c word b is)
+foreground_is c word None a is e =
+    let read = result_bind (mutator_of c word) (λ m. Ok (actors.Mutator m)) a e in
+    let mutator = mutator_is c word read.0 read.1 in
+    same_actor c word (actors.Mutator read.0) a mutator.0 mutator.1 (actor_ok (actors.Mutator read.0) a read.2)
+
+actor_is : (c : Config) (word : List ℕ) (a : Actor) → actor_of c word ≡ Ok a → IsActorWord c word a
+unfolding actor_of
+actor_is c word a e =
+    elim (either (bytes_eq word (codes "gc")) (Ok actors.Collector) (foreground_of c word (background_of word)) a e) [
+      | inl h ↦ same_actor c word actors.Collector a ((bytes_eq-Decides word (codes "gc")).0 h.0) tt (actor_ok actors.Collector a h.1)
+      | inr h ↦ foreground_is c word (background_of word) a refl h.1
+    ]
+
+-- a step of its actor, and its words
+record IsTaken (c : Config) (a : Actor) (words : List (List ℕ)) (s : Step) : Type 0 where
+  spelled : words ≡ body_words s
+  owned : IsStepOf c a s
+  fits : StepFits s
+
+step_some : (s t : Step) → Some s ≡ Some t → s ≡ t
+step_some s t e = cc
+
+no_step : (s : Step) → None ≡ Some s → ⊥
+no_step s e = cc
+
+same_step : (c : Config) (a : Actor) (ws : List (List ℕ)) (s t : Step) → ws ≡ body_words s → IsStepOf c a s → StepFits s → Some s ≡ Some t → IsTaken c a ws t
+same_step c a ws s t spelled owned fits e = subst (IsTaken c a ws) (step_some s t e) (record { spelled = spelled; owned = owned; fits = fits })
+
+marked : (c : Config) (i : ℕ) (ws : List (List ℕ)) (k : CollectorStep) (s : Step) → i < 8 → ws ≡ collection_words k → CollectionFits k → marker_step k ≡ Some s → IsTaken c (actors.Marker i) ws s
+unfolding marker_step
+marked c i ws collector.Begin s known spelled fits e = absurd (no_step s e)
+marked c i ws (collector.Mark n) s known spelled fits e = same_step c (actors.Marker i) ws (steps.Collector (collector.Mark n)) s spelled known fits e
+marked c i ws collector.Remark s known spelled fits e = absurd (no_step s e)
+marked c i ws collector.Cleanup s known spelled fits e = absurd (no_step s e)
+marked c i ws (collector.Refine n) s known spelled fits e = absurd (no_step s e)
+marked c i ws (collector.Pause n) s known spelled fits e = absurd (no_step s e)
+
+refined : (c : Config) (i : ℕ) (ws : List (List ℕ)) (k : CollectorStep) (s : Step) → i < 8 → ws ≡ collection_words k → CollectionFits k → refiner_step k ≡ Some s → IsTaken c (actors.Refiner i) ws s
+unfolding refiner_step
+refined c i ws collector.Begin s known spelled fits e = absurd (no_step s e)
+refined c i ws (collector.Mark n) s known spelled fits e = absurd (no_step s e)
+refined c i ws collector.Remark s known spelled fits e = absurd (no_step s e)
+refined c i ws collector.Cleanup s known spelled fits e = absurd (no_step s e)
+refined c i ws (collector.Refine n) s known spelled fits e = same_step c (actors.Refiner i) ws (steps.Collector (collector.Refine n)) s spelled known fits e
+refined c i ws (collector.Pause n) s known spelled fits e = absurd (no_step s e)
+
+taken_is : (c : Config) (a : Actor) (ws : List (List ℕ)) (s : Step) → KnownActor c a → taken_of a ws ≡ Some s → IsTaken c a ws s
+unfolding taken_of
+taken_is c (actors.Mutator m) ws s known e =
+    let read = option_bind (action_of ws) (λ x. Some (steps.Mutator (record { mutator = m; action = x }))) s e in
+    let is = action_is ws read.0 read.1 in
+    same_step c (actors.Mutator m) ws (steps.Mutator (record { mutator = m; action = read.0 })) s is.0 (refl, known) is.1 read.2
+taken_is c actors.Collector ws s known e =
+    let read = option_bind (collection_of ws) (λ k. Some (steps.Collector k)) s e in
+    let is = collection_is ws read.0 read.1 in
+    same_step c actors.Collector ws (steps.Collector read.0) s is.spelled tt is.fits read.2
+taken_is c (actors.Marker i) ws s known e =
+    let read = option_bind (collection_of ws) marker_step s e in
+    let is = collection_is ws read.0 read.1 in
+    marked c i ws read.0 s known is.spelled is.fits read.2
+taken_is c (actors.Refiner i) ws s known e =
+    let read = option_bind (collection_of ws) refiner_step s e in
+    let is = collection_is ws read.0 read.1 in
+    refined c i ws read.0 s known is.spelled is.fits read.2
+
+-- an event, and the words behind its count
+record IsCounted (c : Config) (words : List (List ℕ)) (e : Event) : Type 0 where
+  spelled : words ≡ actor_word e.actor ∷ (body_words e.step ++ codes "=" ∷ reply_words e.reply)
+  owned : IsEvent c e
+  fits : EventFits e
+
+abbrev made : Actor → Step → Reply → Event
+made a s r = record { actor = a; step = s; reply = r }
+
+abbrev found : Event → Result Event Kind
+found x = Ok x
+
+event_ok : (x y : Event) → found x ≡ found y → x ≡ y
+event_ok x y e = cc
+
+onto : (a w : List ℕ) (xs ys : List (List ℕ)) → a ≡ w → xs ≡ ys → a ∷ xs ≡ w ∷ ys
+onto a w xs ys e f = cc
+
+both_parts : (ws step reply body words : List (List ℕ)) → ws ≡ step ++ codes "=" ∷ reply → step ≡ body → reply ≡ words → ws ≡ body ++ codes "=" ∷ words
+both_parts ws step reply body words e f g = e ∙ ap (λ (t : List (List ℕ)). t ++ codes "=" ∷ reply) f ∙ ap (λ (t : List (List ℕ)). body ++ codes "=" ∷ t) g
+
+counted_is : (c : Config) (ws : List (List ℕ)) (e : Event) → counted_of c ws ≡ Ok e → IsCounted c ws e
+unfolding counted_of answer_of
+counted_is c [] e h = absurd cc
+counted_is c (word ∷ rest) e h =
+    let who = result_bind (actor_of c word) (λ a. or_fault (taken_of a (step_part rest)) kinds.BadStep >>= λ s. or_fault (answer_of rest) kinds.BadReply >>= λ r. Ok (made a s r)) e h in
+    let what = result_bind (or_fault (taken_of who.0 (step_part rest)) kinds.BadStep) (λ s. or_fault (answer_of rest) kinds.BadReply >>= λ r. Ok (made who.0 s r)) e who.2 in
+    let why = result_bind (or_fault (answer_of rest) kinds.BadReply) (λ r. Ok (made who.0 what.0 r)) e what.2 in
+    let actor = actor_is c word who.0 who.1 in
+    let step = taken_is c who.0 (step_part rest) what.0 actor.known (or_fault_is (taken_of who.0 (step_part rest)) kinds.BadStep what.0 what.1) in
+    let behind = option_bind (reply_part rest) reply_of why.0 (or_fault_is (answer_of rest) kinds.BadReply why.0 why.1) in
+    let reply = reply_is behind.0 why.0 behind.2 in
+    let words = both_parts rest (step_part rest) behind.0 (body_words what.0) (reply_words why.0) (parted rest behind.0 behind.1) step.spelled reply.spelled in
+    subst (IsCounted c (word ∷ rest)) {x = made who.0 what.0 why.0} (event_ok (made who.0 what.0 why.0) e why.2) (record {
+      spelled = onto word (actor_word who.0) rest (body_words what.0 ++ codes "=" ∷ reply_words why.0) actor.spelled words;
+      owned = step.owned;
+      fits = (step.fits, reply.fits);
+    })
+
+one_of : (b : Bool) (r : Result Event Kind) (k : Kind) (e : Event) → cond b r (Err k) ≡ Ok e → (b ≡ true) × (r ≡ Ok e)
+one_of true r k e h = (refl, h)
+one_of false r k e h = absurd cc
+
+-- an event, and its words
+record AreWordsOf (c : Config) (n : ℕ) (words : List (List ℕ)) (e : Event) : Type 0 where
+  counted : n ≤ large
+  spelled : words ≡ event_words n e
+  owned : IsEvent c e
+  fits : EventFits e
+
+event_is : (n : ℕ) (c : Config) (ws : List (List ℕ)) (e : Event) → event_of n c ws ≡ Ok e → AreWordsOf c n ws e
+unfolding event_of
+event_is n c [] e h = absurd cc
+event_is n c (word ∷ rest) e h =
+    let read = result_bind (or_fault (number_of large word) kinds.BadCount) (λ count. cond (eqb count n) (counted_of c rest) (Err kinds.BadCount)) e h in
+    let number = number_of_is large word read.0 (or_fault_is (number_of large word) kinds.BadCount read.0 read.1) in
+    let same = one_of (eqb read.0 n) (counted_of c rest) kinds.BadCount e read.2 in
+    let is = counted_is c rest e same.1 in
+    record { counted = (let le = number.1 in let is = eqb-true read.0 n same.0 in omega arith); spelled = onto word (decimal n) rest (actor_word e.actor ∷ (body_words e.step ++ codes "=" ∷ reply_words e.reply)) (number.0 ∙ ap decimal (eqb-true read.0 n same.0)) is.spelled; owned = is.owned; fits = is.fits }
+
+-- words that are parted once are parted
+spaced_on : (w v : List ℕ) (ws vs : List (List ℕ)) → spaced (w ∷ ws) ++ 32 ∷ spaced (v ∷ vs) ≡ spaced ((w ∷ ws) ++ v ∷ vs)
+spaced_on w v [] vs = refl
+spaced_on w v (x ∷ ws) vs = append_assoc w (32 ∷ spaced (x ∷ ws)) (32 ∷ spaced (v ∷ vs)) ∙ ap (λ (t : List ℕ). w ++ 32 ∷ t) (spaced_on x v ws vs)
+
+flat : (a b x y : List ℕ) (body reply xs ys : List (List ℕ)) → body ≡ x ∷ xs → reply ≡ y ∷ ys → spaced (a ∷ b ∷ spaced body ∷ codes "=" ∷ spaced reply ∷ []) ≡ spaced (a ∷ b ∷ (body ++ codes "=" ∷ reply))
+flat a b x y body reply xs ys e f = rw (e, f) (ap (λ (t : List ℕ). a ++ 32 ∷ (b ++ 32 ∷ t)) (spaced_on x (codes "=") xs (y ∷ ys)))
+
+some_action : (a : Action) → (x : List ℕ) × (xs : List (List ℕ)) × (action_words a ≡ x ∷ xs)
+some_action (actions.New to counts) = (_, _, refl)
+some_action (actions.Get to object i) = (_, _, refl)
+some_action (actions.Put object i value) = (_, _, refl)
+some_action (actions.Read object j) = (_, _, refl)
+some_action (actions.Write object j value) = (_, _, refl)
+some_action (actions.Move to from) = (_, _, refl)
+some_action (actions.Drop register) = (_, _, refl)
+some_action (actions.Load to from) = (_, _, refl)
+some_action (actions.Save to from) = (_, _, refl)
+some_action (actions.Shape object) = (_, _, refl)
+
+pub some_body : (s : Step) → (x : List ℕ) × (xs : List (List ℕ)) × (body_words s ≡ x ∷ xs)
+some_body (steps.Mutator o) = some_action o.action
+some_body (steps.Collector collector.Begin) = (_, _, refl)
+some_body (steps.Collector (collector.Mark k)) = (_, _, refl)
+some_body (steps.Collector collector.Remark) = (_, _, refl)
+some_body (steps.Collector collector.Cleanup) = (_, _, refl)
+some_body (steps.Collector (collector.Refine k)) = (_, _, refl)
+some_body (steps.Collector (collector.Pause b)) = (_, _, refl)
+
+pub some_reply : (r : Reply) → (x : List ℕ) × (xs : List (List ℕ)) × (reply_words r ≡ x ∷ xs)
+some_reply replies.Done = (_, _, refl)
+some_reply (replies.Named None) = (_, _, refl)
+some_reply (replies.Named (Some n)) = (_, _, refl)
+some_reply (replies.Word w) = (_, _, refl)
+some_reply (replies.Shape p d) = (_, _, refl)
+some_reply (replies.Marked n) = (_, _, refl)
+some_reply (replies.Reclaimed n) = (_, _, refl)
+some_reply (replies.Refined n) = (_, _, refl)
+some_reply (replies.Moved n w) = (_, _, refl)
+some_reply (replies.Refused why) = (_, _, refl)
+
+pub event_text_is : (n : ℕ) (e : Event) → event_text n e ≡ spaced (event_words n e)
+event_text_is n e =
+    let body = some_body e.step in
+    let reply = some_reply e.reply in
+    flat (decimal n) (actor_word e.actor) body.0 reply.0 (body_words e.step) (reply_words e.reply) body.1 reply.1 body.2 reply.2
+
+-- an event, and its line
+pub record IsEventLine (c : Config) (n : ℕ) (text : List ℕ) (e : Event) : Type 0 where
+  pub counted : n ≤ large
+  pub spelled : text ≡ event_text n e
+  pub owned : IsEvent c e
+  pub fits : EventFits e
+
+pub event_line_is : (n : ℕ) (c : Config) (text : List ℕ) (e : Event) → event_line_of n c text ≡ Ok e → IsEventLine c n text e
+unfolding event_line_of
+event_line_is n c text e h =
+    let is = event_is n c (words_of text) e (too_long (nat_lt 120 (length text)) kinds.LongLine (event_of n c (words_of text)) e h) in
+    record { counted = is.counted; spelled = joined text (event_words n e) is.spelled ∙ sym (event_text_is n e); owned = is.owned; fits = is.fits }
+
+pub event_line_known : (n : ℕ) (c : Config) (text : List ℕ) (r : Result Event Kind) → r ≡ event_line_of n c text → IfOk r (IsEvent c)
+event_line_known n c text (Ok e) h = (event_line_is n c text e (sym h)).owned
+event_line_known n c text (Err k) h = tt

@@ -1,0 +1,301 @@
+-- The words of an event, and that the event is read from them.
+use Rattle.std.proofs.Common.{◌≡◌, ℕ, ◌+◌, ◌<◌, ◌≤◌, true, false, eqb, List, [], ◌∷◌, ◌++◌, length, Option, Some, None, Ok, refl, sym, ap, subst, ◌∙◌, arith}
+use Rattle.std.specs.Prelude.{codes, nat_le}
+use Rattle.std.specs.Fmt.{decimal}
+use Rattle.std.specs.List.{All}
+use Rattle.std.proofs.lemmas.Bool.{le-ltb, leb-true, ne_eqb}
+use Rattle.std.proofs.lemmas.Bool.Decides.{Decides-eqb}
+use Rattle.std.proofs.lemmas.Fmt.{length-decimal-le}
+use Rattle.std.proofs.lemmas.List.{length-append}
+use Rattle.std.proofs.lemmas.List.Elements.{All-nil, All-cons, All-append}
+use Rattle.heap_words.specs.declared.config.Config.{Config}
+use Rattle.object_graph.specs.Actors.{IsStepOf, IsEvent}
+use Rattle.object_graph.specs.declared.step.Register.{Register}
+use Rattle.object_graph.specs.declared.step.Action.{Action}
+use Rattle.object_graph.specs.declared.step.Action.TheVariants as actions
+use Rattle.object_graph.specs.declared.step.CollectorStep.TheVariants as collector
+use Rattle.object_graph.specs.declared.step.Actor.{Actor}
+use Rattle.object_graph.specs.declared.step.Actor.TheVariants as actors
+use Rattle.object_graph.specs.declared.step.Step.{Step}
+use Rattle.object_graph.specs.declared.step.Step.TheVariants as steps
+use Rattle.object_graph.specs.declared.step.Reply.{Reply}
+use Rattle.object_graph.specs.declared.step.Reply.TheVariants as replies
+use Rattle.object_graph.specs.declared.step.Refusal.{Refusal}
+use Rattle.object_graph.specs.declared.step.Refusal.TheVariants as refusals
+use Rattle.object_graph.specs.declared.step.Event.{Event}
+use Rattle.script_text.specs.Reading.{small, large}
+use Rattle.script_text.specs.Fits.{Fits, StepFits, ReplyFits, EventFits}
+use Rattle.script_text.specs.Spelling.{register_word, value_word, global_word, action_words, spaced}
+use Rattle.script_text.specs.Records.{actor_word, body_words, refusal_words, reply_words}
+use Rattle.script_text.specs.EventWords.{background_of, marker_step, refiner_step, taken_of, answer_of}
+use Rattle.script_text.specs.Lines.{words_of}
+use Rattle.script_text.specs.Events.{foreground_of, actor_of, counted_of, event_of, event_line_of}
+use Rattle.script_text.proofs.Numbers.{number_of_some, first_is_digit, register_word_is}
+use Rattle.script_text.proofs.Actions.{action_again}
+use Rattle.script_text.proofs.Spelled.{IsWord, AreWords, literal, number_short, number_word, small_word, global_is_word, word1, word2, word3, words_again, no_feed}
+use Rattle.script_text.proofs.StepsSpelled.{action_is_words, collection_is_words, collection_again, not_gc, mutator_again}
+use Rattle.script_text.proofs.ReplyLaws.{number_not, reply_read}
+use Rattle.script_text.proofs.Parting.{is_equals, answered, step_again, reply_again}
+use Rattle.script_text.proofs.EventsRead.{event_words, event_text, event_text_is, some_reply, KnownActor}
+
+-- no word of a step is `=`
+abbrev ArePlain : List (List ℕ) → Type 0
+ArePlain ws = All (λ w. is_equals w ≡ false) ws
+
+plain_number : (n : ℕ) → n ≤ large → is_equals (decimal n) ≡ false
+plain_number n fits = number_not n (codes "=") fits (omega arith)
+
+plain_small : (n : ℕ) → n ≤ small → is_equals (decimal n) ≡ false
+plain_small n fits = plain_number n (omega arith)
+
+plain1 : (a : List ℕ) → is_equals a ≡ false → ArePlain (a ∷ [])
+plain1 a p = All-cons (λ w. is_equals w ≡ false) a [] p (All-nil (λ w. is_equals w ≡ false))
+
+plain2 : (a b : List ℕ) → is_equals a ≡ false → is_equals b ≡ false → ArePlain (a ∷ b ∷ [])
+plain2 a b p q = All-cons (λ w. is_equals w ≡ false) a (b ∷ []) p (plain1 b q)
+
+plain3 : (a b c : List ℕ) → is_equals a ≡ false → is_equals b ≡ false → is_equals c ≡ false → ArePlain (a ∷ b ∷ c ∷ [])
+plain3 a b c p q r = All-cons (λ w. is_equals w ≡ false) a (b ∷ c ∷ []) p (plain2 b c q r)
+
+plain4 : (a b c d : List ℕ) → is_equals a ≡ false → is_equals b ≡ false → is_equals c ≡ false → is_equals d ≡ false → ArePlain (a ∷ b ∷ c ∷ d ∷ [])
+plain4 a b c d p q r s = All-cons (λ w. is_equals w ≡ false) a (b ∷ c ∷ d ∷ []) p (plain3 b c d q r s)
+
+plain_value : (v : Option Register) → is_equals (value_word v) ≡ false
+plain_value None = refl
+plain_value (Some r) = refl
+
+action_plain : (a : Action) → Fits a → ArePlain (action_words a)
+action_plain (actions.New to counts) fits = plain4 _ _ _ _ refl refl (plain_small counts.pointers fits.0) (plain_small counts.values fits.1)
+action_plain (actions.Get to object i) fits = plain4 _ _ _ _ refl refl refl (plain_small i fits)
+action_plain (actions.Put object i value) fits = plain4 _ _ _ _ refl refl (plain_small i fits) (plain_value value)
+action_plain (actions.Read object j) fits = plain3 _ _ _ refl refl (plain_small j fits)
+action_plain (actions.Write object j value) fits = plain4 _ _ _ _ refl refl (plain_small j fits.0) (plain_number value fits.1)
+action_plain (actions.Move to from) fits = plain3 _ _ _ refl refl refl
+action_plain (actions.Drop register) fits = plain2 _ _ refl refl
+action_plain (actions.Load to from) fits = plain3 _ _ _ refl refl refl
+action_plain (actions.Save to from) fits = plain3 _ _ _ refl refl refl
+action_plain (actions.Shape object) fits = plain2 _ _ refl refl
+
+body_plain : (s : Step) → StepFits s → ArePlain (body_words s)
+body_plain (steps.Mutator o) fits = action_plain o.action fits
+body_plain (steps.Collector collector.Begin) fits = plain1 _ refl
+body_plain (steps.Collector (collector.Mark k)) fits = plain2 _ _ refl (plain_small k fits)
+body_plain (steps.Collector collector.Remark) fits = plain1 _ refl
+body_plain (steps.Collector collector.Cleanup) fits = plain1 _ refl
+body_plain (steps.Collector (collector.Refine k)) fits = plain2 _ _ refl (plain_small k fits)
+body_plain (steps.Collector (collector.Pause b)) fits = plain2 _ _ refl (plain_small b fits)
+
+-- how long the parts of a line are
+two_long : (a b : List ℕ) → length (spaced (a ∷ b ∷ [])) ≡ length a + length b + 1
+two_long a b = omega (arith, length-append a (32 ∷ b))
+
+three_long : (a b c : List ℕ) → length (spaced (a ∷ b ∷ c ∷ [])) ≡ length a + length b + length c + 2
+three_long a b c = let rest = two_long b c in omega (arith, length-append a (32 ∷ spaced (b ∷ c ∷ [])))
+
+four_long : (a b c d : List ℕ) → length (spaced (a ∷ b ∷ c ∷ d ∷ [])) ≡ length a + length b + length c + length d + 3
+four_long a b c d = let rest = three_long b c d in omega (arith, length-append a (32 ∷ spaced (b ∷ c ∷ d ∷ [])))
+
+five_long : (a b c d e : List ℕ) → length (spaced (a ∷ b ∷ c ∷ d ∷ e ∷ [])) ≡ length a + length b + length c + length d + length e + 4
+five_long a b c d e = let rest = four_long b c d e in omega (arith, length-append a (32 ∷ spaced (b ∷ c ∷ d ∷ e ∷ [])))
+
+register_long : (r : Register) → length (register_word r) ≡ 2
+register_long r = ap length (register_word_is r)
+
+value_long : (v : Option Register) → length (value_word v) ≤ 3
+value_long None = omega arith
+value_long (Some r) = omega (arith, register_long r)
+
+small_long : (n : ℕ) → n ≤ small → length (decimal n) ≤ 10
+small_long n fits = length-decimal-le 10 n (omega arith) (omega arith) (omega arith)
+
+action_long : (a : Action) → Fits a → length (spaced (action_words a)) ≤ 48
+action_long (actions.New to counts) fits = omega (arith, four_long (codes "new") (register_word to) (decimal counts.pointers) (decimal counts.values), register_long to, small_long counts.pointers fits.0, small_long counts.values fits.1)
+action_long (actions.Get to object i) fits = omega (arith, four_long (codes "get") (register_word to) (register_word object) (decimal i), register_long to, register_long object, small_long i fits)
+action_long (actions.Put object i value) fits = omega (arith, four_long (codes "put") (register_word object) (decimal i) (value_word value), register_long object, small_long i fits, value_long value)
+action_long (actions.Read object j) fits = omega (arith, three_long (codes "read") (register_word object) (decimal j), register_long object, small_long j fits)
+action_long (actions.Write object j value) fits = omega (arith, four_long (codes "write") (register_word object) (decimal j) (decimal value), register_long object, small_long j fits.0, (number_word value fits.1).short)
+action_long (actions.Move to from) fits = omega (arith, three_long (codes "move") (register_word to) (register_word from), register_long to, register_long from)
+action_long (actions.Drop register) fits = omega (arith, two_long (codes "drop") (register_word register), register_long register)
+action_long (actions.Load to from) fits = omega (arith, three_long (codes "load") (register_word to) (global_word from), register_long to, (global_is_word from).short)
+action_long (actions.Save to from) fits = omega (arith, three_long (codes "save") (global_word to) (register_word from), register_long from, (global_is_word to).short)
+action_long (actions.Shape object) fits = omega (arith, two_long (codes "shape") (register_word object), register_long object)
+
+body_long : (s : Step) → StepFits s → length (spaced (body_words s)) ≤ 48
+body_long (steps.Mutator o) fits = action_long o.action fits
+body_long (steps.Collector collector.Begin) fits = omega arith
+body_long (steps.Collector (collector.Mark k)) fits = omega (arith, two_long (codes "mark") (decimal k), small_long k fits)
+body_long (steps.Collector collector.Remark) fits = omega arith
+body_long (steps.Collector collector.Cleanup) fits = omega arith
+body_long (steps.Collector (collector.Refine k)) fits = omega (arith, two_long (codes "refine") (decimal k), small_long k fits)
+body_long (steps.Collector (collector.Pause b)) fits = omega (arith, two_long (codes "pause") (decimal b), small_long b fits)
+
+refused_long : (why : Refusal) → nat_le (length (spaced (codes "refused" ∷ refusal_words why))) 32 ≡ true
+refused_long refusals.Nil = refl
+refused_long refusals.NoField = refl
+refused_long refusals.Full = refl
+refused_long refusals.TooBig = refl
+refused_long refusals.NamesSpent = refl
+refused_long refusals.MarkRunning = refl
+refused_long refusals.NotMarking = refl
+
+reply_long : (r : Reply) → ReplyFits r → length (spaced (reply_words r)) ≤ 32
+reply_long replies.Done fits = omega arith
+reply_long (replies.Named None) fits = omega arith
+reply_long (replies.Named (Some n)) fits = omega (arith, (number_word n fits).short)
+reply_long (replies.Word w) fits = omega (arith, (number_word w fits).short)
+reply_long (replies.Shape p d) fits = omega (arith, two_long (decimal p) (decimal d), small_long p fits.0, small_long d fits.1)
+reply_long (replies.Marked n) fits = omega (arith, two_long (codes "marked") (decimal n), small_long n fits)
+reply_long (replies.Reclaimed n) fits = omega (arith, two_long (codes "reclaimed") (decimal n), small_long n fits)
+reply_long (replies.Refined n) fits = omega (arith, two_long (codes "refined") (decimal n), small_long n fits)
+reply_long (replies.Moved n w) fits = omega (arith, three_long (codes "moved") (decimal n) (decimal w), small_long n fits.0, small_long w fits.1)
+reply_long (replies.Refused why) fits = leb-true (length (spaced (codes "refused" ∷ refusal_words why))) 32 (refused_long why)
+
+-- the words of the parts
+name_word : (n : ℕ) → n ≤ large → IsWord (35 ∷ decimal n)
+name_word n fits = let short = number_short n fits in record { clear = All-cons (λ b. 32 < b) 35 (decimal n) (omega arith) (number_word n fits).clear; short = omega arith }
+
+reply_is_words : (r : Reply) → ReplyFits r → AreWords (reply_words r)
+reply_is_words replies.Done fits = word1 _ (literal (codes "ok") refl refl)
+reply_is_words (replies.Named None) fits = word1 _ (literal (codes "nil") refl refl)
+reply_is_words (replies.Named (Some n)) fits = word1 _ (name_word n fits)
+reply_is_words (replies.Word w) fits = word1 _ (number_word w fits)
+reply_is_words (replies.Shape p d) fits = word2 _ _ (small_word p fits.0) (small_word d fits.1)
+reply_is_words (replies.Marked n) fits = word2 _ _ (literal (codes "marked") refl refl) (small_word n fits)
+reply_is_words (replies.Reclaimed n) fits = word2 _ _ (literal (codes "reclaimed") refl refl) (small_word n fits)
+reply_is_words (replies.Refined n) fits = word2 _ _ (literal (codes "refined") refl refl) (small_word n fits)
+reply_is_words (replies.Moved n w) fits = word3 _ _ _ (literal (codes "moved") refl refl) (small_word n fits.0) (small_word w fits.1)
+reply_is_words (replies.Refused refusals.Nil) fits = word3 _ _ _ (literal (codes "refused") refl refl) (literal (codes "1") refl refl) (literal (codes "Nil") refl refl)
+reply_is_words (replies.Refused refusals.NoField) fits = word3 _ _ _ (literal (codes "refused") refl refl) (literal (codes "2") refl refl) (literal (codes "NoField") refl refl)
+reply_is_words (replies.Refused refusals.Full) fits = word3 _ _ _ (literal (codes "refused") refl refl) (literal (codes "3") refl refl) (literal (codes "Full") refl refl)
+reply_is_words (replies.Refused refusals.TooBig) fits = word3 _ _ _ (literal (codes "refused") refl refl) (literal (codes "4") refl refl) (literal (codes "TooBig") refl refl)
+reply_is_words (replies.Refused refusals.NamesSpent) fits = word3 _ _ _ (literal (codes "refused") refl refl) (literal (codes "5") refl refl) (literal (codes "NamesSpent") refl refl)
+reply_is_words (replies.Refused refusals.MarkRunning) fits = word3 _ _ _ (literal (codes "refused") refl refl) (literal (codes "6") refl refl) (literal (codes "MarkRunning") refl refl)
+reply_is_words (replies.Refused refusals.NotMarking) fits = word3 _ _ _ (literal (codes "refused") refl refl) (literal (codes "7") refl refl) (literal (codes "NotMarking") refl refl)
+
+body_is_words : (s : Step) → StepFits s → AreWords (body_words s)
+body_is_words (steps.Mutator o) fits = action_is_words o.action fits
+body_is_words (steps.Collector k) fits = collection_is_words k fits
+
+-- an actor's word
+record IsActor (c : Config) (a : Actor) : Type 0 where
+  word : IsWord (actor_word a)
+  short : length (actor_word a) ≤ 11
+  again : actor_of c (actor_word a) ≡ Ok a
+
+no_background : (word : List ℕ) (m : ℕ) → m ≤ large → word ≡ decimal m → background_of word ≡ None
+unfolding background_of
+no_background [] m fits e = refl
+no_background (b ∷ digits) m fits e =
+    let digit = first_is_digit (b ∷ digits) m (omega arith) e in
+    let no_marker : eqb b 109 ≡ false = ne_eqb b 109 (λ same. omega arith) in
+    let no_refiner : eqb b 102 ≡ false = ne_eqb b 102 (λ same. omega arith) in
+    rw (no_marker, no_refiner) refl
+
+lettered : (b i : ℕ) → 32 < b → i < 8 → IsWord (b ∷ decimal i)
+lettered b i above few =
+    let short : length (decimal i) ≤ 10 = small_long i (omega arith) in
+    record { clear = All-cons (λ d. 32 < d) b (decimal i) above (small_word i (omega arith)).clear; short = omega arith }
+
+is_actor : (c : Config) (a : Actor) → c.mutators ≤ small → KnownActor c a → IsActor c a
+unfolding actor_of foreground_of background_of
+is_actor c (actors.Mutator m) few known =
+    let fits : m ≤ small = omega arith in
+    let short : length (decimal m) ≤ 10 = small_long m fits in
+    record { word = small_word m fits; short = omega arith; again = rw (not_gc m (omega arith), no_background (decimal m) m (omega arith) refl, mutator_again c m known few) refl }
+is_actor c actors.Collector few known = record { word = literal (codes "gc") refl refl; short = omega arith; again = refl }
+is_actor c (actors.Marker i) few known =
+    let short : length (decimal i) ≤ 10 = small_long i (omega arith) in
+    record { word = lettered 109 i (omega arith) known; short = omega arith; again = rw (number_of_some 7 (decimal i) i (omega arith) refl (omega arith)) refl }
+is_actor c (actors.Refiner i) few known =
+    let short : length (decimal i) ≤ 10 = small_long i (omega arith) in
+    record { word = lettered 102 i (omega arith) known; short = omega arith; again = rw (number_of_some 7 (decimal i) i (omega arith) refl (omega arith)) refl }
+
+-- a step of its actor, read from its words
+record IsOwn (c : Config) (a : Actor) (s : Step) : Type 0 where
+  known : KnownActor c a
+  again : taken_of a (body_words s) ≡ Some s
+
+is_own : (c : Config) (a : Actor) (s : Step) → IsStepOf c a s → StepFits s → IsOwn c a s
+unfolding taken_of marker_step refiner_step
+is_own c (actors.Mutator m) (steps.Mutator o) h fits = record { known = h.1; again = rw (action_again o.action fits) (ap (λ (k : ℕ). Some (steps.Mutator (record { mutator = k; action = o.action }))) (sym h.0)) }
+is_own c (actors.Mutator m) (steps.Collector k) h fits = absurd h
+is_own c actors.Collector (steps.Mutator o) h fits = absurd h
+is_own c actors.Collector (steps.Collector k) h fits = record { known = tt; again = rw (collection_again k fits) refl }
+is_own c (actors.Marker i) (steps.Mutator o) h fits = absurd h
+is_own c (actors.Marker i) (steps.Collector collector.Begin) h fits = absurd h
+is_own c (actors.Marker i) (steps.Collector (collector.Mark k)) h fits = record { known = h; again = rw (collection_again (collector.Mark k) fits) refl }
+is_own c (actors.Marker i) (steps.Collector collector.Remark) h fits = absurd h
+is_own c (actors.Marker i) (steps.Collector collector.Cleanup) h fits = absurd h
+is_own c (actors.Marker i) (steps.Collector (collector.Refine k)) h fits = absurd h
+is_own c (actors.Marker i) (steps.Collector (collector.Pause b)) h fits = absurd h
+is_own c (actors.Refiner i) (steps.Mutator o) h fits = absurd h
+is_own c (actors.Refiner i) (steps.Collector collector.Begin) h fits = absurd h
+is_own c (actors.Refiner i) (steps.Collector (collector.Mark k)) h fits = absurd h
+is_own c (actors.Refiner i) (steps.Collector collector.Remark) h fits = absurd h
+is_own c (actors.Refiner i) (steps.Collector collector.Cleanup) h fits = absurd h
+is_own c (actors.Refiner i) (steps.Collector (collector.Refine k)) h fits = record { known = h; again = rw (collection_again (collector.Refine k) fits) refl }
+is_own c (actors.Refiner i) (steps.Collector (collector.Pause b)) h fits = absurd h
+
+longer : (x : List ℕ) (xs ws : List (List ℕ)) → ws ≡ x ∷ xs → 1 ≤ length ws
+longer x xs ws e = let count : length ws ≡ length (x ∷ xs) = ap length e in omega arith
+
+answer_again : (body : List (List ℕ)) (r : Reply) → ArePlain body → ReplyFits r → answer_of (body ++ codes "=" ∷ reply_words r) ≡ Some r
+unfolding answer_of
+answer_again body r plain fits =
+    let some = some_reply r in
+    ap answered (reply_again body (reply_words r) plain (longer some.0 some.1 (reply_words r) some.2)) ∙ reply_read r fits
+
+-- what a record may hold, of one event
+pub record IsGood (n : ℕ) (c : Config) (e : Event) : Type 0 where
+  pub counted : n ≤ large
+  pub few : c.mutators ≤ small
+  pub owned : IsEvent c e
+  pub fits : EventFits e
+
+counted_again : (n : ℕ) (c : Config) (e : Event) → IsGood n c e → counted_of c (actor_word e.actor ∷ (body_words e.step ++ codes "=" ∷ reply_words e.reply)) ≡ Ok e
+unfolding counted_of
+counted_again n c e good =
+    let own = is_own c e.actor e.step good.owned good.fits.0 in
+    let actor = is_actor c e.actor good.few own.known in
+    let plain = body_plain e.step good.fits.0 in
+    let some = some_reply e.reply in
+    rw (actor.again, step_again (body_words e.step) (reply_words e.reply) plain (longer some.0 some.1 (reply_words e.reply) some.2), own.again, answer_again (body_words e.step) e.reply plain good.fits.1) refl
+
+event_again : (n : ℕ) (c : Config) (e : Event) → IsGood n c e → event_of n c (event_words n e) ≡ Ok e
+unfolding event_of
+event_again n c e good =
+    let fits : n ≤ large = good.counted in
+    let same : eqb n n ≡ true = (Decides-eqb n n).1 refl in
+    rw (number_of_some large (decimal n) n (omega arith) refl fits, same) (counted_again n c e good)
+
+abbrev rest_words : Event → List (List ℕ)
+rest_words e = actor_word e.actor ∷ (body_words e.step ++ codes "=" ∷ reply_words e.reply)
+
+event_is_words : (n : ℕ) (c : Config) (e : Event) → IsGood n c e → AreWords (decimal n ∷ rest_words e)
+event_is_words n c e good =
+    let actor = is_actor c e.actor good.few (is_own c e.actor e.step good.owned good.fits.0).known in
+    All-cons IsWord (decimal n) (rest_words e) (number_word n good.counted)
+    (All-cons IsWord (actor_word e.actor) (body_words e.step ++ codes "=" ∷ reply_words e.reply) actor.word
+    (All-append IsWord (body_words e.step) (codes "=" ∷ reply_words e.reply) (body_is_words e.step good.fits.0)
+    (All-cons IsWord (codes "=") (reply_words e.reply) (literal (codes "=") refl refl) (reply_is_words e.reply good.fits.1))))
+
+event_short : (n : ℕ) (c : Config) (e : Event) → IsGood n c e → length (event_text n e) ≤ 120
+event_short n c e good =
+    let actor = is_actor c e.actor good.few (is_own c e.actor e.step good.owned good.fits.0).known in
+    let all = five_long (decimal n) (actor_word e.actor) (spaced (body_words e.step)) (codes "=") (spaced (reply_words e.reply)) in
+    let count : length (decimal n) ≤ 20 = number_short n good.counted in
+    let who : length (actor_word e.actor) ≤ 11 = actor.short in
+    let body : length (spaced (body_words e.step)) ≤ 48 = body_long e.step good.fits.0 in
+    let reply : length (spaced (reply_words e.reply)) ≤ 32 = reply_long e.reply good.fits.1 in
+    omega arith
+
+-- the line of an event is read as that event
+pub event_line_again : (n : ℕ) (c : Config) (e : Event) → IsGood n c e → event_line_of n c (event_text n e) ≡ Ok e
+unfolding event_line_of
+event_line_again n c e good =
+    let words : words_of (event_text n e) ≡ event_words n e = ap words_of (event_text_is n e) ∙ words_again (decimal n) (rest_words e) (event_is_words n c e good) in
+    rw (le-ltb 120 (length (event_text n e)) (event_short n c e good)) (ap (event_of n c) words ∙ event_again n c e good)
+
+-- no line feed stands in the line of an event
+pub event_no_feed : (n : ℕ) (c : Config) (e : Event) → IsGood n c e → All (λ b. eqb b 10 ≡ false) (event_text n e)
+event_no_feed n c e good = subst (λ (t : List ℕ). All (λ b. eqb b 10 ≡ false) t) (sym (event_text_is n e)) (no_feed (decimal n) (rest_words e) (event_is_words n c e good))

@@ -1,0 +1,139 @@
+//! What is written of a record is read back as that record.
+
+ghost use Rattle.std.specs.Prelude.{◌≡◌, All, Ok};
+ghost use Rattle.script_text.specs.Events.{record_of};
+ghost use Rattle.script_text.specs.Records.{record_text};
+ghost use Rattle.script_text.specs.Fits.{Fits, CollectionFits, StepFits, ReplyFits, EventFits, ConfigFits};
+
+use crate::laws::spelled_record_is_read;
+use heap_words::config::Config;
+use object_graph::{Action, CollectorStep, Event, Record, Reply, Step};
+
+/// The numbers of a mutator's action are those of its type.
+fn action_fits(action: Action)
+    ensures { Fits action }
+{
+    match action {
+        Action::New { counts, .. } => {
+            let _ = counts.pointers;
+            let _ = counts.values;
+        }
+        Action::Get { field, .. } => {
+            let _ = field;
+        }
+        Action::Put { field, .. } => {
+            let _ = field;
+        }
+        Action::Read { field, .. } => {
+            let _ = field;
+        }
+        Action::Write { field, value, .. } => {
+            let _ = field;
+            let _ = value;
+        }
+        Action::Move { .. } => {}
+        Action::Drop { .. } => {}
+        Action::Load { .. } => {}
+        Action::Save { .. } => {}
+        Action::Shape { .. } => {}
+    }
+}
+
+fn collection_fits(step: CollectorStep)
+    ensures { CollectionFits step }
+{
+    match step {
+        CollectorStep::Begin => {}
+        CollectorStep::Mark(units) => {
+            let _ = units;
+        }
+        CollectorStep::Remark => {}
+        CollectorStep::Cleanup => {}
+        CollectorStep::Refine(cards) => {
+            let _ = cards;
+        }
+        CollectorStep::Pause(budget) => {
+            let _ = budget;
+        }
+    }
+}
+
+fn step_fits(step: Step)
+    ensures { StepFits step }
+{
+    match step {
+        Step::Mutator(op) => action_fits(op.action),
+        Step::Collector(collection) => collection_fits(collection),
+    }
+}
+
+fn reply_fits(reply: Reply)
+    ensures { ReplyFits reply }
+{
+    match reply {
+        Reply::Done => {}
+        Reply::Named(None) => {}
+        Reply::Named(Some(name)) => {
+            let _ = name;
+        }
+        Reply::Word(word) => {
+            let _ = word;
+        }
+        Reply::Shape { pointers, values } => {
+            let _ = pointers;
+            let _ = values;
+        }
+        Reply::Marked(count) => {
+            let _ = count;
+        }
+        Reply::Reclaimed(count) => {
+            let _ = count;
+        }
+        Reply::Refined(count) => {
+            let _ = count;
+        }
+        Reply::Moved { regions, words } => {
+            let _ = regions;
+            let _ = words;
+        }
+        Reply::Refused(_) => {}
+    }
+}
+
+fn event_fits(event: &Event)
+    ensures { EventFits event.now }
+{
+    step_fits(event.step);
+    reply_fits(event.reply);
+}
+
+fn events_fit(events: &[Event])
+    ensures { All EventFits events.now }
+{
+    for event in events {
+        event_fits(event);
+    }
+}
+
+fn config_fits(config: Config)
+    ensures { ConfigFits config }
+{
+    let _ = config.regions;
+    let _ = config.words;
+    let _ = config.buffer;
+    let _ = config.mutators;
+    let _ = config.first_name;
+}
+
+/// What `write_record` writes of a record, `parse_record` reads as that record, or it is refused memory: the numbers of a record are those
+/// of its type, so its text has no fault.
+pub fn written_record_is_read(history: &Record)
+    ensures { record_of (record_text history.now) ≡ Ok history.now }
+{
+    let config = history.config();
+    config_fits(config);
+    let events = history.events();
+    events_fit(events);
+    let _ = events.len();
+    spelled_record_is_read();
+}

@@ -1,0 +1,160 @@
+-- What each part of a step keeps: k is the core by its fields, c the same by its value.
+use Rattle.std.proofs.Common.{◌≡◌, ℕ, ◌+◌, ◌*◌, ◌<◌, Option, Some, None, List, length, get_or, refl, sym, ◌∙◌, ap, subst, arith}
+use Rattle.std.specs.Prelude.{slice_get, IsSome, IfSome}
+use Rattle.std.proofs.lemmas.List.{get_or_read, length-set}
+use Rattle.heap_model.specs.Graph.{Graph}
+use Rattle.heap_model.specs.Heap.{Stored, IsShown, IsRoot, IsHeld, ObjectSet}
+use Rattle.regions.specs.Table.{Table, object_at, pointers_at, values_at, set_value}
+use Rattle.regions.proofs.Tiles.Changes.{WritesObject, value_put}
+use Rattle.regions.proofs.Words.Values.{with_value}
+use Rattle.object_graph.specs.State.{root_at, with_root, register_place}
+use Rattle.object_graph.specs.Machine.{act}
+use Rattle.object_graph.specs.declared.step.Action.TheVariants as actions
+use Rattle.object_graph.specs.declared.step.Reply.TheVariants as replies
+use Rattle.object_graph.specs.declared.step.Register.{Register}
+use Rattle.step_core.specs.Stands.{CoreState, kept_of, heap_of, RemembersFields, ShowsGraph, KeepsFrom, IsCore, IsWordOf, IsRootWord, HasObject, Leads, name_in, name_of}
+use Rattle.step_core.specs.Cycle.{LeavesRegions}
+use Rattle.step_core.specs.Answers.{Acts}
+use Rattle.step_core.proofs.Cores.Sizes.{some_words}
+use Rattle.step_core.proofs.Cores.Layers.{layers_writes, follows_of}
+use Rattle.step_core.proofs.Mutating.Written.{object_written, write_keeps, root_keeps}
+use Rattle.step_core.proofs.Cores.Remembering.{remembers_on, written_fields}
+use Rattle.step_core.proofs.Mutating.Reading.{root_shown, leads, root_word, root_rooted, object_kept, pointers_there, field_held, led_object, word_object}
+use Rattle.step_core.proofs.Mutating.Acting.{root_shows, with_root_word, write_done, field_word}
+
+pub core_of : (k c : CoreState) → k ≡ c → IsCore k → IsCore c
+core_of k c e core = subst (λ (d : CoreState). IsCore d) e core
+
+pub record RootFacts (c : CoreState) (place : ℕ) (w : Option ℕ) : Type 0 where
+  pub word : IsWordOf (heap_of c) w
+  pub rooted : IsRootWord (heap_of c) w
+  pub leads : Leads c place w
+  pub shows : (g : Graph) → ShowsGraph g c → IsShown (heap_of c) w (root_at g place)
+
+pub root_facts : (k c : CoreState) (place : ℕ) (w : Option ℕ) → k ≡ c → IsCore k → place < 16 + 8 * c.config.mutators → w ≡ get_or k.roots place w → RootFacts c place w
+root_facts k c place w e core k0 r =
+    let core' = core_of k c e core in
+    let within : place < length c.roots = omega (arith, core'.places) in
+    let within' : place < length k.roots = subst (λ (d : CoreState). place < length d.roots) (sym e) within in
+    let is : w ≡ get_or c.roots place None = get_or_read k.roots place w within' r None ∙ ap (λ (d : CoreState). get_or d.roots place None) e in
+    record {
+      word = root_word c place w core' within is;
+      rooted = root_rooted c place w within is;
+      leads = leads c place w within is;
+      shows = λ g s. (root_shown g c place w s within is).shown;
+    }
+
+-- a root word is set
+module _ (k c : CoreState) (place : ℕ) (w : Option ℕ) (e : k ≡ c) where
+  pub root_after : (g : Graph) (v : Option ℕ) → ShowsGraph g c → IsShown (heap_of c) w v → ShowsGraph (with_root g place v) (with_root_word k place w)
+  root_after = subst (λ (d : CoreState). (g : Graph) (v : Option ℕ) → ShowsGraph g d → IsShown (heap_of d) w v → ShowsGraph (with_root g place v) (with_root_word k place w)) e (λ g v s shown. root_shows g k place w v s shown)
+
+  module _ (core : IsCore k) (held : IsHeld (heap_of c) w) where
+    held' : IsHeld (heap_of k) w
+    held' = subst (λ (d : CoreState). IsHeld (heap_of d) w) (sym e) held
+
+    pub root_kept_from : (s : Graph) → KeepsFrom s c → KeepsFrom s (with_root_word k place w)
+    root_kept_from s = subst (λ (d : CoreState). KeepsFrom s d → KeepsFrom s (with_root_word k place w)) e (root_keeps core.state.graph s k place w _ core.stands.shows held' refl)
+
+    root_remembers : RemembersFields (with_root_word k place w)
+    unfolding kept_of
+    root_remembers = core.remembers
+
+    pub root_leaves : LeavesRegions c (with_root_word k place w)
+    root_leaves = subst (λ (d : CoreState). LeavesRegions d (with_root_word k place w)) e (record { config = refl; in_use = λ n h. h })
+
+    pub root_kept : IsWordOf (heap_of c) w → IsCore (with_root_word k place w)
+    root_kept word =
+        let word' : IsWordOf (heap_of k) w = subst (λ (d : CoreState). IsWordOf (heap_of d) w) (sym e) word in
+        record {
+          suits = core.suits;
+          layers = core.layers;
+          cards = core.cards;
+          remembers = root_remembers;
+          room = core.room;
+          rows = core.rows;
+          places = length-set k.roots place w ∙ core.places;
+          names = core.names;
+          state = record { graph = with_root core.state.graph place word'.name; snapshot = core.state.snapshot };
+          stands = record {
+            shows = root_shows core.state.graph k place w word'.name core.stands.shows word'.shown;
+            keeps = root_keeps core.state.graph core.state.snapshot k place w _ core.stands.shows held' refl core.stands.keeps;
+          };
+        }
+
+pub named_object : (k c : CoreState) (a : ℕ) → k ≡ c → IsWordOf (heap_of c) (Some a) → IsSome (object_at k.table a)
+named_object k c a e word = subst (λ (d : CoreState). IsSome (object_at d.table a)) (sym e) (word_object c a word)
+
+pub name_is : (k c : CoreState) (a n : ℕ) → k ≡ c → IsSome (object_at k.table a) → IfSome (object_at k.table a) (λ s. n ≡ s.name) → Some n ≡ name_in c.table (Some a)
+name_is k c a n e some is = subst (λ (d : CoreState). Some n ≡ name_in d.table (Some a)) e (go (object_at k.table a) some is)
+  where
+    go : (o : Option Stored) → IsSome o → IfSome o (λ s. n ≡ s.name) → Some n ≡ name_of o
+    go None h q = cc
+    go (Some s) h q = ap Some q
+
+-- the object that a register names
+pub object_led : (k c : CoreState) (place a : ℕ) → k ≡ c → IsCore k → Leads c place (Some a) → IsSome (object_at k.table a)
+object_led k c place a e core l = subst (λ (d : CoreState). IsSome (object_at d.table a)) (sym e) (led_object c place a (core_of k c e core) l)
+
+pub table_of : (k c : CoreState) → k ≡ c → k.table ≡ c.table
+table_of k c e = ap (λ (d : CoreState). d.table) e
+
+module _ (k c : CoreState) (e : k ≡ c) (core : IsCore k) (m : ℕ) (object : Register) (a i v : ℕ) (t : Table)
+    (l : Leads c (register_place m object.number) (Some a)) (within : i < length (values_at k.table a)) (is : t ≡ set_value k.table a i v) where
+  write_by : (g : Graph) → ShowsGraph g k → Acts g m (actions.Write object i v) replies.Done (record k { table = t })
+  write_by g s = write_done g k s m object a (subst (λ (d : CoreState). Leads d (register_place m object.number) (Some a)) (sym e) l) i v t within (some_words k core) is
+
+  pub write_after : (g : Graph) → ShowsGraph g c → Acts g m (actions.Write object i v) replies.Done (record k { table = t })
+  write_after g s = write_by g (subst (λ (d : CoreState). ShowsGraph g d) (sym e) s)
+
+  h : HasObject core.state.graph k (register_place m object.number) a
+  h = subst (λ (d : CoreState). Leads d (register_place m object.number) (Some a)) (sym e) l core.state.graph core.stands.shows
+
+  writes : WritesObject k.table t a h.stored (with_value h.stored i v)
+  writes = subst (λ (u : Table). WritesObject k.table u a h.stored (with_value h.stored i v)) (sym is) (value_put k.table a i v h.stored (some_words k core) (object_kept k a h.stored h.at))
+
+  write_set : ObjectSet (heap_of k) (heap_of (record k { table = t })) a h.stored (with_value h.stored i v)
+  write_set = object_written k (record k { table = t }) a h.stored (with_value h.stored i v) writes refl h.at (record { tams = refl; previous = refl; roots = refl })
+
+  keeps_by : (s : Graph) → KeepsFrom s k → KeepsFrom s (record k { table = t })
+  keeps_by s f = write_keeps s k t a h.stored (with_value h.stored i v) writes refl h.at refl f
+
+  pub write_kept_from : (s : Graph) → KeepsFrom s c → KeepsFrom s (record k { table = t })
+  write_kept_from s f = keeps_by s (subst (λ (d : CoreState). KeepsFrom s d) (sym e) f)
+
+  pub write_leaves : LeavesRegions c (record k { table = t })
+  write_leaves = subst (λ (d : CoreState). LeavesRegions d (record k { table = t })) e (record { config = refl; in_use = λ j n u. n (sym (writes.kinds j) ∙ u) })
+
+  pub write_kept : IsCore (record k { table = t })
+  write_kept =
+      let shows = (write_by core.state.graph core.stands.shows).shows in
+      let keeps = keeps_by core.state.snapshot core.stands.keeps in
+      record {
+        suits = core.suits;
+        layers = layers_writes k.config k.table t k.buffers k.marker a h.stored (with_value h.stored i v) writes core.layers (follows_of (record k { table = t }) _ core.state.snapshot shows keeps) (ap (λ (n : ℕ). 2 + length h.stored.pointers + n) (length-set h.stored.values i v));
+        cards = core.cards;
+        remembers = remembers_on k (record k { table = t }) refl writes.size refl refl
+            (written_fields (heap_of k) (heap_of (record k { table = t })) a h.stored (with_value h.stored i v) write_set refl) core.remembers;
+        room = core.room;
+        rows = core.rows;
+        places = core.places;
+        names = core.names;
+        state = record { graph = (act core.state.graph m (actions.Write object i v)).1; snapshot = core.state.snapshot };
+        stands = record { shows = shows; keeps = keeps };
+      }
+
+-- the pointers and the data words of the object at an address, by the core's value
+pub pointers_of : (k c : CoreState) (a : ℕ) → k ≡ c → pointers_at k.table a ≡ pointers_at c.table a
+pointers_of k c a e = ap (λ (d : CoreState). pointers_at d.table a) e
+
+pub values_of : (k c : CoreState) (a : ℕ) → k ≡ c → values_at k.table a ≡ values_at c.table a
+values_of k c a e = ap (λ (d : CoreState). values_at d.table a) e
+
+pub field_of : (k c : CoreState) (place a i : ℕ) (w : Option ℕ) → k ≡ c → IsCore k → Leads c place (Some a) → slice_get (pointers_at k.table a) i ≡ Some w → IsWordOf (heap_of c) w
+field_of k c place a i w e core l is = field_word c place a i w (core_of k c e core) l (ap (λ (ps : List (Option ℕ)). slice_get ps i) (sym (pointers_of k c a e)) ∙ is)
+
+-- what the field of an object that a register names holds, can be stored
+pub field_can_be_stored : (k c : CoreState) (place a i : ℕ) (w : Option ℕ) → k ≡ c → IsCore k → Leads c place (Some a) → IsRoot (heap_of c) a → slice_get (pointers_at k.table a) i ≡ Some w → IsHeld (heap_of c) w
+field_can_be_stored k c place a i w e core l root is =
+    let h = l core.state.graph (subst (λ (d : CoreState). ShowsGraph core.state.graph d) e core.stands.shows) in
+    field_held c a i h.stored w root h.at (ap (λ (ps : List (Option ℕ)). slice_get ps i) (sym (pointers_there c a h.stored h.at) ∙ sym (pointers_of k c a e)) ∙ is)

@@ -1,0 +1,4 @@
+pub mod Cycling
+pub mod Forgetting
+pub mod Releasing
+pub mod Cleaning

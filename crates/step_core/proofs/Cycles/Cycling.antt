@@ -1,0 +1,233 @@
+-- Marking begins, goes on and ends in a core: k is the core by its fields before the step.
+use Rattle.std.proofs.Common.{◌≡◌, ℕ, zero, suc, ◌+◌, ◌<◌, ◌≤◌, true, false, List, [], ◌∷◌, None, length, refl, sym, ◌∙◌, ap, subst, arith}
+use Rattle.std.specs.Prelude.{slice_index}
+use Rattle.std.proofs.lemmas.List.{length-replicate}
+use Rattle.heap_model.specs.Graph.{Graph}
+use Rattle.heap_model.specs.Heap.{Heap, Shows, IsClosed}
+use Rattle.heap_model.proofs.Shown.{closed}
+use Rattle.heap_model.specs.Marking.{KeepsSnapshot, Begins}
+use Rattle.regions.specs.Table.{Table, top_of}
+use Rattle.alloc_buffers.specs.Placement.{Buffers, BuffersStand, AreAbove, retired}
+use Rattle.mark_bitmap.specs.Marks.{is_marked, marked_count, HasNone}
+use Rattle.mark_bitmap.specs.Tops.{exchanged}
+use Rattle.mark_bitmap.specs.Grey.{is_grey}
+use Rattle.satb_log.specs.Logs.{log_of, logged}
+use Rattle.marker.specs.Views as views
+use Rattle.marker.specs.Stands.{MarkerStands}
+use Rattle.marker.specs.Steps.{SameRoles, KeepsSnapshots, Grows, ScansMore}
+use Rattle.marker.specs.Counts.{IsMore, restarted}
+use Rattle.marker.specs.Ends.{EndsExactly}
+use Rattle.marker.specs.declared.marker.Marker.{Marker}
+use Rattle.marker.proofs.Views.{same_heap, previous_heap}
+use Rattle.step_core.specs.Stands.{CoreState, kept_of, heap_of, RemembersFields, ShowsGraph, KeepsFrom, IsCore}
+use Rattle.step_core.specs.Cycle.{HasBegun, HasMarked, HasRemarked}
+use Rattle.regions.specs.Shaped.{IsShaped}
+use Rattle.step_core.proofs.Cores.Layers.{layers_marked}
+use Rattle.step_core.proofs.Mutating.Small.{ends_at_tops}
+use Rattle.step_core.proofs.Cores.Remembering.{remembers_on, same_fields}
+
+abbrev pub with_marker : CoreState → Buffers → Marker → CoreState
+with_marker c b m = record c { buffers = b; marker = m }
+
+-- a fact of the core's value is one of its fields
+pub to_fields : (k c : CoreState) → k ≡ c → (P : CoreState → Type 0) → P c → P k
+to_fields k c e P p = subst P (sym e) p
+
+-- marking can begin
+pub can_begin : (k : CoreState) → IsCore k → IsClosed (views.heap_of k.table k.roots k.marker)
+unfolding kept_of
+can_begin k core = closed core.state.graph (heap_of k) core.stands.shows.shows
+
+-- the same heap is shown
+shows_same : (c : CoreState) (b : Buffers) (m : Marker) → views.heap_of c.table c.roots m ≡ views.heap_of c.table c.roots c.marker → (g : Graph) → ShowsGraph g c → ShowsGraph g (with_marker c b m)
+unfolding kept_of
+shows_same c b m e g s = record { room = s.room; mutators = s.mutators; next = s.next; shows = subst (λ (h : Heap). Shows g h) (sym e) s.shows }
+
+remembers_same : (c : CoreState) (b : Buffers) (m : Marker) → views.heap_of c.table c.roots m ≡ views.heap_of c.table c.roots c.marker → RemembersFields c → RemembersFields (with_marker c b m)
+unfolding kept_of
+remembers_same c b m e r = remembers_on c (with_marker c b m) refl refl refl refl (same_fields (kept_of c) (kept_of (with_marker c b m)) (λ a. ap (λ (h : Heap). h.kept a) e)) r
+
+-- marking begins
+module _ (k : CoreState) (core : IsCore k) (b : Buffers) (m : Marker) (retires : b ≡ retired k.buffers)
+    (stand : (t : Table) → BuffersStand t k.buffers → BuffersStand t b)
+    (above : (t : Table) (limit : ℕ → ℕ) → ((n : ℕ) → n < length t.regions → limit n ≤ top_of t n) → AreAbove t b limit)
+    (st : MarkerStands k.table m) (running : m.running ≡ true) (logs : m.logs ≡ k.marker.logs)
+    (tops : m.tams.previous ≡ k.marker.tams.previous) (marks : m.bitmaps.previous ≡ k.marker.bitmaps.previous)
+    (snapshot : (g : Graph) → Shows g (views.heap_of k.table k.roots k.marker) → KeepsSnapshot g (views.heap_of k.table k.roots m) (views.marking_of k.table m))
+    (shaped : IsShaped k.table) (next_tops : (n : ℕ) → n < length k.table.regions → slice_index m.tams.next n ≡ top_of k.table n) where
+  heap_begun : views.heap_of k.table k.roots m ≡ views.heap_of k.table k.roots k.marker
+  heap_begun = previous_heap k.table k.roots k.marker m tops marks
+
+  pub begun_shows : (g : Graph) → ShowsGraph g k → ShowsGraph g (with_marker k b m)
+  begun_shows = shows_same k b m heap_begun
+
+  pub begun_keeps : (g : Graph) → ShowsGraph g k → KeepsFrom g (with_marker k b m)
+  unfolding kept_of
+  begun_keeps g s = record { earlier = (let next = s.next in omega arith); marking = λ run. snapshot g s.shows }
+
+  has_begun : Begins (views.heap_of k.table k.roots m) (views.marking_of k.table m) → m.scans ≡ restarted k.marker.scans → HasBegun k (with_marker k b m)
+  unfolding kept_of
+  has_begun begins scans = record {
+    same = ap (λ (x : Buffers). with_marker k x m) retires;
+    running = running;
+    begins = begins;
+    scans = scans;
+    tops = next_tops;
+    previous_tops = tops;
+    previous_marks = marks;
+  }
+
+  pub begun_from : (c : CoreState) → k ≡ c → Begins (views.heap_of k.table k.roots m) (views.marking_of k.table m) → m.scans ≡ restarted k.marker.scans → HasBegun c (with_marker k b m)
+  begun_from c e begins scans = subst (λ (d : CoreState). HasBegun d (with_marker k b m)) e (has_begun begins scans)
+
+  pub begun_kept : IsCore (with_marker k b m)
+  begun_kept = record {
+    suits = core.suits;
+    layers = record {
+      region_size = core.layers.region_size;
+      region_count = core.layers.region_count;
+      buffer_size = ap (λ (x : Buffers). x.words) retires ∙ core.layers.buffer_size;
+      open_buffers = ap (λ (x : Buffers). length x.open_buffers) retires ∙ length-replicate (length k.buffers.open_buffers) None ∙ core.layers.open_buffers;
+      logs = ap (λ (ls : List (List ℕ)). length ls) logs ∙ core.layers.logs;
+      buffers = stand k.table core.layers.buffers;
+      unmoved = core.layers.unmoved;
+      marker = st;
+      above_previous = above k.table (slice_index m.tams.previous) st.previous.top;
+      above_next = above k.table (slice_index m.tams.next) st.next.top;
+      room = λ n. rw logs (core.layers.room n);
+      halves = core.layers.halves;
+      ends_previous = rw tops core.layers.ends_previous;
+      ends_next = ends_at_tops k.table m.tams.next shaped next_tops;
+    };
+    cards = core.cards;
+    remembers = remembers_same k b m heap_begun core.remembers;
+    room = core.room;
+    rows = core.rows;
+    places = core.places;
+    names = core.names;
+    state = record { graph = core.state.graph; snapshot = core.state.graph };
+    stands = record { shows = begun_shows core.state.graph core.stands.shows; keeps = begun_keeps core.state.graph core.stands.shows };
+  }
+
+-- marking goes on
+module _ (k : CoreState) (core : IsCore k) (run : k.marker.running ≡ true) (m : Marker) (st : MarkerStands k.table m) (same : SameRoles k.marker m)
+    (snapshots : KeepsSnapshots k.table k.marker m) (logs : m.logs ≡ k.marker.logs) where
+  heap_marked : views.heap_of k.table k.roots m ≡ views.heap_of k.table k.roots k.marker
+  heap_marked = same_heap k.table k.roots k.marker m same
+
+  pub marked_shows : (g : Graph) → ShowsGraph g k → ShowsGraph g (with_marker k k.buffers m)
+  marked_shows = shows_same k k.buffers m heap_marked
+
+  pub marked_keeps : (s : Graph) → KeepsFrom s k → KeepsFrom s (with_marker k k.buffers m)
+  unfolding kept_of
+  marked_keeps s f = record { earlier = f.earlier; marking = λ on. snapshots s core.state.graph k.roots core.stands.shows.shows (f.marking run) }
+
+  has_marked : (units n : ℕ) → n ≤ units → (n < units → HasNone (is_grey m.bitmaps.next m.grey) 0) → IsMore k.marker.scans m.scans n
+      → marked_count m.grey.scanned ≡ marked_count k.marker.grey.scanned + n → Grows k.marker m → HasMarked units k (with_marker k k.buffers m)
+  has_marked units n most none scans scanned grows = record {
+    same = refl;
+    units = n;
+    most = most;
+    none_left = none;
+    scans = scans;
+    scanned = scanned;
+    grows = grows;
+    roles = same;
+    logs = logs;
+  }
+
+  pub marked_from : (c : CoreState) → k ≡ c → (units n : ℕ) → n ≤ units → (n < units → HasNone (is_grey m.bitmaps.next m.grey) 0) → IsMore k.marker.scans m.scans n
+      → marked_count m.grey.scanned ≡ marked_count k.marker.grey.scanned + n → Grows k.marker m → HasMarked units c (with_marker k k.buffers m)
+  marked_from c e units n most none scans scanned grows = subst (λ (d : CoreState). HasMarked units d (with_marker k k.buffers m)) e (has_marked units n most none scans scanned grows)
+
+  pub marked_kept : IsCore (with_marker k k.buffers m)
+  marked_kept = record {
+    suits = core.suits;
+    layers = layers_marked k.config k.table k.buffers k.marker m core.layers st same.tams (ap (λ (ls : List (List ℕ)). length ls) logs) (λ n. rw logs (core.layers.room n));
+    cards = core.cards;
+    remembers = remembers_same k k.buffers m heap_marked core.remembers;
+    room = core.room;
+    rows = core.rows;
+    places = core.places;
+    names = core.names;
+    state = core.state;
+    stands = record { shows = marked_shows core.state.graph core.stands.shows; keeps = marked_keeps core.state.snapshot core.stands.keeps };
+  }
+
+-- logs that hold nothing together are empty
+none_in : (ls : List (List ℕ)) (n : ℕ) → logged ls ≡ [] → length (log_of ls n) ≡ 0
+none_in [] n e = refl
+none_in ([] ∷ ls) zero e = refl
+none_in ([] ∷ ls) (suc n) e = none_in ls n e
+none_in ((x ∷ l) ∷ ls) n e = absurd cc
+
+-- marking ends
+module _ (k : CoreState) (core : IsCore k) (run : k.marker.running ≡ true) (m : Marker) (n : ℕ) (st : MarkerStands k.table m) (over : m.running ≡ false)
+    (exact : EndsExactly k.table k.marker m n) (tops : m.tams ≡ exchanged k.marker.tams) (logs : length m.logs ≡ length k.marker.logs) where
+  pub remarked_shows : (g : Graph) → ShowsGraph g k → ShowsGraph g (with_marker k k.buffers m)
+  unfolding kept_of
+  remarked_shows g s = record {
+    room = s.room;
+    mutators = s.mutators;
+    next = s.next;
+    shows = (exact.ends core.state.snapshot g k.roots s.shows (core.stands.keeps.marking run)).shows;
+  }
+
+  -- what is kept then was kept before
+  remarked_remembers : RemembersFields (with_marker k k.buffers m)
+  unfolding kept_of
+  remarked_remembers =
+      let ends = exact.ends core.state.snapshot core.state.graph k.roots core.stands.shows.shows (core.stands.keeps.marking run) in
+      remembers_on k (with_marker k k.buffers m) refl refl refl refl (λ a o e. (o, ends.kept a o e, refl)) core.remembers
+
+  pub remarked_keeps : (s : Graph) → KeepsFrom s k → KeepsFrom s (with_marker k k.buffers m)
+  remarked_keeps s f = record { earlier = f.earlier; marking = λ on. absurd cc }
+
+  module _ (scans : m.scans.since ≡ n) (counted : m.scans.since ≡ marked_count m.grey.scanned) (work : ScansMore k.marker m) (scanned : (a : ℕ) → is_marked k.marker.grey.scanned a ≡ true → is_marked m.grey.scanned a ≡ true)
+      (marks : m.bitmaps.next ≡ k.marker.bitmaps.previous) where
+    has_remarked : HasRemarked n k (with_marker k k.buffers m)
+    unfolding kept_of
+    has_remarked = record {
+      same = refl;
+      over = over;
+      ends = λ s stands. exact.ends s.snapshot s.graph k.roots stands.shows.shows (stands.keeps.marking run);
+      quiet = λ g stands. exact.quiet g k.roots stands.shows.shows (stands.keeps.marking run);
+      scans = scans;
+      counted = counted;
+      work = work;
+      scanned = scanned;
+      tops = tops;
+      marks = marks;
+    }
+
+    pub remarked_from : (c : CoreState) → k ≡ c → HasRemarked n c (with_marker k k.buffers m)
+    remarked_from c e = subst (λ (d : CoreState). HasRemarked n d (with_marker k k.buffers m)) e has_remarked
+
+  pub remarked_kept : IsCore (with_marker k k.buffers m)
+  remarked_kept = record {
+    suits = core.suits;
+    layers = record {
+      region_size = core.layers.region_size;
+      region_count = core.layers.region_count;
+      buffer_size = core.layers.buffer_size;
+      open_buffers = core.layers.open_buffers;
+      logs = logs ∙ core.layers.logs;
+      buffers = core.layers.buffers;
+      unmoved = core.layers.unmoved;
+      marker = st;
+      above_previous = rw tops core.layers.above_next;
+      above_next = rw tops core.layers.above_previous;
+      room = λ i. let none = none_in m.logs i (st.idle over) in omega arith;
+      halves = core.layers.halves;
+      ends_previous = rw tops core.layers.ends_next;
+      ends_next = rw tops core.layers.ends_previous;
+    };
+    cards = core.cards;
+    remembers = remarked_remembers;
+    room = core.room;
+    rows = core.rows;
+    places = core.places;
+    names = core.names;
+    state = core.state;
+    stands = record { shows = remarked_shows core.state.graph core.stands.shows; keeps = remarked_keeps core.state.snapshot core.stands.keeps };
+  }

@@ -1,0 +1,360 @@
+-- A dead region, or a dead run, is released.
+use Rattle.std.proofs.Common.{◌≡◌, ℕ, ◌+◌, ◌-◌, ◌*◌, ◌/◌, ◌<◌, ◌≤◌, ◌⊎◌, Bool, true, false, cond, List, Option, Some, None, length, refl, sym, ◌∙◌, ap, subst, arith, inl, inr}
+use Rattle.std.specs.Prelude.{◌↔◌, slice_index, nat_lt}
+use Rattle.std.proofs.lemmas.Bool.{cases_eq}
+use Rattle.heap_model.specs.Graph.{Graph}
+use Rattle.heap_model.specs.Heap.{Stored}
+use Rattle.heap_model.proofs.Changed.{same_shows}
+use Rattle.heap_model.proofs.Shown.{closed}
+use Rattle.heap_words.specs.Configs.{card_words}
+use Rattle.regions.specs.Tiles.{Filler}
+use Rattle.regions.specs.Table.{Free, First, nth_region, kind_of, object_at, object_words, tile_in, run_length, released}
+use Rattle.regions.specs.Shaped.{IsShaped}
+use Rattle.regions.specs.declared.row.Kind.TheVariants as kinds
+use Rattle.alloc_buffers.specs.Placement.{BuffersStand, AreAbove, IsAbove}
+use Rattle.alloc_buffers.proofs.Above.{stand_released}
+use Rattle.regions.proofs.Tiles.Spliced.{IsOutside}
+use Rattle.regions.proofs.LongRuns.Blocks.{Frees, kind_is, later_rest, first_not_rest, reached, alone, release_frees, object_near, object_gone, top_near, tile_near, block_cases, rest_void, first_void, first_no_filler, void_object}
+use Rattle.mark_bitmap.specs.Marks.{is_marked}
+use Rattle.mark_bitmap.specs.Tops.{is_below, is_in_region}
+use Rattle.mark_bitmap.specs.Live.{live_bound_of}
+use Rattle.mark_bitmap.proofs.Ranges as ranges
+use Rattle.mark_bitmap.proofs.LiveWords.{dead_of_zero, dead_kept, same_bound}
+use Rattle.marker.specs.Stands.{MarkerStands}
+use Rattle.marker.specs.declared.marker.Marker.{Marker}
+use Rattle.marker.proofs.Forgotten.{table_stands}
+use Rattle.cards.specs.Cards.{is_dirty}
+use Rattle.remembered_sets.specs.Sets.{Sets, CardSet, covers, set_covers, set_of, empty_set}
+use Rattle.refinement.specs.Remembering.{Remembers, field_card}
+use Rattle.step_core.proofs.Mutating.Small.{halves_left, ends_left, words_by}
+use Rattle.step_core.specs.Stands.{CoreState, kept_of, heap_of, RemembersFields, CardsFit, ShowsGraph, KeepsFrom, IsCore}
+use Rattle.step_core.specs.Cycle.{IsDeadRegion, IsDeadRun, IsDead, IsAsNew, IsAsBefore}
+use Rattle.step_core.specs.Cleaning.{IsDeadHead, HasForgotten, HasCleared, HasReleased}
+
+-- what is kept, by what is told of an address
+abbrev pub keeps : Bool → Bool → Option Stored → Option Stored
+keeps below marked x = cond below (cond marked x None) x
+
+keeps_none : (below marked : Bool) → keeps below marked None ≡ None
+keeps_none true true = refl
+keeps_none true false = refl
+keeps_none false marked = refl
+
+pub kept_by_parts : (c : CoreState) (a : ℕ) → kept_of c a ≡ keeps (is_below c.table.words_per_region c.marker.tams.previous a) (is_marked c.marker.bitmaps.previous a) (object_at c.table a)
+unfolding kept_of
+kept_by_parts c a = refl
+
+kept_void : (c : CoreState) (a : ℕ) → object_at c.table a ≡ None → kept_of c a ≡ None
+kept_void c a e = kept_by_parts c a ∙ ap (keeps (is_below c.table.words_per_region c.marker.tams.previous a) (is_marked c.marker.bitmaps.previous a)) e ∙ keeps_none (is_below c.table.words_per_region c.marker.tams.previous a) (is_marked c.marker.bitmaps.previous a)
+
+below_near : (w w' : ℕ) (tops tops' : List ℕ) (a : ℕ) → w' ≡ w → slice_index tops' (a / w) ≡ slice_index tops (a / w) → is_below w' tops' a ≡ is_below w tops a
+unfolding is_below
+below_near w w' tops tops' a e h = ap (λ (n : ℕ). nat_lt a (slice_index tops' (a / n))) e ∙ ap (λ (top : ℕ). nat_lt a top) h
+
+-- the region n of the core k is dead, and with it those that belong to it, m in all: their marks and tops are forgotten, their
+-- sets are emptied, and they are released
+module _ (k : CoreState) (core : IsCore k) (shaped : IsShaped k.table) (n m : ℕ) (known : n < length k.table.regions) (dead : IsDeadHead k n) (together : m ≡ run_length k.table n)
+    (mk : Marker) (idle : mk.running ≡ false) (st : MarkerStands k.table mk) (f : HasForgotten k.table.words_per_region n m k.marker mk) (ss : Sets) (empty : HasCleared n m k.sets ss) where
+  abbrev after : CoreState
+  after = record k { table = released k.table n; marker = mk; sets = ss }
+
+  abbrev size : ℕ
+  size = k.table.words_per_region
+
+  kind_now : (kind_of k.table n ≡ kinds.Ordinary) ⊎ (kind_of k.table n ≡ kinds.First)
+  kind_now = elim dead [ inl d ↦ inl d.ordinary | inr d ↦ inr d.0 ]
+
+  frees : Frees k.table (released k.table n) n m
+  frees = subst (λ (j : ℕ). Frees k.table (released k.table n) n j) (sym together) (release_frees k.table n shaped known kind_now)
+
+  -- the regions behind the first one are a run's later ones
+  behind : (q : ℕ) → n < q → q < n + m → kind_of k.table q ≡ kinds.Rest
+  behind q low high = later_rest k.table n (q - n) q (omega arith) (omega arith) (omega (arith, together))
+
+  by_itself : kind_of k.table n ≡ kinds.Ordinary → m ≡ 1
+  by_itself o = together ∙ alone k.table n shaped (λ e. let no : kinds.Ordinary ≡ kinds.First = sym o ∙ e in cc) (λ e. let no : kinds.Ordinary ≡ kinds.Rest = sym o ∙ e in cc)
+
+  -- nothing of them was kept
+  none_kept : (a : ℕ) → n ≤ a / size → a / size < n + m → kept_of k a ≡ None
+  unfolding kept_of
+  none_kept a low high = elim dead [
+    | inl d ↦
+        let one = by_itself d.ordinary in
+        let same : a / size ≡ n = omega arith in
+        let inside : is_in_region size n a ≡ true = ap (λ (j : ℕ). is_in_region size j a) (sym same) ∙ ranges.in_own_region size a shaped.positive in
+        dead_kept k.table k.marker.tams k.marker.bitmaps.previous n a shaped d.ordinary (dead_of_zero k.table k.marker.tams.previous k.marker.bitmaps.previous n core.layers.marker.previous known d.live_bound) inside
+    | inr d ↦ elim (cases_eq (a / size) n) [
+      | inl same ↦ elim (cases_eq a (a / size * size)) [
+        | inl bottom ↦ ap (kept_of k) (bottom ∙ ap (λ (j : ℕ). j * size) same) ∙ d.1
+        | inr off ↦ kept_void k a (void_object k.table a (first_void k.table a shaped.positive (ap (kind_of k.table) same ∙ d.0) off))
+      ]
+      | inr ne ↦ kept_void k a (void_object k.table a (rest_void k.table a (behind (a / size) (omega arith) high)))
+    ]
+  ]
+
+  kept_same : (a : ℕ) → kept_of after a ≡ kept_of k a
+  kept_same a = elim (block_cases n m (a / size)) [
+    | inl out ↦
+        kept_by_parts after a
+        ∙ ap (λ (b : Bool). keeps b (is_marked mk.bitmaps.previous a) (object_at (released k.table n) a)) (below_near size (released k.table n).words_per_region k.marker.tams.previous mk.tams.previous a frees.size (f.previous_tops (a / size) out))
+        ∙ ap (λ (b : Bool). keeps (is_below size k.marker.tams.previous a) b (object_at (released k.table n) a)) (f.previous a out)
+        ∙ ap (keeps (is_below size k.marker.tams.previous a) (is_marked k.marker.bitmaps.previous a)) (object_near k.table (released k.table n) a frees.size (frees.others (a / size) out))
+        ∙ sym (kept_by_parts k a)
+    | inr q ↦
+        let gone : object_at (released k.table n) a ≡ None = object_gone (released k.table n) a (ap (λ (w : ℕ). nth_region (released k.table n) (a / w)) frees.size ∙ frees.free (a / size) q.0 q.1) in
+        kept_void after a gone ∙ sym (none_kept a q.0 q.1)
+  ]
+
+  none_there : (a : ℕ) → n ≤ a / size → a / size < n + m → kept_of after a ≡ None
+  none_there a low high = kept_same a ∙ none_kept a low high
+
+  pub release_shows : (g : Graph) → ShowsGraph g k → ShowsGraph g after
+  release_shows g s = record {
+    room = s.room;
+    mutators = s.mutators;
+    next = s.next;
+    shows = same_shows g (heap_of k) (heap_of after) s.shows (record { kept = kept_same; roots = refl });
+  }
+
+  pub release_keeps : (s : Graph) → KeepsFrom s k → KeepsFrom s after
+  release_keeps s g = record { earlier = g.earlier; marking = λ run. absurd cc }
+
+  bottom_same : (j : ℕ) → j * (released k.table n).words_per_region ≡ j * size
+  bottom_same j = ap (λ (w : ℕ). j * w) frees.size
+
+  pub release_stands : MarkerStands (released k.table n) mk
+  release_stands = table_stands k.table (released k.table n) mk st frees.count frees.size
+      (λ j lt. elim (block_cases n m j) [
+        | inl out ↦ let top = st.previous.top j lt in let same = top_near k.table (released k.table n) j frees.size (frees.others j out) in omega (arith, top, same)
+        | inr q ↦ let low = f.low_previous j q.0 q.1 in let b = bottom_same j in omega (arith, low, b)
+      ])
+      (λ j lt. elim (block_cases n m j) [
+        | inl out ↦ let top = st.next.top j lt in let same = top_near k.table (released k.table n) j frees.size (frees.others j out) in omega (arith, top, same)
+        | inr q ↦ let low = f.low_next j q.0 q.1 in let b = bottom_same j in omega (arith, low, b)
+      ])
+      (λ a x marked o. elim (block_cases n m (a / size)) [
+        | inl out ↦ (x, object_near k.table (released k.table n) a frees.size (frees.others (a / size) out) ∙ o)
+        | inr q ↦ absurd (let no = f.no_previous a q.0 q.1 in cc)
+      ])
+      (λ a x marked o. elim (block_cases n m (a / size)) [
+        | inl out ↦ (x, object_near k.table (released k.table n) a frees.size (frees.others (a / size) out) ∙ o)
+        | inr q ↦ absurd (let no = f.no_next a q.0 q.1 in cc)
+      ])
+      (λ on. absurd (let e = idle in cc))
+
+  -- what lay above the tops at mark start still does
+  above_after : (limit limit' : ℕ → ℕ) → ((j : ℕ) → n ≤ j → j < n + m → limit' j ≡ j * size) → ((j : ℕ) → IsOutside n m j → limit' j ≡ limit j) → AreAbove k.table k.buffers limit → AreAbove (released k.table n) k.buffers limit'
+  above_after limit limit' low same above = record {
+    tops = λ j lt. elim (block_cases n m j) [
+      | inl out ↦ let was = above.tops j (let c = frees.count in omega arith) in let top = top_near k.table (released k.table n) j frees.size (frees.others j out) in let e = same j out in omega (arith, was, top, e)
+      | inr q ↦ let e = low j q.0 q.1 in let b = bottom_same j in omega (arith, e, b)
+    ];
+    buffers = λ i x e. subst (λ (w : ℕ). IsAbove w limit' x.next) (sym frees.size) (λ j jl jh. elim (block_cases n m j) [
+      | inl out ↦ let was = above.buffers i x e j jl jh in let s = same j out in omega (arith, was, s)
+      | inr q ↦ let s = low j q.0 q.1 in omega (arith, s)
+    ]);
+  }
+
+  -- buffers stand: none is in a run
+  buffers_after : BuffersStand (released k.table n) k.buffers
+  buffers_after = elim dead [
+    | inl d ↦
+        let gone = dead_of_zero k.table k.marker.tams.previous k.marker.bitmaps.previous n core.layers.marker.previous known d.live_bound in
+        stand_released k.table k.buffers (slice_index k.marker.tams.previous) n shaped core.layers.buffers core.layers.above_previous known d.ordinary gone.top d.other
+    | inr d ↦ record {
+      known = λ j e. let lt = core.layers.buffers.known j e in let c = frees.count in omega (arith, lt, c);
+      ordinary = λ j e.
+          let o = core.layers.buffers.ordinary j e in
+          elim (block_cases n m j) [
+            | inl out ↦ kind_near j out ∙ o
+            | inr q ↦ absurd (not_ordinary d.0 j q.0 q.1 o)
+          ];
+      fillers = λ i x e.
+          let w = core.layers.buffers.fillers i x e in
+          elim (block_cases n m (x.next / size)) [
+            | inl out ↦ record { positive = w.positive; filler = tile_near k.table (released k.table n) x.next frees.size (frees.others (x.next / size) out) ∙ w.filler }
+            | inr q ↦ absurd (no_filler d.0 x.next x.rest q.0 q.1 w.filler)
+          ];
+      apart = core.layers.buffers.apart;
+    }
+  ]
+    where
+      kind_near : (j : ℕ) → IsOutside n m j → kind_of (released k.table n) j ≡ kind_of k.table j
+      kind_near j out = kind_is (released k.table n) j (nth_region k.table j) (frees.others j out) ∙ sym (kind_is k.table j (nth_region k.table j) refl)
+
+      not_ordinary : kind_of k.table n ≡ kinds.First → (j : ℕ) → n ≤ j → j < n + m → kind_of k.table j ≡ kinds.Ordinary → ⊥
+      not_ordinary first j low high o = elim (cases_eq j n) [
+        | inl same ↦ (let no : kinds.First ≡ kinds.Ordinary = sym first ∙ ap (kind_of k.table) (sym same) ∙ o in cc)
+        | inr ne ↦ (let rest = behind j (omega arith) high in let no : kinds.Rest ≡ kinds.Ordinary = sym rest ∙ o in cc)
+      ]
+
+      no_filler : kind_of k.table n ≡ kinds.First → (a rest : ℕ) → n ≤ a / size → a / size < n + m → tile_in k.table a ≡ Some (Filler rest) → ⊥
+      no_filler first a rest low high e = elim (cases_eq (a / size) n) [
+        | inl same ↦ first_no_filler k.table a rest (ap (kind_of k.table) same ∙ first) e
+        | inr ne ↦ (let void = rest_void k.table a (behind (a / size) (omega arith) high) in cc)
+      ]
+
+  covers_others : (r card : ℕ) → IsOutside n m r → covers k.sets r card ≡ true → covers ss r card ≡ true
+  covers_others r card out e = ap (λ (x : CardSet). set_covers x card (card / ss.cards_per_region)) (empty.others r out) ∙ ap (λ (c : ℕ). set_covers (set_of k.sets r) card (card / c)) empty.cards ∙ e
+
+  remembers_after : RemembersFields after
+  remembers_after =
+      let shows = release_shows core.state.graph core.stands.shows in
+      let field = closed core.state.graph (heap_of after) shows.shows in
+      subst (λ (w : ℕ). Remembers w (kept_of after) (card_words k.config) (is_dirty k.cards) (covers ss)) (sym frees.size) (record {
+        each = λ at index target x.
+            let old = core.remembers.each at index target (record { object = x.object; kept_is = sym (kept_same at) ∙ x.kept_is; field_is = x.field_is; leaves = x.leaves }) in
+            let there = field.field at index target x.object x.kept_is x.field_is in
+            elim old [
+              | inl dirty ↦ inl dirty
+              | inr covered ↦ elim (block_cases n m (target / size)) [
+                | inl out ↦ inr (covers_others (target / size) (field_card (card_words k.config) at index) out covered)
+                | inr q ↦ absurd (let none = none_there target q.0 q.1 in let kept = there.1 in cc)
+              ]
+            ];
+      })
+
+  cards_fit : CardsFit k.config k.cards ss
+  cards_fit = record {
+    whole_cards = core.cards.whole_cards ∙ ap (λ (c : ℕ). c * card_words k.config) (sym empty.cards);
+    each_region = empty.count ∙ core.cards.each_region;
+    each_card = core.cards.each_card ∙ ap (λ (c : ℕ). c * k.sets.cards_per_region) (sym empty.count) ∙ ap (λ (c : ℕ). length ss.sets * c) (sym empty.cards);
+    each_mutator = core.cards.each_mutator;
+  }
+
+  kind_other : (j : ℕ) → IsOutside n m j → kind_of (released k.table n) j ≡ kind_of k.table j
+  kind_other j out = kind_is (released k.table n) j (nth_region k.table j) (frees.others j out) ∙ sym (kind_is k.table j (nth_region k.table j) refl)
+
+  -- a region that is ordinary afterwards is another one, and was so with the same objects
+  still_ordinary : (j : ℕ) → kind_of (released k.table n) j ≡ kinds.Ordinary → IsOutside n m j
+  still_ordinary j o = elim (block_cases n m j) [
+    | inl out ↦ out
+    | inr q ↦ absurd (let free = kind_is (released k.table n) j Free (frees.free j q.0 q.1) in let no : kinds.Free ≡ kinds.Ordinary = sym free ∙ o in cc)
+  ]
+
+  left : (j a : ℕ) → kind_of (released k.table n) j ≡ kinds.Ordinary → is_in_region size j a ≡ true → (kind_of k.table j ≡ kinds.Ordinary) × (object_words (released k.table n) a ≡ object_words k.table a)
+  left j a o inside =
+      let out = still_ordinary j o in
+      let at : IsOutside n m (a / size) = subst (λ (q : ℕ). IsOutside n m q) (sym (ranges.nth_region size j a inside)) out in
+      (sym (kind_other j out) ∙ o, words_by k.table (released k.table n) a (object_near k.table (released k.table n) a frees.size (frees.others (a / size) at)))
+
+  pub release_kept : IsCore after
+  release_kept = record {
+    suits = core.suits;
+    layers = record {
+      region_size = frees.size ∙ core.layers.region_size;
+      region_count = frees.count ∙ core.layers.region_count;
+      buffer_size = core.layers.buffer_size;
+      open_buffers = core.layers.open_buffers;
+      logs = ap (λ (x : Marker). length x.logs) f.same ∙ core.layers.logs;
+      buffers = buffers_after;
+      unmoved = frees.unmoved core.layers.unmoved;
+      marker = release_stands;
+      above_previous = above_after (slice_index k.marker.tams.previous) (slice_index mk.tams.previous) f.low_previous f.previous_tops core.layers.above_previous;
+      above_next = above_after (slice_index k.marker.tams.next) (slice_index mk.tams.next) f.low_next f.next_tops core.layers.above_next;
+      room = λ i. rw (ap (λ (x : Marker). x.logs) f.same) (core.layers.room i);
+      halves = halves_left k.table (released k.table n) shaped.positive frees.size left core.layers.halves;
+      ends_previous = ends_left k.table (released k.table n) k.marker.tams.previous mk.tams.previous frees.size left (λ j o. f.previous_tops j (still_ordinary j o)) core.layers.ends_previous;
+      ends_next = ends_left k.table (released k.table n) k.marker.tams.next mk.tams.next frees.size left (λ j o. f.next_tops j (still_ordinary j o)) core.layers.ends_next;
+    };
+    cards = cards_fit;
+    remembers = remembers_after;
+    room = core.room;
+    rows = core.rows;
+    places = core.places;
+    names = core.names;
+    state = core.state;
+    stands = record { shows = release_shows core.state.graph core.stands.shows; keeps = release_keeps core.state.snapshot core.stands.keeps };
+  }
+
+  -- the live bounds of the other regions
+  bound_other : (j : ℕ) → IsOutside n m j → live_bound_of (released k.table n) mk.tams.previous mk.bitmaps.previous j ≡ live_bound_of k.table k.marker.tams.previous k.marker.bitmaps.previous j
+  bound_other j out =
+      same_bound k.table (released k.table n) k.marker.tams.previous mk.tams.previous k.marker.bitmaps.previous mk.bitmaps.previous j shaped frees.size (frees.others j out) (f.previous_tops j out)
+      (λ a i. f.previous a (subst (λ (q : ℕ). IsOutside n m q) (sym (ranges.nth_region size j a i)) out)) core.layers.marker.previous
+
+  region_other : (j : ℕ) → IsOutside n m j → IsDeadRegion after j ↔ IsDeadRegion k j
+  region_other j out = (
+    λ d. record { ordinary = sym (kind_other j out) ∙ d.ordinary; other = d.other; live_bound = sym (bound_other j out) ∙ d.live_bound },
+    λ d. record { ordinary = kind_other j out ∙ d.ordinary; other = d.other; live_bound = bound_other j out ∙ d.live_bound },
+  )
+
+  run_other : (j : ℕ) → IsOutside n m j → IsDeadRun after j ↔ IsDeadRun k j
+  run_other j out = (
+    λ d. elim (block_cases n m d.first) [
+      | inl away ↦ record {
+        first = d.first;
+        object = d.object;
+        begins = sym (frees.others d.first away) ∙ d.begins;
+        low = d.low;
+        reaches = (let e = ap (λ (w : ℕ). (j - d.first) * w) frees.size in let r = d.reaches in omega (arith, e, r));
+        dead = ap (kept_of k) (sym (bottom_same d.first)) ∙ sym (kept_same (d.first * (released k.table n).words_per_region)) ∙ d.dead;
+      }
+      | inr q ↦ absurd (let gone = frees.free d.first q.0 q.1 in let begins = d.begins in let no : Free ≡ First d.object = sym gone ∙ begins in cc)
+    ],
+    λ d. elim (block_cases n m d.first) [
+      | inl away ↦ record {
+        first = d.first;
+        object = d.object;
+        begins = frees.others d.first away ∙ d.begins;
+        low = d.low;
+        reaches = (let e = ap (λ (w : ℕ). (j - d.first) * w) frees.size in let r = d.reaches in omega (arith, e, r));
+        dead = kept_same (d.first * (released k.table n).words_per_region) ∙ ap (kept_of k) (bottom_same d.first) ∙ d.dead;
+      }
+      | inr q ↦ absurd (elim (cases_eq d.first n) [
+        | inl same ↦
+            let begins : nth_region k.table n ≡ First d.object = ap (nth_region k.table) (sym same) ∙ d.begins in
+            let far : (j - n) * size ≡ (j - d.first) * size = ap (λ (i : ℕ). (j - i) * size) (sym same) in
+            let reach = reached k.table n (j - n) d.object shaped begins (let r = d.reaches in omega (arith, r, far)) in
+            not_outside n m j out (let low = d.low in omega arith) (let low = d.low in omega (arith, reach, together))
+        | inr ne ↦ first_not_rest k.table d.first d.object d.begins (behind d.first (omega arith) q.1)
+      ])
+    ],
+  )
+    where
+      not_outside : (n m j : ℕ) → IsOutside n m j → n ≤ j → j < n + m → ⊥
+      not_outside n m j (inl lt) low high = absurd (omega arith)
+      not_outside n m j (inr past) low high = absurd (omega arith)
+
+  dead_other : (j : ℕ) → IsOutside n m j → IsDead after j ↔ IsDead k j
+  dead_other j out = (
+    λ d. elim d [ inl r ↦ inl ((region_other j out).0 r) | inr r ↦ inr ((run_other j out).0 r) ],
+    λ d. elim d [ inl r ↦ inl ((region_other j out).1 r) | inr r ↦ inr ((run_other j out).1 r) ],
+  )
+
+  as_new : (j : ℕ) → n ≤ j → j < n + m → IsAsNew after j
+  as_new j low high = record {
+    free = frees.free j low high;
+    set = empty.empty j low high ∙ ap empty_set (sym empty.count);
+    previous_top = f.low_previous j low high ∙ sym (bottom_same j);
+    next_top = f.low_next j low high ∙ sym (bottom_same j);
+    previous_marks = λ a i. let at = region_is j a i in f.no_previous a (omega (arith, at, low)) (omega (arith, at, high));
+    next_marks = λ a i. let at = region_is j a i in f.no_next a (omega (arith, at, low)) (omega (arith, at, high));
+  }
+    where
+      region_is : (j a : ℕ) → is_in_region (released k.table n).words_per_region j a ≡ true → a / size ≡ j
+      region_is j a i = ranges.nth_region size j a (subst (λ (w : ℕ). is_in_region w j a ≡ true) frees.size i)
+
+  as_before : (j : ℕ) → IsOutside n m j → IsAsBefore k after j
+  as_before j out = record {
+    region = frees.others j out;
+    set = empty.others j out;
+    previous_top = f.previous_tops j out;
+    next_top = f.next_tops j out;
+    previous_marks = λ a i. f.previous a (subst (λ (q : ℕ). IsOutside n m q) (sym (ranges.nth_region size j a i)) out);
+    next_marks = λ a i. f.next a (subst (λ (q : ℕ). IsOutside n m q) (sym (ranges.nth_region size j a i)) out);
+  }
+
+  has_released : HasReleased n m k after
+  has_released = record {
+    changes = record { same = refl; marker = f.same; size = frees.size; kept = kept_same };
+    count = frees.count;
+    each_set = empty.count;
+    within = frees.known;
+    released = as_new;
+    others = as_before;
+    dead = dead_other;
+  }
+
+  pub released_from : (c : CoreState) → k ≡ c → HasReleased n m c after
+  released_from c e = subst (λ (d : CoreState). HasReleased n m d after) e has_released

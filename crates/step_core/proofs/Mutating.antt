@@ -1,0 +1,9 @@
+pub mod Small
+pub mod Reading
+pub mod Written
+pub mod Acting
+pub mod Overwritten
+pub mod Storing
+pub mod Stored
+pub mod Noting
+pub mod Creating

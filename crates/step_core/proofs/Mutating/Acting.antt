@@ -1,0 +1,143 @@
+-- A step's reply, and what the core shows after it.
+use Rattle.std.proofs.Common.{◌≡◌, ℕ, ◌+◌, ◌-◌, ◌*◌, ◌<◌, ◌≤◌, Option, Some, None, List, length, get_or, refl, sym, ◌∙◌, ap, subst}
+use Rattle.std.specs.Prelude.{slice_get, slice_set}
+use Rattle.std.specs.List.{AllZip}
+use Rattle.heap_model.specs.Graph.{Graph, Object, object_named, with_changed}
+use Rattle.heap_model.specs.Heap.{Stored, IsShown, ObjectSet}
+use Rattle.heap_words.specs.declared.config.Config.{Config}
+use Rattle.std.proofs.lemmas.List.{length-set}
+use Rattle.std.proofs.lemmas.Option.{slice_get-get_or}
+use Rattle.heap_model.proofs.Changed.{root_set_shows, object_set_shows}
+use Rattle.regions.specs.Table.{Table, pointers_at, values_at, object_values, set_value}
+use Rattle.regions.proofs.Tiles.Changes.{WritesObject, value_put}
+use Rattle.regions.proofs.Words.Values.{with_value}
+use Rattle.object_graph.specs.State.{with_root, register_place}
+use Rattle.object_graph.specs.Machine.{Outcome, act, on_object, on_name, on_contents, refused, stored}
+use Rattle.object_graph.specs.declared.step.Action.{Action}
+use Rattle.object_graph.specs.declared.step.Action.TheVariants as actions
+use Rattle.object_graph.specs.declared.step.Reply.{Reply}
+use Rattle.object_graph.specs.declared.step.Reply.TheVariants as replies
+use Rattle.object_graph.specs.declared.step.Refusal.TheVariants as refusals
+use Rattle.object_graph.specs.declared.step.Register.{Register}
+use Rattle.step_core.specs.Stands.{CoreState, kept_of, heap_of, ShowsGraph, IsCore, IsWordOf, HasObject, Leads, name_in}
+use Rattle.step_core.specs.Answers.{Acts}
+use Rattle.step_core.proofs.Mutating.Reading.{field_shown, no_field, no_value, shown_name, object_kept, pointers_there, AllZip-length}
+use Rattle.step_core.proofs.Mutating.Written.{SamePlaces, object_written}
+
+pub acts_by : (g : Graph) (m : ℕ) (a : Action) (reply : Reply) (c : CoreState) (out : Outcome) → act g m a ≡ out → reply ≡ out.0 → ShowsGraph out.1 c → Acts g m a reply c
+acts_by g m a reply c out e r s = record { reply_is = r ∙ sym (ap (λ (o : Outcome). o.0) e); shows = subst (λ (o : Outcome). ShowsGraph o.1 c) (sym e) s }
+
+on_found : (g : Graph) (c : CoreState) (m a : ℕ) (r : Register) (f : ℕ → Object → Outcome) (h : HasObject g c (register_place m r.number) a) → on_object g m r f ≡ f h.stored.name h.object
+on_found g c m a r f h = ap (λ (o : Option ℕ). on_name g o f) h.root ∙ ap (λ (o : Option Object). on_contents g o (f h.stored.name)) h.found
+
+-- the core with another word in a root place
+abbrev pub with_root_word : CoreState → ℕ → Option ℕ → CoreState
+with_root_word c place w = record c { roots = slice_set c.roots place w }
+
+pub root_shows : (g : Graph) (c : CoreState) (place : ℕ) (w v : Option ℕ) → ShowsGraph g c → IsShown (heap_of c) w v → ShowsGraph (with_root g place v) (with_root_word c place w)
+unfolding kept_of
+root_shows g c place w v s shown = record {
+  room = s.room;
+  mutators = s.mutators;
+  next = s.next;
+  shows = root_set_shows g (heap_of c) (heap_of (with_root_word c place w)) s.shows place w v shown (record { kept = λ a. refl; roots = refl });
+}
+
+pub values_there : (c : CoreState) (a : ℕ) (x : Stored) → kept_of c a ≡ Some x → values_at c.table a ≡ x.values
+unfolding values_at
+values_there c a x e = ap object_values (object_kept c a x e)
+
+pub field_word : (c : CoreState) (place a i : ℕ) (w : Option ℕ) → IsCore c → Leads c place (Some a) → slice_get (pointers_at c.table a) i ≡ Some w → IsWordOf (heap_of c) w
+field_word c place a i w k l e =
+    let h = l k.state.graph k.stands.shows in
+    let f = field_shown k.state.graph c place a i w h (ap (λ (ps : List (Option ℕ)). slice_get ps i) (sym (pointers_there c a h.stored h.at)) ∙ e) in
+    record { name = f.name; shown = f.shown }
+
+-- the core with another object of the same name at an address
+pub object_shows : (g : Graph) (c c' : CoreState) (a : ℕ) (x y : Stored) (o p : Object) → ShowsGraph g c → SamePlaces c c' → ObjectSet (heap_of c) (heap_of c') a x y
+    → object_named g x.name ≡ Some o → AllZip (IsShown (heap_of c)) y.pointers p.pointers → y.values ≡ p.values
+    → ShowsGraph (with_changed g x.name p) c'
+object_shows g c c' a x y o p s same set named pointers values = record {
+  room = s.room ∙ sym (ap (λ (k : Config). k.regions * k.words) same.config);
+  mutators = s.mutators ∙ sym (ap (λ (k : Config). k.mutators) same.config);
+  next = ap (λ n. g.first_name + n) (length-set g.objects (x.name - g.first_name) p) ∙ s.next ∙ sym same.next;
+  shows = object_set_shows g (heap_of c) (heap_of c') s.shows a x y o p set named pointers values;
+}
+
+module _ (g : Graph) (c : CoreState) (s : ShowsGraph g c) (m : ℕ) (object : Register) where
+  module _ (a : ℕ) (l : Leads c (register_place m object.number) (Some a)) where
+    pub get_past : (to : Register) (i : ℕ) → length (pointers_at c.table a) ≤ i → Acts g m (actions.Get to object i) (replies.Refused refusals.NoField) c
+    get_past to i k =
+        let h = l g s in
+        let none = no_field g c _ a i h (rw (pointers_there c a h.stored h.at) at k) in
+        acts_by g m (actions.Get to object i) (replies.Refused refusals.NoField) c (refused g refusals.NoField) (on_found g c m a object _ h ∙ rw none refl) refl s
+
+    pub put_past : (i : ℕ) (value : Option Register) → length (pointers_at c.table a) ≤ i → Acts g m (actions.Put object i value) (replies.Refused refusals.NoField) c
+    put_past i value k =
+        let h = l g s in
+        let none = no_field g c _ a i h (rw (pointers_there c a h.stored h.at) at k) in
+        acts_by g m (actions.Put object i value) (replies.Refused refusals.NoField) c (refused g refusals.NoField) (on_found g c m a object _ h ∙ rw none refl) refl s
+
+    pub read_past : (i : ℕ) → length (values_at c.table a) ≤ i → Acts g m (actions.Read object i) (replies.Refused refusals.NoField) c
+    read_past i k =
+        let h = l g s in
+        let none = no_value g c _ a i h (rw (values_there c a h.stored h.at) at k) in
+        acts_by g m (actions.Read object i) (replies.Refused refusals.NoField) c (refused g refusals.NoField) (on_found g c m a object _ h ∙ rw none refl) refl s
+
+    pub write_past : (i v : ℕ) → length (values_at c.table a) ≤ i → Acts g m (actions.Write object i v) (replies.Refused refusals.NoField) c
+    write_past i v k =
+        let h = l g s in
+        let none = no_value g c _ a i h (rw (values_there c a h.stored h.at) at k) in
+        acts_by g m (actions.Write object i v) (replies.Refused refusals.NoField) c (refused g refusals.NoField) (on_found g c m a object _ h ∙ rw none refl) refl s
+
+    -- get: the register that the field goes to
+    pub get_done : (to : Register) (i : ℕ) (w : Option ℕ) (n : Option ℕ) (c' : CoreState) → slice_get (pointers_at c.table a) i ≡ Some w → n ≡ name_in c.table w
+        → ((g : Graph) (v : Option ℕ) → ShowsGraph g c → IsShown (heap_of c) w v → ShowsGraph (with_root g (register_place m to.number) v) c')
+        → Acts g m (actions.Get to object i) (replies.Named n) c'
+    get_done to i w n c' e name after =
+        let h = l g s in
+        let f = field_shown g c _ a i w h (ap (λ (ps : List (Option ℕ)). slice_get ps i) (sym (pointers_there c a h.stored h.at)) ∙ e) in
+        let there = f.there in
+        acts_by g m (actions.Get to object i) (replies.Named n) c' (replies.Named f.name, with_root g (register_place m to.number) f.name)
+        (on_found g c m a object _ h ∙ rw there refl) (ap replies.Named (name ∙ shown_name c w f.name f.shown)) (after g f.name s f.shown)
+
+    pub read_done : (i w : ℕ) → slice_get (values_at c.table a) i ≡ Some w → Acts g m (actions.Read object i) (replies.Word w) c
+    read_done i w e =
+        let h = l g s in
+        let there : slice_get h.object.values i ≡ Some w = ap (λ (ps : List ℕ). slice_get ps i) (sym (values_there c a h.stored h.at ∙ h.values)) ∙ e in
+        acts_by g m (actions.Read object i) (replies.Word w) c (replies.Word w, g) (on_found g c m a object _ h ∙ rw there refl) refl s
+
+    pub shape_done : (p d : ℕ) → p ≡ length (pointers_at c.table a) → d ≡ length (values_at c.table a) → Acts g m (actions.Shape object) (replies.Shape p d) c
+    shape_done p d ep ed =
+        let h = l g s in
+        let np : p ≡ length h.object.pointers = ep ∙ ap (λ (ps : List (Option ℕ)). length ps) (pointers_there c a h.stored h.at) ∙ AllZip-length (IsShown (heap_of c)) h.stored.pointers h.object.pointers h.pointers in
+        let nd : d ≡ length h.object.values = ed ∙ ap (λ (ps : List ℕ). length ps) (values_there c a h.stored h.at ∙ h.values) in
+        acts_by g m (actions.Shape object) (replies.Shape p d) c (replies.Shape (length h.object.pointers) (length h.object.values), g) (on_found g c m a object _ h) (ap (λ n. replies.Shape n d) np ∙ ap (λ n. replies.Shape (length h.object.pointers) n) nd) s
+
+    -- put: the store
+    pub put_done : (i : ℕ) (value : Option Register) (w : Option ℕ) (c' : CoreState) → i < length (pointers_at c.table a) → IsShown (heap_of c) w (stored g m value)
+        → ((g : Graph) (x : Stored) (o : Object) (v : Option ℕ) → ShowsGraph g c → kept_of c a ≡ Some x → object_named g x.name ≡ Some o → IsShown (heap_of c) w v
+        → ShowsGraph (with_changed g x.name (record { pointers = slice_set o.pointers i v; values = o.values })) c')
+        → Acts g m (actions.Put object i value) replies.Done c'
+    put_done i value w c' k shown after =
+        let h = l g s in
+        let k' : i < length h.stored.pointers = rw (pointers_there c a h.stored h.at) at k in
+        let f = field_shown g c _ a i _ h (slice_get-get_or h.stored.pointers i None k') in
+        let there = f.there in
+        let v : Option ℕ = stored g m value in
+        let p : Object = record { pointers = slice_set h.object.pointers i v; values = h.object.values } in
+        acts_by g m (actions.Put object i value) replies.Done c' (replies.Done, with_changed g h.stored.name p)
+        (on_found g c m a object _ h ∙ rw there refl) refl (after g h.stored h.object v s h.at h.named shown)
+
+    pub write_done : (i v : ℕ) (t : Table) → i < length (values_at c.table a) → 0 < c.table.words_per_region → t ≡ set_value c.table a i v
+        → Acts g m (actions.Write object i v) replies.Done (record c { table = t })
+    write_done i v t k z e =
+        let h = l g s in
+        let k' : i < length h.stored.values = rw (values_there c a h.stored h.at) at k in
+        let there : slice_get h.object.values i ≡ Some (get_or h.stored.values i 0) = ap (λ (ps : List ℕ). slice_get ps i) (sym h.values) ∙ slice_get-get_or h.stored.values i 0 k' in
+        let p : Object = record { pointers = h.object.pointers; values = slice_set h.object.values i v } in
+        let writes = subst (λ (u : Table). WritesObject c.table u a h.stored (with_value h.stored i v)) (sym e) (value_put c.table a i v h.stored z (object_kept c a h.stored h.at)) in
+        acts_by g m (actions.Write object i v) replies.Done (record c { table = t }) (replies.Done, with_changed g h.stored.name p)
+        (on_found g c m a object _ h ∙ rw there refl) refl
+        (object_shows g c (record c { table = t }) a h.stored (with_value h.stored i v) h.object p s (record { config = refl; next = refl })
+        (object_written c (record c { table = t }) a h.stored (with_value h.stored i v) writes refl h.at (record { tams = refl; previous = refl; roots = refl })) h.named h.pointers (ap (λ (ps : List ℕ). slice_set ps i v) h.values))

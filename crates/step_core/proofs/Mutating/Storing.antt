@@ -1,0 +1,198 @@
+-- The write barrier: a store into a pointer of an object that a root names.
+use Rattle.std.proofs.lemmas.List.{length-set}
+use Rattle.std.proofs.Common.{◌≡◌, ℕ, ◌+◌, ◌<◌, true, false, List, Option, Some, None, length, refl, sym, ◌∙◌, ap, subst, inl, inr}
+use Rattle.std.specs.Prelude.{slice_get, slice_set}
+use Rattle.std.specs.List.{AllZip}
+use Rattle.heap_model.specs.Graph.{Graph, Object, IsReachable, next_name, object_named, with_changed}
+use Rattle.heap_model.specs.Heap.{Stored, IsRoot, IsHeld, IsShown, ObjectSet}
+use Rattle.heap_model.specs.Marking.{Marking, KeepsSnapshot, IsSaved}
+use Rattle.heap_model.proofs.Lists.{AllZip-set}
+use Rattle.heap_model.proofs.Shown.{closed}
+use Rattle.heap_model.proofs.Mutate.{object_set}
+use Rattle.regions.specs.Table.{Table, pointers_at, set_pointer}
+use Rattle.regions.proofs.Tiles.Changes.{WritesObject, pointer_put}
+use Rattle.regions.proofs.Words.Fields.{with_pointer}
+use Rattle.satb_log.specs.Logs.{log_of}
+use Rattle.mark_bitmap.specs.Tops.{Tops}
+use Rattle.marker.specs.Views as views
+use Rattle.marker.specs.Stands.{MarkerStands, CanFollow, IsKept}
+use Rattle.marker.specs.Steps.{SameRoles, KeepsSnapshots}
+use Rattle.marker.specs.declared.marker.Marker.{Marker}
+use Rattle.heap_words.specs.Configs.{card_words}
+use Rattle.step_core.specs.Stands.{CoreState, kept_of, heap_of, marking_of, RemembersFields, ShowsGraph, KeepsFrom, IsCore}
+use Rattle.step_core.specs.Cycle.{LeavesRegions}
+use Rattle.step_core.proofs.Cores.Sizes.{some_words}
+use Rattle.step_core.proofs.Cores.Remembering.{remembers_stored}
+use Rattle.cards.specs.Cards.{is_dirty}
+use Rattle.refinement.specs.Remembering.{field_word, IsNoted}
+use Rattle.step_core.proofs.Mutating.Reading.{object_kept, pointers_there}
+use Rattle.step_core.proofs.Mutating.Written.{SameKeeping, object_written, marking_same}
+use Rattle.step_core.proofs.Mutating.Acting.{object_shows}
+use Rattle.step_core.proofs.Cores.Layers.{follows_of, layers_writes, layers_changed, marker_writes}
+
+-- the object that a root names
+pub record Rooted (c : CoreState) (a : ℕ) : Type 0 where
+  pub stored : Stored
+  pub at : kept_of c a ≡ Some stored
+
+pub rooted : (c : CoreState) (a : ℕ) → IsCore c → IsRoot (heap_of c) a → Rooted c a
+rooted c a core r = let (x, at) = (closed core.state.graph (heap_of c) core.stands.shows.shows).root r.place a r.is in record { stored = x; at = at }
+
+pub is_kept : (c : CoreState) (a : ℕ) (x : Stored) → kept_of c a ≡ Some x → IsKept c.table c.marker a
+unfolding kept_of
+is_kept c a x e = record { object = x; is = e }
+
+-- what the field held is kept
+pub overwritten_kept : (c : CoreState) (a i b : ℕ) (w : Option ℕ) → IsCore c → Rooted c a → slice_get (pointers_at c.table a) i ≡ Some w → w ≡ Some b → IsKept c.table c.marker b
+overwritten_kept c a i b w core r is e =
+    let all = closed core.state.graph (heap_of c) core.stands.shows.shows in
+    let there : slice_get r.stored.pointers i ≡ Some (Some b) = ap (λ (ps : List (Option ℕ)). slice_get ps i) (sym (pointers_there c a r.stored r.at)) ∙ is ∙ ap Some e in
+    let (x, at) = all.field a i b r.stored r.at there in
+    is_kept c b x at
+
+-- the core with the table and the marker changed
+abbrev pub with_store : CoreState → Table → Marker → CoreState
+with_store c t m = record c { table = t; marker = m }
+
+-- the marks and tops that tell what is kept stay
+pub same_keeping : (c : CoreState) (t : Table) (m : Marker) → SameRoles c.marker m → SameKeeping c (with_store c t m)
+same_keeping c t m same = record { tams = ap (λ tams. Tops.previous tams) same.tams; previous = same.previous; roots = refl }
+
+module _ (k : CoreState) (core : IsCore k) (a i : ℕ) (w : Option ℕ) (t : Table) (root : IsRoot (heap_of k) a) (within : i < length (pointers_at k.table a))
+    (held : IsHeld (heap_of k) w) (is : t ≡ set_pointer k.table a i w) (r : Rooted k a)
+    (noted : IsNoted k.table.words_per_region (card_words k.config) (is_dirty k.cards) (field_word a i) w) where
+  abbrev pub x : Stored
+  x = r.stored
+
+  pub at : kept_of k a ≡ Some x
+  at = r.at
+
+  pub writes : WritesObject k.table t a x (with_pointer x i w)
+  writes = subst (λ (u : Table). WritesObject k.table u a x (with_pointer x i w)) (sym is) (pointer_put k.table a i w x (some_words k core) (object_kept k a x at))
+
+  module _ (m : Marker) (same : SameRoles k.marker m) where
+    abbrev after : CoreState
+    after = with_store k t m
+
+    set_in : ObjectSet (heap_of k) (heap_of after) a x (with_pointer x i w)
+    set_in = object_written k after a x (with_pointer x i w) writes refl at (same_keeping k t m same)
+
+    -- the heap shows the graph with the field changed
+    pub store_shows : (g : Graph) (y : Stored) (o : Object) (v : Option ℕ) → ShowsGraph g k → kept_of k a ≡ Some y → object_named g y.name ≡ Some o → IsShown (heap_of k) w v
+        → ShowsGraph (with_changed g y.name (record { pointers = slice_set o.pointers i v; values = o.values })) after
+    store_shows g y o v s aty named shown =
+        let at_x = at in
+        let here : y ≡ x = cc in
+        let shown_object = s.shows.objects a x at in
+        let same_object : shown_object.object ≡ o = let e1 = shown_object.named in let e2 = ap (λ (z : Stored). object_named g z.name) here in cc in
+        let pointers : AllZip (IsShown (heap_of k)) x.pointers o.pointers = subst (λ (q : Object). AllZip (IsShown (heap_of k)) x.pointers q.pointers) same_object shown_object.pointers in
+        let values : x.values ≡ o.values = shown_object.values ∙ ap (λ (q : Object). q.values) same_object in
+        let p : Object = record { pointers = slice_set o.pointers i v; values = o.values } in
+        subst (λ (z : Stored). ShowsGraph (with_changed g z.name p) after) (sym here)
+        (object_shows g k after a x (with_pointer x i w) o p s (record { config = refl; next = refl }) set_in (ap (λ (z : Stored). object_named g z.name) (sym here) ∙ named)
+        (AllZip-set (IsShown (heap_of k)) x.pointers o.pointers pointers i w v shown) values)
+
+    -- the old value was saved, so what is to be marked still will be
+    pub store_keeps : (was : Option ℕ) → slice_get (pointers_at k.table a) i ≡ Some was → IsSaved (views.marking_of k.table k.marker) (views.marking_of k.table m) was
+        → (s : Graph) → KeepsFrom s k → KeepsFrom s after
+    store_keeps was there saved s f = record {
+      earlier = f.earlier;
+      marking = λ run. subst (λ (marks : Marking). KeepsSnapshot s (heap_of after) marks) (sym (marking_same k.table t m writes.size))
+          (object_set (IsReachable s) (next_name s) core.state.graph (heap_of k) (marking_of k) core.stands.shows.shows (f.marking (sym same.running ∙ run)) (heap_of after) (views.marking_of k.table m)
+          a x (with_pointer x i w) i was w root held (ap (λ (ps : List (Option ℕ)). slice_get ps i) (sym (pointers_there k a x at)) ∙ there) set_in refl saved);
+    }
+
+  pub same_roles : SameRoles k.marker k.marker
+  same_roles = record { previous = refl; tams = refl; running = refl }
+
+  -- the field's card is noted, so all stays remembered
+  pub store_remembers : (m : Marker) (same : SameRoles k.marker m) → RemembersFields (with_store k t m)
+  store_remembers m same = remembers_stored k (with_store k t m) a i w x (with_pointer x i w) refl writes.size refl refl (set_in m same) refl noted core.remembers
+
+  -- while marking doesn't run there is nothing to save
+  pub idle_keeps : k.marker.running ≡ false → (s : Graph) → KeepsFrom s k → KeepsFrom s (with_store k t k.marker)
+  idle_keeps idle s f = record { earlier = f.earlier; marking = λ run. absurd cc }
+
+  -- the word that is stored, as the invariant's graph has it
+  pub held_name : (v : Option ℕ) × IsShown (heap_of k) w v
+  held_name = name w held
+    where
+      all : (b : ℕ) (z : Stored) → kept_of k b ≡ Some z → (v : Option ℕ) × IsShown (heap_of k) (Some b) v
+      all b z e = (Some z.name, (z, e, refl))
+
+      name : (u : Option ℕ) → IsHeld (heap_of k) u → (v : Option ℕ) × IsShown (heap_of k) u v
+      name None h = (None, tt)
+      name (Some b) (inl r) = let o = rooted k b core r in all b o.stored o.at
+      name (Some b) (inr p) = let (z, e) = (closed core.state.graph (heap_of k) core.stands.shows.shows).field p.0 p.2.field b p.2.object p.2.at p.2.is in all b z e
+
+  -- the graph that the invariant knows, with the field changed
+  abbrev pub graph_after : Graph
+  graph_after =
+      let o = core.stands.shows.shows.objects a x at in
+      with_changed core.state.graph x.name (record { pointers = slice_set o.object.pointers i held_name.0; values = o.object.values })
+
+  pub shows_after : (m : Marker) (same : SameRoles k.marker m) → ShowsGraph graph_after (with_store k t m)
+  shows_after m same =
+      let o = core.stands.shows.shows.objects a x at in
+      store_shows m same core.state.graph x o.object held_name.0 core.stands.shows at o.named held_name.1
+
+  -- the core after a store while marking doesn't run
+  pub idle_kept : k.marker.running ≡ false → IsCore (with_store k t k.marker)
+  idle_kept idle = record {
+    suits = core.suits;
+    layers = layers_writes k.config k.table t k.buffers k.marker a x (with_pointer x i w) writes core.layers (λ run. absurd cc) (ap (λ (n : ℕ). 2 + n + length x.values) (length-set x.pointers i w));
+    cards = core.cards;
+    remembers = store_remembers k.marker same_roles;
+    room = core.room;
+    rows = core.rows;
+    places = core.places;
+    names = core.names;
+    state = record { graph = graph_after; snapshot = core.state.snapshot };
+    stands = record { shows = shows_after k.marker same_roles; keeps = idle_keeps idle core.state.snapshot core.stands.keeps };
+  }
+
+  pub store_leaves : (m : Marker) → LeavesRegions k (with_store k t m)
+  store_leaves m = record { config = refl; in_use = λ j n u. n (sym (writes.kinds j) ∙ u) }
+
+  -- the core between the store and the taking of a log: the old value was saved
+  module _ (m : Marker) (same : SameRoles k.marker m) (was : Option ℕ) (there : slice_get (pointers_at k.table a) i ≡ Some was)
+      (saved : IsSaved (views.marking_of k.table k.marker) (views.marking_of k.table m) was) (st : MarkerStands k.table m) where
+    pub mid_keeps : (s : Graph) → KeepsFrom s k → KeepsFrom s (with_store k t m)
+    mid_keeps = store_keeps m same was there saved
+
+    pub mid_follows : m.running ≡ true → CanFollow t m
+    mid_follows = follows_of (with_store k t m) graph_after core.state.snapshot (shows_after m same) (mid_keeps core.state.snapshot core.stands.keeps)
+
+    pub mid_stands : MarkerStands t m
+    mid_stands =
+        let tams = same.tams in
+        marker_writes k.table t k.buffers m a x (with_pointer x i w) writes (rw tams core.layers.above_previous) (rw tams core.layers.above_next) st mid_follows
+
+    -- a log of eight was taken, or none was full
+    module _ (m2 : Marker) (then : SameRoles m m2) (snapshots : KeepsSnapshots t m m2) (st2 : MarkerStands t m2)
+        (logs : length m2.logs ≡ length k.marker.logs) (room : (mutator : ℕ) → length (log_of m2.logs mutator) < 8) where
+      same2 : SameRoles k.marker m2
+      same2 = record { previous = then.previous ∙ same.previous; tams = then.tams ∙ same.tams; running = then.running ∙ same.running }
+
+      pub last_keeps : m.running ≡ true → (s : Graph) → KeepsFrom s k → KeepsFrom s (with_store k t m2)
+      unfolding kept_of
+      last_keeps run s f = record {
+        earlier = f.earlier;
+        marking = λ run2. snapshots s graph_after k.roots (shows_after m same).shows ((mid_keeps s f).marking run);
+      }
+
+      pub last_kept : m.running ≡ true → IsCore (with_store k t m2)
+      last_kept run =
+          let keeps = last_keeps run core.state.snapshot core.stands.keeps in
+          record {
+            suits = core.suits;
+            layers = layers_changed k.config k.table t k.buffers k.marker m2 a x (with_pointer x i w) writes core.layers st2 same2.tams logs room (ap (λ (n : ℕ). 2 + n + length x.values) (length-set x.pointers i w));
+            cards = core.cards;
+            remembers = store_remembers m2 same2;
+            room = core.room;
+            rows = core.rows;
+            places = core.places;
+            names = core.names;
+            state = record { graph = graph_after; snapshot = core.state.snapshot };
+            stands = record { shows = shows_after m2 same2; keeps = keeps };
+          }

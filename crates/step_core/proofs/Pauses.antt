@@ -1,0 +1,6 @@
+pub mod Rows
+pub mod Chosen
+pub mod Refined
+pub mod Ready
+pub mod CopiedNames
+pub mod Pausing

@@ -1,0 +1,102 @@
+-- What is known of the chosen regions.
+use Rattle.std.proofs.Common.{◌≡◌, ℕ, zero, suc, ◌*◌, ◌<◌, ◌≤◌, Bool, true, cond, eqb, List, [], ◌∷◌, ◌++◌, Some, length, refl, sym, ◌∙◌, ap, subst, arith}
+use Rattle.std.specs.Prelude.{All, count_by, ◌==◌, slice_get, slice_index}
+use Rattle.std.proofs.lemmas.Bool.{eq-eqb, eqb-true}
+use Rattle.std.proofs.lemmas.List.{get_or_append_left, length-append}
+use Rattle.std.proofs.lemmas.List.Sums.{sum_by-cons, sum_by-append}
+use Rattle.std.proofs.lemmas.List.Sorted.{All-permutation, sum_by-IsPermutation}
+use Rattle.std.proofs.lemmas.List.Folds.{Any-from_list_any}
+use Rattle.regions.specs.Table.{Table, is_free, kind_of}
+use Rattle.regions.specs.declared.row.Kind.TheVariants as kinds
+use Rattle.mark_bitmap.specs.Tops.{Tops}
+use Rattle.region_choice.specs.declared.LiveRow.{LiveRow}
+use Rattle.region_choice.specs.Choice.{live_sum}
+use Rattle.evacuation.specs.Evacuates.{is_chosen, AreDistinct}
+use Rattle.step_core.specs.Pause.{IsRowOf, IsCandidate, IsCandidateRow, IsChosen}
+
+-- the first of two lists
+All_left : (P : LiveRow → Type 0) (xs ys : List LiveRow) → All P (xs ++ ys) → All P xs
+All_left P xs ys a = λ k d lt. subst P (get_or_append_left xs ys d k lt) (a k d (omega (arith, lt, length-append xs ys)))
+
+abbrev bit : ℕ → LiveRow → ℕ
+bit k row = cond (eqb row.region k) 1 0
+
+-- a row that is there counts
+counted_at : (rows : List LiveRow) (j : ℕ) (x : LiveRow) (k : ℕ) → slice_get rows j ≡ Some x → x.region ≡ k → 1 ≤ count_by (λ row. row.region == k) rows
+counted_at [] j x k e r = absurd (let f = e in cc)
+counted_at (y ∷ rows) zero x k e r =
+    let same : y ≡ x = cc in
+    let here : eqb y.region k ≡ true = eq-eqb y.region k (ap (λ (z : LiveRow). z.region) same ∙ r) in
+    omega (arith, sum_by-cons (bit k) y rows, ap {B = ℕ} (λ b. cond b 1 0) here)
+counted_at (y ∷ rows) (suc j) x k e r = omega (arith, sum_by-cons (bit k) y rows, counted_at rows j x k e r)
+
+abbrev CountsOnce : List LiveRow → Type 0
+CountsOnce rows = (k : ℕ) → count_by (λ row. row.region == k) rows ≤ 1
+
+fewer : (z : LiveRow) (rows : List LiveRow) → CountsOnce (z ∷ rows) → CountsOnce rows
+fewer z rows once k = omega (arith, sum_by-cons (bit k) z rows, once k)
+
+alone : (z : LiveRow) (rows : List LiveRow) (j : ℕ) (y : LiveRow) → CountsOnce (z ∷ rows) → slice_get rows j ≡ Some y → y.region ≡ z.region → ⊥
+alone z rows j y once ey e =
+    let here = sum_by-cons (bit z.region) z rows in
+    let one = ap {B = ℕ} (λ b. cond b 1 0) (eq-eqb z.region z.region refl) in
+    omega (arith, here, one, counted_at rows j y z.region ey e, once z.region)
+
+distinct_at : (rows : List LiveRow) (i j : ℕ) (x y : LiveRow) → CountsOnce rows → slice_get rows i ≡ Some x → slice_get rows j ≡ Some y → x.region ≡ y.region → i ≡ j
+distinct_at [] i j x y once ex ey e = absurd (let f = ex in cc)
+distinct_at (z ∷ rows) zero zero x y once ex ey e = refl
+distinct_at (z ∷ rows) zero (suc j) x y once ex ey e = let same : z ≡ x = cc in absurd (alone z rows j y once ey (sym e ∙ ap (λ (r : LiveRow). r.region) (sym same)))
+distinct_at (z ∷ rows) (suc i) zero x y once ex ey e = let same : z ≡ y = cc in absurd (alone z rows i x once ex (e ∙ ap (λ (r : LiveRow). r.region) (sym same)))
+distinct_at (z ∷ rows) (suc i) (suc j) x y once ex ey e = ap suc (distinct_at rows i j x y (fewer z rows once) ex ey e)
+
+-- where each region counts once at most, rows are distinct
+distinct_by : (rows : List LiveRow) → CountsOnce rows → AreDistinct rows
+distinct_by rows once = λ i j x y ex ey e. distinct_at rows i j x y once ex ey e
+
+module _ (t : Table) (tams : Tops) (previous : List Bool) (running : Bool) (budget : ℕ) (chosen : List LiveRow) (choice : IsChosen t tams previous running budget chosen) where
+  -- what holds of all candidates' rows holds of the chosen ones
+  of_chosen : (P : LiveRow → Type 0) → All P choice.rows → All P chosen
+  of_chosen P a = All_left P chosen choice.best.part.rest (All-permutation P choice.rows (chosen ++ choice.best.part.rest) choice.best.part.whole a)
+
+  pub chosen_rows : All (IsRowOf t tams.previous previous) chosen
+  chosen_rows = of_chosen (IsRowOf t tams.previous previous) choice.candidates.are_rows.each
+
+  pub chosen_candidates : All (IsCandidateRow t tams previous running (length t.regions)) chosen
+  chosen_candidates = of_chosen (IsCandidateRow t tams previous running (length t.regions)) choice.candidates.each
+
+  chosen_once : (k : ℕ) → count_by (λ row. row.region == k) chosen ≤ 1
+  chosen_once k =
+      let whole = sum_by-IsPermutation (bit k) choice.rows (chosen ++ choice.best.part.rest) choice.best.part.whole in
+      let parts = sum_by-append (bit k) chosen choice.best.part.rest in
+      omega (arith, whole, parts, choice.candidates.are_rows.once k)
+
+  pub chosen_distinct : AreDistinct chosen
+  chosen_distinct = distinct_by chosen chosen_once
+
+  -- the copies have room, and are within the budget
+  pub chosen_room : 2 * live_sum chosen ≤ count_by is_free t.regions * t.words_per_region
+  chosen_room = let within = choice.best.within in omega (arith, within)
+
+  pub chosen_within : live_sum chosen ≤ budget
+  chosen_within = let within = choice.best.within in omega (arith, within)
+
+  -- the row of a chosen region
+  pub record ChosenRow (k : ℕ) : Type 0 where
+    pub row : LiveRow
+    pub region : row.region ≡ k
+    pub candidate : IsCandidate t tams previous running row.region
+    pub known : row.region < length t.regions
+
+  pub chosen_row : (k : ℕ) → is_chosen chosen k ≡ true → ChosenRow k
+  chosen_row k e =
+      let (i, x, lt, is, p) = Any-from_list_any (λ (row : LiveRow). row.region == k) chosen e in
+      let c = subst (λ (r : LiveRow). IsCandidateRow t tams previous running (length t.regions) r) is (chosen_candidates i x lt) in
+      record { row = x; region = eqb-true x.region k p; candidate = c.candidate; known = c.below }
+
+  pub chosen_ordinary : (k : ℕ) → is_chosen chosen k ≡ true → kind_of t k ≡ kinds.Ordinary
+  chosen_ordinary k e = let r = chosen_row k e in ap (kind_of t) (sym r.region) ∙ r.candidate.ordinary
+
+  pub chosen_new : (k : ℕ) → running ≡ true → is_chosen chosen k ≡ true → slice_index tams.next k ≡ k * t.words_per_region
+  chosen_new k run e =
+      let r = chosen_row k e in
+      ap (λ (j : ℕ). slice_index tams.next j) (sym r.region) ∙ r.candidate.all_new run ∙ ap (λ (j : ℕ). j * t.words_per_region) r.region

@@ -1,0 +1,331 @@
+-- The chosen regions are evacuated in a core: k is the core by its fields before that.
+use Rattle.std.proofs.Common.{◌≡◌, ◌≢◌, ℕ, ◌*◌, ◌/◌, ◌≤◌, Bool, true, false, not, ◌&&◌, List, Option, length, get_or, refl, sym, ◌∙◌, ap, subst, arith, inl, inr}
+use Rattle.std.specs.Prelude.{All, ◌↔◌, slice_index, nat_lt, if◌then◌else◌}
+use Rattle.std.proofs.lemmas.Bool.{cases_lt, cases_Bool}
+use Rattle.std.proofs.lemmas.Grind.{common_steps}
+use Rattle.std.proofs.lemmas.Bool.Decides.{nat_tests}
+use Rattle.std.proofs.lemmas.List.{get_or_past}
+use Rattle.heap_model.specs.Graph.{Graph, IsReachable, next_name}
+use Rattle.heap_model.specs.Heap.{Stored}
+use Rattle.heap_model.specs.Marking.{SameMarking}
+use Rattle.heap_model.specs.Relocation.{KeepsOld}
+use Rattle.heap_model.specs.Evacuation.{place_after}
+use Rattle.heap_model.proofs.Shown.{closed}
+use Rattle.heap_model.proofs.Relocated.{relocated_shows, relocated_invariant}
+use Rattle.heap_model.proofs.Same.{same_invariant}
+use Rattle.regions.specs.Tiles.{Object, tile_size}
+use Rattle.regions.specs.Table.{Table, nth_region, region_used, kind_of, object_at, object_words, used_of}
+use Rattle.regions.specs.declared.row.Kind.TheVariants as kinds
+use Rattle.alloc_buffers.specs.Placement as placement
+use Rattle.alloc_buffers.specs.Placement.{Buffers, BuffersStand, AreAbove}
+use Rattle.alloc_buffers.proofs.Placed.{closed_stand, retired_above}
+use Rattle.mark_bitmap.specs.Marks.{is_marked}
+use Rattle.mark_bitmap.specs.Tops.{Tops, is_below, is_in_region, below_next, AreNewer}
+use Rattle.mark_bitmap.specs.Kept.{MarksObjects}
+use Rattle.mark_bitmap.specs.declared.bitmaps.Bitmaps.{Bitmaps}
+use Rattle.mark_bitmap.proofs.Ranges as ranges
+use Rattle.mark_bitmap.proofs.LiveWords.{region_low}
+use Rattle.cards.specs.Cards.{Cards, is_dirty}
+use Rattle.remembered_sets.specs.Sets.{Sets, card_count}
+use Rattle.marker.specs.Stands.{MarkerStands}
+use Rattle.marker.specs.declared.marker.Marker.{Marker}
+use Rattle.region_choice.specs.declared.LiveRow.{LiveRow}
+use Rattle.evacuation.specs.Rooms.{RoomSizes}
+use Rattle.evacuation.specs.Evacuates.{CanEvacuate, HasEvacuated, IsRow, IsNewSet, IsSameBut, MarksAfter, is_chosen, set_in}
+use Rattle.heap_words.specs.Configs.{card_words}
+use Rattle.step_core.proofs.Mutating.Noting.{cards_a_region}
+use Rattle.step_core.specs.Stands.{CoreState, kept_of, heap_of, marking_of, EndsBelow, ShowsGraph, KeepsFrom, LayersFit, IsCore}
+use Rattle.step_core.specs.Reclaimed.{IsReclaimed}
+use Rattle.step_core.specs.Pause.{IsChosen, IsRowOf, IsCandidateRow, IsReady, EvacuatesBest, HasPaused, layers_of}
+use Rattle.heap_words.specs.declared.config.Config.{Config}
+use Rattle.step_core.proofs.Pauses.CopiedNames.{copied_names}
+use Rattle.step_core.proofs.Cores.Layers.{follows_of}
+use Rattle.step_core.proofs.Pauses.Ready.{ready_config, ready_table, ready_marker, ready_roots, ready_next}
+use Rattle.step_core.proofs.Pauses.Refined.{can_scan}
+use Rattle.step_core.proofs.Cores.Sizes.{some_words}
+use Rattle.step_core.proofs.Mutating.Small.{option_is, free_region, words_are, words_none, kind_cases, ordinary_known}
+use Rattle.step_core.proofs.Pauses.Chosen.{chosen_rows, chosen_candidates, chosen_distinct, chosen_room, chosen_within, chosen_ordinary, chosen_new}
+
+-- there is a flag for each card
+pub cards_room : (k : CoreState) → IsCore k → k.room.cards ≡ card_count k.sets
+cards_room k core =
+    let each = cards_a_region k core in
+    core.room.cards ∙ ap (λ (n : ℕ). k.config.regions * n) each ∙ ap (λ (n : ℕ). n * k.sets.cards_per_region) (sym core.cards.each_region)
+
+All_to : (P Q : LiveRow → Type 0) → ((x : LiveRow) → P x → Q x) → (rows : List LiveRow) → All P rows → All Q rows
+All_to P Q f rows a = λ i d lt. f (get_or rows i d) (a i d lt)
+
+free_top_by : (t : Table) (k : ℕ) → kind_of t k ≡ kinds.Free → used_of t k ≡ 0
+unfolding kind_of used_of
+free_top_by t k e = ap (region_used t.words_per_region) (free_region (nth_region t k) e)
+
+module _ (k : CoreState) (core : IsCore k) (budget : ℕ) (chosen : List LiveRow)
+    (choice : IsChosen k.table k.marker.tams k.marker.bitmaps.previous k.marker.running budget chosen) (clean : (card : ℕ) → is_dirty k.cards card ≡ false) where
+  words : ℕ
+  words = k.table.words_per_region
+
+  row_of : (x : LiveRow) → IsRowOf k.table k.marker.tams.previous k.marker.bitmaps.previous x → IsRow (layers_of k) x
+  row_of x r = record { known = r.known; ordinary = r.ordinary; live_bound = r.bound }
+
+  pub can_evacuate : CanEvacuate (layers_of k) chosen (card_words k.config)
+  unfolding kept_of
+  can_evacuate = record {
+    unmoved = core.layers.unmoved;
+    previous = core.layers.marker.previous;
+    next = core.layers.marker.next;
+    closed = closed core.state.graph (heap_of k) core.stands.shows.shows;
+    halves = core.layers.halves;
+    fit = (can_scan k core).fit;
+    each_card = core.cards.each_card;
+    clean = clean;
+    remembers = core.remembers;
+    each_row = All_to (IsRowOf k.table k.marker.tams.previous k.marker.bitmaps.previous) (IsRow (layers_of k)) row_of chosen
+        (chosen_rows k.table k.marker.tams k.marker.bitmaps.previous k.marker.running budget chosen choice);
+    distinct = chosen_distinct k.table k.marker.tams k.marker.bitmaps.previous k.marker.running budget chosen choice;
+    room = chosen_room k.table k.marker.tams k.marker.bitmaps.previous k.marker.running budget chosen choice;
+  }
+
+  module _ (t : Table) (tams : Tops) (bm : Bitmaps) (cs : Cards) (ss : Sets) (roots : List (Option ℕ)) (w : ℕ) (r : RoomSizes) (n : ℕ)
+      (ev : HasEvacuated chosen (card_words k.config) w (layers_of k) (record { table = t; tams = tams; previous = bm.previous; next = bm.next; cards = cs; sets = ss; roots = roots })) where
+    abbrev marker : Marker
+    marker = record { bitmaps = bm; tams = tams; grey = k.marker.grey; logs = k.marker.logs; running = k.marker.running; scans = k.marker.scans }
+
+    abbrev after : CoreState
+    after = record k { table = t; marker = marker; cards = cs; sets = ss; room = r; row_room = n; roots = roots }
+
+    abbrev place : ℕ → Option ℕ
+    place = place_after (set_in k.table.words_per_region chosen) ev.forward
+
+    pub paused_shows : (g : Graph) → ShowsGraph g k → ShowsGraph g after
+    unfolding kept_of
+    paused_shows g s = record { room = s.room; mutators = s.mutators; next = s.next; shows = relocated_shows place g (heap_of k) (heap_of after) s.shows ev.relocates }
+
+    -- ---- tops at mark start and marks
+    top_past : (tops : List ℕ) (j : ℕ) → length tops ≡ length k.table.regions → length k.table.regions ≤ j → slice_index tops j ≡ 0
+    top_past tops j count le = get_or_past tops j 0 (omega (arith, count, le))
+
+    tops_left : (tops tops' : List ℕ) (marks marks' : List Bool) → MarksAfter k.table.words_per_region chosen tops tops' marks marks' → length tops ≡ length k.table.regions
+        → (j : ℕ) → is_chosen chosen j ≡ false → slice_index tops' j ≡ slice_index tops j
+    tops_left tops tops' marks marks' m count j out =
+        elim (cases_lt j (length k.table.regions)) [
+          | inl lt ↦ m.each_top j (omega (arith, count, lt)) ∙ ap (λ (b : Bool). if b then j * k.table.words_per_region else slice_index tops j) out
+          | inr past ↦ top_past tops' j (m.count ∙ count) past ∙ sym (top_past tops j count past)
+        ]
+
+    tops_chosen : (tops tops' : List ℕ) (marks marks' : List Bool) → MarksAfter k.table.words_per_region chosen tops tops' marks marks' → length tops ≡ length k.table.regions
+        → (j : ℕ) → is_chosen chosen j ≡ true → slice_index tops' j ≡ j * k.table.words_per_region
+    tops_chosen tops tops' marks marks' m count j inside =
+        let known = ordinary_known k.table j (chosen_ordinary k.table k.marker.tams k.marker.bitmaps.previous k.marker.running budget chosen choice j inside) in
+        m.each_top j (omega (arith, count, known)) ∙ ap (λ (b : Bool). if b then j * k.table.words_per_region else slice_index tops j) inside
+
+    next_same : k.marker.running ≡ true → (j : ℕ) → slice_index tams.next j ≡ slice_index k.marker.tams.next j
+    next_same run j =
+        elim (cases_Bool (is_chosen chosen j)) [
+          | inl inside ↦ tops_chosen k.marker.tams.next tams.next k.marker.bitmaps.next bm.next ev.next core.layers.marker.next.each_region j inside
+              ∙ sym (chosen_new k.table k.marker.tams k.marker.bitmaps.previous k.marker.running budget chosen choice j run inside)
+          | inr out ↦ tops_left k.marker.tams.next tams.next k.marker.bitmaps.next bm.next ev.next core.layers.marker.next.each_region j out
+        ]
+
+    old_same : k.marker.running ≡ true → (a : ℕ) → below_next t tams a ≡ below_next k.table k.marker.tams a
+    unfolding is_below
+    old_same run a =
+        ap (λ (m : ℕ). nat_lt a (slice_index tams.next (a / m))) ev.regions.size
+        ∙ ap (λ (m : ℕ). nat_lt a m) (next_same run (a / k.table.words_per_region))
+
+    -- nothing of the set is marked while marking runs
+    none_marked : k.marker.running ≡ true → (a : ℕ) → set_in k.table.words_per_region chosen a ≡ true → is_marked k.marker.bitmaps.next a ≡ false
+    unfolding is_below
+    none_marked run a inside =
+        elim (cases_Bool (is_marked k.marker.bitmaps.next a)) [
+          | inl marked ↦
+              let below = core.layers.marker.next.below a marked in
+              let bottom = chosen_new k.table k.marker.tams k.marker.bitmaps.previous k.marker.running budget chosen choice (a / k.table.words_per_region) run inside in
+              let z = some_words k core in
+              absurd (not_below a (slice_index k.marker.tams.next (a / k.table.words_per_region)) below (omega (arith, bottom)))
+          | inr no_mark ↦ no_mark
+        ]
+      where
+        not_below : (x top : ℕ) → nat_lt x top ≡ true → top ≤ x → ⊥
+        not_below x top e le = grind (arith, common_steps, nat_tests)
+
+    marks_same : k.marker.running ≡ true → (a : ℕ) → is_marked bm.next a ≡ is_marked k.marker.bitmaps.next a
+    marks_same run a =
+        elim (cases_Bool (set_in k.table.words_per_region chosen a)) [
+          | inl inside ↦ ev.next.each_mark a ∙ ap (λ (b : Bool). if b then false else is_marked k.marker.bitmaps.next a) inside ∙ sym (none_marked run a inside)
+          | inr out ↦ ev.next.each_mark a ∙ ap (λ (b : Bool). if b then false else is_marked k.marker.bitmaps.next a) out
+        ]
+
+    same_marking : k.marker.running ≡ true → SameMarking (marking_of k) (marking_of after)
+    same_marking run = record { old = old_same run; marked = marks_same run; scanned = λ a. refl; logged = λ a. (λ x. x, λ x. x) }
+
+    all_new : k.marker.running ≡ true → IsNewSet (layers_of k) chosen
+    all_new run = All_to (IsCandidateRow k.table k.marker.tams k.marker.bitmaps.previous k.marker.running (length k.table.regions))
+        (λ row. slice_index k.marker.tams.next row.region ≡ row.region * k.table.words_per_region) (λ x c. c.candidate.all_new run) chosen
+        (chosen_candidates k.table k.marker.tams k.marker.bitmaps.previous k.marker.running budget chosen choice)
+
+    pub paused_keeps : (s : Graph) → KeepsFrom s k → KeepsFrom s after
+    unfolding kept_of
+    paused_keeps s f = record {
+      earlier = f.earlier;
+      marking = λ run.
+          let keeps : KeepsOld place (heap_of k) (marking_of k) = ev.keeps_old (all_new run) (marking_of k) (λ a. refl) in
+          let moved = relocated_invariant place core.state.graph (heap_of k) (heap_of after) core.stands.shows.shows ev.relocates (IsReachable s) (next_name s) (marking_of k) (f.marking run) keeps in
+          same_invariant (IsReachable s) (next_name s) (heap_of after) (heap_of after) (marking_of k) (marking_of after) (record { kept = λ a. refl; roots = refl }) (same_marking run) moved;
+    }
+
+    -- ---- the layers
+    newer : k.marker.running ≡ true → AreNewer tams
+    newer run = λ j.
+        elim (cases_Bool (is_chosen chosen j)) [
+          | inl inside ↦
+              let p = tops_chosen k.marker.tams.previous tams.previous k.marker.bitmaps.previous bm.previous ev.previous core.layers.marker.previous.each_region j inside in
+              let q = tops_chosen k.marker.tams.next tams.next k.marker.bitmaps.next bm.next ev.next core.layers.marker.next.each_region j inside in
+              omega (arith, p, q)
+          | inr out ↦
+              let p = tops_left k.marker.tams.previous tams.previous k.marker.bitmaps.previous bm.previous ev.previous core.layers.marker.previous.each_region j out in
+              let q = tops_left k.marker.tams.next tams.next k.marker.bitmaps.next bm.next ev.next core.layers.marker.next.each_region j out in
+              omega (arith, p, q, core.layers.marker.newer run j)
+        ]
+
+    marker_stands : MarkerStands t marker
+    marker_stands = record {
+      previous = ev.previous_stands;
+      next = ev.next_stands;
+      scanned = core.layers.marker.scanned ∙ sym ev.next.each_word;
+      finger = λ run a lt. ap (λ (b : Bool). b && not (is_marked k.marker.grey.scanned a)) (marks_same run a) ∙ core.layers.marker.finger run a lt;
+      newer = newer;
+      follows = λ run. follows_of after core.state.graph core.state.snapshot (paused_shows core.state.graph core.stands.shows) (paused_keeps core.state.snapshot core.stands.keeps) run;
+      idle = core.layers.marker.idle;
+      scanned_marked = λ run a e. marks_same run a ∙ core.layers.marker.scanned_marked run a e;
+      counted = core.layers.marker.counted;
+    }
+
+    -- the objects of a region that stays have the sizes that they had
+    words_left : (j a : ℕ) → is_chosen chosen j ≡ false → kind_of k.table j ≢ kinds.Free → is_in_region k.table.words_per_region j a ≡ true → object_words t a ≡ object_words k.table a
+    words_left j a out used inside =
+        let row : a / k.table.words_per_region ≡ j = ranges.nth_region k.table.words_per_region j a inside in
+        let outside : set_in k.table.words_per_region chosen a ≡ false = ap (is_chosen chosen) row ∙ out in
+        elim (option_is (object_at k.table a)) [
+          | inl some ↦
+              let (y, is, same) = ev.regions.objects a some.0 outside some.1 in
+              words_are t a y is ∙ size some.0 y same ∙ sym (words_are k.table a some.0 some.1)
+          | inr none ↦ words_none t a (ev.regions.none a outside (λ e. used (ap (kind_of k.table) (sym row) ∙ e)) none) ∙ sym (words_none k.table a none)
+        ]
+      where
+        size : (x y : Stored) → IsSameBut x y → tile_size (Object y) ≡ tile_size (Object x)
+        size x y s = let count = s.count in let values = ap (λ (vs : List ℕ). length vs) s.values in omega (arith, count, values)
+
+    ends_after : (tops tops' : List ℕ) (marks marks' : List Bool) → MarksAfter k.table.words_per_region chosen tops tops' marks marks' → MarksObjects k.table tops marks
+        → EndsBelow k.table tops → EndsBelow t tops'
+    ends_after tops tops' marks marks' m before ends = λ j a o i lt.
+        let inside : is_in_region k.table.words_per_region j a ≡ true = subst (λ (x : ℕ). is_in_region x j a ≡ true) ev.regions.size i in
+        elim (cases_Bool (is_chosen chosen j)) [
+          | inl in_set ↦ absurd (let free = ev.regions.chosen j in_set in cc)
+          | inr out ↦
+              let same = tops_left tops tops' marks marks' m before.each_region j out in
+              elim (kind_cases (kind_of k.table j)) [
+                | inl free ↦
+                    let known = ordinary_known t j o in
+                    let top = before.top j (omega (arith, known, ev.regions.count)) in
+                    let low = region_low k.table.words_per_region j a inside in
+                    absurd (omega (arith, top, low, lt, same, free_top_by k.table j free))
+                | inr used ↦
+                    let was = ends j a (sym (ev.regions.kinds_same j out used) ∙ o) inside (omega (arith, same, lt)) in
+                    omega (arith, was, same, words_left j a out used inside)
+              ]
+        ]
+
+    module _ (closed_all : k.buffers ≡ placement.closed k.buffers.words (length k.buffers.open_buffers)) where
+      layers_after : LayersFit k.config t k.buffers marker
+      layers_after = record {
+        region_size = ev.regions.size ∙ core.layers.region_size;
+        region_count = ev.regions.count ∙ core.layers.region_count;
+        buffer_size = core.layers.buffer_size;
+        open_buffers = core.layers.open_buffers;
+        logs = core.layers.logs;
+        buffers = subst (λ (b : Buffers). BuffersStand t b) (sym closed_all) (closed_stand t k.buffers.words (length k.buffers.open_buffers));
+        unmoved = ev.unmoved;
+        marker = marker_stands;
+        above_previous = retired_above t k.buffers (length k.buffers.open_buffers) (slice_index tams.previous) (ap (λ (b : Buffers). b.open_buffers) closed_all) ev.previous_stands.top;
+        above_next = retired_above t k.buffers (length k.buffers.open_buffers) (slice_index tams.next) (ap (λ (b : Buffers). b.open_buffers) closed_all) ev.next_stands.top;
+        room = core.layers.room;
+        halves = ev.halves;
+        ends_previous = ends_after k.marker.tams.previous tams.previous k.marker.bitmaps.previous bm.previous ev.previous core.layers.marker.previous core.layers.ends_previous;
+        ends_next = ends_after k.marker.tams.next tams.next k.marker.bitmaps.next bm.next ev.next core.layers.marker.next core.layers.ends_next;
+      }
+
+      pub paused_kept : r ≡ k.room → n ≡ k.row_room → length roots ≡ length k.roots → IsCore after
+      unfolding kept_of
+      paused_kept room_same rows_same places = record {
+        suits = core.suits;
+        layers = layers_after;
+        cards = record {
+          whole_cards = sym core.layers.region_size ∙ sym ev.regions.size ∙ ev.fit.whole_cards;
+          each_region = ev.fit.each_region ∙ ev.regions.count ∙ core.layers.region_count;
+          each_card = ev.each_card;
+          each_mutator = ap (λ (ls : List (List ℕ)). length ls) ev.logs ∙ core.cards.each_mutator;
+        };
+        remembers = ev.remembers;
+        room = rw room_same core.room;
+        rows = rw rows_same core.rows;
+        places = places ∙ core.places;
+        names = core.names;
+        state = core.state;
+        stands = record { shows = paused_shows core.state.graph core.stands.shows; keeps = paused_keeps core.state.snapshot core.stands.keeps };
+      }
+
+      -- exactly the chosen regions are reclaimed
+      reclaimed : (j : ℕ) → IsReclaimed k.table t j ↔ (is_chosen chosen j ≡ true)
+      reclaimed j = (
+        λ p. elim (cases_Bool (is_chosen chosen j)) [
+          | inl inside ↦ inside
+          | inr out ↦ absurd (p.used (sym (ev.regions.kinds_same j out p.used) ∙ p.free))
+        ],
+        λ inside. record { used = λ free. (let ordinary = chosen_ordinary k.table k.marker.tams k.marker.bitmaps.previous k.marker.running budget chosen choice j inside in cc); free = ev.regions.chosen j inside },
+      )
+
+      evacuates_best : r ≡ k.room → n ≡ k.row_room → (m : ℕ) → m ≡ length chosen → EvacuatesBest budget m w k k after
+      unfolding kept_of
+      evacuates_best room_same rows_same m count = record {
+        chosen = chosen;
+        choice = choice;
+        regions = count;
+        within = (let most = ev.within in let le = chosen_within k.table k.marker.tams k.marker.bitmaps.previous k.marker.running budget chosen choice in omega (arith, most, le));
+        names = λ g s. copied_names g (heap_of k) s.shows (set_in k.table.words_per_region chosen) w ev.words_are;
+        reclaimed = reclaimed;
+        same = rw (room_same, rows_same) refl;
+        marker = refl;
+        evacuated = ev;
+      }
+
+      pub evacuates_from : r ≡ k.room → n ≡ k.row_room → (c : CoreState) → k ≡ c → (m : ℕ) → m ≡ length chosen → EvacuatesBest budget m w c c after
+      evacuates_from room_same rows_same c e m count = subst (λ (d : CoreState). EvacuatesBest budget m w d d after) e (evacuates_best room_same rows_same m count)
+
+-- what was made ready shows what it showed
+still_shows : (c k : CoreState) → IsReady c k → (g : Graph) → ShowsGraph g c → ShowsGraph g k
+unfolding kept_of
+still_shows c k ready g s = record {
+  room = s.room ∙ sym (ap (λ (x : Config). x.regions * x.words) (ready_config c k ready));
+  mutators = s.mutators ∙ sym (ap (λ (x : Config). x.mutators) (ready_config c k ready));
+  next = s.next ∙ sym (ready_next c k ready);
+  shows = rw (ready_table c k ready, ready_marker c k ready, ready_roots c k ready) s.shows;
+}
+
+-- a pause after all was made ready is a pause
+pub paused_ready : (c k c' : CoreState) (budget n w : ℕ) → IsReady c k → EvacuatesBest budget n w k k c' → HasPaused budget n w c c'
+unfolding kept_of
+paused_ready c k c' budget n w ready p = record {
+  ready = k;
+  is_ready = ready;
+  evacuates = record {
+    chosen = p.chosen;
+    choice = rw (ready_table c k ready, ready_marker c k ready) at p.choice;
+    regions = p.regions;
+    within = p.within;
+    names = λ g s. rw (ready_table c k ready, ready_marker c k ready, ready_roots c k ready) at (p.names g (still_shows c k ready g s));
+    reclaimed = λ j. rw (ready_table c k ready) at (p.reclaimed j);
+    same = p.same;
+    marker = p.marker;
+    evacuated = subst (λ (g : Config). HasEvacuated p.chosen (card_words g) w (layers_of k) (layers_of c')) (ready_config c k ready) p.evacuated;
+  };
+}

@@ -1,0 +1,148 @@
+-- The candidates of a pause, region by region.
+use Rattle.std.proofs.Common.{◌≡◌, ℕ, zero, suc, ◌+◌, ◌<◌, ◌≤◌, Bool, true, false, cond, eqb, List, [], ◌∷◌, ◌++◌, length, get_or, take, refl, sym, ◌∙◌, ap, subst, arith, inl, inr}
+use Rattle.std.specs.Prelude.{All, IsPermutation, IsSorted, Some, slice_get, count_by, ◌==◌, ◌||◌}
+use Rattle.std.specs.List.{list_any}
+use Rattle.std.proofs.lemmas.Bool.{cases_eq, cases_lt, eq-eqb, ne_eqb}
+use Rattle.std.proofs.lemmas.List.Sums.{sum_by-cons, sum_by-append}
+use Rattle.std.proofs.lemmas.List.Elements.{All-append}
+use Rattle.std.proofs.lemmas.List.Folds.{list_any-append}
+use Rattle.std.proofs.lemmas.List.{length-take-le}
+use Rattle.std.proofs.lemmas.List.Sorted.{All-permutation, sum_by-IsPermutation, list_any-IsPermutation, IsPermutation-sym, IsPermutation-trans}
+use Rattle.region_choice.specs.Choice.{copy_limit, live_sum, row_cmp, IsBestWithin}
+use Rattle.regions.specs.Table.{Table, kind_of, is_free}
+use Rattle.mark_bitmap.specs.Tops.{Tops}
+use Rattle.mark_bitmap.specs.Live.{live_bound_of}
+use Rattle.region_choice.specs.declared.LiveRow.{LiveRow}
+use Rattle.evacuation.specs.Evacuates.{is_chosen}
+use Rattle.step_core.specs.Pause.{IsRowOf}
+use Rattle.step_core.specs.Pause.{IsCandidate, IsCandidateRow, AreCandidates, IsChosen}
+
+abbrev bit : ℕ → LiveRow → ℕ
+bit k row = cond (eqb row.region k) 1 0
+
+All_map : (P Q : LiveRow → Type 0) → ((x : LiveRow) → P x → Q x) → (rows : List LiveRow) → All P rows → All Q rows
+All_map P Q f rows a = λ k d lt. f (get_or rows k d) (a k d lt)
+
+All_one : (P : LiveRow → Type 0) (x : LiveRow) → P x → All P (x ∷ [])
+All_one P x p = go
+  where
+    go : (k : ℕ) (d : LiveRow) → k < 1 → P (get_or (x ∷ []) k d)
+    go zero d lt = p
+    go (suc k) d lt = absurd (omega (arith, lt))
+
+-- no row is of a region that all rows are below
+none_of : (rows : List LiveRow) (n : ℕ) → All (λ row. row.region < n) rows → count_by (λ row. row.region == n) rows ≡ 0
+none_of [] n a = refl
+none_of (x ∷ rows) n a =
+    let first : x.region < n = a 0 x (omega arith) in
+    let other : eqb x.region n ≡ false = ne_eqb x.region n (λ e. omega (arith, e, first)) in
+    omega (arith, sum_by-cons (bit n) x rows, ap {B = ℕ} (λ b. cond b 1 0) other, none_of rows n (λ k d lt. a (suc k) d (omega (arith, lt))))
+
+module _ (t : Table) (tams : Tops) (previous : List Bool) (running : Bool) where
+  further : (n : ℕ) (row : LiveRow) → IsCandidateRow t tams previous running n row → IsCandidateRow t tams previous running (n + 1) row
+  further n row c = record { candidate = c.candidate; below = (let lt = c.below in omega arith) }
+
+  -- a region that is no candidate is passed
+  pub row_passed : (n : ℕ) (rows : List LiveRow) → AreCandidates t tams previous running n rows → (IsCandidate t tams previous running n → ⊥) → AreCandidates t tams previous running (n + 1) rows
+  row_passed n rows c other = record {
+    are_rows = c.are_rows;
+    each = All_map (IsCandidateRow t tams previous running n) (IsCandidateRow t tams previous running (n + 1)) (further n) rows c.each;
+    all = λ k lt is. elim (cases_lt k n) [
+      | inl less ↦ c.all k less is
+      | inr last ↦ absurd (let same : k ≡ n = omega arith in other (subst (λ (j : ℕ). IsCandidate t tams previous running j) same is))
+    ];
+  }
+
+  any_left : (p : LiveRow → Bool) (rows more : List LiveRow) → list_any p rows ≡ true → list_any p (rows ++ more) ≡ true
+  any_left p rows more e = list_any-append p rows more ∙ ap (λ (b : Bool). b || list_any p more) e
+
+  any_right : (a b : Bool) → b ≡ true → (a || b) ≡ true
+  any_right true b e = refl
+  any_right false b e = e
+
+  has_left : (rows more : List LiveRow) (k : ℕ) → is_chosen rows k ≡ true → is_chosen (rows ++ more) k ≡ true
+  has_left rows more k e = any_left (λ row. row.region == k) rows more e
+
+  has_last : (rows : List LiveRow) (row : LiveRow) → is_chosen (rows ++ row ∷ []) row.region ≡ true
+  has_last rows row =
+      let here : (eqb row.region row.region || false) ≡ true = ap (λ (b : Bool). b || false) (eq-eqb row.region row.region refl) in
+      list_any-append (λ (r : LiveRow). r.region == row.region) rows (row ∷ [])
+      ∙ any_right (list_any (λ (r : LiveRow). r.region == row.region) rows) (list_any (λ (r : LiveRow). r.region == row.region) (row ∷ [])) here
+
+  -- the row of a candidate is written
+  pub row_written : (n : ℕ) (rows : List LiveRow) (row : LiveRow) → AreCandidates t tams previous running n rows → n < length t.regions → row.region ≡ n → row.live_bound ≡ live_bound_of t tams.previous previous n
+      → IsCandidate t tams previous running n → AreCandidates t tams previous running (n + 1) (rows ++ row ∷ [])
+  row_written n rows row c known at bound is =
+      let is_row : IsRowOf t tams.previous previous row = record {
+        known = omega arith;
+        ordinary = ap (kind_of t) at ∙ is.ordinary;
+        bound = bound ∙ ap (live_bound_of t tams.previous previous) (sym at);
+      } in
+      let is_here : IsCandidateRow t tams previous running (n + 1) row = record {
+        candidate = subst (λ (j : ℕ). IsCandidate t tams previous running j) (sym at) is;
+        below = omega arith;
+      } in
+      let below : All (λ row. row.region < n) rows = All_map (IsCandidateRow t tams previous running n) (λ row. row.region < n) (λ x r. r.below) rows c.each in
+      record {
+        are_rows = record {
+          each = All-append (IsRowOf t tams.previous previous) rows (row ∷ []) c.are_rows.each (All_one (IsRowOf t tams.previous previous) row is_row);
+          once = λ k. once_more k below;
+        };
+        each = All-append (IsCandidateRow t tams previous running (n + 1)) rows (row ∷ []) (All_map (IsCandidateRow t tams previous running n) (IsCandidateRow t tams previous running (n + 1)) (further n) rows c.each) (All_one (IsCandidateRow t tams previous running (n + 1)) row is_here);
+        all = λ k lt cand. elim (cases_lt k n) [
+          | inl less ↦ has_left rows (row ∷ []) k (c.all k less cand)
+          | inr last ↦ let same : row.region ≡ k = omega arith in subst (λ (j : ℕ). is_chosen (rows ++ row ∷ []) j ≡ true) same (has_last rows row)
+        ];
+      }
+    where
+      once_more : (k : ℕ) → All (λ row. row.region < n) rows → count_by (λ (r : LiveRow). r.region == k) (rows ++ row ∷ []) ≤ 1
+      once_more k below =
+          let sum = sum_by-append (bit k) rows (row ∷ []) in
+          let one = sum_by-cons (bit k) row [] in
+          elim (cases_eq row.region k) [
+            | inl q ↦
+                let none = none_of rows n below in
+                let same : n ≡ k = sym at ∙ q in
+                let none' : count_by (λ (r : LiveRow). r.region == k) rows ≡ 0 = subst (λ (j : ℕ). count_by (λ (r : LiveRow). r.region == j) rows ≡ 0) same none in
+                omega (arith, sum, one, none', ap {B = ℕ} (λ b. cond b 1 0) (eq-eqb row.region k q))
+            | inr ne ↦ omega (arith, sum, one, c.are_rows.once k, ap {B = ℕ} (λ b. cond b 1 0) (ne_eqb row.region k ne))
+          ]
+
+-- the same rows in another order
+pub candidates_sorted : (t : Table) (tams : Tops) (previous : List Bool) (running : Bool) (n : ℕ) (xs ys : List LiveRow) → IsPermutation xs ys
+    → AreCandidates t tams previous running n xs → AreCandidates t tams previous running n ys
+candidates_sorted t tams previous running n xs ys same c = record {
+  are_rows = record {
+    each = All-permutation (IsRowOf t tams.previous previous) xs ys same c.are_rows.each;
+    once = λ k. omega (arith, sum_by-IsPermutation (bit k) xs ys same, c.are_rows.once k);
+  };
+  each = All-permutation (IsCandidateRow t tams previous running n) xs ys same c.each;
+  all = λ k lt is. sym (list_any-IsPermutation (λ row. row.region == k) xs ys same) ∙ c.all k lt is;
+}
+
+best_sorted : (words limit : ℕ) (xs ys best : List LiveRow) → IsPermutation xs ys → IsBestWithin words limit xs best → IsBestWithin words limit ys best
+best_sorted words limit xs ys best same b = record {
+  part = record { rest = b.part.rest; whole = IsPermutation-trans ys xs (best ++ b.part.rest) (IsPermutation-sym xs ys same) b.part.whole };
+  within = b.within;
+  most = λ other p le. b.most other (record { rest = p.rest; whole = IsPermutation-trans xs ys (other ++ p.rest) same p.whole }) le;
+}
+
+-- the front of the sorted rows
+pub front_chosen : (t : Table) (tams : Tops) (previous : List Bool) (running : Bool) (budget words free n : ℕ) (xs ys : List LiveRow) → words ≡ t.words_per_region → free ≡ count_by is_free t.regions
+    → AreCandidates t tams previous running (length t.regions) xs → IsPermutation xs ys → IsSorted row_cmp ys → n ≤ length ys
+    → ((row : LiveRow) → slice_get ys n ≡ Some row → copy_limit words budget free < live_sum (take n ys) + row.live_bound)
+    → IsBestWithin words (copy_limit words budget free) xs (take n ys) → IsChosen t tams previous running budget (take n ys)
+front_chosen t tams previous running budget words free n xs ys words_is free_is c same sorted le next best =
+    let count : length (take n ys) ≡ n = length-take-le n ys le in
+    record {
+      rows = ys;
+      candidates = candidates_sorted t tams previous running (length t.regions) xs ys same c;
+      sorted = sorted;
+      front = ap (λ (m : ℕ). take m ys) (sym count);
+      next = λ row e. rw (words_is, free_is) at (next row (ap (λ (m : ℕ). slice_get ys m) (sym count) ∙ e));
+      best = rw (words_is, free_is) at (best_sorted words (copy_limit words budget free) xs ys (take n ys) same best);
+    }
+
+pub length-push : (rows : List LiveRow) (row : LiveRow) → length (rows ++ row ∷ []) ≡ length rows + 1
+length-push [] row = refl
+length-push (x ∷ rows) row = omega (arith, length-push rows row)

@@ -1,0 +1,17 @@
+use Rattle.std.proofs.Common.{◌≡◌, ◌<◌, ◌+◌, length, sym, ◌∙◌, arith}
+use Rattle.step_core.proofs.Cycles.Forgetting.{marker_is, one_forgotten, one_cleared}
+use Rattle.step_core.proofs.cleanup.forget.Goals as goal
+
+pub loop-i-preserved : goal.loop-i-preserved
+loop-i-preserved c =
+    let f = c.forget.ensures in
+    let p = c.loop-i.invariant in
+    let at : c.new-region.result ≡ c.args.first + c.loop-i.i = omega (arith, c.new-region.ensures, c.number.ensures) in
+    let inside : c.new-region.result < length c.args.table.now.regions = omega (arith, at, c.loop-i-test.true, c.requires.within) in
+    record {
+      stands = f.stands;
+      idle = f.running;
+      forgotten = one_forgotten _ c.args.first c.loop-i.i c.new-region.result c.args.marker.now c.loop-i.marker c.forget.new.self c.law.ensures.positive p.forgotten at
+          (omega (arith, inside, p.stands.previous.each_region)) (omega (arith, inside, p.stands.next.each_region)) f.previous f.next f.tops (marker_is c.loop-i.marker c.forget.new.self f.grey f.logs (f.running ∙ sym p.idle) f.scans);
+      cleared = one_cleared c.args.first c.loop-i.i c.new-region.result c.args.sets.now c.loop-i.sets c.clear.new.self p.cleared at (omega (arith, inside, p.cleared.count, c.requires.each)) c.clear.ensures;
+    }

@@ -1,0 +1,30 @@
+-- The core of a new heap, and what it stands for.
+use Rattle.std.specs.Prelude.{◌+◌, ◌*◌, ◌/◌, None, replicate}
+use Rattle.heap_words.specs.declared.config.Config.{Config}
+use Rattle.heap_words.specs.Configs.{card_words}
+use Rattle.object_graph.specs.State.{first_state}
+use Rattle.regions.specs.Table.{free_table}
+use Rattle.alloc_buffers.specs.Placement.{closed}
+use Rattle.marker.specs.Views.{fresh_marker}
+use Rattle.cards.specs.Cards.{clean_cards}
+use Rattle.remembered_sets.specs.Sets.{empty_sets}
+use Rattle.step_core.specs.Stands.{CoreState, State}
+
+-- every region is free, no buffer open, nothing marked, each card clean, each set empty and each root nil
+abbrev pub fresh_core : Config → CoreState
+fresh_core c = record {
+  config = c;
+  table = free_table c.regions c.words;
+  buffers = closed c.buffer c.mutators;
+  marker = fresh_marker c;
+  cards = clean_cards (c.regions * (c.words / card_words c)) c.mutators;
+  sets = empty_sets c.regions (c.words / card_words c);
+  room = record { regions = c.regions; cards = c.regions * (c.words / card_words c) };
+  row_room = c.regions;
+  roots = replicate (16 + 8 * c.mutators) None;
+  next = c.first_name;
+}
+
+-- the graph of a new heap, which is its first snapshot too
+abbrev pub fresh_state : Config → State
+fresh_state c = record { graph = first_state c; snapshot = first_state c }

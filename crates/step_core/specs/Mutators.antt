@@ -1,0 +1,87 @@
+-- What each step of a mutator does to a core, exactly.
+use Rattle.std.specs.Prelude.{◌≡◌, ℕ, ◌+◌, ◌/◌, ◌==◌, Option, Some, None, if◌then◌else◌, slice_index_or, slice_set, unwrap_or}
+use Rattle.heap_words.specs.Sizes.{size_of}
+use Rattle.heap_words.specs.Configs.{card_words}
+use Rattle.regions.specs.Table.{pointers_at, set_pointer, set_value, new_object}
+use Rattle.alloc_buffers.specs.Placement.{Placement, place_of, made_at, address_of}
+use Rattle.marker.specs.Steps.{Overwrites}
+use Rattle.marker.specs.declared.marker.Marker.{Marker}
+use Rattle.cards.specs.Cards.{Cards, dirtied}
+use Rattle.refinement.specs.Remembering.{field_word}
+use Rattle.object_graph.specs.State.{register_place}
+use Rattle.object_graph.specs.declared.step.Action.{Action}
+use Rattle.object_graph.specs.declared.step.Action.TheVariants as actions
+use Rattle.object_graph.specs.declared.step.Counts.{Counts}
+use Rattle.object_graph.specs.declared.step.Register.{Register}
+use Rattle.object_graph.specs.declared.step.Reply.{Reply}
+use Rattle.object_graph.specs.declared.step.Reply.TheVariants as replies
+use Rattle.step_core.specs.Stands.{CoreState}
+
+-- what a root place holds, what a mutator's register holds, and where the object starts that it names
+abbrev pub root_of : CoreState → ℕ → Option ℕ
+root_of c place = slice_index_or c.roots place None
+
+abbrev pub register_of : CoreState → ℕ → Register → Option ℕ
+register_of c m r = root_of c (register_place m r.number)
+
+abbrev pub object_of : CoreState → ℕ → Register → ℕ
+object_of c m r = unwrap_or (register_of c m r) 0
+
+-- what an object's pointer holds
+abbrev pub pointer_of : CoreState → ℕ → ℕ → Option ℕ
+pointer_of c a i = slice_index_or (pointers_at c.table a) i None
+
+-- what put stores: nil, or what a register holds
+abbrev pub value_of : CoreState → ℕ → Option Register → Option ℕ
+value_of c m None = None
+value_of c m (Some r) = register_of c m r
+
+-- the core with another word in a root place
+abbrev pub with_root_word : CoreState → ℕ → Option ℕ → CoreState
+with_root_word c place w = record c { roots = slice_set c.roots place w }
+
+-- the cards once a pointer is stored in a word: the word's card is dirty if it leads into another region than the word's
+abbrev pub noted : CoreState → ℕ → ℕ → Option ℕ → Cards
+noted c m word None = c.cards
+noted c m word (Some target) = if target / c.table.words_per_region == word / c.table.words_per_region then c.cards else dirtied c.cards m (word / card_words c.config)
+
+-- the core with a pointer of an object changed
+abbrev pub with_pointer : CoreState → ℕ → ℕ → ℕ → Option ℕ → CoreState
+with_pointer c m a i w = record c { table = set_pointer c.table a i w; cards = noted c m (field_word a i) w }
+
+-- the core with a new object in its place, which a root place names
+abbrev pub with_made : CoreState → ℕ → Counts → Option Placement → CoreState
+with_made c place counts None = c
+with_made c place counts (Some x) = record c {
+  table = made_at x.table x.place (new_object c.next counts.pointers counts.values);
+  buffers = x.buffers;
+  roots = slice_set c.roots place (Some (address_of x.table x.place));
+  next = c.next + 1;
+}
+
+-- the core after a step that isn't refused, but for its marker
+abbrev pub core_after : CoreState → ℕ → Action → CoreState
+core_after c m (actions.New to counts) = with_made c (register_place m to.number) counts (place_of c.table c.buffers m (size_of counts.pointers counts.values))
+core_after c m (actions.Get to object i) = with_root_word c (register_place m to.number) (pointer_of c (object_of c m object) i)
+core_after c m (actions.Put object i value) = with_pointer c m (object_of c m object) i (value_of c m value)
+core_after c m (actions.Read object i) = c
+core_after c m (actions.Write object i v) = record c { table = set_value c.table (object_of c m object) i v }
+core_after c m (actions.Move to from) = with_root_word c (register_place m to.number) (register_of c m from)
+core_after c m (actions.Drop register) = with_root_word c (register_place m register.number) None
+core_after c m (actions.Load to from) = with_root_word c (register_place m to.number) (root_of c from.number)
+core_after c m (actions.Save to from) = with_root_word c to.number (register_of c m from)
+core_after c m (actions.Shape object) = c
+
+-- the marker after it: a put saves the pointer that it overwrites, and no other step concerns the marker
+abbrev pub MarkerAfter : CoreState → ℕ → Action → Marker → Type 0
+MarkerAfter c m (actions.Put object i value) m' = Overwrites c.marker.running c.table m (pointer_of c (object_of c m object) i) c.marker m'
+MarkerAfter c m _ m' = m' ≡ c.marker
+
+pub record HasActed (m : ℕ) (a : Action) (c c' : CoreState) : Type 0 where
+  pub core : c' ≡ record (core_after c m a) { marker = c'.marker }
+  pub marker : MarkerAfter c m a c'.marker
+
+-- a mutator's step: a refused one leaves the core as it was
+abbrev pub ActsOn : ℕ → Action → Reply → CoreState → CoreState → Type 0
+ActsOn m a (replies.Refused why) c c' = c' ≡ c
+ActsOn m a _ c c' = HasActed m a c c'

@@ -1,0 +1,112 @@
+-- What a pause does to a core, exactly.
+use Rattle.std.specs.Prelude.{◌≡◌, ◌↔◌, ℕ, ◌==◌, ◌+◌, ◌*◌, ◌<◌, ◌≤◌, All, Bool, true, Option, None, List, [], ◌∷◌, IsSorted, Some, length, take, count_by, slice_get, slice_index}
+use Rattle.heap_words.specs.Sizes.{size_of}
+use Rattle.heap_words.specs.Configs.{card_words}
+use Rattle.heap_model.specs.Graph.{Graph, Object, object_named}
+use Rattle.heap_model.specs.Heap.{Heap, Stored}
+use Rattle.heap_model.specs.Evacuation.{IsReached}
+use Rattle.regions.specs.Table.{Table, is_free, kind_of}
+use Rattle.regions.specs.declared.row.Kind.TheVariants as kinds
+use Rattle.alloc_buffers.specs.Placement.{closed}
+use Rattle.mark_bitmap.specs.Tops.{Tops}
+use Rattle.mark_bitmap.specs.Live.{live_bound_of}
+use Rattle.cards.specs.Cards.{clean_cards, flushed}
+use Rattle.region_choice.specs.declared.LiveRow.{LiveRow}
+use Rattle.region_choice.specs.Choice.{copy_limit, live_sum, row_cmp, IsBestWithin}
+use Rattle.evacuation.specs.Evacuates.{Layers, HasEvacuated, is_chosen, set_in}
+use Rattle.step_core.specs.Stands.{CoreState, heap_of, ShowsGraph}
+use Rattle.step_core.specs.Reclaimed.{IsReclaimed}
+use Rattle.step_core.specs.Refining.{GainsCards}
+
+-- the row of an ordinary region, with its live bound
+pub record IsRowOf (t : Table) (tops : List ℕ) (marks : List Bool) (row : LiveRow) : Type 0 where
+  pub known : row.region < length t.regions
+  pub ordinary : kind_of t row.region ≡ kinds.Ordinary
+  pub bound : row.live_bound ≡ live_bound_of t tops marks row.region
+
+-- the rows name ordinary regions, each once, with their live bounds
+pub record AreRowsOf (t : Table) (tops : List ℕ) (marks : List Bool) (rows : List LiveRow) : Type 0 where
+  pub each : All (IsRowOf t tops marks) rows
+  pub once : (k : ℕ) → count_by (λ row. row.region == k) rows ≤ 1
+
+-- A pause can reclaim the region: it is an ordinary one, its live bound is less than its words, and while marking runs,
+-- all of it was made since marking began
+pub record IsCandidate (t : Table) (tams : Tops) (previous : List Bool) (running : Bool) (k : ℕ) : Type 0 where
+  pub ordinary : kind_of t k ≡ kinds.Ordinary
+  pub frees : live_bound_of t tams.previous previous k < t.words_per_region
+  pub all_new : running ≡ true → slice_index tams.next k ≡ k * t.words_per_region
+
+-- a row of one of the first n regions, which is a candidate
+pub record IsCandidateRow (t : Table) (tams : Tops) (previous : List Bool) (running : Bool) (n : ℕ) (row : LiveRow) : Type 0 where
+  pub candidate : IsCandidate t tams previous running row.region
+  pub below : row.region < n
+
+-- the rows are those of the candidates among the first n regions, a row each
+pub record AreCandidates (t : Table) (tams : Tops) (previous : List Bool) (running : Bool) (n : ℕ) (rows : List LiveRow) : Type 0 where
+  pub are_rows : AreRowsOf t tams.previous previous rows
+  pub each : All (IsCandidateRow t tams previous running n) rows
+  pub all : (k : ℕ) → k < n → IsCandidate t tams previous running k → is_chosen rows k ≡ true
+
+-- the rows of the chosen regions: of all candidates, by live bound and then by number, as many from the front as the copy limit allows. No
+-- others within the limit free more
+pub record IsChosen (t : Table) (tams : Tops) (previous : List Bool) (running : Bool) (budget : ℕ) (chosen : List LiveRow) : Type 0 where
+  pub rows : List LiveRow
+  pub candidates : AreCandidates t tams previous running (length t.regions) rows
+  pub sorted : IsSorted row_cmp rows
+  pub front : chosen ≡ take (length chosen) rows
+  pub next : (row : LiveRow) → slice_get rows (length chosen) ≡ Some row → copy_limit t.words_per_region budget (count_by is_free t.regions) < live_sum chosen + row.live_bound
+  pub best : IsBestWithin t.words_per_region (copy_limit t.words_per_region budget (count_by is_free t.regions)) rows chosen
+
+-- No buffer is open and no region current. Every listed card is refined: no card is dirty, and the sets gained what these cards lead into.
+-- Nothing else changed
+pub record IsReady (c c' : CoreState) : Type 0 where
+  pub same : c' ≡ record c { buffers = closed c.buffers.words (length c.buffers.open_buffers); cards = clean_cards (length c.cards.dirty) (length c.cards.logs); sets = c'.sets }
+  pub sets : GainsCards (flushed c.cards).queue c c'
+
+-- an object of this name is reached in the set: from a root, or from a field of an object outside the set, by fields within it
+pub record IsCopied (set : ℕ → Bool) (h : Heap) (n : ℕ) : Type 0 where
+  pub address : ℕ
+  pub object : Stored
+  pub at : h.kept address ≡ Some object
+  pub named : object.name ≡ n
+  pub reached : IsReached set h address
+
+-- the words of an object of the graph, and of the objects of these names
+abbrev pub named_words : Option Object → ℕ
+named_words None = 0
+named_words (Some o) = size_of (length o.pointers) (length o.values)
+
+abbrev pub words_of : Graph → List ℕ → ℕ
+words_of g [] = 0
+words_of g (n ∷ ns) = named_words (object_named g n) + words_of g ns
+
+-- the names of the reached objects have so many words: they stand in a list, each once, and nothing else does
+pub record AreCopiedNames (g : Graph) (set : ℕ → Bool) (h : Heap) (w : ℕ) : Type 0 where
+  pub names : List ℕ
+  pub distinct : (i j n : ℕ) → slice_get names i ≡ Some n → slice_get names j ≡ Some n → i ≡ j
+  pub copied : (i n : ℕ) → slice_get names i ≡ Some n → IsCopied set h n
+  pub each : (n : ℕ) → IsCopied set h n → (i : ℕ) × (slice_get names i ≡ Some n)
+  pub total : words_of g names ≡ w
+
+-- the layers of a core that evacuation works on
+abbrev pub layers_of : CoreState → Layers
+layers_of c = record { table = c.table; tams = c.marker.tams; previous = c.marker.bitmaps.previous; next = c.marker.bitmaps.next; cards = c.cards; sets = c.sets; roots = c.roots }
+
+-- The chosen regions, n of them, are the best within the limit, and are reclaimed, and no others. What is reached in them, w words, at most
+-- the budget, is evacuated from the core that was made ready, and nothing else of it changes
+pub record EvacuatesBest (budget n w : ℕ) (c ready c' : CoreState) : Type 0 where
+  pub chosen : List LiveRow
+  pub choice : IsChosen c.table c.marker.tams c.marker.bitmaps.previous c.marker.running budget chosen
+  pub regions : n ≡ length chosen
+  pub within : w ≤ budget
+  pub names : (g : Graph) → ShowsGraph g c → AreCopiedNames g (set_in c.table.words_per_region chosen) (heap_of c) w
+  pub reclaimed : (k : ℕ) → IsReclaimed c.table c'.table k ↔ (is_chosen chosen k ≡ true)
+  pub same : c' ≡ record ready { table = c'.table; marker = c'.marker; cards = c'.cards; sets = c'.sets; roots = c'.roots }
+  pub marker : c'.marker ≡ record ready.marker { tams = c'.marker.tams; bitmaps = c'.marker.bitmaps }
+  pub evacuated : HasEvacuated chosen (card_words c.config) w (layers_of ready) (layers_of c')
+
+-- a pause: all is made ready, then the best regions are evacuated
+pub record HasPaused (budget n w : ℕ) (c c' : CoreState) : Type 0 where
+  pub ready : CoreState
+  pub is_ready : IsReady c ready
+  pub evacuates : EvacuatesBest budget n w c ready c'

@@ -1,0 +1,110 @@
+//! The regions that a pause may reclaim, and the choice among them.
+//!
+//! ```text
+//!   region       0        1         2         3        4        idle: candidates 0 2      marking runs: 2
+//!                ordinary ordinary  ordinary  free     run
+//!   live bound   5        16        3
+//!   next top     5        22        32, its bottom
+//! ```
+
+ghost use Rattle.std.specs.Prelude.{◌≡◌, ℕ, ◌<◌, ◌≤◌, All, Bool, IfNone, IfSome, IsTrue, Some, length, take, count_by, slice_get, ◌+◌, IsPermutation, IsSorted};
+ghost use Rattle.std.specs.Vec.{vec_capacity};
+ghost use Rattle.regions.specs.Table.{is_free, kind_of, nth_region};
+ghost use Rattle.mark_bitmap.specs.Kept.{MarksObjects};
+ghost use Rattle.mark_bitmap.specs.Live.{live_bound_of};
+ghost use Rattle.region_choice.specs.Choice.{copy_limit, live_sum, row_cmp, IsBestWithin};
+ghost use Rattle.step_core.specs.Pause.{IsCandidate, AreCandidates, IsChosen};
+
+use heap_words::addr::RegionNo;
+use mark_bitmap::live::live_bound;
+use mark_bitmap::marks::Marks;
+use mark_bitmap::tams::Tams;
+use region_choice::{LiveRow, choose};
+use regions::{Kind, RegionTable};
+
+/// The live bound of a region that is a candidate.
+fn candidate(
+    table: &RegionTable,
+    tams: &Tams,
+    previous: &Marks,
+    running: bool,
+    region: RegionNo,
+) -> Option<u32>
+    requires known { region < length table.now.regions }
+    requires marks { MarksObjects table.now tams.now.previous previous.now }
+    requires tops { length tams.now.next ≡ length table.now.regions }
+    ensures bound { IfSome result (λ n. n ≡ live_bound_of table.now tams.now.previous previous.now region) }
+    ensures some { IfSome result (λ n. IsCandidate table.now tams.now previous.now running region) }
+    ensures none { IfNone result (IsCandidate table.now tams.now previous.now running region → ⊥) }
+{
+    table.law();
+    match table.kind(region) {
+        Kind::Ordinary => {}
+        Kind::Free | Kind::First | Kind::Rest => return None,
+    }
+    let words = table.words_per_region();
+    if running && tams.next(region).word() != region.number() * words {
+        return None;
+    }
+    let live = live_bound(table, tams, previous, region);
+    if live < words { Some(live) } else { None }
+}
+
+/// Writes a row for each candidate.
+pub(crate) fn find_candidates(
+    table: &RegionTable,
+    tams: &Tams,
+    previous: &Marks,
+    running: bool,
+    rows: &mut Vec<LiveRow>,
+)
+    requires marks { MarksObjects table.now tams.now.previous previous.now }
+    requires tops { length tams.now.next ≡ length table.now.regions }
+    requires room { length table.now.regions ≤ vec_capacity rows.old }
+    ensures candidates { AreCandidates table.now tams.now previous.now running (length table.now.regions) rows.new.items }
+    ensures few { length rows.new.items ≤ length table.now.regions }
+    ensures room { vec_capacity rows.new ≡ vec_capacity rows.old }
+{
+    rows.clear();
+    for number in 0..table.region_count() {
+        let region = RegionNo::new(number);
+        if let Some(live_bound) = candidate(table, tams, previous, running, region) {
+            rows.push_reserved(LiveRow { region, live_bound });
+        }
+    }
+}
+
+/// Puts the best of the rows to the front, and answers how many.
+fn choose_rows(rows: &mut Vec<LiveRow>, words: u32, budget: u32, free: u32) -> usize
+    requires { All (λ row. row.live_bound < words) rows.old.items }
+    ensures same { IsPermutation rows.old.items rows.new.items }
+    ensures len { length rows.new.items ≡ length rows.old.items }
+    ensures sorted { IsSorted row_cmp rows.new.items }
+    ensures count { result ≤ length rows.new.items }
+    ensures next { (row : LiveRow) → slice_get rows.new.items result ≡ Some row → copy_limit words budget free < live_sum (take result rows.new.items) + row.live_bound }
+    ensures best { IsBestWithin words (copy_limit words budget free) rows.old.items (take result rows.new.items) }
+    ensures room { vec_capacity rows.new ≡ vec_capacity rows.old }
+{
+    choose(rows.as_mut_slice(), words, u64::from(budget), free).count
+}
+
+/// Finds the candidates, and puts the collection set to the front of the rows. The result is how many regions it has.
+pub(crate) fn choose_regions(
+    table: &RegionTable,
+    tams: &Tams,
+    previous: &Marks,
+    running: bool,
+    rows: &mut Vec<LiveRow>,
+    budget: u32,
+) -> usize
+    requires marks { MarksObjects table.now tams.now.previous previous.now }
+    requires tops { length tams.now.next ≡ length table.now.regions }
+    requires room { length table.now.regions ≤ vec_capacity rows.old }
+    ensures count { result ≤ length rows.new.items }
+    ensures few { result ≤ length table.now.regions }
+    ensures chosen { IsChosen table.now tams.now previous.now running budget (take result rows.new.items) }
+    ensures room { vec_capacity rows.new ≡ vec_capacity rows.old }
+{
+    find_candidates(table, tams, previous, running, rows);
+    choose_rows(rows, table.words_per_region(), budget, table.free_count())
+}

@@ -1,0 +1,258 @@
+//! The mutator's steps.
+
+ghost use Rattle.std.specs.Prelude.{◌≡◌, ℕ, ◌<◌, ◌≤◌, ◌+◌, ◌*◌, ◌↔◌, ◌≢◌, ◌⊎◌, Option, Some, None};
+ghost use Rattle.heap_words.specs.Sizes.{size_of};
+ghost use Rattle.heap_model.specs.Graph.{Graph, next_name};
+ghost use Rattle.heap_model.specs.Heap.{IsShown};
+ghost use Rattle.object_graph.specs.Machine.{stored};
+ghost use Rattle.object_graph.specs.declared.step.Reply.TheVariants as replies;
+ghost use Rattle.object_graph.specs.declared.step.Refusal.TheVariants as refusals;
+ghost use Rattle.regions.specs.Table.{new_object};
+ghost use Rattle.alloc_buffers.specs.Placement.{address_of, CanHold, made_at};
+ghost use Rattle.step_core.specs.Stands.{ShowsGraph, KeepsFrom, State, Stands, heap_of, IsWordOf, IsRootWord};
+ghost use Rattle.step_core.specs.Answers.{Acts, HasNoPlace, IsFull, RepliesFull, Follows};
+ghost use Rattle.step_core.specs.Mutators.{ActsOn, value_of};
+ghost use Rattle.step_core.specs.Cycle.{LeavesRegions};
+
+use crate::heap::{Core, register_index};
+use alloc_buffers::Place;
+use heap_words::addr::{Addr, Ptr};
+use heap_words::config::Config;
+use heap_words::header;
+use heap_words::header::{Count, FillerSize};
+use object_graph::{Action, Counts, GlobalRoot, Op, Refusal, Register, Reply};
+use regions::RegionTable;
+
+/// Makes a new object in its place, and answers its address.
+fn make(table: &mut RegionTable, place: Place, name: u64, counts: header::Counts) -> Addr
+    requires { CanHold table.old place (size_of counts.pointers counts.values) }
+    ensures at { result ≡ address_of table.old place }
+    ensures made { table.new ≡ made_at table.old place (new_object name counts.pointers counts.values) }
+{
+    table.law();
+    match place {
+        Place::Filler(at) => {
+            let size = 2 + counts.pointers.get() + counts.values.get();
+            table.make_object(at, FillerSize::new(size), name, counts);
+            at
+        }
+        Place::Run { first, count } => {
+            let words = table.words_per_region();
+            table.make_run(first, count, name, counts);
+            Addr::new(first.number() * words)
+        }
+    }
+}
+
+impl Core {
+    ghost use Rattle.object_graph.specs.declared.step.Action.TheVariants as actions;
+    ghost use Rattle.object_graph.specs.declared.step.Step.TheVariants as steps;
+
+    fn get(&mut self, mutator: u32, to: Register, object: Register, field: u32) -> Reply
+        requires { mutator < self.old.config.mutators }
+        ensures acts { (g : Graph) → ShowsGraph g self.old → Acts g mutator (actions.Get to object field) result self.new }
+        ensures keeps { (s : Graph) → KeepsFrom s self.old → KeepsFrom s self.new }
+        ensures after { ActsOn mutator (actions.Get to object field) result self.old self.new }
+        ensures leaves { LeavesRegions self.old self.new }
+    {
+        let Some(at) = self.register(mutator, object) else {
+            return Reply::Refused(Refusal::Nil);
+        };
+        if field >= self.table.pointer_count(at) {
+            return Reply::Refused(Refusal::NoField);
+        }
+        let value = self.table.get_ptr(at, field);
+        let name = self.name_of(&value);
+        self.set_register(mutator, to, value);
+        Reply::Named(name)
+    }
+
+    fn read(&self, mutator: u32, object: Register, field: u32) -> Reply
+        requires { mutator < self.now.config.mutators }
+        ensures acts { (g : Graph) → ShowsGraph g self.now → Acts g mutator (actions.Read object field) result self.now }
+        ensures after { ActsOn mutator (actions.Read object field) result self.now self.now }
+    {
+        let Some(at) = self.register(mutator, object) else {
+            return Reply::Refused(Refusal::Nil);
+        };
+        if field >= self.table.value_count(at) {
+            return Reply::Refused(Refusal::NoField);
+        }
+        Reply::Word(self.table.get_value(at, field))
+    }
+
+    /// What `put` stores: nil, or what a register holds.
+    fn stored(&self, mutator: u32, value: Option<Register>) -> Ptr
+        requires { mutator < self.now.config.mutators }
+        ensures value { result ≡ value_of self.now mutator value }
+        ensures word { IsWordOf (heap_of self.now) result }
+        ensures rooted { IsRootWord (heap_of self.now) result }
+        ensures shows { (g : Graph) → ShowsGraph g self.now → IsShown (heap_of self.now) result (stored g mutator value) }
+    {
+        match value {
+            None => None,
+            Some(register) => self.register(mutator, register),
+        }
+    }
+
+    fn put(&mut self, mutator: u32, object: Register, field: u32, value: Option<Register>) -> Reply
+        requires { mutator < self.old.config.mutators }
+        ensures acts { (g : Graph) → ShowsGraph g self.old → Acts g mutator (actions.Put object field value) result self.new }
+        ensures keeps { (s : Graph) → KeepsFrom s self.old → KeepsFrom s self.new }
+        ensures after { ActsOn mutator (actions.Put object field value) result self.old self.new }
+        ensures leaves { LeavesRegions self.old self.new }
+    {
+        let Some(at) = self.register(mutator, object) else {
+            return Reply::Refused(Refusal::Nil);
+        };
+        let target = self.stored(mutator, value);
+        if field >= self.table.pointer_count(at) {
+            return Reply::Refused(Refusal::NoField);
+        }
+        self.store(mutator, at, field, target);
+        Reply::Done
+    }
+
+    fn write(&mut self, mutator: u32, object: Register, field: u32, value: u64) -> Reply
+        requires { mutator < self.old.config.mutators }
+        ensures acts { (g : Graph) → ShowsGraph g self.old → Acts g mutator (actions.Write object field value) result self.new }
+        ensures keeps { (s : Graph) → KeepsFrom s self.old → KeepsFrom s self.new }
+        ensures after { ActsOn mutator (actions.Write object field value) result self.old self.new }
+        ensures leaves { LeavesRegions self.old self.new }
+    {
+        let Some(at) = self.register(mutator, object) else {
+            return Reply::Refused(Refusal::Nil);
+        };
+        if field >= self.table.value_count(at) {
+            return Reply::Refused(Refusal::NoField);
+        }
+        self.table.set_value(at, field, value);
+        Reply::Done
+    }
+
+    fn move_register(&mut self, mutator: u32, to: Register, from: Register) -> Reply
+        requires { mutator < self.old.config.mutators }
+        ensures acts { (g : Graph) → ShowsGraph g self.old → Acts g mutator (actions.Move to from) result self.new }
+        ensures keeps { (s : Graph) → KeepsFrom s self.old → KeepsFrom s self.new }
+        ensures after { ActsOn mutator (actions.Move to from) result self.old self.new }
+        ensures leaves { LeavesRegions self.old self.new }
+    {
+        let value = self.register(mutator, from);
+        self.set_register(mutator, to, value);
+        Reply::Done
+    }
+
+    fn drop_register(&mut self, mutator: u32, register: Register) -> Reply
+        requires { mutator < self.old.config.mutators }
+        ensures acts { (g : Graph) → ShowsGraph g self.old → Acts g mutator (actions.Drop register) result self.new }
+        ensures keeps { (s : Graph) → KeepsFrom s self.old → KeepsFrom s self.new }
+        ensures after { ActsOn mutator (actions.Drop register) result self.old self.new }
+        ensures leaves { LeavesRegions self.old self.new }
+    {
+        self.set_register(mutator, register, None);
+        Reply::Done
+    }
+
+    fn load(&mut self, mutator: u32, to: Register, from: GlobalRoot) -> Reply
+        requires { mutator < self.old.config.mutators }
+        ensures acts { (g : Graph) → ShowsGraph g self.old → Acts g mutator (actions.Load to from) result self.new }
+        ensures keeps { (s : Graph) → KeepsFrom s self.old → KeepsFrom s self.new }
+        ensures after { ActsOn mutator (actions.Load to from) result self.old self.new }
+        ensures leaves { LeavesRegions self.old self.new }
+    {
+        let value = self.root(from.number as usize);
+        let name = self.name_of(&value);
+        self.set_register(mutator, to, value);
+        Reply::Named(name)
+    }
+
+    fn save(&mut self, mutator: u32, to: GlobalRoot, from: Register) -> Reply
+        requires { mutator < self.old.config.mutators }
+        ensures acts { (g : Graph) → ShowsGraph g self.old → Acts g mutator (actions.Save to from) result self.new }
+        ensures keeps { (s : Graph) → KeepsFrom s self.old → KeepsFrom s self.new }
+        ensures after { ActsOn mutator (actions.Save to from) result self.old self.new }
+        ensures leaves { LeavesRegions self.old self.new }
+    {
+        let value = self.register(mutator, from);
+        self.set_root(to.number as usize, value);
+        Reply::Done
+    }
+
+    fn shape(&self, mutator: u32, object: Register) -> Reply
+        requires { mutator < self.now.config.mutators }
+        ensures acts { (g : Graph) → ShowsGraph g self.now → Acts g mutator (actions.Shape object) result self.now }
+        ensures after { ActsOn mutator (actions.Shape object) result self.now self.now }
+    {
+        let Some(at) = self.register(mutator, object) else {
+            return Reply::Refused(Refusal::Nil);
+        };
+        Reply::Shape {
+            pointers: self.table.pointer_count(at),
+            values: self.table.value_count(at),
+        }
+    }
+
+    fn new_object(&mut self, mutator: u32, to: Register, counts: Counts) -> Reply
+        requires { mutator < self.old.config.mutators }
+        ensures acts { (g : Graph) → ShowsGraph g self.old → Acts g mutator (actions.New to counts) result self.new
+            ⊎ RepliesFull g mutator (actions.New to counts) self.old result self.new }
+        ensures keeps { (s : Graph) → KeepsFrom s self.old → KeepsFrom s self.new }
+        ensures after { ActsOn mutator (actions.New to counts) result self.old self.new }
+        ensures leaves { LeavesRegions self.old self.new }
+        ensures full { HasNoPlace self.old mutator (size_of counts.pointers counts.values) → (name : Option ℕ) → result ≢ replies.Named name }
+    {
+        let size = counts.size();
+        let Config { regions, words, .. } = self.config;
+        if u64::from(regions) * u64::from(words) < size {
+            return Reply::Refused(Refusal::TooBig);
+        }
+        if self.next == u64::MAX {
+            return Reply::Refused(Refusal::NamesSpent);
+        }
+        self.table.law();
+        let Ok(place) = self.buffers.place(&mut self.table, mutator, size as u32) else {
+            return Reply::Refused(Refusal::Full);
+        };
+        let name = self.next;
+        self.table.law();
+        let counts = header::Counts {
+            pointers: Count::new(counts.pointers),
+            values: Count::new(counts.values),
+        };
+        let at = make(&mut self.table, place, name, counts);
+        self.roots[register_index(mutator, to)] = Some(at);
+        self.next += 1;
+        Reply::Named(Some(name))
+    }
+
+    /// Does a mutator's step.
+    pub(crate) fn act(&mut self, op: Op) -> Reply
+        requires { op.mutator < self.old.config.mutators }
+        ensures follows { (s : State) → Stands s self.old → Follows s (steps.Mutator op) result self.new }
+        ensures full { (s : State) → Stands s self.old → (result ≡ replies.Refused refusals.Full) ↔ IsFull s.graph op.mutator op.action self.old }
+        ensures after { ActsOn op.mutator op.action result self.old self.new }
+        ensures leaves { LeavesRegions self.old self.new }
+    {
+        let mutator = op.mutator;
+        match op.action {
+            Action::New { to, counts } => self.new_object(mutator, to, counts),
+            Action::Get { to, object, field } => self.get(mutator, to, object, field),
+            Action::Put {
+                object,
+                field,
+                value,
+            } => self.put(mutator, object, field, value),
+            Action::Read { object, field } => self.read(mutator, object, field),
+            Action::Write {
+                object,
+                field,
+                value,
+            } => self.write(mutator, object, field, value),
+            Action::Move { to, from } => self.move_register(mutator, to, from),
+            Action::Drop { register } => self.drop_register(mutator, register),
+            Action::Load { to, from } => self.load(mutator, to, from),
+            Action::Save { to, from } => self.save(mutator, to, from),
+            Action::Shape { object } => self.shape(mutator, object),
+        }
+    }
+}

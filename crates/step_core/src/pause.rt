@@ -1,0 +1,76 @@
+//! A pause: the best of the candidates are evacuated and reclaimed, within a budget of words.
+//!
+//! ```text
+//!   close          no buffer is open, and no region is current
+//!   refine all     every dirty card is refined: what leads into a region is covered by its set
+//!   choose         the candidates with the least live words, within the budget and the free regions
+//!   evacuate       what is reached in them is copied into free regions, and they are released
+//! ```
+
+ghost use Rattle.std.specs.Prelude.{◌≡◌, ℕ, ◌<◌, ◌^◌, false, length};
+ghost use Rattle.heap_model.specs.Graph.{Graph};
+ghost use Rattle.alloc_buffers.specs.Placement.{closed};
+ghost use Rattle.cards.specs.Cards.{is_dirty};
+ghost use Rattle.step_core.specs.Stands.{ShowsGraph, KeepsFrom};
+ghost use Rattle.step_core.specs.Pause.{IsReady, EvacuatesBest, HasPaused};
+
+use crate::candidates::choose_regions;
+use crate::heap::Core;
+use evacuation::{Moved, evacuate};
+
+impl Core {
+    /// No buffer is open and no region current, and no card is dirty.
+    fn make_ready(&mut self)
+        ensures shows { (g : Graph) → ShowsGraph g self.old → ShowsGraph g self.new }
+        ensures keeps { (s : Graph) → KeepsFrom s self.old → KeepsFrom s self.new }
+        ensures ready { IsReady self.old self.new }
+    {
+        self.buffers.close_all();
+        self.cards.flush_all();
+        let queued = self.cards.queued();
+        self.refine(queued);
+        self.cards.law();
+    }
+
+    /// The best of the candidates are evacuated, where nothing is dirty.
+    fn evacuate_best(&mut self, budget: u32) -> Moved
+        requires clean { (card : ℕ) → is_dirty self.old.cards card ≡ false }
+        requires closed { self.old.buffers ≡ closed self.old.buffers.words (length self.old.buffers.open_buffers) }
+        ensures shows { (g : Graph) → ShowsGraph g self.old → ShowsGraph g self.new }
+        ensures keeps { (s : Graph) → KeepsFrom s self.old → KeepsFrom s self.new }
+        ensures evacuates { EvacuatesBest budget result.regions result.words self.old self.old self.new }
+        ensures few { result.regions < 2 ^ 32 }
+    {
+        self.table.law();
+        let count = choose_regions(
+            &self.table,
+            &self.marker.tams,
+            &self.marker.bitmaps.previous,
+            self.marker.running,
+            &mut self.rows,
+            budget,
+        );
+        evacuate(
+            &mut self.table,
+            &mut self.marker.tams,
+            &mut self.marker.bitmaps,
+            &mut self.cards,
+            &mut self.sets,
+            self.roots.as_mut_slice(),
+            &mut self.room,
+            &self.rows[..count],
+            self.config.card_words(),
+        )
+    }
+
+    /// A pause.
+    pub(crate) fn pause(&mut self, budget: u32) -> Moved
+        ensures shows { (g : Graph) → ShowsGraph g self.old → ShowsGraph g self.new }
+        ensures keeps { (s : Graph) → KeepsFrom s self.old → KeepsFrom s self.new }
+        ensures paused { HasPaused budget result.regions result.words self.old self.new }
+        ensures few { result.regions < 2 ^ 32 }
+    {
+        self.make_ready();
+        self.evacuate_best(budget)
+    }
+}

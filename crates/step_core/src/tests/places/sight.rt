@@ -1,0 +1,143 @@
+//! A heap as it is seen from outside: every object, every region and every root.
+
+ghost use Rattle.std.specs.Prelude.{◌<◌, IsSome};
+ghost use Rattle.regions.specs.Table.{object_at, tile_in};
+
+use crate::Core;
+use heap_words::addr::{Addr, RegionNo};
+use regions::{Kind, Shape};
+use std::alloc::{AllocError, Global};
+
+/// How many fields an object of a drawn heap has at most.
+pub(crate) const FIELDS: usize = 20;
+
+/// An object where it stands, and what its fields name. The fields that it hasn't name nothing.
+#[derive(Clone, Copy, Debug, PartialEq, Eq)]
+pub(crate) struct Seen {
+    pub(crate) at: u32,
+    pub(crate) size: u32,
+    pub(crate) name: u64,
+    /// Whether it starts at or above its region's previous top at mark start, or is marked.
+    pub(crate) kept: bool,
+    pub(crate) fields: [Option<u32>; FIELDS],
+}
+
+/// What a region is, its top, and its tops at mark start.
+#[derive(Clone, Copy, Debug, PartialEq, Eq)]
+pub(crate) struct Space {
+    pub(crate) number: u32,
+    pub(crate) kind: Kind,
+    pub(crate) top: u32,
+    pub(crate) previous: u32,
+    pub(crate) next: u32,
+}
+
+/// A heap as it is seen, its objects by rising address.
+#[derive(Drop)]
+pub(crate) struct Sight {
+    /// The words of a region.
+    pub(crate) words: u32,
+    pub(crate) spaces: Vec<Space>,
+    pub(crate) objects: Vec<Seen>,
+    pub(crate) roots: Vec<Option<u32>>,
+}
+
+/// What a field of the object at an address names, None behind its last field.
+fn field_of(core: &Core, at: Addr, field: u32) -> Option<u32>
+    requires { IsSome (object_at core.now.table at) }
+{
+    if field < core.table.field_count(at) {
+        core.table.get_field(at, field).map(|target| target.word())
+    } else {
+        None
+    }
+}
+
+/// What the fields of the object at an address name.
+fn fields_of(core: &Core, at: Addr) -> [Option<u32>; FIELDS]
+    requires { IsSome (object_at core.now.table at) }
+{
+    let mut fields = [None; FIELDS];
+    for number in 0..FIELDS {
+        fields[number] = field_of(core, at, number as u32);
+    }
+    fields
+}
+
+/// The object at an address of a region with this previous top at mark start.
+fn object_seen(core: &Core, at: Addr, previous: u32) -> Seen
+    requires { IsSome (object_at core.now.table at) }
+{
+    let marks = &core.marker.bitmaps.previous;
+    let marked = at.word() < marks.len() && marks.get(at);
+    Seen {
+        at: at.word(),
+        size: core.table.object_size(at),
+        name: core.table.name(at),
+        kept: marked || at.word() >= previous,
+        fields: fields_of(core, at),
+    }
+}
+
+/// The object that a tile is.
+fn tile_seen(core: &Core, at: Addr, previous: u32) -> Option<Seen>
+    requires { IsSome (tile_in core.now.table at) }
+{
+    match core.table.tile(at) {
+        Shape::Object { .. } => Some(object_seen(core, at, previous)),
+        Shape::Filler { .. } | Shape::Forwarded { .. } => None,
+    }
+}
+
+/// The object that starts at a word.
+fn word_seen(core: &Core, word: u32, previous: u32) -> Option<Seen> {
+    core.table.law();
+    if word >= core.table.region_count() * core.table.words_per_region() {
+        return None;
+    }
+    let at = core.table.first_tile(Addr::new(word))?;
+    if at.word() != word {
+        return None;
+    }
+    tile_seen(core, at, previous)
+}
+
+/// The region of this number.
+fn space_seen(core: &Core, number: u32) -> Space
+    requires { number < core.now.config.regions }
+{
+    let region = RegionNo::new(number);
+    Space {
+        number,
+        kind: core.table.kind(region),
+        top: core.table.top(region).word(),
+        previous: core.marker.tams.previous(region).word(),
+        next: core.marker.tams.next(region).word(),
+    }
+}
+
+/// The heap as it stands, word by word.
+pub(crate) fn look(alloc: Global, core: &Core) -> Result<Sight, AllocError> {
+    let words = core.config().words;
+    let mut spaces = Vec::new(alloc);
+    let mut objects = Vec::new(alloc);
+    for number in 0..core.config().regions {
+        let space = space_seen(core, number);
+        spaces.push(space)?;
+        for word in number.saturating_mul(words)..space.top {
+            if let Some(object) = word_seen(core, word, space.previous) {
+                objects.push(object)?;
+            }
+        }
+    }
+    let mut roots = Vec::new(alloc);
+    for root in &core.roots {
+        roots.push(root.map(|target| target.word()))?;
+    }
+    Ok(Sight {
+        words,
+        spaces,
+        objects,
+        roots,
+    })
+}

@@ -1,0 +1,440 @@
+#!/usr/bin/env python3
+"""Draws a heap script from a seed, and prints it: tools/draw_script.py SEED [options], --help tells which.
+
+The drawer follows the script's objects, roots and pointers, so that most steps name what is there. It knows
+nothing of regions: where a heap refuses an object as full, its picture is a little wrong from there on, and the
+script has some more refused steps.
+"""
+import argparse
+import random
+
+# How often each step comes, as weights. `begin`, `mark`, `remark` and `cleanup` are drawn where they make sense,
+# but for `wrong`, one of them out of place.
+WEIGHTS = {
+    "new": 24, "put": 17, "put_nil": 5, "get": 9, "move": 3, "drop": 9, "load": 3, "save": 4,
+    "read": 3, "write": 3, "shape": 1,
+    "begin": 3, "mark": 5, "remark": 3, "cleanup": 3, "refine": 3, "pause": 7, "wrong": 0.3,
+}
+# All registers from each of them on.
+ORDERS = [[(start + place) % 8 for place in range(8)] for start in range(8)]
+MARK_STEPS = ("begin", "mark", "remark", "cleanup")
+COLLECTOR_STEPS = MARK_STEPS + ("refine", "pause", "wrong")
+WEIGHT_OPTIONS = COLLECTOR_STEPS + ("new", "drop", "put")
+
+
+class Object:
+    __slots__ = ("pointers", "data")
+
+    def __init__(self, pointers, data):
+        self.pointers = [None] * pointers
+        self.data = data
+
+
+class Drawer:
+    """Draws one script. Each option left as None is drawn too."""
+
+    def __init__(self, seed, steps=80, regions=None, words=None, buffer=None, mutators=None, large=None,
+                 weights=None, card=None):
+        self.random = random.Random(seed)
+        self.chance = self.random.random
+        self.steps = steps
+        # What a script may have many of at once: cards that lead into one region, deletions while marking runs,
+        # objects that one pause copies, or dirty cards in regions that are reclaimed and taken again.
+        self.burst = self.pick((None, None, None, None, None, None, "many_cards", "many_deletions", "many_copies",
+                                "many_copies", "many_reuses"))
+        self.large = self.chance() < 0.4 if large is None else large
+        self.words = words or self.pick((16, 16, 16, 32, 32, 64))
+        # Few regions for the steps that there are, so that the heap is nearly full at times.
+        self.regions = regions or self.number(3, 4 + max(2, steps * 96 // (self.words * 20)))
+        if self.burst == "many_cards" and words is None:
+            self.words = 16 if self.large and self.chance() < 0.5 else 256
+            self.regions = regions or (self.number(20, 40) if self.words == 16 else self.number(3, 6))
+        if self.burst == "many_copies" and regions is None:
+            self.regions = max(self.regions, self.number(8, 16))
+        self.regions = min(self.regions, 1024, 1048576 // self.words)
+        self.buffer = buffer or self.number(4, self.words // 2 if self.chance() < 0.5 else min(16, self.words // 2))
+        self.mutators = mutators or self.pick((1, 1, 1, 1, 2, 2, 3, 5, 1, 1, 2, 2, 16))
+        self.first_name = self.pick((0, 0, 0, 0, 0, 1, 1000000, 2 ** 63, 2 ** 64 - 3, 2 ** 64 - 20, 2 ** 64 - 60))
+        # Some scripts pause often, some mark for long, some lose many objects.
+        self.weights = dict(WEIGHTS)
+        self.weights["pause"] *= self.pick((0.05, 0.3, 1, 1, 1, 2))
+        self.weights["refine"] *= self.pick((0.1, 1, 1, 2))
+        self.weights["remark"] *= self.pick((0.3, 0.6, 1, 2))
+        self.weights["mark"] *= self.pick((0.2, 1, 2))
+        loss = self.pick((0.3, 1, 1, 2, 4))
+        self.weights["drop"] *= loss
+        self.weights["put_nil"] *= loss
+        self.weights["new"] *= self.pick((0.7, 1, 1, 1.5))
+        self.weights.update(weights or {})
+        self.roots = [[None] * 8 for _ in range(self.mutators)]
+        self.globals = [None] * 16
+        self.marking = False
+        self.marked_once = False
+        self.lines = [f"heap {self.regions} {self.words} {self.buffer} {self.mutators} {self.first_name}"]
+        if card is None:
+            # Drawn apart, so that a seed's steps are the same in either format.
+            card = random.Random(f"card {seed}").choice((0, 0, 8, 16, min(self.words, 32), min(self.words, 64)))
+        if card:
+            self.lines = [f"{self.lines[0].replace('heap', 'heap2')} {card}"]
+
+    def pick(self, choices):
+        return choices[int(self.chance() * len(choices))]
+
+    def number(self, low, high):
+        return low + int(self.chance() * (high - low + 1))
+
+    def register(self, registers):
+        """A register that names an object, where there is one."""
+        start = int(self.chance() * 8)
+        for register in ORDERS[start]:
+            if registers[register] is not None:
+                return register
+        return start
+
+    def holder(self, registers):
+        """A register that names an object with pointers, where there is one."""
+        start = int(self.chance() * 8)
+        for register in ORDERS[start]:
+            if registers[register] is not None and registers[register].pointers:
+                return register
+        return start
+
+    def dataful(self, registers):
+        """A register that names an object with data words, where there is one."""
+        start = int(self.chance() * 8)
+        for register in ORDERS[start]:
+            if registers[register] is not None and registers[register].data:
+                return register
+        return start
+
+    def index(self, count):
+        """A place below a count, and now and then the first beyond it."""
+        if count == 0 or self.chance() < 0.02:
+            return count
+        return int(self.chance() * count)
+
+    def draw(self):
+        names = list(self.weights)
+        limit = self.steps + 1
+        kinds = self.random.choices(names, [self.weights[name] for name in names], k=self.steps)
+        if self.burst:
+            for first in range(0, self.steps, 200):
+                kinds[self.number(first, min(first + 30, self.steps - 1))] = self.burst
+        for kind in kinds:
+            if kind in COLLECTOR_STEPS:
+                self.collector_step(kind)
+            elif kind.startswith("many_"):
+                getattr(self, kind)()
+            else:
+                self.mutator_step(kind)
+            if len(self.lines) >= limit:
+                break
+        del self.lines[limit:]
+        return "\n".join(self.lines) + "\n"
+
+    def say(self, line):
+        self.lines.append(line)
+
+    def collect(self, step, number):
+        """A step of the collector; one of weight 0 never comes."""
+        if self.weights[step] > 0:
+            self.say(f"gc {step} {number}")
+
+    def mutator_step(self, kind):
+        mutator = int(self.chance() * self.mutators) if self.mutators > 1 else 0
+        registers = self.roots[mutator]
+        if kind not in ("new", "load") and self.chance() < 0.9 and not any(registers):
+            kind = "load" if self.chance() < 0.4 and any(self.globals) else "new"
+        getattr(self, kind)(mutator, registers)
+
+    def make(self, mutator, register, pointers, data):
+        self.say(f"{mutator} new r{register} {pointers} {data}")
+        self.roots[mutator][register] = Object(pointers, data)
+
+    def fill(self, mutator, holder, place, source):
+        self.say(f"{mutator} put r{holder} {place} " + ("nil" if source is None else f"r{source}"))
+        registers = self.roots[mutator]
+        registers[holder].pointers[place] = None if source is None else registers[source]
+
+    def many_cards(self):
+        """An object that is named from more cards than a remembered set holds one by one."""
+        mutator = int(self.chance() * self.mutators)
+        if self.words < 128 and self.large:
+            sizes = [self.number(120, 220)]
+        else:
+            sizes = [self.words // 2] * self.pick((1, 2, 2, 3))
+        for place, size in enumerate(sizes):
+            self.make(mutator, place, size - 2, 0)
+            self.say(f"{mutator} save g{place} r{place}")
+            self.globals[place] = self.roots[mutator][place]
+        self.make(mutator, 7, self.number(0, 2), self.number(0, 2))
+        for place, size in enumerate(sizes):
+            for field in range(self.number(0, 7), size - 2, 8):
+                self.fill(mutator, place, field, 7)
+        if self.chance() < 0.7:
+            self.drop(mutator, self.roots[mutator], 7)
+        if self.chance() < 0.5:
+            self.collect("refine", 1000)
+        if self.chance() < 0.8:
+            self.pause()
+
+    def many_deletions(self):
+        """An object that names many others, which marking can find by the deleted pointers alone."""
+        mutator = int(self.chance() * self.mutators)
+        count = min(self.number(8, 14), self.words - 2 if self.large else self.words // 2 - 2)
+        if self.marking:
+            self.mark_step("remark")
+        self.make(mutator, 0, count, 0)
+        for place in range(count):
+            self.make(mutator, 1, self.number(0, 1), self.number(0, 1))
+            self.fill(mutator, 0, place, 1)
+        self.drop(mutator, self.roots[mutator], 1)
+        self.mark_step("begin")
+        for place in range(count):
+            self.fill(mutator, 0, place, None)
+            if self.chance() < 0.05:
+                self.mark_step("mark")
+
+    def many_copies(self):
+        """A tree of objects of many sizes, held by its root alone."""
+        mutator = int(self.chance() * self.mutators)
+        registers = self.roots[mutator]
+        self.make(mutator, 0, self.number(3, min(6, self.words // 2 - 2)), 0)
+        for place in range(self.number(6, 14)):
+            pointers = self.number(0, 4)
+            self.make(mutator, 4, pointers, self.number(0, self.words // 2 - 2 - pointers))
+            parents = [register for register in range(4)
+                       if registers[register] is not None and None in registers[register].pointers]
+            if parents:
+                parent = self.pick(parents)
+                self.fill(mutator, parent, registers[parent].pointers.index(None), 4)
+            if pointers:
+                self.move(mutator, registers, 1 + place % 3, 4)
+        for register in (4, 3, 2, 1)[:self.number(2, 4)]:
+            self.drop(mutator, registers, register)
+        for _ in range(self.number(1, 3)):
+            self.collect("pause", 1000)
+            self.refine_after_pause()
+            self.get(mutator, registers)
+
+    def many_reuses(self):
+        """Objects with pointers into another region that are lost and reclaimed; then others in their place."""
+        mutator = int(self.chance() * self.mutators)
+        registers = self.roots[mutator]
+        pointers, stride = self.words // 2 - 2, self.pick((2, 3, 6))
+        self.make(mutator, 1, 0, 1)
+        if self.marking:
+            self.mark_step("remark")
+        for number in range(2):
+            for _ in range(2):
+                self.make(mutator, 0, pointers, 0)
+                for place in range(0, min(pointers, 24), stride):
+                    self.fill(mutator, 0, place, 1)
+            if number == 0:
+                self.drop(mutator, registers, 0)
+                # These take another region, so that the objects before don't lie in the current one.
+                self.make(mutator, 2, pointers, 0)
+                self.make(mutator, 2, pointers, 0)
+                self.mark_step("begin")
+                self.mark_step("remark")
+                self.mark_step("cleanup")
+        self.collect("refine", 1000)
+
+    def shape_to_make(self):
+        chance = self.chance()
+        if chance < 0.01:
+            heap = self.regions * self.words
+            return self.pick(((0, 4294967295), (4294967295, 0), (heap, 0), (1, heap - 2))
+                             + (((3, heap - 5), (1, heap - 4)) if self.large else ()))
+        if self.large and chance < 0.12:
+            size = self.number(self.words // 2 + 1, self.words * self.pick((1, 2, 2, 3, 5)))
+        elif chance < 0.4:
+            size = self.number(2, self.buffer)
+        elif chance < 0.75:
+            size = self.number(2, min(8, self.words // 2))
+        else:
+            size = self.number(2, self.words // 2)
+        pointers = self.number(0, size - 2)
+        if self.chance() < 0.3:
+            pointers = size - 2
+        return pointers, size - 2 - pointers
+
+    def new(self, mutator, registers):
+        pointers, data = self.shape_to_make()
+        register = int(self.chance() * 8)
+        if registers[register] is not None and self.chance() < 0.5:
+            register = int(self.chance() * 8)
+        self.say(f"{mutator} new r{register} {pointers} {data}")
+        if pointers + data + 2 <= self.regions * self.words:
+            made = Object(pointers, data)
+            registers[register] = made
+            # Objects that nothing is stored in or names are dull: mostly it is linked at once.
+            if self.chance() < 0.5:
+                holder = self.holder(registers)
+                target = registers[holder]
+                if target is not None and target.pointers:
+                    place = int(self.chance() * len(target.pointers))
+                    self.say(f"{mutator} put r{holder} {place} r{register}")
+                    target.pointers[place] = made
+
+    def put(self, mutator, registers):
+        holder, source = self.holder(registers), self.register(registers)
+        target = registers[holder]
+        place = self.index(len(target.pointers) if target else 0)
+        self.say(f"{mutator} put r{holder} {place} r{source}")
+        if target and place < len(target.pointers):
+            target.pointers[place] = registers[source]
+
+    def put_nil(self, mutator, registers):
+        holder = self.holder(registers)
+        target = registers[holder]
+        place = self.index(len(target.pointers) if target else 0)
+        self.say(f"{mutator} put r{holder} {place} nil")
+        if target and place < len(target.pointers):
+            target.pointers[place] = None
+
+    def get(self, mutator, registers):
+        holder, register = self.holder(registers), int(self.chance() * 8)
+        target = registers[holder]
+        place = self.index(len(target.pointers) if target else 0)
+        if target and place < len(target.pointers) and target.pointers[place] is None:
+            place = int(self.chance() * len(target.pointers))
+        self.say(f"{mutator} get r{register} r{holder} {place}")
+        if target and place < len(target.pointers):
+            registers[register] = target.pointers[place]
+
+    def move(self, mutator, registers, target=None, source=None):
+        if target is None:
+            target, source = int(self.chance() * 8), self.register(registers)
+        self.say(f"{mutator} move r{target} r{source}")
+        registers[target] = registers[source]
+
+    def drop(self, mutator, registers, register=None):
+        if register is None:
+            register = self.register(registers)
+        self.say(f"{mutator} drop r{register}")
+        registers[register] = None
+
+    def load(self, mutator, registers):
+        register, place = int(self.chance() * 8), int(self.chance() * 16)
+        if self.globals[place] is None:
+            place = int(self.chance() * 4)
+        self.say(f"{mutator} load r{register} g{place}")
+        registers[register] = self.globals[place]
+
+    def save(self, mutator, registers):
+        place, register = int(self.chance() * self.pick((4, 4, 16))), self.register(registers)
+        self.say(f"{mutator} save g{place} r{register}")
+        self.globals[place] = registers[register]
+
+    def read(self, mutator, registers):
+        register = self.dataful(registers)
+        place = self.index(registers[register].data if registers[register] else 0)
+        self.say(f"{mutator} read r{register} {place}")
+
+    def write(self, mutator, registers):
+        register = self.dataful(registers)
+        place = self.index(registers[register].data if registers[register] else 0)
+        value = self.pick((0, 1, 2, 257, 4098, 2 ** 32, 2 ** 64 - 1, self.number(0, 999)))
+        self.say(f"{mutator} write r{register} {place} {value}")
+
+    def shape(self, mutator, registers):
+        self.say(f"{mutator} shape r{self.register(registers)}")
+
+    def collector_step(self, kind):
+        if kind == "refine":
+            self.collect("refine", self.pick((0, 1, 1, 2, 3, 1000)))
+        elif kind == "pause":
+            self.pause()
+        elif kind == "wrong":
+            self.mark_step(self.pick(MARK_STEPS))
+        elif self.marking:
+            # `begin` and `cleanup` would be refused: marking goes on instead.
+            self.mark_step("remark" if kind == "remark" else "mark")
+        elif kind in ("begin", "remark"):
+            self.mark_step("begin")
+        elif kind == "cleanup" and (self.marked_once or self.chance() < 0.1):
+            self.mark_step("cleanup")
+
+    def mark_step(self, kind):
+        if kind == "mark":
+            self.collect("mark", self.pick((0, 1, 1, 2, 3, 5, 1000)))
+            return
+        if self.weights[kind] == 0:
+            return
+        self.say(f"gc {kind}")
+        if kind == "begin":
+            self.marking = True
+        elif kind == "remark":
+            self.marked_once = self.marked_once or self.marking
+            self.marking = False
+            if self.chance() < 0.6:
+                self.mark_step("cleanup")
+
+    def pause(self):
+        budget = self.pick((0, self.number(1, 12), self.words // 2, self.words, self.number(0, 4 * self.words), 1000, 1000,
+                            4294967295))
+        self.collect("pause", budget)
+        self.refine_after_pause()
+
+    def refine_after_pause(self):
+        # How long the queue is after a pause shows in the replies to `refine` alone.
+        chance = self.chance()
+        if chance < 0.2:
+            for _ in range(self.number(1, 5)):
+                self.collect("refine", 1)
+        elif chance < 0.5:
+            self.collect("refine", 1000)
+
+
+def draw(seed, **options):
+    """The text of the script that a seed draws."""
+    return Drawer(seed, **options).draw()
+
+
+def spoil(text, seed):
+    """The text with one byte changed, taken away or put in, or cut short: most such texts have a faulty line."""
+    chosen = random.Random(seed)
+    place = chosen.randrange(len(text))
+    kind = chosen.randrange(8)
+    if kind == 0:
+        return text[:place]
+    if kind == 1:
+        return text[:place] + text[place + 1:]
+    byte = chosen.choice("0123456789 rgcmn\n\tx-")
+    return text[:place] + byte + text[place + (0 if kind < 5 else 1):]
+
+
+def add_options(parser):
+    """Options that say what is drawn; `options_of` gives them to `draw`."""
+    parser.add_argument("--steps", type=int, default=80, help="steps a script (80)")
+    parser.add_argument("--regions", type=int, help="regions of the heap")
+    parser.add_argument("--words", type=int, help="words a region")
+    parser.add_argument("--buffer", type=int, help="words a buffer")
+    parser.add_argument("--mutators", type=int, help="mutators")
+    parser.add_argument("--card", type=int, help="words a card: 8 to 64; 0 for the first format")
+    parser.add_argument("--large", choices=("yes", "no"), help="with objects of more than half a region, or without")
+    for name in WEIGHT_OPTIONS:
+        never = "; 0: never" if name in COLLECTOR_STEPS else ""
+        step = "a marking step out of place" if name == "wrong" else f"`{name}`"
+        parser.add_argument(f"--{name}", type=float, metavar="WEIGHT",
+                            help=f"how often {step} comes ({WEIGHTS[name]}{never})")
+
+
+def options_of(words):
+    weights = {name: getattr(words, name) for name in WEIGHT_OPTIONS if getattr(words, name) is not None}
+    return {"steps": words.steps, "regions": words.regions, "words": words.words, "buffer": words.buffer,
+            "mutators": words.mutators, "large": None if words.large is None else words.large == "yes",
+            "weights": weights, "card": words.card}
+
+
+def main():
+    parser = argparse.ArgumentParser(description="Draws a heap script from a seed, and prints it.")
+    parser.add_argument("seed", type=int)
+    add_options(parser)
+    words = parser.parse_args()
+    print(draw(words.seed, **options_of(words)), end="")
+
+
+if __name__ == "__main__":
+    main()

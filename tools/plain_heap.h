@@ -1,0 +1,725 @@
+// A Garbage-First heap, written plainly and not verified: an oracle and a baseline of cost for g1heap.
+//
+// The heap is one array of words with real headers in it, cut into equal regions. An address is a word's
+// place in that array. A pointer word is 0 for nil, else the address of its object plus 1.
+#pragma once
+
+#include <algorithm>
+#include <cstdint>
+#include <cstring>
+#include <functional>
+#include <memory>
+#include <utility>
+#include <vector>
+
+namespace plain {
+
+using Word = std::uint64_t;
+using Address = std::uint32_t;
+using Number = std::uint32_t;
+
+constexpr Number globals = 16;
+constexpr Number registers = 8;
+constexpr Number card_log_length = 4;
+constexpr Number deletion_log_length = 8;
+constexpr Number inline_cards = 16;
+constexpr Address nowhere = ~Address(0);
+constexpr Number no_region = ~Number(0);
+
+// What a heap line tells: regions, words a region, words a buffer, mutators, the first name, and words a card: 8 in the
+// first format, which also has lower limits.
+struct Sizes {
+    Number regions, words, buffer, mutators;
+    Word first_name;
+    Number card = 8;
+    bool second = false;
+};
+
+enum class Refusal : std::uint8_t { Nil = 1, NoField, Full, TooBig, NamesSpent, MarkRunning, NotMarking };
+
+enum class Form : std::uint8_t { Ok, Nil, Name, Value, Shape, Marked, Reclaimed, Refined, Moved, Refused };
+
+struct Reply {
+    Form form;
+    Refusal refusal;
+    Word first, second;
+};
+
+inline Reply reply(Form form, Word first = 0, Word second = 0) { return {form, Refusal::Nil, first, second}; }
+inline Reply refused(Refusal refusal) { return {Form::Refused, refusal, 0, 0}; }
+
+// Headers. The two lowest bits tell the kind: 0 an object, 1 a filler, 2 an object that was moved.
+inline Word object_header(Word pointers, Word data) { return pointers << 8 | data << 32; }
+inline Word filler_header(Word size) { return 1 | size << 8; }
+inline Word moved_header(Address to) { return 2 | Word(to) << 8; }
+inline bool is_object(Word header) { return (header & 3) == 0; }
+inline bool is_moved(Word header) { return (header & 3) == 2; }
+inline Number pointer_count(Word header) { return header >> 8 & 0xffffff; }
+inline Number data_count(Word header) { return header >> 32 & 0xffffff; }
+inline Number filler_size(Word header) { return header >> 8 & 0xffffff; }
+inline Address moved_to(Word header) { return Address(header >> 8); }
+inline Number object_size(Word header) { return 2 + pointer_count(header) + data_count(header); }
+inline Number tile_size(Word header) { return is_object(header) ? object_size(header) : filler_size(header); }
+
+// A set of numbers below a bound.
+class Bitmap {
+public:
+    explicit Bitmap(std::size_t bound) : words_((bound + 63) / 64) {}
+    bool has(Number member) const { return words_[member >> 6] >> (member & 63) & 1; }
+    void add(Number member) { words_[member >> 6] |= Word(1) << (member & 63); }
+    void remove(Number member) { words_[member >> 6] &= ~(Word(1) << (member & 63)); }
+    void clear() { std::fill(words_.begin(), words_.end(), 0); }
+    // Sets or clears the members from `first` on, `count` of them; count is a power of two that divides first.
+    void fill_block(Number first, Number count, bool value) {
+        if (count >= 64) {
+            std::fill_n(words_.begin() + (first >> 6), count >> 6, value ? ~Word(0) : Word(0));
+        } else {
+            Word mask = ((Word(1) << count) - 1) << (first & 63);
+            if (value) words_[first >> 6] |= mask;
+            else words_[first >> 6] &= ~mask;
+        }
+    }
+    // The lowest member from `from` on; nowhere if there is none.
+    Number next(Number from) const {
+        std::size_t index = from >> 6;
+        if (index >= words_.size()) return nowhere;
+        Word bits = words_[index] & ~Word(0) << (from & 63);
+        while (bits == 0) {
+            if (++index == words_.size()) return nowhere;
+            bits = words_[index];
+        }
+        return Number(index << 6) + Number(__builtin_ctzll(bits));
+    }
+    void swap(Bitmap& other) { words_.swap(other.words_); }
+
+private:
+    std::vector<Word> words_;
+};
+
+// Cards gathered during a pause, to be given out by rising number.
+class CardSet {
+public:
+    explicit CardSet(std::size_t cards) : words_((cards + 63) / 64), low_(words_.size()), high_(0) {}
+    void add(Number card) {
+        Number index = card >> 6;
+        words_[index] |= Word(1) << (card & 63);
+        widen(index, index + 1);
+    }
+    // Adds the cards from `first` on, `count` of them; count is a power of two that divides first.
+    void add_block(Number first, Number count) {
+        Number index = first >> 6;
+        if (count >= 64) {
+            std::fill_n(words_.begin() + index, count >> 6, ~Word(0));
+            widen(index, index + (count >> 6));
+        } else {
+            words_[index] |= ((Word(1) << count) - 1) << (first & 63);
+            widen(index, index + 1);
+        }
+    }
+    // Gives each card to `visit`, by rising number, and leaves the set empty.
+    template <class Visit>
+    void drain(Visit visit) {
+        for (std::size_t index = low_; index < high_; ++index) {
+            Word bits = std::exchange(words_[index], 0);
+            for (; bits != 0; bits &= bits - 1) visit(Number(index << 6) + Number(__builtin_ctzll(bits)));
+        }
+        low_ = words_.size();
+        high_ = 0;
+    }
+
+private:
+    void widen(std::size_t low, std::size_t high) {
+        low_ = std::min(low_, low);
+        high_ = std::max(high_, high);
+    }
+    std::vector<Word> words_;
+    std::size_t low_, high_;
+};
+
+// The cards that may hold a pointer into one region: some by number, then whole regions of cards. The marks of
+// the source regions of all sets stand in one bitmap of the heap.
+struct RememberedSet {
+    Number count = 0;
+    bool has_sources = false;
+    Number cards[inline_cards];
+};
+
+enum class Kind : std::uint8_t { Free, Ordinary, First, Rest };
+
+// What a pause does with a region.
+enum class Role : std::uint8_t { None, Chosen, Destination };
+
+struct Region {
+    Kind kind;
+    Role role;
+    Address top;
+    // The region's top when the last finished marking began, and when the running one began.
+    Address previous_start, next_start;
+    // Words of marked objects, of the last finished marking and of the running one.
+    Number previous_live, next_live;
+};
+
+struct Buffer {
+    Address next, end;
+};
+
+class Heap {
+public:
+    explicit Heap(const Sizes& sizes)
+        : sizes_(sizes), region_shift_(Number(__builtin_ctz(sizes.words))),
+          heap_words_(sizes.regions * sizes.words), half_region_(sizes.words / 2),
+          card_words_(sizes.card), card_shift_(Number(__builtin_ctz(sizes.card))),
+          region_cards_(sizes.words / card_words_), next_name_(sizes.first_name), words_(new Word[heap_words_]),
+          roots_(globals + registers * sizes.mutators), regions_(sizes.regions), free_regions_(sizes.regions),
+          free_count_(sizes.regions), buffers_(sizes.mutators, Buffer{0, 0}), first_tile_(heap_words_ / card_words_),
+          dirty_(heap_words_ / card_words_), card_logs_(sizes.mutators * card_log_length),
+          card_log_counts_(sizes.mutators), queue_(heap_words_ / card_words_), remembered_(sizes.regions),
+          sources_(std::size_t(sizes.regions) * source_stride(sizes.regions)), previous_marks_(heap_words_),
+          next_marks_(heap_words_), grey_(heap_words_), finger_(heap_words_),
+          deletion_logs_(sizes.mutators * deletion_log_length), deletion_log_counts_(sizes.mutators),
+          covered_(heap_words_ / card_words_), noted_(heap_words_ / card_words_) {
+        for (Number region = 0; region < sizes.regions; ++region) {
+            make_free(region);
+            free_regions_.add(region);
+        }
+        rows_.reserve(sizes.regions);
+        chosen_.reserve(sizes.regions);
+        destinations_.reserve(sizes.regions);
+    }
+
+    // The steps of mutators.
+
+    Reply make(Number mutator, Number target, Word pointers, Word data) {
+        Word size = 2 + pointers + data;
+        if (size > heap_words_) return refused(Refusal::TooBig);
+        if (next_name_ == ~Word(0)) return refused(Refusal::NamesSpent);
+        Address at = place(mutator, Number(size));
+        if (at == nowhere) return refused(Refusal::Full);
+        words_[at] = object_header(pointers, data);
+        words_[at + 1] = next_name_;
+        std::fill_n(&words_[at] + 2, pointers + data, 0);
+        root(mutator, target) = Word(at) + 1;
+        return reply(Form::Name, next_name_++);
+    }
+
+    Reply get(Number mutator, Number target, Number source, Number index) {
+        Word object = root(mutator, source);
+        if (object == 0) return refused(Refusal::Nil);
+        Address at = Address(object - 1);
+        if (index >= pointer_count(words_[at])) return refused(Refusal::NoField);
+        Word value = words_[at + 2 + index];
+        root(mutator, target) = value;
+        return named(value);
+    }
+
+    Reply put(Number mutator, Number target, Number index, Number source) {
+        return store(mutator, target, index, root(mutator, source));
+    }
+
+    Reply put_nil(Number mutator, Number target, Number index) { return store(mutator, target, index, 0); }
+
+    Reply read(Number mutator, Number source, Number index) {
+        Word object = root(mutator, source);
+        if (object == 0) return refused(Refusal::Nil);
+        Address at = Address(object - 1);
+        Word header = words_[at];
+        if (index >= data_count(header)) return refused(Refusal::NoField);
+        return reply(Form::Value, words_[at + 2 + pointer_count(header) + index]);
+    }
+
+    Reply write(Number mutator, Number target, Number index, Word value) {
+        Word object = root(mutator, target);
+        if (object == 0) return refused(Refusal::Nil);
+        Address at = Address(object - 1);
+        Word header = words_[at];
+        if (index >= data_count(header)) return refused(Refusal::NoField);
+        words_[at + 2 + pointer_count(header) + index] = value;
+        return reply(Form::Ok);
+    }
+
+    Reply move(Number mutator, Number target, Number source) {
+        root(mutator, target) = root(mutator, source);
+        return reply(Form::Ok);
+    }
+
+    Reply drop(Number mutator, Number target) {
+        root(mutator, target) = 0;
+        return reply(Form::Ok);
+    }
+
+    Reply load(Number mutator, Number target, Number global) {
+        root(mutator, target) = roots_[global];
+        return named(roots_[global]);
+    }
+
+    Reply save(Number mutator, Number global, Number source) {
+        roots_[global] = root(mutator, source);
+        return reply(Form::Ok);
+    }
+
+    Reply shape(Number mutator, Number source) {
+        Word object = root(mutator, source);
+        if (object == 0) return refused(Refusal::Nil);
+        Word header = words_[object - 1];
+        return reply(Form::Shape, pointer_count(header), data_count(header));
+    }
+
+    // The steps of the collector.
+
+    Reply begin() {
+        if (marking_) return refused(Refusal::MarkRunning);
+        retire_buffers();
+        next_marks_.clear();
+        for (Region& region : regions_) {
+            region.next_start = region.top;
+            region.next_live = 0;
+        }
+        marked_ = 0;
+        marking_ = true;
+        for (Word pointer : roots_)
+            if (pointer != 0) mark_object(Address(pointer - 1));
+        return reply(Form::Ok);
+    }
+
+    Reply mark(Number units) {
+        if (!marking_) return refused(Refusal::NotMarking);
+        while (units != 0 && scan_lowest()) --units;
+        return reply(Form::Ok);
+    }
+
+    Reply remark() {
+        if (!marking_) return refused(Refusal::NotMarking);
+        for (Number mutator = 0; mutator < sizes_.mutators; ++mutator) take_deletion_log(mutator);
+        while (scan_lowest()) {}
+        previous_marks_.swap(next_marks_);
+        for (Region& region : regions_) {
+            std::swap(region.previous_start, region.next_start);
+            std::swap(region.previous_live, region.next_live);
+        }
+        marking_ = false;
+        return reply(Form::Marked, marked_);
+    }
+
+    Reply cleanup() {
+        if (marking_) return refused(Refusal::MarkRunning);
+        Number reclaimed = 0;
+        for (Number region = 0; region < sizes_.regions; ++region) {
+            if (regions_[region].kind == Kind::Ordinary) {
+                if (region != current_ && live_bound(regions_[region]) == 0) {
+                    release(region);
+                    ++reclaimed;
+                }
+            } else if (regions_[region].kind == Kind::First && !is_kept(bottom(region))) {
+                Number end = region + regions_for(object_size(words_[bottom(region)]));
+                for (Number part = region; part < end; ++part) release(part);
+                reclaimed += end - region;
+            }
+        }
+        return reply(Form::Reclaimed, reclaimed);
+    }
+
+    Reply refine(Number cards) {
+        Number count = std::min(cards, queue_count_);
+        for (Number done = 0; done < count; ++done) refine_first();
+        return reply(Form::Refined, count);
+    }
+
+    Reply pause(Number budget) {
+        retire_buffers();
+        current_ = no_region;
+        for (Number mutator = 0; mutator < sizes_.mutators; ++mutator) flush_card_log(mutator);
+        while (queue_count_ != 0) refine_first();
+        choose(budget);
+        if (chosen_.empty()) return reply(Form::Moved);
+        return evacuate();
+    }
+
+private:
+    // Roots: the globals by number, then the registers by mutator and number.
+
+    Word& root(Number mutator, Number number) { return roots_[globals + registers * mutator + number]; }
+
+    Reply named(Word pointer) const {
+        return pointer == 0 ? reply(Form::Nil) : reply(Form::Name, words_[Address(pointer - 1) + 1]);
+    }
+
+    // Regions.
+
+    Number region_of(Address at) const { return at >> region_shift_; }
+    Address bottom(Number region) const { return region << region_shift_; }
+    Number regions_for(Number size) const { return (size + sizes_.words - 1) >> region_shift_; }
+
+    static std::size_t source_stride(Number regions) { return (regions + 63) / 64; }
+
+    void make_free(Number number) {
+        Address start = bottom(number);
+        regions_[number] = Region{Kind::Free, Role::None, start, start, start, 0, 0};
+    }
+
+    void release(Number number) {
+        make_free(number);
+        previous_marks_.fill_block(bottom(number), sizes_.words, false);
+        next_marks_.fill_block(bottom(number), sizes_.words, false);
+        RememberedSet& set = remembered_[number];
+        set.count = 0;
+        if (set.has_sources) {
+            std::size_t stride = source_stride(sizes_.regions);
+            std::fill_n(sources_.begin() + number * stride, stride, 0);
+            set.has_sources = false;
+        }
+        free_regions_.add(number);
+        ++free_count_;
+    }
+
+    void take(Number number, Kind kind) {
+        regions_[number].kind = kind;
+        free_regions_.remove(number);
+        --free_count_;
+    }
+
+    // Notes that a tile starts at `start`: the cards whose first word lies in it lead to it.
+    void note_tile(Address start, Number size) {
+        Number end = (start + size - 1) >> card_shift_;
+        for (Number card = (start + card_words_ - 1) >> card_shift_; card <= end; ++card) first_tile_[card] = start;
+    }
+
+    // Placement.
+
+    Address place(Number mutator, Number size) {
+        if (size > half_region_) return place_large(size);
+        Buffer& buffer = buffers_[mutator];
+        if (size <= buffer.end - buffer.next) {
+            Address at = buffer.next;
+            note_tile(at, size);
+            buffer.next += size;
+            leave_filler(buffer);
+            return at;
+        }
+        if (size > sizes_.buffer) return cut(size);
+        Address at = cut(sizes_.buffer);
+        if (at != nowhere) {
+            buffer = Buffer{at + size, at + sizes_.buffer};
+            leave_filler(buffer);
+        }
+        return at;
+    }
+
+    // Cuts words from the top of the current region, which becomes the lowest free one where they don't fit.
+    Address cut(Number size) {
+        if (current_ == no_region || bottom(current_) + sizes_.words - regions_[current_].top < size) {
+            Number lowest = free_regions_.next(0);
+            if (lowest == nowhere) return nowhere;
+            take(lowest, Kind::Ordinary);
+            current_ = lowest;
+        }
+        Address at = regions_[current_].top;
+        regions_[current_].top += size;
+        note_tile(at, size);
+        return at;
+    }
+
+    // The rest of a buffer is one filler. The buffer's last card is the only one of it that may also hold what
+    // follows the buffer, so it alone must lead to the filler; the others may lead to an earlier tile.
+    void leave_filler(const Buffer& buffer) {
+        if (buffer.next == buffer.end) return;
+        words_[buffer.next] = filler_header(buffer.end - buffer.next);
+        Number last = (buffer.end - 1) >> card_shift_;
+        if (last << card_shift_ >= buffer.next) first_tile_[last] = buffer.next;
+    }
+
+    void retire_buffers() { std::fill(buffers_.begin(), buffers_.end(), Buffer{0, 0}); }
+
+    // Takes the lowest run of adjacent free regions that is long enough.
+    Address place_large(Number size) {
+        Number length = regions_for(size);
+        if (length > free_count_) return nowhere;
+        Number first = free_regions_.next(0), end = first;
+        while (end - first < length) {
+            if (end == sizes_.regions) return nowhere;
+            if (free_regions_.has(end)) {
+                ++end;
+            } else {
+                first = end = free_regions_.next(end);
+                if (first == nowhere) return nowhere;
+            }
+        }
+        Address at = bottom(first);
+        for (Number region = first; region < end; ++region) {
+            take(region, region == first ? Kind::First : Kind::Rest);
+            regions_[region].top = std::min(bottom(region) + sizes_.words, at + size);
+        }
+        note_tile(at, size);
+        return at;
+    }
+
+    // Stores, cards, remembered sets.
+
+    Reply store(Number mutator, Number target, Number index, Word value) {
+        Word object = root(mutator, target);
+        if (object == 0) return refused(Refusal::Nil);
+        Address at = Address(object - 1);
+        if (index >= pointer_count(words_[at])) return refused(Refusal::NoField);
+        Address field = at + 2 + index;
+        if (marking_) log_deletion(mutator, words_[field]);
+        words_[field] = value;
+        if (value != 0 && region_of(Address(value - 1)) != region_of(field)) {
+            Number card = field >> card_shift_;
+            if (!dirty_[card]) {
+                dirty_[card] = 1;
+                card_logs_[mutator * card_log_length + card_log_counts_[mutator]++] = card;
+                if (card_log_counts_[mutator] == card_log_length) flush_card_log(mutator);
+            }
+        }
+        return reply(Form::Ok);
+    }
+
+    void flush_card_log(Number mutator) {
+        for (Number place = 0; place < card_log_counts_[mutator]; ++place)
+            enqueue(card_logs_[mutator * card_log_length + place]);
+        card_log_counts_[mutator] = 0;
+    }
+
+    // The queue is a ring with room for every card, since a card stands in it at most once.
+    void enqueue(Number card) {
+        Number place = queue_first_ + queue_count_++;
+        if (place >= queue_.size()) place -= Number(queue_.size());
+        queue_[place] = card;
+    }
+
+    // Cleans the queue's first card and remembers the pointers in it that lead into other regions.
+    void refine_first() {
+        Number card = queue_[queue_first_];
+        if (++queue_first_ == queue_.size()) queue_first_ = 0;
+        --queue_count_;
+        dirty_[card] = 0;
+        Number source = region_of(card << card_shift_);
+        visit_fields(card, [&](Word& field) {
+            Number region = region_of(Address(field - 1));
+            if (region != source) remember(region, card, source);
+        });
+    }
+
+    // Gives each pointer word of a card that isn't nil and belongs to a kept object to `visit`.
+    template <class Visit>
+    void visit_fields(Number card, Visit visit) {
+        Address start = card << card_shift_;
+        Address end = std::min(start + card_words_, regions_[region_of(start)].top);
+        if (start >= end) return;
+        for (Address at = first_tile_[card]; at < end;) {
+            Word header = words_[at];
+            if (is_object(header)) {
+                Address from = std::max(at + 2, start), to = std::min(at + 2 + pointer_count(header), end);
+                if (from < to && is_kept(at))
+                    for (; from < to; ++from)
+                        if (words_[from] != 0) visit(words_[from]);
+            }
+            at += tile_size(header);
+        }
+    }
+
+    void remember(Number region, Number card, Number source) {
+        RememberedSet& set = remembered_[region];
+        Word& sources = sources_[region * source_stride(sizes_.regions) + (source >> 6)];
+        Word mark = Word(1) << (source & 63);
+        if (sources & mark) return;
+        for (Number place = 0; place < set.count; ++place)
+            if (set.cards[place] == card) return;
+        if (set.count < inline_cards) {
+            set.cards[set.count++] = card;
+        } else {
+            sources |= mark;
+            set.has_sources = true;
+        }
+    }
+
+    void gather_covered(Number region) {
+        const RememberedSet& set = remembered_[region];
+        for (Number place = 0; place < set.count; ++place) covered_.add(set.cards[place]);
+        if (!set.has_sources) return;
+        std::size_t stride = source_stride(sizes_.regions);
+        for (std::size_t index = 0; index < stride; ++index)
+            for (Word bits = sources_[region * stride + index]; bits != 0; bits &= bits - 1)
+                covered_.add_block((Number(index << 6) + Number(__builtin_ctzll(bits))) * region_cards_, region_cards_);
+    }
+
+    // Marking.
+
+    // Kept: made since the last finished marking began, or marked by it.
+    bool is_kept(Address at) const { return at >= regions_[region_of(at)].previous_start || previous_marks_.has(at); }
+
+    Number live_bound(const Region& region) const { return region.previous_live + (region.top - region.previous_start); }
+
+    // Marks an object and makes it grey, where it stood when marking began and isn't marked.
+    void mark_object(Address at) {
+        Region& region = regions_[region_of(at)];
+        if (at >= region.next_start || next_marks_.has(at)) return;
+        next_marks_.add(at);
+        grey_.add(at);
+        finger_ = std::min(finger_, at);
+        region.next_live += object_size(words_[at]);
+        ++marked_;
+    }
+
+    // Scans the lowest grey object; false if there is none. No grey object starts below the finger.
+    bool scan_lowest() {
+        Address at = grey_.next(finger_);
+        if (at == nowhere) {
+            finger_ = heap_words_;
+            return false;
+        }
+        grey_.remove(at);
+        finger_ = at + 1;
+        Address end = at + 2 + pointer_count(words_[at]);
+        for (Address field = at + 2; field < end; ++field)
+            if (words_[field] != 0) mark_object(Address(words_[field] - 1));
+        return true;
+    }
+
+    void log_deletion(Number mutator, Word old) {
+        if (old == 0) return;
+        Address at = Address(old - 1);
+        if (at >= regions_[region_of(at)].next_start) return;
+        deletion_logs_[mutator * deletion_log_length + deletion_log_counts_[mutator]++] = at;
+        if (deletion_log_counts_[mutator] == deletion_log_length) take_deletion_log(mutator);
+    }
+
+    void take_deletion_log(Number mutator) {
+        for (Number place = 0; place < deletion_log_counts_[mutator]; ++place)
+            mark_object(deletion_logs_[mutator * deletion_log_length + place]);
+        deletion_log_counts_[mutator] = 0;
+    }
+
+    // The pause.
+
+    // Leaves the collection set in chosen_: the least live regions first, by number where they are alike, within the
+    // copy limit. A row is a live bound and a region in one word.
+    void choose(Number budget) {
+        Word limit = std::min(Word(budget), Word(free_count_) * sizes_.words / 2);
+        rows_.clear();
+        for (Number number = 0; number < sizes_.regions; ++number) {
+            const Region& region = regions_[number];
+            if (region.kind != Kind::Ordinary || (marking_ && region.next_start != bottom(number))) continue;
+            Number bound = live_bound(region);
+            // A region that by itself is over the limit is never taken.
+            if (bound < sizes_.words && bound <= limit) rows_.push_back(Word(bound) << 32 | number);
+        }
+        // Mostly a few of many rows are taken, so that a heap of rows is cheaper than sorting them all.
+        std::make_heap(rows_.begin(), rows_.end(), std::greater<Word>());
+        chosen_.clear();
+        Word sum = 0;
+        while (!rows_.empty() && sum + (rows_.front() >> 32) <= limit) {
+            sum += rows_.front() >> 32;
+            std::pop_heap(rows_.begin(), rows_.end(), std::greater<Word>());
+            chosen_.push_back(Number(rows_.back()));
+            rows_.pop_back();
+        }
+    }
+
+    Reply evacuate() {
+        copied_ = 0;
+        destinations_.clear();
+        for (Number number : chosen_) {
+            regions_[number].role = Role::Chosen;
+            gather_covered(number);
+        }
+        for (Word& pointer : roots_)
+            if (pointer != 0) pointer = moved(pointer);
+        covered_.drain([&](Number card) {
+            // A card of a chosen region isn't outside; nor is one of a region that was free when the pause began.
+            if (regions_[region_of(card << card_shift_)].role != Role::None) return;
+            visit_fields(card, [&](Word& field) {
+                if (regions_[region_of(Address(field - 1))].role != Role::Chosen) return;
+                field = moved(field);
+                noted_.add(card);
+            });
+        });
+        // Copies stand in the order in which they were made, so that a walk over the destinations goes breadth first.
+        for (std::size_t place = 0; place < destinations_.size(); ++place) {
+            Number number = destinations_[place];
+            for (Address at = bottom(number); at < regions_[number].top; at += object_size(words_[at]))
+                settle_fields(at, number);
+        }
+        for (Number number : chosen_) release(number);
+        for (Number number : destinations_) regions_[number].role = Role::None;
+        noted_.drain([&](Number card) {
+            dirty_[card] = 1;
+            enqueue(card);
+        });
+        return reply(Form::Moved, chosen_.size(), copied_);
+    }
+
+    // Leads the fields of a copy to the new places of what they name.
+    void settle_fields(Address at, Number number) {
+        Address end = at + 2 + pointer_count(words_[at]);
+        for (Address field = at + 2; field < end; ++field) {
+            if (words_[field] == 0) continue;
+            words_[field] = moved(words_[field]);
+            if (region_of(Address(words_[field] - 1)) != number) noted_.add(field >> card_shift_);
+        }
+    }
+
+    // The pointer to an object's place after the pause; an object of the set is copied the first time.
+    Word moved(Word pointer) {
+        Address at = Address(pointer - 1);
+        if (regions_[region_of(at)].role != Role::Chosen) return pointer;
+        Word header = words_[at];
+        return Word(is_moved(header) ? moved_to(header) : copy(at, object_size(header))) + 1;
+    }
+
+    Address copy(Address from, Number size) {
+        if (destinations_.empty() || bottom(destinations_.back()) + sizes_.words - regions_[destinations_.back()].top < size) {
+            Number lowest = free_regions_.next(0);
+            take(lowest, Kind::Ordinary);
+            regions_[lowest].role = Role::Destination;
+            destinations_.push_back(lowest);
+        }
+        Region& region = regions_[destinations_.back()];
+        Address to = region.top;
+        region.top += size;
+        std::memcpy(&words_[to], &words_[from], size * sizeof(Word));
+        words_[from] = moved_header(to);
+        note_tile(to, size);
+        copied_ += size;
+        return to;
+    }
+
+    const Sizes sizes_;
+    const Number region_shift_, heap_words_, half_region_, card_words_, card_shift_, region_cards_;
+
+    Word next_name_;
+    // Not cleared at first: a word is written before it is read.
+    std::unique_ptr<Word[]> words_;
+    std::vector<Word> roots_;
+
+    std::vector<Region> regions_;
+    Bitmap free_regions_;
+    Number free_count_;
+    Number current_ = no_region;
+    std::vector<Buffer> buffers_;
+    // For each card whose first word lies below its region's top, a tile at or before that word from which a walk
+    // reaches it; for all cards but those inside a filler it is the tile that holds that word.
+    std::vector<Address> first_tile_;
+
+    std::vector<std::uint8_t> dirty_;
+    std::vector<Number> card_logs_;
+    std::vector<Number> card_log_counts_;
+    std::vector<Number> queue_;
+    Number queue_first_ = 0, queue_count_ = 0;
+    std::vector<RememberedSet> remembered_;
+    std::vector<Word> sources_;
+
+    Bitmap previous_marks_, next_marks_, grey_;
+    Address finger_;
+    bool marking_ = false;
+    Number marked_ = 0;
+    std::vector<Address> deletion_logs_;
+    std::vector<Number> deletion_log_counts_;
+
+    CardSet covered_, noted_;
+    std::vector<Word> rows_;
+    std::vector<Number> chosen_;
+    std::vector<Number> destinations_;
+    Word copied_ = 0;
+};
+
+}  // namespace plain
