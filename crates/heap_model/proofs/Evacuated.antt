@@ -67,7 +67,7 @@ module _ (set : ℕ → Bool) (h : Heap) (forward : ℕ → Option ℕ) (now : H
           let p = v.objects a b x at e in
           let out = part_outside a b x at e in
           let moved = clean_words (fields x) (fields p.part) (done.objects b p.part p.at out) p.words in
-          let (pointers, weaks) = AllZip-split (IsMoved (place_of set forward)) x.pointers p.part.pointers x.weaks p.part.weaks p.shape moved in
+          let (pointers, weaks) = AllZip-split (IsMoved (place_after set forward)) x.pointers p.part.pointers x.weaks p.part.weaks p.shape moved in
           record { copy = p.part; at = rw out p.at; name = p.name; values = p.values; pointers = pointers; weaks = weaks };
       came = λ b y e. elim (bool_cases (set b)) [
         | inl k ↦ absurd (let q = rw k at e in cc)
@@ -83,16 +83,8 @@ module _ (set : ℕ → Bool) (h : Heap) (forward : ℕ → Option ℕ) (now : H
     field_forwarded : (b c a : ℕ) (p : HasField h b a) → place_after set forward b ≡ Some c → set a ≡ true → (d : ℕ) × (forward a ≡ Some d)
     field_forwarded b c a p e inside =
         let k = v.objects b c p.object p.at e in
-<<<<<<< HEAD
         let moved = clean_words (fields p.object) (fields k.part) (done.objects c k.part k.at (part_outside b c p.object p.at e)) k.words in
-        let (w, is, m) = AllZip-get (IsMoved (place_of set forward)) (fields p.object) (fields k.part) moved p.field (Some a) p.is in
-||||||| 3906014
-        let moved = clean_words (fields p.object) (fields k.part) (done.objects c k.part k.at (part_outside b c p.object p.at e)) k.pointers in
-        let (w, is, m) = AllZip-get (IsMoved (place_of set forward)) (fields p.object) (fields k.part) moved p.field (Some a) p.is in
-=======
-        let moved = clean_words (fields p.object) (fields k.part) (done.objects c k.part k.at (part_outside b c p.object p.at e)) k.pointers in
         let (w, is, m) = AllZip-get (IsMoved (place_after set forward)) (fields p.object) (fields k.part) moved p.field (Some a) p.is in
->>>>>>> main
         moved_inside a w m inside
 
     -- what is reached is copied
@@ -103,12 +95,12 @@ module _ (set : ℕ → Bool) (h : Heap) (forward : ℕ → Option ℕ) (now : H
     reached_copied a (ByOutside b c out p inside) = field_forwarded b b c p (placed_outside set forward b out) inside
     reached_copied a (ByInside b c r p inside) =
         let (d, e) = reached_copied b r in
-        field_forwarded b d c p (place_of_reached b r ∙ e) inside
+        field_forwarded b d c p (place_after_reached b r ∙ e) inside
       where
-        place_of_reached : (b : ℕ) → IsReached set h b → place_after set forward b ≡ forward b
-        place_of_reached b (ByRootWord _ _ inside) = placed_inside set forward b inside
-        place_of_reached b (ByOutside _ _ _ _ inside) = placed_inside set forward b inside
-        place_of_reached b (ByInside _ _ _ _ inside) = placed_inside set forward b inside
+        place_after_reached : (b : ℕ) → IsReached set h b → place_after set forward b ≡ forward b
+        place_after_reached b (ByRootWord _ _ inside) = placed_inside set forward b inside
+        place_after_reached b (ByOutside _ _ _ _ inside) = placed_inside set forward b inside
+        place_after_reached b (ByInside _ _ _ _ inside) = placed_inside set forward b inside
 
     -- what is copied is what is reached
     pub reached_exactly : (a : ℕ) → IsReached set h a ↔ ((set a ≡ true) × (b : ℕ) × (forward a ≡ Some b))
@@ -122,16 +114,8 @@ module _ (set : ℕ → Bool) (h : Heap) (forward : ℕ → Option ℕ) (now : H
   -- a root word is updated
   pub root_updated : (now' : Heap) (j : ℕ) (w w' : Option ℕ) → slice_get h.roots j ≡ Some w → IsMoved (place_after set forward) w w' → RootSet now now' j w' → IsEvacuating set h forward now'
   root_updated now' j w w' at moved step = record {
-<<<<<<< HEAD
-    roots = subst (λ ws. AllZip (IsWord (place_of set forward)) h.roots ws) (sym step.roots) (set_one h.roots now.roots j v.roots at);
-    objects = λ a b x e p. let k = v.objects a b x e p in record { part = k.part; at = step.kept b ∙ k.at; name = k.name; values = k.values; shape = k.shape; words = k.words };
-||||||| 3906014
-    roots = subst (λ ws. AllZip (IsWord (place_of set forward)) h.roots ws) (sym step.roots) (set_one h.roots now.roots j v.roots at);
-    objects = λ a b x e p. let k = v.objects a b x e p in record { part = k.part; at = step.kept b ∙ k.at; name = k.name; values = k.values; pointers = k.pointers };
-=======
     roots = subst (λ ws. AllZip (IsWord (place_after set forward)) h.roots ws) (sym step.roots) (set_one h.roots now.roots j v.roots at);
-    objects = λ a b x e p. let k = v.objects a b x e p in record { part = k.part; at = step.kept b ∙ k.at; name = k.name; values = k.values; pointers = k.pointers };
->>>>>>> main
+    objects = λ a b x e p. let k = v.objects a b x e p in record { part = k.part; at = step.kept b ∙ k.at; name = k.name; values = k.values; shape = k.shape; words = k.words };
     came = λ b y e out. v.came b y (sym (step.kept b) ∙ e) out;
     untouched = λ a e u. step.kept a ∙ v.untouched a e u;
     reached = v.reached;
@@ -171,13 +155,7 @@ module _ (set : ℕ → Bool) (h : Heap) (forward : ℕ → Option ℕ) (now : H
       let k = v.objects o.from b o.object o.at o.placed in
       let same : y ≡ k.part = let e1 = k.at in cc in
       let e' = subst (λ (z : Stored). slice_get (fields z) i ≡ Some (Some c)) same e in
-<<<<<<< HEAD
-      let (w, is, s) = AllZip-get_right (IsWord (place_of set forward)) (fields o.object) (fields k.part) k.words i (Some c) e' in
-||||||| 3906014
-      let (w, is, s) = AllZip-get_right (IsWord (place_of set forward)) (fields o.object) (fields k.part) k.pointers i (Some c) e' in
-=======
-      let (w, is, s) = AllZip-get_right (IsWord (place_after set forward)) (fields o.object) (fields k.part) k.pointers i (Some c) e' in
->>>>>>> main
+      let (w, is, s) = AllZip-get_right (IsWord (place_after set forward)) (fields o.object) (fields k.part) k.words i (Some c) e' in
       let p : HasField h o.from c = record { object = o.object; at = o.at; field = i; is = get_as (fields o.object) i w (Some c) is (word_was w c s inside) } in
       elim (bool_cases (set o.from)) [
         | inl q ↦ ByInside o.from c (v.reached o.from b q (sym (placed_inside set forward o.from q) ∙ o.placed)) p inside
@@ -185,19 +163,9 @@ module _ (set : ℕ → Bool) (h : Heap) (forward : ℕ → Option ℕ) (now : H
       ]
 
   -- a pointer field of an object outside the set is updated
-<<<<<<< HEAD
   pub field_updated : (now' : Heap) (b i c d : ℕ) (y y' : Stored) → set b ≡ false → slice_get (fields y) i ≡ Some (Some c) → set c ≡ true → forward c ≡ Some d → ObjectSet now now' b y y' → y'.values ≡ y.values → length y'.pointers ≡ length y.pointers → fields y' ≡ slice_set (fields y) i (Some d) → IsEvacuating set h forward now'
   field_updated now' b i c d y y' out e inside f step values shape words = record {
-    roots = subst (λ ws. AllZip (IsWord (place_of set forward)) h.roots ws) (sym step.roots) v.roots;
-||||||| 3906014
-  pub field_updated : (now' : Heap) (b i c d : ℕ) (y y' : Stored) → set b ≡ false → slice_get (fields y) i ≡ Some (Some c) → set c ≡ true → forward c ≡ Some d → ObjectSet now now' b y y' → y'.values ≡ y.values → fields y' ≡ slice_set (fields y) i (Some d) → IsEvacuating set h forward now'
-  field_updated now' b i c d y y' out e inside f step values pointers = record {
-    roots = subst (λ ws. AllZip (IsWord (place_of set forward)) h.roots ws) (sym step.roots) v.roots;
-=======
-  pub field_updated : (now' : Heap) (b i c d : ℕ) (y y' : Stored) → set b ≡ false → slice_get (fields y) i ≡ Some (Some c) → set c ≡ true → forward c ≡ Some d → ObjectSet now now' b y y' → y'.values ≡ y.values → fields y' ≡ slice_set (fields y) i (Some d) → IsEvacuating set h forward now'
-  field_updated now' b i c d y y' out e inside f step values pointers = record {
     roots = subst (λ ws. AllZip (IsWord (place_after set forward)) h.roots ws) (sym step.roots) v.roots;
->>>>>>> main
     objects = λ a b0 x at p.
         let k = v.objects a b0 x at p in
         elim (cases_eq b0 b) [
@@ -208,17 +176,9 @@ module _ (set : ℕ → Bool) (h : Heap) (forward : ℕ → Option ℕ) (now : H
                 at = ap now'.kept q ∙ step.is;
                 name = step.name ∙ ap (λ (z : Stored). z.name) (sym same) ∙ k.name;
                 values = values ∙ ap (λ (z : Stored). z.values) (sym same) ∙ k.values;
-<<<<<<< HEAD
                 shape = shape ∙ ap (λ (z : Stored). length z.pointers) (sym same) ∙ k.shape;
-                words = subst (λ ws. AllZip (IsWord (place_of set forward)) (fields x) ws) (sym words)
-                    (set_one (fields x) (fields y) i (subst (λ (z : Stored). AllZip (IsWord (place_of set forward)) (fields x) (fields z)) same k.words) e);
-||||||| 3906014
-                pointers = subst (λ ws. AllZip (IsWord (place_of set forward)) (fields x) ws) (sym pointers)
-                    (set_one (fields x) (fields y) i (subst (λ (z : Stored). AllZip (IsWord (place_of set forward)) (fields x) (fields z)) same k.pointers) e);
-=======
-                pointers = subst (λ ws. AllZip (IsWord (place_after set forward)) (fields x) ws) (sym pointers)
-                    (set_one (fields x) (fields y) i (subst (λ (z : Stored). AllZip (IsWord (place_after set forward)) (fields x) (fields z)) same k.pointers) e);
->>>>>>> main
+                words = subst (λ ws. AllZip (IsWord (place_after set forward)) (fields x) ws) (sym words)
+                    (set_one (fields x) (fields y) i (subst (λ (z : Stored). AllZip (IsWord (place_after set forward)) (fields x) (fields z)) same k.words) e);
               }
           | inr n ↦ record { part = k.part; at = step.others b0 n ∙ k.at; name = k.name; values = k.values; shape = k.shape; words = k.words }
         ];
@@ -287,22 +247,10 @@ module _ (set : ℕ → Bool) (h : Heap) (forward : ℕ → Option ℕ) (now : H
       objects = λ c d z at e. elim (placed_before c d e) [
         | inl q ↦
             let same : z ≡ x = let e1 = ap h.kept q.0 in let e2 = v.untouched a step.inside step.unforwarded in let e3 = step.object in cc in
-<<<<<<< HEAD
-            record { part = x; at = ap now'.kept q.1 ∙ step.copy; name = ap (λ (y : Stored). y.name) (sym same); values = ap (λ (y : Stored). y.values) (sym same); shape = ap (λ (y : Stored). length y.pointers) (sym same); words = subst (λ (y : Stored). AllZip (IsWord (place_of set forward')) (fields y) (fields x)) (sym same) (same_words (fields x)) }
-||||||| 3906014
-            record { part = x; at = ap now'.kept q.1 ∙ step.copy; name = ap (λ (y : Stored). y.name) (sym same); values = ap (λ (y : Stored). y.values) (sym same); pointers = subst (λ (y : Stored). AllZip (IsWord (place_of set forward')) (fields y) (fields x)) (sym same) (same_words (fields x)) }
-=======
-            record { part = x; at = ap now'.kept q.1 ∙ step.copy; name = ap (λ (y : Stored). y.name) (sym same); values = ap (λ (y : Stored). y.values) (sym same); pointers = subst (λ (y : Stored). AllZip (IsWord (place_after set forward')) (fields y) (fields x)) (sym same) (same_words (fields x)) }
->>>>>>> main
+            record { part = x; at = ap now'.kept q.1 ∙ step.copy; name = ap (λ (y : Stored). y.name) (sym same); values = ap (λ (y : Stored). y.values) (sym same); shape = ap (λ (y : Stored). length y.pointers) (sym same); words = subst (λ (y : Stored). AllZip (IsWord (place_after set forward')) (fields y) (fields x)) (sym same) (same_words (fields x)) }
         | inr q ↦
             let k = v.objects c d z at q.1 in
-<<<<<<< HEAD
-            record { part = k.part; at = kept_on d k.part k.at (out_of c d q.1); name = k.name; values = k.values; shape = k.shape; words = AllZip_map (IsWord (place_of set forward)) (IsWord (place_of set forward')) word_grows (fields z) (fields k.part) k.words }
-||||||| 3906014
-            record { part = k.part; at = kept_on d k.part k.at (out_of c d q.1); name = k.name; values = k.values; pointers = AllZip_map (IsWord (place_of set forward)) (IsWord (place_of set forward')) word_grows (fields z) (fields k.part) k.pointers }
-=======
-            record { part = k.part; at = kept_on d k.part k.at (out_of c d q.1); name = k.name; values = k.values; pointers = AllZip_map (IsWord (place_after set forward)) (IsWord (place_after set forward')) word_grows (fields z) (fields k.part) k.pointers }
->>>>>>> main
+            record { part = k.part; at = kept_on d k.part k.at (out_of c d q.1); name = k.name; values = k.values; shape = k.shape; words = AllZip_map (IsWord (place_after set forward)) (IsWord (place_after set forward')) word_grows (fields z) (fields k.part) k.words }
       ];
       came = λ d y e out. elim (cases_eq d b) [
         | inl q ↦ record { from = a; object = x; at = sym (v.untouched a step.inside step.unforwarded) ∙ step.object; placed = placed_inside set forward' a step.inside ∙ step.forwarded ∙ ap Some (sym q) }
@@ -346,11 +294,5 @@ module _ (set : ℕ → Bool) (h : Heap) (forward : ℕ → Option ℕ) (now : H
       let k = v.objects o.from b o.object o.at o.placed in
       let same : y ≡ k.part = let e1 = k.at in cc in
       let e' = subst (λ (z : Stored). slice_get (fields z) i ≡ Some (Some c)) same e in
-<<<<<<< HEAD
-      let (w, is, s) = AllZip-get_right (IsWord (place_of set forward)) (fields o.object) (fields k.part) k.words i (Some c) e' in
-||||||| 3906014
-      let (w, is, s) = AllZip-get_right (IsWord (place_of set forward)) (fields o.object) (fields k.part) k.pointers i (Some c) e' in
-=======
-      let (w, is, s) = AllZip-get_right (IsWord (place_after set forward)) (fields o.object) (fields k.part) k.pointers i (Some c) e' in
->>>>>>> main
+      let (w, is, s) = AllZip-get_right (IsWord (place_after set forward)) (fields o.object) (fields k.part) k.words i (Some c) e' in
       word_names w c s (λ a q. closed.field o.from i a o.object o.at (get_as (fields o.object) i w (Some a) is q))

@@ -21,10 +21,6 @@ with_field x i v =
     if nat_lt i (length x.pointers) then record x { pointers = slice_set x.pointers i v }
     else record x { weaks = slice_set x.weaks (i - length x.pointers) v }
 
--- the object with another value in a field
-abbrev pub with_field : Stored → ℕ → Option ℕ → Stored
-with_field x i v = record { name = x.name; pointers = slice_set x.pointers i v; values = x.values }
-
 -- the kept object that starts at an address, and what each root place holds: nil or an address
 pub record Heap : Type 0 where
   pub kept : ℕ → Option Stored

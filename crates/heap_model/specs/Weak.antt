@@ -1,7 +1,7 @@
 -- Weak slots: fields that marking doesn't follow. While marking runs, a name that a mutator reads from a weak slot is
 -- touched: it counts as a root of the snapshot from then on. When marking ends, each slot that holds a name of the
 -- snapshot which is reachable in it neither from a root nor from a touched name becomes nil.
-use Rattle.std.specs.Prelude.{◌≡◌, ℕ, ◌<◌, ◌≤◌, ◌⊎◌, ⊤, Bool, true, List, ◌∷◌, Option, Some, None, map, slice_get, nat_lt, if◌then◌else◌}
+use Rattle.std.specs.Prelude.{◌≡◌, ℕ, ◌<◌, ◌≤◌, ◌⊎◌, ⊤, Bool, true, ◌∷◌, Option, Some, None, map, slice_get, nat_lt, if◌then◌else◌}
 use Rattle.std.specs.List.{AllZip}
 use Rattle.heap_model.specs.Graph.{Graph, Object, object_named, next_name, IsReachable, IsSound}
 use Rattle.heap_model.specs.Heap.{Heap, Stored}
