@@ -15,6 +15,9 @@ WEIGHTS = {
     "read": 3, "write": 3, "shape": 1,
     "begin": 3, "mark": 5, "remark": 3, "cleanup": 3, "refine": 3, "pause": 7, "wrong": 0.3,
 }
+# How often the steps on weak slots come where they are wanted.
+WEAK_WEIGHTS = {"newweak": 10, "putweak": 10, "putweak_nil": 1, "getweak": 10, "weaks": 0.5}
+MOST_WEAKS = 255
 # All registers from each of them on.
 ORDERS = [[(start + place) % 8 for place in range(8)] for start in range(8)]
 MARK_STEPS = ("begin", "mark", "remark", "cleanup")
@@ -23,10 +26,11 @@ WEIGHT_OPTIONS = COLLECTOR_STEPS + ("new", "drop", "put")
 
 
 class Object:
-    __slots__ = ("pointers", "data")
+    __slots__ = ("pointers", "weaks", "data")
 
-    def __init__(self, pointers, data):
+    def __init__(self, pointers, data, weaks=0):
         self.pointers = [None] * pointers
+        self.weaks = [None] * weaks
         self.data = data
 
 
@@ -387,9 +391,138 @@ class Drawer:
             self.collect("refine", 1000)
 
 
-def draw(seed, **options):
+class WeakDrawer(Drawer):
+    """Draws a script with steps on weak slots; `weak` says how many."""
+
+    def __init__(self, seed, weak, **options):
+        super().__init__(seed, **options)
+        for name, weight in WEAK_WEIGHTS.items():
+            self.weights[name] = weight * weak
+        if self.chance() < 0.3:
+            self.burst = "many_slots"
+        self.holders = []
+        # What weak slots alone held when marking began, and nobody took since: they become nil when it ends.
+        self.lost = set()
+
+    def reached_from(self, objects):
+        """All that pointers reach from some objects, these too."""
+        reached, left = set(objects), list(objects)
+        while left:
+            for target in left.pop().pointers:
+                if target is not None and target not in reached:
+                    reached.add(target)
+                    left.append(target)
+        return reached
+
+    def mark_step(self, kind):
+        was_marking = self.marking
+        super().mark_step(kind)
+        if self.marking and not was_marking:
+            roots = {root for part in (self.globals, *self.roots) for root in part if root is not None}
+            held = {target for holder in self.holders for target in holder.weaks if target is not None}
+            self.lost = held - self.reached_from(roots)
+        elif was_marking and not self.marking:
+            for holder in self.holders:
+                holder.weaks = [None if target in self.lost else target for target in holder.weaks]
+
+    def slotted(self, registers):
+        """A register that names an object with weak slots, where there is one."""
+        start = int(self.chance() * 8)
+        for register in ORDERS[start]:
+            if registers[register] is not None and registers[register].weaks:
+                return register
+        return start
+
+    def slot(self, registers):
+        """Such a register, and a place in its object's weak slots."""
+        holder = self.slotted(registers)
+        return holder, self.index(len(registers[holder].weaks) if registers[holder] else 0)
+
+    def make_weak(self, mutator, register, pointers, weaks, data):
+        self.say(f"{mutator} newweak r{register} {pointers} {weaks} {data}")
+        if 2 + pointers + weaks + data <= self.regions * self.words:
+            made = Object(pointers, data, weaks)
+            self.roots[mutator][register] = made
+            self.holders.append(made)
+
+    def newweak(self, mutator, registers):
+        pointers, data = self.shape_to_make()
+        weaks = min(MOST_WEAKS, pointers if self.chance() < 0.3 else self.number(0, pointers))
+        self.make_weak(mutator, int(self.chance() * 8), pointers - weaks, weaks, data)
+        if self.chance() < 0.5:
+            self.putweak(mutator, registers)
+
+    def put_slot(self, mutator, registers, holder, place, source):
+        self.say(f"{mutator} putweak r{holder} {place} " + ("nil" if source is None else f"r{source}"))
+        target = registers[holder]
+        if target and place < len(target.weaks):
+            target.weaks[place] = None if source is None else registers[source]
+
+    def putweak(self, mutator, registers):
+        holder, place = self.slot(registers)
+        self.put_slot(mutator, registers, holder, place, self.register(registers))
+
+    def putweak_nil(self, mutator, registers):
+        holder, place = self.slot(registers)
+        self.put_slot(mutator, registers, holder, place, None)
+
+    def take_slot(self, mutator, registers, register, holder, place):
+        self.say(f"{mutator} getweak r{register} r{holder} {place}")
+        target = registers[holder]
+        if target and place < len(target.weaks):
+            registers[register] = target.weaks[place]
+            if self.marking and target.weaks[place] is not None:
+                self.lost -= self.reached_from([target.weaks[place]])
+
+    def getweak(self, mutator, registers):
+        holder, place = self.slot(registers)
+        target = registers[holder]
+        if target and place < len(target.weaks) and target.weaks[place] is None:
+            place = int(self.chance() * len(target.weaks))
+        self.take_slot(mutator, registers, int(self.chance() * 8), holder, place)
+
+    def weaks(self, mutator, registers):
+        self.say(f"{mutator} weaks r{self.register(registers)}")
+
+    def many_slots(self):
+        """An object with many weak slots, which alone hold what they name; some of it is taken while marking runs."""
+        mutator = int(self.chance() * self.mutators)
+        registers = self.roots[mutator]
+        most = min(MOST_WEAKS, 2 * self.words - 2 if self.large else self.words // 2 - 2)
+        count = self.number(1, min(most, 14) if self.chance() < 0.8 else most)
+        if self.marking:
+            self.mark_step("remark")
+        self.make_weak(mutator, 0, 0, count, 0)
+        for place in range(0, count, 1 + count // 15):
+            self.make(mutator, 1, self.number(0, 2), self.number(0, 2))
+            if self.chance() < 0.3 and registers[1].pointers and registers[2] is not None:
+                self.fill(mutator, 1, 0, 2)
+            self.put_slot(mutator, registers, 0, place, 1)
+            if self.chance() < 0.2:
+                self.move(mutator, registers, 2, 1)
+        self.drop(mutator, registers, 1)
+        if self.chance() < 0.4:
+            self.pause()
+        self.mark_step("begin")
+        for _ in range(self.number(0, 20)):
+            self.take_slot(mutator, registers, self.number(1, 3), 0, int(self.chance() * count))
+            if self.chance() < 0.1:
+                self.mark_step("mark")
+            elif self.chance() < 0.05:
+                self.pause()
+        for register in (1, 2, 3)[:self.number(0, 3)]:
+            self.drop(mutator, registers, register)
+        self.mark_step("remark")
+        if self.chance() < 0.5:
+            self.pause()
+        for _ in range(self.number(2, 10)):
+            self.take_slot(mutator, registers, 1, 0, int(self.chance() * count))
+
+
+def draw(seed, weak=0, **options):
     """The text of the script that a seed draws."""
-    return Drawer(seed, **options).draw()
+    drawer = WeakDrawer(seed, weak, **options) if weak else Drawer(seed, **options)
+    return drawer.draw()
 
 
 def spoil(text, seed):
@@ -413,6 +546,8 @@ def add_options(parser):
     parser.add_argument("--buffer", type=int, help="words a buffer")
     parser.add_argument("--mutators", type=int, help="mutators")
     parser.add_argument("--card", type=int, help="words a card: 8 to 64; 0 for the first format")
+    parser.add_argument("--weak", type=float, default=0, metavar="FACTOR",
+                        help="how often steps on weak slots come, 1 for about a quarter of all (0: never)")
     parser.add_argument("--large", choices=("yes", "no"), help="with objects of more than half a region, or without")
     for name in WEIGHT_OPTIONS:
         never = "; 0: never" if name in COLLECTOR_STEPS else ""
@@ -425,7 +560,7 @@ def options_of(words):
     weights = {name: getattr(words, name) for name in WEIGHT_OPTIONS if getattr(words, name) is not None}
     return {"steps": words.steps, "regions": words.regions, "words": words.words, "buffer": words.buffer,
             "mutators": words.mutators, "large": None if words.large is None else words.large == "yes",
-            "weights": weights, "card": words.card}
+            "weights": weights, "card": words.card, "weak": words.weak}
 
 
 def main():

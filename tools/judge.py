@@ -23,24 +23,47 @@ FORMS = {
 
 
 class Graph:
-    """Objects by name, from which nothing is taken away, and the roots of each mutator."""
+    """Objects by name, from which nothing is taken away, and the roots of each mutator: an object is its pointers, its weak
+    slots and its data words. From a `begin` that replied ok on there is a snapshot of that moment."""
 
     def __init__(self, regions, words, mutators, first_name):
         self.limit = regions * words
-        self.next = first_name
+        self.first = self.next = first_name
         self.objects = {}
         self.registers = [[None] * 8 for _ in range(mutators)]
         self.globals = [None] * 16
+        # The objects that have weak slots.
+        self.holders = []
+        self.snapshot = None
 
-    def allows(self, mutator, words, reply):
-        """Whether a mutator's step may have this reply; the graph is the one after it then."""
-        if words[0] == "new":
-            return self.new(mutator, words, reply)
-        return getattr(self, words[0])(self.registers[mutator], *words[1:]) == reply
+    def allows(self, actor, words, reply):
+        """Whether an event may come now; the graph is the one after it then."""
+        if actor.isdigit():
+            return getattr(self, words[0])(self.registers[int(actor)], reply, *words[1:])
+        if re.fullmatch(FORMS[words[0]], reply) is None:
+            return False
+        if words[0] == "begin" and reply == "ok":
+            self.snapshot = Snapshot(self)
+        elif words[0] == "remark" and reply.startswith("marked") and self.snapshot is not None:
+            self.clear()
+        return True
 
-    def new(self, mutator, words, reply):
-        pointers, data = int(words[2]), int(words[3])
-        if 2 + pointers + data > self.limit:
+    def clear(self):
+        """The weak slots that hold what the snapshot doesn't reach become nil, and the snapshot is given up."""
+        held = {name for holder in self.holders for name in self.objects[holder][1]}
+        if any(map(self.snapshot.has, held)):
+            reached = self.snapshot.reached(self.objects)
+            for holder in self.holders:
+                slots = self.objects[holder][1]
+                slots[:] = [name if not self.snapshot.has(name) or name in reached else None for name in slots]
+        self.snapshot = None
+
+    def new(self, registers, reply, register, pointers, data):
+        return self.newweak(registers, reply, register, pointers, 0, data)
+
+    def newweak(self, registers, reply, register, pointers, weaks, data):
+        pointers, weaks, data = int(pointers), int(weaks), int(data)
+        if 2 + pointers + weaks + data > self.limit:
             return reply == "refused 4 TooBig"
         if self.next == LARGEST:
             return reply == "refused 5 NamesSpent"
@@ -48,66 +71,128 @@ class Graph:
             return True
         if reply != f"#{self.next}":
             return False
-        self.objects[self.next] = ([None] * pointers, [0] * data)
-        self.registers[mutator][int(words[1][1:])] = self.next
+        self.objects[self.next] = ([None] * pointers, [None] * weaks, [0] * data)
+        if weaks:
+            self.holders.append(self.next)
+        registers[place_of(register)] = self.next
         self.next += 1
         return True
 
-    def field(self, registers, register, index, part):
-        """The list that a field stands in, or the refusal."""
-        name = registers[int(register[1:])]
+    def part(self, registers, register, index, part):
+        """The list that a word stands in, or the refusal."""
+        name = registers[place_of(register)]
         if name is None:
             return None, "refused 1 Nil"
-        fields = self.objects[name][part]
-        return (fields, None) if int(index) < len(fields) else (None, "refused 2 NoField")
+        words = self.objects[name][part]
+        return (words, None) if int(index) < len(words) else (None, "refused 2 NoField")
 
-    def get(self, registers, to, register, index):
-        fields, refusal = self.field(registers, register, index, 0)
+    def get(self, registers, reply, to, register, index):
+        pointers, refusal = self.part(registers, register, index, 0)
         if refusal:
-            return refusal
-        registers[int(to[1:])] = fields[int(index)]
-        return spelled(fields[int(index)])
+            return reply == refusal
+        registers[place_of(to)] = pointers[int(index)]
+        return reply == spelled(pointers[int(index)])
 
-    def put(self, registers, register, index, value):
-        fields, refusal = self.field(registers, register, index, 0)
+    def put(self, registers, reply, register, index, value):
+        pointers, refusal = self.part(registers, register, index, 0)
         if refusal:
-            return refusal
-        fields[int(index)] = None if value == "nil" else registers[int(value[1:])]
-        return "ok"
+            return reply == refusal
+        if self.snapshot is not None:
+            self.snapshot.keep(registers[place_of(register)], pointers)
+        pointers[int(index)] = None if value == "nil" else registers[place_of(value)]
+        return reply == "ok"
 
-    def read(self, registers, register, index):
-        fields, refusal = self.field(registers, register, index, 1)
-        return refusal or str(fields[int(index)])
-
-    def write(self, registers, register, index, value):
-        fields, refusal = self.field(registers, register, index, 1)
+    def getweak(self, registers, reply, to, register, index):
+        slots, refusal = self.part(registers, register, index, 1)
         if refusal:
-            return refusal
-        fields[int(index)] = int(value)
-        return "ok"
+            return reply == refusal
+        name = registers[place_of(to)] = slots[int(index)]
+        if self.snapshot is not None:
+            self.snapshot.touch(name)
+        return reply == spelled(name)
 
-    def move(self, registers, to, register):
-        registers[int(to[1:])] = registers[int(register[1:])]
-        return "ok"
+    def putweak(self, registers, reply, register, index, value):
+        slots, refusal = self.part(registers, register, index, 1)
+        if refusal:
+            return reply == refusal
+        slots[int(index)] = None if value == "nil" else registers[place_of(value)]
+        return reply == "ok"
 
-    def drop(self, registers, register):
-        registers[int(register[1:])] = None
-        return "ok"
+    def read(self, registers, reply, register, index):
+        values, refusal = self.part(registers, register, index, 2)
+        return reply == (refusal or str(values[int(index)]))
 
-    def load(self, registers, to, place):
-        registers[int(to[1:])] = self.globals[int(place[1:])]
-        return spelled(self.globals[int(place[1:])])
+    def write(self, registers, reply, register, index, value):
+        values, refusal = self.part(registers, register, index, 2)
+        if refusal:
+            return reply == refusal
+        values[int(index)] = int(value)
+        return reply == "ok"
 
-    def save(self, registers, place, register):
-        self.globals[int(place[1:])] = registers[int(register[1:])]
-        return "ok"
+    def move(self, registers, reply, to, register):
+        registers[place_of(to)] = registers[place_of(register)]
+        return reply == "ok"
 
-    def shape(self, registers, register):
-        name = registers[int(register[1:])]
+    def drop(self, registers, reply, register):
+        registers[place_of(register)] = None
+        return reply == "ok"
+
+    def load(self, registers, reply, to, place):
+        registers[place_of(to)] = self.globals[place_of(place)]
+        return reply == spelled(self.globals[place_of(place)])
+
+    def save(self, registers, reply, place, register):
+        self.globals[place_of(place)] = registers[place_of(register)]
+        return reply == "ok"
+
+    def shape(self, registers, reply, register):
+        name = registers[place_of(register)]
         if name is None:
-            return "refused 1 Nil"
-        pointers, data = self.objects[name]
-        return f"{len(pointers)} {len(data)}"
+            return reply == "refused 1 Nil"
+        pointers, _, data = self.objects[name]
+        return reply == f"{len(pointers)} {len(data)}"
+
+    def weaks(self, registers, reply, register):
+        name = registers[place_of(register)]
+        return reply == ("refused 1 Nil" if name is None else str(len(self.objects[name][1])))
+
+
+class Snapshot:
+    """The objects that were there when marking began, the roots of then with the names that were touched since, and the
+    pointers of then of those objects whose pointers were changed since."""
+
+    def __init__(self, graph):
+        self.first, self.next = graph.first, graph.next
+        self.roots = {name for root in (graph.globals, *graph.registers) for name in root if name is not None}
+        self.changed = {}
+
+    def has(self, name):
+        return name is not None and self.first <= name < self.next
+
+    def touch(self, name):
+        if self.has(name):
+            self.roots.add(name)
+
+    def keep(self, name, pointers):
+        """Called before an object's pointers change."""
+        if self.has(name) and name not in self.changed:
+            self.changed[name] = list(pointers)
+
+    def reached(self, objects):
+        """The names that its pointers reach from its roots."""
+        reached, left = set(self.roots), list(self.roots)
+        while left:
+            name = left.pop()
+            for target in self.changed.get(name, objects[name][0]):
+                if target is not None and target not in reached:
+                    reached.add(target)
+                    left.append(target)
+        return reached
+
+
+def place_of(word):
+    """The number of a register or a global."""
+    return int(word[1:])
 
 
 def spelled(name):
@@ -156,12 +241,7 @@ def fault_of(script, record, markers=0, refiners=0):
     for count, (actor, step, reply) in enumerate(events, 1):
         if background.get(actor, step) != step:
             return f"event {count} isn't its actor's"
-        words = step.split(" ")
-        if actor.isdigit():
-            allowed = graph.allows(int(actor), words, reply)
-        else:
-            allowed = re.fullmatch(FORMS[words[0]], reply) is not None
-        if not allowed:
+        if not graph.allows(actor, step.split(" "), reply):
             return f"event {count} isn't one of the graph's"
     return None
 

@@ -24,15 +24,17 @@ using namespace plain;
 
 constexpr Word largest_number = 4294967295;
 constexpr Word largest_word = ~Word(0);
+constexpr Word largest_weaks = 255;
 constexpr std::size_t longest_line = 120;
 
 enum class Verb : std::uint8_t {
     New, Get, Put, PutNil, Read, Write, Move, Drop, Load, Save, Shape,
+    NewWeak, GetWeak, PutWeak, PutWeakNil, Weaks,
     Begin, Mark, Remark, Cleanup, Refine, Pause
 };
 
 // A line's step. `first` and `second` are registers or globals in the line's order, `number` is an index, a count
-// or the pointers of a new object, `value` a data word or the data words of a new object.
+// or the pointers of a new object, `value` a data word or the data words of a new object, whose weak slots are `second`.
 struct Step {
     Word value;
     Number number;
@@ -104,26 +106,43 @@ bool read_sizes(Cursor line, Sizes& sizes) {
            (!sizes.second || (line.space() && line.number(sizes.card))) && line.at_end();
 }
 
+// How many weak slots an object is to have.
+bool read_weaks(Cursor& line, std::uint8_t& weaks) {
+    Word wide;
+    if (!line.number(largest_weaks, wide)) return false;
+    weaks = std::uint8_t(wide);
+    return true;
+}
+
 bool read_mutator_step(Cursor& line, Step& step) {
     switch (line.peek()) {
-    case 'n': {
-        step.verb = Verb::New;
-        return line.text("new ") && line.reg(step.first) && line.space() && line.number(step.number) &&
-               line.space() && line.number(largest_number, step.value);
-    }
+    case 'n':
+        step.verb = line.text("newweak ") ? Verb::NewWeak : Verb::New;
+        return (step.verb == Verb::NewWeak || line.text("new ")) && line.reg(step.first) && line.space() &&
+               line.number(step.number) && line.space() &&
+               (step.verb == Verb::New || (read_weaks(line, step.second) && line.space())) &&
+               line.number(largest_number, step.value);
     case 'g':
-        step.verb = Verb::Get;
-        return line.text("get ") && line.reg(step.first) && line.space() && line.reg(step.second) && line.space() &&
-               line.number(step.number);
-    case 'p':
-        if (!line.text("put ") || !line.reg(step.first) || !line.space() || !line.number(step.number) || !line.space())
+        step.verb = line.text("getweak ") ? Verb::GetWeak : Verb::Get;
+        return (step.verb == Verb::GetWeak || line.text("get ")) && line.reg(step.first) && line.space() &&
+               line.reg(step.second) && line.space() && line.number(step.number);
+    case 'p': {
+        bool is_weak = line.text("putweak ");
+        if ((!is_weak && !line.text("put ")) || !line.reg(step.first) || !line.space() || !line.number(step.number) ||
+            !line.space())
             return false;
-        step.verb = line.peek() == 'n' ? Verb::PutNil : Verb::Put;
-        return step.verb == Verb::PutNil ? line.text("nil") : line.reg(step.second);
+        bool is_nil = line.peek() == 'n';
+        step.verb = is_weak ? (is_nil ? Verb::PutWeakNil : Verb::PutWeak) : (is_nil ? Verb::PutNil : Verb::Put);
+        return is_nil ? line.text("nil") : line.reg(step.second);
+    }
     case 'r':
         step.verb = Verb::Read;
         return line.text("read ") && line.reg(step.first) && line.space() && line.number(step.number);
     case 'w':
+        if (line.text("weaks ")) {
+            step.verb = Verb::Weaks;
+            return line.reg(step.first);
+        }
         step.verb = Verb::Write;
         return line.text("write ") && line.reg(step.first) && line.space() && line.number(step.number) &&
                line.space() && line.number(largest_word, step.value);
@@ -321,7 +340,7 @@ void print_reply(Output& output, const Reply& reply) {
 
 Reply do_step(Heap& heap, const Step& step) {
     switch (step.verb) {
-    case Verb::New: return heap.make(step.mutator, step.first, step.number, step.value);
+    case Verb::New: return heap.make(step.mutator, step.first, step.number, 0, step.value);
     case Verb::Get: return heap.get(step.mutator, step.first, step.second, step.number);
     case Verb::Put: return heap.put(step.mutator, step.first, step.number, step.second);
     case Verb::PutNil: return heap.put_nil(step.mutator, step.first, step.number);
@@ -332,6 +351,11 @@ Reply do_step(Heap& heap, const Step& step) {
     case Verb::Load: return heap.load(step.mutator, step.first, step.second);
     case Verb::Save: return heap.save(step.mutator, step.first, step.second);
     case Verb::Shape: return heap.shape(step.mutator, step.first);
+    case Verb::NewWeak: return heap.make(step.mutator, step.first, step.number, step.second, step.value);
+    case Verb::GetWeak: return heap.get_weak(step.mutator, step.first, step.second, step.number);
+    case Verb::PutWeak: return heap.put_weak(step.mutator, step.first, step.number, step.second);
+    case Verb::PutWeakNil: return heap.put_weak_nil(step.mutator, step.first, step.number);
+    case Verb::Weaks: return heap.weaks(step.mutator, step.first);
     case Verb::Begin: return heap.begin();
     case Verb::Mark: return heap.mark(step.number);
     case Verb::Remark: return heap.remark();

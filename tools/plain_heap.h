@@ -1,7 +1,8 @@
 // A Garbage-First heap, written plainly and not verified: an oracle and a baseline of cost for g1heap.
 //
 // The heap is one array of words with real headers in it, cut into equal regions. An address is a word's
-// place in that array. A pointer word is 0 for nil, else the address of its object plus 1.
+// place in that array. A pointer word is 0 for nil, else the address of its object plus 1; so is a weak slot, which
+// marking doesn't follow. An object is its header, its name, its pointers, its weak slots and its data words.
 #pragma once
 
 #include <algorithm>
@@ -49,16 +50,19 @@ inline Reply reply(Form form, Word first = 0, Word second = 0) { return {form, R
 inline Reply refused(Refusal refusal) { return {Form::Refused, refusal, 0, 0}; }
 
 // Headers. The two lowest bits tell the kind: 0 an object, 1 a filler, 2 an object that was moved.
-inline Word object_header(Word pointers, Word data) { return pointers << 8 | data << 32; }
+inline Word object_header(Word pointers, Word weaks, Word data) { return pointers << 8 | data << 32 | weaks << 56; }
 inline Word filler_header(Word size) { return 1 | size << 8; }
 inline Word moved_header(Address to) { return 2 | Word(to) << 8; }
 inline bool is_object(Word header) { return (header & 3) == 0; }
 inline bool is_moved(Word header) { return (header & 3) == 2; }
 inline Number pointer_count(Word header) { return header >> 8 & 0xffffff; }
 inline Number data_count(Word header) { return header >> 32 & 0xffffff; }
+inline Number weak_count(Word header) { return Number(header >> 56); }
+// Fields: pointers and, behind them, weak slots.
+inline Number field_count(Word header) { return pointer_count(header) + weak_count(header); }
 inline Number filler_size(Word header) { return header >> 8 & 0xffffff; }
 inline Address moved_to(Word header) { return Address(header >> 8); }
-inline Number object_size(Word header) { return 2 + pointer_count(header) + data_count(header); }
+inline Number object_size(Word header) { return 2 + field_count(header) + data_count(header); }
 inline Number tile_size(Word header) { return is_object(header) ? object_size(header) : filler_size(header); }
 
 // A set of numbers below a bound.
@@ -189,15 +193,16 @@ public:
 
     // The steps of mutators.
 
-    Reply make(Number mutator, Number target, Word pointers, Word data) {
-        Word size = 2 + pointers + data;
+    Reply make(Number mutator, Number target, Word pointers, Word weaks, Word data) {
+        Word size = 2 + pointers + weaks + data;
         if (size > heap_words_) return refused(Refusal::TooBig);
         if (next_name_ == ~Word(0)) return refused(Refusal::NamesSpent);
         Address at = place(mutator, Number(size));
         if (at == nowhere) return refused(Refusal::Full);
-        words_[at] = object_header(pointers, data);
+        words_[at] = object_header(pointers, weaks, data);
         words_[at + 1] = next_name_;
-        std::fill_n(&words_[at] + 2, pointers + data, 0);
+        std::fill_n(&words_[at] + 2, size - 2, 0);
+        has_weak_ = has_weak_ || weaks != 0;
         root(mutator, target) = Word(at) + 1;
         return reply(Form::Name, next_name_++);
     }
@@ -213,10 +218,34 @@ public:
     }
 
     Reply put(Number mutator, Number target, Number index, Number source) {
-        return store(mutator, target, index, root(mutator, source));
+        return put_pointer(mutator, target, index, root(mutator, source));
     }
 
-    Reply put_nil(Number mutator, Number target, Number index) { return store(mutator, target, index, 0); }
+    Reply put_nil(Number mutator, Number target, Number index) { return put_pointer(mutator, target, index, 0); }
+
+    // While marking runs, what a weak slot gives is logged like a deleted pointer: it may be held by it alone.
+    Reply get_weak(Number mutator, Number target, Number source, Number index) {
+        Word object = root(mutator, source);
+        if (object == 0) return refused(Refusal::Nil);
+        Address at = Address(object - 1);
+        if (index >= weak_count(words_[at])) return refused(Refusal::NoField);
+        Word value = words_[at + 2 + pointer_count(words_[at]) + index];
+        if (marking_) log_address(mutator, value);
+        root(mutator, target) = value;
+        return named(value);
+    }
+
+    Reply put_weak(Number mutator, Number target, Number index, Number source) {
+        return put_slot(mutator, target, index, root(mutator, source));
+    }
+
+    Reply put_weak_nil(Number mutator, Number target, Number index) { return put_slot(mutator, target, index, 0); }
+
+    Reply weaks(Number mutator, Number source) {
+        Word object = root(mutator, source);
+        if (object == 0) return refused(Refusal::Nil);
+        return reply(Form::Value, weak_count(words_[object - 1]));
+    }
 
     Reply read(Number mutator, Number source, Number index) {
         Word object = root(mutator, source);
@@ -224,7 +253,7 @@ public:
         Address at = Address(object - 1);
         Word header = words_[at];
         if (index >= data_count(header)) return refused(Refusal::NoField);
-        return reply(Form::Value, words_[at + 2 + pointer_count(header) + index]);
+        return reply(Form::Value, words_[at + 2 + field_count(header) + index]);
     }
 
     Reply write(Number mutator, Number target, Number index, Word value) {
@@ -233,7 +262,7 @@ public:
         Address at = Address(object - 1);
         Word header = words_[at];
         if (index >= data_count(header)) return refused(Refusal::NoField);
-        words_[at + 2 + pointer_count(header) + index] = value;
+        words_[at + 2 + field_count(header) + index] = value;
         return reply(Form::Ok);
     }
 
@@ -291,6 +320,7 @@ public:
         if (!marking_) return refused(Refusal::NotMarking);
         for (Number mutator = 0; mutator < sizes_.mutators; ++mutator) take_deletion_log(mutator);
         while (scan_lowest()) {}
+        if (has_weak_) clear_weak_slots();
         previous_marks_.swap(next_marks_);
         for (Region& region : regions_) {
             std::swap(region.previous_start, region.next_start);
@@ -454,13 +484,26 @@ private:
 
     // Stores, cards, remembered sets.
 
-    Reply store(Number mutator, Number target, Number index, Word value) {
+    Reply put_pointer(Number mutator, Number target, Number index, Word value) {
         Word object = root(mutator, target);
         if (object == 0) return refused(Refusal::Nil);
         Address at = Address(object - 1);
         if (index >= pointer_count(words_[at])) return refused(Refusal::NoField);
         Address field = at + 2 + index;
-        if (marking_) log_deletion(mutator, words_[field]);
+        if (marking_) log_address(mutator, words_[field]);
+        return store(mutator, field, value);
+    }
+
+    Reply put_slot(Number mutator, Number target, Number index, Word value) {
+        Word object = root(mutator, target);
+        if (object == 0) return refused(Refusal::Nil);
+        Address at = Address(object - 1);
+        if (index >= weak_count(words_[at])) return refused(Refusal::NoField);
+        return store(mutator, at + 2 + pointer_count(words_[at]) + index, value);
+    }
+
+    // Stores a field, and notes its card where the value leads into another region.
+    Reply store(Number mutator, Address field, Word value) {
         words_[field] = value;
         if (value != 0 && region_of(Address(value - 1)) != region_of(field)) {
             Number card = field >> card_shift_;
@@ -499,7 +542,7 @@ private:
         });
     }
 
-    // Gives each pointer word of a card that isn't nil and belongs to a kept object to `visit`.
+    // Gives each field of a card that isn't nil and belongs to a kept object to `visit`.
     template <class Visit>
     void visit_fields(Number card, Visit visit) {
         Address start = card << card_shift_;
@@ -508,7 +551,7 @@ private:
         for (Address at = first_tile_[card]; at < end;) {
             Word header = words_[at];
             if (is_object(header)) {
-                Address from = std::max(at + 2, start), to = std::min(at + 2 + pointer_count(header), end);
+                Address from = std::max(at + 2, start), to = std::min(at + 2 + field_count(header), end);
                 if (from < to && is_kept(at))
                     for (; from < to; ++from)
                         if (words_[from] != 0) visit(words_[from]);
@@ -560,7 +603,8 @@ private:
         ++marked_;
     }
 
-    // Scans the lowest grey object; false if there is none. No grey object starts below the finger.
+    // Scans the lowest grey object, of which it doesn't look at the weak slots; false if there is none. No grey object
+    // starts below the finger.
     bool scan_lowest() {
         Address at = grey_.next(finger_);
         if (at == nowhere) {
@@ -575,9 +619,10 @@ private:
         return true;
     }
 
-    void log_deletion(Number mutator, Word old) {
-        if (old == 0) return;
-        Address at = Address(old - 1);
+    // Notes an object that a pointer or a weak slot named, if it was there when marking began.
+    void log_address(Number mutator, Word pointer) {
+        if (pointer == 0) return;
+        Address at = Address(pointer - 1);
         if (at >= regions_[region_of(at)].next_start) return;
         deletion_logs_[mutator * deletion_log_length + deletion_log_counts_[mutator]++] = at;
         if (deletion_log_counts_[mutator] == deletion_log_length) take_deletion_log(mutator);
@@ -587,6 +632,24 @@ private:
         for (Number place = 0; place < deletion_log_counts_[mutator]; ++place)
             mark_object(deletion_logs_[mutator * deletion_log_length + place]);
         deletion_log_counts_[mutator] = 0;
+    }
+
+    // Marked by the running marking, or made since it began.
+    bool is_reached(Address at) const { return at >= regions_[region_of(at)].next_start || next_marks_.has(at); }
+
+    // At the end of marking: weak slots of reached objects become nil where what they name isn't reached.
+    void clear_weak_slots() {
+        for (Number region = 0; region < sizes_.regions; ++region) {
+            if (regions_[region].kind == Kind::Free || regions_[region].kind == Kind::Rest) continue;
+            for (Address at = bottom(region); at < regions_[region].top; at += tile_size(words_[at]))
+                if (is_object(words_[at]) && weak_count(words_[at]) != 0 && is_reached(at)) clear_slots_of(at);
+        }
+    }
+
+    void clear_slots_of(Address at) {
+        Address first = at + 2 + pointer_count(words_[at]), end = first + weak_count(words_[at]);
+        for (Address slot = first; slot < end; ++slot)
+            if (words_[slot] != 0 && !is_reached(Address(words_[slot] - 1))) words_[slot] = 0;
     }
 
     // The pause.
@@ -650,7 +713,7 @@ private:
 
     // Leads the fields of a copy to the new places of what they name.
     void settle_fields(Address at, Number number) {
-        Address end = at + 2 + pointer_count(words_[at]);
+        Address end = at + 2 + field_count(words_[at]);
         for (Address field = at + 2; field < end; ++field) {
             if (words_[field] == 0) continue;
             words_[field] = moved(words_[field]);
@@ -711,6 +774,8 @@ private:
     Bitmap previous_marks_, next_marks_, grey_;
     Address finger_;
     bool marking_ = false;
+    // An object with weak slots was made.
+    bool has_weak_ = false;
     Number marked_ = 0;
     std::vector<Address> deletion_logs_;
     std::vector<Number> deletion_log_counts_;

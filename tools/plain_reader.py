@@ -1,7 +1,7 @@
 """Reads a record's text by the rules of docs/TEXTS.md: its lines, or its first fault."""
 import re
 
-SMALL, LARGE = 2 ** 32 - 1, 2 ** 64 - 1
+SMALL, LARGE, WEAKS = 2 ** 32 - 1, 2 ** 64 - 1, 255
 NUMBER, REGISTER, GLOBAL = rb"(?:0|[1-9][0-9]*)", rb"r[0-7]", rb"g(?:[0-9]|1[0-5])"
 HEAP = re.compile(rb"heap (N) (N) (N) (N) (N)".replace(b"N", NUMBER))
 HEAP2 = re.compile(rb"heap2 (N) (N) (N) (N) (N) (N)".replace(b"N", NUMBER))
@@ -15,7 +15,8 @@ def form(text, *limits):
 
 
 MUTATOR = (form(rb"new R N N", SMALL, SMALL), form(rb"get R R N", SMALL), form(rb"put R N (?:R|nil)", SMALL), form(rb"read R N", SMALL),
-           form(rb"write R N N", SMALL, LARGE), form(rb"move R R"), form(rb"drop R"), form(rb"load R G"), form(rb"save G R"), form(rb"shape R"))
+           form(rb"write R N N", SMALL, LARGE), form(rb"move R R"), form(rb"drop R"), form(rb"load R G"), form(rb"save G R"), form(rb"shape R"),
+           form(rb"newweak R N N N", SMALL, WEAKS, SMALL), form(rb"getweak R R N", SMALL), form(rb"putweak R N (?:R|nil)", SMALL), form(rb"weaks R"))
 MARK, REFINE = form(rb"mark N", SMALL), form(rb"refine N", SMALL)
 COLLECTOR = (form(rb"begin"), MARK, form(rb"remark"), form(rb"cleanup"), REFINE, form(rb"pause N", SMALL))
 WORDS = re.compile(rb"ok|nil|refused (?:1 Nil|2 NoField|3 Full|4 TooBig|5 NamesSpent|6 MarkRunning|7 NotMarking)")
