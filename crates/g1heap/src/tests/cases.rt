@@ -9,7 +9,7 @@ pub(super) struct Case {
     pub err: &'static str,
 }
 
-pub(super) static CASES: [Case; 76] = [
+pub(super) static CASES: [Case; 87] = [
     Case {
         name: "words-not-a-power-of-two",
         script: "heap 4 24 8 1 0\n",
@@ -541,5 +541,82 @@ pub(super) static CASES: [Case; 76] = [
         status: 1,
         out: "",
         err: "g1heap: line 1: 3 BadHeap\n",
+    },
+    Case {
+        name: "weak-numbers-at-their-limits-are-steps",
+        script: "heap 4 16 8 1 0\n0 newweak r0 4294967295 255 4294967295\n0 getweak r0 r1 4294967295\n0 putweak r0 4294967295 nil\n",
+        status: 0,
+        out: "heap 4 16 8 1 0\n1 0 newweak r0 4294967295 255 4294967295 = refused 4 TooBig\n2 0 getweak r0 r1 4294967295 = refused 1 Nil\n3 0 putweak r0 4294967295 nil = refused 1 Nil\n",
+        err: "",
+    },
+    Case {
+        name: "weak-slots-leading-zero",
+        script: "heap 4 16 8 1 0\n0 newweak r0 0 01 0\n",
+        status: 1,
+        out: "",
+        err: "g1heap: line 2: 5 BadStep\n",
+    },
+    Case {
+        name: "new-of-three-counts",
+        script: "heap 4 16 8 1 0\n0 new r0 0 1 0\n",
+        status: 1,
+        out: "",
+        err: "g1heap: line 2: 5 BadStep\n",
+    },
+    Case {
+        name: "newweak-of-two-counts",
+        script: "heap 4 16 8 1 0\n0 newweak r0 0 1\n",
+        status: 1,
+        out: "",
+        err: "g1heap: line 2: 5 BadStep\n",
+    },
+    Case {
+        name: "newweak-of-four-counts",
+        script: "heap 4 16 8 1 0\n0 newweak r0 0 1 0 0\n",
+        status: 1,
+        out: "",
+        err: "g1heap: line 2: 5 BadStep\n",
+    },
+    Case {
+        name: "getweak-of-nil",
+        script: "heap 4 16 8 1 0\n0 getweak r0 nil 0\n",
+        status: 1,
+        out: "",
+        err: "g1heap: line 2: 5 BadStep\n",
+    },
+    Case {
+        name: "getweak-number-too-large",
+        script: "heap 4 16 8 1 0\n0 getweak r0 r1 4294967296\n",
+        status: 1,
+        out: "",
+        err: "g1heap: line 2: 5 BadStep\n",
+    },
+    Case {
+        name: "putweak-of-a-global",
+        script: "heap 4 16 8 1 0\n0 putweak r0 0 g1\n",
+        status: 1,
+        out: "",
+        err: "g1heap: line 2: 5 BadStep\n",
+    },
+    Case {
+        name: "putweak-without-a-value",
+        script: "heap 4 16 8 1 0\n0 putweak r0 0\n",
+        status: 1,
+        out: "",
+        err: "g1heap: line 2: 5 BadStep\n",
+    },
+    Case {
+        name: "weaks-with-a-place",
+        script: "heap 4 16 8 1 0\n0 weaks r0 0\n",
+        status: 1,
+        out: "",
+        err: "g1heap: line 2: 5 BadStep\n",
+    },
+    Case {
+        name: "weaks-of-the-collector",
+        script: "heap 4 16 8 1 0\ngc weaks r0\n",
+        status: 1,
+        out: "",
+        err: "g1heap: line 2: 5 BadStep\n",
     },
 ];
