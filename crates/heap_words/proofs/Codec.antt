@@ -6,13 +6,7 @@ use Rattle.heap_words.specs.declared.header.Header.{Header}
 use Rattle.heap_words.specs.declared.header.Header.TheVariants as headers
 use Rattle.heap_words.specs.Headers.{header_of, header_word, IsHeader}
 
-<<<<<<< HEAD
-object_again : (p w d : ℕ) → p < 2 ^ 24 → w < 2 ^ 8 → d < 2 ^ 24 → header_of (p * 2 ^ 8 + d * 2 ^ 32 + w * 2 ^ 56) ≡ Some (Object p w d)
-||||||| 3906014
-object_again : (p d : ℕ) → p < 2 ^ 24 → d < 2 ^ 24 → header_of (p * 2 ^ 8 + d * 2 ^ 32) ≡ Some (Object p d)
-=======
-object_again : (p d : ℕ) → p < 2 ^ 24 → d < 2 ^ 24 → header_of (p * 2 ^ 8 + d * 2 ^ 32) ≡ Some (headers.Object p d)
->>>>>>> main
+object_again : (p w d : ℕ) → p < 2 ^ 24 → w < 2 ^ 8 → d < 2 ^ 24 → header_of (p * 2 ^ 8 + d * 2 ^ 32 + w * 2 ^ 56) ≡ Some (headers.Object p w d)
 unfolding header_of
 object_again p w d h k g = grind (arith, common_steps, nat_tests)
 
@@ -25,16 +19,6 @@ unfolding header_of
 forwarded_again n h = grind (arith, common_steps, nat_tests)
 
 pub header_of-word : (h : Header) → IsHeader h → header_of (header_word h) ≡ Some h
-<<<<<<< HEAD
-header_of-word (Object p w d) h = object_again p w d h.0 h.1 h.2
-header_of-word (Filler n) h = filler_again n h.0 h.1
-header_of-word (Forwarded n) h = forwarded_again n h
-||||||| 3906014
-header_of-word (Object p d) h = object_again p d h.0 h.1
-header_of-word (Filler n) h = filler_again n h.0 h.1
-header_of-word (Forwarded n) h = forwarded_again n h
-=======
-header_of-word (headers.Object p d) h = object_again p d h.0 h.1
+header_of-word (headers.Object p w d) h = object_again p w d h.0 h.1 h.2
 header_of-word (headers.Filler n) h = filler_again n h.0 h.1
 header_of-word (headers.Forwarded n) h = forwarded_again n h
->>>>>>> main

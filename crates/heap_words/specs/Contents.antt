@@ -12,36 +12,16 @@ header_at words at = header_of (slice_index words at)
 -- the counts of an object's header
 abbrev pub counts_of : Option Header → Option Counts
 counts_of None = None
-<<<<<<< HEAD
-counts_of (Some (Object p w d)) = Some (record { pointers = p; weaks = w; values = d })
-counts_of (Some (Filler n)) = None
-counts_of (Some (Forwarded to)) = None
-||||||| 3906014
-counts_of (Some (Object p d)) = Some (record { pointers = p; values = d })
-counts_of (Some (Filler n)) = None
-counts_of (Some (Forwarded to)) = None
-=======
-counts_of (Some (headers.Object p d)) = Some (record { pointers = p; values = d })
+counts_of (Some (headers.Object p w d)) = Some (record { pointers = p; weaks = w; values = d })
 counts_of (Some (headers.Filler n)) = None
 counts_of (Some (headers.Forwarded to)) = None
->>>>>>> main
 
 -- how many pointers a header's object has
 abbrev pub pointer_count : Option Header → ℕ
 pointer_count None = 0
-<<<<<<< HEAD
-pointer_count (Some (Object p w d)) = p
-pointer_count (Some (Filler n)) = 0
-pointer_count (Some (Forwarded to)) = 0
-||||||| 3906014
-pointer_count (Some (Object p d)) = p
-pointer_count (Some (Filler n)) = 0
-pointer_count (Some (Forwarded to)) = 0
-=======
-pointer_count (Some (headers.Object p d)) = p
+pointer_count (Some (headers.Object p w d)) = p
 pointer_count (Some (headers.Filler n)) = 0
 pointer_count (Some (headers.Forwarded to)) = 0
->>>>>>> main
 
 abbrev pub pointer_count_at : List ℕ → ℕ → ℕ
 pointer_count_at words at = pointer_count (header_at words at)
@@ -49,9 +29,9 @@ pointer_count_at words at = pointer_count (header_at words at)
 -- how many fields it has: pointers, and weak slots behind them
 abbrev pub field_count : Option Header → ℕ
 field_count None = 0
-field_count (Some (Object p w d)) = p + w
-field_count (Some (Filler n)) = 0
-field_count (Some (Forwarded to)) = 0
+field_count (Some (headers.Object p w d)) = p + w
+field_count (Some (headers.Filler n)) = 0
+field_count (Some (headers.Forwarded to)) = 0
 
 abbrev pub field_count_at : List ℕ → ℕ → ℕ
 field_count_at words at = field_count (header_at words at)

@@ -5,52 +5,22 @@ use Rattle.heap_words.specs.declared.header.Header.TheVariants as headers
 
 -- the word that a header is written as
 abbrev pub header_word : Header → ℕ
-<<<<<<< HEAD
-header_word (Object p w d) = p * 2 ^ 8 + d * 2 ^ 32 + w * 2 ^ 56
-header_word (Filler size) = size * 2 ^ 8 + 1
-header_word (Forwarded to) = to * 2 ^ 8 + 2
-||||||| 3906014
-header_word (Object p d) = p * 2 ^ 8 + d * 2 ^ 32
-header_word (Filler size) = size * 2 ^ 8 + 1
-header_word (Forwarded to) = to * 2 ^ 8 + 2
-=======
-header_word (headers.Object p d) = p * 2 ^ 8 + d * 2 ^ 32
+header_word (headers.Object p w d) = p * 2 ^ 8 + d * 2 ^ 32 + w * 2 ^ 56
 header_word (headers.Filler size) = size * 2 ^ 8 + 1
 header_word (headers.Forwarded to) = to * 2 ^ 8 + 2
->>>>>>> main
 
 -- the header's numbers are in their bits
 abbrev pub IsHeader : Header → Type 0
-<<<<<<< HEAD
-IsHeader (Object p w d) = (p < 2 ^ 24) × (w < 2 ^ 8) × (d < 2 ^ 24)
-IsHeader (Filler size) = (0 < size) × (size < 2 ^ 24)
-IsHeader (Forwarded to) = to < 2 ^ 32
-||||||| 3906014
-IsHeader (Object p d) = (p < 2 ^ 24) × (d < 2 ^ 24)
-IsHeader (Filler size) = (0 < size) × (size < 2 ^ 24)
-IsHeader (Forwarded to) = to < 2 ^ 32
-=======
-IsHeader (headers.Object p d) = (p < 2 ^ 24) × (d < 2 ^ 24)
+IsHeader (headers.Object p w d) = (p < 2 ^ 24) × (w < 2 ^ 8) × (d < 2 ^ 24)
 IsHeader (headers.Filler size) = (0 < size) × (size < 2 ^ 24)
 IsHeader (headers.Forwarded to) = to < 2 ^ 32
->>>>>>> main
 
 -- the header that a word is, if it is well-formed
 unfoldable pub header_of : ℕ → Option Header
 header_of w =
-<<<<<<< HEAD
-    if (w % 2 ^ 8 == 0) && nat_lt w (2 ^ 64) then Some (Object (w / 2 ^ 8 % 2 ^ 24) (w / 2 ^ 56) (w / 2 ^ 32 % 2 ^ 24))
-    else (if (w % 2 ^ 8 == 1) && (nat_lt 0 (w / 2 ^ 8) && nat_lt w (2 ^ 32)) then Some (Filler (w / 2 ^ 8))
-    else (if (w % 2 ^ 8 == 2) && nat_lt w (2 ^ 40) then Some (Forwarded (w / 2 ^ 8)) else None))
-||||||| 3906014
-    if (w % 2 ^ 8 == 0) && nat_lt w (2 ^ 56) then Some (Object (w / 2 ^ 8 % 2 ^ 24) (w / 2 ^ 32))
-    else (if (w % 2 ^ 8 == 1) && (nat_lt 0 (w / 2 ^ 8) && nat_lt w (2 ^ 32)) then Some (Filler (w / 2 ^ 8))
-    else (if (w % 2 ^ 8 == 2) && nat_lt w (2 ^ 40) then Some (Forwarded (w / 2 ^ 8)) else None))
-=======
-    if (w % 2 ^ 8 == 0) && nat_lt w (2 ^ 56) then Some (headers.Object (w / 2 ^ 8 % 2 ^ 24) (w / 2 ^ 32))
+    if (w % 2 ^ 8 == 0) && nat_lt w (2 ^ 64) then Some (headers.Object (w / 2 ^ 8 % 2 ^ 24) (w / 2 ^ 56) (w / 2 ^ 32 % 2 ^ 24))
     else (if (w % 2 ^ 8 == 1) && (nat_lt 0 (w / 2 ^ 8) && nat_lt w (2 ^ 32)) then Some (headers.Filler (w / 2 ^ 8))
     else (if (w % 2 ^ 8 == 2) && nat_lt w (2 ^ 40) then Some (headers.Forwarded (w / 2 ^ 8)) else None))
->>>>>>> main
 
 -- the target that a pointer word names, unless it is nil
 abbrev pub pointer_of : ℕ → Option ℕ

@@ -146,16 +146,8 @@ impl Words {
         object.word() as usize + 2 + fields as usize + field as usize
     }
 
-<<<<<<< HEAD
     /// A data word of the object at an address, counted from 0 behind the fields that its header tells.
-    pub fn get_data(&self, object: Addr, field: u32) -> u64
-||||||| 3906014
-    /// A data word of the object at an address, counted from 0 behind the pointers that its header tells.
-    pub fn get_data(&self, object: Addr, field: u32) -> u64
-=======
-    /// A data word of the object at an address, counted from 0 behind the pointers that its header tells.
     pub fn get_value(&self, object: Addr, field: u32) -> u64
->>>>>>> main
         requires at { object < length self.now }
         requires within { object + 2 + field_count_at self.now object + field < length self.now }
         ensures { result ≡ slice_index self.now (object + 2 + field_count_at self.now object + field) }
@@ -175,16 +167,8 @@ impl Words {
 
     /// Writes an object whose pointers and weak slots are nil and whose data words are 0.
     pub fn write_object(&mut self, at: Addr, name: u64, counts: Counts)
-<<<<<<< HEAD
-        requires { at + (2 + counts.pointers + counts.weaks + counts.values) ≤ length self.old }
+        requires { at + size_of counts.pointers counts.weaks counts.values ≤ length self.old }
         ensures { self.new ≡ put self.old at (header_word (headers.Object counts.pointers counts.weaks counts.values) ∷ name ∷ replicate (counts.pointers + counts.weaks + counts.values) 0) }
-||||||| 3906014
-        requires { at + (2 + counts.pointers + counts.values) ≤ length self.old }
-        ensures { self.new ≡ put self.old at (header_word (headers.Object counts.pointers counts.values) ∷ name ∷ replicate (counts.pointers + counts.values) 0) }
-=======
-        requires { at + size_of counts.pointers counts.values ≤ length self.old }
-        ensures { self.new ≡ put self.old at (header_word (headers.Object counts.pointers counts.values) ∷ name ∷ replicate (counts.pointers + counts.values) 0) }
->>>>>>> main
     {
         let Counts {
             pointers,
@@ -269,16 +253,8 @@ mod tests {
         words.write_filler(Addr::new(6), FillerSize::new(2));
         words.set_field(object, 0, Some(Addr::new(8)));
         assert!(rt; words.len() == 16);
-<<<<<<< HEAD
         assert!(rt; fields_of(&words, object) == 1);
-        words.set_data(object, 1, 9);
-||||||| 3906014
-        assert!(rt; pointers_of(&words, object) == 1);
-        words.set_data(object, 1, 9);
-=======
-        assert!(rt; pointers_of(&words, object) == 1);
         words.set_value(object, 1, 9);
->>>>>>> main
         assert!(rt; words.len() == 16);
         words.copy(object, Addr::new(8), 5);
         assert!(rt; words.len() == 16);
@@ -288,19 +264,9 @@ mod tests {
         assert!(rt; fields_of(&words, copy) == 1);
         assert_eq!(rt; words.object_at(copy), Some(small()));
         assert_eq!(rt; words.name(copy), 7);
-<<<<<<< HEAD
         assert_eq!(rt; words.get_field(copy, 0), Some(Addr::new(8)));
-        assert_eq!(rt; words.get_data(copy, 0), 0);
-        assert_eq!(rt; words.get_data(copy, 1), 9);
-||||||| 3906014
-        assert_eq!(rt; words.get_ptr(copy, 0), Some(Addr::new(8)));
-        assert_eq!(rt; words.get_data(copy, 0), 0);
-        assert_eq!(rt; words.get_data(copy, 1), 9);
-=======
-        assert_eq!(rt; words.get_ptr(copy, 0), Some(Addr::new(8)));
         assert_eq!(rt; words.get_value(copy, 0), 0);
         assert_eq!(rt; words.get_value(copy, 1), 9);
->>>>>>> main
         let size = FillerSize::new(2);
         assert_eq!(rt; words.header(Addr::new(6)), Some(Header::Filler { size }));
         let to = Addr::new(8);

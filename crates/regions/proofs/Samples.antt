@@ -37,13 +37,7 @@ pub fill_split : (t t' : Table) (a n m : ℕ) → t ≡ filled2 → t' ≡ repla
 unfolding replace_tile region_at
 fill_split t t' a n m e f p q r = rw (f, e, p, q, r) refl
 
-<<<<<<< HEAD
-pub fill_make : (t t' : Table) (a n p weak d : ℕ) → t ≡ filled3 → t' ≡ replace_tile t a (Live (new_object 7 p weak d) ∷ gap (n - (2 + p + weak + d))) → a ≡ 0 → n ≡ 5 → p ≡ 1 → weak ≡ 0 → d ≡ 1 → t' ≡ with_sample (sample_object None 0)
-||||||| 3906014
-pub fill_make : (t t' : Table) (a n p d : ℕ) → t ≡ filled3 → t' ≡ replace_tile t a (Live (new_object 7 p d) ∷ gap (n - (2 + p + d))) → a ≡ 0 → n ≡ 5 → p ≡ 1 → d ≡ 1 → t' ≡ with_sample (sample_object None 0)
-=======
-pub fill_make : (t t' : Table) (a n p d : ℕ) → t ≡ filled3 → t' ≡ replace_tile t a (Object (new_object 7 p d) ∷ remainder (n - (2 + p + d))) → a ≡ 0 → n ≡ 5 → p ≡ 1 → d ≡ 1 → t' ≡ with_sample (sample_object None 0)
->>>>>>> main
+pub fill_make : (t t' : Table) (a n p weak d : ℕ) → t ≡ filled3 → t' ≡ replace_tile t a (Object (new_object 7 p weak d) ∷ remainder (n - (2 + p + weak + d))) → a ≡ 0 → n ≡ 5 → p ≡ 1 → weak ≡ 0 → d ≡ 1 → t' ≡ with_sample (sample_object None 0)
 unfolding replace_tile region_at
 fill_make t t' a n p weak d e f h i j l k = rw (f, e, h, i, j, l, k) refl
 
@@ -123,13 +117,7 @@ pub move_push : (t t' : Table) (k n : ℕ) → t ≡ moved1 → t' ≡ push_tile
 unfolding push_tile nth_region
 move_push t t' k n e f p q = rw (f, e, p, q) refl
 
-<<<<<<< HEAD
-pub move_make : (t t' : Table) (a n p weak d : ℕ) → t ≡ moved2 → t' ≡ replace_tile t a (Live (new_object 7 p weak d) ∷ gap (n - (2 + p + weak + d))) → a ≡ 0 → n ≡ 4 → p ≡ 0 → weak ≡ 0 → d ≡ 2 → t' ≡ moved3
-||||||| 3906014
-pub move_make : (t t' : Table) (a n p d : ℕ) → t ≡ moved2 → t' ≡ replace_tile t a (Live (new_object 7 p d) ∷ gap (n - (2 + p + d))) → a ≡ 0 → n ≡ 4 → p ≡ 0 → d ≡ 2 → t' ≡ moved3
-=======
-pub move_make : (t t' : Table) (a n p d : ℕ) → t ≡ moved2 → t' ≡ replace_tile t a (Object (new_object 7 p d) ∷ remainder (n - (2 + p + d))) → a ≡ 0 → n ≡ 4 → p ≡ 0 → d ≡ 2 → t' ≡ moved3
->>>>>>> main
+pub move_make : (t t' : Table) (a n p weak d : ℕ) → t ≡ moved2 → t' ≡ replace_tile t a (Object (new_object 7 p weak d) ∷ remainder (n - (2 + p + weak + d))) → a ≡ 0 → n ≡ 4 → p ≡ 0 → weak ≡ 0 → d ≡ 2 → t' ≡ moved3
 unfolding replace_tile region_at
 move_make t t' a n p weak d e f h i j l k = rw (f, e, h, i, j, l, k) refl
 
@@ -222,9 +210,9 @@ pub step_push : (t t' : Table) (k n : ℕ) → t ≡ filled1 → t' ≡ push_til
 unfolding push_tile nth_region
 step_push t t' k n e f p q = rw (f, e, p, q) refl
 
-pub step_make : (t t' : Table) (a n p d : ℕ) → t ≡ stepped2 → t' ≡ replace_tile t a (Object (new_object 7 p d) ∷ remainder (n - (2 + p + d))) → a ≡ 0 → n ≡ 6 → p ≡ 1 → d ≡ 1 → t' ≡ stepped None
+pub step_make : (t t' : Table) (a n p weak d : ℕ) → t ≡ stepped2 → t' ≡ replace_tile t a (Object (new_object 7 p weak d) ∷ remainder (n - (2 + p + weak + d))) → a ≡ 0 → n ≡ 6 → p ≡ 1 → weak ≡ 0 → d ≡ 1 → t' ≡ stepped None
 unfolding replace_tile region_at
-step_make t t' a n p d e f h i j k = rw (f, e, h, i, j, k) refl
+step_make t t' a n p weak d e f h i j k l = rw (f, e, h, i, j, k, l) refl
 
 pub step_field : (t t' : Table) (a to : ℕ) → t ≡ stepped None → t' ≡ set_field t a 0 (Some to) → a ≡ 0 → to ≡ 4 → t' ≡ stepped (Some 4)
 unfolding set_field object_at tile_in region_at put_object

@@ -18,4 +18,5 @@ pub mod Tops
 pub mod InUse
 pub mod Released
 pub mod Steps
+pub mod Lowest
 pub mod Holders

@@ -2,3 +2,4 @@ pub mod WalkLaws
 pub mod WalkMade
 pub mod WalkFrom
 pub mod WalkTiles
+pub mod SameWalks

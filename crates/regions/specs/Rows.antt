@@ -16,19 +16,9 @@ use Rattle.regions.specs.declared.row.Kind.TheVariants as kinds
 -- how many words the object of a header has, 1 where it is no object's
 abbrev pub object_size : Option Header → ℕ
 object_size None = 1
-<<<<<<< HEAD
-object_size (Some (Object p weak d)) = 2 + p + weak + d
-object_size (Some (Filler n)) = 1
-object_size (Some (Forwarded to)) = 1
-||||||| 3906014
-object_size (Some (Object p d)) = 2 + p + d
-object_size (Some (Filler n)) = 1
-object_size (Some (Forwarded to)) = 1
-=======
-object_size (Some (headers.Object p d)) = size_of p d
+object_size (Some (headers.Object p weak d)) = size_of p weak d
 object_size (Some (headers.Filler n)) = 1
 object_size (Some (headers.Forwarded to)) = 1
->>>>>>> main
 
 -- the size of the object at an address
 abbrev pub sizes_in : List ℕ → ℕ → ℕ
@@ -37,38 +27,16 @@ sizes_in words a = object_size (header_of (slice_index words a))
 -- where a header's object went
 abbrev pub header_target : Option Header → Option ℕ
 header_target None = None
-<<<<<<< HEAD
-header_target (Some (Object p weak d)) = None
-header_target (Some (Filler n)) = None
-header_target (Some (Forwarded to)) = Some to
-||||||| 3906014
-header_target (Some (Object p d)) = None
-header_target (Some (Filler n)) = None
-header_target (Some (Forwarded to)) = Some to
-=======
-header_target (Some (headers.Object p d)) = None
+header_target (Some (headers.Object p weak d)) = None
 header_target (Some (headers.Filler n)) = None
 header_target (Some (headers.Forwarded to)) = Some to
->>>>>>> main
 
 -- the object of a header
 abbrev pub stored_by : List ℕ → Option Header → Stored
-<<<<<<< HEAD
 stored_by ws None = stored_of 0 0 0 ws
-stored_by ws (Some (Object p weak d)) = stored_of p weak d ws
-stored_by ws (Some (Filler n)) = stored_of 0 0 0 ws
-stored_by ws (Some (Forwarded to)) = stored_of 0 0 0 ws
-||||||| 3906014
-stored_by ws None = stored_of 0 0 ws
-stored_by ws (Some (Object p d)) = stored_of p d ws
-stored_by ws (Some (Filler n)) = stored_of 0 0 ws
-stored_by ws (Some (Forwarded to)) = stored_of 0 0 ws
-=======
-stored_by ws None = stored_of 0 0 ws
-stored_by ws (Some (headers.Object p d)) = stored_of p d ws
-stored_by ws (Some (headers.Filler n)) = stored_of 0 0 ws
-stored_by ws (Some (headers.Forwarded to)) = stored_of 0 0 ws
->>>>>>> main
+stored_by ws (Some (headers.Object p weak d)) = stored_of p weak d ws
+stored_by ws (Some (headers.Filler n)) = stored_of 0 0 0 ws
+stored_by ws (Some (headers.Forwarded to)) = stored_of 0 0 0 ws
 
 -- the object that words begin with
 abbrev pub first_stored : List ℕ → Stored
@@ -94,19 +62,9 @@ regions_of sizes size ws (row ∷ rows) = region_of sizes ws row ∷ regions_of 
 -- the header is an object's
 abbrev pub IsObject : Option Header → Type 0
 IsObject None = ⊥
-<<<<<<< HEAD
-IsObject (Some (Object p weak d)) = Unit {0}
-IsObject (Some (Filler n)) = ⊥
-IsObject (Some (Forwarded to)) = ⊥
-||||||| 3906014
-IsObject (Some (Object p d)) = Unit {0}
-IsObject (Some (Filler n)) = ⊥
-IsObject (Some (Forwarded to)) = ⊥
-=======
-IsObject (Some (headers.Object p d)) = Unit {0}
+IsObject (Some (headers.Object p weak d)) = Unit {0}
 IsObject (Some (headers.Filler n)) = ⊥
 IsObject (Some (headers.Forwarded to)) = ⊥
->>>>>>> main
 
 -- a row that is no later one of a run says what the words of its region are
 abbrev pub IsRow : (ℕ → ℕ) → ℕ → List ℕ → ℕ → Kind → Type 0
@@ -213,26 +171,16 @@ put_remainder words n (suc m) = slice_set words n (header_word (headers.Filler (
 -- how many weak slots a header's object has
 abbrev pub weak_count : Option Header → ℕ
 weak_count None = 0
-weak_count (Some (Object p weak d)) = weak
-weak_count (Some (Filler n)) = 0
-weak_count (Some (Forwarded to)) = 0
+weak_count (Some (headers.Object p weak d)) = weak
+weak_count (Some (headers.Filler n)) = 0
+weak_count (Some (headers.Forwarded to)) = 0
 
 -- how many data words a header's object has
 abbrev pub value_count : Option Header → ℕ
 value_count None = 0
-<<<<<<< HEAD
-value_count (Some (Object p weak d)) = d
-value_count (Some (Filler n)) = 0
-value_count (Some (Forwarded to)) = 0
-||||||| 3906014
-value_count (Some (Object p d)) = d
-value_count (Some (Filler n)) = 0
-value_count (Some (Forwarded to)) = 0
-=======
-value_count (Some (headers.Object p d)) = d
+value_count (Some (headers.Object p weak d)) = d
 value_count (Some (headers.Filler n)) = 0
 value_count (Some (headers.Forwarded to)) = 0
->>>>>>> main
 
 -- the address, if there is one, is below the limit
 abbrev pub IsBelow : Option ℕ → ℕ → Type 0

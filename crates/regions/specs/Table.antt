@@ -1,17 +1,7 @@
 -- A table of regions, as callers see it: regions of tiles, and no words.
-<<<<<<< HEAD
-use Rattle.std.specs.Prelude.{◌≡◌, ℕ, zero, suc, ◌+◌, ◌-◌, ◌*◌, ◌/◌, ◌%◌, Option, Some, None, List, [], ◌∷◌, ◌++◌, length, slice_index_or, slice_set, replicate, min, position, Bool, true, false, take, drop, if◌then◌else◌, nat_le}
-use Rattle.heap_model.specs.Heap.{Stored, fields, with_field}
-use Rattle.regions.specs.Tiles.{Tile, Live, Gap, Moved, tile_size, tile_at, replace, total_size}
-||||||| 3906014
-use Rattle.std.specs.Prelude.{◌≡◌, ℕ, zero, suc, ◌+◌, ◌-◌, ◌*◌, ◌/◌, ◌%◌, Option, Some, None, List, [], ◌∷◌, ◌++◌, length, slice_index_or, slice_set, replicate, min, position, Bool, true, false, take, drop, if◌then◌else◌, nat_le}
-use Rattle.heap_model.specs.Heap.{Stored}
-use Rattle.regions.specs.Tiles.{Tile, Live, Gap, Moved, tile_size, tile_at, replace, total_size}
-=======
 use Rattle.std.specs.Prelude.{◌≡◌, ℕ, zero, suc, ◌+◌, ◌-◌, ◌*◌, ◌/◌, ◌%◌, ◌≤◌, Option, Some, None, List, [], ◌∷◌, ◌++◌, slice_index_or, slice_set, replicate, min, position, count_by, Bool, true, false, take, drop, if◌then◌else◌, nat_le}
 use Rattle.heap_model.specs.Heap.{Stored, fields, with_field}
 use Rattle.regions.specs.Tiles.{Tile, Object, Filler, Forwarded, tile_size, tile_at, replace, total_size}
->>>>>>> main
 use Rattle.regions.specs.declared.row.Kind.{Kind}
 use Rattle.regions.specs.declared.row.Kind.TheVariants as kinds
 
@@ -64,7 +54,6 @@ object_pointers (Some s) = s.pointers
 unfoldable pub pointers_at : Table → ℕ → List (Option ℕ)
 pointers_at t a = object_pointers (object_at t a)
 
-<<<<<<< HEAD
 -- an object's weak slots
 abbrev pub object_weaks : Option Stored → List (Option ℕ)
 object_weaks None = []
@@ -83,18 +72,6 @@ object_fields (Some s) = fields s
 unfoldable pub fields_at : Table → ℕ → List (Option ℕ)
 fields_at t a = object_fields (object_at t a)
 
-||||||| 3906014
-=======
--- an object's fields: what holds addresses, in address order
-abbrev pub object_fields : Option Stored → List (Option ℕ)
-object_fields None = []
-object_fields (Some s) = fields s
-
--- the fields of the object at an address, none where there is no object
-unfoldable pub fields_at : Table → ℕ → List (Option ℕ)
-fields_at t a = object_fields (object_at t a)
-
->>>>>>> main
 -- the region with another object at the offset
 abbrev pub with_object : Region → ℕ → Stored → Region
 with_object Free o s = Free
@@ -179,14 +156,6 @@ set_weak_of t a i v (Some s) = put_object t a (record s { weaks = slice_set s.we
 unfoldable pub set_weak : Table → ℕ → ℕ → Option ℕ → Table
 set_weak t a i v = set_weak_of t a i v (object_at t a)
 
-abbrev pub set_field_of : Table → ℕ → ℕ → Option ℕ → Option Stored → Table
-set_field_of t a i v None = t
-set_field_of t a i v (Some s) = put_object t a (with_field s i v)
-
--- the table with one field of the object at the address changed
-unfoldable pub set_field : Table → ℕ → ℕ → Option ℕ → Table
-set_field t a i v = set_field_of t a i v (object_at t a)
-
 abbrev pub set_value_of : Table → ℕ → ℕ → ℕ → Option Stored → Table
 set_value_of t a i v None = t
 set_value_of t a i v (Some s) = put_object t a (record s { values = slice_set s.values i v })
@@ -230,13 +199,7 @@ taken t (Some k) = with_region t k (Ordinary [])
 abbrev pub region_used : ℕ → Region → ℕ
 region_used size Free = 0
 region_used size (Ordinary ts) = total_size ts
-<<<<<<< HEAD
-region_used size (First s) = min size (2 + length s.pointers + length s.weaks + length s.values)
-||||||| 3906014
-region_used size (First s) = min size (2 + length s.pointers + length s.values)
-=======
 region_used size (First s) = min size (tile_size (Object s))
->>>>>>> main
 region_used size (Rest n) = n
 
 -- region k, free past the end

@@ -14,19 +14,9 @@ pub data Tile : Type 0 where
 
 -- the words of a tile
 abbrev pub tile_size : Tile → ℕ
-<<<<<<< HEAD
-tile_size (Live s) = 2 + length s.pointers + length s.weaks + length s.values
-tile_size (Gap n) = n
-tile_size (Moved to n) = n
-||||||| 3906014
-tile_size (Live s) = 2 + length s.pointers + length s.values
-tile_size (Gap n) = n
-tile_size (Moved to n) = n
-=======
-tile_size (Object s) = size_of (length s.pointers) (length s.values)
+tile_size (Object s) = size_of (length s.pointers) (length s.weaks) (length s.values)
 tile_size (Filler n) = n
 tile_size (Forwarded to n) = n
->>>>>>> main
 
 -- the words of tiles
 abbrev pub total_size : List Tile → ℕ
@@ -56,39 +46,17 @@ stored_of p weak d ws = record {
 
 -- the tile of a header, the rest of whose words are first in ws; sizes tells the size of the object at an address, for one that moved there
 abbrev pub tile_by : (ℕ → ℕ) → List ℕ → Option Header → Tile
-<<<<<<< HEAD
-tile_by sizes ws None = Gap 1
-tile_by sizes ws (Some (Object p weak d)) = Live (stored_of p weak d ws)
-tile_by sizes ws (Some (Filler n)) = Gap n
-tile_by sizes ws (Some (Forwarded to)) = Moved to (sizes to)
-||||||| 3906014
-tile_by sizes ws None = Gap 1
-tile_by sizes ws (Some (Object p d)) = Live (stored_of p d ws)
-tile_by sizes ws (Some (Filler n)) = Gap n
-tile_by sizes ws (Some (Forwarded to)) = Moved to (sizes to)
-=======
 tile_by sizes ws None = Filler 1
-tile_by sizes ws (Some (headers.Object p d)) = Object (stored_of p d ws)
+tile_by sizes ws (Some (headers.Object p weak d)) = Object (stored_of p weak d ws)
 tile_by sizes ws (Some (headers.Filler n)) = Filler n
 tile_by sizes ws (Some (headers.Forwarded to)) = Forwarded to (sizes to)
->>>>>>> main
 
 -- how many words the tile of a header has
 abbrev pub size_by : (ℕ → ℕ) → Option Header → ℕ
 size_by sizes None = 1
-<<<<<<< HEAD
-size_by sizes (Some (Object p weak d)) = 2 + p + weak + d
-size_by sizes (Some (Filler n)) = n
-size_by sizes (Some (Forwarded to)) = sizes to
-||||||| 3906014
-size_by sizes (Some (Object p d)) = 2 + p + d
-size_by sizes (Some (Filler n)) = n
-size_by sizes (Some (Forwarded to)) = sizes to
-=======
-size_by sizes (Some (headers.Object p d)) = size_of p d
+size_by sizes (Some (headers.Object p weak d)) = size_of p weak d
 size_by sizes (Some (headers.Filler n)) = n
 size_by sizes (Some (headers.Forwarded to)) = sizes to
->>>>>>> main
 
 -- the tiles of words, the first k of which belong to a tile that began before them
 abbrev pub tiles : (ℕ → ℕ) → ℕ → List ℕ → List Tile

@@ -1,11 +1,5 @@
 -- A walk over a region's tiles.
-<<<<<<< HEAD
-use Rattle.std.specs.Prelude.{◌≡◌, ℕ, zero, suc, ◌+◌, ◌-◌, ◌*◌, ◌/◌, ◌<◌, ◌≤◌, ◌⊎◌, List, [], ◌∷◌, Option, Some, None, length}
-||||||| 3906014
-use Rattle.std.specs.Prelude.{◌≡◌, ℕ, zero, suc, ◌+◌, ◌-◌, ◌*◌, ◌<◌, ◌≤◌, ◌⊎◌, List, [], ◌∷◌, Some, length}
-=======
-use Rattle.std.specs.Prelude.{◌≡◌, ℕ, zero, suc, ◌+◌, ◌-◌, ◌*◌, ◌/◌, ◌<◌, ◌≤◌, ◌⊎◌, List, [], ◌∷◌, Some, IsSome, length}
->>>>>>> main
+use Rattle.std.specs.Prelude.{◌≡◌, ℕ, zero, suc, ◌+◌, ◌-◌, ◌*◌, ◌/◌, ◌<◌, ◌≤◌, ◌⊎◌, List, [], ◌∷◌, Option, Some, None, IsSome, length}
 use Rattle.regions.specs.declared.row.Shape.{Shape}
 use Rattle.regions.specs.Shapes.{tile_shape}
 use Rattle.regions.specs.Tiles.{Tile, Object, tile_size, total_size, tile_at}
@@ -104,7 +98,6 @@ pub record IsRunStart (t : Table) (region first : ℕ) : Type 0 where
   pub below : first ≤ region
   pub rest : (k : ℕ) → first < k → k ≤ region → kind_of t k ≡ kinds.Rest
   pub start : kind_of t first ≡ kinds.Rest → first ≡ 0
-<<<<<<< HEAD
 
 -- a tile starts at an address of region k
 pub record StartsIn (t : Table) (k a : ℕ) : Type 0 where
@@ -117,13 +110,6 @@ abbrev pub IsLowest : Table → ℕ → Option ℕ → Type 0
 IsLowest t k None = (b : ℕ) → StartsIn t k b → ⊥
 IsLowest t k (Some a) = StartsIn t k a × ((b : ℕ) → StartsIn t k b → a ≤ b)
 
--- the next one above an address
-abbrev pub IsNextAfter : Table → ℕ → ℕ → Option ℕ → Type 0
-IsNextAfter t k a None = (b : ℕ) → StartsIn t k b → b ≤ a
-IsNextAfter t k a (Some n) = StartsIn t k n × (a < n) × ((b : ℕ) → StartsIn t k b → a < b → n ≤ b)
-||||||| 3906014
-=======
-
 -- the tile behind the one at an address
 pub record IsNext (t : Table) (at next : ℕ) : Type 0 where
   pub tile : IsSome (tile_in t next)
@@ -134,4 +120,3 @@ pub record IsNext (t : Table) (at next : ℕ) : Type 0 where
 -- none of the region's tiles stands behind the one at an address
 abbrev pub IsLast : Table → ℕ → Type 0
 IsLast t at = (b : ℕ) (u : Tile) → at < b → b / t.words_per_region ≡ at / t.words_per_region → tile_in t b ≡ Some u → ⊥
->>>>>>> main

@@ -1,18 +1,8 @@
 //! Reads and writes of objects: each is one access to a word or two, and no walk.
 ghost use Rattle.std.specs.Prelude.{◌≡◌, ◌<◌, length, slice_get, Some, IsSome, IfSome};
-<<<<<<< HEAD
 ghost use Rattle.heap_words.specs.Contents.{header_at, pointer_count_at, field_count_at};
 ghost use Rattle.regions.specs.Table.{object_at, object_words, pointers_at, weaks_at, fields_at, values_at, set_pointer, set_weak, set_field, set_value, tile_in, moved_to};
 ghost use Rattle.regions.specs.Rows.{header_target, weak_count, value_count};
-||||||| 3906014
-ghost use Rattle.heap_words.specs.Contents.{header_at, pointer_count_at};
-ghost use Rattle.regions.specs.Table.{object_at, object_words, pointers_at, values_at, set_pointer, set_value, tile_in, moved_to};
-ghost use Rattle.regions.specs.Rows.{header_target, value_count};
-=======
-ghost use Rattle.heap_words.specs.Contents.{header_at, pointer_count_at};
-ghost use Rattle.regions.specs.Table.{object_at, object_words, pointers_at, fields_at, values_at, set_pointer, set_field, set_value, tile_in, moved_to};
-ghost use Rattle.regions.specs.Rows.{header_target, value_count};
->>>>>>> main
 
 use crate::table::{RegionTable, size_at};
 use heap_words::addr::{Addr, Ptr};
@@ -94,7 +84,6 @@ impl RegionTable {
         pointers_in(&self.words, object)
     }
 
-<<<<<<< HEAD
     /// How many weak slots the object at an address has.
     pub fn weak_count(&self, object: Addr) -> u32
         requires { IsSome (object_at self.now object) }
@@ -111,17 +100,6 @@ impl RegionTable {
         fields_in(&self.words, object)
     }
 
-||||||| 3906014
-=======
-    /// How many fields the object at an address has, fields being what holds addresses.
-    pub fn field_count(&self, object: Addr) -> u32
-        requires { IsSome (object_at self.now object) }
-        ensures { result ≡ length (fields_at self.now object) }
-    {
-        self.pointer_count(object)
-    }
-
->>>>>>> main
     /// How many data words the object at an address has.
     pub fn value_count(&self, object: Addr) -> u32
         requires { IsSome (object_at self.now object) }
@@ -163,7 +141,7 @@ impl RegionTable {
         self.words.get_field(object, place)
     }
 
-    /// Stores a pointer in a weak slot of the object at an address.
+    /// Stores an address, or nil, in a weak slot of the object at an address.
     pub fn set_weak(&mut self, object: Addr, slot: u32, target: Ptr)
         requires { slot < length (weaks_at self.old object) }
         ensures { self.new ≡ set_weak self.old object slot target }
@@ -172,7 +150,7 @@ impl RegionTable {
         self.words.set_field(object, place, target);
     }
 
-    /// A field of the object at an address.
+    /// A field of the object at an address, by its place among the fields in address order.
     pub fn get_field(&self, object: Addr, field: u32) -> Ptr
         requires { field < length (fields_at self.now object) }
         ensures { slice_get (fields_at self.now object) field ≡ Some result }
@@ -180,28 +158,12 @@ impl RegionTable {
         self.words.get_field(object, field)
     }
 
-    /// Stores a pointer in a field of the object at an address.
-    pub fn set_field(&mut self, object: Addr, field: u32, target: Ptr)
-        requires { field < length (fields_at self.old object) }
-        ensures { self.new ≡ set_field self.old object field target }
-    {
-        self.words.set_field(object, field, target);
-    }
-
-    /// A field of the object at an address, by its place among the fields in address order.
-    pub fn get_field(&self, object: Addr, field: u32) -> Ptr
-        requires { field < length (fields_at self.now object) }
-        ensures { slice_get (fields_at self.now object) field ≡ Some result }
-    {
-        self.get_ptr(object, field)
-    }
-
     /// Stores an address, or nil, in a field of the object at an address.
     pub fn set_field(&mut self, object: Addr, field: u32, target: Ptr)
         requires { field < length (fields_at self.old object) }
         ensures { self.new ≡ set_field self.old object field target }
     {
-        self.set_ptr(object, field, target);
+        self.words.set_field(object, field, target);
     }
 
     /// A data word of the object at an address.

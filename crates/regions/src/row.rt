@@ -41,16 +41,10 @@ pub enum Shape {
         size: u32,
     },
     /// An object that went to an address.
-<<<<<<< HEAD
-    Moved {
+    Forwarded {
         to: Addr,
         size: u32,
     },
-||||||| 3906014
-    Moved { to: Addr, size: u32 },
-=======
-    Forwarded { to: Addr, size: u32 },
->>>>>>> main
 }
 
 impl Shape {

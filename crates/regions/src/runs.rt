@@ -70,19 +70,9 @@ impl RegionTable {
     pub fn make_run(&mut self, first: RegionNo, count: u32, name: u64, counts: Counts)
         requires positive { 0 < count }
         requires lowest { first_run region_is_free count self.old.regions ≡ Some first }
-<<<<<<< HEAD
-        requires covers { 2 + counts.pointers + counts.weaks + counts.values ≤ count * self.old.words_per_region }
-        requires tight { count * self.old.words_per_region < 2 + counts.pointers + counts.weaks + counts.values + self.old.words_per_region }
+        requires covers { size_of counts.pointers counts.weaks counts.values ≤ count * self.old.words_per_region }
+        requires tight { count * self.old.words_per_region < size_of counts.pointers counts.weaks counts.values + self.old.words_per_region }
         ensures { self.new ≡ with_regions self.old first count (run_regions self.old.words_per_region (new_object name counts.pointers counts.weaks counts.values) count) }
-||||||| 3906014
-        requires covers { 2 + counts.pointers + counts.values ≤ count * self.old.words_per_region }
-        requires tight { count * self.old.words_per_region < 2 + counts.pointers + counts.values + self.old.words_per_region }
-        ensures { self.new ≡ with_regions self.old first count (run_regions self.old.words_per_region (new_object name counts.pointers counts.values) count) }
-=======
-        requires covers { size_of counts.pointers counts.values ≤ count * self.old.words_per_region }
-        requires tight { count * self.old.words_per_region < size_of counts.pointers counts.values + self.old.words_per_region }
-        ensures { self.new ≡ with_regions self.old first count (run_regions self.old.words_per_region (new_object name counts.pointers counts.values) count) }
->>>>>>> main
     {
         let size = 2 + counts.pointers.get() + u32::from(counts.weaks) + counts.values.get();
         let bottom = first.number() * self.words_per_region;
@@ -96,16 +86,8 @@ impl RegionTable {
     /// none where there is no such run, and then nothing changed.
     pub fn take_run(&mut self, count: u32, name: u64, counts: Counts) -> Option<RegionNo>
         requires positive { 0 < count }
-<<<<<<< HEAD
-        requires covers { 2 + counts.pointers + counts.weaks + counts.values ≤ count * self.old.words_per_region }
-        requires tight { count * self.old.words_per_region < 2 + counts.pointers + counts.weaks + counts.values + self.old.words_per_region }
-||||||| 3906014
-        requires covers { 2 + counts.pointers + counts.values ≤ count * self.old.words_per_region }
-        requires tight { count * self.old.words_per_region < 2 + counts.pointers + counts.values + self.old.words_per_region }
-=======
-        requires covers { size_of counts.pointers counts.values ≤ count * self.old.words_per_region }
-        requires tight { count * self.old.words_per_region < size_of counts.pointers counts.values + self.old.words_per_region }
->>>>>>> main
+        requires covers { size_of counts.pointers counts.weaks counts.values ≤ count * self.old.words_per_region }
+        requires tight { count * self.old.words_per_region < size_of counts.pointers counts.weaks counts.values + self.old.words_per_region }
         ensures lowest { result ≡ first_run region_is_free count self.old.regions }
         ensures taken { self.new ≡ with_run self.old count (new_object name counts.pointers counts.weaks counts.values) (first_run region_is_free count self.old.regions) }
     {

@@ -134,19 +134,9 @@ impl RegionTable {
     /// Makes an object at the start of a filler of `filler` words: its pointers and weak slots are nil and its data words 0.
     /// The rest is a filler again or nothing.
     pub fn make_object(&mut self, at: Addr, filler: FillerSize, name: u64, counts: Counts)
-<<<<<<< HEAD
-        requires there { tile_in self.old at ≡ Some (Gap filler) }
-        requires room { 2 + counts.pointers + counts.weaks + counts.values ≤ filler }
-        ensures { self.new ≡ replace_tile self.old at (Live (new_object name counts.pointers counts.weaks counts.values) ∷ gap (filler - (2 + counts.pointers + counts.weaks + counts.values))) }
-||||||| 3906014
-        requires there { tile_in self.old at ≡ Some (Gap filler) }
-        requires room { 2 + counts.pointers + counts.values ≤ filler }
-        ensures { self.new ≡ replace_tile self.old at (Live (new_object name counts.pointers counts.values) ∷ gap (filler - (2 + counts.pointers + counts.values))) }
-=======
         requires there { tile_in self.old at ≡ Some (Filler filler) }
-        requires room { size_of counts.pointers counts.values ≤ filler }
-        ensures { self.new ≡ replace_tile self.old at (Object (new_object name counts.pointers counts.values) ∷ remainder (filler - size_of counts.pointers counts.values)) }
->>>>>>> main
+        requires room { size_of counts.pointers counts.weaks counts.values ≤ filler }
+        ensures { self.new ≡ replace_tile self.old at (Object (new_object name counts.pointers counts.weaks counts.values) ∷ remainder (filler - size_of counts.pointers counts.weaks counts.values)) }
     {
         let size = 2 + counts.pointers.get() + u32::from(counts.weaks) + counts.values.get();
         self.words.write_object(at, name, counts);

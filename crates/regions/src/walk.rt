@@ -4,13 +4,7 @@ ghost use Rattle.std.specs.Iterator.{YieldsFirst, item_count};
 ghost use Rattle.regions.specs.Tiles.{total_size};
 ghost use Rattle.regions.specs.Table.{kind_of, tile_in, top_of};
 ghost use Rattle.regions.specs.declared.row.Kind.TheVariants as kinds;
-<<<<<<< HEAD
-ghost use Rattle.regions.specs.Walks.{tiles_of, placed, walk_rest, IsCut, IsWalk, IsTileBehind, IsHolder, IsRunStart, IsLowest, IsNextAfter};
-||||||| 3906014
-ghost use Rattle.regions.specs.Walks.{tiles_of, placed, walk_rest, IsCut, IsWalk, IsTileBehind, IsHolder, IsRunStart};
-=======
-ghost use Rattle.regions.specs.Walks.{tiles_of, placed, walk_rest, IsCut, IsWalk, IsTileBehind, IsHolder, IsRunStart, IsNext, IsLast};
->>>>>>> main
+ghost use Rattle.regions.specs.Walks.{tiles_of, placed, walk_rest, IsCut, IsWalk, IsTileBehind, IsHolder, IsRunStart, IsLowest, IsNext, IsLast};
 
 use crate::row::{Kind, Shape};
 use crate::table::{RegionTable, shape_at, size_at};
@@ -87,7 +81,6 @@ impl RegionTable {
         }
     }
 
-<<<<<<< HEAD
     /// The lowest address of a region at which a tile starts. With `next_tile` it goes over a region whose objects change
     /// meanwhile.
     pub fn lowest_tile(&self, region: RegionNo) -> Option<Addr>
@@ -102,26 +95,6 @@ impl RegionTable {
         Some(Addr::new(bottom))
     }
 
-    /// The next address of the region at which a tile starts, behind the tile at an address.
-    pub fn next_tile(&self, at: Addr) -> Option<Addr>
-        requires { IsSome (tile_in self.now at) }
-        ensures { IsNextAfter self.now (at / self.now.words_per_region) at result }
-    {
-        self.law();
-        let words = self.words_per_region();
-        let region = RegionNo::new(at.word() / words);
-        let bottom = at.word() / words * words;
-        let end = bottom + self.tile_words(region);
-        let next = at.word() + self.tile(at).size();
-        if next < end {
-            Some(Addr::new(next))
-        } else {
-            None
-        }
-    }
-
-||||||| 3906014
-=======
     /// Where the tile behind the one at an address starts, none where that is its region's last, as the one object of a
     /// run is. With it a region is gone through while its tiles change and more come.
     pub fn next_tile(&self, at: Addr) -> Option<Addr>
@@ -144,7 +117,6 @@ impl RegionTable {
         }
     }
 
->>>>>>> main
     /// Where the tile that holds a word starts: in a run its object. None where the word is at or above its
     /// region's top. It looks at the tiles from the one on that holds the first word of the word's card.
     pub fn first_tile(&self, word: Addr) -> Option<Addr>

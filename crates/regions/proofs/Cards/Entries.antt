@@ -6,7 +6,7 @@ use Rattle.std.proofs.lemmas.List.{length-replicate}
 use Rattle.heap_words.specs.Bits.{is_between}
 use Rattle.heap_model.specs.Heap.{Stored}
 use Rattle.regions.specs.Tiles.{Tile, Object, Filler, Forwarded, tile_size, tile_at, total_size}
-use Rattle.regions.specs.Table.{Table, Region, Free, Ordinary, First, Rest, nth_region, region_tile, tile_in, object_at, object_pointers, object_values, new_object, pointers_at, values_at, set_pointer, set_value, remainder, is_free, first_free, taken, replace_tile, push_tile, IsOrdinary, region_at, with_regions, run_regions, first_run, released, run_length, kind_of, used_of, top_of, free_table, EachForwarded, IsReleasable, object_words}
+use Rattle.regions.specs.Table.{Table, Region, Free, Ordinary, First, Rest, nth_region, region_tile, tile_in, object_at, new_object, pointers_at, weaks_at, fields_at, values_at, set_pointer, set_weak, set_field, set_value, remainder, is_free, first_free, taken, replace_tile, push_tile, IsOrdinary, region_at, with_regions, run_regions, first_run, released, run_length, kind_of, used_of, top_of, free_table, EachForwarded, IsReleasable, object_words}
 use Rattle.regions.specs.Rows.{table_of, IsSound, AreUsedBelow, sizes_in}
 use Rattle.regions.specs.FirstTiles.{Entries, AreEntries, entry_of, last_card}
 use Rattle.regions.specs.Shaped.{IsShaped}
@@ -16,7 +16,10 @@ use Rattle.regions.proofs.Tiles.Targets.{IsWrittenTable}
 use Rattle.regions.proofs.Tiles.Making.{length-regions_of}
 use Rattle.regions.proofs.Tiles.ShapedMade.{shaped_of, first_object, kind_at}
 use Rattle.regions.proofs.Tiles.Laws.{object_tile}
-use Rattle.regions.proofs.Tiles.Changes.{WritesObject, pointer_put, value_put}
+use Rattle.regions.proofs.Tiles.Changes.{WritesObject, pointer_put, weak_put, field_put, field_size, value_put}
+use Rattle.regions.proofs.Words.Access.{has_pointer, has_weak}
+use Rattle.regions.proofs.Words.FieldAccess.{has_field}
+use Rattle.regions.proofs.Words.Values.{has_value}
 use Rattle.regions.proofs.Tiles.Placing.{remainder_total, remainder_positive, remainder_unmoved, Replaces, filler_replaced, filler_push, region_taken}
 use Rattle.regions.proofs.LongRuns.RunLaws.{frees, Releases, ordinary_released, run_released, run_made}
 use Rattle.regions.proofs.Tiles.TileLaws.{Forwards, object_forwarded}
@@ -48,8 +51,8 @@ free_entries count size entries a c u h low high = absurd (let z : None ≡ Some
     none : (k : ℕ) → region_tile (get_or (replicate count Free) k Free) (a % size) ≡ None
     none k = ap (λ (r : Region). region_tile r (a % size)) (frees count k)
 
-pub new_size : (name p d : ℕ) → tile_size (Object (new_object name p d)) ≡ 2 + p + d
-new_size name p d = omega (arith, length-replicate {A = Option ℕ} p None, length-replicate {A = ℕ} d 0)
+pub new_size : (name p weak d : ℕ) → tile_size (Object (new_object name p weak d)) ≡ 2 + p + weak + d
+new_size name p weak d = omega (arith, length-replicate {A = Option ℕ} p None, length-replicate {A = Option ℕ} weak None, length-replicate {A = ℕ} d 0)
 
 -- the entries of a filler, by other names of its place and size
 pub filler_entries : (size shift lowest : ℕ) (entries : Entries) (words : List ℕ) (rows : List Row) (t : Table) (x n at m c : ℕ) → IsSound size shift lowest entries words rows → table_of size words rows ≡ t
@@ -79,37 +82,36 @@ tile_of t a s h = object_tile (tile_in t a) s h
 object_entries : (t t' : Table) (entries : Entries) (x : ℕ) (s s' : Stored) → WritesObject t t' x s s' → tile_size (Object s') ≡ tile_size (Object s) → AreEntries t entries → AreEntries t' entries
 object_entries t t' entries x s s' w size e = entries_same t t' entries x (Object s) (Object s') (tile_of t x s w.was) (tile_of t' x s' w.is) w.others size (λ n. refl) e
 
-pointer_object : (t : Table) (x i : ℕ) → i < length (pointers_at t x) → (s : Stored) × (object_at t x ≡ Some s)
-unfolding pointers_at
-pointer_object t x i h = go (object_at t x) refl h
-  where
-    go : (o : Option Stored) → object_at t x ≡ o → i < length (object_pointers o) → (s : Stored) × (object_at t x ≡ Some s)
-    go None e b = absurd (omega arith)
-    go (Some s) e b = (s, e)
-
-value_object : (t : Table) (x i : ℕ) → i < length (values_at t x) → (s : Stored) × (object_at t x ≡ Some s)
-unfolding values_at
-value_object t x i h = go (object_at t x) refl h
-  where
-    go : (o : Option Stored) → object_at t x ≡ o → i < length (object_values o) → (s : Stored) × (object_at t x ≡ Some s)
-    go None e b = absurd (omega arith)
-    go (Some s) e b = (s, e)
-
 module _ (size shift lowest : ℕ) (entries : Entries) (words : List ℕ) (rows : List Row) (t : Table) (s : IsSound size shift lowest entries words rows) (e : table_of size words rows ≡ t) where
   shaped : IsShaped t
   shaped = shaped_of size words rows t s.table e
 
+  written_sound : (words' : List ℕ) (t' : Table) (x : ℕ) (o o' : Stored) → WritesObject t t' x o o' → tile_size (Object o') ≡ tile_size (Object o) → IsWrittenTable size words' rows t' → IsSound size shift lowest entries words' rows
+  written_sound words' t' x o o' put same w = sound_changed size shift lowest lowest entries entries words words' rows rows t t' s e w put.count refl refl s.used_below (object_entries t t' entries x o o' put same)
+
   pub pointer_sound : (words' : List ℕ) (x i : ℕ) (v : Option ℕ) → i < length (pointers_at t x) → IsWrittenTable size words' rows (set_pointer t x i v) → IsSound size shift lowest entries words' rows
   pointer_sound words' x i v h w =
-      let o = pointer_object t x i h in
-      let put = pointer_put t x i v o.0 shaped.positive o.1 in
-      sound_changed size shift lowest lowest entries entries words words' rows rows t (set_pointer t x i v) s e w put.count refl refl s.used_below (object_entries t (set_pointer t x i v) entries x o.0 _ put (ap (λ n. 2 + n + length o.0.values) (length-set o.0.pointers i v)))
+      let p = has_pointer t x i h in
+      let o = p.object in
+      written_sound words' (set_pointer t x i v) x o _ (pointer_put t x i v o shaped.positive p.object_is) (ap (λ n. 2 + n + length o.weaks + length o.values) (length-set o.pointers i v)) w
+
+  pub weak_sound : (words' : List ℕ) (x i : ℕ) (v : Option ℕ) → i < length (weaks_at t x) → IsWrittenTable size words' rows (set_weak t x i v) → IsSound size shift lowest entries words' rows
+  weak_sound words' x i v h w =
+      let p = has_weak t x i h in
+      let o = p.object in
+      written_sound words' (set_weak t x i v) x o _ (weak_put t x i v o shaped.positive p.object_is) (ap (λ n. 2 + length o.pointers + n + length o.values) (length-set o.weaks i v)) w
+
+  pub field_sound : (words' : List ℕ) (x i : ℕ) (v : Option ℕ) → i < length (fields_at t x) → IsWrittenTable size words' rows (set_field t x i v) → IsSound size shift lowest entries words' rows
+  field_sound words' x i v h w =
+      let p = has_field t x i h in
+      let o = p.object in
+      written_sound words' (set_field t x i v) x o _ (field_put t x i v o shaped.positive p.object_is) (field_size o i v) w
 
   pub value_sound : (words' : List ℕ) (x i v : ℕ) → i < length (values_at t x) → IsWrittenTable size words' rows (set_value t x i v) → IsSound size shift lowest entries words' rows
   value_sound words' x i v h w =
-      let o = value_object t x i h in
-      let put = value_put t x i v o.0 shaped.positive o.1 in
-      sound_changed size shift lowest lowest entries entries words words' rows rows t (set_value t x i v) s e w put.count refl refl s.used_below (object_entries t (set_value t x i v) entries x o.0 _ put (ap (λ n. 2 + length o.0.pointers + n) (length-set o.0.values i v)))
+      let p = has_value t x i h in
+      let o = p.object in
+      written_sound words' (set_value t x i v) x o _ (value_put t x i v o shaped.positive p.object_is) (ap (λ n. 2 + length o.pointers + length o.weaks + n) (length-set o.values i v)) w
 
   pub forward_sound : (words' : List ℕ) (t' : Table) (a to n : ℕ) (x : Stored) → Forwards t t' a to n → tile_in t a ≡ Some (Object x) → tile_size (Object x) ≡ n → IsWrittenTable size words' rows t' → IsSound size shift lowest entries words' rows
   forward_sound words' t' a to n x f was long w =

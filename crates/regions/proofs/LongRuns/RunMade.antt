@@ -186,83 +186,33 @@ with_rows items new len e f =
     let none : drop (length new) items ≡ [] = drop_all (length new) items (omega arith) in
     rw (none, append-nil) (take_all len new (omega arith))
 
-<<<<<<< HEAD:crates/regions/proofs/RunMade.antt
-pub run_taken : (size : ℕ) (words : List ℕ) (rows : List Row) (t : Table) (k m name p weak d n long number : ℕ) (new : List ℕ) (rows' : List Row) → IsTable size words rows → table_of size words rows ≡ t → first_run free m rows ≡ Some k → 0 < m → 2 + p + weak + d ≤ m * t.words_per_region → m * t.words_per_region < 2 + p + weak + d + t.words_per_region → p < 2 ^ 24 → weak < 2 ^ 8 → d < 2 ^ 24 → n ≡ k * size → long ≡ 2 + p + weak + d → number ≡ length rows → new ≡ put words n (header_word (Object p weak d) ∷ name ∷ replicate (p + weak + d) 0) → rows' ≡ paste rows k (run_rows size long 0 m) m → IsWrittenTable size new (take number (rows' ++ drop (length rows') rows)) (with_regions t k m (run_regions t.words_per_region (new_object name p weak d) m))
+pub run_taken : (size : ℕ) (words : List ℕ) (rows : List Row) (t : Table) (k m name p weak d n long number : ℕ) (new : List ℕ) (rows' : List Row) → IsTable size words rows → table_of size words rows ≡ t → first_run free m rows ≡ Some k → 0 < m → 2 + p + weak + d ≤ m * t.words_per_region → m * t.words_per_region < 2 + p + weak + d + t.words_per_region → p < 2 ^ 24 → weak < 2 ^ 8 → d < 2 ^ 24 → n ≡ k * size → long ≡ 2 + p + weak + d → number ≡ length rows → new ≡ put words n (header_word (headers.Object p weak d) ∷ name ∷ replicate (p + weak + d) 0) → rows' ≡ paste rows k (run_rows size long 0 m) m → IsWrittenTable size new (take number (rows' ++ drop (length rows') rows)) (with_regions t k m (run_regions t.words_per_region (new_object name p weak d) m))
 run_taken size words rows t k m name p weak d n long number new rows' g e h y covers tight small_p small_w small_d n_is long_is number_is new_is rows_is =
-||||||| 3906014:crates/regions/proofs/RunMade.antt
-pub run_taken : (size : ℕ) (words : List ℕ) (rows : List Row) (t : Table) (k m name p d n long number : ℕ) (new : List ℕ) (rows' : List Row) → IsTable size words rows → table_of size words rows ≡ t → first_run free m rows ≡ Some k → 0 < m → 2 + p + d ≤ m * t.words_per_region → m * t.words_per_region < 2 + p + d + t.words_per_region → p < 2 ^ 24 → d < 2 ^ 24 → n ≡ k * size → long ≡ 2 + p + d → number ≡ length rows → new ≡ put words n (header_word (Object p d) ∷ name ∷ replicate (p + d) 0) → rows' ≡ paste rows k (run_rows size long 0 m) m → IsWrittenTable size new (take number (rows' ++ drop (length rows') rows)) (with_regions t k m (run_regions t.words_per_region (new_object name p d) m))
-run_taken size words rows t k m name p d n long number new rows' g e h y covers tight small_p small_d n_is long_is number_is new_is rows_is =
-=======
-pub run_taken : (size : ℕ) (words : List ℕ) (rows : List Row) (t : Table) (k m name p d n long number : ℕ) (new : List ℕ) (rows' : List Row) → IsTable size words rows → table_of size words rows ≡ t → first_run free m rows ≡ Some k → 0 < m → 2 + p + d ≤ m * t.words_per_region → m * t.words_per_region < 2 + p + d + t.words_per_region → p < 2 ^ 24 → d < 2 ^ 24 → n ≡ k * size → long ≡ 2 + p + d → number ≡ length rows → new ≡ put words n (header_word (headers.Object p d) ∷ name ∷ replicate (p + d) 0) → rows' ≡ paste rows k (run_rows size long 0 m) m → IsWrittenTable size new (take number (rows' ++ drop (length rows') rows)) (with_regions t k m (run_regions t.words_per_region (new_object name p d) m))
-run_taken size words rows t k m name p d n long number new rows' g e h y covers tight small_p small_d n_is long_is number_is new_is rows_is =
->>>>>>> main:crates/regions/proofs/LongRuns/RunMade.antt
     let size_is : size ≡ t.words_per_region = ap (λ (u : Table). u.words_per_region) e in
     let covers' : 2 + p + weak + d ≤ m * size = rw size_is covers in
     let tight' : m * size < 2 + p + weak + d + size = rw size_is tight in
     let found = run_here_is size words rows k m g h in
-<<<<<<< HEAD:crates/regions/proofs/RunMade.antt
-    let w : ℕ = header_word (Object p weak d) in
-    let is : header_of w ≡ Some (Object p weak d) = header_of-word (Object p weak d) (small_p, small_w, small_d) in
+    let w : ℕ = header_word (headers.Object p weak d) in
+    let is : header_of w ≡ Some (headers.Object p weak d) = header_of-word (headers.Object p weak d) (small_p, small_w, small_d) in
     let block : List ℕ = w ∷ name ∷ replicate (p + weak + d) 0 in
     let blen : length block ≡ 2 + p + weak + d = omega (arith, length-replicate {A = ℕ} (p + weak + d) 0) in
-||||||| 3906014:crates/regions/proofs/RunMade.antt
-    let w : ℕ = header_word (Object p d) in
-    let is : header_of w ≡ Some (Object p d) = header_of-word (Object p d) (small_p, small_d) in
-    let block : List ℕ = w ∷ name ∷ replicate (p + d) 0 in
-    let blen : length block ≡ 2 + p + d = omega (arith, length-replicate {A = ℕ} (p + d) 0) in
-=======
-    let w : ℕ = header_word (headers.Object p d) in
-    let is : header_of w ≡ Some (headers.Object p d) = header_of-word (headers.Object p d) (small_p, small_d) in
-    let block : List ℕ = w ∷ name ∷ replicate (p + d) 0 in
-    let blen : length block ≡ 2 + p + d = omega (arith, length-replicate {A = ℕ} (p + d) 0) in
->>>>>>> main:crates/regions/proofs/LongRuns/RunMade.antt
     let words' : List ℕ = put words (k * size) block in
     let fits : k * size + (2 + p + weak + d) ≤ length words = omega (arith, found.ends) in
     let x = put_is words (k * size) block (omega arith) in
-<<<<<<< HEAD:crates/regions/proofs/RunMade.antt
     let start = first_put words (k * size) w name p weak d fits in
-    let head : header_of (get_or (drop (k * size) words') 0 0) ≡ Some (Object p weak d) = ap (λ (ws : List ℕ). header_of (get_or ws 0 0)) start ∙ is in
+    let head : header_of (get_or (drop (k * size) words') 0 0) ≡ Some (headers.Object p weak d) = ap (λ (ws : List ℕ). header_of (get_or ws 0 0)) start ∙ is in
     let body : stored_of p weak d ((name ∷ replicate (p + weak + d) 0) ++ drop (k * size + (2 + p + weak + d)) words) ≡ new_object name p weak d = stored_of-append p weak d (name ∷ replicate (p + weak + d) 0) (drop (k * size + (2 + p + weak + d)) words) (omega (arith, length-replicate {A = ℕ} (p + weak + d) 0)) ∙ stored_of-new name p weak d in
     let stored : first_stored (drop (k * size) words') ≡ new_object name p weak d = ap first_stored start ∙ rw is body in
-||||||| 3906014:crates/regions/proofs/RunMade.antt
-    let start = first_put words (k * size) w name p d fits in
-    let head : header_of (get_or (drop (k * size) words') 0 0) ≡ Some (Object p d) = ap (λ (ws : List ℕ). header_of (get_or ws 0 0)) start ∙ is in
-    let body : stored_of p d ((name ∷ replicate (p + d) 0) ++ drop (k * size + (2 + p + d)) words) ≡ new_object name p d = stored_of-append p d (name ∷ replicate (p + d) 0) (drop (k * size + (2 + p + d)) words) (omega (arith, length-replicate {A = ℕ} (p + d) 0)) ∙ stored_of-new name p d in
-    let stored : first_stored (drop (k * size) words') ≡ new_object name p d = ap first_stored start ∙ rw is body in
-=======
-    let start = first_put words (k * size) w name p d fits in
-    let head : header_of (get_or (drop (k * size) words') 0 0) ≡ Some (headers.Object p d) = ap (λ (ws : List ℕ). header_of (get_or ws 0 0)) start ∙ is in
-    let body : stored_of p d ((name ∷ replicate (p + d) 0) ++ drop (k * size + (2 + p + d)) words) ≡ new_object name p d = stored_of-append p d (name ∷ replicate (p + d) 0) (drop (k * size + (2 + p + d)) words) (omega (arith, length-replicate {A = ℕ} (p + d) 0)) ∙ stored_of-new name p d in
-    let stored : first_stored (drop (k * size) words') ≡ new_object name p d = ap first_stored start ∙ rw is body in
->>>>>>> main:crates/regions/proofs/LongRuns/RunMade.antt
     let after : drop (k * size + m * size) words' ≡ drop (k * size + m * size) words = drop_later (k * size + length block) (k * size + m * size) words' words (omega (arith, blen)) x.after in
-<<<<<<< HEAD:crates/regions/proofs/RunMade.antt
-    let ts : tile_size (Live (new_object name p weak d)) ≡ 2 + p + weak + d = omega (arith, length-replicate {A = Option ℕ} p None, length-replicate {A = Option ℕ} weak None, length-replicate {A = ℕ} d 0) in
+    let ts : tile_size (Object (new_object name p weak d)) ≡ 2 + p + weak + d = omega (arith, length-replicate {A = Option ℕ} p None, length-replicate {A = Option ℕ} weak None, length-replicate {A = ℕ} d 0) in
     let done = run_made size words words' rows t k m (2 + p + weak + d) (new_object name p weak d) g e found.free found.in_rows y covers' tight' x.length_is x.before after (rw head tt) (ap object_size head) stored ts in
     let run : List Row = run_rows size (2 + p + weak + d) 0 m in
-||||||| 3906014:crates/regions/proofs/RunMade.antt
-    let ts : tile_size (Live (new_object name p d)) ≡ 2 + p + d = omega (arith, length-replicate {A = Option ℕ} p None, length-replicate {A = ℕ} d 0) in
-    let done = run_made size words words' rows t k m (2 + p + d) (new_object name p d) g e found.free found.in_rows y covers' tight' x.length_is x.before after (rw head tt) (ap object_size head) stored ts in
-    let run : List Row = run_rows size (2 + p + d) 0 m in
-=======
-    let ts : tile_size (Object (new_object name p d)) ≡ 2 + p + d = omega (arith, length-replicate {A = Option ℕ} p None, length-replicate {A = ℕ} d 0) in
-    let done = run_made size words words' rows t k m (2 + p + d) (new_object name p d) g e found.free found.in_rows y covers' tight' x.length_is x.before after (rw head tt) (ap object_size head) stored ts in
-    let run : List Row = run_rows size (2 + p + d) 0 m in
->>>>>>> main:crates/regions/proofs/LongRuns/RunMade.antt
     let rows_are : rows' ≡ paste rows k run m = rows_is ∙ ap (λ (j : ℕ). paste rows k (run_rows size j 0 m) m) long_is in
     let same : paste rows k run m ≡ take k rows ++ (run ++ drop (k + m) rows) = append_assoc (take k rows) (take m run) (drop (k + m) rows) ∙ ap (λ (rs : List Row). take k rows ++ (rs ++ drop (k + m) rows)) (take_all m run (omega (arith, length-run_rows size (2 + p + weak + d) 0 m))) in
     let count : length rows' ≡ length rows = ap (λ (rs : List Row). length rs) (rows_are ∙ same) ∙ (simp (length-append, length-take, length-drop, length-run_rows) (omega (arith, found.room))) in
     let whole_rows = with_rows rows rows' number number_is count in
-<<<<<<< HEAD:crates/regions/proofs/RunMade.antt
-    let words_is : new ≡ words' = new_is ∙ ap (λ (j : ℕ). put words j (header_word (Object p weak d) ∷ name ∷ replicate (p + weak + d) 0)) n_is in
+    let words_is : new ≡ words' = new_is ∙ ap (λ (j : ℕ). put words j (header_word (headers.Object p weak d) ∷ name ∷ replicate (p + weak + d) 0)) n_is in
     rw (words_is, whole_rows, rows_are, same) (subst (λ (r : ℕ). IsWrittenTable size words' (take k rows ++ (run ++ drop (k + m) rows)) (with_regions t k m (run_regions r (new_object name p weak d) m))) size_is done)
-||||||| 3906014:crates/regions/proofs/RunMade.antt
-    let words_is : new ≡ words' = new_is ∙ ap (λ (j : ℕ). put words j (header_word (Object p d) ∷ name ∷ replicate (p + d) 0)) n_is in
-    rw (words_is, whole_rows, rows_are, same) (subst (λ (r : ℕ). IsWrittenTable size words' (take k rows ++ (run ++ drop (k + m) rows)) (with_regions t k m (run_regions r (new_object name p d) m))) size_is done)
-=======
-    let words_is : new ≡ words' = new_is ∙ ap (λ (j : ℕ). put words j (header_word (headers.Object p d) ∷ name ∷ replicate (p + d) 0)) n_is in
-    rw (words_is, whole_rows, rows_are, same) (subst (λ (r : ℕ). IsWrittenTable size words' (take k rows ++ (run ++ drop (k + m) rows)) (with_regions t k m (run_regions r (new_object name p d) m))) size_is done)
->>>>>>> main:crates/regions/proofs/LongRuns/RunMade.antt
   where
     drop_later : (a b : ℕ) (xs ys : List ℕ) → a ≤ b → drop a xs ≡ drop a ys → drop b xs ≡ drop b ys
     drop_later a b xs ys h e =

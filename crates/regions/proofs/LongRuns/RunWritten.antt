@@ -16,23 +16,11 @@ use Rattle.std.proofs.lemmas.List.{length-drop, length-set, drop-drop, drop-set-
 use Rattle.std.proofs.lemmas.Nat.{row_fits}
 use Rattle.regions.proofs.LongRuns.RunWrites.{run_written}
 
-<<<<<<< HEAD:crates/regions/proofs/RunWritten.antt
-run_stored : (ws : List ℕ) (j v : ℕ) (s s' : Stored) → header_of (get_or ws 0 0) ≡ Some (Object (length s.pointers) (length s.weaks) (length s.values)) → s ≡ stored_of (length s.pointers) (length s.weaks) (length s.values) (drop 1 ws) → 2 + length s.pointers + length s.weaks + length s.values ≤ length ws → Turns s j v s' → first_stored (set ws (suc j) v) ≡ s'
-||||||| 3906014:crates/regions/proofs/RunWritten.antt
-run_stored : (ws : List ℕ) (j v : ℕ) (s s' : Stored) → header_of (get_or ws 0 0) ≡ Some (Object (length s.pointers) (length s.values)) → s ≡ stored_of (length s.pointers) (length s.values) (drop 1 ws) → 2 + length s.pointers + length s.values ≤ length ws → Turns s j v s' → first_stored (set ws (suc j) v) ≡ s'
-=======
-run_stored : (ws : List ℕ) (j v : ℕ) (s s' : Stored) → header_of (get_or ws 0 0) ≡ Some (headers.Object (length s.pointers) (length s.values)) → s ≡ stored_of (length s.pointers) (length s.values) (drop 1 ws) → 2 + length s.pointers + length s.values ≤ length ws → Turns s j v s' → first_stored (set ws (suc j) v) ≡ s'
->>>>>>> main:crates/regions/proofs/LongRuns/RunWritten.antt
+run_stored : (ws : List ℕ) (j v : ℕ) (s s' : Stored) → header_of (get_or ws 0 0) ≡ Some (headers.Object (length s.pointers) (length s.weaks) (length s.values)) → s ≡ stored_of (length s.pointers) (length s.weaks) (length s.values) (drop 1 ws) → 2 + length s.pointers + length s.weaks + length s.values ≤ length ws → Turns s j v s' → first_stored (set ws (suc j) v) ≡ s'
 run_stored [] j v s s' h e l t = absurd (omega arith)
 run_stored (w ∷ ws) j v s s' h e l t = rw h (t ws (omega arith) e)
 
-<<<<<<< HEAD:crates/regions/proofs/RunWritten.antt
-pub write_first : (size : ℕ) (words : List ℕ) (rows : List Row) (x j v : ℕ) (s s' : Stored) → IsTable size words rows → InFirst (sizes_in words) size words rows x (Live s) → j < 1 + length s.pointers + length s.weaks + length s.values → Turns s j v s' → EachMovedIn (IsKept (table_of size words rows) (put_object (table_of size words rows) x s')) (put_object (table_of size words rows) x s').regions → IsWrittenTable size (set words (x + suc j) v) rows (put_object (table_of size words rows) x s')
-||||||| 3906014:crates/regions/proofs/RunWritten.antt
-pub write_first : (size : ℕ) (words : List ℕ) (rows : List Row) (x j v : ℕ) (s s' : Stored) → IsTable size words rows → InFirst (sizes_in words) size words rows x (Live s) → j < 1 + length s.pointers + length s.values → Turns s j v s' → EachMovedIn (IsKept (table_of size words rows) (put_object (table_of size words rows) x s')) (put_object (table_of size words rows) x s').regions → IsWrittenTable size (set words (x + suc j) v) rows (put_object (table_of size words rows) x s')
-=======
-pub write_first : (size : ℕ) (words : List ℕ) (rows : List Row) (x j v : ℕ) (s s' : Stored) → IsTable size words rows → InFirst (sizes_in words) size words rows x (Object s) → j < 1 + length s.pointers + length s.values → Turns s j v s' → EachForwardedIn (IsKept (table_of size words rows) (put_object (table_of size words rows) x s')) (put_object (table_of size words rows) x s').regions → IsWrittenTable size (set words (x + suc j) v) rows (put_object (table_of size words rows) x s')
->>>>>>> main:crates/regions/proofs/LongRuns/RunWritten.antt
+pub write_first : (size : ℕ) (words : List ℕ) (rows : List Row) (x j v : ℕ) (s s' : Stored) → IsTable size words rows → InFirst (sizes_in words) size words rows x (Object s) → j < 1 + length s.pointers + length s.weaks + length s.values → Turns s j v s' → EachForwardedIn (IsKept (table_of size words rows) (put_object (table_of size words rows) x s')) (put_object (table_of size words rows) x s').regions → IsWrittenTable size (set words (x + suc j) v) rows (put_object (table_of size words rows) x s')
 unfolding put_object region_at
 write_first size words rows x j v s s' g q h turns agree =
     let f : (ℕ → ℕ) = sizes_in words in
@@ -47,16 +35,8 @@ write_first size words rows x j v s s' g q h turns agree =
     let front : take n words' ≡ take n words = take-set-le n words (x + suc j) v (omega arith) in
     let word : get_or (drop n words') 0 0 ≡ get_or (drop n words) 0 0 = ap (λ (ws : List ℕ). get_or ws 0 0) d' ∙ get_or-set_other (drop n words) (suc j) 0 v 0 (λ e. omega arith) in
     let head : get_or (drop n words) 0 0 ≡ get_or words x 0 = get_or-drop n words 0 0 ∙ ap (λ a. get_or words a 0) (let z : n + 0 ≡ x = omega arith in z) in
-<<<<<<< HEAD:crates/regions/proofs/RunWritten.antt
-    let header : header_of (get_or (drop n words) 0 0) ≡ Some (Object (length s.pointers) (length s.weaks) (length s.values)) = ap header_of head ∙ i.header_is in
+    let header : header_of (get_or (drop n words) 0 0) ≡ Some (headers.Object (length s.pointers) (length s.weaks) (length s.values)) = ap header_of head ∙ i.header_is in
     let osize : object_size (header_of (get_or (drop n words) 0 0)) ≡ 2 + length s.pointers + length s.weaks + length s.values = ap object_size header in
-||||||| 3906014:crates/regions/proofs/RunWritten.antt
-    let header : header_of (get_or (drop n words) 0 0) ≡ Some (Object (length s.pointers) (length s.values)) = ap header_of head ∙ i.header_is in
-    let osize : object_size (header_of (get_or (drop n words) 0 0)) ≡ 2 + length s.pointers + length s.values = ap object_size header in
-=======
-    let header : header_of (get_or (drop n words) 0 0) ≡ Some (headers.Object (length s.pointers) (length s.values)) = ap header_of head ∙ i.header_is in
-    let osize : object_size (header_of (get_or (drop n words) 0 0)) ≡ 2 + length s.pointers + length s.values = ap object_size header in
->>>>>>> main:crates/regions/proofs/LongRuns/RunWritten.antt
     let after : drop (object_size (header_of (get_or (drop n words) 0 0))) (drop n words') ≡ drop (object_size (header_of (get_or (drop n words) 0 0))) (drop n words) = ap (drop (object_size (header_of (get_or (drop n words) 0 0)))) d' ∙ drop-set-lt _ (drop n words) (suc j) v (omega arith) in
     let behind : drop 1 (drop n words) ≡ drop (x + 1) words = drop-drop 1 n words ∙ ap (λ a. drop a words) (let z : n + 1 ≡ x + 1 = omega arith in z) in
     let stored : s ≡ stored_of (length s.pointers) (length s.weaks) (length s.values) (drop 1 (drop n words)) = i.stored_is ∙ sym (ap (stored_of (length s.pointers) (length s.weaks) (length s.values)) behind) in

@@ -35,19 +35,9 @@ plain_not_rest kinds.Rest h e = h
 -- two words lists that begin with the same n words
 stored_by-front : (o : Option Header) (ws : List ℕ) (m : ℕ) → IsObject o → object_size o ≤ suc m → m ≤ length ws → stored_by (take m ws) o ≡ stored_by ws o
 stored_by-front None ws m i h l = absurd i
-<<<<<<< HEAD:crates/regions/proofs/RowWrites.antt
-stored_by-front (Some (Object p weak d)) ws m i h l =
+stored_by-front (Some (headers.Object p weak d)) ws m i h l =
     let fits : 1 + p + weak + d ≤ length (take m ws) = simp length-take (omega arith) in
     let e : stored_of p weak d (take m ws ++ drop m ws) ≡ stored_of p weak d (take m ws) = stored_of-append p weak d (take m ws) (drop m ws) fits in
-||||||| 3906014:crates/regions/proofs/RowWrites.antt
-stored_by-front (Some (Object p d)) ws m i h l =
-    let fits : 1 + p + d ≤ length (take m ws) = simp length-take (omega arith) in
-    let e : stored_of p d (take m ws ++ drop m ws) ≡ stored_of p d (take m ws) = stored_of-append p d (take m ws) (drop m ws) fits in
-=======
-stored_by-front (Some (headers.Object p d)) ws m i h l =
-    let fits : 1 + p + d ≤ length (take m ws) = simp length-take (omega arith) in
-    let e : stored_of p d (take m ws ++ drop m ws) ≡ stored_of p d (take m ws) = stored_of-append p d (take m ws) (drop m ws) fits in
->>>>>>> main:crates/regions/proofs/Rows/RowWrites.antt
     let whole : take m ws ++ drop m ws ≡ ws = take-append-drop m ws in
     cc
 stored_by-front (Some (headers.Filler n)) ws m i h l = absurd i

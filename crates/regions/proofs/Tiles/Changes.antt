@@ -2,38 +2,16 @@
 use Rattle.std.proofs.Common.{◌≡◌, ◌≢◌, ℕ, ◌+◌, ◌/◌, ◌%◌, ◌<◌, Option, Some, length, get_or, arith, refl, sym, ◌∙◌, ap, subst, inl, inr}
 use Rattle.std.proofs.lemmas.List.{get_or-set_same, get_or-set_other, length-set, length-append}
 use Rattle.std.proofs.lemmas.Bool.{cases_eq}
-<<<<<<< HEAD:crates/regions/proofs/Changes.antt
-use Rattle.regions.specs.Tiles.{Live, tile_size}
+use Rattle.regions.specs.Tiles.{Object, tile_size}
 use Rattle.heap_model.specs.Heap.{Stored, fields, with_field}
 use Rattle.heap_model.proofs.Fields.{field_set}
-use Rattle.regions.specs.Table.{Region, Free, Ordinary, First, Rest, Table, region_at, region_number, tile_in, tile_object, object_at, with_object, put_object, set_pointer, set_weak, set_field, set_value, kind_of, region_kind, used_of, HasNoMoved}
-use Rattle.regions.proofs.Laws.{object_tile, known_region, object_at-put_same, tile_in-put_other}
-use Rattle.regions.proofs.Fields.{with_pointer, with_weak}
-use Rattle.regions.proofs.Values.{with_value, set_value-is}
-use Rattle.regions.proofs.Access.{set_pointer-is, set_weak-is}
-use Rattle.regions.proofs.Kept.{put_object-moved}
-use Rattle.regions.proofs.Totals.{used_put}
-||||||| 3906014:crates/regions/proofs/Changes.antt
-use Rattle.regions.specs.Tiles.{Live, tile_size}
-use Rattle.heap_model.specs.Heap.{Stored}
-use Rattle.regions.specs.Table.{Region, Free, Ordinary, First, Rest, Table, region_at, region_number, tile_in, tile_object, object_at, with_object, put_object, set_pointer, set_value, kind_of, region_kind, used_of, HasNoMoved}
-use Rattle.regions.proofs.Laws.{object_tile, known_region, object_at-put_same, tile_in-put_other}
-use Rattle.regions.proofs.Fields.{with_pointer}
-use Rattle.regions.proofs.Values.{with_value, set_value-is}
-use Rattle.regions.proofs.Access.{set_pointer-is}
-use Rattle.regions.proofs.Kept.{put_object-moved}
-use Rattle.regions.proofs.Totals.{used_put}
-=======
-use Rattle.regions.specs.Tiles.{Object, tile_size}
-use Rattle.heap_model.specs.Heap.{Stored}
-use Rattle.regions.specs.Table.{Region, Free, Ordinary, First, Rest, Table, region_at, nth_region, tile_in, tile_object, object_at, with_object, put_object, set_pointer, set_value, kind_of, region_kind, used_of, HasNoForwarded}
+use Rattle.regions.specs.Table.{Region, Free, Ordinary, First, Rest, Table, region_at, nth_region, tile_in, tile_object, object_at, with_object, put_object, set_pointer, set_weak, set_field, set_value, kind_of, region_kind, used_of, HasNoForwarded}
 use Rattle.regions.proofs.Tiles.Laws.{object_tile, known_region, object_at-put_same, tile_in-put_other}
-use Rattle.regions.proofs.Words.Fields.{with_pointer}
+use Rattle.regions.proofs.Words.Fields.{with_pointer, with_weak}
 use Rattle.regions.proofs.Words.Values.{with_value, set_value-is}
-use Rattle.regions.proofs.Words.Access.{set_pointer-is}
+use Rattle.regions.proofs.Words.Access.{set_pointer-is, set_weak-is}
 use Rattle.regions.proofs.Tiles.Kept.{put_object-moved}
 use Rattle.regions.proofs.Tiles.Totals.{used_put}
->>>>>>> main:crates/regions/proofs/Tiles/Changes.antt
 
 -- one object is written, and no other tile changed
 pub record WritesObject (t t' : Table) (x : ℕ) (s s' : Stored) : Type 0 where
@@ -91,14 +69,22 @@ pub weak_put : (t : Table) (x i : ℕ) (v : Option ℕ) (s : Stored) → 0 < t.w
 weak_put t x i v s z h =
     subst (λ (u : Table). WritesObject t u x s (with_weak s i v)) (sym (set_weak-is t x i v s h)) (object_put t x s (with_weak s i v) z h (ap (λ n. 2 + length s.pointers + n + length s.values) (length-set s.weaks i v)))
 
-pub field_put : (t : Table) (x i : ℕ) (v : Option ℕ) (s : Stored) → 0 < t.words_per_region → object_at t x ≡ Some s → WritesObject t (set_field t x i v) x s (with_field s i v)
-unfolding set_field
-field_put t x i v s z h =
+-- a field that is set leaves as many weak slots
+pub field_weaks : (s : Stored) (i : ℕ) (v : Option ℕ) → length (with_field s i v).weaks ≡ length s.weaks
+field_weaks s i v =
     let f = field_set s i v in
     let long = length-set (fields s) i v in
     let was = length-append s.pointers s.weaks in
     let now = length-append (with_field s i v).pointers (with_field s i v).weaks in
-    let same : tile_size (Live (with_field s i v)) ≡ tile_size (Live s) = omega (arith, ap length f.fields_are, ap length f.values, long, was, now) in
+    omega (arith, ap length f.fields_are, f.shape, long, was, now)
+
+pub field_size : (s : Stored) (i : ℕ) (v : Option ℕ) → tile_size (Object (with_field s i v)) ≡ tile_size (Object s)
+field_size s i v = let f = field_set s i v in let w = field_weaks s i v in omega (arith, f.shape, ap length f.values, w)
+
+pub field_put : (t : Table) (x i : ℕ) (v : Option ℕ) (s : Stored) → 0 < t.words_per_region → object_at t x ≡ Some s → WritesObject t (set_field t x i v) x s (with_field s i v)
+unfolding set_field
+field_put t x i v s z h =
+    let same = field_size s i v in
     let is : set_field t x i v ≡ put_object t x (with_field s i v) = rw h refl in
     subst (λ (u : Table). WritesObject t u x s (with_field s i v)) (sym is) (object_put t x s (with_field s i v) z h same)
 

@@ -39,19 +39,9 @@ moved_in P t x to n a h = moved_region P (get_or t.regions (x / t.words_per_regi
 
 moved_shape : (f : ℕ → ℕ) (o : Option Header) (to n : ℕ) → shape_by f o ≡ shapes.Forwarded to n → n ≡ f to
 moved_shape f None to n h = cc
-<<<<<<< HEAD:crates/regions/proofs/MovedLaws.antt
-moved_shape f (Some (Object p weak d)) to n h = cc
-moved_shape f (Some (Filler m)) to n h = cc
-moved_shape f (Some (Forwarded at)) to n h = let a : at ≡ to = cc in let b : f at ≡ n = cc in sym b ∙ ap f a
-||||||| 3906014:crates/regions/proofs/MovedLaws.antt
-moved_shape f (Some (Object p d)) to n h = cc
-moved_shape f (Some (Filler m)) to n h = cc
-moved_shape f (Some (Forwarded at)) to n h = let a : at ≡ to = cc in let b : f at ≡ n = cc in sym b ∙ ap f a
-=======
-moved_shape f (Some (headers.Object p d)) to n h = cc
+moved_shape f (Some (headers.Object p weak d)) to n h = cc
 moved_shape f (Some (headers.Filler m)) to n h = cc
 moved_shape f (Some (headers.Forwarded at)) to n h = let a : at ≡ to = cc in let b : f at ≡ n = cc in sym b ∙ ap f a
->>>>>>> main:crates/regions/proofs/Tiles/ForwardedLaws.antt
 
 pub targets_right : (size : ℕ) (words : List ℕ) (rows : List Row) (t : Table) → IsTable size words rows → table_of size words rows ≡ t → AreTargetsRight t
 targets_right size words rows t g e x to n h =
@@ -61,46 +51,18 @@ targets_right size words rows t g e x to n h =
     (o, sym i.size_is ∙ sym (moved_shape (sizes_in words) (header_of (get_or words x 0)) to n s.shape_is))
 
 target_shape : (f : ℕ → ℕ) (o : Option Header) (t : Tile) → shape_by f o ≡ tile_shape t → header_target o ≡ moved_to (Some t)
-<<<<<<< HEAD:crates/regions/proofs/MovedLaws.antt
-target_shape f None (Live s) h = refl
-target_shape f None (Gap n) h = refl
-target_shape f None (Moved to n) h = cc
-target_shape f (Some (Object p weak d)) (Live s) h = refl
-target_shape f (Some (Object p weak d)) (Gap n) h = refl
-target_shape f (Some (Object p weak d)) (Moved to n) h = cc
-target_shape f (Some (Filler m)) (Live s) h = refl
-target_shape f (Some (Filler m)) (Gap n) h = refl
-target_shape f (Some (Filler m)) (Moved to n) h = cc
-target_shape f (Some (Forwarded at)) (Live s) h = cc
-target_shape f (Some (Forwarded at)) (Gap n) h = cc
-target_shape f (Some (Forwarded at)) (Moved to n) h = cc
-||||||| 3906014:crates/regions/proofs/MovedLaws.antt
-target_shape f None (Live s) h = refl
-target_shape f None (Gap n) h = refl
-target_shape f None (Moved to n) h = cc
-target_shape f (Some (Object p d)) (Live s) h = refl
-target_shape f (Some (Object p d)) (Gap n) h = refl
-target_shape f (Some (Object p d)) (Moved to n) h = cc
-target_shape f (Some (Filler m)) (Live s) h = refl
-target_shape f (Some (Filler m)) (Gap n) h = refl
-target_shape f (Some (Filler m)) (Moved to n) h = cc
-target_shape f (Some (Forwarded at)) (Live s) h = cc
-target_shape f (Some (Forwarded at)) (Gap n) h = cc
-target_shape f (Some (Forwarded at)) (Moved to n) h = cc
-=======
 target_shape f None (Object s) h = refl
 target_shape f None (Filler n) h = refl
 target_shape f None (Forwarded to n) h = cc
-target_shape f (Some (headers.Object p d)) (Object s) h = refl
-target_shape f (Some (headers.Object p d)) (Filler n) h = refl
-target_shape f (Some (headers.Object p d)) (Forwarded to n) h = cc
+target_shape f (Some (headers.Object p weak d)) (Object s) h = refl
+target_shape f (Some (headers.Object p weak d)) (Filler n) h = refl
+target_shape f (Some (headers.Object p weak d)) (Forwarded to n) h = cc
 target_shape f (Some (headers.Filler m)) (Object s) h = refl
 target_shape f (Some (headers.Filler m)) (Filler n) h = refl
 target_shape f (Some (headers.Filler m)) (Forwarded to n) h = cc
 target_shape f (Some (headers.Forwarded at)) (Object s) h = cc
 target_shape f (Some (headers.Forwarded at)) (Filler n) h = cc
 target_shape f (Some (headers.Forwarded at)) (Forwarded to n) h = cc
->>>>>>> main:crates/regions/proofs/Tiles/ForwardedLaws.antt
 
 pub target_is : (size : ℕ) (words : List ℕ) (rows : List Row) (t : Table) (x : ℕ) → IsTable size words rows → table_of size words rows ≡ t → IsSome (tile_in t x) → (x < length words) × (header_target (header_of (get_or words x 0)) ≡ moved_to (tile_in t x))
 target_is size words rows t x g e h =

@@ -1,6 +1,6 @@
 -- Regions as a whole: made, taken, released, asked for.
 use Rattle.heap_words.specs.Configs.{max_words, max_region_words}
-use Rattle.std.proofs.Common.{◌≡◌, ℕ, zero, suc, ◌+◌, ◌-◌, ◌*◌, ◌^◌, ◌<◌, ◌≤◌, Some, None, List, [], ◌∷◌, length, take, drop, get_or, set, refl, sym, ◌∙◌, ap, subst, arith, true, replicate, position}
+use Rattle.std.proofs.Common.{◌≡◌, ℕ, zero, suc, ◌+◌, ◌-◌, ◌*◌, ◌<◌, ◌≤◌, Some, None, List, [], ◌∷◌, length, take, drop, get_or, set, refl, sym, ◌∙◌, ap, subst, arith, true, replicate, position}
 use Rattle.regions.specs.Table.{Region, Free, Ordinary, First, Rest, Table, with_region, is_free, first_free, taken, region_used, nth_region, used_of, region_kind, kind_of, free_table, HasNoForwarded, EachForwarded, EachForwardedIn, HasTargets}
 use Rattle.std.proofs.lemmas.List.{length-take, length-drop, length-replicate}
 use Rattle.heap_words.specs.Headers.{header_of}

@@ -92,60 +92,22 @@ pub record IsFilled (sizes : ℕ → ℕ) (words words' : List ℕ) (x m : ℕ) 
   pub is_block : IsBlock sizes block m new
   pub words_are : words' ≡ put words x block
 
-<<<<<<< HEAD:crates/regions/proofs/Replaced.antt
-pub filled : (sizes : ℕ → ℕ) (words : List ℕ) (x w name p weak d rest : ℕ) → header_of w ≡ Some (Object p weak d) → x + (2 + p + weak + d) + rest ≤ length words → rest < 2 ^ 24 → IsFilled sizes words (put_gap (put words x (w ∷ name ∷ replicate (p + weak + d) 0)) (x + (2 + p + weak + d)) rest) x (2 + p + weak + d + rest) (Live (new_object name p weak d) ∷ gap rest)
+pub filled : (sizes : ℕ → ℕ) (words : List ℕ) (x w name p weak d rest : ℕ) → header_of w ≡ Some (headers.Object p weak d) → x + (2 + p + weak + d) + rest ≤ length words → rest < 2 ^ 24 → IsFilled sizes words (put_remainder (put words x (w ∷ name ∷ replicate (p + weak + d) 0)) (x + (2 + p + weak + d)) rest) x (2 + p + weak + d + rest) (Object (new_object name p weak d) ∷ remainder rest)
 filled sizes words x w name p weak d zero e l small =
     let len : length (w ∷ name ∷ replicate (p + weak + d) 0) ≡ 2 + p + weak + d + 0 = omega (arith, length-replicate {A = ℕ} (p + weak + d) 0) in
     let one = one_object sizes w p weak d (name ∷ replicate (p + weak + d) 0) e (omega arith) in
-||||||| 3906014:crates/regions/proofs/Replaced.antt
-pub filled : (sizes : ℕ → ℕ) (words : List ℕ) (x w name p d rest : ℕ) → header_of w ≡ Some (Object p d) → x + (2 + p + d) + rest ≤ length words → rest < 2 ^ 24 → IsFilled sizes words (put_gap (put words x (w ∷ name ∷ replicate (p + d) 0)) (x + (2 + p + d)) rest) x (2 + p + d + rest) (Live (new_object name p d) ∷ gap rest)
-filled sizes words x w name p d zero e l small =
-    let len : length (w ∷ name ∷ replicate (p + d) 0) ≡ 2 + p + d + 0 = omega (arith, length-replicate {A = ℕ} (p + d) 0) in
-    let one = one_object sizes w p d (name ∷ replicate (p + d) 0) e (omega arith) in
-=======
-pub filled : (sizes : ℕ → ℕ) (words : List ℕ) (x w name p d rest : ℕ) → header_of w ≡ Some (headers.Object p d) → x + (2 + p + d) + rest ≤ length words → rest < 2 ^ 24 → IsFilled sizes words (put_remainder (put words x (w ∷ name ∷ replicate (p + d) 0)) (x + (2 + p + d)) rest) x (2 + p + d + rest) (Object (new_object name p d) ∷ remainder rest)
-filled sizes words x w name p d zero e l small =
-    let len : length (w ∷ name ∷ replicate (p + d) 0) ≡ 2 + p + d + 0 = omega (arith, length-replicate {A = ℕ} (p + d) 0) in
-    let one = one_object sizes w p d (name ∷ replicate (p + d) 0) e (omega arith) in
->>>>>>> main:crates/regions/proofs/Tiles/Replaced.antt
     record {
-<<<<<<< HEAD:crates/regions/proofs/Replaced.antt
       block = w ∷ name ∷ replicate (p + weak + d) 0;
-      is_block = record { length_is = len; tiled = one.tiled; tiles_are = one.tiles_are ∙ ap (λ s. Live s ∷ []) (stored_of-new name p weak d) };
-||||||| 3906014:crates/regions/proofs/Replaced.antt
-      block = w ∷ name ∷ replicate (p + d) 0;
-      is_block = record { length_is = len; tiled = one.tiled; tiles_are = one.tiles_are ∙ ap (λ s. Live s ∷ []) (stored_of-new name p d) };
-=======
-      block = w ∷ name ∷ replicate (p + d) 0;
-      is_block = record { length_is = len; tiled = one.tiled; tiles_are = one.tiles_are ∙ ap (λ s. Object s ∷ []) (stored_of-new name p d) };
->>>>>>> main:crates/regions/proofs/Tiles/Replaced.antt
+      is_block = record { length_is = len; tiled = one.tiled; tiles_are = one.tiles_are ∙ ap (λ s. Object s ∷ []) (stored_of-new name p weak d) };
       words_are = refl;
     }
-<<<<<<< HEAD:crates/regions/proofs/Replaced.antt
 filled sizes words x w name p weak d (suc r) e l small =
     let object : List ℕ = w ∷ name ∷ replicate (p + weak + d) 0 in
-    let header : ℕ = header_word (Filler (suc r)) in
+    let header : ℕ = header_word (headers.Filler (suc r)) in
     let len : length object ≡ 2 + p + weak + d = omega (arith, length-replicate {A = ℕ} (p + weak + d) 0) in
     let one = one_object sizes w p weak d (name ∷ replicate (p + weak + d) 0) e (omega arith) in
     let more = put_more words x (2 + p + weak + d) header object len (omega arith) in
     let len' : length (object ++ header ∷ []) ≡ 2 + p + weak + d + 1 = rw length-append (omega arith) in
-||||||| 3906014:crates/regions/proofs/Replaced.antt
-filled sizes words x w name p d (suc r) e l small =
-    let object : List ℕ = w ∷ name ∷ replicate (p + d) 0 in
-    let header : ℕ = header_word (Filler (suc r)) in
-    let len : length object ≡ 2 + p + d = omega (arith, length-replicate {A = ℕ} (p + d) 0) in
-    let one = one_object sizes w p d (name ∷ replicate (p + d) 0) e (omega arith) in
-    let more = put_more words x (2 + p + d) header object len (omega arith) in
-    let len' : length (object ++ header ∷ []) ≡ 2 + p + d + 1 = rw length-append (omega arith) in
-=======
-filled sizes words x w name p d (suc r) e l small =
-    let object : List ℕ = w ∷ name ∷ replicate (p + d) 0 in
-    let header : ℕ = header_word (headers.Filler (suc r)) in
-    let len : length object ≡ 2 + p + d = omega (arith, length-replicate {A = ℕ} (p + d) 0) in
-    let one = one_object sizes w p d (name ∷ replicate (p + d) 0) e (omega arith) in
-    let more = put_more words x (2 + p + d) header object len (omega arith) in
-    let len' : length (object ++ header ∷ []) ≡ 2 + p + d + 1 = rw length-append (omega arith) in
->>>>>>> main:crates/regions/proofs/Tiles/Replaced.antt
     let stale : List ℕ = take r (drop (x + length (object ++ header ∷ [])) words) in
     let len'' : length stale ≡ r = simp (length-take, length-drop) (omega arith) in
     let extend = put_extend words x r (object ++ header ∷ []) (omega arith) in
@@ -156,13 +118,7 @@ filled sizes words x w name p d (suc r) e l small =
       is_block = record {
         length_is = length-append object (header ∷ stale) ∙ omega arith;
         tiled = IsTiled-append sizes 0 object (header ∷ stale) one.tiled two.tiled;
-<<<<<<< HEAD:crates/regions/proofs/Replaced.antt
-        tiles_are = tiles-append sizes 0 object (header ∷ stale) one.tiled ∙ ap (λ (ts : List Tile). ts ++ tiles sizes 0 (header ∷ stale)) (one.tiles_are ∙ ap (λ s. Live s ∷ []) (stored_of-new name p weak d)) ∙ ap (λ (ts : List Tile). Live (new_object name p weak d) ∷ ts) two.tiles_are;
-||||||| 3906014:crates/regions/proofs/Replaced.antt
-        tiles_are = tiles-append sizes 0 object (header ∷ stale) one.tiled ∙ ap (λ (ts : List Tile). ts ++ tiles sizes 0 (header ∷ stale)) (one.tiles_are ∙ ap (λ s. Live s ∷ []) (stored_of-new name p d)) ∙ ap (λ (ts : List Tile). Live (new_object name p d) ∷ ts) two.tiles_are;
-=======
-        tiles_are = tiles-append sizes 0 object (header ∷ stale) one.tiled ∙ ap (λ (ts : List Tile). ts ++ tiles sizes 0 (header ∷ stale)) (one.tiles_are ∙ ap (λ s. Object s ∷ []) (stored_of-new name p d)) ∙ ap (λ (ts : List Tile). Object (new_object name p d) ∷ ts) two.tiles_are;
->>>>>>> main:crates/regions/proofs/Tiles/Replaced.antt
+        tiles_are = tiles-append sizes 0 object (header ∷ stale) one.tiled ∙ ap (λ (ts : List Tile). ts ++ tiles sizes 0 (header ∷ stale)) (one.tiles_are ∙ ap (λ s. Object s ∷ []) (stored_of-new name p weak d)) ∙ ap (λ (ts : List Tile). Object (new_object name p weak d) ∷ ts) two.tiles_are;
       };
       words_are = more ∙ extend ∙ ap (put words x) whole;
     }
@@ -203,48 +159,18 @@ pub tile_short : (size : ℕ) (words : List ℕ) (rows : List Row) (x : ℕ) (ti
 tile_short size words rows x tile g q = (tile_room size words rows x tile g q).1
 
 -- an object is made in a filler: the words as the steps leave them
-<<<<<<< HEAD:crates/regions/proofs/Replaced.antt
-pub gap_filled : (size : ℕ) (words : List ℕ) (rows : List Row) (t : Table) (x name p weak d n at rest more : ℕ) (made new : List ℕ) → IsTable size words rows → table_of size words rows ≡ t → tile_in t x ≡ Some (Gap n) → n ≡ 2 + p + weak + d + rest → p < 2 ^ 24 → weak < 2 ^ 8 → d < 2 ^ 24 → made ≡ put words x (header_word (Object p weak d) ∷ name ∷ replicate (p + weak + d) 0) → new ≡ put_gap made at more → at ≡ x + (2 + p + weak + d) → more ≡ rest → IsWrittenTable size new rows (replace_tile t x (Live (new_object name p weak d) ∷ gap rest))
-gap_filled size words rows t x name p weak d n at rest more made new g e h n_is small_p small_w small_d made_is new_is at_is more_is =
-    elim (place_of (sizes_in words) size words rows x (Gap n) (ap (λ (u : Table). tile_in u x) e ∙ h)) [
-||||||| 3906014:crates/regions/proofs/Replaced.antt
-pub gap_filled : (size : ℕ) (words : List ℕ) (rows : List Row) (t : Table) (x name p d n at rest more : ℕ) (made new : List ℕ) → IsTable size words rows → table_of size words rows ≡ t → tile_in t x ≡ Some (Gap n) → n ≡ 2 + p + d + rest → p < 2 ^ 24 → d < 2 ^ 24 → made ≡ put words x (header_word (Object p d) ∷ name ∷ replicate (p + d) 0) → new ≡ put_gap made at more → at ≡ x + (2 + p + d) → more ≡ rest → IsWrittenTable size new rows (replace_tile t x (Live (new_object name p d) ∷ gap rest))
-gap_filled size words rows t x name p d n at rest more made new g e h n_is small_p small_d made_is new_is at_is more_is =
-    elim (place_of (sizes_in words) size words rows x (Gap n) (ap (λ (u : Table). tile_in u x) e ∙ h)) [
-=======
-pub filler_filled : (size : ℕ) (words : List ℕ) (rows : List Row) (t : Table) (x name p d n at rest more : ℕ) (made new : List ℕ) → IsTable size words rows → table_of size words rows ≡ t → tile_in t x ≡ Some (Filler n) → n ≡ 2 + p + d + rest → p < 2 ^ 24 → d < 2 ^ 24 → made ≡ put words x (header_word (headers.Object p d) ∷ name ∷ replicate (p + d) 0) → new ≡ put_remainder made at more → at ≡ x + (2 + p + d) → more ≡ rest → IsWrittenTable size new rows (replace_tile t x (Object (new_object name p d) ∷ remainder rest))
-filler_filled size words rows t x name p d n at rest more made new g e h n_is small_p small_d made_is new_is at_is more_is =
+pub filler_filled : (size : ℕ) (words : List ℕ) (rows : List Row) (t : Table) (x name p weak d n at rest more : ℕ) (made new : List ℕ) → IsTable size words rows → table_of size words rows ≡ t → tile_in t x ≡ Some (Filler n) → n ≡ 2 + p + weak + d + rest → p < 2 ^ 24 → weak < 2 ^ 8 → d < 2 ^ 24 → made ≡ put words x (header_word (headers.Object p weak d) ∷ name ∷ replicate (p + weak + d) 0) → new ≡ put_remainder made at more → at ≡ x + (2 + p + weak + d) → more ≡ rest → IsWrittenTable size new rows (replace_tile t x (Object (new_object name p weak d) ∷ remainder rest))
+filler_filled size words rows t x name p weak d n at rest more made new g e h n_is small_p small_w small_d made_is new_is at_is more_is =
     elim (place_of (sizes_in words) size words rows x (Filler n) (ap (λ (u : Table). tile_in u x) e ∙ h)) [
->>>>>>> main:crates/regions/proofs/Tiles/Replaced.antt
       | inl q ↦
-<<<<<<< HEAD:crates/regions/proofs/Replaced.antt
-          let fits = tile_fits size words rows x (Gap n) g q in
-          let w : ℕ = header_word (Object p weak d) in
-          let f = filled (sizes_in words) words x w name p weak d rest (header_of-word (Object p weak d) (small_p, small_w, small_d)) (omega arith) (omega (arith, g.small)) in
-          let b : IsBlock (sizes_in words) f.block n (Live (new_object name p weak d) ∷ gap rest) = subst (λ (m : ℕ). IsBlock (sizes_in words) f.block m (Live (new_object name p weak d) ∷ gap rest)) (sym n_is) f.is_block in
-          let r = tile_replaced size words rows t x (Gap n) f.block (Live (new_object name p weak d) ∷ gap rest) g e q b h (spared_gap t x n h (targets_of size words rows t g e)) (gap_quiet _ rest) in
-          let words_is : new ≡ put words x f.block = new_is ∙ ap (λ (ws : List ℕ). put_gap ws at more) made_is ∙ ap (λ (a : ℕ). put_gap (put words x (w ∷ name ∷ replicate (p + weak + d) 0)) a more) at_is ∙ ap (λ (m : ℕ). put_gap (put words x (w ∷ name ∷ replicate (p + weak + d) 0)) (x + (2 + p + weak + d)) m) more_is ∙ f.words_are in
-          subst (λ (ws : List ℕ). IsWrittenTable size ws rows (replace_tile t x (Live (new_object name p weak d) ∷ gap rest))) (sym words_is) r.0
-      | inr q ↦ absurd (let f : Gap n ≡ Live (first_stored (drop (x / size * size) words)) = q.tile_is in cc)
-||||||| 3906014:crates/regions/proofs/Replaced.antt
-          let fits = tile_fits size words rows x (Gap n) g q in
-          let w : ℕ = header_word (Object p d) in
-          let f = filled (sizes_in words) words x w name p d rest (header_of-word (Object p d) (small_p, small_d)) (omega arith) (omega (arith, g.small)) in
-          let b : IsBlock (sizes_in words) f.block n (Live (new_object name p d) ∷ gap rest) = subst (λ (m : ℕ). IsBlock (sizes_in words) f.block m (Live (new_object name p d) ∷ gap rest)) (sym n_is) f.is_block in
-          let r = tile_replaced size words rows t x (Gap n) f.block (Live (new_object name p d) ∷ gap rest) g e q b h (spared_gap t x n h (targets_of size words rows t g e)) (gap_quiet _ rest) in
-          let words_is : new ≡ put words x f.block = new_is ∙ ap (λ (ws : List ℕ). put_gap ws at more) made_is ∙ ap (λ (a : ℕ). put_gap (put words x (w ∷ name ∷ replicate (p + d) 0)) a more) at_is ∙ ap (λ (m : ℕ). put_gap (put words x (w ∷ name ∷ replicate (p + d) 0)) (x + (2 + p + d)) m) more_is ∙ f.words_are in
-          subst (λ (ws : List ℕ). IsWrittenTable size ws rows (replace_tile t x (Live (new_object name p d) ∷ gap rest))) (sym words_is) r.0
-      | inr q ↦ absurd (let f : Gap n ≡ Live (first_stored (drop (x / size * size) words)) = q.tile_is in cc)
-=======
           let fits = tile_fits size words rows x (Filler n) g q in
-          let w : ℕ = header_word (headers.Object p d) in
-          let f = filled (sizes_in words) words x w name p d rest (header_of-word (headers.Object p d) (small_p, small_d)) (omega arith) (omega (arith, g.small)) in
-          let b : IsBlock (sizes_in words) f.block n (Object (new_object name p d) ∷ remainder rest) = subst (λ (m : ℕ). IsBlock (sizes_in words) f.block m (Object (new_object name p d) ∷ remainder rest)) (sym n_is) f.is_block in
-          let r = tile_replaced size words rows t x (Filler n) f.block (Object (new_object name p d) ∷ remainder rest) g e q b h (spared_filler t x n h (targets_of size words rows t g e)) (filler_quiet _ rest) in
-          let words_is : new ≡ put words x f.block = new_is ∙ ap (λ (ws : List ℕ). put_remainder ws at more) made_is ∙ ap (λ (a : ℕ). put_remainder (put words x (w ∷ name ∷ replicate (p + d) 0)) a more) at_is ∙ ap (λ (m : ℕ). put_remainder (put words x (w ∷ name ∷ replicate (p + d) 0)) (x + (2 + p + d)) m) more_is ∙ f.words_are in
-          subst (λ (ws : List ℕ). IsWrittenTable size ws rows (replace_tile t x (Object (new_object name p d) ∷ remainder rest))) (sym words_is) r.0
+          let w : ℕ = header_word (headers.Object p weak d) in
+          let f = filled (sizes_in words) words x w name p weak d rest (header_of-word (headers.Object p weak d) (small_p, small_w, small_d)) (omega arith) (omega (arith, g.small)) in
+          let b : IsBlock (sizes_in words) f.block n (Object (new_object name p weak d) ∷ remainder rest) = subst (λ (m : ℕ). IsBlock (sizes_in words) f.block m (Object (new_object name p weak d) ∷ remainder rest)) (sym n_is) f.is_block in
+          let r = tile_replaced size words rows t x (Filler n) f.block (Object (new_object name p weak d) ∷ remainder rest) g e q b h (spared_filler t x n h (targets_of size words rows t g e)) (filler_quiet _ rest) in
+          let words_is : new ≡ put words x f.block = new_is ∙ ap (λ (ws : List ℕ). put_remainder ws at more) made_is ∙ ap (λ (a : ℕ). put_remainder (put words x (w ∷ name ∷ replicate (p + weak + d) 0)) a more) at_is ∙ ap (λ (m : ℕ). put_remainder (put words x (w ∷ name ∷ replicate (p + weak + d) 0)) (x + (2 + p + weak + d)) m) more_is ∙ f.words_are in
+          subst (λ (ws : List ℕ). IsWrittenTable size ws rows (replace_tile t x (Object (new_object name p weak d) ∷ remainder rest))) (sym words_is) r.0
       | inr q ↦ absurd (let f : Filler n ≡ Object (first_stored (drop (x / size * size) words)) = q.tile_is in cc)
->>>>>>> main:crates/regions/proofs/Tiles/Replaced.antt
     ]
 
 pub filler_fits : (size : ℕ) (words : List ℕ) (rows : List Row) (t : Table) (x n : ℕ) → IsTable size words rows → table_of size words rows ≡ t → tile_in t x ≡ Some (Filler n) → x + n ≤ length words

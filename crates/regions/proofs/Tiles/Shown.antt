@@ -18,20 +18,10 @@ use Rattle.regions.specs.declared.row.Kind.TheVariants as kinds
 
 shape_tile : (f : ℕ → ℕ) (o : Option Header) (ws : List ℕ) → size_by f o - 1 ≤ length ws → tile_shape (tile_by f ws o) ≡ shape_by f o
 shape_tile f None ws h = refl
-<<<<<<< HEAD:crates/regions/proofs/Shown.antt
-shape_tile f (Some (Object p weak d)) ws h =
+shape_tile f (Some (headers.Object p weak d)) ws h =
     let ep : length (stored_of p weak d ws).pointers ≡ p = simp (length-map, length-take, length-drop) (omega arith) in
     let ew : length (stored_of p weak d ws).weaks ≡ weak = simp (length-map, length-take, length-drop) (omega arith) in
     let ed : length (stored_of p weak d ws).values ≡ d = simp (length-take, length-drop) (omega arith) in
-||||||| 3906014:crates/regions/proofs/Shown.antt
-shape_tile f (Some (Object p d)) ws h =
-    let ep : length (stored_of p d ws).pointers ≡ p = simp (length-map, length-take, length-drop) (omega arith) in
-    let ed : length (stored_of p d ws).values ≡ d = simp (length-take, length-drop) (omega arith) in
-=======
-shape_tile f (Some (headers.Object p d)) ws h =
-    let ep : length (stored_of p d ws).pointers ≡ p = simp (length-map, length-take, length-drop) (omega arith) in
-    let ed : length (stored_of p d ws).values ≡ d = simp (length-take, length-drop) (omega arith) in
->>>>>>> main:crates/regions/proofs/Tiles/Shown.antt
     cc
 shape_tile f (Some (headers.Filler n)) ws h = refl
 shape_tile f (Some (headers.Forwarded to)) ws h = refl

@@ -5,41 +5,19 @@ use Rattle.std.proofs.lemmas.List.{length-take, length-drop, length-map, length-
 use Rattle.heap_words.specs.Headers.{header_of, pointer_of}
 use Rattle.heap_words.specs.Contents.{pointer_count}
 use Rattle.heap_model.specs.Heap.{Stored}
-<<<<<<< HEAD:crates/regions/proofs/Access.antt
-use Rattle.regions.specs.Tiles.{Tile, Live, tile_size}
-use Rattle.regions.specs.Table.{First, Table, region_at, object_at, object_pointers, object_weaks, pointers_at, weaks_at, put_object, set_pointer, set_weak, IsOrdinary}
-||||||| 3906014:crates/regions/proofs/Access.antt
-use Rattle.regions.specs.Tiles.{Tile, Live, tile_size}
-use Rattle.regions.specs.Table.{First, Table, region_at, object_at, object_pointers, pointers_at, put_object, set_pointer, IsOrdinary}
-=======
 use Rattle.regions.specs.Tiles.{Tile, Object, tile_size}
-use Rattle.regions.specs.Table.{First, Table, region_at, object_at, object_pointers, pointers_at, put_object, set_pointer, IsOrdinary}
->>>>>>> main:crates/regions/proofs/Words/Access.antt
+use Rattle.regions.specs.Table.{First, Table, region_at, object_at, object_pointers, object_weaks, pointers_at, weaks_at, put_object, set_pointer, set_weak, IsOrdinary}
 use Rattle.regions.specs.Rows.{sizes_in, first_stored, region_of, table_of, IsTable, free_row}
 use Rattle.regions.specs.declared.row.Row.{Row}
 use Rattle.regions.proofs.Rows.RowLemmas.{regions-at}
 use Rattle.regions.proofs.Words.Places.{table_right, InFirst, object_place, IsIn, object_is_in}
 use Rattle.std.specs.List.{slice_get}
 use Rattle.std.proofs.lemmas.Option.{slice_get-get_or}
-<<<<<<< HEAD:crates/regions/proofs/Access.antt
-use Rattle.regions.proofs.Kept.{put_kept}
-use Rattle.regions.proofs.Targets.{IsWrittenTable}
-use Rattle.regions.proofs.Written.{write_ordinary}
-use Rattle.regions.proofs.RunWritten.{write_first}
-use Rattle.regions.proofs.Fields.{with_pointer, turns_pointer, with_weak, turns_weak}
-||||||| 3906014:crates/regions/proofs/Access.antt
-use Rattle.regions.proofs.Kept.{put_kept}
-use Rattle.regions.proofs.Targets.{IsWrittenTable}
-use Rattle.regions.proofs.Written.{write_ordinary}
-use Rattle.regions.proofs.RunWritten.{write_first}
-use Rattle.regions.proofs.Fields.{with_pointer, turns_pointer}
-=======
 use Rattle.regions.proofs.Tiles.Kept.{put_kept}
 use Rattle.regions.proofs.Tiles.Targets.{IsWrittenTable}
 use Rattle.regions.proofs.Words.Written.{write_ordinary}
 use Rattle.regions.proofs.LongRuns.RunWritten.{write_first}
-use Rattle.regions.proofs.Words.Fields.{with_pointer, turns_pointer}
->>>>>>> main:crates/regions/proofs/Words/Access.antt
+use Rattle.regions.proofs.Words.Fields.{with_pointer, turns_pointer, with_weak, turns_weak}
 
 pub record HasPointer (t : Table) (x i : ℕ) : Type 0 where
   pub object : Stored
@@ -171,7 +149,7 @@ weak_written size words rows t x i v g e h =
     let count : pointer_count (header_of (get_or words x 0)) ≡ length p.object.pointers = ap pointer_count is_in.header_is in
     let place : x + 2 + (pointer_count (header_of (get_or words x 0)) + i) ≡ x + suc j = omega arith in
     let is : put_object u x s' ≡ set_weak t x i (pointer_of v) = rw e (sym (set_weak-is t x i (pointer_of v) p.object p.object_is)) in
-    let same : tile_size (Live s') ≡ tile_size (Live p.object) = simp length-set in
+    let same : tile_size (Object s') ≡ tile_size (Object p.object) = simp length-set in
     let kept = put_kept u x p.object s' g.region_size.0 at same g.targets in
     elim (object_place (sizes_in words) size words rows x p.object at) [
       | inl q ↦ rw (place, ← is) (write_ordinary size words rows x j v p.object s' g q (omega (arith, p.within)) (turns_weak p.object i v p.within) kept)

@@ -1,29 +1,112 @@
--- Fields are pointers.
-use Rattle.std.proofs.Common.{◌≡◌, ℕ, ◌<◌, Option, Some, None, refl, sym, ◌∙◌, subst}
-use Rattle.heap_model.specs.Heap.{Stored, with_field}
-use Rattle.regions.specs.Table.{Table, object_at, object_pointers, object_fields, pointers_at, fields_at, set_pointer, set_pointer_of, set_field, set_field_of, put_object}
-use Rattle.regions.proofs.Words.Access.{set_pointer-is}
-use Rattle.regions.proofs.Tiles.Changes.{WritesObject, pointer_put}
+-- Fields: pointers, and weak slots behind them.
+use Rattle.std.proofs.Common.{◌≡◌, ℕ, zero, suc, ◌+◌, ◌-◌, ◌<◌, Option, Some, None, List, [], ◌∷◌, ◌++◌, length, get_or, set, refl, sym, ◌∙◌, ap, arith, inl, inr}
+use Rattle.std.proofs.lemmas.List.{length-append}
+use Rattle.std.proofs.lemmas.Bool.{cases_lt, lt-ltb}
+use Rattle.std.specs.List.{slice_get}
+use Rattle.heap_words.specs.Headers.{header_of, pointer_of}
+use Rattle.heap_words.specs.Contents.{pointer_count, field_count}
+use Rattle.heap_model.specs.Heap.{Stored, fields, with_field}
+use Rattle.heap_model.proofs.Fields.{ltb_above}
+use Rattle.regions.specs.Table.{Table, object_at, object_pointers, object_weaks, object_fields, pointers_at, weaks_at, fields_at, set_pointer, set_weak, set_field, set_field_of, put_object}
+use Rattle.regions.specs.Rows.{table_of, IsTable}
+use Rattle.regions.specs.declared.row.Row.{Row}
+use Rattle.regions.proofs.Words.ObjectWords.{there, IsThere}
+use Rattle.regions.proofs.Tiles.Targets.{IsWrittenTable}
+use Rattle.regions.proofs.Words.Access.{pointer_read, weak_read, pointer_written, weak_written, set_pointer-is, set_weak-is}
 
-same_fields : (o : Option Stored) → object_fields o ≡ object_pointers o
-same_fields None = refl
-same_fields (Some s) = refl
+module _ {A : Type 0} where
+  get-front : (xs ys : List A) (i : ℕ) → i < length xs → slice_get (xs ++ ys) i ≡ slice_get xs i
+  get-front [] ys i h = absurd (omega arith)
+  get-front (x ∷ xs) ys zero h = refl
+  get-front (x ∷ xs) ys (suc i) h = get-front xs ys i (omega arith)
 
-pub fields_pointers : (t : Table) (a : ℕ) → fields_at t a ≡ pointers_at t a
-unfolding fields_at pointers_at
-fields_pointers t a = same_fields (object_at t a)
+  get-back : (xs ys : List A) (i j : ℕ) → i ≡ length xs + j → slice_get (xs ++ ys) i ≡ slice_get ys j
+  get-back [] ys i j e = let same : i ≡ j = omega arith in rw same refl
+  get-back (x ∷ xs) ys zero j e = absurd (omega arith)
+  get-back (x ∷ xs) ys (suc i) j e = get-back xs ys i j (omega arith)
 
-same_set : (t : Table) (a i : ℕ) (v : Option ℕ) (o : Option Stored) → set_pointer_of t a i v o ≡ set_field_of t a i v o
-same_set t a i v None = refl
-same_set t a i v (Some s) = refl
+pub record HasField (t : Table) (x i : ℕ) : Type 0 where
+  pub object : Stored
+  pub object_is : object_at t x ≡ Some object
+  pub within : i < length (fields object)
 
-pub set_field_pointer : (t : Table) (a i : ℕ) (v : Option ℕ) → set_pointer t a i v ≡ set_field t a i v
-unfolding set_field set_pointer
-set_field_pointer t a i v = same_set t a i v (object_at t a)
+pub has_field : (t : Table) (x i : ℕ) → i < length (fields_at t x) → HasField t x i
+unfolding fields_at
+has_field t x i h = go (object_at t x) refl h
+  where
+    go : (o : Option Stored) → object_at t x ≡ o → i < length (object_fields o) → HasField t x i
+    go None e l = absurd (omega arith)
+    go (Some s) e l = record { object = s; object_is = e; within = l }
+
+pointers_are : (t : Table) (x : ℕ) (s : Stored) → object_at t x ≡ Some s → pointers_at t x ≡ s.pointers
+unfolding pointers_at
+pointers_are t x s e = ap object_pointers e
+
+weaks_are : (t : Table) (x : ℕ) (s : Stored) → object_at t x ≡ Some s → weaks_at t x ≡ s.weaks
+unfolding weaks_at
+weaks_are t x s e = ap object_weaks e
+
+fields_are : (t : Table) (x : ℕ) (s : Stored) → object_at t x ≡ Some s → fields_at t x ≡ fields s
+unfolding fields_at
+fields_are t x s e = ap object_fields e
+
+-- its header counts them
+pub header_fields : (words : List ℕ) (t : Table) (x : ℕ) (s : Stored) → IsThere words t x s → field_count (header_of (get_or words x 0)) ≡ length (fields_at t x)
+header_fields words t x s i = ap field_count i.is_in.header_is ∙ rw (fields_are t x s i.is) (sym (length-append s.pointers s.weaks))
+
+pub record IsFieldRead (words : List ℕ) (t : Table) (x i : ℕ) : Type 0 where
+  pub in_words : x + 2 + i < length words
+  pub value : slice_get (fields_at t x) i ≡ Some (pointer_of (get_or words (x + 2 + i) 0))
+
+module _ (size : ℕ) (words : List ℕ) (rows : List Row) (t : Table) (x i : ℕ) (g : IsTable size words rows) (e : table_of size words rows ≡ t) (h : i < length (fields_at t x)) where
+  pub field_read : IsFieldRead words t x i
+  field_read =
+      let f = has_field t x i h in
+      let s = f.object in
+      let p = length s.pointers in
+      let long = length-append s.pointers s.weaks in
+      elim (cases_lt i (length s.pointers)) [
+        | inl k ↦
+            let r = pointer_read size words rows t x i g e (rw (pointers_are t x s f.object_is) k) in
+            record {
+              in_words = r.in_words;
+              value = ap (λ fs. slice_get fs i) (fields_are t x s f.object_is) ∙ get-front s.pointers s.weaks i k ∙ ap (λ fs. slice_get fs i) (sym (pointers_are t x s f.object_is)) ∙ r.value;
+            }
+        | inr k ↦
+            let j : ℕ = i - length s.pointers in
+            let within : j < length s.weaks = omega (arith, f.within, long) in
+            let r = weak_read size words rows t x j g e (rw (weaks_are t x s f.object_is) within) in
+            let o = there size words rows t x s g e f.object_is in
+            let count : pointer_count (header_of (get_or words x 0)) ≡ length s.pointers = ap pointer_count o.is_in.header_is in
+            let place : x + 2 + (pointer_count (header_of (get_or words x 0)) + j) ≡ x + 2 + i = omega arith in
+            record {
+              in_words = rw place at r.in_words;
+              value = ap (λ fs. slice_get fs i) (fields_are t x s f.object_is) ∙ get-back s.pointers s.weaks i j (omega arith) ∙ ap (λ fs. slice_get fs j) (sym (weaks_are t x s f.object_is)) ∙ r.value ∙ ap (λ a. Some (pointer_of (get_or words a 0))) place;
+            }
+      ]
+
+  pub field_written : (v : ℕ) → IsWrittenTable size (set words (x + 2 + i) v) rows (set_field t x i (pointer_of v))
+  unfolding set_field
+  field_written v =
+      let f = has_field t x i h in
+      let s = f.object in
+      let long = length-append s.pointers s.weaks in
+      elim (cases_lt i (length s.pointers)) [
+        | inl k ↦
+            let w = pointer_written size words rows t x i v g e (rw (pointers_are t x s f.object_is) k) in
+            let same : set_pointer t x i (pointer_of v) ≡ set_field_of t x i (pointer_of v) (object_at t x) = set_pointer-is t x i (pointer_of v) s f.object_is ∙ (let b = lt-ltb i (length s.pointers) k in rw (f.object_is, b) refl) in
+            rw (← same) w
+        | inr k ↦
+            let j : ℕ = i - length s.pointers in
+            let within : j < length s.weaks = omega (arith, f.within, long) in
+            let w = weak_written size words rows t x j v g e (rw (weaks_are t x s f.object_is) within) in
+            let o = there size words rows t x s g e f.object_is in
+            let count : pointer_count (header_of (get_or words x 0)) ≡ length s.pointers = ap pointer_count o.is_in.header_is in
+            let place : x + 2 + i ≡ x + 2 + (pointer_count (header_of (get_or words x 0)) + j) = omega arith in
+            let same : set_weak t x j (pointer_of v) ≡ set_field_of t x i (pointer_of v) (object_at t x) = set_weak-is t x j (pointer_of v) s f.object_is ∙ (let b = ltb_above i (length s.pointers) k in rw (f.object_is, b) refl) in
+            rw (place, ← same) w
+      ]
 
 pub set_field-is : (t : Table) (x i : ℕ) (v : Option ℕ) (s : Stored) → object_at t x ≡ Some s → set_field t x i v ≡ put_object t x (with_field s i v)
-set_field-is t x i v s e = sym (set_field_pointer t x i v) ∙ set_pointer-is t x i v s e
-
--- a field is written
-pub field_put : (t : Table) (a i : ℕ) (v : Option ℕ) (s : Stored) → 0 < t.words_per_region → object_at t a ≡ Some s → WritesObject t (set_field t a i v) a s (with_field s i v)
-field_put t a i v s z e = subst (λ (u : Table). WritesObject t u a s (with_field s i v)) (set_field_pointer t a i v) (pointer_put t a i v s z e)
+unfolding set_field
+set_field-is t x i v s e = rw e refl

@@ -1,16 +1,8 @@
 -- What a write behind an object's header does to the tiles.
 -- the words of one tile
 use Rattle.std.proofs.Common.{◌≡◌, ℕ, zero, suc, ◌+◌, ◌-◌, ◌<◌, ◌≤◌, Option, Some, List, [], ◌∷◌, ◌++◌, length, take, drop, map, set, refl, sym, ◌∙◌, ap, arith, zero-add}
-<<<<<<< HEAD:crates/regions/proofs/Fields.antt
 use Rattle.std.proofs.lemmas.List.{length-take, length-set, take-append-drop, drop-set-lt, drop-set-add, take-set-le, set-append_left, map-set}
-use Rattle.heap_words.specs.declared.header.Header.TheVariants.{Object}
-||||||| 3906014:crates/regions/proofs/Fields.antt
-use Rattle.std.proofs.lemmas.List.{length-take, length-set, take-append-drop, drop-set-lt, set-append_left, map-set}
-use Rattle.heap_words.specs.declared.header.Header.TheVariants.{Object}
-=======
-use Rattle.std.proofs.lemmas.List.{length-take, length-set, take-append-drop, drop-set-lt, set-append_left, map-set}
 use Rattle.heap_words.specs.declared.header.Header.TheVariants as headers
->>>>>>> main:crates/regions/proofs/Words/Fields.antt
 use Rattle.heap_words.specs.Headers.{header_of, pointer_of}
 use Rattle.heap_model.specs.Heap.{Stored}
 use Rattle.regions.specs.Tiles.{Tile, Object, tile_at, replace, stored_of, size_by, tiles, IsTiled}
@@ -32,19 +24,9 @@ pub record IsOne (sizes : ℕ → ℕ) (block : List ℕ) (t : Tile) : Type 0 wh
   pub tiles_are : tiles sizes 0 block ≡ t ∷ []
   pub tiled : IsTiled sizes 0 block
 
-<<<<<<< HEAD:crates/regions/proofs/Fields.antt
-pub one_object : (sizes : ℕ → ℕ) (w p weak d : ℕ) (body : List ℕ) → header_of w ≡ Some (Object p weak d) → length body ≡ 1 + p + weak + d → IsOne sizes (w ∷ body) (Live (stored_of p weak d body))
+pub one_object : (sizes : ℕ → ℕ) (w p weak d : ℕ) (body : List ℕ) → header_of w ≡ Some (headers.Object p weak d) → length body ≡ 1 + p + weak + d → IsOne sizes (w ∷ body) (Object (stored_of p weak d body))
 one_object sizes w p weak d body e l =
     let n : length body ≡ 2 + p + weak + d - 1 = omega arith in
-||||||| 3906014:crates/regions/proofs/Fields.antt
-pub one_object : (sizes : ℕ → ℕ) (w p d : ℕ) (body : List ℕ) → header_of w ≡ Some (Object p d) → length body ≡ 1 + p + d → IsOne sizes (w ∷ body) (Live (stored_of p d body))
-one_object sizes w p d body e l =
-    let n : length body ≡ 2 + p + d - 1 = omega arith in
-=======
-pub one_object : (sizes : ℕ → ℕ) (w p d : ℕ) (body : List ℕ) → header_of w ≡ Some (headers.Object p d) → length body ≡ 1 + p + d → IsOne sizes (w ∷ body) (Object (stored_of p d body))
-one_object sizes w p d body e l =
-    let n : length body ≡ 2 + p + d - 1 = omega arith in
->>>>>>> main:crates/regions/proofs/Words/Fields.antt
     record {
       tiles_are = rw (e, tiles_none sizes (2 + p + weak + d - 1) body n) refl;
       tiled = rw e (refl, omega arith, IsTiled_none sizes (2 + p + weak + d - 1) body n);
@@ -76,22 +58,10 @@ Turns s j v s' = (body : List ℕ) → 1 + length s.pointers + length s.weaks + 
 pub record IsObjectAt (content : List ℕ) (o : ℕ) (s : Stored) : Type 0 where
   pub word : ℕ
   pub body : List ℕ
-<<<<<<< HEAD:crates/regions/proofs/Fields.antt
   pub words_are : take (2 + length s.pointers + length s.weaks + length s.values) (drop o content) ≡ word ∷ body
-  pub header_is : header_of word ≡ Some (Object (length s.pointers) (length s.weaks) (length s.values))
+  pub header_is : header_of word ≡ Some (headers.Object (length s.pointers) (length s.weaks) (length s.values))
   pub length_is : length body ≡ 1 + length s.pointers + length s.weaks + length s.values
   pub stored_is : s ≡ stored_of (length s.pointers) (length s.weaks) (length s.values) body
-||||||| 3906014:crates/regions/proofs/Fields.antt
-  pub words_are : take (2 + length s.pointers + length s.values) (drop o content) ≡ word ∷ body
-  pub header_is : header_of word ≡ Some (Object (length s.pointers) (length s.values))
-  pub length_is : length body ≡ 1 + length s.pointers + length s.values
-  pub stored_is : s ≡ stored_of (length s.pointers) (length s.values) body
-=======
-  pub words_are : take (2 + length s.pointers + length s.values) (drop o content) ≡ word ∷ body
-  pub header_is : header_of word ≡ Some (headers.Object (length s.pointers) (length s.values))
-  pub length_is : length body ≡ 1 + length s.pointers + length s.values
-  pub stored_is : s ≡ stored_of (length s.pointers) (length s.values) body
->>>>>>> main:crates/regions/proofs/Words/Fields.antt
 
 object_words : (sizes : ℕ → ℕ) (content ws : List ℕ) (o : ℕ) (s : Stored) → drop o content ≡ ws → IsTiled sizes 0 ws → first_tile sizes ws ≡ Object s → IsObjectAt content o s
 object_words sizes content [] o s e t f = cc
@@ -115,13 +85,7 @@ pub record IsObjectSet (sizes : ℕ → ℕ) (content : List ℕ) (o j v : ℕ) 
   pub tiles_are : tiles sizes 0 (set content (o + j) v) ≡ replace o (Object s ∷ []) (tiles sizes 0 content)
   pub tiled : IsTiled sizes 0 (set content (o + j) v)
 
-<<<<<<< HEAD:crates/regions/proofs/Fields.antt
-pub object_set : (sizes : ℕ → ℕ) (content : List ℕ) (o j v : ℕ) (s s' : Stored) → IsTiled sizes 0 content → tile_at o (tiles sizes 0 content) ≡ Some (Live s) → j < 1 + length s.pointers + length s.weaks + length s.values → Turns s j v s' → IsObjectSet sizes content o (suc j) v s'
-||||||| 3906014:crates/regions/proofs/Fields.antt
-pub object_set : (sizes : ℕ → ℕ) (content : List ℕ) (o j v : ℕ) (s s' : Stored) → IsTiled sizes 0 content → tile_at o (tiles sizes 0 content) ≡ Some (Live s) → j < 1 + length s.pointers + length s.values → Turns s j v s' → IsObjectSet sizes content o (suc j) v s'
-=======
-pub object_set : (sizes : ℕ → ℕ) (content : List ℕ) (o j v : ℕ) (s s' : Stored) → IsTiled sizes 0 content → tile_at o (tiles sizes 0 content) ≡ Some (Object s) → j < 1 + length s.pointers + length s.values → Turns s j v s' → IsObjectSet sizes content o (suc j) v s'
->>>>>>> main:crates/regions/proofs/Words/Fields.antt
+pub object_set : (sizes : ℕ → ℕ) (content : List ℕ) (o j v : ℕ) (s s' : Stored) → IsTiled sizes 0 content → tile_at o (tiles sizes 0 content) ≡ Some (Object s) → j < 1 + length s.pointers + length s.weaks + length s.values → Turns s j v s' → IsObjectSet sizes content o (suc j) v s'
 object_set sizes content o j v s s' t f h g =
     let at = tile_at-tiles sizes 0 o o content (Object s) t (omega arith) f in
     let w = object_words sizes content (drop o content) o s refl at.2 at.0 in

@@ -2,16 +2,8 @@
 use Rattle.std.proofs.Common.{Option, None, ◌≡◌, ℕ, suc, ◌+◌, ◌≤◌, Some, List, ◌∷◌, ◌++◌, length, take, drop, get_or, refl, sym, ◌∙◌, ap, subst, arith, drop-cons}
 use Rattle.std.proofs.lemmas.List.{length-take, length-drop, take-append-drop, get_or-drop}
 use Rattle.heap_model.specs.Heap.{Stored}
-<<<<<<< HEAD:crates/regions/proofs/ObjectWords.antt
-use Rattle.regions.specs.Tiles.{Live, tile_size, stored_of}
-use Rattle.regions.specs.Table.{Table, object_at, object_words, stored_size, object_pointers, object_weaks, object_values, pointers_at, weaks_at, values_at}
-||||||| 3906014:crates/regions/proofs/ObjectWords.antt
-use Rattle.regions.specs.Tiles.{Live, tile_size, stored_of}
-use Rattle.regions.specs.Table.{Table, object_at, object_words, stored_size, object_pointers, object_values, pointers_at, values_at}
-=======
 use Rattle.regions.specs.Tiles.{Object, tile_size, stored_of}
-use Rattle.regions.specs.Table.{Table, object_at, object_words, stored_size, object_pointers, object_values, pointers_at, values_at}
->>>>>>> main:crates/regions/proofs/Words/ObjectWords.antt
+use Rattle.regions.specs.Table.{Table, object_at, object_words, stored_size, object_pointers, object_weaks, object_values, pointers_at, weaks_at, values_at}
 use Rattle.std.specs.Prelude.{IsSome}
 use Rattle.heap_words.specs.Headers.{header_of}
 use Rattle.heap_words.specs.Contents.{pointer_count}
@@ -89,13 +81,5 @@ one_copy sizes words x s i =
     let one = one_object sizes (get_or words x 0) p weak d (take m body) i.header_is len in
     let same : stored_of p weak d (take m body ++ drop m body) ≡ stored_of p weak d (take m body) = stored_of-append p weak d (take m body) (drop m body) (omega arith) in
     let joined : take m body ++ drop m body ≡ body = take-append-drop m body in
-<<<<<<< HEAD:crates/regions/proofs/ObjectWords.antt
     let stored : stored_of p weak d (take m body) ≡ s = sym same ∙ ap (stored_of p weak d) joined ∙ sym i.stored_is in
-    rw block (subst (λ (r : Stored). IsOne sizes (get_or words x 0 ∷ take m body) (Live r)) stored one)
-||||||| 3906014:crates/regions/proofs/ObjectWords.antt
-    let stored : stored_of p d (take m body) ≡ s = sym same ∙ ap (stored_of p d) joined ∙ sym i.stored_is in
-    rw block (subst (λ (r : Stored). IsOne sizes (get_or words x 0 ∷ take m body) (Live r)) stored one)
-=======
-    let stored : stored_of p d (take m body) ≡ s = sym same ∙ ap (stored_of p d) joined ∙ sym i.stored_is in
     rw block (subst (λ (r : Stored). IsOne sizes (get_or words x 0 ∷ take m body) (Object r)) stored one)
->>>>>>> main:crates/regions/proofs/Words/ObjectWords.antt

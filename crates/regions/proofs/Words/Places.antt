@@ -58,61 +58,23 @@ object_place f size words rows x s h = place_of f size words rows x (Object s) (
 
 -- an object is its words: it lies in the table, and its header says so
 pub record IsIn (words : List ℕ) (x : ℕ) (s : Stored) : Type 0 where
-<<<<<<< HEAD:crates/regions/proofs/Places.antt
-  pub header_is : header_of (get_or words x 0) ≡ Some (Object (length s.pointers) (length s.weaks) (length s.values))
+  pub header_is : header_of (get_or words x 0) ≡ Some (headers.Object (length s.pointers) (length s.weaks) (length s.values))
   pub stored_is : s ≡ stored_of (length s.pointers) (length s.weaks) (length s.values) (drop (x + 1) words)
   pub fits : x + 2 + length s.pointers + length s.weaks + length s.values ≤ length words
-||||||| 3906014:crates/regions/proofs/Places.antt
-  pub header_is : header_of (get_or words x 0) ≡ Some (Object (length s.pointers) (length s.values))
-  pub stored_is : s ≡ stored_of (length s.pointers) (length s.values) (drop (x + 1) words)
-  pub fits : x + 2 + length s.pointers + length s.values ≤ length words
-=======
-  pub header_is : header_of (get_or words x 0) ≡ Some (headers.Object (length s.pointers) (length s.values))
-  pub stored_is : s ≡ stored_of (length s.pointers) (length s.values) (drop (x + 1) words)
-  pub fits : x + 2 + length s.pointers + length s.values ≤ length words
->>>>>>> main:crates/regions/proofs/Words/Places.antt
 
-<<<<<<< HEAD:crates/regions/proofs/Places.antt
-pub live_by : (sizes : ℕ → ℕ) (o : Option Header) (ws : List ℕ) (s : Stored) → size_by sizes o - 1 ≤ length ws → tile_by sizes ws o ≡ Live s → (o ≡ Some (Object (length s.pointers) (length s.weaks) (length s.values))) × (s ≡ stored_of (length s.pointers) (length s.weaks) (length s.values) ws)
-||||||| 3906014:crates/regions/proofs/Places.antt
-pub live_by : (sizes : ℕ → ℕ) (o : Option Header) (ws : List ℕ) (s : Stored) → size_by sizes o - 1 ≤ length ws → tile_by sizes ws o ≡ Live s → (o ≡ Some (Object (length s.pointers) (length s.values))) × (s ≡ stored_of (length s.pointers) (length s.values) ws)
-=======
-pub live_by : (sizes : ℕ → ℕ) (o : Option Header) (ws : List ℕ) (s : Stored) → size_by sizes o - 1 ≤ length ws → tile_by sizes ws o ≡ Object s → (o ≡ Some (headers.Object (length s.pointers) (length s.values))) × (s ≡ stored_of (length s.pointers) (length s.values) ws)
->>>>>>> main:crates/regions/proofs/Words/Places.antt
+pub live_by : (sizes : ℕ → ℕ) (o : Option Header) (ws : List ℕ) (s : Stored) → size_by sizes o - 1 ≤ length ws → tile_by sizes ws o ≡ Object s → (o ≡ Some (headers.Object (length s.pointers) (length s.weaks) (length s.values))) × (s ≡ stored_of (length s.pointers) (length s.weaks) (length s.values) ws)
 live_by sizes None ws s f h = cc
-<<<<<<< HEAD:crates/regions/proofs/Places.antt
-live_by sizes (Some (Object p weak d)) ws s f h =
+live_by sizes (Some (headers.Object p weak d)) ws s f h =
     let e : stored_of p weak d ws ≡ s = cc in
     let ep : length (stored_of p weak d ws).pointers ≡ p = simp (length-map, length-take, length-drop) (omega arith) in
     let ed : length (stored_of p weak d ws).values ≡ d = simp (length-take, length-drop) (omega arith) in
-||||||| 3906014:crates/regions/proofs/Places.antt
-live_by sizes (Some (Object p d)) ws s f h =
-    let e : stored_of p d ws ≡ s = cc in
-    let ep : length (stored_of p d ws).pointers ≡ p = simp (length-map, length-take, length-drop) (omega arith) in
-    let ed : length (stored_of p d ws).values ≡ d = simp (length-take, length-drop) (omega arith) in
-=======
-live_by sizes (Some (headers.Object p d)) ws s f h =
-    let e : stored_of p d ws ≡ s = cc in
-    let ep : length (stored_of p d ws).pointers ≡ p = simp (length-map, length-take, length-drop) (omega arith) in
-    let ed : length (stored_of p d ws).values ≡ d = simp (length-take, length-drop) (omega arith) in
->>>>>>> main:crates/regions/proofs/Words/Places.antt
     let lp : length s.pointers ≡ p = ap (λ (r : Stored). length r.pointers) (sym e) ∙ ep in
     let ld : length s.values ≡ d = ap (λ (r : Stored). length r.values) (sym e) ∙ ed in
-<<<<<<< HEAD:crates/regions/proofs/Places.antt
     let ew : length (stored_of p weak d ws).weaks ≡ weak = simp (length-map, length-take, length-drop) (omega arith) in
     let lw : length s.weaks ≡ weak = ap (λ (r : Stored). length r.weaks) (sym e) ∙ ew in
     (rw (lp, lw, ld) refl, rw (lp, lw, ld) (sym e))
-live_by sizes (Some (Filler n)) ws s f h = cc
-live_by sizes (Some (Forwarded to)) ws s f h = cc
-||||||| 3906014:crates/regions/proofs/Places.antt
-    (rw (lp, ld) refl, rw (lp, ld) (sym e))
-live_by sizes (Some (Filler n)) ws s f h = cc
-live_by sizes (Some (Forwarded to)) ws s f h = cc
-=======
-    (rw (lp, ld) refl, rw (lp, ld) (sym e))
 live_by sizes (Some (headers.Filler n)) ws s f h = cc
 live_by sizes (Some (headers.Forwarded to)) ws s f h = cc
->>>>>>> main:crates/regions/proofs/Words/Places.antt
 
 pub front_word : (words : List ℕ) (x w : ℕ) (v : List ℕ) → drop x words ≡ w ∷ v → get_or words x 0 ≡ w
 front_word words x w v e =
@@ -153,43 +115,17 @@ in_ordinary f size words rows x s g q =
 room : (m k l size n : ℕ) → l ≡ m + suc k → n ≡ l * size → n ≡ m * size + size + k * size
 room m k l size n e f = f ∙ rw e (omega arith)
 
-<<<<<<< HEAD:crates/regions/proofs/Places.antt
-first_by : (o : Option Header) (ws : List ℕ) (s : Stored) → IsObject o → object_size o - 1 ≤ length ws → stored_by ws o ≡ s → (o ≡ Some (Object (length s.pointers) (length s.weaks) (length s.values))) × (s ≡ stored_of (length s.pointers) (length s.weaks) (length s.values) ws)
-||||||| 3906014:crates/regions/proofs/Places.antt
-first_by : (o : Option Header) (ws : List ℕ) (s : Stored) → IsObject o → object_size o - 1 ≤ length ws → stored_by ws o ≡ s → (o ≡ Some (Object (length s.pointers) (length s.values))) × (s ≡ stored_of (length s.pointers) (length s.values) ws)
-=======
-first_by : (o : Option Header) (ws : List ℕ) (s : Stored) → IsObject o → object_size o - 1 ≤ length ws → stored_by ws o ≡ s → (o ≡ Some (headers.Object (length s.pointers) (length s.values))) × (s ≡ stored_of (length s.pointers) (length s.values) ws)
->>>>>>> main:crates/regions/proofs/Words/Places.antt
+first_by : (o : Option Header) (ws : List ℕ) (s : Stored) → IsObject o → object_size o - 1 ≤ length ws → stored_by ws o ≡ s → (o ≡ Some (headers.Object (length s.pointers) (length s.weaks) (length s.values))) × (s ≡ stored_of (length s.pointers) (length s.weaks) (length s.values) ws)
 first_by None ws s i f h = absurd i
-<<<<<<< HEAD:crates/regions/proofs/Places.antt
-first_by (Some (Object p weak d)) ws s i f h = live_by (λ _. 0) (Some (Object p weak d)) ws s f (ap Live h)
-first_by (Some (Filler n)) ws s i f h = absurd i
-first_by (Some (Forwarded to)) ws s i f h = absurd i
-||||||| 3906014:crates/regions/proofs/Places.antt
-first_by (Some (Object p d)) ws s i f h = live_by (λ _. 0) (Some (Object p d)) ws s f (ap Live h)
-first_by (Some (Filler n)) ws s i f h = absurd i
-first_by (Some (Forwarded to)) ws s i f h = absurd i
-=======
-first_by (Some (headers.Object p d)) ws s i f h = live_by (λ _. 0) (Some (headers.Object p d)) ws s f (ap Object h)
+first_by (Some (headers.Object p weak d)) ws s i f h = live_by (λ _. 0) (Some (headers.Object p weak d)) ws s f (ap Object h)
 first_by (Some (headers.Filler n)) ws s i f h = absurd i
 first_by (Some (headers.Forwarded to)) ws s i f h = absurd i
->>>>>>> main:crates/regions/proofs/Words/Places.antt
 
 object_size_pos : (o : Option Header) → 0 < object_size o
 object_size_pos None = omega arith
-<<<<<<< HEAD:crates/regions/proofs/Places.antt
-object_size_pos (Some (Object p weak d)) = omega arith
-object_size_pos (Some (Filler n)) = omega arith
-object_size_pos (Some (Forwarded to)) = omega arith
-||||||| 3906014:crates/regions/proofs/Places.antt
-object_size_pos (Some (Object p d)) = omega arith
-object_size_pos (Some (Filler n)) = omega arith
-object_size_pos (Some (Forwarded to)) = omega arith
-=======
-object_size_pos (Some (headers.Object p d)) = omega arith
+object_size_pos (Some (headers.Object p weak d)) = omega arith
 object_size_pos (Some (headers.Filler n)) = omega arith
 object_size_pos (Some (headers.Forwarded to)) = omega arith
->>>>>>> main:crates/regions/proofs/Words/Places.antt
 
 first_in : (v words : List ℕ) (x : ℕ) (s : Stored) → drop x words ≡ v → IsObject (header_of (get_or v 0 0)) → first_stored v ≡ s → object_size (header_of (get_or v 0 0)) ≤ length v → IsIn words x s
 first_in [] words x s e i h f = absurd (omega (arith, object_size_pos (header_of 0)))

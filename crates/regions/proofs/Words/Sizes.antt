@@ -24,19 +24,9 @@ record SameTile (f g : ℕ → ℕ) (o : Option Header) (ws : List ℕ) (ts : Li
 
 same_tile : (f g : ℕ → ℕ) (o : Option Header) (ws : List ℕ) (ts : List Tile) → AgreeOn f g (tile_by f ws o ∷ ts) → SameTile f g o ws ts
 same_tile f g None ws ts a = record { tile_is = refl; size_is = refl; others = a }
-<<<<<<< HEAD:crates/regions/proofs/Sizes.antt
-same_tile f g (Some (Object p weak d)) ws ts a = record { tile_is = refl; size_is = refl; others = a }
-same_tile f g (Some (Filler n)) ws ts a = record { tile_is = refl; size_is = refl; others = a }
-same_tile f g (Some (Forwarded to)) ws ts a = record { tile_is = ap (Moved to) a.0; size_is = a.0; others = a.1 }
-||||||| 3906014:crates/regions/proofs/Sizes.antt
-same_tile f g (Some (Object p d)) ws ts a = record { tile_is = refl; size_is = refl; others = a }
-same_tile f g (Some (Filler n)) ws ts a = record { tile_is = refl; size_is = refl; others = a }
-same_tile f g (Some (Forwarded to)) ws ts a = record { tile_is = ap (Moved to) a.0; size_is = a.0; others = a.1 }
-=======
-same_tile f g (Some (headers.Object p d)) ws ts a = record { tile_is = refl; size_is = refl; others = a }
+same_tile f g (Some (headers.Object p weak d)) ws ts a = record { tile_is = refl; size_is = refl; others = a }
 same_tile f g (Some (headers.Filler n)) ws ts a = record { tile_is = refl; size_is = refl; others = a }
 same_tile f g (Some (headers.Forwarded to)) ws ts a = record { tile_is = ap (Forwarded to) a.0; size_is = a.0; others = a.1 }
->>>>>>> main:crates/regions/proofs/Words/Sizes.antt
 
 pub tiles-agree : (f g : ℕ → ℕ) (k : ℕ) (ws : List ℕ) → AgreeOn f g (tiles f k ws) → tiles g k ws ≡ tiles f k ws
 tiles-agree f g k [] a = refl

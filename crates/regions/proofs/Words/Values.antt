@@ -23,7 +23,7 @@ pub record HasValue (t : Table) (x i : ℕ) : Type 0 where
   pub object_is : object_at t x ≡ Some object
   pub within : i < length object.values
 
-has_value : (t : Table) (x i : ℕ) → i < length (values_at t x) → HasValue t x i
+pub has_value : (t : Table) (x i : ℕ) → i < length (values_at t x) → HasValue t x i
 unfolding values_at
 has_value t x i h = go (object_at t x) refl h
   where

@@ -42,13 +42,7 @@ one_word size words n m v h = record {
 one_content : (words : List ℕ) (n m v used : ℕ) → take used (drop n (set words (n + m) v)) ≡ set (take used (drop n words)) m v
 one_content words n m v used = rw (drop-set-add n words m v) (take_set used (drop n words) m v)
 
-<<<<<<< HEAD:crates/regions/proofs/Written.antt
-pub write_ordinary : (size : ℕ) (words : List ℕ) (rows : List Row) (x j v : ℕ) (s s' : Stored) → IsTable size words rows → InOrdinary (sizes_in words) size words rows x (Live s) → j < 1 + length s.pointers + length s.weaks + length s.values → Turns s j v s' → EachMovedIn (IsKept (table_of size words rows) (put_object (table_of size words rows) x s')) (put_object (table_of size words rows) x s').regions → IsWrittenTable size (set words (x + suc j) v) rows (put_object (table_of size words rows) x s')
-||||||| 3906014:crates/regions/proofs/Written.antt
-pub write_ordinary : (size : ℕ) (words : List ℕ) (rows : List Row) (x j v : ℕ) (s s' : Stored) → IsTable size words rows → InOrdinary (sizes_in words) size words rows x (Live s) → j < 1 + length s.pointers + length s.values → Turns s j v s' → EachMovedIn (IsKept (table_of size words rows) (put_object (table_of size words rows) x s')) (put_object (table_of size words rows) x s').regions → IsWrittenTable size (set words (x + suc j) v) rows (put_object (table_of size words rows) x s')
-=======
-pub write_ordinary : (size : ℕ) (words : List ℕ) (rows : List Row) (x j v : ℕ) (s s' : Stored) → IsTable size words rows → InOrdinary (sizes_in words) size words rows x (Object s) → j < 1 + length s.pointers + length s.values → Turns s j v s' → EachForwardedIn (IsKept (table_of size words rows) (put_object (table_of size words rows) x s')) (put_object (table_of size words rows) x s').regions → IsWrittenTable size (set words (x + suc j) v) rows (put_object (table_of size words rows) x s')
->>>>>>> main:crates/regions/proofs/Words/Written.antt
+pub write_ordinary : (size : ℕ) (words : List ℕ) (rows : List Row) (x j v : ℕ) (s s' : Stored) → IsTable size words rows → InOrdinary (sizes_in words) size words rows x (Object s) → j < 1 + length s.pointers + length s.weaks + length s.values → Turns s j v s' → EachForwardedIn (IsKept (table_of size words rows) (put_object (table_of size words rows) x s')) (put_object (table_of size words rows) x s').regions → IsWrittenTable size (set words (x + suc j) v) rows (put_object (table_of size words rows) x s')
 unfolding put_object region_at
 write_ordinary size words rows x j v s s' g q h turns agree =
     let f : (ℕ → ℕ) = sizes_in words in

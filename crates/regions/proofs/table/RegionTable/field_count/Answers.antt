@@ -1,24 +1,14 @@
-<<<<<<< HEAD
 use Rattle.std.proofs.Common.{arith, ◌∙◌}
-use Rattle.regions.proofs.ObjectWords.{object_there}
-use Rattle.regions.proofs.FieldAccess.{header_fields}
+use Rattle.regions.proofs.Words.ObjectWords.{object_there}
+use Rattle.regions.proofs.Words.FieldAccess.{header_fields}
 use Rattle.regions.proofs.table.RegionTable.field_count.Goals as goal
 
 pub fields_in-requires : goal.fields_in-requires
 fields_in-requires c =
-    let o = object_there _ _ _ _ _ c.self.invariant c.self.view_is c.requires in
+    let o = object_there _ _ _ _ _ c.self.invariant.table c.self.view_is c.requires in
     omega (arith, o.1.fits, o.1.large)
 
 pub returns : goal.returns
 returns c =
-    let o = object_there _ _ _ _ _ c.self.invariant c.self.view_is c.requires in
+    let o = object_there _ _ _ _ _ c.self.invariant.table c.self.view_is c.requires in
     c.fields_in.ensures ∙ header_fields _ _ _ _ o.1
-||||||| 3906014
-=======
-use Rattle.std.proofs.Common.{ℕ, List, Option, length, sym, ap, ◌∙◌}
-use Rattle.regions.proofs.Words.FieldAccess.{fields_pointers}
-use Rattle.regions.proofs.table.RegionTable.field_count.Goals as goal
-
-pub returns : goal.returns
-returns c = c.pointer_count.ensures ∙ ap (λ (l : List (Option ℕ)). length l) (sym (fields_pointers c.args.self.now c.args.object))
->>>>>>> main

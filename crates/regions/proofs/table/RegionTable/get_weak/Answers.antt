@@ -1,21 +1,21 @@
 use Rattle.std.proofs.Common.{Some, refl, sym, ap, ◌∙◌, arith}
-use Rattle.regions.proofs.Access.{weak_read}
+use Rattle.regions.proofs.Words.Access.{weak_read}
 use Rattle.regions.proofs.table.RegionTable.get_weak.Goals as goal
 
 pub pointers_in-requires : goal.pointers_in-requires
-pointers_in-requires c = (weak_read _ _ _ _ _ _ c.self.invariant c.self.view_is c.requires).at
+pointers_in-requires c = (weak_read _ _ _ _ _ _ c.self.invariant.table c.self.view_is c.requires).at
 
 pub overflow_add-place : goal.overflow_add-place
 overflow_add-place c =
-    let r = weak_read _ _ _ _ _ _ c.self.invariant c.self.view_is c.requires in
-    omega (arith, r.in_words, c.pointers_in.ensures, c.self.invariant.small)
+    let r = weak_read _ _ _ _ _ _ c.self.invariant.table c.self.view_is c.requires in
+    omega (arith, r.in_words, c.pointers_in.ensures, c.self.invariant.table.small)
 
 pub get_field-requires : goal.get_field-requires
 get_field-requires c =
-    let r = weak_read _ _ _ _ _ _ c.self.invariant c.self.view_is c.requires in
+    let r = weak_read _ _ _ _ _ _ c.self.invariant.table c.self.view_is c.requires in
     rw c.pointers_in.ensures r.in_words
 
 pub returns : goal.returns
 returns c =
-    let r = weak_read _ _ _ _ _ _ c.self.invariant c.self.view_is c.requires in
+    let r = weak_read _ _ _ _ _ _ c.self.invariant.table c.self.view_is c.requires in
     r.value ∙ ap Some (sym (c.get_field.ensures ∙ rw c.pointers_in.ensures refl))

@@ -1,7 +1,7 @@
 use Rattle.std.proofs.Common.{◌≡◌, ◌*◌, ◌∙◌, arith, subst, ℕ}
 use Rattle.regions.specs.Walks.{IsLowest}
 use Rattle.std.proofs.Common.{Some, sym, refl}
-use Rattle.regions.proofs.Steps.{none_lowest, some_lowest}
+use Rattle.regions.proofs.Tiles.Lowest.{none_lowest, some_lowest}
 use Rattle.regions.proofs.table.RegionTable.lowest_tile.Goals as goal
 
 product : (x w k s : ℕ) → x ≡ k → w ≡ s → x * w ≡ k * s

@@ -15,36 +15,14 @@ write_object-requires c =
 
 pub overflow_add-word : goal.overflow_add-word
 overflow_add-word c =
-<<<<<<< HEAD
-    let f = gap_fits _ _ _ _ _ _ c.self.invariant c.self.view_is c.requires.there in
-    omega (arith, f, c.requires.room, c.self.invariant.small, c.word.ensures, c.get.ensures.value, c.from.ensures, c.get-2.ensures.value)
-||||||| 3906014
-    let f = gap_fits _ _ _ _ _ _ c.self.invariant c.self.view_is c.requires.there in
-    omega (arith, f, c.requires.room, c.self.invariant.small, c.word.ensures, c.get.ensures.value, c.get-2.ensures.value)
-=======
     let f = filler_fits _ _ _ _ _ _ c.self.invariant.table c.self.view_is c.requires.there in
-    omega (arith, f, c.requires.room, c.self.invariant.table.small, c.word.ensures, c.get.ensures.value, c.get-2.ensures.value)
->>>>>>> main
+    omega (arith, f, c.requires.room, c.self.invariant.table.small, c.word.ensures, c.get.ensures.value, c.from.ensures, c.get-2.ensures.value)
 
-<<<<<<< HEAD
-pub write_gap-requires-clause-within : goal.write_gap-requires-clause-within
-write_gap-requires-clause-within c =
-    let f = gap_fits _ _ _ _ _ _ c.self.invariant c.self.view_is c.requires.there in
-    let l = put_object_length c.self.inside.words c.args.at (header_word (Object c.args.counts.pointers c.args.counts.weaks c.args.counts.values)) c.args.name c.args.counts.pointers c.args.counts.weaks c.args.counts.values (omega (arith, f, c.requires.room)) in
-    rw c.write_object.ensures (omega (arith, f, l, c.requires.room, c.word.ensures, c.get.ensures.value, c.from.ensures, c.get-2.ensures.value, c.get-3.ensures.value))
-||||||| 3906014
-pub write_gap-requires-clause-within : goal.write_gap-requires-clause-within
-write_gap-requires-clause-within c =
-    let f = gap_fits _ _ _ _ _ _ c.self.invariant c.self.view_is c.requires.there in
-    let l = put_object_length c.self.inside.words c.args.at (header_word (Object c.args.counts.pointers c.args.counts.values)) c.args.name c.args.counts.pointers c.args.counts.values (omega (arith, f, c.requires.room)) in
-    rw c.write_object.ensures (omega (arith, f, l, c.requires.room, c.word.ensures, c.get.ensures.value, c.get-2.ensures.value, c.get-3.ensures.value))
-=======
 pub write_remainder-requires-clause-within : goal.write_remainder-requires-clause-within
 write_remainder-requires-clause-within c =
     let f = filler_fits _ _ _ _ _ _ c.self.invariant.table c.self.view_is c.requires.there in
-    let l = put_object_length c.self.inside.words c.args.at (header_word (headers.Object c.args.counts.pointers c.args.counts.values)) c.args.name c.args.counts.pointers c.args.counts.values (omega (arith, f, c.requires.room)) in
-    rw c.write_object.ensures (omega (arith, f, l, c.requires.room, c.word.ensures, c.get.ensures.value, c.get-2.ensures.value, c.get-3.ensures.value))
->>>>>>> main
+    let l = put_object_length c.self.inside.words c.args.at (header_word (headers.Object c.args.counts.pointers c.args.counts.weaks c.args.counts.values)) c.args.name c.args.counts.pointers c.args.counts.weaks c.args.counts.values (omega (arith, f, c.requires.room)) in
+    rw c.write_object.ensures (omega (arith, f, l, c.requires.room, c.word.ensures, c.get.ensures.value, c.from.ensures, c.get-2.ensures.value, c.get-3.ensures.value))
 
 pub put_front-requires-clause-within : goal.put_front-requires-clause-within
 put_front-requires-clause-within c =
@@ -73,39 +51,19 @@ move_filler-requires c =
 
 pub invariant_of-self : goal.invariant_of-self
 invariant_of-self c =
-<<<<<<< HEAD
     let size : c.word.result + (2 + c.get.result + c.from.result + c.get-2.result) ≡ c.args.at + (2 + c.args.counts.pointers + c.args.counts.weaks + c.args.counts.values) = omega (arith, c.word.ensures, c.get.ensures.value, c.from.ensures, c.get-2.ensures.value) in
     let rest : c.get-3.result - (2 + c.get.result + c.from.result + c.get-2.result) ≡ c.args.filler - (2 + c.args.counts.pointers + c.args.counts.weaks + c.args.counts.values) = omega (arith, c.get-3.ensures.value, c.get.ensures.value, c.from.ensures, c.get-2.ensures.value) in
-    (gap_filled _ _ _ _ c.args.at c.args.name c.args.counts.pointers c.args.counts.weaks c.args.counts.values c.args.filler _ _ _ _ _ c.self.invariant c.self.view_is c.requires.there (omega (arith, c.requires.room)) (omega (arith, c.get.ensures.value, c.get.ensures.small)) (omega arith) (omega (arith, c.get-2.ensures.value, c.get-2.ensures.small)) c.write_object.ensures c.write_gap.ensures size rest).is_table
-||||||| 3906014
-    let size : c.word.result + (2 + c.get.result + c.get-2.result) ≡ c.args.at + (2 + c.args.counts.pointers + c.args.counts.values) = omega (arith, c.word.ensures, c.get.ensures.value, c.get-2.ensures.value) in
-    let rest : c.get-3.result - (2 + c.get.result + c.get-2.result) ≡ c.args.filler - (2 + c.args.counts.pointers + c.args.counts.values) = omega (arith, c.get-3.ensures.value, c.get.ensures.value, c.get-2.ensures.value) in
-    (gap_filled _ _ _ _ c.args.at c.args.name c.args.counts.pointers c.args.counts.values c.args.filler _ _ _ _ _ c.self.invariant c.self.view_is c.requires.there (omega (arith, c.requires.room)) (omega (arith, c.get.ensures.value, c.get.ensures.small)) (omega (arith, c.get-2.ensures.value, c.get-2.ensures.small)) c.write_object.ensures c.write_gap.ensures size rest).is_table
-=======
-    let size : c.word.result + (2 + c.get.result + c.get-2.result) ≡ c.args.at + (2 + c.args.counts.pointers + c.args.counts.values) = omega (arith, c.word.ensures, c.get.ensures.value, c.get-2.ensures.value) in
-    let rest : c.get-3.result - (2 + c.get.result + c.get-2.result) ≡ c.args.filler - (2 + c.args.counts.pointers + c.args.counts.values) = omega (arith, c.get-3.ensures.value, c.get.ensures.value, c.get-2.ensures.value) in
-    let w = filler_filled _ _ _ _ c.args.at c.args.name c.args.counts.pointers c.args.counts.values c.args.filler _ _ _ _ _ c.self.invariant.table c.self.view_is c.requires.there (omega (arith, c.requires.room)) (omega (arith, c.get.ensures.value, c.get.ensures.small)) (omega (arith, c.get-2.ensures.value, c.get-2.ensures.small)) c.write_object.ensures c.write_remainder.ensures size rest in
-    let long : 2 + c.get.result + c.get-2.result ≡ tile_size (Object (new_object c.args.name c.args.counts.pointers c.args.counts.values)) = omega (arith, c.get.ensures.value, c.get-2.ensures.value, new_size c.args.name c.args.counts.pointers c.args.counts.values) in
-    front_sound _ _ _ _ _ _ _ c.self.invariant c.self.view_is c.put_front.new.self c.move_filler.new.self _ c.args.at c.args.filler _ _ _ _ (Object (new_object c.args.name c.args.counts.pointers c.args.counts.values)) c.requires.there (omega (arith, long)) (omega (arith, c.requires.room, long, c.get.ensures.value, c.get-2.ensures.value)) tt long (omega (arith, c.word-3.ensures, long)) (omega (arith, c.word-4.ensures, c.get-4.ensures.value))
+    let w = filler_filled _ _ _ _ c.args.at c.args.name c.args.counts.pointers c.args.counts.weaks c.args.counts.values c.args.filler _ _ _ _ _ c.self.invariant.table c.self.view_is c.requires.there (omega (arith, c.requires.room)) (omega (arith, c.get.ensures.value, c.get.ensures.small)) (omega arith) (omega (arith, c.get-2.ensures.value, c.get-2.ensures.small)) c.write_object.ensures c.write_remainder.ensures size rest in
+    let long : 2 + c.get.result + c.from.result + c.get-2.result ≡ tile_size (Object (new_object c.args.name c.args.counts.pointers c.args.counts.weaks c.args.counts.values)) = omega (arith, c.get.ensures.value, c.from.ensures, c.get-2.ensures.value, new_size c.args.name c.args.counts.pointers c.args.counts.weaks c.args.counts.values) in
+    front_sound _ _ _ _ _ _ _ c.self.invariant c.self.view_is c.put_front.new.self c.move_filler.new.self _ c.args.at c.args.filler _ _ _ _ (Object (new_object c.args.name c.args.counts.pointers c.args.counts.weaks c.args.counts.values)) c.requires.there (omega (arith, long)) (omega (arith, c.requires.room, long, c.get.ensures.value, c.from.ensures, c.get-2.ensures.value)) tt long (omega (arith, c.word-3.ensures, long)) (omega (arith, c.word-4.ensures, c.get-4.ensures.value))
     c.put_front.ensures.card_words c.move_filler.ensures.card_words c.put_front.ensures.len c.move_filler.ensures.len (object_written _ _ _ _ _ _ c.word-2.ensures c.put_front.ensures.entries) c.move_filler.ensures.entries w
->>>>>>> main
 
 pub returns : goal.returns
 returns c =
-<<<<<<< HEAD
     let size : c.word.result + (2 + c.get.result + c.from.result + c.get-2.result) ≡ c.args.at + (2 + c.args.counts.pointers + c.args.counts.weaks + c.args.counts.values) = omega (arith, c.word.ensures, c.get.ensures.value, c.from.ensures, c.get-2.ensures.value) in
     let rest : c.get-3.result - (2 + c.get.result + c.from.result + c.get-2.result) ≡ c.args.filler - (2 + c.args.counts.pointers + c.args.counts.weaks + c.args.counts.values) = omega (arith, c.get-3.ensures.value, c.get.ensures.value, c.from.ensures, c.get-2.ensures.value) in
-    (gap_filled _ _ _ _ c.args.at c.args.name c.args.counts.pointers c.args.counts.weaks c.args.counts.values c.args.filler _ _ _ _ _ c.self.invariant c.self.view_is c.requires.there (omega (arith, c.requires.room)) (omega (arith, c.get.ensures.value, c.get.ensures.small)) (omega arith) (omega (arith, c.get-2.ensures.value, c.get-2.ensures.small)) c.write_object.ensures c.write_gap.ensures size rest).table_is
-||||||| 3906014
-    let size : c.word.result + (2 + c.get.result + c.get-2.result) ≡ c.args.at + (2 + c.args.counts.pointers + c.args.counts.values) = omega (arith, c.word.ensures, c.get.ensures.value, c.get-2.ensures.value) in
-    let rest : c.get-3.result - (2 + c.get.result + c.get-2.result) ≡ c.args.filler - (2 + c.args.counts.pointers + c.args.counts.values) = omega (arith, c.get-3.ensures.value, c.get.ensures.value, c.get-2.ensures.value) in
-    (gap_filled _ _ _ _ c.args.at c.args.name c.args.counts.pointers c.args.counts.values c.args.filler _ _ _ _ _ c.self.invariant c.self.view_is c.requires.there (omega (arith, c.requires.room)) (omega (arith, c.get.ensures.value, c.get.ensures.small)) (omega (arith, c.get-2.ensures.value, c.get-2.ensures.small)) c.write_object.ensures c.write_gap.ensures size rest).table_is
-=======
-    let size : c.word.result + (2 + c.get.result + c.get-2.result) ≡ c.args.at + (2 + c.args.counts.pointers + c.args.counts.values) = omega (arith, c.word.ensures, c.get.ensures.value, c.get-2.ensures.value) in
-    let rest : c.get-3.result - (2 + c.get.result + c.get-2.result) ≡ c.args.filler - (2 + c.args.counts.pointers + c.args.counts.values) = omega (arith, c.get-3.ensures.value, c.get.ensures.value, c.get-2.ensures.value) in
-    (filler_filled _ _ _ _ c.args.at c.args.name c.args.counts.pointers c.args.counts.values c.args.filler _ _ _ _ _ c.self.invariant.table c.self.view_is c.requires.there (omega (arith, c.requires.room)) (omega (arith, c.get.ensures.value, c.get.ensures.small)) (omega (arith, c.get-2.ensures.value, c.get-2.ensures.small)) c.write_object.ensures c.write_remainder.ensures size rest).table_is
+    (filler_filled _ _ _ _ c.args.at c.args.name c.args.counts.pointers c.args.counts.weaks c.args.counts.values c.args.filler _ _ _ _ _ c.self.invariant.table c.self.view_is c.requires.there (omega (arith, c.requires.room)) (omega (arith, c.get.ensures.value, c.get.ensures.small)) (omega arith) (omega (arith, c.get-2.ensures.value, c.get-2.ensures.small)) c.write_object.ensures c.write_remainder.ensures size rest).table_is
 
 pub put_front-requires-clause-entries : goal.put_front-requires-clause-entries
 put_front-requires-clause-entries c n low high =
     filler_entries _ _ _ _ _ _ _ c.args.at c.args.filler _ _ n c.self.invariant c.self.view_is c.requires.there c.word-2.ensures c.get-4.ensures.value low high
->>>>>>> main

@@ -17,16 +17,8 @@ overflow_mul-bottom c =
 pub write_object-requires : goal.write_object-requires
 write_object-requires c =
     let e : first_run free c.args.count c.self.inside.rows.items ≡ Some c.args.first = sym (first_run-is _ _ _ _ c.args.count c.self.view_is) ∙ c.requires.lowest in
-<<<<<<< HEAD
-    let f = run_here_is _ _ _ _ _ c.self.invariant e in
-    let covers : 2 + c.args.counts.pointers + c.args.counts.weaks + c.args.counts.values ≤ c.args.count * c.self.inside.words_per_region = rw (size_is_of _ _ _ _ c.self.view_is) c.requires.covers in
-||||||| 3906014
-    let f = run_here_is _ _ _ _ _ c.self.invariant e in
-    let covers : 2 + c.args.counts.pointers + c.args.counts.values ≤ c.args.count * c.self.inside.words_per_region = rw (size_is_of _ _ _ _ c.self.view_is) c.requires.covers in
-=======
     let f = run_here_is _ _ _ _ _ c.self.invariant.table e in
-    let covers : 2 + c.args.counts.pointers + c.args.counts.values ≤ c.args.count * c.self.inside.words_per_region = rw (size_is_of _ _ _ _ c.self.view_is) c.requires.covers in
->>>>>>> main
+    let covers : 2 + c.args.counts.pointers + c.args.counts.weaks + c.args.counts.values ≤ c.args.count * c.self.inside.words_per_region = rw (size_is_of _ _ _ _ c.self.view_is) c.requires.covers in
     rw (c.new.ensures, c.number.ensures) (omega (arith, f.ends, covers))
 
 pub write_run-requires-clause-within : goal.write_run-requires-clause-within
@@ -45,15 +37,15 @@ pub put_object-requires-clause-within : goal.put_object-requires-clause-within
 put_object-requires-clause-within c =
     let e : first_run free c.args.count c.self.inside.rows.items ≡ Some c.args.first = sym (first_run-is _ _ _ _ c.args.count c.self.view_is) ∙ c.requires.lowest in
     let f = run_here_is _ _ _ _ _ c.self.invariant.table e in
-    let covers : 2 + c.args.counts.pointers + c.args.counts.values ≤ c.args.count * c.self.inside.words_per_region = rw (size_is_of _ _ _ _ c.self.view_is) c.requires.covers in
-    rw c.number.ensures (omega (arith, f.ends, covers, c.self.invariant.table.small, c.self.invariant.each_card, c.get.ensures.value, c.get-2.ensures.value))
+    let covers : 2 + c.args.counts.pointers + c.args.counts.weaks + c.args.counts.values ≤ c.args.count * c.self.inside.words_per_region = rw (size_is_of _ _ _ _ c.self.view_is) c.requires.covers in
+    rw c.number.ensures (omega (arith, f.ends, covers, c.self.invariant.table.small, c.self.invariant.each_card, c.get.ensures.value, c.from.ensures, c.get-2.ensures.value))
 
 pub put_object-requires-clause-small : goal.put_object-requires-clause-small
 put_object-requires-clause-small c =
     let e : first_run free c.args.count c.self.inside.rows.items ≡ Some c.args.first = sym (first_run-is _ _ _ _ c.args.count c.self.view_is) ∙ c.requires.lowest in
     let f = run_here_is _ _ _ _ _ c.self.invariant.table e in
-    let covers : 2 + c.args.counts.pointers + c.args.counts.values ≤ c.args.count * c.self.inside.words_per_region = rw (size_is_of _ _ _ _ c.self.view_is) c.requires.covers in
-    rw c.number.ensures (omega (arith, f.ends, covers, c.self.invariant.table.small, c.self.invariant.each_card, c.get.ensures.value, c.get-2.ensures.value))
+    let covers : 2 + c.args.counts.pointers + c.args.counts.weaks + c.args.counts.values ≤ c.args.count * c.self.inside.words_per_region = rw (size_is_of _ _ _ _ c.self.view_is) c.requires.covers in
+    rw c.number.ensures (omega (arith, f.ends, covers, c.self.invariant.table.small, c.self.invariant.each_card, c.get.ensures.value, c.from.ensures, c.get-2.ensures.value))
 
 pub invariant_of-self : goal.invariant_of-self
 invariant_of-self c =
@@ -62,15 +54,9 @@ invariant_of-self c =
     let size : 2 + c.get.result + c.from.result + c.get-2.result ≡ 2 + c.args.counts.pointers + c.args.counts.weaks + c.args.counts.values = omega (arith, c.get.ensures.value, c.from.ensures, c.get-2.ensures.value) in
     let bottom : c.new.result ≡ c.args.first * c.self.inside.words_per_region = c.new.ensures ∙ ap (λ (k : ℕ). k * c.self.inside.words_per_region) c.number.ensures in
     let rows = rw (c.deref_mut.ensures.value, c.number-at.ensures) at c.write_run.ensures in
-<<<<<<< HEAD
-    (run_taken _ _ _ _ _ _ c.args.name c.args.counts.pointers c.args.counts.weaks c.args.counts.values _ _ _ _ _ c.self.invariant c.self.view_is e c.requires.positive c.requires.covers c.requires.tight (omega (arith, c.get.ensures.value, c.get.ensures.small)) (omega arith) (omega (arith, c.get-2.ensures.value, c.get-2.ensures.small)) bottom size number c.write_object.ensures rows).is_table
-||||||| 3906014
-    (run_taken _ _ _ _ _ _ c.args.name c.args.counts.pointers c.args.counts.values _ _ _ _ _ c.self.invariant c.self.view_is e c.requires.positive c.requires.covers c.requires.tight (omega (arith, c.get.ensures.value, c.get.ensures.small)) (omega (arith, c.get-2.ensures.value, c.get-2.ensures.small)) bottom size number c.write_object.ensures rows).is_table
-=======
     let f = run_here_is _ _ _ _ _ c.self.invariant.table e in
-    let w = run_taken _ _ _ _ _ _ c.args.name c.args.counts.pointers c.args.counts.values _ _ _ _ _ c.self.invariant.table c.self.view_is e c.requires.positive c.requires.covers c.requires.tight (omega (arith, c.get.ensures.value, c.get.ensures.small)) (omega (arith, c.get-2.ensures.value, c.get-2.ensures.small)) bottom size number c.write_object.ensures rows in
-    run_sound _ _ _ _ _ _ _ c.self.invariant c.self.view_is _ _ _ _ c.args.first c.args.count _ _ (new_object c.args.name c.args.counts.pointers c.args.counts.values) c.requires.positive c.requires.lowest (ap (λ (k : ℕ). k * c.self.inside.words_per_region) c.number.ensures ∙ ap (λ (m : ℕ). c.args.first * m) (size_is_of _ _ _ _ c.self.view_is)) (omega (arith, size, new_size c.args.name c.args.counts.pointers c.args.counts.values)) c.put_object.ensures.card_words c.put_object.ensures.len c.put_object.ensures.entries (used_written c.self.inside.rows.items _ _ c.self.inside.lowest c.args.first c.args.count c.self.inside.lowest _ c.self.invariant.used_below (omega (arith, f.room)) (used_le c.self.inside.rows.items c.self.inside.lowest c.args.first c.self.invariant.used_below (front_free c.self.inside.rows.items c.args.first c.args.count c.requires.positive f.free)) (omega arith) number rows) w
->>>>>>> main
+    let w = run_taken _ _ _ _ _ _ c.args.name c.args.counts.pointers c.args.counts.weaks c.args.counts.values _ _ _ _ _ c.self.invariant.table c.self.view_is e c.requires.positive c.requires.covers c.requires.tight (omega (arith, c.get.ensures.value, c.get.ensures.small)) (omega arith) (omega (arith, c.get-2.ensures.value, c.get-2.ensures.small)) bottom size number c.write_object.ensures rows in
+    run_sound _ _ _ _ _ _ _ c.self.invariant c.self.view_is _ _ _ _ c.args.first c.args.count _ _ (new_object c.args.name c.args.counts.pointers c.args.counts.weaks c.args.counts.values) c.requires.positive c.requires.lowest (ap (λ (k : ℕ). k * c.self.inside.words_per_region) c.number.ensures ∙ ap (λ (m : ℕ). c.args.first * m) (size_is_of _ _ _ _ c.self.view_is)) (omega (arith, size, new_size c.args.name c.args.counts.pointers c.args.counts.weaks c.args.counts.values)) c.put_object.ensures.card_words c.put_object.ensures.len c.put_object.ensures.entries (used_written c.self.inside.rows.items _ _ c.self.inside.lowest c.args.first c.args.count c.self.inside.lowest _ c.self.invariant.used_below (omega (arith, f.room)) (used_le c.self.inside.rows.items c.self.inside.lowest c.args.first c.self.invariant.used_below (front_free c.self.inside.rows.items c.args.first c.args.count c.requires.positive f.free)) (omega arith) number rows) w
 
 pub returns : goal.returns
 returns c =
@@ -79,10 +65,4 @@ returns c =
     let size : 2 + c.get.result + c.from.result + c.get-2.result ≡ 2 + c.args.counts.pointers + c.args.counts.weaks + c.args.counts.values = omega (arith, c.get.ensures.value, c.from.ensures, c.get-2.ensures.value) in
     let bottom : c.new.result ≡ c.args.first * c.self.inside.words_per_region = c.new.ensures ∙ ap (λ (k : ℕ). k * c.self.inside.words_per_region) c.number.ensures in
     let rows = rw (c.deref_mut.ensures.value, c.number-at.ensures) at c.write_run.ensures in
-<<<<<<< HEAD
-    (run_taken _ _ _ _ _ _ c.args.name c.args.counts.pointers c.args.counts.weaks c.args.counts.values _ _ _ _ _ c.self.invariant c.self.view_is e c.requires.positive c.requires.covers c.requires.tight (omega (arith, c.get.ensures.value, c.get.ensures.small)) (omega arith) (omega (arith, c.get-2.ensures.value, c.get-2.ensures.small)) bottom size number c.write_object.ensures rows).table_is
-||||||| 3906014
-    (run_taken _ _ _ _ _ _ c.args.name c.args.counts.pointers c.args.counts.values _ _ _ _ _ c.self.invariant c.self.view_is e c.requires.positive c.requires.covers c.requires.tight (omega (arith, c.get.ensures.value, c.get.ensures.small)) (omega (arith, c.get-2.ensures.value, c.get-2.ensures.small)) bottom size number c.write_object.ensures rows).table_is
-=======
-    (run_taken _ _ _ _ _ _ c.args.name c.args.counts.pointers c.args.counts.values _ _ _ _ _ c.self.invariant.table c.self.view_is e c.requires.positive c.requires.covers c.requires.tight (omega (arith, c.get.ensures.value, c.get.ensures.small)) (omega (arith, c.get-2.ensures.value, c.get-2.ensures.small)) bottom size number c.write_object.ensures rows).table_is
->>>>>>> main
+    (run_taken _ _ _ _ _ _ c.args.name c.args.counts.pointers c.args.counts.weaks c.args.counts.values _ _ _ _ _ c.self.invariant.table c.self.view_is e c.requires.positive c.requires.covers c.requires.tight (omega (arith, c.get.ensures.value, c.get.ensures.small)) (omega arith) (omega (arith, c.get-2.ensures.value, c.get-2.ensures.small)) bottom size number c.write_object.ensures rows).table_is

@@ -1,27 +1,28 @@
 use Rattle.std.proofs.Common.{refl, ◌∙◌, arith}
-use Rattle.heap_words.specs.Headers.{pointer_word}
-use Rattle.regions.proofs.Access.{weak_read, weak_written}
+use Rattle.heap_words.specs.Headers.{pointer_word, pointer_of}
+use Rattle.regions.proofs.Cards.Entries.{weak_sound}
+use Rattle.regions.proofs.Words.Access.{weak_read, weak_written}
 use Rattle.regions.proofs.table.RegionTable.set_weak.Goals as goal
 
 pub pointers_in-requires : goal.pointers_in-requires
-pointers_in-requires c = (weak_read _ _ _ _ _ _ c.self.invariant c.self.view_is c.requires).at
+pointers_in-requires c = (weak_read _ _ _ _ _ _ c.self.invariant.table c.self.view_is c.requires).at
 
 pub overflow_add-place : goal.overflow_add-place
 overflow_add-place c =
-    let r = weak_read _ _ _ _ _ _ c.self.invariant c.self.view_is c.requires in
-    omega (arith, r.in_words, c.pointers_in.ensures, c.self.invariant.small)
+    let r = weak_read _ _ _ _ _ _ c.self.invariant.table c.self.view_is c.requires in
+    omega (arith, r.in_words, c.pointers_in.ensures, c.self.invariant.table.small)
 
 pub set_field-requires : goal.set_field-requires
 set_field-requires c =
-    let r = weak_read _ _ _ _ _ _ c.self.invariant c.self.view_is c.requires in
+    let r = weak_read _ _ _ _ _ _ c.self.invariant.table c.self.view_is c.requires in
     rw c.pointers_in.ensures r.in_words
 
 pub invariant_of-self : goal.invariant_of-self
 invariant_of-self c =
-    let w = weak_written _ _ _ _ _ _ (pointer_word c.args.target) c.self.invariant c.self.view_is c.requires in
-    rw (c.set_field.ensures.word, c.pointers_in.ensures) w.is_table
+    let w = weak_written _ _ _ _ _ _ (pointer_word c.args.target) c.self.invariant.table c.self.view_is c.requires in
+    rw (c.set_field.ensures.word, c.pointers_in.ensures) (weak_sound _ _ _ _ _ _ _ c.self.invariant c.self.view_is _ c.args.object c.args.slot (pointer_of (pointer_word c.args.target)) c.requires w)
 
 pub returns : goal.returns
 returns c =
-    let w = weak_written _ _ _ _ _ _ (pointer_word c.args.target) c.self.invariant c.self.view_is c.requires in
+    let w = weak_written _ _ _ _ _ _ (pointer_word c.args.target) c.self.invariant.table c.self.view_is c.requires in
     rw (c.set_field.ensures.word, c.pointers_in.ensures) (w.table_is ∙ rw c.set_field.ensures.back refl)

@@ -1,13 +1,13 @@
 use Rattle.std.proofs.Common.{arith, ◌∙◌}
-use Rattle.regions.proofs.ObjectWords.{object_there, weaks_counted}
+use Rattle.regions.proofs.Words.ObjectWords.{object_there, weaks_counted}
 use Rattle.regions.proofs.table.RegionTable.weak_count.Goals as goal
 
 pub weaks_in-requires : goal.weaks_in-requires
 weaks_in-requires c =
-    let o = object_there _ _ _ _ _ c.self.invariant c.self.view_is c.requires in
+    let o = object_there _ _ _ _ _ c.self.invariant.table c.self.view_is c.requires in
     omega (arith, o.1.fits, o.1.large)
 
 pub returns : goal.returns
 returns c =
-    let o = object_there _ _ _ _ _ c.self.invariant c.self.view_is c.requires in
+    let o = object_there _ _ _ _ _ c.self.invariant.table c.self.view_is c.requires in
     c.weaks_in.ensures ∙ weaks_counted _ _ _ _ o.1
