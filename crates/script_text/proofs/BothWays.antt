@@ -5,6 +5,7 @@ pub mod Collections
 pub mod ReplyLaws
 pub mod StepsRead
 pub mod EventsRead
+pub mod Lengths
 pub mod StepsSpelled
 pub mod EventsSpelled
 pub mod Texts

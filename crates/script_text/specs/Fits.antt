@@ -13,7 +13,7 @@ use Rattle.object_graph.specs.declared.step.Step.TheVariants as steps
 use Rattle.object_graph.specs.declared.step.Reply.{Reply}
 use Rattle.object_graph.specs.declared.step.Reply.TheVariants as replies
 use Rattle.object_graph.specs.declared.step.Event.{Event}
-use Rattle.script_text.specs.Reading.{small, large}
+use Rattle.script_text.specs.Reading.{small, large, most_weaks}
 
 -- the numbers of an action are those of its type
 abbrev pub Fits : Action → Type 0
@@ -27,6 +27,10 @@ Fits (actions.Drop register) = Unit {0}
 Fits (actions.Load to from) = Unit {0}
 Fits (actions.Save to from) = Unit {0}
 Fits (actions.Shape object) = Unit {0}
+Fits (actions.NewWeak to counts w) = (counts.pointers ≤ small) × (w ≤ most_weaks) × (counts.values ≤ small)
+Fits (actions.GetWeak to object i) = i ≤ small
+Fits (actions.PutWeak object i value) = i ≤ small
+Fits (actions.Weaks object) = Unit {0}
 
 abbrev pub CollectionFits : CollectorStep → Type 0
 CollectionFits collector.Begin = Unit {0}

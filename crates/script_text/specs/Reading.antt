@@ -113,6 +113,41 @@ shape_of a = do
   object ← register_of a
   Some (actions.Shape object)
 
+-- an object has at most 255 weak slots
+abbrev pub most_weaks : ℕ
+most_weaks = 255
+
+unfoldable pub new_weak_of : List ℕ → List ℕ → List ℕ → List ℕ → Option Action
+new_weak_of a b c e = do
+  to ← register_of a
+  p ← number_of small b
+  w ← number_of most_weaks c
+  d ← number_of small e
+  Some (actions.NewWeak to (record { pointers = p; values = d }) w)
+
+unfoldable pub get_weak_of : List ℕ → List ℕ → List ℕ → Option Action
+get_weak_of a b c = do
+  to ← register_of a
+  object ← register_of b
+  i ← number_of small c
+  Some (actions.GetWeak to object i)
+
+unfoldable pub put_weak_of : List ℕ → List ℕ → List ℕ → Option Action
+put_weak_of a b c = do
+  object ← register_of a
+  i ← number_of small b
+  value ← value_of c
+  Some (actions.PutWeak object i value)
+
+unfoldable pub weaks_of : List ℕ → Option Action
+weaks_of a = do
+  object ← register_of a
+  Some (actions.Weaks object)
+
+-- a verb and four words
+unfoldable pub longest_action_of : List ℕ → List ℕ → List ℕ → List ℕ → List ℕ → Option Action
+longest_action_of verb a b c d = if bytes_eq verb (codes "newweak") then new_weak_of a b c d else None
+
 -- a verb and three words
 unfoldable pub long_action_of : List ℕ → List ℕ → List ℕ → List ℕ → Option Action
 long_action_of verb a b c =
@@ -120,6 +155,8 @@ long_action_of verb a b c =
     else if bytes_eq verb (codes "get") then get_of a b c
     else if bytes_eq verb (codes "put") then put_of a b c
     else if bytes_eq verb (codes "write") then write_of a b c
+    else if bytes_eq verb (codes "getweak") then get_weak_of a b c
+    else if bytes_eq verb (codes "putweak") then put_weak_of a b c
     else None
 
 -- a verb and two words
@@ -136,9 +173,11 @@ unfoldable pub lone_action_of : List ℕ → List ℕ → Option Action
 lone_action_of verb a =
     if bytes_eq verb (codes "drop") then drop_of a
     else if bytes_eq verb (codes "shape") then shape_of a
+    else if bytes_eq verb (codes "weaks") then weaks_of a
     else None
 
 unfoldable pub action_of : List (List ℕ) → Option Action
+action_of (verb ∷ a ∷ b ∷ c ∷ d ∷ []) = longest_action_of verb a b c d
 action_of (verb ∷ a ∷ b ∷ c ∷ []) = long_action_of verb a b c
 action_of (verb ∷ a ∷ b ∷ []) = pair_action_of verb a b
 action_of (verb ∷ a ∷ []) = lone_action_of verb a

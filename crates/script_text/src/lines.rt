@@ -9,7 +9,7 @@ ghost use Rattle.script_text.specs.Records.{actor_word, reply_words, event_line}
 use crate::bytes::{put_byte, put_number, put_small, put_text};
 use heap_words::config::{Config, Format};
 use object_graph::{
-    Action, Actor, CollectorStep, Event, GlobalRoot, Refusal, Register, Reply, Step,
+    Action, Actor, CollectorStep, Counts, Event, GlobalRoot, Refusal, Register, Reply, Step,
 };
 
 /// The room that a line needs: no line of a record is longer.
@@ -133,6 +133,17 @@ fn put_value(buffer: &mut [u8], at: usize, value: Option<Register>) -> usize
     }
 }
 
+/// The step that makes an object with weak slots.
+fn put_new_weak(buffer: &mut [u8], at: usize, to: Register, counts: Counts, weaks: u8) -> usize
+    requires { at + 48 ≤ length buffer.old }
+    ensures put { take result buffer.new ≡ take at buffer.old ++ spaced (action_words (Action.NewWeak to counts weaks)) }
+    ensures end { result ≤ at + 48 }
+{
+    let at = put_field(buffer, at, b"newweak ", to, counts.pointers);
+    let at = put_count(buffer, at, b" ", weaks as u32);
+    put_count(buffer, at, b" ", counts.values)
+}
+
 fn put_action(buffer: &mut [u8], at: usize, action: Action) -> usize
     requires { at + 48 ≤ length buffer.old }
     ensures put { take result buffer.new ≡ take at buffer.old ++ spaced (action_words action) }
@@ -181,6 +192,20 @@ fn put_action(buffer: &mut [u8], at: usize, action: Action) -> usize
             put_named(buffer, at, b" ", from)
         }
         Action::Shape { object } => put_named(buffer, at, b"shape ", object),
+        Action::NewWeak { to, counts, weaks } => put_new_weak(buffer, at, to, counts, weaks),
+        Action::GetWeak { to, object, slot } => {
+            let at = put_named(buffer, at, b"getweak ", to);
+            put_field(buffer, at, b" ", object, slot)
+        }
+        Action::PutWeak {
+            object,
+            slot,
+            value,
+        } => {
+            let at = put_field(buffer, at, b"putweak ", object, slot);
+            put_value(buffer, at, value)
+        }
+        Action::Weaks { object } => put_named(buffer, at, b"weaks ", object),
     }
 }
 

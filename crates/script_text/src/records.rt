@@ -16,7 +16,7 @@ use std::alloc::Global;
 /// The event of this count that a line gives, whose first words these are.
 #[tactic(auto, unfolding(crate::specs::Events::event_line_of))]
 fn event_line(count: u64, config: &Config, line: &[u8], words: &[&[u8]]) -> Result<Event, Kind>
-    requires { map (λ w. w.now) words.now ≡ take 11 (words_of line.now) }
+    requires { map (λ w. w.now) words.now ≡ take 12 (words_of line.now) }
     ensures exact { result ≡ event_line_of count config.now line.now }
     ensures known { IfOk result (IsEvent config.now) }
 {
@@ -31,7 +31,7 @@ fn event_line(count: u64, config: &Config, line: &[u8], words: &[&[u8]]) -> Resu
 pub fn parse_record(alloc: Global, text: &[u8]) -> Result<Record, LineFault>
     ensures { Gives result text.now (record_of text.now) }
 {
-    let mut words: [&[u8]; 11] = [&text[..0]; 11];
+    let mut words: [&[u8]; 12] = [&text[..0]; 12];
     let Some(first) = split_line(text, &mut words) else {
         if text.is_empty() {
             return Err(LineFault {

@@ -69,7 +69,7 @@ fn heap(words: &[&[u8]]) -> Option<Config>
 /// The sizes that the heap line gives, whose first words these are.
 #[tactic(auto, unfolding(crate::specs::Lines::heap_line_of))]
 pub(crate) fn heap_line(line: &[u8], words: &[&[u8]]) -> Result<Config, Kind>
-    requires { map (λ w. w.now) words.now ≡ take 11 (words_of line.now) }
+    requires { map (λ w. w.now) words.now ≡ take 12 (words_of line.now) }
     ensures { result ≡ heap_line_of line.now }
 {
     if line.len() > LONGEST_LINE {
@@ -84,7 +84,7 @@ pub(crate) fn heap_line(line: &[u8], words: &[&[u8]]) -> Result<Config, Kind>
 /// The step that a line gives, whose first words these are.
 #[tactic(auto, unfolding(crate::specs::Lines::step_line_of))]
 fn step_line(config: &Config, line: &[u8], words: &[&[u8]]) -> Result<Step, Kind>
-    requires { map (λ w. w.now) words.now ≡ take 11 (words_of line.now) }
+    requires { map (λ w. w.now) words.now ≡ take 12 (words_of line.now) }
     ensures exact { result ≡ step_line_of config.now line.now }
     ensures known { IfOk result (IsStep config.now) }
 {
@@ -99,7 +99,7 @@ fn step_line(config: &Config, line: &[u8], words: &[&[u8]]) -> Result<Step, Kind
 pub fn parse(alloc: Global, text: &[u8]) -> Result<Plan, LineFault>
     ensures { Gives result text.now (script_of text.now) }
 {
-    let mut words: [&[u8]; 11] = [&text[..0]; 11];
+    let mut words: [&[u8]; 12] = [&text[..0]; 12];
     let Some(first) = split_line(text, &mut words) else {
         if text.is_empty() {
             return Err(LineFault {

@@ -1,7 +1,7 @@
 //! Steps, read from the words of their lines.
 
 ghost use Rattle.std.specs.Prelude.{◌≡◌, ◌<◌, map, IfOk};
-ghost use Rattle.script_text.specs.Reading.{number_of, small, register_of, global_of, value_of, new_of, get_of, put_of, write_of, read_of, move_of, drop_of, load_of, save_of, shape_of, long_action_of, pair_action_of, lone_action_of, action_of, collection_of};
+ghost use Rattle.script_text.specs.Reading.{number_of, small, register_of, global_of, value_of, new_of, get_of, put_of, write_of, read_of, move_of, drop_of, load_of, save_of, shape_of, new_weak_of, get_weak_of, put_weak_of, weaks_of, longest_action_of, long_action_of, pair_action_of, lone_action_of, action_of, collection_of};
 ghost use Rattle.script_text.specs.Lines.{mutator_of, step_of};
 ghost use Rattle.object_graph.specs.Actors.{IsStep};
 
@@ -111,6 +111,66 @@ fn shape_action(word: &[u8]) -> Option<Action>
     Some(Action::Shape { object })
 }
 
+#[tactic(auto, unfolding(crate::specs::Reading::new_weak_of))]
+fn new_weak_action(to: &[u8], pointers: &[u8], weaks: &[u8], values: &[u8]) -> Option<Action>
+    ensures { result ≡ new_weak_of to.now pointers.now weaks.now values.now }
+{
+    let to = register(to)?;
+    let pointers = small_number(pointers)?;
+    let weaks = number(weaks, 255)?;
+    let values = small_number(values)?;
+    let counts = Counts { pointers, values };
+    Some(Action::NewWeak {
+        to,
+        counts,
+        weaks: weaks as u8,
+    })
+}
+
+#[tactic(auto, unfolding(crate::specs::Reading::get_weak_of))]
+fn get_weak_action(to: &[u8], object: &[u8], slot: &[u8]) -> Option<Action>
+    ensures { result ≡ get_weak_of to.now object.now slot.now }
+{
+    let to = register(to)?;
+    let object = register(object)?;
+    let slot = small_number(slot)?;
+    Some(Action::GetWeak { to, object, slot })
+}
+
+#[tactic(auto, unfolding(crate::specs::Reading::put_weak_of))]
+fn put_weak_action(object: &[u8], slot: &[u8], stored: &[u8]) -> Option<Action>
+    ensures { result ≡ put_weak_of object.now slot.now stored.now }
+{
+    let object = register(object)?;
+    let slot = small_number(slot)?;
+    let value = value(stored)?;
+    Some(Action::PutWeak {
+        object,
+        slot,
+        value,
+    })
+}
+
+#[tactic(auto, unfolding(crate::specs::Reading::weaks_of))]
+fn weaks_action(word: &[u8]) -> Option<Action>
+    ensures { result ≡ weaks_of word.now }
+{
+    let object = register(word)?;
+    Some(Action::Weaks { object })
+}
+
+/// A verb and four words.
+#[tactic(auto, unfolding(crate::specs::Reading::longest_action_of))]
+fn longest_action(verb: &[u8], a: &[u8], b: &[u8], c: &[u8], d: &[u8]) -> Option<Action>
+    ensures { result ≡ longest_action_of verb.now a.now b.now c.now d.now }
+{
+    if verb == b"newweak".as_slice() {
+        new_weak_action(a, b, c, d)
+    } else {
+        None
+    }
+}
+
 /// A verb and three words.
 #[tactic(auto, unfolding(crate::specs::Reading::long_action_of))]
 fn long_action(verb: &[u8], a: &[u8], b: &[u8], c: &[u8]) -> Option<Action>
@@ -124,6 +184,10 @@ fn long_action(verb: &[u8], a: &[u8], b: &[u8], c: &[u8]) -> Option<Action>
         put_action(a, b, c)
     } else if verb == b"write".as_slice() {
         write_action(a, b, c)
+    } else if verb == b"getweak".as_slice() {
+        get_weak_action(a, b, c)
+    } else if verb == b"putweak".as_slice() {
+        put_weak_action(a, b, c)
     } else {
         None
     }
@@ -156,6 +220,8 @@ fn lone_action(verb: &[u8], a: &[u8]) -> Option<Action>
         drop_action(a)
     } else if verb == b"shape".as_slice() {
         shape_action(a)
+    } else if verb == b"weaks".as_slice() {
+        weaks_action(a)
     } else {
         None
     }
@@ -167,6 +233,7 @@ pub(crate) fn action(words: &[&[u8]]) -> Option<Action>
     ensures { result ≡ action_of (map (λ w. w.now) words.now) }
 {
     match words {
+        [verb, a, b, c, d] => longest_action(verb, a, b, c, d),
         [verb, a, b, c] => long_action(verb, a, b, c),
         [verb, a, b] => pair_action(verb, a, b),
         [verb, a] => lone_action(verb, a),

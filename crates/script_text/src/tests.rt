@@ -71,7 +71,7 @@ fn fault_of(alloc: Global, text: &[u8]) -> Option<LineFault> {
 #[test]
 fn faults(rt: HostRuntime) -> Result<(), Fail> {
     let alloc = rt.alloc();
-    let rows: [(&str, u64, Kind); 24] = [
+    let rows: [(&str, u64, Kind); 30] = [
         ("", 1, Kind::BadHeap),
         ("\n", 1, Kind::BadHeap),
         ("heap 4 16 8 1 0", 1, Kind::Cut),
@@ -85,6 +85,12 @@ fn faults(rt: HostRuntime) -> Result<(), Fail> {
         ("heap 4 16 8 1 0\n0 new r0 +1 1\n", 2, Kind::BadStep),
         ("heap 4 16 8 1 0\n0 new r0 1 4294967296\n", 2, Kind::BadStep),
         ("heap 4 16 8 1 0\n0 new r0 1 1 1 1 1 1\n", 2, Kind::BadStep),
+        ("heap 4 16 8 1 0\n0 newweak r0 1 256 1\n", 2, Kind::BadStep),
+        ("heap 4 16 8 1 0\n0 newweak r0 1 1\n", 2, Kind::BadStep),
+        ("heap 4 16 8 1 0\n0 new r0 1 1 1\n", 2, Kind::BadStep),
+        ("heap 4 16 8 1 0\n0 getweak r0 nil 0\n", 2, Kind::BadStep),
+        ("heap 4 16 8 1 0\n0 putweak r0 0 g0\n", 2, Kind::BadStep),
+        ("heap 4 16 8 1 0\n0 weaks r0 0\n", 2, Kind::BadStep),
         ("heap 4 16 8 1 0\n0  new r0 1 1\n", 2, Kind::BadStep),
         ("heap 4 16 8 1 0\n0 new r0 1 1 \n", 2, Kind::BadStep),
         ("heap 4 16 8 1 0\n1 drop r0\n", 2, Kind::BadActor),
@@ -115,7 +121,7 @@ fn record_fault_of(alloc: Global, text: &[u8]) -> Option<LineFault> {
 #[test]
 fn record_faults(rt: HostRuntime) -> Result<(), Fail> {
     let alloc = rt.alloc();
-    let rows: [(&str, Kind); 32] = [
+    let rows: [(&str, Kind); 35] = [
         ("2 0 drop r0 = ok", Kind::BadCount),
         ("01 0 drop r0 = ok", Kind::BadCount),
         ("0 0 drop r0 = ok", Kind::BadCount),
@@ -133,6 +139,9 @@ fn record_faults(rt: HostRuntime) -> Result<(), Fail> {
         ("1 m0 refine 2 = refined 0", Kind::BadStep),
         ("1 f0 mark 4 = ok", Kind::BadStep),
         ("1 0 put r0 0 nil 1 1 1 1 1 1 = ok", Kind::BadStep),
+        ("1 0 newweak r0 1 256 1 = #0", Kind::BadStep),
+        ("1 0 newweak r0 1 1 1 = refused 4 TooBig 1", Kind::BadReply),
+        ("1 0 newweak r0 1 1 1", Kind::BadReply),
         ("1 0 drop r0", Kind::BadReply),
         ("1 0 drop r0 = ", Kind::BadReply),
         ("1 0 drop r0 = ok = ok", Kind::BadReply),
@@ -163,7 +172,7 @@ fn record_faults(rt: HostRuntime) -> Result<(), Fail> {
 }
 
 /// Records, each with its number of events.
-const RECORDS: [(&str, usize); 9] = [
+const RECORDS: [(&str, usize); 10] = [
     ("heap 4 16 8 1 0\n", 0),
     (
         "heap 4 16 8 1 0\n1 0 new r0 1 1 = #0\n2 0 read r0 0 = 0\n3 0 get r1 r0 0 = nil\n",
@@ -178,6 +187,10 @@ const RECORDS: [(&str, usize); 9] = [
         3,
     ),
     ("heap 4 16 8 1 0\n1 0 drop r0 = nil\n", 1),
+    (
+        "heap 4 16 8 1 0\n1 0 newweak r0 0 1 0 = #0\n2 0 new r1 0 1 = #1\n3 0 putweak r0 0 r1 = ok\n4 0 drop r1 = ok\n5 gc begin = ok\n6 gc remark = marked 1\n7 0 getweak r1 r0 0 = nil\n8 0 putweak r0 1 nil = refused 2 NoField\n9 0 weaks r0 = 1\n10 0 newweak r7 4294967295 255 4294967295 = refused 4 TooBig\n",
+        10,
+    ),
     (
         "heap 4 16 8 1 0\n1 m7 mark 9 = refused 7 NotMarking\n2 f7 refine 1 = refined 5\n",
         2,
@@ -417,6 +430,42 @@ fn many_forms(alloc: Global) -> Result<Record, Fail> {
                 values: 60,
             },
         ),
+        (
+            Action::NewWeak {
+                to: b,
+                counts: Counts {
+                    pointers: 4_294_967_295,
+                    values: 0,
+                },
+                weaks: 255,
+            },
+            Reply::Refused(Refusal::TooBig),
+        ),
+        (
+            Action::GetWeak {
+                to: b,
+                object: a,
+                slot: 254,
+            },
+            Reply::Named(Some(0)),
+        ),
+        (
+            Action::PutWeak {
+                object: b,
+                slot: 3,
+                value: None,
+            },
+            Reply::Done,
+        ),
+        (
+            Action::PutWeak {
+                object: b,
+                slot: 0,
+                value: Some(a),
+            },
+            Reply::Refused(Refusal::Nil),
+        ),
+        (Action::Weaks { object: a }, Reply::Word(255)),
     ];
     for (action, reply) in ops {
         push_op(&mut record, 1, action, reply)?;
@@ -463,14 +512,19 @@ const MANY_FORMS: &str = "heap 4 16 8 2 0
 9 1 load r0 g0 = refused 5 NamesSpent
 10 1 save g15 r7 = 10000000000000000000
 11 1 shape r7 = 5 60
-12 gc begin = refused 6 MarkRunning
-13 gc mark 9 = refused 7 NotMarking
-14 gc remark = marked 7
-15 gc cleanup = reclaimed 99
-16 gc refine 100 = refined 1000
-17 gc pause 0 = moved 2 31
-18 m0 mark 4 = ok
-19 f7 refine 1 = refined 0
+12 1 newweak r7 4294967295 255 0 = refused 4 TooBig
+13 1 getweak r7 r0 254 = #0
+14 1 putweak r7 3 nil = ok
+15 1 putweak r7 0 r0 = refused 1 Nil
+16 1 weaks r0 = 255
+17 gc begin = refused 6 MarkRunning
+18 gc mark 9 = refused 7 NotMarking
+19 gc remark = marked 7
+20 gc cleanup = reclaimed 99
+21 gc refine 100 = refined 1000
+22 gc pause 0 = moved 2 31
+23 m0 mark 4 = ok
+24 f7 refine 1 = refined 0
 ";
 
 /// What a writer does with its last byte taken.

@@ -16,14 +16,14 @@ pub(crate) struct Front {
     pub(crate) count: usize,
 }
 
-/// Finds the line at the front of a text, where a line feed ends it, and puts its first eleven words into `words`. No good
+/// Finds the line at the front of a text, where a line feed ends it, and puts its first twelve words into `words`. No good
 /// line has more. Where there is no line, `words` may have changed too.
 pub(crate) fn split_line<'a>(text: &'a [u8], words: &mut [&'a [u8]]) -> Option<Front>
-    requires { length words.old ≡ 11 }
+    requires { length words.old ≡ 12 }
     ensures line { IfSome result (λ f. pieces_of text.now ≡ take f.length text.now ∷ pieces_of (drop (f.length + 1) text.now)) }
     ensures within { IfSome result (λ f. f.length < length text.now) }
-    ensures kept { IfSome result (λ f. f.count ≤ 11) }
-    ensures words { IfSome result (λ f. map (λ w. w.now) (take f.count words.new) ≡ take 11 (words_of (take f.length text.now))) }
+    ensures kept { IfSome result (λ f. f.count ≤ 12) }
+    ensures words { IfSome result (λ f. map (λ w. w.now) (take f.count words.new) ≡ take 12 (words_of (take f.length text.now))) }
     ensures none { IfNone result (pieces_of text.now ≡ text.now ∷ []) }
 {
     let mut count = 0;
@@ -36,13 +36,13 @@ pub(crate) fn split_line<'a>(text: &'a [u8], words: &mut [&'a [u8]]) -> Option<F
             continue;
         }
         if byte == b'\n' {
-            if count < 11 {
+            if count < 12 {
                 words[count] = &text[start..at];
                 count += 1;
             }
             return Some(Front { length: at, count });
         }
-        if byte == b' ' && count < 11 {
+        if byte == b' ' && count < 12 {
             words[count] = &text[start..at];
             count += 1;
             start = at + 1;

@@ -36,6 +36,18 @@ fn action_fits(action: Action)
         Action::Load { .. } => {}
         Action::Save { .. } => {}
         Action::Shape { .. } => {}
+        Action::NewWeak { counts, weaks, .. } => {
+            let _ = counts.pointers;
+            let _ = weaks;
+            let _ = counts.values;
+        }
+        Action::GetWeak { slot, .. } => {
+            let _ = slot;
+        }
+        Action::PutWeak { slot, .. } => {
+            let _ = slot;
+        }
+        Action::Weaks { .. } => {}
     }
 }
 

@@ -9,7 +9,7 @@ use Rattle.object_graph.specs.declared.step.Action.{Action}
 use Rattle.object_graph.specs.declared.step.Action.TheVariants as actions
 use Rattle.script_text.specs.Spelling.{register_word, value_word, action_words}
 use Rattle.script_text.specs.Fits.{Fits}
-use Rattle.script_text.specs.Reading.{◌>>=◌, number_of, small, large, register_of, global_of, value_of, new_of, get_of, put_of, write_of, read_of, move_of, drop_of, load_of, save_of, shape_of, long_action_of, pair_action_of, lone_action_of, action_of}
+use Rattle.script_text.specs.Reading.{◌>>=◌, number_of, small, large, most_weaks, register_of, global_of, value_of, new_of, get_of, put_of, write_of, read_of, move_of, drop_of, load_of, save_of, shape_of, new_weak_of, get_weak_of, put_weak_of, weaks_of, longest_action_of, long_action_of, pair_action_of, lone_action_of, action_of}
 use Rattle.script_text.proofs.Parts.Numbers.{number_of_some, number_of_is, register_of_some, register_of_is, global_of_some, global_of_is}
 
 reg : (r : Register) → register_of (register_word r) ≡ Some r
@@ -28,7 +28,7 @@ val (Some r) = rw (reg r) refl
 
 -- what is spelled so is read so
 pub action_again : (a : Action) → Fits a → action_of (action_words a) ≡ Some a
-unfolding action_of long_action_of pair_action_of lone_action_of new_of get_of put_of write_of read_of move_of drop_of load_of save_of shape_of
+unfolding action_of longest_action_of long_action_of pair_action_of lone_action_of new_of get_of put_of write_of read_of move_of drop_of load_of save_of shape_of new_weak_of get_weak_of put_weak_of weaks_of
 action_again (actions.New to counts) fits = rw (reg to, num small counts.pointers (omega arith) fits.0, num small counts.values (omega arith) fits.1) refl
 action_again (actions.Get to object i) fits = rw (reg to, reg object, num small i (omega arith) fits) refl
 action_again (actions.Put object i value) fits = rw (reg object, num small i (omega arith) fits, val value) refl
@@ -39,6 +39,10 @@ action_again (actions.Drop register) fits = rw (reg register) refl
 action_again (actions.Load to from) fits = rw (reg to, global_of_some from) refl
 action_again (actions.Save to from) fits = rw (global_of_some to, reg from) refl
 action_again (actions.Shape object) fits = rw (reg object) refl
+action_again (actions.NewWeak to counts w) fits = rw (reg to, num small counts.pointers (omega arith) fits.0, num most_weaks w (omega arith) fits.1, num small counts.values (omega arith) fits.2) refl
+action_again (actions.GetWeak to object i) fits = rw (reg to, reg object, num small i (omega arith) fits) refl
+action_again (actions.PutWeak object i value) fits = rw (reg object, num small i (omega arith) fits, val value) refl
+action_again (actions.Weaks object) fits = rw (reg object) refl
 
 -- the steps of a reading that gave something
 pub option_bind : {A B : Type 0} (o : Option A) (f : A → Option B) (y : B) → (o >>= f) ≡ Some y → (x : A) × (o ≡ Some x) × (f x ≡ Some y)
@@ -68,6 +72,12 @@ same_some r q e = cc
 pub record ReadFrom (verb : List ℕ) (rest : List (List ℕ)) (x : Action) : Type 0 where
   pub words : verb ∷ rest ≡ action_words x
   pub fits : Fits x
+
+read_as : (verb : List ℕ) (rest : List (List ℕ)) (y x : Action) → y ≡ x → verb ∷ rest ≡ action_words y → Fits y → ReadFrom verb rest x
+read_as verb rest y x same words fits = subst (λ (done : Action). ReadFrom verb rest done) same (record { words = words; fits = fits })
+
+words5 : (a b c d e v w x y z : List ℕ) → a ≡ v → b ≡ w → c ≡ x → d ≡ y → e ≡ z → a ∷ b ∷ c ∷ d ∷ e ∷ [] ≡ v ∷ w ∷ x ∷ y ∷ z ∷ []
+words5 a b c d e v w x y z o p q r s = cc
 
 words4 : (a b c d w x y z : List ℕ) → a ≡ w → b ≡ x → c ≡ y → d ≡ z → a ∷ b ∷ c ∷ d ∷ [] ≡ w ∷ x ∷ y ∷ z ∷ []
 words4 a b c d w x y z p q r s = cc
@@ -185,17 +195,77 @@ shape_is verb a x v e =
     let q0 = register_of_is a p0.0 p0.1 in
     subst (λ (done : Action). ReadFrom verb (a ∷ []) done) (some_is (actions.Shape p0.0) x p0.2) (record { words = words2 verb a _ _ v q0; fits = tt })
 
+new_weak_is : (verb a b c d : List ℕ) (x : Action) → verb ≡ codes "newweak" → new_weak_of a b c d ≡ Some x → ReadFrom verb (a ∷ b ∷ c ∷ d ∷ []) x
+unfolding new_weak_of
+new_weak_is verb a b c d x v e =
+    let p0 = option_bind (register_of a) (λ y0. number_of small b >>= λ y1. number_of most_weaks c >>= λ y2. number_of small d >>= λ y3. Some (actions.NewWeak y0 (record { pointers = y1; values = y3 }) y2)) x e in
+    let p1 = option_bind (number_of small b) (λ y1. number_of most_weaks c >>= λ y2. number_of small d >>= λ y3. Some (actions.NewWeak p0.0 (record { pointers = y1; values = y3 }) y2)) x p0.2 in
+    let p2 = option_bind (number_of most_weaks c) (λ y2. number_of small d >>= λ y3. Some (actions.NewWeak p0.0 (record { pointers = p1.0; values = y3 }) y2)) x p1.2 in
+    let p3 = option_bind (number_of small d) (λ y3. Some (actions.NewWeak p0.0 (record { pointers = p1.0; values = y3 }) p2.0)) x p2.2 in
+    let q0 = register_of_is a p0.0 p0.1 in
+    let q1 = number_of_is small b p1.0 p1.1 in
+    let q2 = number_of_is most_weaks c p2.0 p2.1 in
+    let q3 = number_of_is small d p3.0 p3.1 in
+    let made = actions.NewWeak p0.0 (record { pointers = p1.0; values = p3.0 }) p2.0 in
+    read_as verb (a ∷ b ∷ c ∷ d ∷ []) made x (some_is made x p3.2) (words5 verb a b c d (codes "newweak") (register_word p0.0) (decimal p1.0) (decimal p2.0) (decimal p3.0) v q0 q1.0 q2.0 q3.0) (q1.1, q2.1, q3.1)
+
+get_weak_is : (verb a b c : List ℕ) (x : Action) → verb ≡ codes "getweak" → get_weak_of a b c ≡ Some x → ReadFrom verb (a ∷ b ∷ c ∷ []) x
+unfolding get_weak_of
+get_weak_is verb a b c x v e =
+    let p0 = option_bind (register_of a) (λ y0. register_of b >>= λ y1. number_of small c >>= λ y2. Some (actions.GetWeak y0 y1 y2)) x e in
+    let p1 = option_bind (register_of b) (λ y1. number_of small c >>= λ y2. Some (actions.GetWeak p0.0 y1 y2)) x p0.2 in
+    let p2 = option_bind (number_of small c) (λ y2. Some (actions.GetWeak p0.0 p1.0 y2)) x p1.2 in
+    let q0 = register_of_is a p0.0 p0.1 in
+    let q1 = register_of_is b p1.0 p1.1 in
+    let q2 = number_of_is small c p2.0 p2.1 in
+    subst (λ (done : Action). ReadFrom verb (a ∷ b ∷ c ∷ []) done) (some_is (actions.GetWeak p0.0 p1.0 p2.0) x p2.2) (record { words = words4 verb a b c _ _ _ _ v q0 q1 q2.0; fits = q2.1 })
+
+put_weak_is : (verb a b c : List ℕ) (x : Action) → verb ≡ codes "putweak" → put_weak_of a b c ≡ Some x → ReadFrom verb (a ∷ b ∷ c ∷ []) x
+unfolding put_weak_of
+put_weak_is verb a b c x v e =
+    let p0 = option_bind (register_of a) (λ y0. number_of small b >>= λ y1. value_of c >>= λ y2. Some (actions.PutWeak y0 y1 y2)) x e in
+    let p1 = option_bind (number_of small b) (λ y1. value_of c >>= λ y2. Some (actions.PutWeak p0.0 y1 y2)) x p0.2 in
+    let p2 = option_bind (value_of c) (λ y2. Some (actions.PutWeak p0.0 p1.0 y2)) x p1.2 in
+    let q0 = register_of_is a p0.0 p0.1 in
+    let q1 = number_of_is small b p1.0 p1.1 in
+    let q2 = value_of_is c p2.0 p2.1 in
+    subst (λ (done : Action). ReadFrom verb (a ∷ b ∷ c ∷ []) done) (some_is (actions.PutWeak p0.0 p1.0 p2.0) x p2.2) (record { words = words4 verb a b c _ _ _ _ v q0 q1.0 q2; fits = q1.1 })
+
+weaks_is : (verb a : List ℕ) (x : Action) → verb ≡ codes "weaks" → weaks_of a ≡ Some x → ReadFrom verb (a ∷ []) x
+unfolding weaks_of
+weaks_is verb a x v e =
+    let p0 = option_bind (register_of a) (λ y0. Some (actions.Weaks y0)) x e in
+    let q0 = register_of_is a p0.0 p0.1 in
+    subst (λ (done : Action). ReadFrom verb (a ∷ []) done) (some_is (actions.Weaks p0.0) x p0.2) (record { words = words2 verb a _ _ v q0; fits = tt })
+
+-- the verbs of weak slots, behind those of three words
+abbrev weak_of : List ℕ → List ℕ → List ℕ → List ℕ → Option Action
+weak_of verb a b c = cond (bytes_eq verb (codes "getweak")) (get_weak_of a b c) (cond (bytes_eq verb (codes "putweak")) (put_weak_of a b c) None)
+
+weak_is : (verb a b c : List ℕ) (x : Action) → weak_of verb a b c ≡ Some x → ReadFrom verb (a ∷ b ∷ c ∷ []) x
+weak_is verb a b c x e =
+    elim (chosen (bytes_eq verb (codes "getweak")) (get_weak_of a b c) (cond (bytes_eq verb (codes "putweak")) (put_weak_of a b c) None) x e) [
+      | inl h ↦ get_weak_is verb a b c x ((bytes_eq-Decides verb (codes "getweak")).0 h.0) h.1
+      | inr h ↦ (elim (chosen (bytes_eq verb (codes "putweak")) (put_weak_of a b c) None x h.1) [
+        | inl k ↦ put_weak_is verb a b c x ((bytes_eq-Decides verb (codes "putweak")).0 k.0) k.1
+        | inr k ↦ absurd (none_some x k.1)
+      ])
+    ]
+
 -- what is read is spelled so
 pub action_is : (ws : List (List ℕ)) (x : Action) → action_of ws ≡ Some x → (ws ≡ action_words x) × Fits x
-unfolding action_of long_action_of pair_action_of lone_action_of
+unfolding action_of longest_action_of long_action_of pair_action_of lone_action_of
 action_is [] x e = absurd cc
 action_is (verb ∷ []) x e = absurd cc
 action_is (verb ∷ a ∷ []) x e =
-    elim (chosen (bytes_eq verb (codes "drop")) (drop_of a) (cond (bytes_eq verb (codes "shape")) (shape_of a) None) x e) [
+    elim (chosen (bytes_eq verb (codes "drop")) (drop_of a) (cond (bytes_eq verb (codes "shape")) (shape_of a) (cond (bytes_eq verb (codes "weaks")) (weaks_of a) None)) x e) [
       | inl h ↦ (let r = drop_is verb a x ((bytes_eq-Decides verb (codes "drop")).0 h.0) h.1 in (r.words, r.fits))
-      | inr h ↦ (elim (chosen (bytes_eq verb (codes "shape")) (shape_of a) None x h.1) [
+      | inr h ↦ (elim (chosen (bytes_eq verb (codes "shape")) (shape_of a) (cond (bytes_eq verb (codes "weaks")) (weaks_of a) None) x h.1) [
         | inl k ↦ (let r = shape_is verb a x ((bytes_eq-Decides verb (codes "shape")).0 k.0) k.1 in (r.words, r.fits))
-        | inr k ↦ absurd (none_some x k.1)
+        | inr k ↦ (elim (chosen (bytes_eq verb (codes "weaks")) (weaks_of a) None x k.1) [
+          | inl m ↦ (let r = weaks_is verb a x ((bytes_eq-Decides verb (codes "weaks")).0 m.0) m.1 in (r.words, r.fits))
+          | inr m ↦ absurd (none_some x m.1)
+        ])
       ])
     ]
 action_is (verb ∷ a ∷ b ∷ []) x e =
@@ -213,17 +283,22 @@ action_is (verb ∷ a ∷ b ∷ []) x e =
       ])
     ]
 action_is (verb ∷ a ∷ b ∷ c ∷ []) x e =
-    elim (chosen (bytes_eq verb (codes "new")) (new_of a b c) (cond (bytes_eq verb (codes "get")) (get_of a b c) (cond (bytes_eq verb (codes "put")) (put_of a b c) (cond (bytes_eq verb (codes "write")) (write_of a b c) None))) x e) [
+    elim (chosen (bytes_eq verb (codes "new")) (new_of a b c) (cond (bytes_eq verb (codes "get")) (get_of a b c) (cond (bytes_eq verb (codes "put")) (put_of a b c) (cond (bytes_eq verb (codes "write")) (write_of a b c) (weak_of verb a b c)))) x e) [
       | inl h ↦ (let r = new_is verb a b c x ((bytes_eq-Decides verb (codes "new")).0 h.0) h.1 in (r.words, r.fits))
-      | inr h ↦ (elim (chosen (bytes_eq verb (codes "get")) (get_of a b c) (cond (bytes_eq verb (codes "put")) (put_of a b c) (cond (bytes_eq verb (codes "write")) (write_of a b c) None)) x h.1) [
+      | inr h ↦ (elim (chosen (bytes_eq verb (codes "get")) (get_of a b c) (cond (bytes_eq verb (codes "put")) (put_of a b c) (cond (bytes_eq verb (codes "write")) (write_of a b c) (weak_of verb a b c))) x h.1) [
         | inl k ↦ (let r = get_is verb a b c x ((bytes_eq-Decides verb (codes "get")).0 k.0) k.1 in (r.words, r.fits))
-        | inr k ↦ (elim (chosen (bytes_eq verb (codes "put")) (put_of a b c) (cond (bytes_eq verb (codes "write")) (write_of a b c) None) x k.1) [
+        | inr k ↦ (elim (chosen (bytes_eq verb (codes "put")) (put_of a b c) (cond (bytes_eq verb (codes "write")) (write_of a b c) (weak_of verb a b c)) x k.1) [
           | inl m ↦ (let r = put_is verb a b c x ((bytes_eq-Decides verb (codes "put")).0 m.0) m.1 in (r.words, r.fits))
-          | inr m ↦ (elim (chosen (bytes_eq verb (codes "write")) (write_of a b c) None x m.1) [
+          | inr m ↦ (elim (chosen (bytes_eq verb (codes "write")) (write_of a b c) (weak_of verb a b c) x m.1) [
             | inl o ↦ (let r = write_is verb a b c x ((bytes_eq-Decides verb (codes "write")).0 o.0) o.1 in (r.words, r.fits))
-            | inr o ↦ absurd (none_some x o.1)
+            | inr o ↦ (let r = weak_is verb a b c x o.1 in (r.words, r.fits))
           ])
         ])
       ])
     ]
-action_is (verb ∷ a ∷ b ∷ c ∷ d ∷ ws) x e = absurd cc
+action_is (verb ∷ a ∷ b ∷ c ∷ d ∷ []) x e =
+    elim (chosen (bytes_eq verb (codes "newweak")) (new_weak_of a b c d) None x e) [
+      | inl h ↦ (let r = new_weak_is verb a b c d x ((bytes_eq-Decides verb (codes "newweak")).0 h.0) h.1 in (r.words, r.fits))
+      | inr h ↦ absurd (none_some x h.1)
+    ]
+action_is (verb ∷ a ∷ b ∷ c ∷ d ∷ e ∷ ws) x f = absurd cc

@@ -236,6 +236,10 @@ some_action (actions.Drop register) = (_, _, refl)
 some_action (actions.Load to from) = (_, _, refl)
 some_action (actions.Save to from) = (_, _, refl)
 some_action (actions.Shape object) = (_, _, refl)
+some_action (actions.NewWeak to counts w) = (_, _, refl)
+some_action (actions.GetWeak to object i) = (_, _, refl)
+some_action (actions.PutWeak object i value) = (_, _, refl)
+some_action (actions.Weaks object) = (_, _, refl)
 
 pub some_body : (s : Step) → (x : List ℕ) × (xs : List (List ℕ)) × (body_words s ≡ x ∷ xs)
 some_body (steps.Mutator o) = some_action o.action

@@ -1,12 +1,10 @@
 -- The words of an event, and that the event is read from them.
-use Rattle.std.proofs.Common.{◌≡◌, ℕ, ◌+◌, ◌<◌, ◌≤◌, true, false, eqb, List, [], ◌∷◌, ◌++◌, length, Option, Some, None, Ok, refl, sym, ap, subst, ◌∙◌, arith}
+use Rattle.std.proofs.Common.{◌≡◌, ℕ, ◌<◌, ◌≤◌, true, false, eqb, List, [], ◌∷◌, ◌++◌, length, Option, Some, None, Ok, refl, sym, ap, subst, ◌∙◌, arith}
 use Rattle.std.specs.Prelude.{codes, nat_le}
 use Rattle.std.specs.Fmt.{decimal}
 use Rattle.std.specs.List.{All}
 use Rattle.std.proofs.lemmas.Bool.{le-ltb, leb-true, ne_eqb}
 use Rattle.std.proofs.lemmas.Bool.Decides.{Decides-eqb}
-use Rattle.std.proofs.lemmas.Fmt.{length-decimal-le}
-use Rattle.std.proofs.lemmas.List.{length-append}
 use Rattle.std.proofs.lemmas.List.Elements.{All-nil, All-cons, All-append}
 use Rattle.heap_words.specs.declared.config.Config.{Config}
 use Rattle.object_graph.specs.Actors.{IsStepOf, IsEvent}
@@ -25,14 +23,15 @@ use Rattle.object_graph.specs.declared.step.Refusal.TheVariants as refusals
 use Rattle.object_graph.specs.declared.step.Event.{Event}
 use Rattle.script_text.specs.Reading.{small, large}
 use Rattle.script_text.specs.Fits.{Fits, StepFits, ReplyFits, EventFits}
-use Rattle.script_text.specs.Spelling.{register_word, value_word, global_word, action_words, spaced}
+use Rattle.script_text.specs.Spelling.{value_word, action_words, spaced}
 use Rattle.script_text.specs.Records.{actor_word, body_words, refusal_words, reply_words}
 use Rattle.script_text.specs.EventWords.{background_of, marker_step, refiner_step, taken_of, answer_of}
 use Rattle.script_text.specs.Lines.{words_of}
 use Rattle.script_text.specs.Events.{foreground_of, actor_of, counted_of, event_of, event_line_of}
-use Rattle.script_text.proofs.Parts.Numbers.{number_of_some, first_is_digit, register_word_is}
+use Rattle.script_text.proofs.Parts.Numbers.{number_of_some, first_is_digit}
 use Rattle.script_text.proofs.BothWays.Actions.{action_again}
-use Rattle.script_text.proofs.Parts.Spelled.{IsWord, AreWords, literal, number_short, number_word, small_word, global_is_word, word1, word2, word3, words_again, no_feed}
+use Rattle.script_text.proofs.BothWays.Lengths.{two_long, three_long, five_long, small_long, action_long}
+use Rattle.script_text.proofs.Parts.Spelled.{IsWord, AreWords, literal, number_short, number_word, small_word, word1, word2, word3, words_again, no_feed}
 use Rattle.script_text.proofs.BothWays.StepsSpelled.{action_is_words, collection_is_words, collection_again, not_gc, mutator_again}
 use Rattle.script_text.proofs.BothWays.ReplyLaws.{number_not, reply_read}
 use Rattle.script_text.proofs.Reading.Parting.{is_equals, answered, step_again, reply_again}
@@ -60,6 +59,9 @@ plain3 a b c p q r = All-cons (λ w. is_equals w ≡ false) a (b ∷ c ∷ []) p
 plain4 : (a b c d : List ℕ) → is_equals a ≡ false → is_equals b ≡ false → is_equals c ≡ false → is_equals d ≡ false → ArePlain (a ∷ b ∷ c ∷ d ∷ [])
 plain4 a b c d p q r s = All-cons (λ w. is_equals w ≡ false) a (b ∷ c ∷ d ∷ []) p (plain3 b c d q r s)
 
+plain5 : (a b c d e : List ℕ) → is_equals a ≡ false → is_equals b ≡ false → is_equals c ≡ false → is_equals d ≡ false → is_equals e ≡ false → ArePlain (a ∷ b ∷ c ∷ d ∷ e ∷ [])
+plain5 a b c d e p q r s t = All-cons (λ w. is_equals w ≡ false) a (b ∷ c ∷ d ∷ e ∷ []) p (plain4 b c d e q r s t)
+
 plain_value : (v : Option Register) → is_equals (value_word v) ≡ false
 plain_value None = refl
 plain_value (Some r) = refl
@@ -75,6 +77,10 @@ action_plain (actions.Drop register) fits = plain2 _ _ refl refl
 action_plain (actions.Load to from) fits = plain3 _ _ _ refl refl refl
 action_plain (actions.Save to from) fits = plain3 _ _ _ refl refl refl
 action_plain (actions.Shape object) fits = plain2 _ _ refl refl
+action_plain (actions.NewWeak to counts w) fits = plain5 _ _ _ _ _ refl refl (plain_small counts.pointers fits.0) (plain_small w (omega (arith, fits.1))) (plain_small counts.values fits.2)
+action_plain (actions.GetWeak to object i) fits = plain4 _ _ _ _ refl refl refl (plain_small i fits)
+action_plain (actions.PutWeak object i value) fits = plain4 _ _ _ _ refl refl (plain_small i fits) (plain_value value)
+action_plain (actions.Weaks object) fits = plain2 _ _ refl refl
 
 body_plain : (s : Step) → StepFits s → ArePlain (body_words s)
 body_plain (steps.Mutator o) fits = action_plain o.action fits
@@ -86,40 +92,6 @@ body_plain (steps.Collector (collector.Refine k)) fits = plain2 _ _ refl (plain_
 body_plain (steps.Collector (collector.Pause b)) fits = plain2 _ _ refl (plain_small b fits)
 
 -- how long the parts of a line are
-two_long : (a b : List ℕ) → length (spaced (a ∷ b ∷ [])) ≡ length a + length b + 1
-two_long a b = omega (arith, length-append a (32 ∷ b))
-
-three_long : (a b c : List ℕ) → length (spaced (a ∷ b ∷ c ∷ [])) ≡ length a + length b + length c + 2
-three_long a b c = let rest = two_long b c in omega (arith, length-append a (32 ∷ spaced (b ∷ c ∷ [])))
-
-four_long : (a b c d : List ℕ) → length (spaced (a ∷ b ∷ c ∷ d ∷ [])) ≡ length a + length b + length c + length d + 3
-four_long a b c d = let rest = three_long b c d in omega (arith, length-append a (32 ∷ spaced (b ∷ c ∷ d ∷ [])))
-
-five_long : (a b c d e : List ℕ) → length (spaced (a ∷ b ∷ c ∷ d ∷ e ∷ [])) ≡ length a + length b + length c + length d + length e + 4
-five_long a b c d e = let rest = four_long b c d e in omega (arith, length-append a (32 ∷ spaced (b ∷ c ∷ d ∷ e ∷ [])))
-
-register_long : (r : Register) → length (register_word r) ≡ 2
-register_long r = ap length (register_word_is r)
-
-value_long : (v : Option Register) → length (value_word v) ≤ 3
-value_long None = omega arith
-value_long (Some r) = omega (arith, register_long r)
-
-small_long : (n : ℕ) → n ≤ small → length (decimal n) ≤ 10
-small_long n fits = length-decimal-le 10 n (omega arith) (omega arith) (omega arith)
-
-action_long : (a : Action) → Fits a → length (spaced (action_words a)) ≤ 48
-action_long (actions.New to counts) fits = omega (arith, four_long (codes "new") (register_word to) (decimal counts.pointers) (decimal counts.values), register_long to, small_long counts.pointers fits.0, small_long counts.values fits.1)
-action_long (actions.Get to object i) fits = omega (arith, four_long (codes "get") (register_word to) (register_word object) (decimal i), register_long to, register_long object, small_long i fits)
-action_long (actions.Put object i value) fits = omega (arith, four_long (codes "put") (register_word object) (decimal i) (value_word value), register_long object, small_long i fits, value_long value)
-action_long (actions.Read object j) fits = omega (arith, three_long (codes "read") (register_word object) (decimal j), register_long object, small_long j fits)
-action_long (actions.Write object j value) fits = omega (arith, four_long (codes "write") (register_word object) (decimal j) (decimal value), register_long object, small_long j fits.0, (number_word value fits.1).short)
-action_long (actions.Move to from) fits = omega (arith, three_long (codes "move") (register_word to) (register_word from), register_long to, register_long from)
-action_long (actions.Drop register) fits = omega (arith, two_long (codes "drop") (register_word register), register_long register)
-action_long (actions.Load to from) fits = omega (arith, three_long (codes "load") (register_word to) (global_word from), register_long to, (global_is_word from).short)
-action_long (actions.Save to from) fits = omega (arith, three_long (codes "save") (global_word to) (register_word from), register_long from, (global_is_word to).short)
-action_long (actions.Shape object) fits = omega (arith, two_long (codes "shape") (register_word object), register_long object)
-
 body_long : (s : Step) → StepFits s → length (spaced (body_words s)) ≤ 48
 body_long (steps.Mutator o) fits = action_long o.action fits
 body_long (steps.Collector collector.Begin) fits = omega arith

@@ -4,8 +4,6 @@ use Rattle.std.specs.Prelude.{codes}
 use Rattle.std.specs.Fmt.{decimal}
 use Rattle.std.specs.Str.{bytes_eq}
 use Rattle.std.proofs.lemmas.Bool.{lt-ltb, le-ltb}
-use Rattle.std.proofs.lemmas.Fmt.{length-decimal-le}
-use Rattle.std.proofs.lemmas.List.{length-append}
 use Rattle.std.proofs.lemmas.Slice.Eq.{bytes_eq-Decides}
 use Rattle.std.specs.List.{All}
 use Rattle.std.proofs.lemmas.List.Elements.{All-nil, All-cons, All-append}
@@ -26,7 +24,8 @@ use Rattle.script_text.specs.Spelling.{action_words, collection_words, step_word
 use Rattle.script_text.specs.Lines.{or_fault, words_of, mutator_of, step_of, step_line_of, heap_line_of}
 use Rattle.script_text.proofs.Parts.Numbers.{number_of_some, first_is_digit}
 use Rattle.script_text.proofs.BothWays.Actions.{action_again}
-use Rattle.script_text.proofs.Parts.Spelled.{IsWord, AreWords, literal, number_word, small_word, register_is_word, global_is_word, value_is_word, word1, word2, word3, word4, words_again, spaced_short, no_feed}
+use Rattle.script_text.proofs.BothWays.Lengths.{spaced_next, spaced_behind, small_long, action_long}
+use Rattle.script_text.proofs.Parts.Spelled.{IsWord, AreWords, literal, number_word, small_word, register_is_word, global_is_word, value_is_word, word1, word2, word3, word4, word5, words_again, spaced_short, no_feed}
 
 pub action_is_words : (a : Action) → Fits a → AreWords (action_words a)
 action_is_words (actions.New to counts) fits = word4 _ _ _ _ (literal (codes "new") refl refl) (register_is_word to) (small_word counts.pointers fits.0) (small_word counts.values fits.1)
@@ -39,18 +38,10 @@ action_is_words (actions.Drop register) fits = word2 _ _ (literal (codes "drop")
 action_is_words (actions.Load to from) fits = word3 _ _ _ (literal (codes "load") refl refl) (register_is_word to) (global_is_word from)
 action_is_words (actions.Save to from) fits = word3 _ _ _ (literal (codes "save") refl refl) (global_is_word to) (register_is_word from)
 action_is_words (actions.Shape object) fits = word2 _ _ (literal (codes "shape") refl refl) (register_is_word object)
-
-few_action_words : (a : Action) → length (action_words a) ≤ 4
-few_action_words (actions.New to counts) = omega arith
-few_action_words (actions.Get to object i) = omega arith
-few_action_words (actions.Put object i value) = omega arith
-few_action_words (actions.Read object j) = omega arith
-few_action_words (actions.Write object j value) = omega arith
-few_action_words (actions.Move to from) = omega arith
-few_action_words (actions.Drop register) = omega arith
-few_action_words (actions.Load to from) = omega arith
-few_action_words (actions.Save to from) = omega arith
-few_action_words (actions.Shape object) = omega arith
+action_is_words (actions.NewWeak to counts w) fits = word5 _ _ _ _ _ (literal (codes "newweak") refl refl) (register_is_word to) (small_word counts.pointers fits.0) (small_word w (omega (arith, fits.1))) (small_word counts.values fits.2)
+action_is_words (actions.GetWeak to object i) fits = word4 _ _ _ _ (literal (codes "getweak") refl refl) (register_is_word to) (register_is_word object) (small_word i fits)
+action_is_words (actions.PutWeak object i value) fits = word4 _ _ _ _ (literal (codes "putweak") refl refl) (register_is_word object) (small_word i fits) (value_is_word value)
+action_is_words (actions.Weaks object) fits = word2 _ _ (literal (codes "weaks") refl refl) (register_is_word object)
 
 pub collection_is_words : (k : CollectorStep) → CollectionFits k → AreWords (collection_words k)
 collection_is_words collector.Begin fits = word1 _ (literal (codes "begin") refl refl)
@@ -105,8 +96,8 @@ step_is_words c (steps.Collector k) few known fits = All-cons IsWord (codes "gc"
 step_short : (c : Config) (s : Step) → c.mutators ≤ small → IsStep c s → StepFits s → length (spaced (step_words s)) ≤ 120
 step_short c (steps.Mutator o) few known fits =
     let first : length (decimal o.mutator) ≤ 21 = (small_word o.mutator (omega arith)).short in
-    let all = spaced_short (decimal o.mutator) (action_words o.action) (action_is_words o.action fits) in
-    let count = few_action_words o.action in
+    let all = spaced_behind (decimal o.mutator) (action_words o.action) in
+    let rest = action_long o.action fits in
     omega arith
 step_short c (steps.Collector k) few known fits =
     let all = spaced_short (codes "gc") (collection_words k) (collection_is_words k fits) in
@@ -159,25 +150,18 @@ pub heap_no_feed : (c : Config) → ConfigFits c → All (λ b. eqb b 10 ≡ fal
 unfolding behind_verb
 heap_no_feed c fits = no_feed (verb_of c.format) (behind_verb c) (heap_is_words c fits)
 
--- a number of 32 bits has ten digits at most
-ten_digits : (n : ℕ) → n ≤ small → length (decimal n) ≤ 10
-ten_digits n le = length-decimal-le 10 n (omega arith) (omega arith) (omega arith)
-
-spaced_next : (w x : List ℕ) (ws : List (List ℕ)) → length (spaced (w ∷ x ∷ ws)) ≡ length w + 1 + length (spaced (x ∷ ws))
-spaced_next w x ws = omega (arith, length-append w (32 ∷ spaced (x ∷ ws)))
-
 ending_short : (f : Format) (name : List ℕ) → FormatFits f → length (spaced (name ∷ words_of_card f)) ≤ length name + 11
 ending_short V1 name fits = omega arith
-ending_short (V2 card) name fits = let ten = ten_digits card fits in omega (arith, spaced_next name (decimal card) [])
+ending_short (V2 card) name fits = let ten = small_long card fits in omega (arith, spaced_next name (decimal card) [])
 
 heap_short : (c : Config) → ConfigFits c → length (spaced (heap_words c)) ≤ 120
 unfolding behind_verb
 heap_short c fits =
     let verb = verb_short c.format in
-    let regions = ten_digits c.regions fits.regions in
-    let words = ten_digits c.words fits.words in
-    let buffer = ten_digits c.buffer fits.buffer in
-    let mutators = ten_digits c.mutators fits.mutators in
+    let regions = small_long c.regions fits.regions in
+    let words = small_long c.words fits.words in
+    let buffer = small_long c.buffer fits.buffer in
+    let mutators = small_long c.mutators fits.mutators in
     let name = (number_word c.first_name fits.first_name).short in
     let ending = ending_short c.format (decimal c.first_name) fits.format in
     omega (

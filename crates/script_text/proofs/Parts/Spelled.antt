@@ -84,6 +84,9 @@ word3 a b c p q r = All-cons IsWord a (b ∷ c ∷ []) p (word2 b c q r)
 pub word4 : (a b c d : List ℕ) → IsWord a → IsWord b → IsWord c → IsWord d → AreWords (a ∷ b ∷ c ∷ d ∷ [])
 word4 a b c d p q r s = All-cons IsWord a (b ∷ c ∷ d ∷ []) p (word3 b c d q r s)
 
+pub word5 : (a b c d e : List ℕ) → IsWord a → IsWord b → IsWord c → IsWord d → IsWord e → AreWords (a ∷ b ∷ c ∷ d ∷ e ∷ [])
+word5 a b c d e p q r s t = All-cons IsWord a (b ∷ c ∷ d ∷ e ∷ []) p (word4 b c d e q r s t)
+
 no_byte : (n c : ℕ) (w : List ℕ) → c ≤ n → All (λ b. n < b) w → All (λ b. eqb b c ≡ false) w
 no_byte n c w le above = All-weaker (λ b. n < b) (λ b. eqb b c ≡ false) (λ b more. ne_eqb b c (λ e. absurd (omega arith))) w above
 

@@ -16,11 +16,11 @@ end_of text = position_or_len (λ b. eqb b 10) text
 abbrev pub line_of : List ℕ → List ℕ
 line_of text = take (end_of text) text
 
--- the line as far as a place: the words before it, of which the first eleven are kept, and where the present word starts
+-- the line as far as a place: the words before it, of which the first twelve are kept, and where the present word starts
 pub record IsSplit (text : List ℕ) (ws : List (List ℕ)) (start at : ℕ) : Type 0 where
   pub within : at ≤ end_of text
-  pub words : take 11 (words_of (line_of text)) ≡ take 11 (ws ++ words_of (drop start (line_of text)))
-  pub clear : length ws < 11 → (k : ℕ) → start ≤ k → k < at → get_or text k 0 ≡ 32 → ⊥
+  pub words : take 12 (words_of (line_of text)) ≡ take 12 (ws ++ words_of (drop start (line_of text)))
+  pub clear : length ws < 12 → (k : ℕ) → start ≤ k → k < at → get_or text k 0 ≡ 32 → ⊥
 
 -- what is kept, with one more
 pub kept_more : {A B : Type 0} (f : A → B) (xs : List A) (i : ℕ) (y : A) → i < length xs → map f (take (i + 1) (set xs i y)) ≡ map f (take i xs) ++ f y ∷ []
@@ -68,7 +68,7 @@ clear_part text start n clear = λ k d lt.
     rw same (ne_eqb (get_or text (start + k) 0) 32 (clear (start + k) (omega arith) (omega arith)))
 
 -- a byte that ends no word that is kept
-pub goes_on : (text : List ℕ) (ws : List (List ℕ)) (start at : ℕ) → IsSplit text ws start at → at < length text → (get_or text at 0 ≡ 10 → ⊥) → (length ws < 11 → get_or text at 0 ≡ 32 → ⊥) → IsSplit text ws start (at + 1)
+pub goes_on : (text : List ℕ) (ws : List (List ℕ)) (start at : ℕ) → IsSplit text ws start at → at < length text → (get_or text at 0 ≡ 10 → ⊥) → (length ws < 12 → get_or text at 0 ≡ 32 → ⊥) → IsSplit text ws start (at + 1)
 goes_on text ws start at split lt other inner = record {
   within = not_yet text at split.within lt other;
   words = split.words;
@@ -85,7 +85,7 @@ end_within : (text : List ℕ) → end_of text ≤ length text
 end_within text = prefix_len-le-length (λ b. not (eqb b 10)) text
 
 -- a space ends a word
-pub new_word : (text : List ℕ) (ws : List (List ℕ)) (start at : ℕ) → IsSplit text ws start at → start ≤ at → at < length text → get_or text at 0 ≡ 32 → length ws < 11 → IsSplit text (ws ++ take (at - start) (drop start text) ∷ []) (at + 1) (at + 1)
+pub new_word : (text : List ℕ) (ws : List (List ℕ)) (start at : ℕ) → IsSplit text ws start at → start ≤ at → at < length text → get_or text at 0 ≡ 32 → length ws < 12 → IsSplit text (ws ++ take (at - start) (drop start text) ∷ []) (at + 1) (at + 1)
 new_word text ws start at split begun lt space few =
     let no_feed : get_or text at 0 ≡ 10 → ⊥ = λ feed. omega arith in
     let next : at + 1 ≤ end_of text = not_yet text at split.within lt no_feed in
@@ -99,28 +99,28 @@ new_word text ws start at split begun lt space few =
     ap words_of cut ∙ slice_split_at (λ b. eqb b 32) (take (at - start) (drop start text)) 32 (drop (at + 1) (line_of text)) clear refl in
     record {
       within = next;
-      words = split.words ∙ ap (λ (rest : List (List ℕ)). take 11 (ws ++ rest)) parts ∙ ap (take 11) (sym (append_assoc ws (take (at - start) (drop start text) ∷ []) (words_of (drop (at + 1) (line_of text)))));
+      words = split.words ∙ ap (λ (rest : List (List ℕ)). take 12 (ws ++ rest)) parts ∙ ap (take 12) (sym (append_assoc ws (take (at - start) (drop start text) ∷ []) (words_of (drop (at + 1) (line_of text)))));
       clear = λ few k from before s. absurd (omega arith);
     }
 
 -- the line's end, with room for its last word
-pub last_word : (text : List ℕ) (ws : List (List ℕ)) (start at : ℕ) → IsSplit text ws start at → start ≤ at → at < length text → get_or text at 0 ≡ 10 → length ws < 11 → ws ++ take (at - start) (drop start text) ∷ [] ≡ take 11 (words_of (take at text))
+pub last_word : (text : List ℕ) (ws : List (List ℕ)) (start at : ℕ) → IsSplit text ws start at → start ≤ at → at < length text → get_or text at 0 ≡ 10 → length ws < 12 → ws ++ take (at - start) (drop start text) ∷ [] ≡ take 12 (words_of (take at text))
 last_word text ws start at split begun lt feed few =
     let ends : end_of text ≡ at = here_ends text at split.within lt feed in
     let e : at ≡ start + (at - start) = omega arith in
     let part : drop start (take at text) ≡ take (at - start) (drop start text) = ap (λ (k : ℕ). drop start (take k text)) e ∙ drop-take start (at - start) text in
     let clear : All (λ b. eqb b 32 ≡ false) (take (at - start) (drop start text)) = clear_part text start (at - start) (λ k from before s. split.clear few k from (omega arith) s) in
     let parts : words_of (drop start (take at text)) ≡ take (at - start) (drop start text) ∷ [] = ap words_of part ∙ slice_split_none (λ b. eqb b 32) (take (at - start) (drop start text)) clear in
-    let short : length (ws ++ take (at - start) (drop start text) ∷ []) ≤ 11 = omega (arith, length-append ws (take (at - start) (drop start text) ∷ [])) in
-    let whole : take 11 (words_of (take at text)) ≡ take 11 (ws ++ words_of (drop start (take at text))) = subst (λ (n : ℕ). take 11 (words_of (take n text)) ≡ take 11 (ws ++ words_of (drop start (take n text)))) ends split.words in
-    sym (whole ∙ ap (λ (rest : List (List ℕ)). take 11 (ws ++ rest)) parts ∙ take_all 11 (ws ++ take (at - start) (drop start text) ∷ []) short)
+    let short : length (ws ++ take (at - start) (drop start text) ∷ []) ≤ 12 = omega (arith, length-append ws (take (at - start) (drop start text) ∷ [])) in
+    let whole : take 12 (words_of (take at text)) ≡ take 12 (ws ++ words_of (drop start (take at text))) = subst (λ (n : ℕ). take 12 (words_of (take n text)) ≡ take 12 (ws ++ words_of (drop start (take n text)))) ends split.words in
+    sym (whole ∙ ap (λ (rest : List (List ℕ)). take 12 (ws ++ rest)) parts ∙ take_all 12 (ws ++ take (at - start) (drop start text) ∷ []) short)
 
--- the line's end behind eleven words
-pub no_more : (text : List ℕ) (ws : List (List ℕ)) (start at : ℕ) → IsSplit text ws start at → at < length text → get_or text at 0 ≡ 10 → length ws ≡ 11 → ws ≡ take 11 (words_of (take at text))
+-- the line's end behind twelve words
+pub no_more : (text : List ℕ) (ws : List (List ℕ)) (start at : ℕ) → IsSplit text ws start at → at < length text → get_or text at 0 ≡ 10 → length ws ≡ 12 → ws ≡ take 12 (words_of (take at text))
 no_more text ws start at split lt feed full =
     let ends : end_of text ≡ at = here_ends text at split.within lt feed in
-    let whole : take 11 (words_of (take at text)) ≡ take 11 (ws ++ words_of (drop start (take at text))) = subst (λ (n : ℕ). take 11 (words_of (take n text)) ≡ take 11 (ws ++ words_of (drop start (take n text)))) ends split.words in
-    let first : take 11 (ws ++ words_of (drop start (take at text))) ≡ ws = ap (λ (n : ℕ). take n (ws ++ words_of (drop start (take at text)))) (sym full) ∙ take-append_seam ws (words_of (drop start (take at text))) in
+    let whole : take 12 (words_of (take at text)) ≡ take 12 (ws ++ words_of (drop start (take at text))) = subst (λ (n : ℕ). take 12 (words_of (take n text)) ≡ take 12 (ws ++ words_of (drop start (take n text)))) ends split.words in
+    let first : take 12 (ws ++ words_of (drop start (take at text))) ≡ ws = ap (λ (n : ℕ). take n (ws ++ words_of (drop start (take at text)))) (sym full) ∙ take-append_seam ws (words_of (drop start (take at text))) in
     sym (whole ∙ first)
 
 pub first_piece : (text : List ℕ) (at : ℕ) → at ≤ end_of text → at < length text → get_or text at 0 ≡ 10 → pieces_of text ≡ take at text ∷ pieces_of (drop (at + 1) text)

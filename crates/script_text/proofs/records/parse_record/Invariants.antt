@@ -6,7 +6,7 @@ use Rattle.script_text.proofs.records.parse_record.Given as goal
 
 abbrev pub invariant-loop-line : goal.invariant-loop-line
 invariant-loop-line l = record {
-  room : length l.words ≡ 11;
+  room : length l.words ≡ 12;
   so_far : read_on l.history (events_of l.count l.config (pieces_of l.rest)) ≡ record_of l.text;
   config : l.history.config ≡ l.config;
   bound : l.count + length l.rest ≤ 1 + length l.text;

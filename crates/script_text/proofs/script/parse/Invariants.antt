@@ -5,7 +5,7 @@ use Rattle.script_text.proofs.script.parse.Given as goal
 
 abbrev pub invariant-loop-line : goal.invariant-loop-line
 invariant-loop-line l = record {
-  room : length l.words ≡ 11;
+  room : length l.words ≡ 12;
   so_far : read_on l.plan (steps_of l.number l.config (pieces_of l.rest)) ≡ script_of l.text;
   config : l.plan.config ≡ l.config;
   number : l.number + length l.rest ≤ 2 + length l.text;

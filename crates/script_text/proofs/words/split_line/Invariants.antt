@@ -4,8 +4,8 @@ use Rattle.script_text.proofs.words.split_line.Given as goal
 
 abbrev pub invariant-loop-at : goal.invariant-loop-at
 invariant-loop-at l = record {
-  room : length l.words ≡ 11;
-  count : l.count ≤ 11;
+  room : length l.words ≡ 12;
+  count : l.count ≤ 12;
   begun : l.start ≤ l.at;
   within : l.at ≤ length l.text;
   split : IsSplit l.text (map (λ w. w.now) (take l.count l.words)) l.start l.at;
