@@ -181,7 +181,7 @@ public:
           sources_(std::size_t(sizes.regions) * source_stride(sizes.regions)), previous_marks_(heap_words_),
           next_marks_(heap_words_), grey_(heap_words_), finger_(heap_words_),
           deletion_logs_(sizes.mutators * deletion_log_length), deletion_log_counts_(sizes.mutators),
-          covered_(heap_words_ / card_words_), noted_(heap_words_ / card_words_) {
+          weak_regions_(sizes.regions), covered_(heap_words_ / card_words_), noted_(heap_words_ / card_words_) {
         for (Number region = 0; region < sizes.regions; ++region) {
             make_free(region);
             free_regions_.add(region);
@@ -202,7 +202,7 @@ public:
         words_[at] = object_header(pointers, weaks, data);
         words_[at + 1] = next_name_;
         std::fill_n(&words_[at] + 2, size - 2, 0);
-        has_weak_ = has_weak_ || weaks != 0;
+        if (weaks != 0) weak_regions_.add(region_of(at));
         root(mutator, target) = Word(at) + 1;
         return reply(Form::Name, next_name_++);
     }
@@ -320,7 +320,7 @@ public:
         if (!marking_) return refused(Refusal::NotMarking);
         for (Number mutator = 0; mutator < sizes_.mutators; ++mutator) take_deletion_log(mutator);
         while (scan_lowest()) {}
-        if (has_weak_) clear_weak_slots();
+        clear_weak_slots();
         previous_marks_.swap(next_marks_);
         for (Region& region : regions_) {
             std::swap(region.previous_start, region.next_start);
@@ -397,6 +397,7 @@ private:
             std::fill_n(sources_.begin() + number * stride, stride, 0);
             set.has_sources = false;
         }
+        weak_regions_.remove(number);
         free_regions_.add(number);
         ++free_count_;
     }
@@ -639,8 +640,7 @@ private:
 
     // At the end of marking: weak slots of reached objects become nil where what they name isn't reached.
     void clear_weak_slots() {
-        for (Number region = 0; region < sizes_.regions; ++region) {
-            if (regions_[region].kind == Kind::Free || regions_[region].kind == Kind::Rest) continue;
+        for (Number region = weak_regions_.next(0); region != nowhere; region = weak_regions_.next(region + 1)) {
             for (Address at = bottom(region); at < regions_[region].top; at += tile_size(words_[at]))
                 if (is_object(words_[at]) && weak_count(words_[at]) != 0 && is_reached(at)) clear_slots_of(at);
         }
@@ -742,6 +742,7 @@ private:
         std::memcpy(&words_[to], &words_[from], size * sizeof(Word));
         words_[from] = moved_header(to);
         note_tile(to, size);
+        if (weak_count(words_[to]) != 0) weak_regions_.add(destinations_.back());
         copied_ += size;
         return to;
     }
@@ -774,11 +775,11 @@ private:
     Bitmap previous_marks_, next_marks_, grey_;
     Address finger_;
     bool marking_ = false;
-    // An object with weak slots was made.
-    bool has_weak_ = false;
     Number marked_ = 0;
     std::vector<Address> deletion_logs_;
     std::vector<Number> deletion_log_counts_;
+    // The regions in which objects with weak slots were placed since they were taken; a run's first alone.
+    Bitmap weak_regions_;
 
     CardSet covered_, noted_;
     std::vector<Word> rows_;
