@@ -5,10 +5,10 @@ use Rattle.object_graph.specs.Fields.{pointer_of}
 use Rattle.object_graph.specs.declared.objects.Entry.{Entry}
 
 -- where the words of an entry's object start, and how many of them are weak slots
-abbrev pub start_of : Entry → ℕ
+unfoldable pub start_of : Entry → ℕ
 start_of e = e.packed % 2 ^ 56
 
-abbrev pub weaks_of : Entry → ℕ
+unfoldable pub weaks_of : Entry → ℕ
 weaks_of e = e.packed / 2 ^ 56
 
 -- the object of an entry: its pointers, its weak slots and its data words, from a word of the list on

@@ -1,6 +1,6 @@
 -- The judge keeps a snapshot only where some object had a weak slot when marking began. Else marking clears nothing, since all that
 -- a mutator can come by meanwhile is reachable in the snapshot or newer.
-use Rattle.std.specs.Prelude.{◌≡◌, ℕ, ◌+◌, ◌≤◌, ◌⊎◌, ⊤, ⊥, List, [], ◌∷◌, Bool, true, false, Option, Some, None, length, slice_get, nat_lt, if◌then◌else◌}
+use Rattle.std.specs.Prelude.{◌≡◌, ℕ, ◌+◌, ⊤, List, [], ◌∷◌, Bool, true, false, Option, Some, None, length, slice_get, nat_lt, if◌then◌else◌}
 use Rattle.heap_model.specs.Graph.{Graph, Object, next_name, IsReachable}
 use Rattle.object_graph.specs.State.{State}
 use Rattle.object_graph.specs.Since.{IsKnown, IsSince}

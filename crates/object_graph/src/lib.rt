@@ -22,6 +22,7 @@
 mod clear;
 mod graph;
 mod judge;
+mod laws;
 mod machine;
 mod objects;
 mod pointer;
@@ -32,7 +33,8 @@ mod step;
 mod tests;
 
 pub use graph::Graph;
-pub use judge::{Verdict, check, judged_once, run_is_sound, run_once};
+pub use judge::{Verdict, check};
+pub use laws::{judged_once, run_is_sound, run_once, since_law, sound_law};
 pub use record::{Plan, Record};
 pub use step::{
     Action, Actor, CollectorStep, Counts, Event, GlobalRoot, Op, Refusal, Register, Reply, Step,

@@ -29,6 +29,7 @@ pub(crate) struct Entry {
 }
 
 impl Entry {
+    #[tactic(auto, unfolding(crate::specs::InWords::start_of, crate::specs::InWords::weaks_of))]
     fn new(start: u64, counts: Counts, weaks: u8) -> Entry
         requires { start < 2 ^ 56 }
         ensures start { start_of result ≡ start }
@@ -43,12 +44,14 @@ impl Entry {
         }
     }
 
+    #[tactic(auto, unfolding(crate::specs::InWords::start_of))]
     fn start(&self) -> usize
         ensures { result ≡ start_of self.now }
     {
         (self.packed % LIMIT) as usize
     }
 
+    #[tactic(auto, unfolding(crate::specs::InWords::weaks_of))]
     fn weaks(&self) -> u8
         ensures { result ≡ weaks_of self.now }
     {
@@ -65,7 +68,7 @@ pub(crate) struct Objects {
 }
 
 impl Model for Objects {
-    ghost use Rattle.std.specs.Prelude.{List, length};
+    ghost use Rattle.std.specs.Prelude.{◌≡◌, List, length};
     ghost use Rattle.heap_model.specs.Graph as model;
     ghost use Rattle.object_graph.specs.InWords.{objects_in, AreInTurn, some_weaks};
 
