@@ -1,4 +1,4 @@
-//! 50,000 scripts drawn at random: each runs without a fault, and its record is a run of the graph.
+//! 50,000 scripts drawn at random, and 10,000 with steps on weak slots: each runs without a fault, and its record is a run of the graph.
 
 ghost use Rattle.std.specs.Prelude.{◌≡◌, ◌<◌, All, IfOk};
 ghost use Rattle.object_graph.specs.Actors.{IsStep};
@@ -110,6 +110,39 @@ fn action(draw: &mut Lcg64Xsh32) -> Action {
     }
 }
 
+/// Four at most, and now and then as many as there may be.
+fn weaks(draw: &mut Lcg64Xsh32) -> u8 {
+    if below(draw, 16) == 0 {
+        below(draw, 256) as u8
+    } else {
+        1 + below(draw, 4) as u8
+    }
+}
+
+/// A step on weak slots.
+fn weak_action(draw: &mut Lcg64Xsh32) -> Action {
+    match below(draw, 10) {
+        0 => Action::NewWeak {
+            to: register(draw),
+            counts: counts(draw),
+            weaks: weaks(draw),
+        },
+        1..=4 => Action::PutWeak {
+            object: register(draw),
+            slot: field(draw),
+            value: stored(draw),
+        },
+        5..=8 => Action::GetWeak {
+            to: register(draw),
+            object: register(draw),
+            slot: field(draw),
+        },
+        _ => Action::Weaks {
+            object: register(draw),
+        },
+    }
+}
+
 /// None, a few words, many, or more than any heap has.
 fn budget(draw: &mut Lcg64Xsh32) -> u32 {
     match below(draw, 4) {
@@ -131,7 +164,7 @@ fn collection(draw: &mut Lcg64Xsh32) -> CollectorStep {
     }
 }
 
-fn step(config: &Config, draw: &mut Lcg64Xsh32) -> Step
+fn step(config: &Config, draw: &mut Lcg64Xsh32, weak: bool) -> Step
     requires { 0 < config.now.mutators }
     ensures { IsStep config.now result }
 {
@@ -139,7 +172,11 @@ fn step(config: &Config, draw: &mut Lcg64Xsh32) -> Step
         return Step::Collector(collection(draw));
     }
     let mutator = below(draw, config.mutators);
-    let action = action(draw);
+    let action = if weak && below(draw, 4) != 0 {
+        weak_action(draw)
+    } else {
+        action(draw)
+    };
     Step::Mutator(Op { mutator, action })
 }
 
@@ -147,6 +184,7 @@ fn script(
     alloc: Global,
     config: &Config,
     draw: &mut Lcg64Xsh32,
+    weak: bool,
     count: u32,
 ) -> Result<Vec<Step>, AllocError>
     requires { 0 < config.now.mutators }
@@ -154,7 +192,7 @@ fn script(
 {
     let mut steps = Vec::new(alloc);
     for _ in 0..count {
-        steps.push(step(config, draw))?;
+        steps.push(step(config, draw, weak))?;
     }
     Ok(steps)
 }
@@ -205,6 +243,12 @@ struct Tally {
     evacuated: u64,
     /// Humongous objects that were made.
     humongous: u64,
+    /// Weak slots that a register took, with what they named.
+    taken: u64,
+    /// Those of them while marking ran.
+    taken_while_marking: u64,
+    /// Weak slots that a register took, with nil in them.
+    found_nil: u64,
 }
 
 /// How many words a new object has that an event made, 0 where it made none.
@@ -214,20 +258,64 @@ fn made_words(event: &Event) -> u64 {
     };
     match event.step {
         Step::Mutator(op) => match op.action {
-            Action::New { counts, .. } => counts.size(),
+            Action::New { counts, .. } => counts.size(0),
+            Action::NewWeak { counts, weaks, .. } => counts.size(weaks),
             _ => 0,
         },
         Step::Collector(_) => 0,
     }
 }
 
+fn takes_slot(event: &Event) -> bool {
+    match event.step {
+        Step::Mutator(op) => match op.action {
+            Action::GetWeak { .. } => true,
+            _ => false,
+        },
+        Step::Collector(_) => false,
+    }
+}
+
 impl Tally {
+    fn new() -> Tally {
+        Tally {
+            marking: false,
+            reclaimed: 0,
+            marked: 0,
+            full: 0,
+            refined: 0,
+            copying: 0,
+            copying_while_marking: 0,
+            evacuated: 0,
+            humongous: 0,
+            taken: 0,
+            taken_while_marking: 0,
+            found_nil: 0,
+        }
+    }
+
+    fn count_taken(&mut self, reply: Reply) {
+        match reply {
+            Reply::Named(Some(_)) => {
+                self.taken = self.taken.saturating_add(1);
+                if self.marking {
+                    self.taken_while_marking = self.taken_while_marking.saturating_add(1);
+                }
+            }
+            Reply::Named(None) => self.found_nil = self.found_nil.saturating_add(1),
+            _ => {}
+        }
+    }
+
     fn count(&mut self, config: &Config, event: &Event) {
         if made_words(event) > u64::from(config.words / 2) {
             self.humongous = self.humongous.saturating_add(1);
         }
         if event.step == Step::Collector(CollectorStep::Begin) && event.reply == Reply::Done {
             self.marking = true;
+        }
+        if takes_slot(event) {
+            self.count_taken(event.reply);
         }
         match event.reply {
             Reply::Reclaimed(count) => {
@@ -255,25 +343,14 @@ impl Tally {
     }
 }
 
-/// 10,000 scripts of 80 steps, drawn from these seeds on. Many objects are marked, regions are reclaimed by cleanups and by pauses,
-/// pauses copy, while marking runs too, often a heap is full, cards are refined, and many objects are humongous.
-fn drawn_from(rt: &impl Abort, alloc: Global, first: u64) -> Result<(), Fail> {
-    let mut tally = Tally {
-        marking: false,
-        reclaimed: 0,
-        marked: 0,
-        full: 0,
-        refined: 0,
-        copying: 0,
-        copying_while_marking: 0,
-        evacuated: 0,
-        humongous: 0,
-    };
+/// What happens in 10,000 scripts of 80 steps, drawn from these seeds on.
+fn tally_from(rt: &impl Abort, alloc: Global, first: u64, weak: bool) -> Result<Tally, Fail> {
+    let mut tally = Tally::new();
     for place in 0..10_000u64 {
         let seed = first.wrapping_add(place);
         let mut draw = Lcg64Xsh32::new(seed, 54);
         let config = sizes(&mut draw);
-        let steps = script(alloc, &config, &mut draw, 80)?;
+        let steps = script(alloc, &config, &mut draw, weak, 80)?;
         let Ok(record) = run(alloc, &config, steps.as_slice()) else {
             return Err(Fail::from("a run without a fault"));
         };
@@ -284,6 +361,13 @@ fn drawn_from(rt: &impl Abort, alloc: Global, first: u64) -> Result<(), Fail> {
             tally.count(&config, event);
         }
     }
+    Ok(tally)
+}
+
+/// Many objects are marked, regions are reclaimed by cleanups and by pauses, pauses copy, while marking runs too, often a heap is
+/// full, cards are refined, and many objects are humongous.
+fn drawn_from(rt: &impl Abort, alloc: Global, first: u64) -> Result<(), Fail> {
+    let tally = tally_from(rt, alloc, first, false)?;
     assert!(rt;
         tally.reclaimed > 2_500 && tally.marked > 38_000 && tally.humongous > 10_000,
         "{tally:?}"
@@ -322,4 +406,27 @@ fn fourth_drawn_scripts(rt: HostRuntime) -> Result<(), Fail> {
 #[test]
 fn last_drawn_scripts(rt: HostRuntime) -> Result<(), Fail> {
     drawn_from(&rt, rt.alloc(), 40_000)
+}
+
+/// The same with steps on weak slots, of which many hold something when they are taken, while marking runs too.
+#[test]
+fn drawn_scripts_with_weak_slots(rt: HostRuntime) -> Result<(), Fail> {
+    let tally = tally_from(&rt, rt.alloc(), 0, true)?;
+    assert!(rt;
+        tally.reclaimed > 1_500 && tally.marked > 24_000 && tally.humongous > 10_000,
+        "{tally:?}"
+    );
+    assert!(rt;
+        tally.full > 8_000 && tally.refined > 200 && tally.evacuated > 15_000,
+        "{tally:?}"
+    );
+    assert!(rt;
+        tally.copying > 10_000 && tally.copying_while_marking > 2_800,
+        "{tally:?}"
+    );
+    assert!(rt;
+        tally.taken > 1_400 && tally.taken_while_marking > 600 && tally.found_nil > 15_000,
+        "{tally:?}"
+    );
+    Ok(())
 }
