@@ -1,19 +1,19 @@
 -- What is since the snapshot stays so at each step: all that a mutator can come by was reachable in the snapshot from a root or a
 -- touched name, or is newer.
-use Rattle.std.proofs.Common.{◌≡◌, ℕ, zero, suc, ◌+◌, ◌-◌, ◌<◌, ◌≤◌, ◌⊎◌, List, ◌∷◌, [], Option, Some, None, refl, sym, ap, ◌∙◌, subst, inl, inr, arith}
-use Rattle.std.specs.Prelude.{slice_get, slice_set, slice_index_or, replicate, nat_lt, ◌==◌, ◌^◌}
+use Rattle.std.proofs.Common.{◌≡◌, ℕ, zero, suc, ◌+◌, ◌-◌, ◌≤◌, List, ◌∷◌, [], Option, Some, None, refl, sym, ap, ◌∙◌, subst, inl, inr, arith}
+use Rattle.std.specs.Prelude.{slice_get, slice_set, slice_index_or, nat_lt, ◌==◌, ◌^◌}
 use Rattle.std.proofs.lemmas.Bool.{cases_lt, cases_eq}
 use Rattle.heap_words.specs.Sizes.{size_of}
 use Rattle.heap_model.specs.Graph.{Graph, Object, object_named, next_name, IsReachable, FromRoot, FromObject, IsSound, with_root, with_object, with_changed}
 use Rattle.heap_model.specs.Weak.{touched, KeepsUnreached}
-use Rattle.heap_model.proofs.Lists.{get-set_cases, get-set_other, get-push_cases, get-append_left, get-append_right}
+use Rattle.heap_model.proofs.Lists.{get-set_cases, get-set_other, get-push_cases}
 use Rattle.heap_model.proofs.Changed.{named_at, at_least}
 use Rattle.heap_model.proofs.Unreached.{touched_cases, touched_next, touched_named, touched_reaches, touched_reached}
 use Rattle.object_graph.specs.State.{State, register_place, root_at, AtRoot, AtField, HoldsNames, IsEarlier, ForSnapshot, IsSoundState}
 use Rattle.object_graph.specs.Since.{IsKnown, IsSince, IsSinceState}
 use Rattle.object_graph.specs.Sparing.{HoldsKnown}
 use Rattle.object_graph.specs.Machine.{Outcome, refused, on_contents, on_name, on_field, stored, made, act, outcome_of}
-use Rattle.object_graph.specs.Run.{snapshot_after, Collects, Happens, IsRun}
+use Rattle.object_graph.specs.Run.{snapshot_after, Happens, IsRun}
 use Rattle.object_graph.specs.declared.step.Action.{Action}
 use Rattle.object_graph.specs.declared.step.Action.TheVariants as actions
 use Rattle.object_graph.specs.declared.step.Op.{Op}
@@ -23,7 +23,6 @@ use Rattle.object_graph.specs.declared.step.Step.{Step}
 use Rattle.object_graph.specs.declared.step.Step.TheVariants as steps
 use Rattle.object_graph.specs.declared.step.Event.{Event}
 use Rattle.object_graph.specs.declared.step.Reply.{Reply}
-use Rattle.object_graph.specs.declared.step.Reply.TheVariants as replies
 use Rattle.object_graph.specs.declared.step.Refusal.TheVariants as refusals
 use Rattle.object_graph.proofs.MachineLaws.{cond_law}
 use Rattle.object_graph.proofs.Sound.{field_law, nils, get_in, after_law, happens_sound}
