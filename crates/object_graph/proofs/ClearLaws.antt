@@ -1,10 +1,9 @@
 -- Clearing slot after slot, and object after object, clears them all.
-use Rattle.std.proofs.Common.{◌≡◌, ℕ, zero, suc, ◌+◌, ◌<◌, ◌≤◌, List, [], ◌∷◌, ◌++◌, Option, Some, None, slice_get, length, get_or, set, map, take, drop, refl, sym, ap, subst, ◌∙◌, arith}
+use Rattle.std.proofs.Common.{◌≡◌, ℕ, zero, suc, ◌+◌, ◌<◌, ◌≤◌, List, [], ◌∷◌, ◌++◌, Option, Some, slice_get, length, get_or, set, map, take, drop, refl, sym, ap, ◌∙◌, arith}
 use Rattle.std.proofs.lemmas.List.{get_or-set_same, set-get_or}
 use Rattle.std.proofs.lemmas.List.Edits.{map_over_more}
 use Rattle.std.proofs.lemmas.Option.{get_or_from_slice_get, slice_get-get_or}
 use Rattle.heap_model.specs.Graph.{Object}
-use Rattle.heap_model.specs.Weak.{cleared_slot, cleared_names}
 use Rattle.heap_model.proofs.Lists.{length-set}
 use Rattle.object_graph.specs.Fields.{object_in}
 
@@ -50,9 +49,9 @@ part_more f old cur new place slot was value inside field is there given made =
     let read : was ≡ get_or (object_in cur place).weaks slot was = sym (get_or_from_slice_get (object_in cur place).weaks slot was was there) in
     let more : set (object_in cur place).weaks slot (f was) ≡ map f (take (slot + 1) (object_in old place).weaks) ++ drop (slot + 1) (object_in old place).weaks = map_over_more f (object_in old place).weaks (object_in cur place).weaks slot was field weaks read in
     let changed : record (object_in cur place) { weaks = set (object_in cur place).weaks slot value } ≡ cleared_part f (slot + 1) (object_in old place) =
-        same_but (object_in cur place) (object_in old place) (ap (λ (x : Object). x.pointers) now) (ap (λ (x : Object). x.values) now) (ap (λ (v : Option ℕ). set (object_in cur place).weaks slot v) given ∙ more) in
+    same_but (object_in cur place) (object_in old place) (ap (λ (x : Object). x.pointers) now) (ap (λ (x : Object). x.values) now) (ap (λ (v : Option ℕ). set (object_in cur place).weaks slot v) given ∙ more) in
     made ∙ ap (λ (x : Object). set cur place x) changed ∙ ap (λ (xs : List Object). set xs place (cleared_part f (slot + 1) (object_in old place))) is
-        ∙ set-set old place (cleared_part f slot (object_in old place)) (cleared_part f (slot + 1) (object_in old place))
+    ∙ set-set old place (cleared_part f slot (object_in old place)) (cleared_part f (slot + 1) (object_in old place))
   where
     same_but : (x y : Object) {u v : List (Option ℕ)} → x.pointers ≡ y.pointers → x.values ≡ y.values → u ≡ v → ◌≡◌ {A = Object} (record x { weaks = u }) (record y { weaks = v })
     same_but x y a b c = cc

@@ -1,5 +1,5 @@
 -- What each step keeps.
-use Rattle.std.proofs.Common.{◌≡◌, ℕ, ◌+◌, ◌-◌, ◌^◌, Option, Some, None, Bool, true, false, cond, slice_get, Result, Ok, Err, refl, ap, ◌∙◌}
+use Rattle.std.proofs.Common.{◌≡◌, ℕ, ◌-◌, ◌^◌, Option, Some, None, Bool, true, false, cond, slice_get, Result, Ok, Err, refl, ap, ◌∙◌}
 use Rattle.heap_words.specs.Sizes.{size_of}
 use Rattle.std.specs.Prelude.{◌==◌, nat_lt, IfOk, OnErr}
 use Rattle.object_graph.specs.declared.step.Reply.{Reply}

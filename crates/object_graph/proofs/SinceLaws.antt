@@ -1,19 +1,20 @@
 -- What is since the snapshot stays so at each step: all that a mutator can come by was reachable in the snapshot from a root or a
 -- touched name, or is newer.
-use Rattle.std.proofs.Common.{◌≡◌, ℕ, zero, suc, ◌+◌, ◌-◌, ◌<◌, ◌≤◌, ◌⊎◌, List, ◌∷◌, [], Option, Some, None, refl, sym, ap, ◌∙◌, subst, inl, inr, arith}
-use Rattle.std.specs.Prelude.{slice_get, slice_set, slice_index_or, replicate, nat_lt, ◌==◌, ◌^◌}
+use Rattle.std.proofs.Common.{◌≡◌, ℕ, zero, suc, ◌+◌, ◌-◌, ◌<◌, ◌≤◌, List, ◌∷◌, [], Option, Some, None, refl, sym, ap, ◌∙◌, subst, inl, inr, arith}
+use Rattle.std.specs.Prelude.{slice_get, slice_set, slice_index_or, nat_lt, ◌==◌, ◌^◌}
 use Rattle.std.proofs.lemmas.Bool.{cases_lt, cases_eq}
 use Rattle.heap_words.specs.Sizes.{size_of}
 use Rattle.heap_model.specs.Graph.{Graph, Object, object_named, next_name, IsReachable, FromRoot, FromObject, IsSound, with_root, with_object, with_changed}
-use Rattle.heap_model.specs.Weak.{touched, KeepsUnreached}
-use Rattle.heap_model.proofs.Lists.{get-set_cases, get-set_other, get-push_cases, get-append_left, get-append_right}
+use Rattle.heap_model.specs.Weak.{touched, KeepsUnreached, IsClearedSlot, ClearsObject, Clears}
+use Rattle.heap_model.proofs.Lists.{AllZip-get_right, get-set_cases, get-set_other, get-push_cases}
+use Rattle.heap_model.proofs.Cleared.{reach_back}
 use Rattle.heap_model.proofs.Changed.{named_at, at_least}
 use Rattle.heap_model.proofs.Unreached.{touched_cases, touched_next, touched_named, touched_reaches, touched_reached}
 use Rattle.object_graph.specs.State.{State, register_place, root_at, AtRoot, AtField, HoldsNames, IsEarlier, ForSnapshot, IsSoundState}
 use Rattle.object_graph.specs.Since.{IsKnown, IsSince, IsSinceState}
 use Rattle.object_graph.specs.Sparing.{HoldsKnown}
 use Rattle.object_graph.specs.Machine.{Outcome, refused, on_contents, on_name, on_field, stored, made, act, outcome_of}
-use Rattle.object_graph.specs.Run.{snapshot_after, Collects, Happens, IsRun}
+use Rattle.object_graph.specs.Run.{snapshot_after, Happens, IsRun}
 use Rattle.object_graph.specs.declared.step.Action.{Action}
 use Rattle.object_graph.specs.declared.step.Action.TheVariants as actions
 use Rattle.object_graph.specs.declared.step.Op.{Op}
@@ -23,7 +24,6 @@ use Rattle.object_graph.specs.declared.step.Step.{Step}
 use Rattle.object_graph.specs.declared.step.Step.TheVariants as steps
 use Rattle.object_graph.specs.declared.step.Event.{Event}
 use Rattle.object_graph.specs.declared.step.Reply.{Reply}
-use Rattle.object_graph.specs.declared.step.Reply.TheVariants as replies
 use Rattle.object_graph.specs.declared.step.Refusal.TheVariants as refusals
 use Rattle.object_graph.proofs.MachineLaws.{cond_law}
 use Rattle.object_graph.proofs.Sound.{field_law, nils, get_in, after_law, happens_sound}
@@ -250,6 +250,26 @@ reaches_known s g k n (FromObject m a i x r named e) =
     let least = at_least g m x named in
     let back : m ≡ g.first_name + (m - g.first_name) = omega arith in
     k.pointers (m - g.first_name) i a x (place_named g m x named) (subst (IsKnown s) back (reaches_known s g k m r)) e
+
+-- so a name that marking's end takes from a weak slot isn't reachable
+slot_gone : (s : Graph) (v w : Option ℕ) (n : ℕ) → IsClearedSlot s v w → v ≡ Some n → w ≡ None → (n < next_name s) × (IsReachable s n → ⊥)
+slot_gone s None w n c e f = cc
+slot_gone s (Some m) (Some l) n c e f = cc
+slot_gone s (Some m) None n c e f = let same : m ≡ n = cc in subst (λ (l : ℕ). (l < next_name s) × (IsReachable s l → ⊥)) same c
+
+pub cleared_unreached : (s g h : Graph) → IsSince s g → Clears s g h → (k i n : ℕ) (x y : Object) → slice_get g.objects k ≡ Some x → slice_get h.objects k ≡ Some y
+    → slice_get x.weaks i ≡ Some (Some n) → slice_get y.weaks i ≡ Some None → IsReachable h n → ⊥
+cleared_unreached s g h since clears k i n x y at now held gone r =
+    let (x', is, z) = AllZip-get_right (ClearsObject s) g.objects h.objects clears.objects k y now in
+    let same : x' ≡ x = cc in
+    let (v, was, slot) = AllZip-get_right (IsClearedSlot s) x'.weaks y.weaks z.weaks i None gone in
+    let before : slice_get x.weaks i ≡ Some v = subst (λ (o : Object). slice_get o.weaks i ≡ Some v) same was in
+    let named : v ≡ Some n = cc in
+    let out = slot_gone s v None n slot named refl in
+    elim (reaches_known s g since n (reach_back s g h clears n r)) [
+      | inl q ↦ out.1 q
+      | inr q ↦ (let below = out.0 in omega arith)
+    ]
 
 -- names that objects bear are below the next one
 pub holds_sound : (g : Graph) → HoldsNames g → IsSound g

@@ -1,5 +1,5 @@
 -- A judge that keeps no snapshot where no object had a weak slot when marking began allows exactly the events of the machine.
-use Rattle.std.proofs.Common.{◌≡◌, ℕ, zero, suc, ◌+◌, ◌<◌, ◌≤◌, ◌⊎◌, Bool, true, false, cond, List, ◌∷◌, [], length, take, get_or, Option, Some, None, refl, sym, ap, ◌∙◌, subst, inl, inr, arith}
+use Rattle.std.proofs.Common.{◌≡◌, ℕ, zero, suc, ◌<◌, Bool, true, false, cond, List, ◌∷◌, [], length, Option, Some, None, refl, sym, ap, ◌∙◌, subst, inl, inr, arith}
 use Rattle.std.specs.Prelude.{slice_get, nat_lt}
 use Rattle.std.specs.List.{AllZip}
 use Rattle.std.proofs.lemmas.Bool.{lt-ltb}
@@ -8,19 +8,17 @@ use Rattle.heap_model.specs.Graph.{Graph, Object}
 use Rattle.heap_model.specs.Weak.{IsClearedSlot, ClearsObject, Clears}
 use Rattle.object_graph.specs.State.{State, HoldsNames, IsEarlier, ForSnapshot, IsSoundState, first_state}
 use Rattle.object_graph.specs.Since.{IsKnown, IsSince, IsSinceState}
-use Rattle.object_graph.specs.Sparing.{have_weaks, kept_snapshot, SparingCollects, SparingHappens, SparingEvent, HoldsKnown, Spares, StandsFor}
-use Rattle.object_graph.specs.Machine.{Outcome, outcome_of}
-use Rattle.object_graph.specs.Run.{IsCollectorReply, snapshot_after, ClearsBy, Collects, Creates, Happens, EventHappens, IsRun, BreaksAt}
+use Rattle.object_graph.specs.Sparing.{have_weaks, kept_snapshot, SparingCollects, SparingHappens, HoldsKnown, Spares, StandsFor}
+use Rattle.object_graph.specs.Machine.{outcome_of}
+use Rattle.object_graph.specs.Run.{IsCollectorReply, snapshot_after, ClearsBy, Creates, Happens}
 use Rattle.object_graph.specs.declared.step.Op.{Op}
 use Rattle.object_graph.specs.declared.step.CollectorStep.{CollectorStep}
 use Rattle.object_graph.specs.declared.step.Step.{Step}
 use Rattle.object_graph.specs.declared.step.Step.TheVariants as steps
-use Rattle.object_graph.specs.declared.step.Event.{Event}
 use Rattle.object_graph.specs.declared.step.Reply.{Reply}
 use Rattle.object_graph.proofs.Collected.{kind}
-use Rattle.object_graph.proofs.Sound.{get_in, first_sound, run_sound}
-use Rattle.object_graph.proofs.RunOnce.{same_state}
-use Rattle.object_graph.proofs.SinceLaws.{op_slots, run_since}
+use Rattle.object_graph.proofs.Sound.{get_in}
+use Rattle.object_graph.proofs.SinceLaws.{op_slots}
 
 -- without weak slots, each holds what you like
 none_slots : (xs : List Object) → have_weaks xs ≡ false → (k i : ℕ) (x : Object) (v : Option ℕ) → slice_get xs k ≡ Some x → slice_get x.weaks i ≡ Some v → ⊥

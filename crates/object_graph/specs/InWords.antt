@@ -1,5 +1,5 @@
 -- How objects stand in words.
-use Rattle.std.specs.Prelude.{◌≡◌, ℕ, ◌+◌, ◌*◌, ◌/◌, ◌%◌, ◌^◌, Bool, true, false, List, [], ◌∷◌, length, map, take, drop, nat_lt, if◌then◌else◌}
+use Rattle.std.specs.Prelude.{◌≡◌, ℕ, ◌+◌, ◌/◌, ◌%◌, ◌^◌, Bool, true, false, List, [], ◌∷◌, map, take, drop, nat_lt, if◌then◌else◌}
 use Rattle.heap_model.specs.Graph.{Object}
 use Rattle.object_graph.specs.Fields.{pointer_of}
 use Rattle.object_graph.specs.declared.objects.Entry.{Entry}

@@ -1,9 +1,9 @@
 -- The judge keeps a snapshot only where some object had a weak slot when marking began. Else marking clears nothing, since all that
 -- a mutator can come by meanwhile is reachable in the snapshot or newer.
-use Rattle.std.specs.Prelude.{◌≡◌, ℕ, ◌+◌, ⊤, List, [], ◌∷◌, Bool, true, false, Option, Some, None, length, slice_get, nat_lt, if◌then◌else◌}
-use Rattle.heap_model.specs.Graph.{Graph, Object, next_name, IsReachable}
+use Rattle.std.specs.Prelude.{◌≡◌, ℕ, ⊤, List, [], ◌∷◌, Bool, true, false, Option, Some, None, length, slice_get, nat_lt, if◌then◌else◌}
+use Rattle.heap_model.specs.Graph.{Graph, Object}
 use Rattle.object_graph.specs.State.{State}
-use Rattle.object_graph.specs.Since.{IsKnown, IsSince}
+use Rattle.object_graph.specs.Since.{IsKnown}
 use Rattle.object_graph.specs.Run.{IsCollectorReply, Collects, Happens}
 use Rattle.object_graph.specs.declared.step.CollectorStep.{CollectorStep}
 use Rattle.object_graph.specs.declared.step.CollectorStep.TheVariants as collector

@@ -1,10 +1,10 @@
 //! Laws of states and runs. Each function has an empty body, and its contract is a law.
 
-ghost use Rattle.std.specs.Prelude.{◌≡◌, ℕ, List, Some};
+ghost use Rattle.std.specs.Prelude.{◌≡◌, ℕ, List, Some, None, slice_get};
 ghost use Rattle.heap_words.specs.declared.config.Config.{Config};
 ghost use Rattle.heap_model.specs.Graph as model;
 ghost use Rattle.heap_model.specs.Graph.{IsReachable, IsSound};
-ghost use Rattle.heap_model.specs.Weak.{KeepsUnreached};
+ghost use Rattle.heap_model.specs.Weak.{KeepsUnreached, Clears};
 ghost use Rattle.object_graph.specs.State.{State, HoldsNames, IsSoundState, first_state};
 ghost use Rattle.object_graph.specs.Since.{IsKnown, IsSinceState};
 ghost use Rattle.object_graph.specs.Run.{Happens, IsRun, BreaksAt};
@@ -39,7 +39,14 @@ pub fn since_law()
     ensures unreached { (st : State) (s : model.Graph) → IsSoundState st → IsSinceState st → st.snapshot ≡ Some s → KeepsUnreached s st.graph }
 {}
 
-/// The same in every state of a run.
+/// No name whose weak slots become nil at the end of marking is reachable then.
+pub fn cleared_law()
+    ensures { (st : State) (s after : model.Graph) → IsSinceState st → st.snapshot ≡ Some s → Clears s st.graph after
+        → (k i n : ℕ) (x y : model.Object) → slice_get st.graph.objects k ≡ Some x → slice_get after.objects k ≡ Some y
+        → slice_get x.weaks i ≡ Some (Some n) → slice_get y.weaks i ≡ Some None → IsReachable after n → ⊥ }
+{}
+
+/// Every state of a run is sound, and so since its snapshot was taken.
 pub fn run_is_sound()
     ensures sound { (c : Config) (es : List Event) (last : State) → IsRun (first_state c) es last → IsSoundState last }
     ensures since { (c : Config) (es : List Event) (last : State) → IsRun (first_state c) es last → IsSinceState last }

@@ -15,8 +15,21 @@
 //!   0 get r1 r0 0              #1       r0 0    r1 1         0: [1]     1: 0
 //! ```
 //!
+//! From there on, with a weak slot of 0 in place of its pointer, marking begins with the present graph as its snapshot:
+//!
+//! ```text
+//!   event                      reply    roots                objects                snapshot
+//!   0 putweak r0 0 r1          ok       r0 0    r1 1         0: weak [1]     1: 0
+//!   0 drop r1                  ok       r0 0    r1 nil       0: weak [1]     1: 0
+//!   gc begin                   ok       r0 0    r1 nil       0: weak [1]     1: 0   the graph: 1 isn't reachable in it
+//!   gc remark                  marked 1 r0 0    r1 nil       0: weak [nil]   1: 0   given up
+//! ```
+//!
+//! A `getweak r1 r0 0` before the `remark` would reply `#1`, and touch it: then 1 counts as a root of the snapshot, and the slot stays.
+//!
 //! `Graph` takes the steps of mutators (`apply`); a `Plan` holds the steps to be done, a `Record` the events that were;
-//! `check` says whether a record is a run, from the graph of a new heap, and if not, at which event it breaks.
+//! `check` says whether a record is a run, from the graph of a new heap, and if not, at which event it breaks. The laws of
+//! states and runs stand in `laws`.
 #![tactic(auto)]
 
 mod clear;
@@ -34,7 +47,7 @@ mod tests;
 
 pub use graph::Graph;
 pub use judge::{Verdict, check};
-pub use laws::{judged_once, run_is_sound, run_once, since_law, sound_law};
+pub use laws::{cleared_law, judged_once, run_is_sound, run_once, since_law, sound_law};
 pub use record::{Plan, Record};
 pub use step::{
     Action, Actor, CollectorStep, Counts, Event, GlobalRoot, Op, Refusal, Register, Reply, Step,

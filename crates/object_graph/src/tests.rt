@@ -180,6 +180,24 @@ fn set_value(objects: &mut Objects, place: usize, field: u32, value: u64) {
     }
 }
 
+/// What a weak slot holds, where the object and the slot are there.
+fn weak(objects: &Objects, place: usize, slot: u32) -> Option<Option<u64>> {
+    if place < objects.len() {
+        Some(objects.get_weak(place, slot)?.name())
+    } else {
+        None
+    }
+}
+
+/// Sets the weak slot, where the object and the slot are there.
+fn set_weak(objects: &mut Objects, place: usize, slot: u32, value: Pointer) {
+    if place < objects.len() {
+        if slot < u32::from(objects.weak_count(place)) {
+            objects.set_weak(place, slot, value);
+        }
+    }
+}
+
 #[test]
 fn keeps_objects_apart(rt: HostRuntime) -> Result<(), Fail> {
     let mut objects = Objects::new(rt.alloc());
@@ -209,6 +227,34 @@ fn keeps_objects_apart(rt: HostRuntime) -> Result<(), Fail> {
     set_pointer(o, 3, 0, Pointer::nil());
     assert_eq!(rt; pointer(o, 3, 0), Some(None));
     assert_eq!(rt; pointer(o, 0, 1), Some(Some(u64::MAX - 1)));
+    Ok(())
+}
+
+#[test]
+fn keeps_weak_slots_apart(rt: HostRuntime) -> Result<(), Fail> {
+    let mut objects = Objects::new(rt.alloc());
+    let o = &mut objects;
+    o.push(counts(1, 1), 0)?;
+    assert_eq!(rt; o.has_weaks(), false);
+    o.push(counts(1, 1), 255)?;
+    o.push(counts(1, 1), 2)?;
+    assert_eq!(rt; o.has_weaks(), true);
+    assert_eq!(rt; weak(o, 0, 0), None);
+    assert_eq!(rt; weak(o, 1, 254), Some(None));
+    assert_eq!(rt; weak(o, 1, 255), None);
+    set_weak(o, 1, 254, Pointer::to(9));
+    set_weak(o, 2, 0, Pointer::to(0));
+    set_value(o, 1, 0, 7);
+    set_pointer(o, 2, 0, Pointer::to(3));
+    assert_eq!(rt; weak(o, 1, 253), Some(None));
+    assert_eq!(rt; weak(o, 1, 254), Some(Some(9)));
+    assert_eq!(rt; value(o, 1, 0), Some(7));
+    assert_eq!(rt; pointer(o, 2, 0), Some(Some(3)));
+    assert_eq!(rt; weak(o, 2, 0), Some(Some(0)));
+    assert_eq!(rt; weak(o, 2, 1), Some(None));
+    assert_eq!(rt; value(o, 2, 0), Some(0));
+    let copy = o.copy()?;
+    assert_eq!(rt; weak(&copy, 1, 254), Some(Some(9)));
     Ok(())
 }
 
@@ -401,5 +447,24 @@ fn a_pause_leaves_weak_slots(rt: HostRuntime) -> Result<(), Fail> {
     moved.push(done(get_weak(1, 0, 0), Reply::Named(Some(1))))?;
     moved.push(done(read(1, 0), Reply::Word(0)))?;
     assert_eq!(rt; check(alloc, &moved)?, Verdict::Yes(8));
+    Ok(())
+}
+
+#[test]
+fn keeps_slots_made_while_marking_ran(rt: HostRuntime) -> Result<(), Fail> {
+    let alloc = rt.alloc();
+    let mut record = Record::new(alloc, config(0));
+    record.push(done(new(1, 0, 1), Reply::Named(Some(0))))?;
+    record.push(collected(CollectorStep::Begin, Reply::Done))?;
+    record.push(done(new_weak(0, 0, 1, 0), Reply::Named(Some(1))))?;
+    record.push(done(put_weak(0, 0, 1), Reply::Done))?;
+    record.push(done(Action::Drop { register: r(1) }, Reply::Done))?;
+    record.push(collected(CollectorStep::Remark, Reply::Marked(1)))?;
+    record.push(done(get_weak(2, 0, 0), Reply::Named(Some(0))))?;
+    record.push(done(Action::Drop { register: r(2) }, Reply::Done))?;
+    record.push(collected(CollectorStep::Begin, Reply::Done))?;
+    record.push(collected(CollectorStep::Remark, Reply::Marked(1)))?;
+    record.push(done(get_weak(2, 0, 0), Reply::Named(None)))?;
+    assert_eq!(rt; check(alloc, &record)?, Verdict::Yes(11));
     Ok(())
 }

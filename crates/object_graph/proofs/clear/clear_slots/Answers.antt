@@ -1,4 +1,4 @@
-use Rattle.std.proofs.Common.{sym, ◌∙◌, arith}
+use Rattle.std.proofs.Common.{sym, arith}
 use Rattle.heap_model.specs.Weak.{cleared_slot}
 use Rattle.object_graph.specs.Reached.{flag_of}
 use Rattle.object_graph.proofs.ClearLaws.{part_more}

@@ -1,6 +1,6 @@
-use Rattle.std.proofs.Common.{Option, Some, subst}
+use Rattle.std.proofs.Common.{Option, subst}
 use Rattle.heap_model.specs.Graph.{Graph}
-use Rattle.object_graph.specs.State.{State, ForSnapshot, IsEarlier}
+use Rattle.object_graph.specs.State.{ForSnapshot, IsEarlier}
 use Rattle.object_graph.specs.Since.{IsSince}
 use Rattle.object_graph.proofs.SinceLaws.{happens_since, reaches_known, since_unreached}
 use Rattle.object_graph.proofs.laws.since_law.Goals as goal
