@@ -1,41 +1,62 @@
--- What a step of the collector may do to a state: it takes the snapshot, or clears by it and gives it up, or changes nothing.
+-- What a step of the collector may do to a state: it takes the snapshot, or clears by it and gives it up, or changes nothing; and so
+-- it is in the judge's states, where the snapshot that is taken may be none.
 use Rattle.std.proofs.Common.{◌≡◌, ◌⊎◌, Some, None, inl, inr}
 use Rattle.object_graph.specs.State.{State}
 use Rattle.object_graph.specs.Run.{ClearsBy, Collects}
+use Rattle.object_graph.specs.Sparing.{SparingCollects, kept_snapshot}
 use Rattle.object_graph.specs.declared.step.CollectorStep.{CollectorStep}
 use Rattle.object_graph.specs.declared.step.CollectorStep.TheVariants as collector
 use Rattle.object_graph.specs.declared.step.Reply.{Reply}
 use Rattle.object_graph.specs.declared.step.Reply.TheVariants as replies
 
-abbrev pub Takes : State → CollectorStep → Reply → Type 0
-Takes old k r = (new : State) → Collects old k r new → new ≡ record { graph = old.graph; snapshot = Some old.graph }
+-- two relations of states that are the same
+abbrev pub Both : (State → State → Type 0) → (State → State → Type 0) → Type 0
+Both P Q = (old new : State) → (P old new → Q old new) × (Q old new → P old new)
 
-abbrev pub GivesUp : State → CollectorStep → Reply → Type 0
-GivesUp old k r = (new : State) → Collects old k r new → (new.snapshot ≡ None) × ClearsBy old.snapshot old.graph new.graph
+abbrev pub Taken : State → State → Type 0
+Taken old new = new ≡ record { graph = old.graph; snapshot = Some old.graph }
 
-abbrev pub Stays : State → CollectorStep → Reply → Type 0
-Stays old k r = (new : State) → Collects old k r new → new ≡ old
+abbrev pub TakenSparing : State → State → Type 0
+TakenSparing old new = new ≡ record { graph = old.graph; snapshot = kept_snapshot old.graph }
 
-pub kind : (old : State) (k : CollectorStep) (r : Reply) → Takes old k r ⊎ (GivesUp old k r ⊎ Stays old k r)
-kind old collector.Begin replies.Done = inl (λ new c. c)
-kind old collector.Begin (replies.Named v) = inr (inr (λ new c. c))
-kind old collector.Begin (replies.Word w) = inr (inr (λ new c. c))
-kind old collector.Begin (replies.Shape p d) = inr (inr (λ new c. c))
-kind old collector.Begin (replies.Marked n) = inr (inr (λ new c. c))
-kind old collector.Begin (replies.Reclaimed n) = inr (inr (λ new c. c))
-kind old collector.Begin (replies.Refined n) = inr (inr (λ new c. c))
-kind old collector.Begin (replies.Moved n w) = inr (inr (λ new c. c))
-kind old collector.Begin (replies.Refused why) = inr (inr (λ new c. c))
-kind old collector.Remark replies.Done = inr (inr (λ new c. c))
-kind old collector.Remark (replies.Named v) = inr (inr (λ new c. c))
-kind old collector.Remark (replies.Word w) = inr (inr (λ new c. c))
-kind old collector.Remark (replies.Shape p d) = inr (inr (λ new c. c))
-kind old collector.Remark (replies.Marked n) = inr (inl (λ new c. c))
-kind old collector.Remark (replies.Reclaimed n) = inr (inr (λ new c. c))
-kind old collector.Remark (replies.Refined n) = inr (inr (λ new c. c))
-kind old collector.Remark (replies.Moved n w) = inr (inr (λ new c. c))
-kind old collector.Remark (replies.Refused why) = inr (inr (λ new c. c))
-kind old (collector.Mark i) r = inr (inr (λ new c. c))
-kind old collector.Cleanup r = inr (inr (λ new c. c))
-kind old (collector.Refine i) r = inr (inr (λ new c. c))
-kind old (collector.Pause i) r = inr (inr (λ new c. c))
+abbrev pub GivenUp : State → State → Type 0
+GivenUp old new = (new.snapshot ≡ None) × ClearsBy old.snapshot old.graph new.graph
+
+abbrev pub Idle : State → State → Type 0
+Idle old new = new ≡ old
+
+abbrev pub Takes : CollectorStep → Reply → Type 0
+Takes k r = Both (λ old new. Collects old k r new) Taken × Both (λ old new. SparingCollects old k r new) TakenSparing
+
+abbrev pub GivesUp : CollectorStep → Reply → Type 0
+GivesUp k r = Both (λ old new. Collects old k r new) GivenUp × Both (λ old new. SparingCollects old k r new) GivenUp
+
+abbrev pub Stays : CollectorStep → Reply → Type 0
+Stays k r = Both (λ old new. Collects old k r new) Idle × Both (λ old new. SparingCollects old k r new) Idle
+
+same : (P : State → State → Type 0) → Both P P
+same P old new = (λ c. c, λ c. c)
+
+pub kind : (k : CollectorStep) (r : Reply) → Takes k r ⊎ (GivesUp k r ⊎ Stays k r)
+kind collector.Begin replies.Done = inl (same Taken, same TakenSparing)
+kind collector.Remark (replies.Marked n) = inr (inl (same GivenUp, same GivenUp))
+kind collector.Begin (replies.Named v) = inr (inr (same Idle, same Idle))
+kind collector.Begin (replies.Word w) = inr (inr (same Idle, same Idle))
+kind collector.Begin (replies.Shape p d) = inr (inr (same Idle, same Idle))
+kind collector.Begin (replies.Marked n) = inr (inr (same Idle, same Idle))
+kind collector.Begin (replies.Reclaimed n) = inr (inr (same Idle, same Idle))
+kind collector.Begin (replies.Refined n) = inr (inr (same Idle, same Idle))
+kind collector.Begin (replies.Moved n w) = inr (inr (same Idle, same Idle))
+kind collector.Begin (replies.Refused why) = inr (inr (same Idle, same Idle))
+kind collector.Remark replies.Done = inr (inr (same Idle, same Idle))
+kind collector.Remark (replies.Named v) = inr (inr (same Idle, same Idle))
+kind collector.Remark (replies.Word w) = inr (inr (same Idle, same Idle))
+kind collector.Remark (replies.Shape p d) = inr (inr (same Idle, same Idle))
+kind collector.Remark (replies.Reclaimed n) = inr (inr (same Idle, same Idle))
+kind collector.Remark (replies.Refined n) = inr (inr (same Idle, same Idle))
+kind collector.Remark (replies.Moved n w) = inr (inr (same Idle, same Idle))
+kind collector.Remark (replies.Refused why) = inr (inr (same Idle, same Idle))
+kind (collector.Mark i) r = inr (inr (same Idle, same Idle))
+kind collector.Cleanup r = inr (inr (same Idle, same Idle))
+kind (collector.Refine i) r = inr (inr (same Idle, same Idle))
+kind (collector.Pause i) r = inr (inr (same Idle, same Idle))

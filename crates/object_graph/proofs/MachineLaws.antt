@@ -6,10 +6,12 @@ use Rattle.object_graph.specs.declared.step.Reply.{Reply}
 use Rattle.object_graph.specs.declared.step.Reply.TheVariants as replies
 use Rattle.heap_model.specs.Graph.{Object, Graph, next_name}
 use Rattle.object_graph.specs.State.{root_at, register_place}
-use Rattle.object_graph.specs.Machine.{Outcome, refused, on_contents, on_name, on_field, act, outcome_of}
+use Rattle.object_graph.specs.Machine.{Outcome, refused, on_contents, on_name, on_field, made, act, outcome_of}
 use Rattle.object_graph.specs.declared.step.Action.{Action}
 use Rattle.object_graph.specs.declared.step.Action.TheVariants as actions
+use Rattle.object_graph.specs.declared.step.Counts.{Counts}
 use Rattle.object_graph.specs.declared.step.Op.{Op}
+use Rattle.object_graph.specs.declared.step.Register.{Register}
 use Rattle.object_graph.specs.declared.step.Refusal.TheVariants as refusals
 
 on_contents_law : (P : Outcome → Type 0) (g : Graph) (o : Option Object) (f : Object → Outcome) → P (refused g refusals.Nil) → ((x : Object) → P (f x)) → P (on_contents g o f)
@@ -32,10 +34,13 @@ cond_law P false x y p q = q
 abbrev KeepsMutators : Graph → Outcome → Type 0
 KeepsMutators g out = out.1.mutators ≡ g.mutators
 
-act_keeps : (g : Graph) (m : ℕ) (a : Action) → KeepsMutators g (act g m a)
-act_keeps g m (actions.New to counts) =
-    cond_law (KeepsMutators g) (nat_lt g.room (size_of counts.pointers counts.values)) (refused g refusals.TooBig) _ refl
+made_keeps : (g : Graph) (m : ℕ) (to : Register) (counts : Counts) (weaks : ℕ) → KeepsMutators g (made g m to counts weaks)
+made_keeps g m to counts weaks =
+    cond_law (KeepsMutators g) (nat_lt g.room (size_of counts.pointers weaks counts.values)) (refused g refusals.TooBig) _ refl
     (cond_law (KeepsMutators g) (next_name g == 2 ^ 64 - 1) (refused g refusals.NamesSpent) _ refl refl)
+
+act_keeps : (g : Graph) (m : ℕ) (a : Action) → KeepsMutators g (act g m a)
+act_keeps g m (actions.New to counts) = made_keeps g m to counts 0
 act_keeps g m (actions.Get to object i) = on_name_law (KeepsMutators g) g (root_at g (register_place m object.number)) _ refl (λ n x. on_field_law (KeepsMutators g) g (slice_get x.pointers i) _ refl (λ v. refl))
 act_keeps g m (actions.Put object i value) = on_name_law (KeepsMutators g) g (root_at g (register_place m object.number)) _ refl (λ n x. on_field_law (KeepsMutators g) g (slice_get x.pointers i) _ refl (λ v. refl))
 act_keeps g m (actions.Read object i) = on_name_law (KeepsMutators g) g (root_at g (register_place m object.number)) _ refl (λ n x. on_field_law (KeepsMutators g) g (slice_get x.values i) _ refl (λ v. refl))
@@ -45,9 +50,7 @@ act_keeps g m (actions.Drop register) = refl
 act_keeps g m (actions.Load to from) = refl
 act_keeps g m (actions.Save to from) = refl
 act_keeps g m (actions.Shape object) = on_name_law (KeepsMutators g) g (root_at g (register_place m object.number)) _ refl (λ n x. refl)
-act_keeps g m (actions.NewWeak to p w d) =
-    cond_law (KeepsMutators g) (nat_lt g.room (2 + p + w + d)) (refused g refusals.TooBig) _ refl
-    (cond_law (KeepsMutators g) (next_name g == 2 ^ 64 - 1) (refused g refusals.NamesSpent) _ refl refl)
+act_keeps g m (actions.NewWeak to counts weaks) = made_keeps g m to counts weaks
 act_keeps g m (actions.GetWeak to object i) = on_name_law (KeepsMutators g) g (root_at g (register_place m object.number)) _ refl (λ n x. on_field_law (KeepsMutators g) g (slice_get x.weaks i) _ refl (λ v. refl))
 act_keeps g m (actions.PutWeak object i value) = on_name_law (KeepsMutators g) g (root_at g (register_place m object.number)) _ refl (λ n x. on_field_law (KeepsMutators g) g (slice_get x.weaks i) _ refl (λ v. refl))
 act_keeps g m (actions.Weaks object) = on_name_law (KeepsMutators g) g (root_at g (register_place m object.number)) _ refl (λ n x. refl)
@@ -64,10 +67,13 @@ served-mutators (Err e) old new o ok err = ap (λ (g : Graph). g.mutators) err
 abbrev NotFull : Outcome → Type 0
 NotFull out = out.0 ≡ replies.Refused refusals.Full → ⊥
 
-pub act-not_full : (g : Graph) (m : ℕ) (a : Action) → (act g m a).0 ≡ replies.Refused refusals.Full → ⊥
-act-not_full g m (actions.New to counts) =
-    cond_law NotFull (nat_lt g.room (size_of counts.pointers counts.values)) (refused g refusals.TooBig) _ (λ h. cc)
+made-not_full : (g : Graph) (m : ℕ) (to : Register) (counts : Counts) (weaks : ℕ) → NotFull (made g m to counts weaks)
+made-not_full g m to counts weaks =
+    cond_law NotFull (nat_lt g.room (size_of counts.pointers weaks counts.values)) (refused g refusals.TooBig) _ (λ h. cc)
     (cond_law NotFull (next_name g == 2 ^ 64 - 1) (refused g refusals.NamesSpent) _ (λ h. cc) (λ h. cc))
+
+pub act-not_full : (g : Graph) (m : ℕ) (a : Action) → (act g m a).0 ≡ replies.Refused refusals.Full → ⊥
+act-not_full g m (actions.New to counts) = made-not_full g m to counts 0
 act-not_full g m (actions.Get to object i) = on_name_law NotFull g (root_at g (register_place m object.number)) _ (λ h. cc) (λ n x. on_field_law NotFull g (slice_get x.pointers i) _ (λ h. cc) (λ v h. cc))
 act-not_full g m (actions.Put object i value) = on_name_law NotFull g (root_at g (register_place m object.number)) _ (λ h. cc) (λ n x. on_field_law NotFull g (slice_get x.pointers i) _ (λ h. cc) (λ v h. cc))
 act-not_full g m (actions.Read object i) = on_name_law NotFull g (root_at g (register_place m object.number)) _ (λ h. cc) (λ n x. on_field_law NotFull g (slice_get x.values i) _ (λ h. cc) (λ v h. cc))
@@ -77,9 +83,7 @@ act-not_full g m (actions.Drop register) = λ h. cc
 act-not_full g m (actions.Load to from) = λ h. cc
 act-not_full g m (actions.Save to from) = λ h. cc
 act-not_full g m (actions.Shape object) = on_name_law NotFull g (root_at g (register_place m object.number)) _ (λ h. cc) (λ n x h. cc)
-act-not_full g m (actions.NewWeak to p w d) =
-    cond_law NotFull (nat_lt g.room (2 + p + w + d)) (refused g refusals.TooBig) _ (λ h. cc)
-    (cond_law NotFull (next_name g == 2 ^ 64 - 1) (refused g refusals.NamesSpent) _ (λ h. cc) (λ h. cc))
+act-not_full g m (actions.NewWeak to counts weaks) = made-not_full g m to counts weaks
 act-not_full g m (actions.GetWeak to object i) = on_name_law NotFull g (root_at g (register_place m object.number)) _ (λ h. cc) (λ n x. on_field_law NotFull g (slice_get x.weaks i) _ (λ h. cc) (λ v h. cc))
 act-not_full g m (actions.PutWeak object i value) = on_name_law NotFull g (root_at g (register_place m object.number)) _ (λ h. cc) (λ n x. on_field_law NotFull g (slice_get x.weaks i) _ (λ h. cc) (λ v h. cc))
 act-not_full g m (actions.Weaks object) = on_name_law NotFull g (root_at g (register_place m object.number)) _ (λ h. cc) (λ n x h. cc)

@@ -1,24 +1,9 @@
 -- How a run goes on.
-<<<<<<< HEAD
 use Rattle.std.proofs.Common.{◌≡◌, ℕ, ◌+◌, ◌-◌, ◌<◌, Some, slice_get, arith, List, [], ◌∷◌, ◌++◌, length, take, get_or, refl, sym, ap, ◌∙◌, subst}
-||||||| 3906014
-use Rattle.std.proofs.Common.{◌≡◌, ℕ, ◌+◌, ◌<◌, List, [], ◌∷◌, ◌++◌, length, take, get_or, refl, sym, ap, ◌∙◌, subst}
-=======
-use Rattle.std.proofs.Common.{◌≡◌, ℕ, ◌+◌, ◌-◌, ◌<◌, Some, List, [], ◌∷◌, ◌++◌, length, take, get_or, slice_get, refl, sym, ap, ◌∙◌, subst, arith}
->>>>>>> main
 use Rattle.std.proofs.lemmas.List.{take_more}
-<<<<<<< HEAD
 use Rattle.std.proofs.lemmas.Option.{slice_get-get_or}
 use Rattle.object_graph.specs.State.{State}
 use Rattle.object_graph.specs.Run.{EventHappens, IsRun, BreaksAt}
-||||||| 3906014
-use Rattle.heap_model.specs.Graph.{Graph}
-use Rattle.object_graph.specs.Run.{EventHappens, IsRun}
-=======
-use Rattle.std.proofs.lemmas.Option.{slice_get-get_or}
-use Rattle.heap_model.specs.Graph.{Graph}
-use Rattle.object_graph.specs.Run.{EventHappens, IsRun, BreaksAt}
->>>>>>> main
 use Rattle.object_graph.specs.declared.step.Event.{Event}
 
 -- a run goes on by one event
@@ -35,7 +20,6 @@ IsRun-step first es i e mid last lt is run next =
 -- the same, where the events were read from a slice
 pub IsRun-read : (first : State) (es seen : List Event) (i : ℕ) (e : Event) (mid last : State) → seen ≡ es → i < length seen → e ≡ get_or seen i e → IsRun first (take i es) mid → EventHappens mid e last → IsRun first (take (i + 1) es) last
 IsRun-read first es seen i e mid last same lt is run next = IsRun-step first es i e mid last (rw (← same) lt) (rw (← same) is) run next
-<<<<<<< HEAD
 
 -- the run of the first i events breaks at the next one, where nothing goes on with it
 pub breaks_at : (first : State) (es seen : List Event) (i : ℕ) (e : Event) (mid : State) → seen ≡ es → i < length seen → e ≡ get_or seen i e → IsRun first (take i es) mid
@@ -53,23 +37,3 @@ breaks_at first es seen i e mid same lt is run stuck =
           let q : f ≡ e = cc in
           stuck after (subst (λ (x : Event). EventHappens mid x after) q h);
     }
-||||||| 3906014
-=======
-
--- the run of the first i events goes on by no event that is the next one
-pub BreaksAt-read : (first : Graph) (es seen : List Event) (i : ℕ) (e : Event) (mid : Graph) → seen ≡ es → i < length seen → e ≡ get_or seen i e → IsRun first (take i es) mid → ((after : Graph) → EventHappens mid e after → ⊥) → BreaksAt first es (i + 1)
-BreaksAt-read first es seen i e mid same lt is run none =
-    let at : i + 1 - 1 ≡ i = omega arith in
-    let inside : i < length es = rw (← same) lt in
-    let next : slice_get es i ≡ Some e = slice_get-get_or es i e inside ∙ ap (λ (x : Event). Some x) (sym (rw same at is)) in
-    record {
-      positive = omega arith;
-      within = omega arith;
-      before = mid;
-      run = subst (λ (k : ℕ). IsRun first (take k es) mid) (sym at) run;
-      stops = λ x there after happens.
-          let equal : slice_get es i ≡ Some x = subst (λ (k : ℕ). slice_get es k ≡ Some x) at there in
-          let this : x ≡ e = cc in
-          none after (subst (λ (y : Event). EventHappens mid y after) this happens);
-    }
->>>>>>> main

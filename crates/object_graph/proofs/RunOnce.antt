@@ -23,7 +23,7 @@ not_both old g o reply given creates full =
 state_of : Graph → Option Graph → State
 state_of g s = record { graph = g; snapshot = s }
 
-same_state : (a b : State) → a.graph ≡ b.graph → a.snapshot ≡ b.snapshot → a ≡ b
+pub same_state : (a b : State) → a.graph ≡ b.graph → a.snapshot ≡ b.snapshot → a ≡ b
 unfolding state_of
 same_state a b g s = let e : state_of a.graph a.snapshot ≡ state_of b.graph b.snapshot = ap (λ (x : Graph). state_of x a.snapshot) g ∙ ap (λ (t : Option Graph). state_of b.graph t) s in e
 
@@ -32,11 +32,11 @@ cleared_once None g a b p q = p ∙ sym q
 cleared_once (Some s) g a b p q = clears_once s g a b p q
 
 collected_once : (old a b : State) (k : CollectorStep) (reply : Reply) → Collects old k reply a → Collects old k reply b → a ≡ b
-collected_once old a b k reply p q = elim (kind old k reply) [
-  | inl t ↦ t a p ∙ sym (t b q)
-  | inr c ↦ elim c [
-    | inl c ↦ same_state a b (cleared_once old.snapshot old.graph a.graph b.graph (c a p).1 (c b q).1) ((c a p).0 ∙ sym (c b q).0)
-    | inr n ↦ n a p ∙ sym (n b q)
+collected_once old a b k reply p q = elim (kind k reply) [
+  | inl t ↦ (t.0 old a).0 p ∙ sym ((t.0 old b).0 q)
+  | inr u ↦ elim u [
+    | inl g ↦ (let x = (g.0 old a).0 p in let y = (g.0 old b).0 q in same_state a b (cleared_once old.snapshot old.graph a.graph b.graph x.1 y.1) (x.0 ∙ sym y.0))
+    | inr n ↦ (n.0 old a).0 p ∙ sym ((n.0 old b).0 q)
   ]
 ]
 

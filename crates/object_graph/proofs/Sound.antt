@@ -1,16 +1,18 @@
 -- Every name that stands in a state's graphs is borne by an object: at the beginning, and after each event.
 use Rattle.std.proofs.Common.{◌≡◌, ℕ, zero, suc, ◌+◌, ◌-◌, ◌*◌, ◌<◌, ◌≤◌, List, ◌∷◌, [], ◌++◌, length, Option, Some, None, refl, sym, ap, ◌∙◌, subst, inl, inr, arith}
 use Rattle.std.specs.Prelude.{slice_get, slice_set, slice_index_or, replicate, nat_lt, ◌==◌, ◌^◌}
+use Rattle.heap_words.specs.Sizes.{size_of}
 use Rattle.heap_words.specs.declared.config.Config.{Config}
 use Rattle.heap_model.specs.Graph.{Graph, Object, next_name, object_fields, with_root, with_object, with_changed}
 use Rattle.heap_model.specs.Weak.{touched, IsClearedSlot, ClearsObject, Clears}
 use Rattle.heap_model.proofs.Lists.{AllZip-get_right, AllZip_length, get-set_cases, get-append_cases, get-append_left, get-append_right, get-push_cases, length-set, length-push}
 use Rattle.heap_model.proofs.Unreached.{touched_cases}
 use Rattle.object_graph.specs.State.{State, register_place, root_at, Occurs, AtRoot, AtField, IsNameOf, HoldsNames, IsEarlier, ForSnapshot, IsSoundState, first_graph, first_state}
-use Rattle.object_graph.specs.Machine.{Outcome, refused, on_contents, on_name, on_field, stored, act, outcome_of}
+use Rattle.object_graph.specs.Machine.{Outcome, refused, on_contents, on_name, on_field, stored, made, act, outcome_of}
 use Rattle.object_graph.specs.Run.{snapshot_after, ClearsBy, Collects, Happens, IsRun}
 use Rattle.object_graph.specs.declared.step.Action.{Action}
 use Rattle.object_graph.specs.declared.step.Action.TheVariants as actions
+use Rattle.object_graph.specs.declared.step.Counts.{Counts}
 use Rattle.object_graph.specs.declared.step.Op.{Op}
 use Rattle.object_graph.specs.declared.step.Register.{Register}
 use Rattle.object_graph.specs.declared.step.CollectorStep.{CollectorStep}
@@ -119,6 +121,11 @@ touched_earlier s g (Some a) k value = elim (touched_cases s a) [
     holds below n (AtRoot j e) = first_root below j n e
     holds below n (AtField p i x at e) = k.holds n (AtField p i x at e)
 
+pub get_in : {A : Type 0} (xs : List A) (i : ℕ) (x : A) → slice_get xs i ≡ Some x → i < length xs
+get_in [] i x e = cc
+get_in (y ∷ xs) zero x e = omega arith
+get_in (y ∷ xs) (suc i) x e = let k = get_in xs i x e in omega arith
+
 -- what a step of a mutator leaves, by its cases
 contents_law : (P : Outcome → Type 0) (g : Graph) (o : Option Object) (f : Object → Outcome) → P (refused g refusals.Nil) → ((x : Object) → o ≡ Some x → P (f x)) → P (on_contents g o f)
 contents_law P g None f nil each = nil
@@ -128,7 +135,7 @@ name_law : (P : Outcome → Type 0) (g : Graph) (o : Option ℕ) (f : ℕ → Ob
 name_law P g None f nil each = nil
 name_law P g (Some n) f nil each = contents_law P g (slice_get g.objects (n - g.first_name)) (f n) nil (each n)
 
-field_law : {X : Type 0} (P : Outcome → Type 0) (g : Graph) (o : Option X) (f : X → Outcome) → P (refused g refusals.NoField) → ((x : X) → o ≡ Some x → P (f x)) → P (on_field g o f)
+pub field_law : {X : Type 0} (P : Outcome → Type 0) (g : Graph) (o : Option X) (f : X → Outcome) → P (refused g refusals.NoField) → ((x : X) → o ≡ Some x → P (f x)) → P (on_field g o f)
 field_law P g None f none each = none
 field_law P g (Some x) f none each = each x refl
 
@@ -139,7 +146,7 @@ record Goes (g : Graph) (out : Outcome) : Type 0 where
   next_name : next_name g ≤ next_name out.1
   replied : (v : Option ℕ) → out.0 ≡ replies.Named v → IsValue out.1 v
 
-nils : (n i k : ℕ) → slice_get (replicate n None) i ≡ Some (Some k) → ⊥
+pub nils : (n i k : ℕ) → slice_get (replicate n None) i ≡ Some (Some k) → ⊥
 nils zero i k e = cc
 nils (suc n) zero k e = cc
 nils (suc n) (suc i) k e = nils n i k e
@@ -196,11 +203,14 @@ module _ (g : Graph) (k : HoldsNames g) where
   none_stays : Goes g (refused g refusals.NoField)
   none_stays = stays (replies.Refused refusals.NoField) (λ v e. cc)
 
-  act_goes : (m : ℕ) (a : Action) → Goes g (act g m a)
-  act_goes m (actions.New to p d) =
-      cond_law (Goes g) (nat_lt g.room (2 + p + d)) (refused g refusals.TooBig) _ (stays (replies.Refused refusals.TooBig) (λ v e. cc))
+  made_goes : (m : ℕ) (to : Register) (counts : Counts) (weaks : ℕ) → Goes g (made g m to counts weaks)
+  made_goes m to counts weaks =
+      cond_law (Goes g) (nat_lt g.room (size_of counts.pointers weaks counts.values)) (refused g refusals.TooBig) _ (stays (replies.Refused refusals.TooBig) (λ v e. cc))
       (cond_law (Goes g) (next_name g == 2 ^ 64 - 1) (refused g refusals.NamesSpent) _ (stays (replies.Refused refusals.NamesSpent) (λ v e. cc))
-      (added (record { pointers = replicate p None; weaks = []; values = replicate d 0 }) (register_place m to.number) (λ i n e. fresh_fields p 0 i n e)))
+      (added (record { pointers = replicate counts.pointers None; weaks = replicate weaks None; values = replicate counts.values 0 }) (register_place m to.number) (λ i n e. fresh_fields counts.pointers weaks i n e)))
+
+  act_goes : (m : ℕ) (a : Action) → Goes g (act g m a)
+  act_goes m (actions.New to counts) = made_goes m to counts 0
   act_goes m (actions.Get to object i) = name_law (Goes g) g (root_at g (register_place m object.number)) _ nil_stays (λ n x at. field_law (Goes g) g (slice_get x.pointers i) _ none_stays (λ v e. rooted (replies.Named v) (register_place m to.number) v (pointer_value (n - g.first_name) x i v at e) (λ u q. cc)))
   act_goes m (actions.Put object i value) = name_law (Goes g) g (root_at g (register_place m object.number)) _ nil_stays (λ n x at. field_law (Goes g) g (slice_get x.pointers i) _ none_stays (λ v e. changed n (record x { pointers = slice_set x.pointers i (stored g m value) }) (fields_set g x.pointers x.weaks i (stored g m value) (values_at (n - g.first_name) x at) (stored_value g k m value))))
   act_goes m (actions.Read object i) = name_law (Goes g) g (root_at g (register_place m object.number)) _ nil_stays (λ n x at. field_law (Goes g) g (slice_get x.values i) _ none_stays (λ v e. stays (replies.Word v) (λ u q. cc)))
@@ -210,10 +220,7 @@ module _ (g : Graph) (k : HoldsNames g) where
   act_goes m (actions.Load to from) = rooted (replies.Named (root_at g from.number)) (register_place m to.number) (root_at g from.number) (root_value g k from.number) (λ u q. cc)
   act_goes m (actions.Save to from) = rooted replies.Done to.number (root_at g (register_place m from.number)) (root_value g k (register_place m from.number)) (λ u q. cc)
   act_goes m (actions.Shape object) = name_law (Goes g) g (root_at g (register_place m object.number)) _ nil_stays (λ n x at. stays (replies.Shape (length x.pointers) (length x.values)) (λ u q. cc))
-  act_goes m (actions.NewWeak to p w d) =
-      cond_law (Goes g) (nat_lt g.room (2 + p + w + d)) (refused g refusals.TooBig) _ (stays (replies.Refused refusals.TooBig) (λ v e. cc))
-      (cond_law (Goes g) (next_name g == 2 ^ 64 - 1) (refused g refusals.NamesSpent) _ (stays (replies.Refused refusals.NamesSpent) (λ v e. cc))
-      (added (record { pointers = replicate p None; weaks = replicate w None; values = replicate d 0 }) (register_place m to.number) (λ i n e. fresh_fields p w i n e)))
+  act_goes m (actions.NewWeak to counts weaks) = made_goes m to counts weaks
   act_goes m (actions.GetWeak to object i) = name_law (Goes g) g (root_at g (register_place m object.number)) _ nil_stays (λ n x at. field_law (Goes g) g (slice_get x.weaks i) _ none_stays (λ v e. rooted (replies.Named v) (register_place m to.number) v (weak_value (n - g.first_name) x i v at e) (λ u q. cc)))
   act_goes m (actions.PutWeak object i value) = name_law (Goes g) g (root_at g (register_place m object.number)) _ nil_stays (λ n x at. field_law (Goes g) g (slice_get x.weaks i) _ none_stays (λ v e. changed n (record x { weaks = slice_set x.weaks i (stored g m value) }) (weaks_set g x.pointers x.weaks i (stored g m value) (values_at (n - g.first_name) x at) (stored_value g k m value))))
   act_goes m (actions.Weaks object) = name_law (Goes g) g (root_at g (register_place m object.number)) _ nil_stays (λ n x at. stays (replies.Word (length x.weaks)) (λ u q. cc))
@@ -223,30 +230,34 @@ earlier_on : (s : Option Graph) (g h : Graph) → h.first_name ≡ g.first_name 
 earlier_on None g h f l k = tt
 earlier_on (Some s) g h f l k = let a = k.next_name in record { holds = k.holds; first_name = k.first_name ∙ sym f; next_name = omega arith }
 
+-- the snapshot after a mutator's step is the one before, or the touched one
+pub after_law : (P : Graph → Type 0) (s : Graph) (a : Action) (r : Reply) → P s → ((v : Option ℕ) → r ≡ replies.Named v → P (touched s v)) → ForSnapshot (snapshot_after (Some s) a r) P
+after_law P s (actions.GetWeak to object i) (replies.Named v) k touch = touch v refl
+after_law P s (actions.GetWeak to object i) replies.Done k touch = k
+after_law P s (actions.GetWeak to object i) (replies.Word w) k touch = k
+after_law P s (actions.GetWeak to object i) (replies.Shape p d) k touch = k
+after_law P s (actions.GetWeak to object i) (replies.Marked n) k touch = k
+after_law P s (actions.GetWeak to object i) (replies.Reclaimed n) k touch = k
+after_law P s (actions.GetWeak to object i) (replies.Refined n) k touch = k
+after_law P s (actions.GetWeak to object i) (replies.Moved n w) k touch = k
+after_law P s (actions.GetWeak to object i) (replies.Refused why) k touch = k
+after_law P s (actions.New to counts) r k touch = k
+after_law P s (actions.Get to object i) r k touch = k
+after_law P s (actions.Put object i v) r k touch = k
+after_law P s (actions.Read object i) r k touch = k
+after_law P s (actions.Write object i v) r k touch = k
+after_law P s (actions.Move to from) r k touch = k
+after_law P s (actions.Drop register) r k touch = k
+after_law P s (actions.Load to from) r k touch = k
+after_law P s (actions.Save to from) r k touch = k
+after_law P s (actions.Shape object) r k touch = k
+after_law P s (actions.NewWeak to counts weaks) r k touch = k
+after_law P s (actions.PutWeak object i v) r k touch = k
+after_law P s (actions.Weaks object) r k touch = k
+
 touch_on : (s : Option Graph) (g : Graph) (a : Action) (r : Reply) → ForSnapshot s (λ t. IsEarlier t g) → ((v : Option ℕ) → r ≡ replies.Named v → IsValue g v) → ForSnapshot (snapshot_after s a r) (λ t. IsEarlier t g)
 touch_on None g a r k value = tt
-touch_on (Some s) g (actions.GetWeak to object i) (replies.Named v) k value = touched_earlier s g v k (value v refl)
-touch_on (Some s) g (actions.GetWeak to object i) replies.Done k value = k
-touch_on (Some s) g (actions.GetWeak to object i) (replies.Word w) k value = k
-touch_on (Some s) g (actions.GetWeak to object i) (replies.Shape p d) k value = k
-touch_on (Some s) g (actions.GetWeak to object i) (replies.Marked n) k value = k
-touch_on (Some s) g (actions.GetWeak to object i) (replies.Reclaimed n) k value = k
-touch_on (Some s) g (actions.GetWeak to object i) (replies.Refined n) k value = k
-touch_on (Some s) g (actions.GetWeak to object i) (replies.Moved n w) k value = k
-touch_on (Some s) g (actions.GetWeak to object i) (replies.Refused why) k value = k
-touch_on (Some s) g (actions.New to p d) r k value = k
-touch_on (Some s) g (actions.Get to object i) r k value = k
-touch_on (Some s) g (actions.Put object i v) r k value = k
-touch_on (Some s) g (actions.Read object i) r k value = k
-touch_on (Some s) g (actions.Write object i v) r k value = k
-touch_on (Some s) g (actions.Move to from) r k value = k
-touch_on (Some s) g (actions.Drop register) r k value = k
-touch_on (Some s) g (actions.Load to from) r k value = k
-touch_on (Some s) g (actions.Save to from) r k value = k
-touch_on (Some s) g (actions.Shape object) r k value = k
-touch_on (Some s) g (actions.NewWeak to p w d) r k value = k
-touch_on (Some s) g (actions.PutWeak object i v) r k value = k
-touch_on (Some s) g (actions.Weaks object) r k value = k
+touch_on (Some s) g a r k value = after_law (λ t. IsEarlier t g) s a r k (λ v e. touched_earlier s g v k (value v e))
 
 acts_sound : (old new : State) (o : Op) (r : Reply) → IsSoundState old → (r, new.graph) ≡ outcome_of old.graph o → new.snapshot ≡ snapshot_after old.snapshot o.action r → IsSoundState new
 acts_sound old new o r k e s =
@@ -265,14 +276,14 @@ clears_sound None g h c k = subst HoldsNames (sym c) k
 clears_sound (Some s) g h c k = cleared_holds s g h c k
 
 collects_sound : (old new : State) (k : CollectorStep) (r : Reply) → IsSoundState old → Collects old k r new → IsSoundState new
-collects_sound old new k r sound c = elim (kind old k r) [
-  | inl t ↦ subst IsSoundState (sym (t new c)) (record { graph = sound.graph; snapshot = record { holds = sound.graph; first_name = refl; next_name = omega arith } })
+collects_sound old new k r sound c = elim (kind k r) [
+  | inl t ↦ subst IsSoundState (sym ((t.0 old new).0 c)) (record { graph = sound.graph; snapshot = record { holds = sound.graph; first_name = refl; next_name = omega arith } })
   | inr u ↦ elim u [
     | inl g ↦ record {
-      graph = clears_sound old.snapshot old.graph new.graph (g new c).1 sound.graph;
-      snapshot = subst (λ (t : Option Graph). ForSnapshot t (λ u. IsEarlier u new.graph)) (sym (g new c).0) tt;
+      graph = clears_sound old.snapshot old.graph new.graph ((g.0 old new).0 c).1 sound.graph;
+      snapshot = subst (λ (t : Option Graph). ForSnapshot t (λ u. IsEarlier u new.graph)) (sym ((g.0 old new).0 c).0) tt;
     }
-    | inr n ↦ same_sound old new sound (n new c)
+    | inr n ↦ same_sound old new sound ((n.0 old new).0 c)
   ]
 ]
 
@@ -301,11 +312,11 @@ cleared_mutators None g h c = ap (λ (t : Graph). t.mutators) c
 cleared_mutators (Some s) g h c = c.mutators
 
 collects_mutators : (old new : State) (k : CollectorStep) (r : Reply) → Collects old k r new → new.graph.mutators ≡ old.graph.mutators
-collects_mutators old new k r c = elim (kind old k r) [
-  | inl t ↦ ap (λ (t : State). t.graph.mutators) (t new c)
+collects_mutators old new k r c = elim (kind k r) [
+  | inl t ↦ ap (λ (t : State). t.graph.mutators) ((t.0 old new).0 c)
   | inr u ↦ elim u [
-    | inl g ↦ cleared_mutators old.snapshot old.graph new.graph (g new c).1
-    | inr n ↦ same_mutators new old (n new c)
+    | inl g ↦ cleared_mutators old.snapshot old.graph new.graph ((g.0 old new).0 c).1
+    | inr n ↦ same_mutators new old ((n.0 old new).0 c)
   ]
 ]
 

@@ -32,14 +32,8 @@ IsCollectorReply _ _ = ⊥
 
 -- the action asks for an object
 abbrev pub IsNew : Action → Type 0
-<<<<<<< HEAD
-IsNew (actions.New to p d) = Unit {0}
-IsNew (actions.NewWeak to p w d) = Unit {0}
-||||||| 3906014
-IsNew (actions.New to p d) = Unit {0}
-=======
 IsNew (actions.New to counts) = Unit {0}
->>>>>>> main
+IsNew (actions.NewWeak to counts weaks) = Unit {0}
 IsNew _ = ⊥
 
 -- the step would create an object

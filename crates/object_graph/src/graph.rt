@@ -2,20 +2,11 @@
 
 ghost use Rattle.std.specs.Prelude.{◌≡◌, ◌<◌, ◌≤◌, ◌+◌, ◌*◌, ◌↔◌, ◌≢◌, length, IsTrue, IsOk, IfOk, OnErr};
 
-<<<<<<< HEAD
-use crate::object::{Object, clear_all, copy_all};
-use crate::search::Search;
-use crate::step::{Action, GlobalRoot, Op, Refusal, Register, Reply};
-||||||| 3906014
-use crate::object::Object;
-use crate::step::{Action, CollectorStep, Event, GlobalRoot, Op, Refusal, Register, Reply, Step};
-=======
+use crate::clear::clear_all;
 use crate::objects::Objects;
 use crate::pointer::Pointer;
-use crate::step::{
-    Action, CollectorStep, Counts, Event, GlobalRoot, Op, Refusal, Register, Reply, Step,
-};
->>>>>>> main
+use crate::search::Search;
+use crate::step::{Action, Counts, GlobalRoot, Op, Refusal, Register, Reply};
 use heap_words::config::Config;
 use std::alloc::{AllocError, Global};
 use std::marker::Model;
@@ -42,19 +33,14 @@ impl Model for Graph {
 }
 
 impl Graph {
-<<<<<<< HEAD
-    ghost use Rattle.object_graph.specs.State.{root_at, register_place, place_of, first_graph};
-||||||| 3906014
-    ghost use Rattle.object_graph.specs.State.{root_at, register_place, place_of, first_state};
-=======
-    ghost use Rattle.object_graph.specs.State.{root_at, register_place, index_of, first_state};
->>>>>>> main
+    ghost use Rattle.object_graph.specs.State.{root_at, register_place, index_of, first_graph};
     ghost use Rattle.heap_model.specs.Graph as model;
     ghost use Rattle.heap_model.specs.Graph.{next_name, with_root};
+    ghost use Rattle.heap_model.specs.Weak.{cleared_graph};
     ghost use Rattle.object_graph.specs.Run.{Creates};
     ghost use Rattle.object_graph.specs.Reached.{flag_of, started, all_found, searched};
-    ghost use Rattle.heap_model.specs.Weak.{cleared_graph};
-    ghost use Rattle.object_graph.specs.Machine.{act, outcome_of, stored};
+    ghost use Rattle.object_graph.specs.Sparing.{have_weaks};
+    ghost use Rattle.object_graph.specs.Machine.{made, act, outcome_of, stored};
 
     /// What a mutator's register holds.
     fn register(&self, mutator: u32, register: Register) -> Pointer
@@ -90,119 +76,23 @@ impl Graph {
         mutator: u32,
         to: Register,
         counts: Counts,
+        weaks: u8,
     ) -> Result<Reply, AllocError>
         requires { mutator < self.old.mutators }
-        ensures ok { IfOk result (λ reply. (reply, self.new) ≡ act self.old mutator (Action.New to counts)) }
+        ensures ok { IfOk result (λ reply. (reply, self.new) ≡ made self.old mutator to counts weaks) }
         ensures err { OnErr result (self.new ≡ self.old) }
-        ensures memory { ((act self.old mutator (Action.New to counts)).0 ≢ Reply.Named (Some (next_name self.old))) → IsOk result }
+        ensures memory { ((made self.old mutator to counts weaks).0 ≢ Reply.Named (Some (next_name self.old))) → IsOk result }
     {
-        if self.room < counts.size() {
+        if self.room < counts.size(weaks) {
             return Ok(Reply::Refused(Refusal::TooBig));
         }
-        let name = self.first_name + self.objects.len() as u64;
+        let name = self.next_name();
         if name == u64::MAX {
             return Ok(Reply::Refused(Refusal::NamesSpent));
         }
-<<<<<<< HEAD
-        let alloc = *self.objects.allocator();
-        let object = Object {
-            pointers: vec![in alloc; None; pointers as usize]?,
-            weaks: Vec::new(alloc),
-            values: vec![in alloc; 0; values as usize]?,
-        };
-        self.objects.push(object)?;
-        self.roots[16 + 8 * mutator as usize + to.number as usize] = Some(name);
-||||||| 3906014
-        let alloc = *self.objects.allocator();
-        let object = Object {
-            pointers: vec![in alloc; None; pointers as usize]?,
-            values: vec![in alloc; 0; values as usize]?,
-        };
-        self.objects.push(object)?;
-        self.roots[16 + 8 * mutator as usize + to.number as usize] = Some(name);
-=======
-        self.objects.push(counts)?;
+        self.objects.push(counts, weaks)?;
         self.set_register(mutator, to, Pointer::to(name));
->>>>>>> main
         Ok(Reply::Named(Some(name)))
-    }
-
-    fn new_weak_object(
-        &mut self,
-        mutator: u32,
-        to: Register,
-        pointers: u32,
-        weaks: u8,
-        values: u32,
-    ) -> Result<Reply, AllocError>
-        requires { mutator < self.old.mutators }
-        ensures ok { IfOk result (λ reply. (reply, self.new) ≡ act self.old mutator (Action.NewWeak to pointers weaks values)) }
-        ensures err { OnErr result (self.new ≡ self.old) }
-        ensures memory { ((act self.old mutator (Action.NewWeak to pointers weaks values)).0 ≢ Reply.Named (Some (next_name self.old))) → IsOk result }
-    {
-        if self.room < 2 + u64::from(pointers) + u64::from(weaks) + u64::from(values) {
-            return Ok(Reply::Refused(Refusal::TooBig));
-        }
-        let name = self.first_name + self.objects.len() as u64;
-        if u64::MAX == name {
-            return Ok(Reply::Refused(Refusal::NamesSpent));
-        }
-        let alloc = *self.objects.allocator();
-        let values = vec![in alloc; 0; values as usize]?;
-        let object = Object {
-            pointers: vec![in alloc; None; pointers as usize]?,
-            weaks: vec![in alloc; None; weaks as usize]?,
-            values,
-        };
-        self.objects.push(object)?;
-        self.roots[16 + 8 * mutator as usize + to.number as usize] = Some(name);
-        Ok(Reply::Named(Some(name)))
-    }
-
-    fn get_weak(&mut self, mutator: u32, to: Register, object: Register, slot: u32) -> Reply
-        requires { mutator < self.old.mutators }
-        ensures { (result, self.new) ≡ act self.old mutator (Action.GetWeak to object slot) }
-    {
-        let Some(place) = self.place(mutator, object) else {
-            return Reply::Refused(Refusal::Nil);
-        };
-        let object = &self.objects[place];
-        let Some(value) = object.weaks.get(slot as usize).copied() else {
-            return Reply::Refused(Refusal::NoField);
-        };
-        self.set_register(mutator, to, value);
-        Reply::Named(value)
-    }
-
-    fn put_weak(
-        &mut self,
-        mutator: u32,
-        object: Register,
-        slot: u32,
-        value: Option<Register>,
-    ) -> Reply
-        requires { mutator < self.old.mutators }
-        ensures { (result, self.new) ≡ act self.old mutator (Action.PutWeak object slot value) }
-    {
-        let Some(place) = self.place(mutator, object) else {
-            return Reply::Refused(Refusal::Nil);
-        };
-        let value = self.stored(mutator, value);
-        if slot >= self.objects[place].weak_count() {
-            return Reply::Refused(Refusal::NoField);
-        }
-        self.objects[place].set_weak(slot, value);
-        Reply::Done
-    }
-
-    fn weaks(&self, mutator: u32, object: Register) -> Reply
-        requires { mutator < self.now.mutators }
-        ensures { (result, self.now) ≡ act self.now mutator (Action.Weaks object) }
-    {
-        let Some(place) = self.place(mutator, object) else {
-            return Reply::Refused(Refusal::Nil);
-        };
-        Reply::Word(u64::from(self.objects[place].weak_count()))
     }
 
     fn get(&mut self, mutator: u32, to: Register, object: Register, field: u32) -> Reply
@@ -219,6 +109,20 @@ impl Graph {
         Reply::Named(value.name())
     }
 
+    fn get_weak(&mut self, mutator: u32, to: Register, object: Register, slot: u32) -> Reply
+        requires { mutator < self.old.mutators }
+        ensures { (result, self.new) ≡ act self.old mutator (Action.GetWeak to object slot) }
+    {
+        let Some(place) = self.place(mutator, object) else {
+            return Reply::Refused(Refusal::Nil);
+        };
+        let Some(value) = self.objects.get_weak(place, slot) else {
+            return Reply::Refused(Refusal::NoField);
+        };
+        self.set_register(mutator, to, value);
+        Reply::Named(value.name())
+    }
+
     fn move_register(&mut self, mutator: u32, to: Register, from: Register) -> Reply
         requires { mutator < self.old.mutators }
         ensures { (result, self.new) ≡ act self.old mutator (Action.Move to from) }
@@ -228,7 +132,7 @@ impl Graph {
         Reply::Done
     }
 
-    /// What `put` stores: nil, or what a register holds.
+    /// What `put` and `put_weak` store: nil, or what a register holds.
     fn stored(&self, mutator: u32, value: Option<Register>) -> Pointer
         requires { mutator < self.now.mutators }
         ensures { result ≡ stored self.now mutator value }
@@ -251,6 +155,27 @@ impl Graph {
             return Reply::Refused(Refusal::NoField);
         }
         self.objects.set_pointer(place, field, value);
+        Reply::Done
+    }
+
+    fn put_weak(
+        &mut self,
+        mutator: u32,
+        object: Register,
+        slot: u32,
+        value: Option<Register>,
+    ) -> Reply
+        requires { mutator < self.old.mutators }
+        ensures { (result, self.new) ≡ act self.old mutator (Action.PutWeak object slot value) }
+    {
+        let Some(place) = self.place(mutator, object) else {
+            return Reply::Refused(Refusal::Nil);
+        };
+        let value = self.stored(mutator, value);
+        if slot >= u32::from(self.objects.weak_count(place)) {
+            return Reply::Refused(Refusal::NoField);
+        }
+        self.objects.set_weak(place, slot, value);
         Reply::Done
     }
 
@@ -312,6 +237,16 @@ impl Graph {
         }
     }
 
+    fn weaks(&self, mutator: u32, object: Register) -> Reply
+        requires { mutator < self.now.mutators }
+        ensures { (result, self.now) ≡ act self.now mutator (Action.Weaks object) }
+    {
+        let Some(place) = self.place(mutator, object) else {
+            return Reply::Refused(Refusal::Nil);
+        };
+        Reply::Word(u64::from(self.objects.weak_count(place)))
+    }
+
     /// The reply to a mutator's step, which the graph takes. Refused for memory, the graph is unchanged.
     pub fn apply(&mut self, op: Op) -> Result<Reply, AllocError>
         requires { op.mutator < self.old.mutators }
@@ -332,7 +267,7 @@ impl Graph {
     {
         let mutator = op.mutator;
         match op.action {
-            Action::New { to, counts } => self.new_object(mutator, to, counts),
+            Action::New { to, counts } => self.new_object(mutator, to, counts, 0),
             Action::Get { to, object, field } => Ok(self.get(mutator, to, object, field)),
             Action::Put {
                 object,
@@ -353,12 +288,7 @@ impl Graph {
             Action::Load { to, from } => Ok(self.load(mutator, to, from)),
             Action::Save { to, from } => Ok(self.save(mutator, to, from)),
             Action::Shape { object } => Ok(self.shape(mutator, object)),
-            Action::NewWeak {
-                to,
-                pointers,
-                weaks,
-                values,
-            } => self.new_weak_object(mutator, to, pointers, weaks, values),
+            Action::NewWeak { to, counts, weaks } => self.new_object(mutator, to, counts, weaks),
             Action::GetWeak { to, object, slot } => Ok(self.get_weak(mutator, to, object, slot)),
             Action::PutWeak {
                 object,
@@ -375,20 +305,27 @@ impl Graph {
     {
         match op.action {
             Action::New { counts, .. } => {
-                self.room >= counts.size()
-                    && self.first_name + self.objects.len() as u64 != u64::MAX
+                self.room >= counts.size(0) && self.next_name() != u64::MAX
             }
-            Action::NewWeak {
-                pointers,
-                weaks,
-                values,
-                ..
-            } => {
-                self.room >= 2 + u64::from(pointers) + u64::from(weaks) + u64::from(values)
-                    && self.first_name + self.objects.len() as u64 != u64::MAX
+            Action::NewWeak { counts, weaks, .. } => {
+                self.room >= counts.size(weaks) && self.next_name() != u64::MAX
             }
             _ => false,
         }
+    }
+
+    /// The name of the next object.
+    pub(crate) fn next_name(&self) -> u64
+        ensures { result ≡ next_name self.now }
+    {
+        self.first_name + self.objects.len() as u64
+    }
+
+    /// Whether some object has a weak slot.
+    pub(crate) fn has_weaks(&self) -> bool
+        ensures { result ≡ have_weaks self.now.objects }
+    {
+        self.objects.has_weaks()
     }
 
     /// The same graph once more.
@@ -399,7 +336,7 @@ impl Graph {
             room: self.room,
             first_name: self.first_name,
             mutators: self.mutators,
-            objects: copy_all(&self.objects)?,
+            objects: self.objects.copy()?,
             roots: self.roots.clone()?,
         })
     }
@@ -411,22 +348,14 @@ impl Graph {
         clear_all(&mut self.objects, self.first_name, limit, flags);
     }
 
-    /// The name of the next object.
-    pub(crate) fn next_name(&self) -> u64
-        ensures { result ≡ next_name self.now }
-    {
-        self.first_name + self.objects.len() as u64
-    }
-
-    /// The search for what is reachable from the graph's roots and from some other names.
-    pub(crate) fn search(&self, others: &[Option<u64>]) -> Result<Vec<bool>, AllocError>
+    /// The search for what is reachable from the graph's roots and from some other names: a flag for each object.
+    pub(crate) fn search(&self, alloc: Global, others: &[Pointer]) -> Result<Vec<bool>, AllocError>
         ensures { IfOk result (λ flags. flags.items ≡ (searched (all_found (all_found (started self.now) others.now) self.now.roots) self.now.objects (length self.now.objects)).flags) }
     {
-        let alloc = *self.objects.allocator();
         let mut search = Search::new(alloc, self.first_name, self.objects.len())?;
         search.find_all(others)?;
         search.find_all(self.roots.as_slice())?;
-        search.look_at_all(self.objects.as_slice())?;
+        search.look_at_all(&self.objects)?;
         Ok(search.into_flags())
     }
 

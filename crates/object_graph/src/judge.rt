@@ -1,10 +1,7 @@
 //! The judge of records, which knows names and the heap line alone.
 
-ghost use Rattle.std.specs.Prelude.{◌≡◌, ℕ, List, IfOk};
-ghost use Rattle.object_graph.specs.State.{State, IsSoundState, first_state};
-ghost use Rattle.heap_words.specs.declared.config.Config.{Config};
-ghost use Rattle.object_graph.specs.Run.{IsRun, BreaksAt};
-ghost use Rattle.object_graph.specs.declared.step.Event.{Event};
+ghost use Rattle.std.specs.Prelude.{IfOk};
+ghost use Rattle.object_graph.specs.State.{first_state};
 ghost use Rattle.object_graph.specs.Judged.{Judged};
 
 use crate::machine::Machine;
@@ -35,19 +32,3 @@ pub fn check(alloc: Global, history: &Record) -> Result<Verdict, AllocError>
     }
     Ok(Verdict::Yes(events.len() as u64))
 }
-
-/// No events are both a run and broken at one of them.
-pub fn judged_once()
-    ensures { (first last : State) (es : List Event) (n : ℕ) → IsRun first es last → BreaksAt first es n → ⊥ }
-{}
-
-/// A run leads to one state.
-pub fn run_once()
-    ensures { (es : List Event) (first a b : State) → IsRun first es a → IsRun first es b → a ≡ b }
-{}
-
-/// In every state of a run each name that stands in the graph or in the snapshot is borne by an object, and the snapshot's
-/// names are the graph's up to some name.
-pub fn run_is_sound()
-    ensures { (c : Config) (es : List Event) (last : State) → IsRun (first_state c) es last → IsSoundState last }
-{}

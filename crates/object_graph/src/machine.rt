@@ -5,9 +5,11 @@ ghost use Rattle.heap_model.specs.Graph as model;
 ghost use Rattle.heap_model.specs.Weak.{touched, AreReached};
 ghost use Rattle.object_graph.specs.State.{State, HoldsNames, IsSoundState, first_state};
 ghost use Rattle.object_graph.specs.Reached.{flag_of};
-ghost use Rattle.object_graph.specs.Run.{IsCollectorReply, Happens, Collects, ClearsBy, EventHappens, ForMutator, snapshot_after};
+ghost use Rattle.object_graph.specs.Run.{IsCollectorReply, Happens, ClearsBy, ForMutator, snapshot_after};
+ghost use Rattle.object_graph.specs.Sparing.{SparingCollects, SparingEvent, kept_snapshot};
 
 use crate::graph::Graph;
+use crate::pointer::Pointer;
 use crate::step::{Action, CollectorStep, Event, Op, Refusal, Reply, Step};
 use heap_words::config::Config;
 use std::alloc::{AllocError, Global};
@@ -17,7 +19,7 @@ use std::marker::Model;
 #[derive(Debug, Drop)]
 struct Snapshot {
     graph: Graph,
-    touched: Vec<Option<u64>>,
+    touched: Vec<Pointer>,
 }
 
 impl Model for Snapshot {
@@ -45,17 +47,17 @@ impl Snapshot {
             return Ok(());
         };
         if name < self.graph.next_name() {
-            self.touched.push(Some(name))?;
+            self.touched.push(Pointer::to(name))?;
         }
         Ok(())
     }
 
     /// A flag for each object: whether it is reachable from a root or a touched name.
-    fn reached(&self) -> Result<Vec<bool>, AllocError>
+    fn reached(&self, alloc: Global) -> Result<Vec<bool>, AllocError>
         requires { HoldsNames self.now }
         ensures { IfOk result (λ flags. AreReached self.now (flag_of self.now.first_name flags.items)) }
     {
-        self.graph.search(self.touched.as_slice())
+        self.graph.search(alloc, self.touched.as_slice())
     }
 }
 
@@ -85,12 +87,16 @@ impl Machine {
         })
     }
 
-    /// Takes the snapshot.
+    /// Takes the snapshot, where some object has a weak slot. Else nothing is to be cleared by it.
     fn begin(&mut self) -> Result<(), AllocError>
-        ensures { OnOk result (self.new ≡ record { graph = self.old.graph; snapshot = Some self.old.graph }) }
+        ensures { OnOk result (self.new ≡ record { graph = self.old.graph; snapshot = kept_snapshot self.old.graph }) }
     {
-        let snapshot = Snapshot::of(&self.graph, self.alloc)?;
-        self.snapshot = Some(snapshot);
+        if self.graph.has_weaks() {
+            let snapshot = Snapshot::of(&self.graph, self.alloc)?;
+            self.snapshot = Some(snapshot);
+        } else {
+            self.snapshot = None;
+        }
         Ok(())
     }
 
@@ -103,7 +109,7 @@ impl Machine {
         let Some(snapshot) = self.snapshot.take() else {
             return Ok(());
         };
-        let flags = snapshot.reached()?;
+        let flags = snapshot.reached(self.alloc)?;
         let limit = snapshot.graph.next_name();
         self.graph.clear(limit, flags.as_slice());
         Ok(())
@@ -128,7 +134,7 @@ impl Machine {
     fn collect(&mut self, step: CollectorStep, reply: Reply) -> Result<(), AllocError>
         requires sound { IsSoundState self.old }
         requires reply { IsCollectorReply step reply }
-        ensures { OnOk result (Collects self.old step reply self.new) }
+        ensures { OnOk result (SparingCollects self.old step reply self.new) }
     {
         match step {
             CollectorStep::Begin => {
@@ -147,13 +153,13 @@ impl Machine {
         }
     }
 
-    /// Takes an event, if it may happen: then the state is the one after it. Once an event may not happen or memory was
+    /// Takes an event, if it may happen: then the state is the judge's after it. Once an event may not happen or memory was
     /// refused, the state is no longer that of the events.
     pub(crate) fn take(&mut self, event: &Event) -> Result<bool, AllocError>
         requires mutator { ForMutator event.now.step (λ o. o.mutator < self.old.graph.mutators) }
         requires sound { IsSoundState self.old }
-        ensures yes { IfOk result (λ yes. IsTrue yes → EventHappens self.old event.now self.new) }
-        ensures no { IfOk result (λ yes. (after : State) → EventHappens self.old event.now after → IsTrue yes) }
+        ensures yes { IfOk result (λ yes. IsTrue yes → SparingEvent self.old event.now self.new) }
+        ensures no { IfOk result (λ yes. (after : State) → SparingEvent self.old event.now after → IsTrue yes) }
     {
         match event.step {
             Step::Collector(step) => {

@@ -1,8 +1,9 @@
 //! The search for what is reachable: a flag for each object, and a queue of those to be looked at.
 
-ghost use Rattle.std.specs.Prelude.{◌≡◌, false, [], replicate, length, IfOk, OnOk};
+ghost use Rattle.std.specs.Prelude.{◌≡◌, ◌<◌, false, [], replicate, length, IfOk, OnOk};
 
-use crate::object::Object;
+use crate::objects::Objects;
+use crate::pointer::Pointer;
 use std::alloc::{AllocError, Global};
 use std::marker::Model;
 
@@ -22,6 +23,7 @@ impl Model for Search {
 }
 
 impl Search {
+    ghost use Rattle.object_graph.specs.Fields.{object_in};
     ghost use Rattle.object_graph.specs.Reached.{found, all_found, looked, searched};
 
     /// Nothing is flagged.
@@ -36,10 +38,10 @@ impl Search {
     }
 
     /// A name's object is flagged, and joins the queue if it wasn't.
-    fn find(&mut self, name: Option<u64>) -> Result<(), AllocError>
+    fn find(&mut self, name: Pointer) -> Result<(), AllocError>
         ensures { OnOk result (self.new ≡ found self.old name) }
     {
-        let Some(name) = name else {
+        let Some(name) = name.name() else {
             return Ok(());
         };
         if self.first_name > name {
@@ -57,7 +59,7 @@ impl Search {
     }
 
     /// The same for each name of a list.
-    pub(crate) fn find_all(&mut self, names: &[Option<u64>]) -> Result<(), AllocError>
+    pub(crate) fn find_all(&mut self, names: &[Pointer]) -> Result<(), AllocError>
         ensures { OnOk result (self.new ≡ all_found self.old names.now) }
     {
         for name in names {
@@ -66,21 +68,35 @@ impl Search {
         Ok(())
     }
 
+    /// The same for each pointer of the object in a place.
+    fn look_in(&mut self, objects: &Objects, place: usize) -> Result<(), AllocError>
+        requires { place < length objects.now }
+        ensures { OnOk result (self.new ≡ all_found self.old (object_in objects.now place).pointers) }
+    {
+        for field in 0..objects.pointer_count(place) {
+            let Some(pointer) = objects.get_pointer(place, field) else {
+                return Ok(());
+            };
+            self.find(pointer)?;
+        }
+        Ok(())
+    }
+
     /// What the pointers of the object name that stands in a place of the queue, if it has that place.
-    fn look(&mut self, objects: &[Object], next: usize) -> Result<(), AllocError>
+    fn look(&mut self, objects: &Objects, next: usize) -> Result<(), AllocError>
         ensures { OnOk result (self.new ≡ looked self.old objects.now next) }
     {
         let Some(place) = self.queue.get(next).copied() else {
             return Ok(());
         };
-        let Some(object) = objects.get(place) else {
+        if place >= objects.len() {
             return Ok(());
-        };
-        self.find_all(object.pointers.as_slice())
+        }
+        self.look_in(objects, place)
     }
 
     /// Every place of the queue is looked at, also those that join it.
-    pub(crate) fn look_at_all(&mut self, objects: &[Object]) -> Result<(), AllocError>
+    pub(crate) fn look_at_all(&mut self, objects: &Objects) -> Result<(), AllocError>
         ensures { OnOk result (self.new ≡ searched self.old objects.now (length objects.now)) }
     {
         for next in 0..objects.len() {

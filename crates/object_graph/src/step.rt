@@ -27,11 +27,11 @@ pub struct Counts {
 }
 
 impl Counts {
-    /// How many words such an object has, with its header and its name.
-    pub fn size(&self) -> u64
-        ensures { result ≡ size_of self.now.pointers self.now.values }
+    /// How many words such an object with so many weak slots has, with its header and its name.
+    pub fn size(&self, weaks: u8) -> u64
+        ensures { result ≡ size_of self.now.pointers weaks self.now.values }
     {
-        2 + u64::from(self.pointers) + u64::from(self.values)
+        2 + u64::from(self.pointers) + u64::from(weaks) + u64::from(self.values)
     }
 }
 
@@ -90,12 +90,11 @@ pub enum Action {
     Shape {
         object: Register,
     },
-    /// An object of so many nil pointers, nil weak slots and data words of 0 is made, and `to` holds its name.
+    /// An object that has so many weak slots too is made, all nil.
     NewWeak {
         to: Register,
-        pointers: u32,
+        counts: Counts,
         weaks: u8,
-        values: u32,
     },
     /// `to` takes what a weak slot of the object holds.
     GetWeak {

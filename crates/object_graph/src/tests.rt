@@ -12,16 +12,8 @@ use crate::record::{Plan, Record};
 use crate::step::{
     Action, Actor, CollectorStep, Counts, Event, GlobalRoot, Op, Refusal, Register, Reply, Step,
 };
-<<<<<<< HEAD
-use heap_words::config::Config;
-use std::alloc::{AllocError, Global};
-||||||| 3906014
-use heap_words::config::Config;
-use std::alloc::AllocError;
-=======
 use heap_words::config::{Config, Format};
-use std::alloc::AllocError;
->>>>>>> main
+use std::alloc::{AllocError, Global};
 use std::test::Fail;
 
 /// A heap of 64 words and one mutator.
@@ -192,16 +184,16 @@ fn set_value(objects: &mut Objects, place: usize, field: u32, value: u64) {
 fn keeps_objects_apart(rt: HostRuntime) -> Result<(), Fail> {
     let mut objects = Objects::new(rt.alloc());
     let o = &mut objects;
-    o.push(counts(2, 1))?;
-    o.push(counts(0, 0))?;
-    o.push(counts(0, 2))?;
-    o.push(counts(1, 0))?;
+    o.push(counts(2, 1), 0)?;
+    o.push(counts(0, 0), 0)?;
+    o.push(counts(0, 2), 0)?;
+    o.push(counts(1, 0), 0)?;
     assert_eq!(rt; o.len(), 4);
     set_pointer(o, 0, 1, Pointer::to(u64::MAX - 1));
     set_value(o, 0, 0, 7);
     set_value(o, 2, 1, u64::MAX);
     set_pointer(o, 3, 0, Pointer::to(0));
-    o.push(counts(1, 1))?;
+    o.push(counts(1, 1), 3)?;
     assert_eq!(rt; pointer(o, 0, 0), Some(None));
     assert_eq!(rt; pointer(o, 0, 1), Some(Some(u64::MAX - 1)));
     assert_eq!(rt; pointer(o, 0, 2), None);
@@ -281,9 +273,8 @@ fn new_weak(to: u8, pointers: u32, weaks: u8, values: u32) -> Action
 {
     Action::NewWeak {
         to: r(to),
-        pointers,
+        counts: Counts { pointers, values },
         weaks,
-        values,
     }
 }
 

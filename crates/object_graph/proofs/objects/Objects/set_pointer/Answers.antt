@@ -4,5 +4,5 @@ use Rattle.object_graph.proofs.objects.Objects.set_pointer.Goals as goal
 
 pub returns : goal.returns
 returns c =
-    let w = entry_of c.self.inside.words.items c.self.inside.entries.items c.args.self.now c.args.place c.index-entry.result.now c.self.view_is c.self.invariant c.requires.place c.index-entry.ensures in
-    rw (← c.word.ensures) (pointer_set c.self.inside.words.items c.self.inside.entries.items c.args.self.now c.args.place c.args.field c.word.result c.index-entry.result.now c.self.view_is c.self.invariant c.requires.place c.index-entry.ensures w (omega (arith, w.pointers, c.requires.field)))
+    let w = entry_of c.self.inside.words.items c.self.inside.entries.items c.args.self.now c.args.place c.index.result.now c.self.view_is c.self.invariant.0 c.requires.place c.index.ensures in
+    rw (← c.word.ensures) (rw c.start.ensures (pointer_set c.self.inside.words.items c.self.inside.entries.items c.args.self.now c.args.place c.args.field c.word.result c.index.result.now c.self.view_is c.self.invariant.0 c.requires.place c.index.ensures w (omega (arith, w.pointers, c.requires.field))))

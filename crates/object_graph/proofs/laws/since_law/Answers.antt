@@ -1,0 +1,19 @@
+use Rattle.std.proofs.Common.{Option, Some, subst}
+use Rattle.heap_model.specs.Graph.{Graph}
+use Rattle.object_graph.specs.State.{State, ForSnapshot, IsEarlier}
+use Rattle.object_graph.specs.Since.{IsSince}
+use Rattle.object_graph.proofs.SinceLaws.{happens_since, reaches_known, since_unreached}
+use Rattle.object_graph.proofs.laws.since_law.Goals as goal
+
+pub returns-clause-begins : goal.returns-clause-begins
+returns-clause-begins c = λ k. tt
+
+pub returns-clause-step : goal.returns-clause-step
+returns-clause-step c = happens_since
+
+pub returns-clause-reached : goal.returns-clause-reached
+returns-clause-reached c = λ st s since is n r. reaches_known s st.graph (subst (λ (o : Option Graph). ForSnapshot o (λ t. IsSince t st.graph)) is since) n r
+
+pub returns-clause-unreached : goal.returns-clause-unreached
+returns-clause-unreached c = λ st s sound since is.
+    since_unreached s st.graph (subst (λ (o : Option Graph). ForSnapshot o (λ t. IsEarlier t st.graph)) is sound.snapshot) (subst (λ (o : Option Graph). ForSnapshot o (λ t. IsSince t st.graph)) is since)

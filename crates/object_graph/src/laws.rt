@@ -1,0 +1,46 @@
+//! Laws of states and runs. Each function has an empty body, and its contract is a law.
+
+ghost use Rattle.std.specs.Prelude.{◌≡◌, ℕ, List, Some};
+ghost use Rattle.heap_words.specs.declared.config.Config.{Config};
+ghost use Rattle.heap_model.specs.Graph as model;
+ghost use Rattle.heap_model.specs.Graph.{IsReachable, IsSound};
+ghost use Rattle.heap_model.specs.Weak.{KeepsUnreached};
+ghost use Rattle.object_graph.specs.State.{State, HoldsNames, IsSoundState, first_state};
+ghost use Rattle.object_graph.specs.Since.{IsKnown, IsSinceState};
+ghost use Rattle.object_graph.specs.Run.{Happens, IsRun, BreaksAt};
+ghost use Rattle.object_graph.specs.declared.step.Step.{Step};
+ghost use Rattle.object_graph.specs.declared.step.Reply.{Reply};
+ghost use Rattle.object_graph.specs.declared.step.Event.{Event};
+
+/// No events are both a run and broken at one of them.
+pub fn judged_once()
+    ensures { (first last : State) (es : List Event) (n : ℕ) → IsRun first es last → BreaksAt first es n → ⊥ }
+{}
+
+/// A run leads to one state.
+pub fn run_once()
+    ensures { (es : List Event) (first a b : State) → IsRun first es a → IsRun first es b → a ≡ b }
+{}
+
+/// In the state of a new heap, and after each step, every name that stands in the graph or in the snapshot is borne by an object,
+/// and the snapshot's names are the graph's up to some name.
+pub fn sound_law()
+    ensures begins { (c : Config) → IsSoundState (first_state c) }
+    ensures step { (old new : State) (k : Step) (r : Reply) → IsSoundState old → Happens old k r new → IsSoundState new }
+    ensures below { (g : model.Graph) → HoldsNames g → IsSound g }
+{}
+
+/// Since the snapshot was taken, all that a mutator can come by was reachable in it from a root or a touched name, or is newer; and
+/// what is neither has the pointers that it had then.
+pub fn since_law()
+    ensures begins { (c : Config) → IsSinceState (first_state c) }
+    ensures step { (old new : State) (k : Step) (r : Reply) → IsSoundState old → IsSinceState old → Happens old k r new → IsSinceState new }
+    ensures reached { (st : State) (s : model.Graph) → IsSinceState st → st.snapshot ≡ Some s → (n : ℕ) → IsReachable st.graph n → IsKnown s n }
+    ensures unreached { (st : State) (s : model.Graph) → IsSoundState st → IsSinceState st → st.snapshot ≡ Some s → KeepsUnreached s st.graph }
+{}
+
+/// The same in every state of a run.
+pub fn run_is_sound()
+    ensures sound { (c : Config) (es : List Event) (last : State) → IsRun (first_state c) es last → IsSoundState last }
+    ensures since { (c : Config) (es : List Event) (last : State) → IsRun (first_state c) es last → IsSinceState last }
+{}
