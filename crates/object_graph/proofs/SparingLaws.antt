@@ -1,0 +1,176 @@
+-- A judge that keeps no snapshot where no object had a weak slot when marking began allows exactly the events of the machine.
+use Rattle.std.proofs.Common.{◌≡◌, ℕ, zero, suc, ◌+◌, ◌<◌, ◌≤◌, ◌⊎◌, Bool, true, false, cond, List, ◌∷◌, [], length, take, get_or, Option, Some, None, refl, sym, ap, ◌∙◌, subst, inl, inr, arith}
+use Rattle.std.specs.Prelude.{slice_get, nat_lt}
+use Rattle.std.specs.List.{AllZip}
+use Rattle.std.proofs.lemmas.Bool.{lt-ltb}
+use Rattle.heap_words.specs.declared.config.Config.{Config}
+use Rattle.heap_model.specs.Graph.{Graph, Object}
+use Rattle.heap_model.specs.Weak.{IsClearedSlot, ClearsObject, Clears}
+use Rattle.object_graph.specs.State.{State, HoldsNames, IsEarlier, ForSnapshot, IsSoundState, first_state}
+use Rattle.object_graph.specs.Since.{IsKnown, IsSince, IsSinceState}
+use Rattle.object_graph.specs.Sparing.{have_weaks, kept_snapshot, SparingCollects, SparingHappens, SparingEvent, HoldsKnown, Spares, StandsFor}
+use Rattle.object_graph.specs.Machine.{Outcome, outcome_of}
+use Rattle.object_graph.specs.Run.{IsCollectorReply, snapshot_after, ClearsBy, Collects, Creates, Happens, EventHappens, IsRun, BreaksAt}
+use Rattle.object_graph.specs.declared.step.Op.{Op}
+use Rattle.object_graph.specs.declared.step.CollectorStep.{CollectorStep}
+use Rattle.object_graph.specs.declared.step.Step.{Step}
+use Rattle.object_graph.specs.declared.step.Step.TheVariants as steps
+use Rattle.object_graph.specs.declared.step.Event.{Event}
+use Rattle.object_graph.specs.declared.step.Reply.{Reply}
+use Rattle.object_graph.proofs.Collected.{kind}
+use Rattle.object_graph.proofs.Sound.{get_in, first_sound, run_sound}
+use Rattle.object_graph.proofs.RunOnce.{same_state}
+use Rattle.object_graph.proofs.SinceLaws.{op_slots, run_since}
+
+-- without weak slots, each holds what you like
+none_slots : (xs : List Object) → have_weaks xs ≡ false → (k i : ℕ) (x : Object) (v : Option ℕ) → slice_get xs k ≡ Some x → slice_get x.weaks i ≡ Some v → ⊥
+none_slots [] none k i x v at e = cc
+none_slots (y ∷ xs) none zero i x v at e = by_count (nat_lt 0 (length y.weaks)) refl none
+  where
+    by_count : (b : Bool) → nat_lt 0 (length y.weaks) ≡ b → cond b true (have_weaks xs) ≡ false → ⊥
+    by_count true is none = cc
+    by_count false is none =
+        let here : y ≡ x = cc in
+        let inside : i < length x.weaks = get_in x.weaks i v e in
+        let some : 0 < length y.weaks = subst (λ (z : Object). 0 < length z.weaks) (sym here) (omega arith) in
+        let yes : nat_lt 0 (length y.weaks) ≡ true = lt-ltb 0 (length y.weaks) some in cc
+none_slots (y ∷ xs) none (suc k) i x v at e = none_slots xs (rest (nat_lt 0 (length y.weaks)) none) k i x v at e
+  where
+    rest : (b : Bool) → cond b true (have_weaks xs) ≡ false → have_weaks xs ≡ false
+    rest true none = cc
+    rest false none = none
+
+-- where every slot holds a known name, clearing changes nothing
+clears_none : (s g : Graph) → HoldsKnown s g → Clears s g g
+clears_none s g slots = record {
+  room = refl;
+  first_name = refl;
+  mutators = refl;
+  roots = refl;
+  objects = each g.objects (λ k i n x at e. slots k i n x at e);
+}
+  where
+    words : (ws : List (Option ℕ)) → ((i n : ℕ) → slice_get ws i ≡ Some (Some n) → IsKnown s n) → AllZip (IsClearedSlot s) ws ws
+    words [] known = tt
+    words (None ∷ ws) known = (tt, words ws (λ i n e. known (suc i) n e))
+    words (Some n ∷ ws) known = ((refl, known 0 n refl), words ws (λ i n e. known (suc i) n e))
+
+    each : (xs : List Object) → ((k i n : ℕ) (x : Object) → slice_get xs k ≡ Some x → slice_get x.weaks i ≡ Some (Some n) → IsKnown s n) → AllZip (ClearsObject s) xs xs
+    each [] known = tt
+    each (x ∷ xs) known = (record { pointers = refl; weaks = words x.weaks (λ i n e. known 0 i n x refl e); values = refl }, each xs (λ k i n y at e. known (suc k) i n y at e))
+
+spares_same : (g : Graph) (s : Option Graph) → Spares g s s
+spares_same g None = tt
+spares_same g (Some s) = refl
+
+spares_slots : (g : Graph) (s : Option Graph) → ForSnapshot s (λ t. HoldsKnown t g) → Spares g None s
+spares_slots g None k = tt
+spares_slots g (Some s) k = k
+
+-- the snapshots after a mutator's step
+spares_on : (t s : Option Graph) (g g' : Graph) (o : Op) (r : Reply) → HoldsNames g → ForSnapshot s (λ u. IsEarlier u g) → ForSnapshot s (λ u. IsSince u g) → (r, g') ≡ outcome_of g o
+    → Spares g t s → Spares g' (snapshot_after t o.action r) (snapshot_after s o.action r)
+spares_on None None g g' o r holds earlier since is k = tt
+spares_on None (Some s) g g' o r holds earlier since is k = spares_slots g' (snapshot_after (Some s) o.action r) (op_slots s g g' o r holds earlier since k is)
+spares_on (Some t) None g g' o r holds earlier since is k = absurd k
+spares_on (Some t) (Some s) g g' o r holds earlier since is k =
+    subst (λ (u : Graph). Spares g' (snapshot_after (Some u) o.action r) (snapshot_after (Some s) o.action r)) (sym k) (spares_same g' (snapshot_after (Some s) o.action r))
+
+-- the snapshot that is taken
+spares_taken : (g : Graph) → Spares g (kept_snapshot g) (Some g)
+spares_taken g = by_weaks (have_weaks g.objects) refl
+  where
+    by_weaks : (b : Bool) → have_weaks g.objects ≡ b → Spares g (cond b (Some g) None) (Some g)
+    by_weaks true is = refl
+    by_weaks false is = λ k i n x at e. absurd (none_slots g.objects is k i x (Some n) at e)
+
+-- clearing by the one is clearing by the other
+cleared_back : (t s : Option Graph) (g h : Graph) → Spares g t s → ClearsBy t g h → ClearsBy s g h
+cleared_back None None g h k c = c
+cleared_back None (Some s) g h k c = subst (Clears s g) (sym c) (clears_none s g k)
+cleared_back (Some t) None g h k c = absurd k
+cleared_back (Some t) (Some s) g h k c = subst (λ (u : Graph). Clears u g h) k c
+
+cleared_there : (t s : Option Graph) (g h : Graph) → Spares g t s → ClearsBy s g h → (i : Graph) × ClearsBy t g i
+cleared_there None s g h k c = (g, refl)
+cleared_there (Some t) None g h k c = absurd k
+cleared_there (Some t) (Some s) g h k c = (h, subst (λ (u : Graph). Clears u g h) (sym k) c)
+
+-- what the judge allows, the machine does, and they stand for one another again
+pub record Follows (judge old : State) (k : Step) (r : Reply) (next : State) : Type 0 where
+  pub new : State
+  pub happens : Happens old k r new
+  pub stands : StandsFor next new
+
+stays_so : (judge old next : State) → StandsFor judge old → next ≡ judge → StandsFor next old
+stays_so judge old next stands e = subst (λ (t : State). StandsFor t old) (sym e) stands
+
+collects_follow : (judge old next : State) (c : CollectorStep) (r : Reply) → StandsFor judge old → IsCollectorReply c r → SparingCollects judge c r next → Follows judge old (steps.Collector c) r next
+collects_follow judge old next c r stands reply h = elim (kind c r) [
+  | inl t ↦ record {
+    new = record { graph = old.graph; snapshot = Some old.graph };
+    happens = (reply, (t.0 old (record { graph = old.graph; snapshot = Some old.graph })).1 refl);
+    stands = subst (λ (u : State). StandsFor u (record { graph = old.graph; snapshot = Some old.graph })) (sym ((t.1 judge next).0 h))
+        (record { graph = stands.graph; snapshot = subst (λ (u : Graph). Spares old.graph (kept_snapshot u) (Some old.graph)) (sym stands.graph) (spares_taken old.graph) });
+  }
+  | inr u ↦ elim u [
+    | inl g ↦ (let gone = (g.1 judge next).0 h in
+        let clears : ClearsBy judge.snapshot old.graph next.graph = subst (λ (u : Graph). ClearsBy judge.snapshot u next.graph) stands.graph gone.1 in
+        record {
+          new = record { graph = next.graph; snapshot = None };
+          happens = (reply, (g.0 old (record { graph = next.graph; snapshot = None })).1 (refl, cleared_back judge.snapshot old.snapshot old.graph next.graph stands.snapshot clears));
+          stands = record { graph = refl; snapshot = subst (λ (u : Option Graph). Spares next.graph u None) (sym gone.0) tt };
+        })
+    | inr n ↦ record {
+      new = old;
+      happens = (reply, (n.0 old old).1 refl);
+      stands = stays_so judge old next stands ((n.1 judge next).0 h);
+    }
+  ]
+]
+
+pub follows : (judge old next : State) (k : Step) (r : Reply) → IsSoundState old → IsSinceState old → StandsFor judge old → SparingHappens judge k r next → Follows judge old k r next
+follows judge old next (steps.Mutator o) r sound since stands (inl h) =
+    let given : (r, next.graph) ≡ outcome_of old.graph o = h.0 ∙ ap (λ (g : Graph). outcome_of g o) stands.graph in
+    record {
+      new = record { graph = next.graph; snapshot = snapshot_after old.snapshot o.action r };
+      happens = inl (given, refl);
+      stands = record {
+        graph = refl;
+        snapshot = subst (λ (u : Option Graph). Spares next.graph u (snapshot_after old.snapshot o.action r)) (sym h.1)
+            (spares_on judge.snapshot old.snapshot old.graph next.graph o r sound.graph sound.snapshot since given stands.snapshot);
+      };
+    }
+follows judge old next (steps.Mutator o) r sound since stands (inr h) =
+    record { new = old; happens = inr (subst (λ (g : Graph). Creates g o) stands.graph h.0, h.1, refl); stands = stays_so judge old next stands h.2 }
+follows judge old next (steps.Collector c) r sound since stands h = collects_follow judge old next c r stands h.0 h.1
+
+-- what the machine may do, the judge allows
+pub allowed : (judge old new : State) (k : Step) (r : Reply) → StandsFor judge old → Happens old k r new → (next : State) × SparingHappens judge k r next
+allowed judge old new (steps.Mutator o) r stands (inl h) =
+    (record { graph = new.graph; snapshot = snapshot_after judge.snapshot o.action r }, inl (h.0 ∙ ap (λ (g : Graph). outcome_of g o) (sym stands.graph), refl))
+allowed judge old new (steps.Mutator o) r stands (inr h) = (judge, inr (subst (λ (g : Graph). Creates g o) (sym stands.graph) h.0, h.1, refl))
+allowed judge old new (steps.Collector c) r stands h = elim (kind c r) [
+  | inl t ↦ (record { graph = judge.graph; snapshot = kept_snapshot judge.graph }, (h.0, (t.1 judge (record { graph = judge.graph; snapshot = kept_snapshot judge.graph })).1 refl))
+  | inr u ↦ elim u [
+    | inl g ↦ (let there = cleared_there judge.snapshot old.snapshot old.graph new.graph stands.snapshot ((g.0 old new).0 h.1).1 in
+        let next : State = record { graph = there.0; snapshot = None } in
+        (next, (h.0, (g.1 judge next).1 (refl, subst (λ (u : Graph). ClearsBy judge.snapshot u there.0) (sym stands.graph) there.1))))
+    | inr n ↦ (judge, (h.0, (n.1 judge judge).1 refl))
+  ]
+]
+
+pub stands_first : (c : Config) → StandsFor (first_state c) (first_state c)
+stands_first c = record { graph = refl; snapshot = tt }
+
+-- the judge's state is as sound as the machine's
+pub stands_sound : (judge old : State) → IsSoundState old → StandsFor judge old → IsSoundState judge
+stands_sound judge old sound stands = record {
+  graph = subst HoldsNames (sym stands.graph) sound.graph;
+  snapshot = subst (λ (g : Graph). ForSnapshot judge.snapshot (λ t. IsEarlier t g)) (sym stands.graph) (by_snapshot judge.snapshot old.snapshot stands.snapshot sound.snapshot);
+}
+  where
+    by_snapshot : (t s : Option Graph) → Spares old.graph t s → ForSnapshot s (λ u. IsEarlier u old.graph) → ForSnapshot t (λ u. IsEarlier u old.graph)
+    by_snapshot None s k sound = tt
+    by_snapshot (Some t) None k sound = absurd k
+    by_snapshot (Some t) (Some s) k sound = subst (λ (u : Graph). IsEarlier u old.graph) (sym k) sound
