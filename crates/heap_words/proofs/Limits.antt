@@ -1,5 +1,5 @@
 -- What is known of sizes that suit: the limits of all formats, and that a region is a whole number of cards.
-use Rattle.std.proofs.Common.{◌≡◌, ◌⊎◌, ℕ, zero, suc, ◌*◌, ◌/◌, ◌<◌, ◌≤◌, [], ◌∷◌, refl, ap, sym, ◌∙◌, arith, inl, inr, rules}
+use Rattle.std.proofs.Common.{◌≡◌, ◌⊎◌, ℕ, ◌*◌, ◌/◌, ◌≤◌, [], ◌∷◌, refl, arith, inl, inr}
 use Rattle.std.specs.Prelude.{◌%◌, IsTrue, count_ones, Contains}
 use Rattle.std.specs.Int.{is_power_of_two}
 use Rattle.std.proofs.lemmas.Nat.{zero_from_ones}

@@ -274,4 +274,41 @@ mod tests {
         assert_eq!(rt; words.object_at(object), None);
         Ok(())
     }
+
+    fn slotted() -> Counts
+        ensures pointers { result.pointers ≡ 1 }
+        ensures weaks { result.weaks ≡ 2 }
+        ensures values { result.values ≡ 1 }
+    {
+        Counts {
+            pointers: Count::new(1),
+            weaks: 2,
+            values: Count::new(1),
+        }
+    }
+
+    /// An object of one pointer, two weak slots and one data word.
+    #[test]
+    fn holds_weak_slots(rt: HostRuntime) -> Result<(), Fail> {
+        let mut words = Words::new(rt.alloc(), 16)?;
+        assert!(rt; words.len() == 16);
+        let object = Addr::new(4);
+        words.write_object(object, 7, slotted());
+        assert!(rt; words.len() == 16);
+        words.set_field(object, 1, Some(Addr::new(9)));
+        assert!(rt; words.len() == 16);
+        words.set_field(object, 2, Some(object));
+        assert!(rt; words.len() == 16);
+        assert!(rt; fields_of(&words, object) == 3);
+        words.set_value(object, 0, 5);
+        assert!(rt; words.len() == 16);
+        assert!(rt; fields_of(&words, object) == 3);
+        assert_eq!(rt; words.object_at(object), Some(slotted()));
+        assert_eq!(rt; words.name(object), 7);
+        assert_eq!(rt; words.get_field(object, 0), None);
+        assert_eq!(rt; words.get_field(object, 1), Some(Addr::new(9)));
+        assert_eq!(rt; words.get_field(object, 2), Some(object));
+        assert_eq!(rt; words.get_value(object, 0), 5);
+        Ok(())
+    }
 }

@@ -5,3 +5,4 @@ pub mod LongRuns
 pub mod Walks
 pub mod Cards
 pub mod Samples
+pub mod WeakSamples

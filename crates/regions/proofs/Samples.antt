@@ -96,7 +96,7 @@ abbrev pub moved2 : Table
 moved2 = sample (Ordinary (Filler 4 ∷ []) ∷ Ordinary [] ∷ Free ∷ Free ∷ [])
 
 abbrev pub moving : Stored
-moving = record { name = 7; pointers = []; weaks = []; values = 0 ∷ 0 ∷ [] }
+moving = record { name = 7; pointers = []; weaks = None ∷ None ∷ []; values = [] }
 
 abbrev pub moved3 : Table
 moved3 = sample (Ordinary (Object moving ∷ []) ∷ Ordinary [] ∷ Free ∷ Free ∷ [])
@@ -117,7 +117,7 @@ pub move_push : (t t' : Table) (k n : ℕ) → t ≡ moved1 → t' ≡ push_tile
 unfolding push_tile nth_region
 move_push t t' k n e f p q = rw (f, e, p, q) refl
 
-pub move_make : (t t' : Table) (a n p weak d : ℕ) → t ≡ moved2 → t' ≡ replace_tile t a (Object (new_object 7 p weak d) ∷ remainder (n - (2 + p + weak + d))) → a ≡ 0 → n ≡ 4 → p ≡ 0 → weak ≡ 0 → d ≡ 2 → t' ≡ moved3
+pub move_make : (t t' : Table) (a n p weak d : ℕ) → t ≡ moved2 → t' ≡ replace_tile t a (Object (new_object 7 p weak d) ∷ remainder (n - (2 + p + weak + d))) → a ≡ 0 → n ≡ 4 → p ≡ 0 → weak ≡ 2 → d ≡ 0 → t' ≡ moved3
 unfolding replace_tile region_at
 move_make t t' a n p weak d e f h i j l k = rw (f, e, h, i, j, l, k) refl
 
@@ -177,12 +177,12 @@ known6 t k n e p h = rw (e, p) h
 
 -- a run
 abbrev pub large : Stored
-large = new_object 8 3 0 20
+large = new_object 8 3 1 19
 
 abbrev pub run1 : Table
 run1 = sample (Ordinary [] ∷ First large ∷ Rest 9 ∷ Free ∷ [])
 
-pub run_take : (t t' : Table) (p weak d : ℕ) → t ≡ filled1 → t' ≡ with_run t 2 (new_object 8 p weak d) (first_run is_free 2 t.regions) → p ≡ 3 → weak ≡ 0 → d ≡ 20 → t' ≡ run1
+pub run_take : (t t' : Table) (p weak d : ℕ) → t ≡ filled1 → t' ≡ with_run t 2 (new_object 8 p weak d) (first_run is_free 2 t.regions) → p ≡ 3 → weak ≡ 1 → d ≡ 19 → t' ≡ run1
 run_take t t' p weak d e f h l i = rw (f, e, h, l, i) refl
 
 pub run_release : (t t' : Table) (k : ℕ) → t ≡ run1 → t' ≡ released t k → k ≡ 1 → t' ≡ filled1
@@ -193,7 +193,7 @@ pub releasable_run : (t : Table) (k : ℕ) → t ≡ run1 → k ≡ 1 → CanRel
 unfolding nth_region kind_of
 releasable_run t k e p = rw (e, p) (record { known = omega arith; releasable = tt; untargeted = (tt, tt) })
 
-pub run_fits : (t : Table) (p weak d : ℕ) → t ≡ filled1 → p ≡ 3 → weak ≡ 0 → d ≡ 20 → (2 + p + weak + d ≤ 2 * t.words_per_region) × (2 * t.words_per_region < 2 + p + weak + d + t.words_per_region)
+pub run_fits : (t : Table) (p weak d : ℕ) → t ≡ filled1 → p ≡ 3 → weak ≡ 1 → d ≡ 19 → (2 + p + weak + d ≤ 2 * t.words_per_region) × (2 * t.words_per_region < 2 + p + weak + d + t.words_per_region)
 run_fits t p weak d e h l i = rw (e, h, l, i) (omega arith, omega arith)
 
 pub known_region : (rs : List Region) (t : Table) (k n : ℕ) → t ≡ sample rs → length rs ≡ 4 → k ≡ n → n < 4 → k < length t.regions

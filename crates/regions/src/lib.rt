@@ -18,7 +18,8 @@
 //! A run is found by `free_run`, written with its object by `make_run`, and goes whole by `release`.
 //!
 //! A field is read or written by its address in constant time, and the first tile of a card is found by a look at an entry or two
-//! (`first_tiles`). Nothing but `RegionTable::new` takes memory.
+//! (`first_tiles`). The regions in which an object with weak slots may lie are a set (`weak_regions`). Nothing but
+//! `RegionTable::new` takes memory.
 #![tactic(auto)]
 
 mod first_tiles;
@@ -28,6 +29,7 @@ mod runs;
 pub mod table;
 mod updates;
 pub mod walk;
+mod weak_regions;
 
 pub use row::{Kind, Shape};
 pub use table::RegionTable;

@@ -9,6 +9,7 @@ ghost use Rattle.heap_words.specs.Configs.{max_words};
 use crate::row::{Kind, Row, is_free};
 use crate::table::RegionTable;
 use crate::updates::rests_from;
+use crate::weak_regions::note;
 use heap_words::addr::{Addr, RegionNo};
 use heap_words::header::Counts;
 
@@ -74,12 +75,20 @@ impl RegionTable {
         requires tight { count * self.old.words_per_region < size_of counts.pointers counts.weaks counts.values + self.old.words_per_region }
         ensures { self.new ≡ with_regions self.old first count (run_regions self.old.words_per_region (new_object name counts.pointers counts.weaks counts.values) count) }
     {
-        let size = 2 + counts.pointers.get() + u32::from(counts.weaks) + counts.values.get();
-        let bottom = first.number() * self.words_per_region;
+        let number = first.number();
+        let weaks = u32::from(counts.weaks);
+        let size = 2 + counts.pointers.get() + weaks + counts.values.get();
+        let bottom = number * self.words_per_region;
         self.words.write_object(Addr::new(bottom), name, counts);
         self.first_tiles.put_object(bottom, size);
-        let at = first.number() as usize;
-        write_run(&mut self.rows, at, count, self.words_per_region, size);
+        write_run(
+            &mut self.rows,
+            number as usize,
+            count,
+            self.words_per_region,
+            size,
+        );
+        note(&mut self.weak_regions, number, weaks);
     }
 
     /// Makes a humongous object in the lowest run of `count` free regions, and answers its first region;

@@ -1,5 +1,5 @@
 ghost use Rattle.std.specs.Prelude.{◌≡◌, ◌<◌, ◌^◌, length, IfOk, IsSome};
-ghost use Rattle.regions.specs.Table.{free_table, object_at, pointers_at, values_at};
+ghost use Rattle.regions.specs.Table.{free_table, object_at, pointers_at, weaks_at, fields_at, values_at};
 
 use crate::row::{Kind, Shape};
 use crate::table::RegionTable;
@@ -9,16 +9,16 @@ use heap_words::header::{Count, Counts, FillerSize};
 use std::alloc::Global;
 use std::test::Fail;
 
-fn counts(pointers: u32, values: u32) -> Counts
+fn counts(pointers: u32, weaks: u8, values: u32) -> Counts
     requires pointers { pointers < 2 ^ 24 }
     requires values { values < 2 ^ 24 }
     ensures pointers_are { result.pointers ≡ pointers }
-    ensures weaks_are { result.weaks ≡ 0 }
+    ensures weaks_are { result.weaks ≡ weaks }
     ensures values_are { result.values ≡ values }
 {
     Counts {
         pointers: Count::new(pointers),
-        weaks: 0,
+        weaks,
         values: Count::new(values),
     }
 }
@@ -56,6 +56,30 @@ fn fields(table: &RegionTable, object: Addr) -> (Ptr, u64)
     requires values { 0 < length (values_at table.now object) }
 {
     (table.get_ptr(object, 0), table.get_value(object, 0))
+}
+
+/// How many weak slots an object has, and the first two.
+fn slots(table: &RegionTable, object: Addr) -> (u32, Ptr, Ptr)
+    requires object { IsSome (object_at table.now object) }
+    requires weaks { 1 < length (weaks_at table.now object) }
+{
+    (
+        table.weak_count(object),
+        table.get_weak(object, 0),
+        table.get_weak(object, 1),
+    )
+}
+
+/// How many fields an object has, the first and the third.
+fn ends(table: &RegionTable, object: Addr) -> (u32, Ptr, Ptr)
+    requires object { IsSome (object_at table.now object) }
+    requires fields { 2 < length (fields_at table.now object) }
+{
+    (
+        table.field_count(object),
+        table.get_field(object, 0),
+        table.get_field(object, 2),
+    )
 }
 
 #[test]
@@ -104,7 +128,7 @@ fn fills_a_region(rt: HostRuntime) -> Result<(), Fail> {
         table.split_filler(object, FillerSize::new(10), FillerSize::new(5)),
         rest
     );
-    table.make_object(object, FillerSize::new(5), 7, counts(1, 1));
+    table.make_object(object, FillerSize::new(5), 7, counts(1, 0, 1));
     table.set_ptr(object, 0, Some(rest));
     table.set_value(object, 0, 9);
     assert_eq!(rt; about(&table, object), (7, 1, 1, 4));
@@ -140,7 +164,7 @@ fn steps_over_tiles(rt: HostRuntime) -> Result<(), Fail> {
     assert_eq!(rt; table.take_free(), Some(region));
     assert_eq!(rt; table.free_count(), 3);
     assert_eq!(rt; table.push_filler(region, FillerSize::new(6)), object);
-    table.make_object(object, FillerSize::new(6), 7, counts(1, 1));
+    table.make_object(object, FillerSize::new(6), 7, counts(1, 0, 1));
     table.set_field(object, 0, Some(rest));
     assert_eq!(rt; table.field_count(object), 1);
     assert_eq!(rt; table.get_field(object, 0), Some(rest));
@@ -162,13 +186,18 @@ fn moves_an_object(rt: HostRuntime) -> Result<(), Fail> {
     assert_eq!(rt; table.take_free(), Some(from));
     assert_eq!(rt; table.take_free(), Some(to));
     assert_eq!(rt; table.push_filler(from, FillerSize::new(4)), object);
-    table.make_object(object, FillerSize::new(4), 7, counts(0, 2));
+    table.make_object(object, FillerSize::new(4), 7, counts(0, 2, 0));
+    assert_eq!(rt; table.next_with_weaks(0), Some(0));
+    assert_eq!(rt; table.next_with_weaks(1), None);
     assert_eq!(rt; table.copy_object(object, to), copy);
+    assert_eq!(rt; table.next_with_weaks(1), Some(1));
     table.forward(object, copy);
     assert_eq!(rt; table.target(object), Some(copy));
     assert_eq!(rt; table.tile(object), Shape::Forwarded { to: copy, size: 4 });
     table.release(from);
     assert_eq!(rt; table.kind(from), Kind::Free);
+    assert_eq!(rt; table.next_with_weaks(0), Some(1));
+    assert_eq!(rt; table.next_with_weaks(2), None);
     assert_eq!(rt; table.top(to), Addr::new(20));
     Ok(())
 }
@@ -183,7 +212,9 @@ fn holds_a_run(rt: HostRuntime) -> Result<(), Fail> {
     let later = RegionNo::new(2);
     assert_eq!(rt; table.take_free(), Some(RegionNo::new(0)));
     assert_eq!(rt; table.free_run(4), None);
-    assert_eq!(rt; table.take_run(2, 8, counts(3, 20)), Some(first));
+    assert_eq!(rt; table.take_run(2, 8, counts(3, 1, 19)), Some(first));
+    assert_eq!(rt; table.next_with_weaks(0), Some(1));
+    assert_eq!(rt; table.next_with_weaks(2), None);
     assert_eq!(rt; table.kind(first), Kind::First);
     assert_eq!(rt; table.kind(later), Kind::Rest);
     assert_eq!(rt; table.run_length(first), 2);
@@ -194,5 +225,34 @@ fn holds_a_run(rt: HostRuntime) -> Result<(), Fail> {
     table.release(first);
     assert_eq!(rt; table.kind(first), Kind::Free);
     assert_eq!(rt; table.kind(later), Kind::Free);
+    assert_eq!(rt; table.next_with_weaks(0), None);
+    Ok(())
+}
+
+/// An object of one pointer, two weak slots and one data word: what is written to it is read back.
+#[test]
+fn holds_weak_slots(rt: HostRuntime) -> Result<(), Fail> {
+    let Ok(mut table) = small_table(rt.alloc()) else {
+        return Err(Fail::from("a table is made"));
+    };
+    let region = RegionNo::new(0);
+    let object = Addr::new(0);
+    let other = Addr::new(9);
+    assert_eq!(rt; table.next_with_weaks(0), None);
+    assert_eq!(rt; table.take_free(), Some(region));
+    assert_eq!(rt; table.push_filler(region, FillerSize::new(6)), object);
+    table.make_object(object, FillerSize::new(6), 7, counts(1, 2, 1));
+    assert_eq!(rt; table.lowest_tile(region), Some(object));
+    assert_eq!(rt; table.next_with_weaks(0), Some(0));
+    assert_eq!(rt; table.next_with_weaks(1), None);
+    table.set_weak(object, 1, Some(other));
+    table.set_field(object, 1, Some(object));
+    table.set_value(object, 0, 9);
+    assert_eq!(rt; about(&table, object), (7, 1, 1, 6));
+    assert_eq!(rt; fields(&table, object), (None, 9));
+    assert_eq!(rt; slots(&table, object), (2, Some(object), Some(other)));
+    assert_eq!(rt; ends(&table, object), (3, None, Some(other)));
+    table.release(region);
+    assert_eq!(rt; table.next_with_weaks(0), None);
     Ok(())
 }

@@ -10,6 +10,7 @@ ghost use Rattle.regions.specs.declared.row.Kind.TheVariants as kinds;
 
 use crate::row::{Kind, Row, is_free, is_rest};
 use crate::table::RegionTable;
+use crate::weak_regions::note;
 use heap_words::addr::{Addr, RegionNo};
 use heap_words::header::{Counts, FillerSize};
 use heap_words::words::Words;
@@ -90,6 +91,7 @@ impl RegionTable {
         let rests = rests_from(&self.rows, at + 1);
         write_free(&mut self.rows, at, rests + 1);
         self.lowest = self.lowest.min(at);
+        self.weak_regions.remove(region.number());
     }
 
     /// Puts a filler at the top of an ordinary region, and says where it starts.
@@ -138,12 +140,15 @@ impl RegionTable {
         requires room { size_of counts.pointers counts.weaks counts.values ≤ filler }
         ensures { self.new ≡ replace_tile self.old at (Object (new_object name counts.pointers counts.weaks counts.values) ∷ remainder (filler - size_of counts.pointers counts.weaks counts.values)) }
     {
-        let size = 2 + counts.pointers.get() + u32::from(counts.weaks) + counts.values.get();
+        let region = self.region_of(at).number();
+        let weaks = u32::from(counts.weaks);
+        let size = 2 + counts.pointers.get() + weaks + counts.values.get();
         self.words.write_object(at, name, counts);
         write_remainder(&mut self.words, at.word() + size, filler.get() - size);
         self.first_tiles.put_front(at.word(), size, filler.get());
         self.first_tiles
             .move_filler(at.word() + size, at.word() + filler.get());
+        note(&mut self.weak_regions, region, weaks);
     }
 
     /// The object at `from` becomes forwarded to its copy at `to`.
@@ -169,6 +174,7 @@ impl RegionTable {
     {
         let to = self.top(region);
         let size = self.object_size(from);
+        let weaks = self.weak_count(from);
         self.words.copy(from, to, size);
         self.first_tiles.put_object(to.word(), size);
         let number = region.number() as usize;
@@ -177,6 +183,7 @@ impl RegionTable {
             kind: Kind::Ordinary,
             used: used + size,
         };
+        note(&mut self.weak_regions, region.number(), weaks);
         to
     }
 }

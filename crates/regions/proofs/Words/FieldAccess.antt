@@ -42,7 +42,7 @@ pointers_are : (t : Table) (x : ℕ) (s : Stored) → object_at t x ≡ Some s �
 unfolding pointers_at
 pointers_are t x s e = ap object_pointers e
 
-weaks_are : (t : Table) (x : ℕ) (s : Stored) → object_at t x ≡ Some s → weaks_at t x ≡ s.weaks
+pub weaks_are : (t : Table) (x : ℕ) (s : Stored) → object_at t x ≡ Some s → weaks_at t x ≡ s.weaks
 unfolding weaks_at
 weaks_are t x s e = ap object_weaks e
 

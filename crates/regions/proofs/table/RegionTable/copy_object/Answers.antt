@@ -8,7 +8,10 @@ use Rattle.regions.proofs.Words.ObjectWords.{object_there}
 use Rattle.regions.proofs.Words.Copies.{copy_pushed}
 use Rattle.std.proofs.Common.{refl}
 use Rattle.regions.proofs.Rows.UsedBelow.{used_set}
-use Rattle.regions.proofs.Cards.Entries.{push_sound}
+use Rattle.regions.proofs.Cards.Entries.{region_flags, push_sound}
+use Rattle.regions.proofs.Words.FieldAccess.{weaks_are}
+use Rattle.regions.specs.WeakRegions.{noted}
+use Rattle.std.proofs.Common.{List, Option, length}
 use Rattle.regions.specs.Tiles.{Object, tile_size}
 use Rattle.regions.specs.Table.{object_words}
 use Rattle.regions.proofs.table.RegionTable.copy_object.Goals as goal
@@ -63,10 +66,17 @@ invariant_of-self c =
     let read = get_or_read c.self.inside.rows.items _ _ (omega (arith, n.in_rows, c.number-number.ensures)) c.index.ensures free_row ∙ ap (λ k. get_or c.self.inside.rows.items k free_row) c.number-number.ensures in
     let w = copy_pushed _ _ _ _ _ c.args.from _ _ _ _ o.0 _ c.self.invariant.table c.self.view_is c.requires.known c.requires.ordinary o.1.is c.requires.room c.top-to.ensures (ap (λ (row : Row). row.used) read) c.object_size-size.ensures c.number-number.ensures c.copy.ensures in
     let long : object_words c.args.self.now c.args.from ≡ tile_size (Object o.0) = o.1.words_are in
-    push_sound _ _ _ _ _ _ _ c.self.invariant c.self.view_is _ _ _ _ c.args.region _ _ (Object o.0) c.requires.known c.requires.ordinary (omega (arith, o.1.large, long)) (rw long at c.requires.room) tt (c.word.ensures ∙ c.top-to.ensures) (c.object_size-size.ensures ∙ long) c.put_object.ensures.card_words c.put_object.ensures.len c.put_object.ensures.entries (used_set _ _ _ _ (omega (arith, n.in_rows, c.number-number.ensures)) refl c.self.invariant.used_below) w
+    let slots : c.weak_count-weaks.result ≡ length o.0.weaks = c.weak_count-weaks.ensures ∙ ap (λ (l : List (Option ℕ)). length l) (weaks_are c.args.self.now c.args.from o.0 o.1.is) in
+    let flags = c.note.ensures ∙ ap (λ (k : ℕ). noted c.self.inside.weak_regions k c.weak_count-weaks.result) c.number.ensures ∙ ap (λ (n : ℕ). noted c.self.inside.weak_regions c.args.region n) slots in
+    push_sound _ _ _ _ _ _ _ _ c.self.invariant c.self.view_is _ _ _ _ _ c.args.region _ _ (length o.0.weaks) (Object o.0) c.requires.known c.requires.ordinary (omega (arith, o.1.large, long)) (rw long at c.requires.room) tt (c.word.ensures ∙ c.top-to.ensures) (c.object_size-size.ensures ∙ long) c.put_object.ensures.card_words c.put_object.ensures.len c.put_object.ensures.entries refl flags (used_set _ _ _ _ (omega (arith, n.in_rows, c.number-number.ensures)) refl c.self.invariant.used_below) w
 
 pub returns-clause-pushed : goal.returns-clause-pushed
 returns-clause-pushed c s is =
     let n = known _ _ _ _ _ c.self.view_is c.requires.known in
     let read = get_or_read c.self.inside.rows.items _ _ (omega (arith, n.in_rows, c.number-number.ensures)) c.index.ensures free_row ∙ ap (λ k. get_or c.self.inside.rows.items k free_row) c.number-number.ensures in
     (copy_pushed _ _ _ _ _ c.args.from _ _ _ _ s _ c.self.invariant.table c.self.view_is c.requires.known c.requires.ordinary is c.requires.room c.top-to.ensures (ap (λ (row : Row). row.used) read) c.object_size-size.ensures c.number-number.ensures c.copy.ensures).table_is
+
+pub note-requires : goal.note-requires
+note-requires c =
+    let count = region_flags _ _ _ _ _ _ _ _ c.self.invariant c.self.view_is in
+    rw (c.number.ensures, count) c.requires.known

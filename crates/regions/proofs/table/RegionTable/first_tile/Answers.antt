@@ -9,20 +9,20 @@ use Rattle.regions.proofs.table.RegionTable.first_tile.Goals as goal
 pub start-requires-clause-known : goal.start-requires-clause-known
 start-requires-clause-known c =
     let card : c.card_of-card.result ≡ c.args.word / c.self.inside.first_tiles.card_words = c.card_of-card.ensures.card ∙ ap (λ (n : ℕ). n / c.self.inside.first_tiles.card_words) c.word-3.ensures in
-    card_known _ _ _ _ _ _ _ c.args.word c.card_of-card.result c.self.invariant c.self.view_is c.requires c.card_of-card.ensures.positive card
+    card_known _ _ _ _ _ _ _ _ c.args.word c.card_of-card.result c.self.invariant c.self.view_is c.requires c.card_of-card.ensures.positive card
 
 pub walk_from-at-items-requires : goal.walk_from-at-items-requires
 walk_from-at-items-requires c =
     let card : c.card_of-card.result ≡ c.args.word / c.self.inside.first_tiles.card_words = c.card_of-card.ensures.card ∙ ap (λ (n : ℕ). n / c.self.inside.first_tiles.card_words) c.word-3.ensures in
     let below : c.args.word < top_of c.args.self.now (c.args.word / c.args.self.now.words_per_region) = (let f = c.if-word.false in let t = c.word.ensures ∙ c.top.ensures ∙ ap (top_of c.args.self.now) c.region_of.ensures in omega (arith, f, t, c.word-2.ensures)) in
-    let s = card_start _ _ _ _ _ _ _ c.args.word c.card_of-card.result c.self.invariant c.self.view_is below c.card_of-card.ensures.positive card in
+    let s = card_start _ _ _ _ _ _ _ _ c.args.word c.card_of-card.result c.self.invariant c.self.view_is below c.card_of-card.ensures.positive card in
     rw (c.new-start.ensures, c.start.ensures, s.holder.tile_is) refl
 
 pub loop-at-init : goal.loop-at-init
 loop-at-init c =
     let card : c.card_of-card.result ≡ c.args.word / c.self.inside.first_tiles.card_words = c.card_of-card.ensures.card ∙ ap (λ (n : ℕ). n / c.self.inside.first_tiles.card_words) c.word-3.ensures in
     let below : c.args.word < top_of c.args.self.now (c.args.word / c.args.self.now.words_per_region) = (let f = c.if-word.false in let t = c.word.ensures ∙ c.top.ensures ∙ ap (top_of c.args.self.now) c.region_of.ensures in omega (arith, f, t, c.word-2.ensures)) in
-    let s = card_start _ _ _ _ _ _ _ c.args.word c.card_of-card.result c.self.invariant c.self.view_is below c.card_of-card.ensures.positive card in
+    let s = card_start _ _ _ _ _ _ _ _ c.args.word c.card_of-card.result c.self.invariant c.self.view_is below c.card_of-card.ensures.positive card in
     let at : c.new-start.result ≡ start_in c.self.inside.first_tiles.card_words c.self.inside.first_tiles.starts c.card_of-card.result = c.new-start.ensures ∙ c.start.ensures in
     let first = search_from c.args.self.now _ _ c.args.word c.law.ensures s.holder s.low s.region in
     rw (c.into_iter-at-iterator.ensures.into_iter_gives, c.walk_from-at-items.ensures, at) first

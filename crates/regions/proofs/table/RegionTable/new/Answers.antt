@@ -1,10 +1,14 @@
-use Rattle.std.proofs.Common.{arith, sym, subst, ◌≡◌, ◌*◌, ◌/◌, replicate, length, ℕ, List, refl, ap, ◌∙◌}
+use Rattle.std.proofs.Common.{arith, sym, subst, ◌≡◌, ◌*◌, ◌/◌, replicate, length, ℕ, Bool, false, List, refl, ap, ◌∙◌}
 use Rattle.std.proofs.lemmas.List.{length-replicate}
 use Rattle.heap_words.specs.Configs.{card_words}
 use Rattle.heap_words.proofs.Limits.{small_region, small_heap, card_power, region_cards, card_between}
 use Rattle.regions.specs.Table.{Table, HasNoForwarded}
 use Rattle.regions.specs.FirstTiles.{Entries, AreEntries}
 use Rattle.regions.proofs.Cards.Entries.{free_entries}
+use Rattle.regions.specs.WeakRegions.{AreFlagged}
+use Rattle.regions.specs.Rows.{free_row}
+use Rattle.regions.specs.declared.row.Row.{Row}
+use Rattle.regions.proofs.Tiles.WeakRegions.{flagged_free}
 use Rattle.regions.proofs.Tiles.Making.{new_table, free_table-unmoved}
 use Rattle.regions.proofs.Rows.Sound.{power_is, whole_starts}
 use Rattle.regions.proofs.Rows.UsedBelow.{used_none}
@@ -33,6 +37,7 @@ invariant_of-result c =
     let len : c.in-Ok-new.first_tiles.card_words ≡ card = ap (λ (f : Entries). f.card_words) tiles ∙ c.card_words.ensures in
     let count : length c.in-Ok-new.first_tiles.starts ≡ c.args.config.now.regions * c.args.config.now.words / card =
     ap (λ (f : Entries). length f.starts) tiles ∙ length-replicate {A = ℕ} _ 0 ∙ ap (λ (n : ℕ). c.args.config.now.regions * c.args.config.now.words / n) c.card_words.ensures in
+    let flags : length c.in-Ok-new-2.weak_regions ≡ c.args.config.now.regions = ap (λ (f : List Bool). length f) c.in-Ok-new-2.ensures ∙ length-replicate {A = Bool} c.args.config.now.regions false in
     record {
       table = made.is_table;
       power = power;
@@ -41,6 +46,8 @@ invariant_of-result c =
       whole_cards = rw len (c.args.config.now.words / card, whole);
       each_card = rw (len, count) (long ∙ sym (whole_starts c.args.config.now.regions c.args.config.now.words card (omega (arith, some.0)) whole));
       first_tiles = subst (λ (t : Table). AreEntries t c.in-Ok-new.first_tiles) (sym made.table_is) (free_entries _ _ _);
+      flag_count = flags ∙ sym (ap (λ (rs : List Row). length rs) c.in-Ok-free_rows.ensures ∙ length-replicate {A = Row} c.args.config.now.regions free_row);
+      weak_regions = subst (λ (t : Table). AreFlagged t c.in-Ok-new-2.weak_regions) (sym made.table_is) (flagged_free _ _ _);
     }
 
 pub returns-clause-made : goal.returns-clause-made

@@ -55,7 +55,7 @@ invariant_of-self c =
     let read = get_or_read c.self.inside.rows.items _ _ (omega (arith, n.in_rows, c.number-number.ensures)) c.index.ensures free_row ∙ ap (λ k. get_or c.self.inside.rows.items k free_row) c.number-number.ensures in
     let w = filler_added _ _ _ _ _ c.args.size _ _ _ _ _ c.self.invariant.table c.self.view_is c.requires.known c.requires.ordinary c.requires.room (omega (arith, c.get-more.ensures.value, c.get-more.ensures.positive)) c.top-at.ensures (ap (λ (row : Row). row.used) read) c.get-more.ensures.value c.number-number.ensures c.write_filler.ensures in
     let some : 0 < c.args.size = omega (arith, c.get-more.ensures.value, c.get-more.ensures.positive) in
-    push_sound _ _ _ _ _ _ _ c.self.invariant c.self.view_is _ _ _ _ c.args.region _ _ (Filler c.args.size) c.requires.known c.requires.ordinary some c.requires.room tt (c.word.ensures ∙ c.top-at.ensures) c.get-more.ensures.value c.put_filler.ensures.card_words c.put_filler.ensures.len (filler_written _ _ _ _ _ _ _ refl c.get-more.ensures.value c.put_filler.ensures.entries) (used_set _ _ _ _ (omega (arith, n.in_rows, c.number-number.ensures)) refl c.self.invariant.used_below) w
+    push_sound _ _ _ _ _ _ _ _ c.self.invariant c.self.view_is _ _ _ _ _ c.args.region _ _ 0 (Filler c.args.size) c.requires.known c.requires.ordinary some c.requires.room tt (c.word.ensures ∙ c.top-at.ensures) c.get-more.ensures.value c.put_filler.ensures.card_words c.put_filler.ensures.len (filler_written _ _ _ _ _ _ _ refl c.get-more.ensures.value c.put_filler.ensures.entries) refl refl (used_set _ _ _ _ (omega (arith, n.in_rows, c.number-number.ensures)) refl c.self.invariant.used_below) w
 
 pub returns-clause-pushed : goal.returns-clause-pushed
 returns-clause-pushed c =
