@@ -7,8 +7,7 @@ use Rattle.object_graph.specs.declared.step.Step.{Step}
 use Rattle.step_core.specs.declared.runs.RunFault.{RunFault}
 use Rattle.step_core.specs.declared.runs.RunFault.TheVariants as runs
 use Rattle.step_core.specs.Histories.{step_in, actor_in, actor_of, IsRunFault, RunsFromNew}
-use Rattle.heap_model.specs.Graph.{Graph}
-use Rattle.object_graph.specs.State.{first_state}
+use Rattle.object_graph.specs.State.{State, first_state}
 use Rattle.object_graph.specs.Run.{IsRun}
 use Rattle.script_text.specs.declared.fault.ReadFault.{ReadFault}
 use Rattle.mutators.specs.Interleavings.{IsRunOf, IsThreadsFault}
@@ -48,7 +47,7 @@ within k n not_over = omega (arith, not_over)
 -- what `run` says, as one fact of its outcome
 pub comes_in_order : (plan : StepList) (outcome : Result EventList RunFault) → IfOk outcome (λ r. r.config ≡ plan.config) → IfOk outcome (λ r. map step_in r.events ≡ plan.steps) →
     IfOk outcome (λ r. map actor_in r.events ≡ map actor_of plan.steps) → IfOk outcome (λ r. RunsFromNew plan.config r.events) →
-    IfOk outcome (λ r. (last : Graph) × IsRun (first_state plan.config) r.events last) → IfErr outcome (IsRunFault plan.config) → Comes File plan outcome
+    IfOk outcome (λ r. (last : State) × IsRun (first_state plan.config) r.events last) → IfErr outcome (IsRunFault plan.config) → Comes File plan outcome
 comes_in_order plan (Ok r) config steps actors history (last, run) fault =
     (tt, record { config = config; steps = steps; actors = actors; last = last; run = run; history = history })
 comes_in_order plan (Err runs.NoMemory) config steps actors history run fault = (tt, fault)

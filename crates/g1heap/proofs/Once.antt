@@ -2,9 +2,8 @@
 use Rattle.std.proofs.Common.{◌≡◌, ℕ, zero, suc, ◌-◌, ◌<◌, ◌≤◌, inl, inr, List, [], ◌∷◌, length, take, slice_get, Some, Result, Ok, refl, sym, ap, subst, ◌∙◌, arith}
 use Rattle.std.proofs.lemmas.Bool.{cases_order}
 use Rattle.std.proofs.lemmas.List.{length-take-le}
-use Rattle.heap_model.specs.Graph.{Graph}
 use Rattle.object_graph.specs.Actors.{EventList}
-use Rattle.object_graph.specs.State.{first_state}
+use Rattle.object_graph.specs.State.{State, first_state}
 use Rattle.object_graph.specs.Run.{IsRun, BreaksAt}
 use Rattle.object_graph.specs.Judged.{Judged}
 use Rattle.object_graph.specs.declared.step.Event.{Event}
@@ -15,7 +14,7 @@ use Rattle.g1heap.specs.Verdicts.{IsJudged}
 
 -- no events are both a run and broken
 abbrev pub NeverBoth : Type 0
-NeverBoth = (first last : Graph) (es : List Event) (n : ℕ) → IsRun first es last → BreaksAt first es n → ⊥
+NeverBoth = (first last : State) (es : List Event) (n : ℕ) → IsRun first es last → BreaksAt first es n → ⊥
 
 take_fewer : (es : List Event) (k j : ℕ) → k ≤ j → take k (take j es) ≡ take k es
 take_fewer es zero j le = refl
@@ -31,7 +30,7 @@ back (x ∷ es) zero (suc j) e is = is
 back (x ∷ es) (suc k) (suc j) e is = back es k j e is
 
 -- events that break at one, and are a run up to a later one
-not_later : NeverBoth → (first : Graph) (es : List Event) (m n : ℕ) → m < n → BreaksAt first es m → BreaksAt first es n → ⊥
+not_later : NeverBoth → (first : State) (es : List Event) (m n : ℕ) → m < n → BreaksAt first es m → BreaksAt first es n → ⊥
 not_later never first es m n lt a b =
     let from = a.positive in
     let within = b.within in
@@ -45,13 +44,13 @@ not_later never first es m n lt a b =
       stops = λ e is after happens. a.stops e (back es (m - 1) (n - 1) e is) after happens;
     })
 
-one_number : NeverBoth → (first : Graph) (es : List Event) (m n : ℕ) → BreaksAt first es m → BreaksAt first es n → m ≡ n
+one_number : NeverBoth → (first : State) (es : List Event) (m n : ℕ) → BreaksAt first es m → BreaksAt first es n → m ≡ n
 one_number never first es m n a b = elim (cases_order m n) [
   | inl same ↦ same
   | inr less ↦ elim less [ inl lt ↦ absurd (not_later never first es m n lt a b) | inr lt ↦ absurd (not_later never first es n m lt b a) ]
 ]
 
-one_verdict : NeverBoth → (first : Graph) (es : List Event) (a b : Verdict) → Judged first es a → Judged first es b → a ≡ b
+one_verdict : NeverBoth → (first : State) (es : List Event) (a b : Verdict) → Judged first es a → Judged first es b → a ≡ b
 one_verdict never first es (Yes m) (Yes n) a b = ap Yes (a.0 ∙ sym b.0)
 one_verdict never first es (Yes m) (No n) a b = absurd (never first a.1 es n a.2 b)
 one_verdict never first es (No m) (Yes n) a b = absurd (never first b.1 es m b.2 a)

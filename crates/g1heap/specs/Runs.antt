@@ -2,9 +2,8 @@
 use Rattle.std.specs.Prelude.{◌≡◌, ℕ, ◌<◌, ◌≤◌, ⊤, List, Option, Result, Ok, Err, length, take, map}
 use Rattle.std.specs.Io.KnownBytes.{Appends, Keeps, Consumes, IsAtEnd}
 use Rattle.heap_words.specs.declared.config.Config.{Config}
-use Rattle.heap_model.specs.Graph.{Graph}
 use Rattle.object_graph.specs.Actors.{StepList, EventList}
-use Rattle.object_graph.specs.State.{first_state}
+use Rattle.object_graph.specs.State.{State, first_state}
 use Rattle.object_graph.specs.Run.{IsRun}
 use Rattle.script_text.specs.Lines.{script_of, FailsBy}
 use Rattle.script_text.specs.Records.{record_text}
@@ -26,7 +25,7 @@ pub record IsRunInOrder (plan : StepList) (r : EventList) : Type 0 where
   pub config : r.config ≡ plan.config
   pub steps : map step_in r.events ≡ plan.steps
   pub actors : map actor_in r.events ≡ map actor_of plan.steps
-  pub last : Graph
+  pub last : State
   pub run : IsRun (first_state plan.config) r.events last
   pub history : RunsFromNew plan.config r.events
 

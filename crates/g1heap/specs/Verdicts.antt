@@ -2,11 +2,10 @@
 use Rattle.std.specs.Prelude.{◌≡◌, ◌≢◌, ℕ, ◌<◌, List, [], ◌∷◌, ◌++◌, Option, Result, Ok, Err, length, take, codes}
 use Rattle.std.specs.Fmt.{decimal}
 use Rattle.std.specs.Io.KnownBytes.{Appends, Keeps, Consumes}
-use Rattle.heap_model.specs.Graph.{Graph}
 use Rattle.heap_words.specs.declared.config.Config.{Config}
 use Rattle.heap_words.specs.Configs.{Suits, IsFirstFault}
 use Rattle.object_graph.specs.Actors.{EventList}
-use Rattle.object_graph.specs.State.{first_state}
+use Rattle.object_graph.specs.State.{State, first_state}
 use Rattle.object_graph.specs.Run.{IsRun, BreaksAt}
 use Rattle.object_graph.specs.Judged.{Judged}
 use Rattle.object_graph.specs.declared.judge.Verdict.{Verdict}
@@ -90,7 +89,7 @@ pub record IsTextOfRun (input : List ℕ) (n : ℕ) : Type 0 where
   pub good : IsRecord history
   pub spelled : input ≡ record_text history
   pub suits : Suits history.config
-  pub last : Graph
+  pub last : State
   pub run : IsRun (first_state history.config) history.events last
   pub count : n ≡ length history.events
 

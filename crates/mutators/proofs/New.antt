@@ -6,12 +6,13 @@ use Rattle.std.proofs.lemmas.List.{length-map}
 use Rattle.heap_words.specs.declared.config.Config.{Config}
 use Rattle.heap_words.specs.Configs.{Suits}
 use Rattle.object_graph.specs.Actors.{IsStep}
+use Rattle.object_graph.specs.State.{first_state}
 use Rattle.object_graph.specs.declared.step.Actor.{Actor}
 use Rattle.object_graph.specs.declared.step.Actor.TheVariants.{Mutator, Collector, Marker, Refiner}
 use Rattle.object_graph.specs.declared.step.Step.{Step}
 use Rattle.object_graph.specs.declared.step.Event.{Event}
 use Rattle.step_core.specs.Stands.{CoreState, Stands, IsCore}
-use Rattle.step_core.specs.Fresh.{fresh_core, fresh_state}
+use Rattle.step_core.specs.Fresh.{fresh_core}
 use Rattle.step_core.specs.Histories.{actor_of, RunsTo}
 use Rattle.mutators.specs.Scripts.{same_actor, scripted, lines_of}
 use Rattle.mutators.specs.Journals.{Keeps, IsLine}
@@ -52,7 +53,7 @@ lines_are config a (s ∷ ss) yet =
     both false e rest = rest
 
 keeps_none : {V : Type 0} (f : V → List Step) (xs : List V) (config : Config) (steps : List Step) (c : CoreState) (places : List ℕ)
-    → c.config ≡ config → Suits config → c ≡ fresh_core config → IsCore c → Stands (fresh_state config) c → All (IsStep config) steps
+    → c.config ≡ config → Suits config → c ≡ fresh_core config → IsCore c → Stands (first_state config) c → All (IsStep config) steps
     → length xs ≡ config.mutators + 1 → ((k : ℕ) → k ≤ config.mutators → get_or (map f xs) k [] ≡ lines_of (scripted config.mutators k) steps)
     → length places ≡ config.mutators + 1 → ((k : ℕ) → slice_index places k ≡ 0)
     → Keeps (record { core = c; scripts = map f xs; places = places; events = [] })
@@ -70,7 +71,7 @@ keeps_none {V} f xs config steps c places same suits fresh core stands yet rows 
     }
 
 pub keeps_new : {V : Type 0} (f : V → List Step) (xs : List V) (config : Config) (steps : List Step) (c : CoreState) (places : List ℕ) (events : List Event) → events ≡ []
-    → c.config ≡ config → Suits config → c ≡ fresh_core config → IsCore c → Stands (fresh_state config) c → All (IsStep config) steps
+    → c.config ≡ config → Suits config → c ≡ fresh_core config → IsCore c → Stands (first_state config) c → All (IsStep config) steps
     → length xs ≡ config.mutators + 1 → ((k : ℕ) → k ≤ config.mutators → get_or (map f xs) k [] ≡ lines_of (scripted config.mutators k) steps)
     → length places ≡ config.mutators + 1 → ((k : ℕ) → slice_index places k ≡ 0)
     → Keeps (record { core = c; scripts = map f xs; places = places; events = events })

@@ -7,8 +7,9 @@ use Rattle.object_graph.specs.declared.step.Actor.{Actor}
 use Rattle.object_graph.specs.declared.step.Actor.TheVariants.{Mutator, Collector, Marker, Refiner}
 use Rattle.object_graph.specs.declared.step.Step.{Step}
 use Rattle.object_graph.specs.declared.step.Event.{Event}
-use Rattle.step_core.specs.Stands.{CoreState, State, Stands, IsCore, IsWhole}
-use Rattle.step_core.specs.Fresh.{fresh_core, fresh_state}
+use Rattle.object_graph.specs.State.{State, first_state}
+use Rattle.step_core.specs.Stands.{CoreState, Stands, IsCore, IsWhole}
+use Rattle.step_core.specs.Fresh.{fresh_core}
 use Rattle.step_core.specs.Histories.{RunsTo, Runs}
 use Rattle.cards.specs.Cards.{ListsDirtyOnce}
 use Rattle.object_graph.specs.declared.step.Reply.TheVariants as replies
@@ -29,11 +30,11 @@ pub own_events : (c : Config) (es : List Event) → AreOwn c es → AreEvents c 
 own_events c es own k d within = own_is c _ _ (own k d within)
 
 -- a new heap has come to no events
-pub runs_none : (config : Config) (c : CoreState) → c ≡ fresh_core config → IsCore c → Stands (fresh_state config) c → RunsTo config [] c
+pub runs_none : (config : Config) (c : CoreState) → c ≡ fresh_core config → IsCore c → Stands (first_state config) c → RunsTo config [] c
 runs_none config c fresh core st = record {
   core = subst IsCore fresh core;
-  stands = subst (λ (d : CoreState). Stands (fresh_state config) d) fresh st;
-  runs = subst (λ (d : CoreState). Runs (fresh_state config) d [] c) fresh (none_yet (fresh_state config) c st);
+  stands = subst (λ (d : CoreState). Stands (first_state config) d) fresh st;
+  runs = subst (λ (d : CoreState). Runs (first_state config) d [] c) fresh (none_yet (first_state config) c st);
 }
 
 -- one event more
@@ -43,5 +44,5 @@ pub runs_on : (config : Config) (es : List Event) (e : Event) (c c' : CoreState)
 runs_on config es e c c' r follows does full core listed whole = record {
   core = r.core;
   stands = r.stands;
-  runs = goes_on (fresh_state config) (fresh_core config) es e c c' r.runs follows does full core listed whole;
+  runs = goes_on (first_state config) (fresh_core config) es e c c' r.runs follows does full core listed whole;
 }

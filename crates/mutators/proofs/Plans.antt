@@ -46,7 +46,7 @@ whole_run plan markers refiners d r is keeps end config events =
         asked = is.asked;
       });
       history = (d.core, runs);
-      last = runs.runs.last.graph;
+      last = runs.runs.last;
       run = history_is_run _ _ _ _ _ runs.runs.history;
     }
 

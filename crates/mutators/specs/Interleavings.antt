@@ -2,9 +2,8 @@
 use Rattle.std.specs.Prelude.{◌≡◌, ℕ, ◌≤◌, Bool, true, List, All, IsTrue, nat_lt}
 use Rattle.heap_words.specs.declared.config.Config.{Config}
 use Rattle.heap_words.specs.Configs.{Suits, IsFirstFault}
-use Rattle.heap_model.specs.Graph.{Graph}
 use Rattle.object_graph.specs.Actors.{StepList, EventList}
-use Rattle.object_graph.specs.State.{first_state}
+use Rattle.object_graph.specs.State.{State, first_state}
 use Rattle.object_graph.specs.Run.{IsRun}
 use Rattle.object_graph.specs.declared.step.Actor.{Actor}
 use Rattle.object_graph.specs.declared.step.Actor.TheVariants.{Mutator, Collector, Marker, Refiner}
@@ -41,7 +40,7 @@ pub record IsRunOf (plan : StepList) (markers refiners : ℕ) (r : EventList) : 
   pub config : r.config ≡ plan.config
   pub whole : IsInterleaving plan.config markers refiners plan.steps r.events
   pub history : RunsFromNew plan.config r.events
-  pub last : Graph
+  pub last : State
   pub run : IsRun (first_state plan.config) r.events last
 
 -- The faults of actors in threads, where their counts are in range: where the heap's sizes suit, want of memory, no thread that
