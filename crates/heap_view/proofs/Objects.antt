@@ -11,11 +11,11 @@ use Rattle.refinement.proofs.Holders.{object_within}
 use Rattle.step_core.specs.Stands.{name_of}
 
 -- a tile with an object's shape is an object
-pub is_object : (tile : Option Tile) (p d : ℕ) → IsSome tile → IfSome tile (λ t. shapes.Object p d ≡ tile_shape t) → IsSome (tile_object tile)
-is_object (Some (Object s)) p d some shape = refl
-is_object (Some (Filler n)) p d some shape = absurd (cc)
-is_object (Some (Forwarded to n)) p d some shape = absurd (cc)
-is_object None p d some shape = absurd (cc)
+pub is_object : (tile : Option Tile) (p w d : ℕ) → IsSome tile → IfSome tile (λ t. shapes.Object p w d ≡ tile_shape t) → IsSome (tile_object tile)
+is_object (Some (Object s)) p w d some shape = refl
+is_object (Some (Filler n)) p w d some shape = absurd (cc)
+is_object (Some (Forwarded to n)) p w d some shape = absurd (cc)
+is_object None p w d some shape = absurd (cc)
 
 -- the name that an object has
 pub has_name : (o : Option Stored) (n : ℕ) → IsSome o → IfSome o (λ s. n ≡ s.name) → name_of o ≡ Some n

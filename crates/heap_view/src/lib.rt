@@ -9,6 +9,7 @@
 //!     remembered cards: 2 4, all of region 3         fields in these cards may lead into this region
 //!     at 0: #0, pointers #1 nil, data 7, kept, scanned
 //!     at 5: filler of 3                              words of no object
+//!     at 8: #2, weak slots #0 nil, kept, new         fields that marking doesn't follow
 //!     ..
 //!   region 1: free
 //!   queue of cards: 0
@@ -21,7 +22,7 @@
 //!
 //! Whether an object is kept is told by the last marking that came to its end: it is, if it was made since that marking began, or was
 //! marked. While marking runs, `new` is an object that was made since it began, `unmarked` one that it hasn't found yet, `grey` one
-//! that it has found and hasn't scanned, `scanned` one whose fields it has followed.
+//! that it has found and hasn't scanned, `scanned` one whose pointers it has followed.
 //!
 //! A view reads the heap and changes nothing of it. It takes no memory, and its cost grows with the heap: the writer gets many short
 //! pieces, so give it one that gathers them.

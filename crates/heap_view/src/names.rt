@@ -34,7 +34,7 @@ pub(crate) fn name_at(table: &RegionTable, at: Addr) -> Option<u64>
     tile_name(table, at)
 }
 
-/// Writes a pointer by the name that it leads to, or `nil`.
+/// Writes a pointer or a weak slot by the name that it leads to, or `nil`.
 pub(crate) fn write_name<W: Write>(
     table: &RegionTable,
     writer: &mut W,

@@ -14,7 +14,7 @@ use regions::{Kind, RegionTable, Shape};
 use std::io::{Result, Write};
 use step_core::Core;
 
-/// How many pointers and how many data words of an object are shown.
+/// How many pointers, how many weak slots and how many data words of an object are shown.
 const SHOWN: u32 = 8;
 
 /// Writes the first pointers of an object, by the names that they lead to.
@@ -29,6 +29,25 @@ fn write_pointers<W: Write>(table: &RegionTable, writer: &mut W, object: Addr) -
     for field in 0..count.min(SHOWN) {
         write!(writer, " ")?;
         write_name(table, writer, table.get_ptr(object, field))?;
+    }
+    if SHOWN < count {
+        write!(writer, " and {} more", count - SHOWN)?;
+    }
+    Ok(())
+}
+
+/// Writes the first weak slots of an object, by the names that they hold.
+fn write_weaks<W: Write>(table: &RegionTable, writer: &mut W, object: Addr) -> Result<()>
+    requires { IsSome (object_at table.now object) }
+{
+    let count = table.weak_count(object);
+    if count == 0 {
+        return Ok(());
+    }
+    write!(writer, ", weak slots")?;
+    for slot in 0..count.min(SHOWN) {
+        write!(writer, " ")?;
+        write_name(table, writer, table.get_weak(object, slot))?;
     }
     if SHOWN < count {
         write!(writer, " and {} more", count - SHOWN)?;
@@ -82,6 +101,7 @@ fn write_object<W: Write>(core: &Core, writer: &mut W, object: Addr, kept: bool)
     let table = core.table();
     write!(writer, "#{}", table.name(object))?;
     write_pointers(table, writer, object)?;
+    write_weaks(table, writer, object)?;
     write_data(table, writer, object)?;
     let keeping = if kept { "kept" } else { "dead" };
     if core.marking() {

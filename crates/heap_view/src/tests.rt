@@ -237,6 +237,75 @@ mutator 0: r0 #0 at 0
     assert_view(&rt, rt.alloc(), script, view)
 }
 
+/// Two objects have weak slots. While marking runs, one slot was read: what it named is saved.
+#[test]
+fn weak_slots(rt: HostRuntime) -> Result<(), Fail> {
+    let script = "\
+heap 4 16 8 1 0
+0 newweak r0 1 2 1
+0 new r1 0 1
+0 newweak r2 0 10 2
+0 put r0 0 r0
+0 putweak r0 0 r1
+0 drop r1
+gc begin
+gc mark 1
+0 getweak r1 r0 0
+";
+    let view = "\
+heap 4 16 8 1 0
+next name 3
+marking runs, objects scanned: 1
+region 0: ordinary, 16 of 16 words handed out
+  top at mark start 0, next 16, live bound 16
+  at 0: #0, pointers #0, weak slots #1 nil, data 0, kept, scanned
+  at 6: filler of 2
+  at 8: #1, data 0, kept, unmarked
+  at 11: filler of 5
+region 1: first of a run of 1, 14 of 16 words handed out
+  top at mark start 16, next 30
+  at 16: #2, weak slots nil nil nil nil nil nil nil nil and 2 more, data 0 0, kept, grey
+region 2: free
+region 3: free
+queue of cards: none
+globals: all nil
+mutator 0: r0 #0 at 0, r1 #1 at 8, r2 #2 at 16
+  deletion log: #1
+";
+    assert_view(&rt, rt.alloc(), script, view)
+}
+
+/// At the end of marking a weak slot whose object wasn't found becomes nil, and one whose object was found stays.
+#[test]
+fn cleared_weak_slots(rt: HostRuntime) -> Result<(), Fail> {
+    let script = "\
+heap 2 16 8 1 0
+0 newweak r0 0 2 1
+0 new r1 0 1
+0 putweak r0 0 r1
+0 putweak r0 1 r0
+0 drop r1
+gc begin
+gc remark
+";
+    let view = "\
+heap 2 16 8 1 0
+next name 2
+marking doesn't run
+region 0: ordinary, 16 of 16 words handed out
+  top at mark start 16, live bound 5
+  at 0: #0, weak slots nil #0, data 0, kept
+  at 5: filler of 3
+  at 8: #1, data 0, dead
+  at 11: filler of 5
+region 1: free
+queue of cards: none
+globals: all nil
+mutator 0: r0 #0 at 0
+";
+    assert_view(&rt, rt.alloc(), script, view)
+}
+
 /// A writer that takes a byte at a time, and so many in all.
 #[derive(Drop)]
 struct Small {
