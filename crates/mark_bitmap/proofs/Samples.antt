@@ -33,25 +33,11 @@ fresh_objects t count words tops marks regions size low none =
     }
 
 -- what has an object's shape is one
-<<<<<<< HEAD
 object_shape : (o : Option Tile) (shape : Shape) (p weak d : ℕ) → IsSome o → IfSome o (λ u. shape ≡ tile_shape u) → shape ≡ shapes.Object p weak d → (s : Stored) × (tile_object o ≡ Some s)
 object_shape None shape p weak d some is e = cc
-object_shape (Some (Live s)) shape p weak d some is e = (s, refl)
-object_shape (Some (Gap n)) shape p weak d some is e = cc
-object_shape (Some (Moved to n)) shape p weak d some is e = cc
-||||||| 3906014
-object_shape : (o : Option Tile) (shape : Shape) (p d : ℕ) → IsSome o → IfSome o (λ u. shape ≡ tile_shape u) → shape ≡ shapes.Object p d → (s : Stored) × (tile_object o ≡ Some s)
-object_shape None shape p d some is e = cc
-object_shape (Some (Live s)) shape p d some is e = (s, refl)
-object_shape (Some (Gap n)) shape p d some is e = cc
-object_shape (Some (Moved to n)) shape p d some is e = cc
-=======
-object_shape : (o : Option Tile) (shape : Shape) (p d : ℕ) → IsSome o → IfSome o (λ u. shape ≡ tile_shape u) → shape ≡ shapes.Object p d → (s : Stored) × (tile_object o ≡ Some s)
-object_shape None shape p d some is e = cc
-object_shape (Some (Object s)) shape p d some is e = (s, refl)
-object_shape (Some (Filler n)) shape p d some is e = cc
-object_shape (Some (Forwarded to n)) shape p d some is e = cc
->>>>>>> main
+object_shape (Some (Object s)) shape p weak d some is e = (s, refl)
+object_shape (Some (Filler n)) shape p weak d some is e = cc
+object_shape (Some (Forwarded to n)) shape p weak d some is e = cc
 
 pub shaped_object : (t : Table) (a : ℕ) (shape : Shape) (p weak d : ℕ) → IsSome (tile_in t a) → IfSome (tile_in t a) (λ u. shape ≡ tile_shape u) → shape ≡ shapes.Object p weak d → (s : Stored) × (object_at t a ≡ Some s)
 unfolding object_at

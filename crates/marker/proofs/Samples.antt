@@ -1,44 +1,25 @@
 -- Tables that tests build: each pointer leads to an object.
-use Rattle.std.proofs.Common.{inl, inr, ◌≡◌, ◌≢◌, ℕ, zero, suc, ◌+◌, ◌-◌, ◌/◌, ◌%◌, ◌<◌, ◌≤◌, false, List, [], ◌∷◌, ◌++◌, Option, Some, None, length, get_or, set, replicate, refl, sym, ap, ◌∙◌, subst, arith, get_or-set_same, get_or-set_other, length-set}
+use Rattle.std.proofs.Common.{inl, inr, ◌≡◌, ◌≢◌, ℕ, zero, suc, ◌+◌, ◌-◌, ◌*◌, ◌/◌, ◌%◌, ◌<◌, ◌≤◌, true, false, List, [], ◌∷◌, ◌++◌, Option, Some, None, length, get_or, set, replicate, refl, sym, ap, ◌∙◌, subst, arith, get_or-set_same, get_or-set_other, length-set}
 use Rattle.std.specs.Prelude.{slice_get}
 use Rattle.std.proofs.lemmas.Bool.{cases_lt, cases_eq}
 use Rattle.std.proofs.lemmas.Bool.Decides.{leb_tells}
 use Rattle.std.proofs.lemmas.List.{get_or-replicate, length-replicate, get_or_past}
 use Rattle.std.proofs.lemmas.Option.{slice_get_within, slice_get_read, get_or_from_slice_get}
-<<<<<<< HEAD
 use Rattle.heap_model.specs.Heap.{Stored, IsClosed, fields, with_field}
 use Rattle.heap_model.proofs.Fields.{field_set}
 use Rattle.heap_model.proofs.Lists.{get-set_cases, get-append_cases}
-use Rattle.regions.specs.Tiles.{Tile, Live, Gap, tile_size, tile_at}
-use Rattle.regions.specs.Table.{Region, Free, Table, region_tile, region_at, tile_in, tile_object, object_at, free_table, taken, first_free, set_field, push_tile, replace_tile, new_object, gap, used_of, top_of, kind_of, HasObject}
-||||||| 3906014
-use Rattle.heap_model.specs.Heap.{Stored, IsClosed}
-use Rattle.regions.specs.Tiles.{Tile, Live, Gap, tile_size, tile_at}
-use Rattle.regions.specs.Table.{Region, Free, Table, region_tile, region_at, tile_in, tile_object, object_at, free_table, taken, first_free, set_pointer, push_tile, replace_tile, new_object, gap, used_of, top_of, kind_of, HasObject}
-=======
-use Rattle.heap_model.specs.Heap.{Stored, IsClosed}
 use Rattle.regions.specs.Tiles.{Tile, Object, Filler, tile_size, tile_at}
-use Rattle.regions.specs.Table.{Region, Free, Table, region_tile, region_at, tile_in, tile_object, object_at, free_table, taken, first_free, set_pointer, push_tile, replace_tile, new_object, remainder, used_of, top_of, kind_of, HasObject}
->>>>>>> main
+use Rattle.regions.specs.Table.{Region, Free, Table, region_tile, region_at, tile_in, tile_object, object_at, free_table, taken, first_free, set_field, push_tile, replace_tile, new_object, remainder, used_of, top_of, kind_of, HasObject}
 use Rattle.regions.specs.declared.row.Kind.TheVariants as kinds
 use Rattle.regions.specs.Shaped.{IsShaped}
-<<<<<<< HEAD
-use Rattle.regions.proofs.Changes.{WritesObject, field_put, object_same}
-use Rattle.regions.proofs.Placing.{region_taken, Pushed, gap_push, Replaces, gap_replaced}
-||||||| 3906014
-use Rattle.regions.proofs.Fields.{with_pointer}
-use Rattle.regions.proofs.Changes.{WritesObject, pointer_put, object_same}
-use Rattle.regions.proofs.Placing.{region_taken, Pushed, gap_push, Replaces, gap_replaced}
-=======
-use Rattle.regions.proofs.Words.Fields.{with_pointer}
-use Rattle.regions.proofs.Tiles.Changes.{WritesObject, pointer_put, object_same}
+use Rattle.regions.proofs.Tiles.Changes.{WritesObject, field_put, object_same}
 use Rattle.regions.proofs.Tiles.Placing.{region_taken, Pushed, filler_push, Replaces, filler_replaced}
->>>>>>> main
 use Rattle.mark_bitmap.specs.Tops.{is_below, below_previous}
 use Rattle.marker.specs.Views.{heap_of}
-use Rattle.marker.specs.Stands.{IsKept}
+use Rattle.marker.specs.Stands.{IsKept, CanFollow, MarkerStands}
 use Rattle.marker.specs.Samples.{IsLinked, LeadToObjects, Keeps}
 use Rattle.marker.specs.declared.marker.Marker.{Marker}
+use Rattle.marker.proofs.Forgotten.{table_stands}
 
 free_region : (n k : ℕ) → get_or (replicate n Free) k Free ≡ Free
 free_region n k = elim (cases_lt k n) [ inl h ↦ get_or-replicate n k Free Free h | inr h ↦ get_or_past (replicate n Free) k Free (omega (arith, h, length-replicate {A = Region} n Free)) ]
@@ -54,12 +35,20 @@ unfolding free_table
 free_size t count size e = (ap (λ (u : Table). length u.regions) e ∙ length-replicate count Free, ap (λ (u : Table). u.words_per_region) e)
 
 pub keeps_refl : (t : Table) → Keeps t t
-keeps_refl t = record { count = refl; size = refl; linked = λ l. l; stays = λ a o. o }
+keeps_refl t = record { count = refl; size = refl; linked = λ l. l; tops = λ k. omega arith; stays = λ a o. o }
 
-same_objects : (t t' : Table) → length t'.regions ≡ length t.regions → t'.words_per_region ≡ t.words_per_region → ((a : ℕ) → object_at t' a ≡ object_at t a) → Keeps t t'
-same_objects t t' count size same = record {
+pub keeps_trans : (t u v : Table) → Keeps t u → Keeps u v → Keeps t v
+keeps_trans t u v p q = record { count = q.count ∙ p.count; size = q.size ∙ p.size; linked = λ l. q.linked (p.linked l); tops = λ k. omega (arith, p.tops k, q.tops k); stays = λ a h. q.stays a (p.stays a h) }
+
+-- where a region's words handed out are as many as before, or more, its top doesn't fall
+top_stays : (t t' : Table) (k : ℕ) → t'.words_per_region ≡ t.words_per_region → used_of t k ≤ used_of t' k → top_of t k ≤ top_of t' k
+top_stays t t' k size used = let same : k * t'.words_per_region ≡ k * t.words_per_region = ap (λ (n : ℕ). k * n) size in omega (arith, same, used)
+
+same_objects : (t t' : Table) → length t'.regions ≡ length t.regions → t'.words_per_region ≡ t.words_per_region → ((k : ℕ) → used_of t' k ≡ used_of t k) → ((a : ℕ) → object_at t' a ≡ object_at t a) → Keeps t t'
+same_objects t t' count size used same = record {
   count = count;
   size = size;
+  tops = λ k. top_stays t t' k size (omega (arith, used k));
   linked = λ l a i b x o f. let h = l a i b x (sym (same a) ∙ o) f in record { object = h.object; is = same b ∙ h.is };
   stays = λ a h. record { object = h.object; is = same a ∙ h.is };
 }
@@ -68,7 +57,7 @@ pub take_keeps : (t t' : Table) (o : Option ℕ) → first_free t ≡ o → t' �
 take_keeps t t' None f e = subst (λ (u : Table). Keeps t u) (sym e) (keeps_refl t)
 take_keeps t t' (Some k) f e =
     let p = region_taken t k f in
-    subst (λ (u : Table). Keeps t u) (sym e) (same_objects t (taken t (Some k)) p.count p.size (λ a. object_same t (taken t (Some k)) a (p.others a)))
+    subst (λ (u : Table). Keeps t u) (sym e) (same_objects t (taken t (Some k)) p.count p.size p.used (λ a. object_same t (taken t (Some k)) a (p.others a)))
 
 module _ (t : Table) (x i b : ℕ) (z : 0 < t.words_per_region) (from : HasObject t x) (to : HasObject t b) where
   abbrev s : Stored
@@ -99,7 +88,7 @@ module _ (t : Table) (x i b : ℕ) (z : 0 < t.words_per_region) (from : HasObjec
   ]
 
   pub link_keeps : (t' : Table) → t' ≡ set_field t x i (Some b) → Keeps t t'
-  link_keeps t' e = subst (λ (v : Table). Keeps t v) (sym e) (record { count = w.count; size = w.size; linked = linked; stays = link_stays })
+  link_keeps t' e = subst (λ (v : Table). Keeps t v) (sym e) (record { count = w.count; size = w.size; linked = linked; tops = λ k. top_stays t u k w.size (omega (arith, w.used k)); stays = link_stays })
 
 nil_alone : (n i b : ℕ) → slice_get (replicate n None) i ≡ Some (Some b) → ⊥
 nil_alone n i b e =
@@ -128,36 +117,28 @@ linked_closed t roots m linked leads none =
       field = λ b i a y e f. let h = linked b i a y (sym (kept b) ∙ e) f in (h.object, kept a ∙ h.is);
     }
 
-nil_fields : (name n i b : ℕ) → slice_get (fields (new_object name n 0 0)) i ≡ Some (Some b) → ⊥
-nil_fields name n i b e = elim (get-append_cases (replicate n None) [] i (Some b) e) [ inl q ↦ nil_alone n i b q | inr q ↦ (let none = q.1 in cc) ]
+nil_fields : (name n weak i b : ℕ) → slice_get (fields (new_object name n weak 0)) i ≡ Some (Some b) → ⊥
+nil_fields name n weak i b e = elim (get-append_cases (replicate n None) (replicate weak None) i (Some b) e) [ inl q ↦ nil_alone n i b q | inr q ↦ nil_alone weak q.0 b q.1 ]
 
 alone : (t : Tile) (j : ℕ) → 0 < j → tile_at j (t ∷ []) ≡ None
 alone t zero h = absurd (omega arith)
 alone t (suc j) h = elim (leb_tells (tile_size t) (suc j)) [ inl q ↦ rw q.0 refl | inr q ↦ rw q.0 refl ]
 
--- an object with nil pointers is made where a filler was pushed
-module _ (t t' t'' : Table) (k a n p name : ℕ) (shape : IsShaped t) (shape' : IsShaped t') (known : k < length t.regions) (ordinary : kind_of t k ≡ kinds.Ordinary)
-<<<<<<< HEAD
-    (room : used_of t k + n ≤ t.words_per_region) (size : n ≡ 2 + p) (at : a ≡ top_of t k) (e : t' ≡ push_tile t k (Gap n))
-    (e' : t'' ≡ replace_tile t' a (Live (new_object name p 0 0) ∷ gap (n - (2 + p + 0 + 0)))) where
-||||||| 3906014
-    (room : used_of t k + n ≤ t.words_per_region) (size : n ≡ 2 + p) (at : a ≡ top_of t k) (e : t' ≡ push_tile t k (Gap n))
-    (e' : t'' ≡ replace_tile t' a (Live (new_object name p 0) ∷ gap (n - (2 + p + 0)))) where
-=======
-    (room : used_of t k + n ≤ t.words_per_region) (size : n ≡ 2 + p) (at : a ≡ top_of t k) (e : t' ≡ push_tile t k (Filler n))
-    (e' : t'' ≡ replace_tile t' a (Object (new_object name p 0) ∷ remainder (n - (2 + p + 0)))) where
->>>>>>> main
+-- an object with nil fields is made where a filler was pushed
+module _ (t t' t'' : Table) (k a n p weak name : ℕ) (shape : IsShaped t) (shape' : IsShaped t') (known : k < length t.regions) (ordinary : kind_of t k ≡ kinds.Ordinary)
+    (room : used_of t k + n ≤ t.words_per_region) (size : n ≡ 2 + p + weak) (at : a ≡ top_of t k) (e : t' ≡ push_tile t k (Filler n))
+    (e' : t'' ≡ replace_tile t' a (Object (new_object name p weak 0) ∷ remainder (n - (2 + p + weak + 0)))) where
   abbrev new : Stored
-  new = new_object name p 0 0
+  new = new_object name p weak 0
 
   push : Pushed t t' k a (Filler n)
   push = rw (e, at) (filler_push t k (Filler n) shape.positive shape.fitting known ordinary (omega (arith, size)) room tt)
 
-  whole : n - (2 + p + 0 + 0) ≡ 0
+  whole : n - (2 + p + weak + 0) ≡ 0
   whole = omega (arith, size)
 
   words : tile_size (Object new) ≡ n
-  words = omega (arith, size, length-replicate {A = Option ℕ} p None)
+  words = omega (arith, size, length-replicate {A = Option ℕ} p None, length-replicate {A = Option ℕ} weak None)
 
   replaced : Replaces t' t'' a n (Object new ∷ [])
   replaced =
@@ -207,9 +188,13 @@ module _ (t t' t'' : Table) (k a n p name : ℕ) (shape : IsShaped t) (shape' : 
     linked = λ l y i b x o f. elim (cases_eq y a) [
       | inl same ↦
           let x_is : x ≡ new = let m = new_is in let o' = sym (ap (object_at t'') same) ∙ o in cc in
-          absurd (nil_fields name p i b (ap (λ (q : Stored). slice_get (fields q) i) (sym x_is) ∙ f))
+          absurd (nil_fields name p weak i b (ap (λ (q : Stored). slice_get (fields q) i) (sym x_is) ∙ f))
       | inr apart ↦ add_stays b (l y i b x (sym (other y apart) ∙ o) f)
     ];
+    tops = λ j. top_stays t t'' j (replaced.size ∙ push.size) (elim (cases_eq j k) [
+      | inl same ↦ let used = push.used in let now = ap (used_of t') same in let was = ap (used_of t) same in omega (arith, used, now, was, replaced.used j)
+      | inr apart ↦ omega (arith, push.used_others j apart, replaced.used j)
+    ]);
     stays = add_stays;
   }
 
@@ -236,3 +221,35 @@ pub object_kept : (t : Table) (m m' : Marker) (a : ℕ) → ((b : ℕ) → below
 object_kept t m m' a none tops h =
     let below : below_previous t m'.tams a ≡ false = ap (λ (l : List ℕ). is_below t.words_per_region l a) tops ∙ none a in
     record { object = h.object; is = rw below h.is }
+
+-- the previous tops stay at the bottoms while marking runs
+pub none_below : (t : Table) (m m' : Marker) → ((a : ℕ) → below_previous t m.tams a ≡ false) → m'.tams.previous ≡ m.tams.previous → (a : ℕ) → below_previous t m'.tams a ≡ false
+none_below t m m' none tops a = ap (λ (l : List ℕ). is_below t.words_per_region l a) tops ∙ none a
+
+kept_back : (t : Table) (m : Marker) (a : ℕ) → ((b : ℕ) → below_previous t m.tams b ≡ false) → IsKept t m a → HasObject t a
+kept_back t m a none k = let below = none a in record { object = k.object; is = rw below at k.is }
+
+-- a marker that marks a table of which it keeps every object can go on over a larger one
+pub grown_stands : (t t' : Table) (m : Marker) → MarkerStands t m → IsLinked t → ((a : ℕ) → below_previous t m.tams a ≡ false) → Keeps t t' → MarkerStands t' m
+grown_stands t t' m st linked none k =
+    table_stands t t' m st k.count k.size (λ j h. let top = st.previous.top j h in omega (arith, top, k.tops j)) (λ j h. let top = st.next.top j h in omega (arith, top, k.tops j))
+    (λ a x _ o. stays a x o) (λ a x _ o. stays a x o) follows
+  where
+    stays : (a : ℕ) (x : Stored) → object_at t a ≡ Some x → (y : Stored) × (object_at t' a ≡ Some y)
+    stays a x o = let h = k.stays a (record { object = x; is = o }) in (h.object, h.is)
+
+    none' : (a : ℕ) → below_previous t' m.tams a ≡ false
+    none' a = ap (λ (n : ℕ). is_below n m.tams.previous a) k.size ∙ none a
+
+    kept : (a : ℕ) → IsKept t m a → IsKept t' m a
+    kept a q = object_kept t' m m a none' refl (k.stays a (kept_back t m a none q))
+
+    follows : m.running ≡ true → CanFollow t' m
+    follows on =
+        let f = st.follows on in
+        record {
+          closed = linked_closed t' [] m (k.linked linked) (λ i a e. absurd (let z = e in cc)) none';
+          marked = λ a h. kept a (f.marked a h);
+          logged_kept = λ a l. kept a (f.logged_kept a l);
+          logged_below = λ a l. ap (λ (n : ℕ). is_below n m.tams.next a) k.size ∙ f.logged_below a l;
+        }

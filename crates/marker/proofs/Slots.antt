@@ -6,7 +6,7 @@ use Rattle.heap_model.specs.Heap.{Stored}
 use Rattle.heap_model.specs.Marking.{Marking}
 use Rattle.heap_model.specs.Weak.{cleared_word, cleared_object}
 use Rattle.regions.specs.Table.{Table, object_at, object_weaks, weaks_at, set_weak, used_of, top_of}
-use Rattle.regions.proofs.Changes.{WritesObject, weak_put, object_same}
+use Rattle.regions.proofs.Tiles.Changes.{WritesObject, weak_put, object_same}
 use Rattle.mark_bitmap.specs.Tops.{is_below}
 use Rattle.mark_bitmap.specs.Kept.{MarksObjects}
 use Rattle.mark_bitmap.specs.Marks.{is_marked}

@@ -1,19 +1,20 @@
 -- The clearing of a region after a region, tile by tile.
 use Rattle.std.proofs.Common.{◌≡◌, ℕ, ◌+◌, ◌-◌, ◌/◌, ◌^◌, ◌<◌, ◌≤◌, ◌⊎◌, Bool, Option, Some, None, List, [], ◌∷◌, length, map, refl, sym, ap, subst, ◌∙◌, arith, inl, inr}
-use Rattle.std.specs.Prelude.{⊤, IsSome, IfSome}
+use Rattle.std.specs.Prelude.{⊤, IsSome, IfSome, IfNone}
 use Rattle.std.proofs.lemmas.Bool.{cases_eq, cases_lt}
 use Rattle.heap_model.specs.Heap.{Stored}
 use Rattle.heap_model.specs.Marking.{Marking}
 use Rattle.heap_model.specs.Weak.{cleared, cleared_word, cleared_object}
 use Rattle.heap_model.proofs.Names.{bool_cases}
-use Rattle.regions.specs.Tiles.{Tile, Live, Gap, Moved}
+use Rattle.regions.specs.Tiles.{Tile, Object, Filler, Forwarded}
 use Rattle.regions.specs.Shapes.{tile_shape}
 use Rattle.regions.specs.declared.row.Shape.{Shape}
 use Rattle.regions.specs.declared.row.Shape.TheVariants as shapes
-use Rattle.regions.specs.Table.{Table, object_at, tile_object, tile_in, kind_of, top_of, HasNoMoved}
-use Rattle.regions.specs.Walks.{StartsIn, IsLowest, IsNextAfter}
-use Rattle.regions.proofs.Laws.{object_tile}
-use Rattle.regions.proofs.WalkFrom.{tile_listed}
+use Rattle.regions.specs.Table.{Table, object_at, tile_object, tile_in, kind_of, top_of, HasNoForwarded}
+use Rattle.regions.specs.Walks.{StartsIn, IsLowest, IsNext, IsLast}
+use Rattle.regions.specs.WeakRegions.{HasWeaks, IsNextWithWeaks}
+use Rattle.regions.proofs.Tiles.Laws.{object_tile}
+use Rattle.regions.proofs.Walks.WalkFrom.{tile_listed}
 use Rattle.mark_bitmap.specs.Kept.{MarksObjects}
 use Rattle.marker.specs.Clears.{ClearsTable, ClearsSome, ClearsTile, HasCleared, IsStaying}
 use Rattle.marker.proofs.Forgotten.{role_stays}
@@ -46,14 +47,14 @@ module _ (m : Marking) (t u : Table) (d : ℕ → Type 0) (c : ClearsSome m t u 
   unfolding object_at
   starts_on a v e = elim (object_cases a (object_at t a) refl) [
     | inl none ↦ (v, c.tiles a none ∙ e)
-    | inr s ↦ let y = stays_object a s.0 s.1 in (Live y.0, object_tile (tile_in u a) y.0 y.1)
+    | inr s ↦ let y = stays_object a s.0 s.1 in (Object y.0, object_tile (tile_in u a) y.0 y.1)
   ]
 
   starts_back : (a : ℕ) (v : Tile) → tile_in u a ≡ Some v → (w : Tile) × (tile_in t a ≡ Some w)
   unfolding object_at
   starts_back a v e = elim (object_cases a (object_at t a) refl) [
     | inl none ↦ (v, sym (c.tiles a none) ∙ e)
-    | inr s ↦ (Live s.0, object_tile (tile_in t a) s.0 s.1)
+    | inr s ↦ (Object s.0, object_tile (tile_in t a) s.0 s.1)
   ]
 
   pub in_now : (k a : ℕ) → StartsIn t k a → StartsIn u k a
@@ -125,7 +126,7 @@ swept_tile m t u x (inr c) = record {
   count = ap (λ (t : Table). length t.regions) c.0;
   kinds = λ k. ap (λ t. kind_of t k) c.0;
   tops = λ k. ap (λ t. top_of t k) c.0;
-  unmoved = λ n. subst HasNoMoved (sym c.0) n;
+  unmoved = λ n. subst HasNoForwarded (sym c.0) n;
   each = λ a. inl (ap (λ t. object_at t a) c.0);
   done_is = λ a e s. elim c.1 [
     | inl none ↦ ap (λ t. object_at t a) c.0 ∙ (let n : object_at t a ≡ None = ap (object_at t) e ∙ none in n ∙ sym (ap (cleared_object m) n))
@@ -158,6 +159,23 @@ turn_first m t k (Some n) low = record {
   some = swept_trans m t t t (λ a. ⊥) (λ a. ⊥) (λ a. StartsIn t k a × (a < n)) (swept_first m t) (swept_first m t) (λ a s. absurd (let le = low.1 a s.0 in let lt = s.1 in omega arith));
   next = low.0;
 }
+
+-- the next of a region's tiles, none behind the last one
+abbrev pub IsNextAfter : Table → ℕ → ℕ → Option ℕ → Type 0
+IsNextAfter t k at None = (b : ℕ) → StartsIn t k b → b ≤ at
+IsNextAfter t k at (Some n) = StartsIn t k n × (at < n) × ((b : ℕ) → StartsIn t k b → at < b → n ≤ b)
+
+tile_found : (t : Table) (k a : ℕ) → IsSome (tile_in t a) → a / t.words_per_region ≡ k → StartsIn t k a
+tile_found t k a h e = go (tile_in t a) refl h
+  where
+    go : (o : Option Tile) → tile_in t a ≡ o → IsSome o → StartsIn t k a
+    go None f x = cc
+    go (Some w) f x = record { tile = w; tile_is = f; region = e }
+
+pub next_after : (t : Table) (at : ℕ) (next : Option ℕ) → IfSome next (IsNext t at) → IfNone next (IsLast t at) → IsNextAfter t (at / t.words_per_region) at next
+next_after t at None some last = λ b s. elim (cases_lt at b) [ inl lt ↦ absurd (last b s.tile lt s.region s.tile_is) | inr ge ↦ omega arith ]
+next_after t at (Some n) some last =
+    (tile_found t (at / t.words_per_region) n some.tile some.region, some.above, λ b s lt. elim (cases_lt b n) [ inl low ↦ absurd (some.between b s.tile lt low s.tile_is) | inr ge ↦ omega arith ])
 
 module _ (m : Marking) (t u v : Table) (k at : ℕ) (p : IsTurn m t u k (Some at)) (c : ClearsTile m u v at) where
   now : ClearsSome m t v (λ a. (StartsIn t k a × (a < at)) ⊎ (a ≡ at))
@@ -220,8 +238,8 @@ regions_last m t u k all p = record {
     | inl none ↦ ap tile_object (p.tiles a none) ∙ none ∙ sym (ap (cleared_object m) none)
     | inr x ↦
         let tile = object_tile (tile_in t a) x.0 x.1 in
-        let known = (tile_listed t a (Live x.0) tile).1 in
-        p.done_is a (a / t.words_per_region, (omega arith), record { tile = Live x.0; tile_is = tile; region = refl }) s
+        let known = (tile_listed t a (Object x.0) tile).1 in
+        p.done_is a (a / t.words_per_region, (omega arith), record { tile = Object x.0; tile_is = tile; region = refl }) s
   ];
   dead = λ a unmarked old. elim (p.each a) [ inl same ↦ same | inr x ↦ absurd (elim x.0 [ inl k ↦ cc | inr n ↦ cc ]) ];
   tiles = p.tiles;
@@ -231,8 +249,9 @@ regions_last m t u k all p = record {
 pub tile_there : (m m' : Marking) (t u v : Table) (k at : ℕ) (left : Option ℕ) → m' ≡ m → left ≡ Some at → IsTurn m t u k left → ClearsTile m' u v at → StartsIn v k at
 tile_there m m' t u v k at left e f p c = still_there m t u v k at (subst (λ l. IsTurn m t u k l) f p) (subst (λ n. ClearsTile n u v at) e c)
 
-pub tile_done : (m m' : Marking) (t u v : Table) (k at : ℕ) (left next : Option ℕ) → m' ≡ m → left ≡ Some at → IsTurn m t u k left → ClearsTile m' u v at → IsNextAfter v (at / v.words_per_region) at next → IsTurn m t v k next
-tile_done m m' t u v k at left next e f p c n =
+pub tile_done : (m m' : Marking) (t u v : Table) (k at : ℕ) (left next : Option ℕ) → m' ≡ m → left ≡ Some at → IsTurn m t u k left → ClearsTile m' u v at → IfSome next (IsNext v at) → IfNone next (IsLast v at) → IsTurn m t v k next
+tile_done m m' t u v k at left next e f p c some last =
+    let n = next_after v at next some last in
     let there = tile_there m m' t u v k at left e f p c in
     turn_next m t u v k at (subst (λ l. IsTurn m t u k l) f p) (subst (λ n. ClearsTile n u v at) e c) next (subst (λ j. IsNextAfter v j at next) there.region n)
 
@@ -251,9 +270,9 @@ turn_there m t u k at left e p = tile_some u k at (left_there u k at left e p.ne
 
 unshaped : (o : Option Tile) (shape : Shape) → IsSome o → IfSome o (λ u. shape ≡ tile_shape u) → ((p : ℕ) (weak : ℕ) (d : ℕ) → shape ≡ shapes.Object p weak d → ⊥) → tile_object o ≡ None
 unshaped None shape h e n = cc
-unshaped (Some (Live s)) shape h e n = absurd (n (length s.pointers) (length s.weaks) (length s.values) e)
-unshaped (Some (Gap k)) shape h e n = refl
-unshaped (Some (Moved to k)) shape h e n = refl
+unshaped (Some (Object s)) shape h e n = absurd (n (length s.pointers) (length s.weaks) (length s.values) e)
+unshaped (Some (Filler k)) shape h e n = refl
+unshaped (Some (Forwarded to k)) shape h e n = refl
 
 pub tile_no_object : (t : Table) (a : ℕ) (shape : Shape) → IsSome (tile_in t a) → IfSome (tile_in t a) (λ u. shape ≡ tile_shape u) → ((p : ℕ) (weak : ℕ) (d : ℕ) → shape ≡ shapes.Object p weak d → ⊥) → object_at t a ≡ None
 unfolding object_at
@@ -261,9 +280,9 @@ tile_no_object t a shape h e n = unshaped (tile_in t a) shape h e n
 
 shaped : (o : Option Tile) (shape : Shape) (p weak d : ℕ) → IsSome o → IfSome o (λ u. shape ≡ tile_shape u) → shape ≡ shapes.Object p weak d → IsSome (tile_object o)
 shaped None shape p weak d h e f = cc
-shaped (Some (Live s)) shape p weak d h e f = refl
-shaped (Some (Gap k)) shape p weak d h e f = cc
-shaped (Some (Moved to k)) shape p weak d h e f = cc
+shaped (Some (Object s)) shape p weak d h e f = refl
+shaped (Some (Filler k)) shape p weak d h e f = cc
+shaped (Some (Forwarded to k)) shape p weak d h e f = cc
 
 pub tile_is_object : (t : Table) (a : ℕ) (shape : Shape) (p weak d : ℕ) → IsSome (tile_in t a) → IfSome (tile_in t a) (λ u. shape ≡ tile_shape u) → shape ≡ shapes.Object p weak d → IsSome (object_at t a)
 unfolding object_at
@@ -272,3 +291,76 @@ tile_is_object t a shape p weak d h e f = shaped (tile_in t a) shape p weak d h 
 pub region_done : (m m' : Marking) (t u v : Table) (k r j : ℕ) → m' ≡ m → r ≡ k → j ≡ k + 1 → ClearsSome m t u (IsBelow t k) → ClearsSome m' u v (λ a. StartsIn u r a) → ClearsSome m t v (IsBelow t j)
 region_done m m' t u v k r j e f g p q =
     regions_next m t u v k j g p (subst (λ n. ClearsSome n u v (λ a. StartsIn u k a)) e (subst (λ n. ClearsSome m' u v (λ a. StartsIn u n a)) f q))
+
+-- ---- regions without weak slots are passed over
+-- the regions before the next one with weak slots are done
+abbrev pub IsBefore : Option ℕ → ℕ → Type 0
+IsBefore None k = ⊤
+IsBefore (Some n) k = k < n
+
+pub IsPassed : Table → Option ℕ → ℕ → Type 0
+IsPassed t left a = (r : ℕ) × IsBefore left r × StartsIn t r a
+
+pub record IsSweep (m : Marking) (t u : Table) (left : Option ℕ) : Type 0 where
+  pub some : ClearsSome m t u (IsPassed t left)
+  pub known : IfSome left (λ k. k < length t.regions)
+
+no_slots : (m : Marking) (ws : List (Option ℕ)) → (0 < length ws → ⊥) → map (cleared_word m) ws ≡ ws
+no_slots m [] none = refl
+no_slots m (w ∷ ws) none = absurd (none (omega arith))
+
+-- where a region has no weak slots, clearing changes none of its objects
+module _ (m : Marking) (t u : Table) (d : ℕ → Type 0) (c : ClearsSome m t u d) (k : ℕ) (none : HasWeaks u k → ⊥) where
+  stored_passed : (a : ℕ) (s : Stored) → StartsIn t k a → object_at t a ≡ Some s → object_at u a ≡ cleared_object m (object_at t a)
+  stored_passed a s at is = elim (c.each a) [
+    | inl same ↦
+        let now : object_at u a ≡ Some s = same ∙ is in
+        let alike = no_slots m s.weaks (λ some. none (record { address = a; object = s; is = now; some = some; region = (in_now m t u d c k a at).region })) in
+        now ∙ ap (λ ws. Some (record s { weaks = ws })) (sym alike) ∙ sym (ap (cleared_object m) is)
+    | inr x ↦ x.1
+  ]
+
+  passed : (a : ℕ) → StartsIn t k a → object_at u a ≡ cleared_object m (object_at t a)
+  unfolding object_at
+  passed a at = elim (object_cases m t u d c a (object_at t a) refl) [
+    | inl gone ↦ ap tile_object (c.tiles a gone) ∙ gone ∙ sym (ap (cleared_object m) gone)
+    | inr s ↦ stored_passed a s.0 at s.1
+  ]
+
+sweep_done : (m : Marking) (t u : Table) (from : ℕ) (left : Option ℕ) → ClearsSome m t u (IsBelow t from) → ((k : ℕ) → from ≤ k → IsBefore left k → HasWeaks u k → ⊥) → ClearsSome m t u (IsPassed t left)
+unfolding IsBelow IsPassed
+sweep_done m t u from left c none = record {
+  size = c.size;
+  count = c.count;
+  kinds = c.kinds;
+  tops = c.tops;
+  unmoved = c.unmoved;
+  each = c.each;
+  done_is = λ a x s. elim (cases_lt x.0 from) [
+    | inl low ↦ c.done_is a (x.0, low, x.2) s
+    | inr high ↦ passed m t u (IsBelow t from) c x.0 (none x.0 high x.1) a x.2
+  ];
+  tiles = c.tiles;
+}
+
+sweep_on : (m : Marking) (t u : Table) (from : ℕ) (left : Option ℕ) → ClearsSome m t u (IsBelow t from) → IsNextWithWeaks u from left → IsSweep m t u left
+sweep_on m t u from None c next = record { some = sweep_done m t u from None c (λ k low before h. next k low h); known = tt }
+sweep_on m t u from (Some n) c next = record { some = sweep_done m t u from (Some n) c (λ k low before h. next.2 k low before h); known = let b = next.1 in omega (arith, c.count) }
+
+pub sweep_first : (m : Marking) (t : Table) (left : Option ℕ) → IsNextWithWeaks t 0 left → IsSweep m t t left
+sweep_first m t left next = sweep_on m t t 0 left (regions_first m t) next
+
+sweep_below : (m : Marking) (t u : Table) (n : ℕ) → ClearsSome m t u (IsPassed t (Some n)) → ClearsSome m t u (IsBelow t n)
+unfolding IsBelow IsPassed
+sweep_below m t u n c = record { size = c.size; count = c.count; kinds = c.kinds; tops = c.tops; unmoved = c.unmoved; each = c.each; done_is = λ a x s. c.done_is a x s; tiles = c.tiles }
+
+pub sweep_next : (m m' : Marking) (t u v : Table) (n r j : ℕ) (left next : Option ℕ) → m' ≡ m → r ≡ n → j ≡ n + 1 → left ≡ Some n → IsSweep m t u left → ClearsSome m' u v (λ a. StartsIn u r a) → IsNextWithWeaks v j next → IsSweep m t v next
+sweep_next m m' t u v n r j left next e f g h p q w =
+    sweep_on m t v j next (region_done m m' t u v n r j e f g (sweep_below m t u n (subst (λ l. ClearsSome m t u (IsPassed t l)) h p.some)) q) w
+
+pub sweep_last : (m : Marking) (t u : Table) (left : Option ℕ) → left ≡ None → IsSweep m t u left → ClearsTable m t u
+unfolding IsBelow IsPassed
+sweep_last m t u None e p =
+    let c = p.some in
+    regions_last m t u (length t.regions) (omega arith) (record { size = c.size; count = c.count; kinds = c.kinds; tops = c.tops; unmoved = c.unmoved; each = c.each; done_is = λ a x s. c.done_is a (x.0, tt, x.2) s; tiles = c.tiles })
+sweep_last m t u (Some n) e p = cc

@@ -3,7 +3,7 @@ use Rattle.std.specs.Prelude.{◌≡◌, ◌≢◌, ℕ, ◌⊎◌, true, false,
 use Rattle.heap_model.specs.Heap.{Stored}
 use Rattle.heap_model.specs.Marking.{Marking}
 use Rattle.heap_model.specs.Weak.{cleared_object}
-use Rattle.regions.specs.Table.{Table, object_at, tile_in, kind_of, top_of, HasNoMoved}
+use Rattle.regions.specs.Table.{Table, object_at, tile_in, kind_of, top_of, HasNoForwarded}
 
 -- in each object that is marked or new, the weak slots whose targets are old and unmarked are nil now; other objects and
 -- all other tiles are as they were
@@ -12,7 +12,7 @@ pub record ClearsTable (m : Marking) (t t' : Table) : Type 0 where
   pub count : length t'.regions ≡ length t.regions
   pub kinds : (k : ℕ) → kind_of t' k ≡ kind_of t k
   pub tops : (k : ℕ) → top_of t' k ≡ top_of t k
-  pub unmoved : HasNoMoved t → HasNoMoved t'
+  pub unmoved : HasNoForwarded t → HasNoForwarded t'
   pub kept : (a : ℕ) → (m.marked a ≡ true) ⊎ (m.old a ≡ false) → object_at t' a ≡ cleared_object m (object_at t a)
   pub dead : (a : ℕ) → m.marked a ≡ false → m.old a ≡ true → object_at t' a ≡ object_at t a
   pub tiles : (a : ℕ) → object_at t a ≡ None → tile_in t' a ≡ tile_in t a
@@ -27,7 +27,7 @@ pub record ClearsSome (m : Marking) (t t' : Table) (done : ℕ → Type 0) : Typ
   pub count : length t'.regions ≡ length t.regions
   pub kinds : (k : ℕ) → kind_of t' k ≡ kind_of t k
   pub tops : (k : ℕ) → top_of t' k ≡ top_of t k
-  pub unmoved : HasNoMoved t → HasNoMoved t'
+  pub unmoved : HasNoForwarded t → HasNoForwarded t'
   pub each : (a : ℕ) → (object_at t' a ≡ object_at t a) ⊎ (IsStaying m a × (object_at t' a ≡ cleared_object m (object_at t a)))
   pub done_is : (a : ℕ) → done a → IsStaying m a → object_at t' a ≡ cleared_object m (object_at t a)
   pub tiles : (a : ℕ) → object_at t a ≡ None → tile_in t' a ≡ tile_in t a
@@ -40,7 +40,7 @@ pub record HasCleared (m : Marking) (t t' : Table) (x : ℕ) : Type 0 where
   pub count : length t'.regions ≡ length t.regions
   pub kinds : (k : ℕ) → kind_of t' k ≡ kind_of t k
   pub tops : (k : ℕ) → top_of t' k ≡ top_of t k
-  pub unmoved : HasNoMoved t → HasNoMoved t'
+  pub unmoved : HasNoForwarded t → HasNoForwarded t'
   pub is : object_at t' x ≡ cleared_object m (object_at t x)
   pub others : (y : ℕ) → y ≢ x → tile_in t' y ≡ tile_in t y
 

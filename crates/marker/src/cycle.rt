@@ -179,14 +179,8 @@ impl Marker {
         table.law();
         self.take_logs(table);
         self.mark(table, u32::MAX);
-<<<<<<< HEAD
         self.clear_weaks(table);
-        let count = self.scans;
-||||||| 3906014
-        let count = self.scans;
-=======
         let count = self.scans.since();
->>>>>>> main
         self.bitmaps.swap_roles();
         self.tams.swap_roles();
         self.running = false;

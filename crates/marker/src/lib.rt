@@ -9,7 +9,8 @@
 //!   idle ---------------> running ---------------------+ ------------------> idle, and the next marks and tops
 //!             next marks cleared;       a grey object's |      all logs are     are the previous ones
 //!             what roots name is        old targets are |      taken, all
-//!             marked and grey           marked and grey |      grey scanned
+//!             marked and grey           marked and grey |      grey scanned,
+//!                                                       |      weak slots cleared
 //!                              ^-----------------------+
 //!                              | save     a store's overwritten pointer enters its mutator's log
 //!                              | take_log what a log names is marked
@@ -19,21 +20,18 @@
 //!
 //! What is promised, for every graph that the heap shows and every snapshot: `begin` makes the present graph the
 //! snapshot; each further call keeps the snapshot invariant; and after `finish` the marked names are exactly those that
-//! were reachable in the snapshot, the answer is their number, and what is kept from then on still shows the graph.
+//! were reachable in the snapshot, the answer is their number, and what is kept from then on shows the graph, in which the weak
+//! slots that held any other name of the snapshot are nil.
 //!
 //! Each object is scanned once in a cycle: a scan takes a grey object, and leaves it scanned. The scans are counted from
 //! `begin` on, only marked objects are scanned, and at the end the count is the number of marked objects.
 //!
-//! A scan costs the object's pointers, `begin` the bitmap, the regions and the roots, and no call walks a region. No
-//! call takes memory but `Marker::new`.
+//! A scan costs the object's pointers, and `begin` the bitmap, the regions and the roots. `finish` walks the regions that
+//! have weak slots, and no other call walks a region. No call takes memory but `Marker::new`.
 #![tactic(auto)]
 
-<<<<<<< HEAD
-mod clear;
-||||||| 3906014
-=======
+mod clearing;
 pub mod counts;
->>>>>>> main
 mod cycle;
 pub mod laws;
 pub mod marker;

@@ -3,6 +3,7 @@
 ghost use Rattle.std.specs.Prelude.{◌≡◌, ℕ, ◌<◌, ◌^◌, true, false, Some, length, slice_get, IfOk, IfSome};
 ghost use Rattle.heap_words.specs.Configs.{Suits};
 ghost use Rattle.regions.specs.Table.{HasObject};
+ghost use Rattle.mark_bitmap.specs.Tops.{below_previous};
 ghost use Rattle.marker.specs.Stands.{MarkerStands, IsKept};
 ghost use Rattle.marker.specs.Samples.{IsLinked, LeadToObjects, Keeps};
 
@@ -10,12 +11,18 @@ use crate::marker::Marker;
 use heap_words::addr::{Addr, Ptr, RegionNo};
 use heap_words::config::{Config, Format};
 use heap_words::header::{Count, Counts, FillerSize};
-use regions::{Kind, RegionTable};
+use regions::{Kind, RegionTable, Shape};
 use std::alloc::Global;
 use std::test::Fail;
 
-/// Puts an object with nil pointers and no data at the top of an ordinary region, if there is room.
-fn add(table: &mut RegionTable, region: RegionNo, name: u64, pointers: u32) -> Option<Addr>
+/// Puts an object with nil fields and no data at the top of an ordinary region, if there is room.
+fn add(
+    table: &mut RegionTable,
+    region: RegionNo,
+    name: u64,
+    pointers: u32,
+    weaks: u8,
+) -> Option<Addr>
     requires { pointers < 2 ^ 16 }
     ensures keeps { Keeps table.old table.new }
     ensures object { IfSome result (HasObject table.new) }
@@ -27,13 +34,14 @@ fn add(table: &mut RegionTable, region: RegionNo, name: u64, pointers: u32) -> O
     if table.kind(region) != Kind::Ordinary {
         return None;
     }
-    if !table.has_room(region, 2 + pointers) {
+    let words = 2 + pointers + u32::from(weaks);
+    if !table.has_room(region, words) {
         return None;
     }
-    let size = FillerSize::new(2 + pointers);
+    let size = FillerSize::new(words);
     let counts = Counts {
         pointers: Count::new(pointers),
-        weaks: 0,
+        weaks,
         values: Count::new(0),
     };
     let at = table.push_filler(region, size);
@@ -42,7 +50,7 @@ fn add(table: &mut RegionTable, region: RegionNo, name: u64, pointers: u32) -> O
     Some(at)
 }
 
-/// Stores a pointer between objects, if the field is there.
+/// Stores an object's address in a field of another one, if the field is there.
 fn link(table: &mut RegionTable, from: Addr, field: u32, to: Addr)
     requires from { HasObject table.old from }
     requires to { HasObject table.old to }
@@ -84,8 +92,8 @@ fn sizes() -> Config
     }
 }
 
-/// Objects of so many pointers, the i-th in region i % 3, with links from a field of one to another.
-fn build(alloc: Global, shapes: &[u8], links: &[(usize, u32, usize)]) -> Result<Made, Fail>
+/// Objects of so many pointers and weak slots, the i-th in region i % 3, with links from a field of one to another.
+fn build(alloc: Global, shapes: &[(u8, u8)], links: &[(usize, u32, usize)]) -> Result<Made, Fail>
     ensures count { IfOk result (λ made. length made.table.regions ≡ 4) }
     ensures words { IfOk result (λ made. made.table.words_per_region ≡ 16) }
     ensures linked { IfOk result (λ made. IsLinked made.table) }
@@ -100,7 +108,8 @@ fn build(alloc: Global, shapes: &[u8], links: &[(usize, u32, usize)]) -> Result<
     let mut objects = Vec::new(alloc);
     for i in 0..shapes.len() {
         let region = RegionNo::new((i % 3) as u32);
-        let Some(at) = add(&mut table, region, i as u64, u32::from(shapes[i])) else {
+        let (pointers, weaks) = shapes[i];
+        let Some(at) = add(&mut table, region, i as u64, u32::from(pointers), weaks) else {
             return Err(Fail::from("an object is made"));
         };
         objects.push(at)?;
@@ -136,6 +145,7 @@ fn begun(alloc: Global, table: &RegionTable, roots: &[Ptr]) -> Result<Marker, Fa
     ensures stands { IfOk result (MarkerStands table.now) }
     ensures running { IfOk result (λ marker. marker.running ≡ true) }
     ensures kept { IfOk result (λ marker. (a : ℕ) → HasObject table.now a → IsKept table.now marker a) }
+    ensures all_kept { IfOk result (λ marker. (a : ℕ) → below_previous table.now marker.tams a ≡ false) }
 {
     let mut marker = Marker::new(alloc, &sizes())?;
     marker.begin(table, roots);
@@ -163,7 +173,7 @@ fn save(marker: &mut Marker, made: &Made, mutator: u32, object: usize)
 /// How many objects are marked in all, where the roots hold some of them.
 fn count_from(
     alloc: Global,
-    shapes: &[u8],
+    shapes: &[(u8, u8)],
     links: &[(usize, u32, usize)],
     held: &[(usize, usize)],
 ) -> Result<u32, Fail> {
@@ -176,7 +186,7 @@ fn count_from(
 /// Two objects that name each other, the first in a register: two scans, and no third. With nil roots there is none.
 #[test]
 fn marks_a_ring(rt: HostRuntime) -> Result<(), Fail> {
-    let mut made = build(rt.alloc(), &[1, 1], &[(0, 0, 1), (1, 0, 0)])?;
+    let mut made = build(rt.alloc(), &[(1, 0), (1, 0)], &[(0, 0, 1), (1, 0, 0)])?;
     let roots = roots_of(rt.alloc(), &made, &[(16, 0)])?;
     let mut marker = begun(rt.alloc(), &made.table, &roots)?;
     assert_eq!(rt; (marker.mark(&made.table, 0), marker.scans()), (0, 0));
@@ -184,7 +194,7 @@ fn marks_a_ring(rt: HostRuntime) -> Result<(), Fail> {
     assert_eq!(rt; (marker.mark(&made.table, 9), marker.scans()), (1, 2));
     assert_eq!(rt; (marker.mark(&made.table, 9), marker.scans()), (0, 2));
     assert_eq!(rt; (marker.finish(&mut made.table), marker.scans()), (2, 2));
-    let mut other = build(rt.alloc(), &[1, 1], &[(0, 0, 1), (1, 0, 0)])?;
+    let mut other = build(rt.alloc(), &[(1, 0), (1, 0)], &[(0, 0, 1), (1, 0, 0)])?;
     let nil = roots_of(rt.alloc(), &other, &[])?;
     let mut idle = begun(rt.alloc(), &other.table, &nil)?;
     assert_eq!(rt; idle.mark(&other.table, 9), 0);
@@ -197,7 +207,7 @@ fn marks_a_ring(rt: HostRuntime) -> Result<(), Fail> {
 #[test]
 fn counts_what_roots_reach(rt: HostRuntime) -> Result<(), Fail> {
     let chain = [(0, 0, 1), (1, 0, 2), (2, 0, 3), (3, 0, 4)];
-    let shapes = [1, 1, 1, 1, 1, 2];
+    let shapes = [(1, 0), (1, 0), (1, 0), (1, 0), (1, 0), (2, 0)];
     for (held, count) in [
         (&[(0, 0)][..], 5),
         (&[(15, 2)][..], 3),
@@ -216,7 +226,7 @@ fn counts_what_roots_reach(rt: HostRuntime) -> Result<(), Fail> {
         (3, 0, 4),
         (4, 0, 3),
     ];
-    let shapes = [2, 1, 1, 1, 1];
+    let shapes = [(2, 0), (1, 0), (1, 0), (1, 0), (1, 0)];
     for (held, count) in [
         (&[(31, 0)][..], 3),
         (&[(31, 2)][..], 1),
@@ -230,12 +240,20 @@ fn counts_what_roots_reach(rt: HostRuntime) -> Result<(), Fail> {
 /// What only a log names is marked in the end, and what it leads to.
 #[test]
 fn takes_what_was_logged(rt: HostRuntime) -> Result<(), Fail> {
-    let mut made = build(rt.alloc(), &[1, 1, 0], &[(0, 0, 1), (1, 0, 0)])?;
+    let mut made = build(
+        rt.alloc(),
+        &[(1, 0), (1, 0), (0, 0)],
+        &[(0, 0, 1), (1, 0, 0)],
+    )?;
     let roots = roots_of(rt.alloc(), &made, &[(3, 2)])?;
     let mut marker = begun(rt.alloc(), &made.table, &roots)?;
     assert_eq!(rt; marker.mark(&made.table, 9), 1);
     assert_eq!(rt; marker.finish(&mut made.table), 1);
-    let mut logging = build(rt.alloc(), &[1, 1, 0], &[(0, 0, 1), (1, 0, 0)])?;
+    let mut logging = build(
+        rt.alloc(),
+        &[(1, 0), (1, 0), (0, 0)],
+        &[(0, 0, 1), (1, 0, 0)],
+    )?;
     let roots = roots_of(rt.alloc(), &logging, &[(3, 2)])?;
     let mut other = begun(rt.alloc(), &logging.table, &roots)?;
     save(&mut other, &logging, 1, 1);
@@ -259,7 +277,7 @@ fn exchange(marker: &mut Marker, _table: &RegionTable)
 /// its tops are at its bottom; the other region's mark stays.
 #[test]
 fn forgets_a_region(rt: HostRuntime) -> Result<(), Fail> {
-    let mut made = build(rt.alloc(), &[1, 1], &[(0, 0, 1)])?;
+    let mut made = build(rt.alloc(), &[(1, 0), (1, 0)], &[(0, 0, 1)])?;
     let roots = roots_of(rt.alloc(), &made, &[(16, 0)])?;
     let region = RegionNo::new(0);
     let bottom = Addr::new(0);
@@ -270,7 +288,7 @@ fn forgets_a_region(rt: HostRuntime) -> Result<(), Fail> {
     marker.forget(&made.table, region);
     assert_eq!(rt; marker.bitmaps.previous.next(bottom), Some(Addr::new(16)));
     assert_eq!(rt; marker.tams.previous(region), bottom);
-    let mut next = build(rt.alloc(), &[1, 1], &[(0, 0, 1)])?;
+    let mut next = build(rt.alloc(), &[(1, 0), (1, 0)], &[(0, 0, 1)])?;
     let roots = roots_of(rt.alloc(), &next, &[(16, 0)])?;
     let mut other = begun(rt.alloc(), &next.table, &roots)?;
     assert_eq!(rt; other.finish(&mut next.table), 2);
@@ -280,5 +298,88 @@ fn forgets_a_region(rt: HostRuntime) -> Result<(), Fail> {
     other.forget(&next.table, region);
     assert_eq!(rt; other.bitmaps.next.next(bottom), Some(Addr::new(16)));
     assert_eq!(rt; other.tams.next(region), bottom);
+    Ok(())
+}
+
+/// Another object comes while marking runs, with two weak slots: the first leads to an object that was there, the second to
+/// itself. A field of an object that was there leads to it. Answers where it is.
+fn add_new(
+    made: &mut Made,
+    _marker: &Marker,
+    holder: usize,
+    field: u32,
+    target: usize,
+) -> Option<Addr>
+    requires stands { MarkerStands made.old.table _marker.now }
+    requires linked { IsLinked made.old.table }
+    requires all_kept { (a : ℕ) → below_previous made.old.table _marker.now.tams a ≡ false }
+    requires objects { (i a : ℕ) → slice_get made.old.objects.items i ≡ Some a → HasObject made.old.table a }
+    ensures stands { MarkerStands made.new.table _marker.now }
+{
+    if holder >= made.objects.len() || target >= made.objects.len() {
+        return None;
+    }
+    let from = made.objects[holder];
+    let to = made.objects[target];
+    let Some(at) = add(&mut made.table, RegionNo::new(0), 9, 0, 2) else {
+        return None;
+    };
+    link(&mut made.table, at, 0, to);
+    link(&mut made.table, at, 1, at);
+    link(&mut made.table, from, field, at);
+    Some(at)
+}
+
+/// What a field of the object that holds a word leads to.
+fn read(table: &RegionTable, word: u32, field: u32) -> Ptr {
+    table.law();
+    if word >= table.region_count() * table.words_per_region() {
+        return None;
+    }
+    let Some(at) = table.first_tile(Addr::new(word)) else {
+        return None;
+    };
+    let Shape::Object { .. } = table.tile(at) else {
+        return None;
+    };
+    if field < table.field_count(at) {
+        return table.get_field(at, field);
+    }
+    None
+}
+
+/// The object at 0 is marked, and its pointer's target at 16. Of its weak slots those stay that lead to what is marked, and to
+/// what is new; the one that leads to the object at 32 is nil. So is the new object's. A dead object's slot stays.
+#[test]
+fn clears_weak_slots(rt: HostRuntime) -> Result<(), Fail> {
+    let shapes = [(1, 4), (0, 0), (0, 0), (0, 1)];
+    let links = [(0, 0, 1), (0, 1, 1), (0, 2, 2), (0, 3, 0), (3, 0, 2)];
+    let mut made = build(rt.alloc(), &shapes, &links)?;
+    let roots = roots_of(rt.alloc(), &made, &[(16, 0)])?;
+    let mut marker = begun(rt.alloc(), &made.table, &roots)?;
+    assert_eq!(rt; add_new(&mut made, &marker, 0, 4, 2), Some(Addr::new(10)));
+    assert_eq!(rt; read(&made.table, 0, 2), Some(Addr::new(32)));
+    assert_eq!(rt; read(&made.table, 10, 0), Some(Addr::new(32)));
+    assert_eq!(rt; marker.finish(&mut made.table), 2);
+    assert_eq!(rt; read(&made.table, 0, 0), Some(Addr::new(16)));
+    assert_eq!(rt; read(&made.table, 0, 1), Some(Addr::new(16)));
+    assert_eq!(rt; read(&made.table, 0, 2), None);
+    assert_eq!(rt; read(&made.table, 0, 3), Some(Addr::new(0)));
+    assert_eq!(rt; read(&made.table, 0, 4), Some(Addr::new(10)));
+    assert_eq!(rt; read(&made.table, 10, 0), None);
+    assert_eq!(rt; read(&made.table, 10, 1), Some(Addr::new(10)));
+    assert_eq!(rt; read(&made.table, 7, 0), Some(Addr::new(32)));
+    Ok(())
+}
+
+/// What a weak slot leads to was read while marking ran, so it was saved: it is marked, and the slot stays.
+#[test]
+fn keeps_what_was_read(rt: HostRuntime) -> Result<(), Fail> {
+    let mut made = build(rt.alloc(), &[(0, 1), (0, 0)], &[(0, 0, 1)])?;
+    let roots = roots_of(rt.alloc(), &made, &[(16, 0)])?;
+    let mut marker = begun(rt.alloc(), &made.table, &roots)?;
+    save(&mut marker, &made, 0, 1);
+    assert_eq!(rt; marker.finish(&mut made.table), 2);
+    assert_eq!(rt; read(&made.table, 0, 0), Some(Addr::new(16)));
     Ok(())
 }

@@ -7,16 +7,8 @@ use Rattle.heap_model.specs.Heap.{Stored, fields}
 use Rattle.regions.specs.Table.{Table, object_at, fields_at}
 use Rattle.remembered_sets.specs.Sets.{Sets, covers, card_count}
 use Rattle.refinement.specs.Remembering.{field_word, field_card, IsCrossing}
-<<<<<<< HEAD
-use Rattle.refinement.specs.Refining.{AddsCard, IsScanned, FieldsInside, SetsFit, with_field}
-use Rattle.refinement.proofs.Divides.{card_within, div_is, div_low, div_high}
-||||||| 3906014
-use Rattle.refinement.specs.Refining.{AddsCard, IsScanned, PointsInside, SetsFit, with_field}
-use Rattle.refinement.proofs.Divides.{card_within, div_is, div_low, div_high}
-=======
 use Rattle.refinement.specs.Refining.{AddsCard, IsScanned, FieldsInside, SetsFit, with_field}
 use Rattle.regions.proofs.Words.Divides.{card_within, div_is, div_low, div_high}
->>>>>>> main
 use Rattle.refinement.proofs.Entered.{adds_none, adds_more, adds_sets, field_adds, field_grows}
 use Rattle.refinement.proofs.Holders.{field_at, fields_of}
 
@@ -25,28 +17,10 @@ pub record IsPartly (words : ℕ) (kept : ℕ → Option Stored) (len card at st
   pub adds : AddsCard words kept len card old new
   pub done : (i v : ℕ) → start ≤ i → i < field → IsCrossing words kept at i v → covers new (v / words) card ≡ true
 
-<<<<<<< HEAD
-pub partly_first : (words : ℕ) (kept : ℕ → Option Stored) (len card at start : ℕ) (s : Sets) → IsPartly words kept len card at start start s s
-partly_first words kept len card at start s = record { adds = adds_none words kept len card s; done = λ i v l h x. absurd (omega arith) }
-
 pub partly_next : (t : Table) (kept : ℕ → Option Stored) (len card at start field next : ℕ) (old mid new : Sets) → kept at ≡ object_at t at → FieldsInside t at → length mid.sets ≡ length t.regions
     → field < length (fields_at t at) → field_card len at field ≡ card → next ≡ field + 1
     → ((target : Option ℕ) → slice_get (fields_at t at) field ≡ Some target → new ≡ with_field t.words_per_region card (field_word at field) target mid)
     → ((target : ℕ) → slice_get (fields_at t at) field ≡ Some (Some target) → target / t.words_per_region ≢ field_word at field / t.words_per_region → covers new (target / t.words_per_region) card ≡ true)
-||||||| 3906014
-pub partly_first : (words : ℕ) (kept : ℕ → Option Stored) (len card at start : ℕ) (s : Sets) → IsPartly words kept len card at start start s s
-partly_first words kept len card at start s = record { adds = adds_none words kept len card s; done = λ i v l h x. absurd (omega arith) }
-
-pub partly_next : (t : Table) (kept : ℕ → Option Stored) (len card at start field next : ℕ) (old mid new : Sets) → kept at ≡ object_at t at → PointsInside t at → length mid.sets ≡ length t.regions
-    → field < length (pointers_at t at) → field_card len at field ≡ card → next ≡ field + 1
-    → ((target : Option ℕ) → slice_get (pointers_at t at) field ≡ Some target → new ≡ with_field t.words_per_region card (field_word at field) target mid)
-    → ((target : ℕ) → slice_get (pointers_at t at) field ≡ Some (Some target) → target / t.words_per_region ≢ field_word at field / t.words_per_region → covers new (target / t.words_per_region) card ≡ true)
-=======
-pub partly_next : (t : Table) (kept : ℕ → Option Stored) (len card at start field next : ℕ) (old mid new : Sets) → kept at ≡ object_at t at → FieldsInside t at → length mid.sets ≡ length t.regions
-    → field < length (fields_at t at) → field_card len at field ≡ card → next ≡ field + 1
-    → ((target : Option ℕ) → slice_get (fields_at t at) field ≡ Some target → new ≡ with_field t.words_per_region card (field_word at field) target mid)
-    → ((target : ℕ) → slice_get (fields_at t at) field ≡ Some (Some target) → target / t.words_per_region ≢ field_word at field / t.words_per_region → covers new (target / t.words_per_region) card ≡ true)
->>>>>>> main
     → IsPartly t.words_per_region kept len card at start field old mid → IsPartly t.words_per_region kept len card at start next old new
 partly_next t kept len card at start field next old mid new same inside count known in_card n after covered p =
     let f = field_at t at field known in

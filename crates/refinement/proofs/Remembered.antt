@@ -1,11 +1,15 @@
 -- How remembering goes over from one state of the heap to the next.
-use Rattle.std.proofs.Common.{inl, inr, ◌≡◌, ◌≢◌, ◌⊎◌, ℕ, ◌+◌, ◌*◌, ◌/◌, ◌<◌, Bool, true, false, Option, Some, None, List, length, set, ⊎_elim, refl, sym, ap, subst, ◌∙◌, arith, get_or-set_same, get_or-set_other, length-set}
+use Rattle.std.proofs.Common.{inl, inr, ◌≡◌, ◌≢◌, ◌⊎◌, ℕ, zero, suc, ◌+◌, ◌*◌, ◌/◌, ◌<◌, Bool, true, false, Option, Some, None, List, [], ◌∷◌, ◌++◌, map, length, set, ⊎_elim, refl, sym, ap, subst, ◌∙◌, arith, get_or-set_same, get_or-set_other, length-set}
 use Rattle.std.specs.Prelude.{slice_get, if◌then◌else◌}
 use Rattle.std.proofs.lemmas.Bool.{cases_eq, le-leb, lt-ltb}
 use Rattle.std.proofs.lemmas.Option.{slice_get_within, slice_get_read, get_or_from_slice_get}
 use Rattle.heap_model.specs.Heap.{Heap, IsClosed, Stored, fields}
+use Rattle.heap_model.specs.Marking.{Marking}
+use Rattle.heap_model.specs.Weak.{cleared, cleared_word, cleared_after}
+use Rattle.heap_model.proofs.Cleared.{cleared_was}
+use Rattle.heap_model.proofs.Names.{bool_cases}
 use Rattle.mark_bitmap.specs.Tops.{is_in_region}
-use Rattle.refinement.specs.Remembering.{field_word, field_card, IsCrossing, Remembers, KeepsFields, IsNoted, SetsField, AddsNil, NoneLeadsInto}
+use Rattle.refinement.specs.Remembering.{field_word, field_card, IsCrossing, ClearsFields, LeadsInside, Remembers, KeepsFields, IsNoted, SetsField, AddsNil, NoneLeadsInto}
 use Rattle.regions.proofs.Words.Divides.{div_low, div_high}
 
 pub crossing_kept : (words : ℕ) (kept kept' : ℕ → Option Stored) (a i v : ℕ) → KeepsFields kept kept' → IsCrossing words kept' a i v → IsCrossing words kept a i v
@@ -98,3 +102,48 @@ keeps_values kept kept' at before after was is same others a x e = ⊎_elim
     (λ here. let k : kept' at ≡ Some x = ap kept' (sym here) ∙ e in let o : x ≡ after = cc in (before, ap kept here ∙ was, ap fields o ∙ same))
     (λ apart. (x, sym (others a apart) ∙ e, refl))
     (cases_eq a at)
+
+-- ---- fields that become nil
+pub crossing_cleared : (words : ℕ) (kept kept' : ℕ → Option Stored) (a i v : ℕ) → ClearsFields kept kept' → IsCrossing words kept' a i v → IsCrossing words kept a i v
+crossing_cleared words kept kept' a i v f x =
+    let k = f a x.object x.kept_is in
+    record { object = k.0; kept_is = k.1; field_is = k.2 i v x.field_is; leaves = x.leaves }
+
+pub remembers_cleared_fields : (words len : ℕ) (kept kept' : ℕ → Option Stored) (dirty : ℕ → Bool) (covered : ℕ → ℕ → Bool) → ClearsFields kept kept' → Remembers words kept len dirty covered → Remembers words kept' len dirty covered
+remembers_cleared_fields words len kept kept' dirty covered f =
+    remembers_on words len kept kept' dirty dirty covered covered (λ a i v x. inl (crossing_cleared words kept kept' a i v f x)) (λ c d. d) (λ a i v c x d. d)
+
+pub inside_cleared_fields : (words regions : ℕ) (kept kept' : ℕ → Option Stored) → ClearsFields kept kept' → LeadsInside words regions kept → LeadsInside words regions kept'
+inside_cleared_fields words regions kept kept' f l = record {
+  each = λ a i v s e g. let k = f a s e in l.each a i v k.0 k.1 (k.2 i v g);
+}
+
+word_was : (m : Marking) (w : Option ℕ) (v : ℕ) → cleared_word m w ≡ Some v → w ≡ Some v
+word_was m None v e = cc
+word_was m (Some a) v e = elim (bool_cases (m.old a)) [
+  | inl o ↦ elim (bool_cases (m.marked a)) [ inl k ↦ sym (rw (o, k) refl) ∙ e | inr k ↦ absurd (let z : None ≡ Some v = sym (rw (o, k) refl) ∙ e in cc) ]
+  | inr o ↦ sym (rw o refl) ∙ e
+]
+
+slot_was : (m : Marking) (ps ws : List (Option ℕ)) (i v : ℕ) → slice_get (ps ++ map (cleared_word m) ws) i ≡ Some (Some v) → slice_get (ps ++ ws) i ≡ Some (Some v)
+slot_was m [] [] i v e = e
+slot_was m [] (w ∷ ws) zero v e = let z : cleared_word m w ≡ Some v = cc in ap Some (word_was m w v z)
+slot_was m [] (w ∷ ws) (suc i) v e = slot_was m [] ws i v e
+slot_was m (p ∷ ps) ws zero v e = e
+slot_was m (p ∷ ps) ws (suc i) v e = slot_was m ps ws i v e
+
+was_cleared : (h : Heap) (m : Marking) (a : ℕ) (s : Stored) → cleared_after h m a ≡ Some s → (before : Stored) × (h.kept a ≡ Some before) × (s ≡ cleared m before)
+was_cleared h m a s e =
+    let w = cleared_was h m a s e in
+    elim (bool_cases (m.marked a)) [
+      | inl k ↦ (w.0, rw k at w.1, w.2)
+      | inr k ↦ elim (bool_cases (m.old a)) [
+        | inl o ↦ absurd (let z : None ≡ Some w.0 = rw (k, o) at w.1 in cc)
+        | inr o ↦ (w.0, rw (k, o) at w.1, w.2)
+      ]
+    ]
+
+pub clears_after : (h : Heap) (m : Marking) (kept' : ℕ → Option Stored) → ((a : ℕ) → kept' a ≡ cleared_after h m a) → ClearsFields h.kept kept'
+clears_after h m kept' same a s e =
+    let w = was_cleared h m a s (sym (same a) ∙ e) in
+    (w.0, w.1, λ i v f. slot_was m w.0.pointers w.0.weaks i v (ap (λ (x : Stored). slice_get (fields x) i) (sym w.2) ∙ f))

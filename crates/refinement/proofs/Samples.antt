@@ -6,48 +6,25 @@ use Rattle.std.proofs.lemmas.Bool.Decides.{leb_tells}
 use Rattle.std.proofs.lemmas.List.{get_or-replicate, length-replicate, length-append, get_or_past}
 use Rattle.std.proofs.lemmas.Nat.{div_below}
 use Rattle.std.proofs.lemmas.Option.{slice_get_within, get_or_from_slice_get}
-<<<<<<< HEAD
 use Rattle.heap_model.specs.Heap.{Stored, fields, with_field}
 use Rattle.heap_model.proofs.Fields.{field_set}
 use Rattle.heap_model.proofs.Lists.{get-append_cases}
-use Rattle.regions.specs.Tiles.{Tile, Live, Gap, Moved, tile_size, tile_at}
-use Rattle.regions.specs.Table.{Region, Free, First, Table, region_number, first_run, is_free, with_run, region_tile, region_at, tile_in, tile_object, object_at, free_table, taken, first_free, set_field, push_tile, replace_tile, new_object, gap, used_of, top_of, kind_of, object_fields, fields_at}
-||||||| 3906014
-use Rattle.heap_model.specs.Heap.{Stored}
-use Rattle.regions.specs.Tiles.{Tile, Live, Gap, Moved, tile_size, tile_at}
-use Rattle.regions.specs.Table.{Region, Free, First, Table, region_number, first_run, is_free, with_run, region_tile, region_at, tile_in, tile_object, object_at, free_table, taken, first_free, set_pointer, push_tile, replace_tile, new_object, gap, used_of, top_of, kind_of, object_pointers, pointers_at}
-=======
-use Rattle.heap_model.specs.Heap.{Stored}
 use Rattle.regions.specs.Tiles.{Tile, Object, Filler, Forwarded, tile_size, tile_at}
-use Rattle.regions.specs.Table.{Region, Free, First, Table, nth_region, first_run, is_free, with_run, region_tile, region_at, tile_in, tile_object, object_at, free_table, taken, first_free, set_pointer, push_tile, replace_tile, new_object, remainder, used_of, top_of, kind_of, object_pointers, pointers_at}
->>>>>>> main
+use Rattle.regions.specs.Table.{Region, Free, First, Table, nth_region, first_run, is_free, with_run, region_tile, region_at, tile_in, tile_object, object_at, free_table, taken, first_free, set_field, push_tile, replace_tile, new_object, remainder, used_of, top_of, kind_of, object_fields, fields_at}
 use Rattle.regions.specs.declared.row.Kind.TheVariants as kinds
 use Rattle.regions.specs.Shaped.{IsShaped}
 use Rattle.regions.specs.Shapes.{tile_shape}
 use Rattle.regions.specs.Walks.{IsHolder}
 use Rattle.regions.specs.declared.row.Shape.{Shape}
 use Rattle.regions.specs.declared.row.Shape.TheVariants as shapes
-<<<<<<< HEAD
-use Rattle.regions.proofs.Changes.{field_put, object_same}
-use Rattle.regions.proofs.Placing.{region_taken, Pushed, gap_push, Replaces, gap_replaced}
-use Rattle.regions.proofs.RunLaws.{TakesRun, run_made, tile_of_region}
-||||||| 3906014
-use Rattle.regions.proofs.Fields.{with_pointer}
-use Rattle.regions.proofs.Changes.{pointer_put, object_same}
-use Rattle.regions.proofs.Placing.{region_taken, Pushed, gap_push, Replaces, gap_replaced}
-use Rattle.regions.proofs.RunLaws.{TakesRun, run_made, tile_of_region}
-=======
-use Rattle.regions.proofs.Words.Fields.{with_pointer}
-use Rattle.regions.proofs.Tiles.Changes.{pointer_put, object_same}
+use Rattle.regions.proofs.Tiles.Changes.{field_put, object_same}
 use Rattle.regions.proofs.Tiles.Placing.{region_taken, Pushed, filler_push, Replaces, filler_replaced}
 use Rattle.regions.proofs.LongRuns.RunLaws.{TakesRun, run_made, tile_of_region}
->>>>>>> main
 use Rattle.mark_bitmap.specs.Tops.{Tops}
 use Rattle.remembered_sets.specs.Sets.{Sets}
 use Rattle.refinement.specs.Refining.{CanScan}
 use Rattle.refinement.specs.Samples.{IsSample}
 use Rattle.regions.proofs.Words.Divides.{div_is}
-use Rattle.regions.proofs.Words.FieldAccess.{fields_pointers}
 use Rattle.refinement.proofs.Holders.{field_at, kept_object}
 use Rattle.refinement.proofs.Remembered.{set_here, set_there}
 
@@ -80,19 +57,9 @@ take_sample t t' (Some k) f e s =
 -- a field is set to an address of the heap
 pub link_sample : (t t' : Table) (a i b : ℕ) → 0 < t.words_per_region → i < length (fields_at t a) → b < 64 → t' ≡ set_field t a i (Some b) → IsSample t → IsSample t'
 link_sample t t' a i b z known small e s =
-<<<<<<< HEAD
     let f = field_at t a i known in
     let u : Table = set_field t a i (Some b) in
     let w = field_put t a i (Some b) f.object z f.is in
-||||||| 3906014
-    let f = field_at t a i known in
-    let u : Table = set_pointer t a i (Some b) in
-    let w = pointer_put t a i (Some b) f.object z f.is in
-=======
-    let f = field_at t a i (subst (λ (l : List (Option ℕ)). i < length l) (sym (fields_pointers t a)) known) in
-    let u : Table = set_pointer t a i (Some b) in
-    let w = pointer_put t a i (Some b) f.object z f.is in
->>>>>>> main
     let near : b / t.words_per_region < length t.regions = rw (s.count, s.words) (div_below b 16 4 (omega arith) small) in
     subst IsSample (sym e) (record {
       count = w.count ∙ s.count;
@@ -122,36 +89,28 @@ nil_alone n i b e =
     let none : get_or (replicate n None) i None ≡ None = get_or-replicate {A = Option ℕ} n i None None inside in
     cc
 
-nil_fields : (name n i b : ℕ) → slice_get (fields (new_object name n 0 0)) i ≡ Some (Some b) → ⊥
-nil_fields name n i b e = elim (get-append_cases (replicate n None) [] i (Some b) e) [ inl q ↦ nil_alone n i b q | inr q ↦ (let none = q.1 in cc) ]
+nil_fields : (name n weak i b : ℕ) → slice_get (fields (new_object name n weak 0)) i ≡ Some (Some b) → ⊥
+nil_fields name n weak i b e = elim (get-append_cases (replicate n None) (replicate weak None) i (Some b) e) [ inl q ↦ nil_alone n i b q | inr q ↦ nil_alone weak q.0 b q.1 ]
 
 alone : (t : Tile) (j : ℕ) → 0 < j → tile_at j (t ∷ []) ≡ None
 alone t zero h = absurd (omega arith)
 alone t (suc j) h = elim (leb_tells (tile_size t) (suc j)) [ inl q ↦ rw q.0 refl | inr q ↦ rw q.0 refl ]
 
--- an object with nil pointers is made where a filler was pushed
-module _ (t t' t'' : Table) (k a n p name : ℕ) (shape : IsShaped t) (shape' : IsShaped t') (known : k < length t.regions) (ordinary : kind_of t k ≡ kinds.Ordinary)
-<<<<<<< HEAD
-    (room : used_of t k + n ≤ t.words_per_region) (size : n ≡ 2 + p) (at : a ≡ top_of t k) (e : t' ≡ push_tile t k (Gap n))
-    (e' : t'' ≡ replace_tile t' a (Live (new_object name p 0 0) ∷ gap (n - (2 + p + 0 + 0)))) where
-||||||| 3906014
-    (room : used_of t k + n ≤ t.words_per_region) (size : n ≡ 2 + p) (at : a ≡ top_of t k) (e : t' ≡ push_tile t k (Gap n))
-    (e' : t'' ≡ replace_tile t' a (Live (new_object name p 0) ∷ gap (n - (2 + p + 0)))) where
-=======
-    (room : used_of t k + n ≤ t.words_per_region) (size : n ≡ 2 + p) (at : a ≡ top_of t k) (e : t' ≡ push_tile t k (Filler n))
-    (e' : t'' ≡ replace_tile t' a (Object (new_object name p 0) ∷ remainder (n - (2 + p + 0)))) where
->>>>>>> main
+-- an object with nil fields is made where a filler was pushed
+module _ (t t' t'' : Table) (k a n p weak name : ℕ) (shape : IsShaped t) (shape' : IsShaped t') (known : k < length t.regions) (ordinary : kind_of t k ≡ kinds.Ordinary)
+    (room : used_of t k + n ≤ t.words_per_region) (size : n ≡ 2 + p + weak) (at : a ≡ top_of t k) (e : t' ≡ push_tile t k (Filler n))
+    (e' : t'' ≡ replace_tile t' a (Object (new_object name p weak 0) ∷ remainder (n - (2 + p + weak + 0)))) where
   abbrev new : Stored
-  new = new_object name p 0 0
+  new = new_object name p weak 0
 
   push : Pushed t t' k a (Filler n)
   push = rw (e, at) (filler_push t k (Filler n) shape.positive shape.fitting known ordinary (omega (arith, size)) room tt)
 
-  whole : n - (2 + p + 0 + 0) ≡ 0
+  whole : n - (2 + p + weak + 0) ≡ 0
   whole = omega (arith, size)
 
   words : tile_size (Object new) ≡ n
-  words = omega (arith, size, length-replicate {A = Option ℕ} p None)
+  words = omega (arith, size, length-replicate {A = Option ℕ} p None, length-replicate {A = Option ℕ} weak None)
 
   replaced : Replaces t' t'' a n (Object new ∷ [])
   replaced =
@@ -194,7 +153,7 @@ module _ (t t' t'' : Table) (k a n p name : ℕ) (shape : IsShaped t) (shape' : 
         inside = λ y i b x o f. elim (cases_eq y a) [
           | inl same ↦
               let x_is : x ≡ new = let m = new_is in let o' = sym (ap (object_at t'') same) ∙ o in cc in
-              absurd (nil_fields name p i b (ap (λ (q : Stored). slice_get (fields q) i) (sym x_is) ∙ f))
+              absurd (nil_fields name p weak i b (ap (λ (q : Stored). slice_get (fields q) i) (sym x_is) ∙ f))
           | inr apart ↦ rw (count, words_are) (s.inside y i b x (sym (other y apart) ∙ o) f)
         ];
       }
@@ -220,7 +179,7 @@ run_sample t t' m p name (Some k) z n f e s = subst IsSample (sym e) (record {
         let region : y / u.words_per_region ≡ k = ap (λ (w : ℕ). y / w) r.size ∙ div_is y t.words_per_region k (omega arith) (omega arith) in
         let tile = tile_of_region u y (First new) (ap (nth_region u) region ∙ r.first) in
         let is : x ≡ new = first_alone p name (y % u.words_per_region) x (ap tile_object (sym tile) ∙ h) in
-        absurd (nil_fields name p i b (ap (λ (q : Stored). slice_get (fields q) i) (sym is) ∙ g))
+        absurd (nil_fields name p 0 i b (ap (λ (q : Stored). slice_get (fields q) i) (sym is) ∙ g))
     | inr apart ↦ s.inside y i b x (ap tile_object (sym (r.others y apart)) ∙ h) g
   ]);
 })
@@ -242,41 +201,16 @@ sample_scans t tops previous sets s marks count cards = record {
   inside = record { each = λ a i v x k f. s.inside a i v x (kept_object t tops previous a x k) f };
 }
 
--- a field is known by the shape of its object
-<<<<<<< HEAD
-counted_tile : (o : Option Tile) (p weak d n i : ℕ) (shape : Shape) → IfSome o (λ u. shape ≡ tile_shape u) → IsSome o → shape ≡ shapes.Object p weak d → n ≡ p → i < n → i < length (object_fields (tile_object o))
-counted_tile None p weak d n i shape h some e f l = cc
-counted_tile (Some (Live s)) p weak d n i shape h some e f l =
-    let q : shapes.Object p weak d ≡ shapes.Object (length s.pointers) (length s.weaks) (length s.values) = sym e ∙ h in
-||||||| 3906014
-counted_tile : (o : Option Tile) (p d n i : ℕ) (shape : Shape) → IfSome o (λ u. shape ≡ tile_shape u) → IsSome o → shape ≡ shapes.Object p d → n ≡ p → i < n → i < length (object_pointers (tile_object o))
-counted_tile None p d n i shape h some e f l = cc
-counted_tile (Some (Live s)) p d n i shape h some e f l =
-    let q : shapes.Object p d ≡ shapes.Object (length s.pointers) (length s.values) = sym e ∙ h in
-=======
-counted_tile : (o : Option Tile) (p d n i : ℕ) (shape : Shape) → IfSome o (λ u. shape ≡ tile_shape u) → IsSome o → shape ≡ shapes.Object p d → n ≡ p → i < n → i < length (object_pointers (tile_object o))
-counted_tile None p d n i shape h some e f l = cc
-counted_tile (Some (Object s)) p d n i shape h some e f l =
-    let q : shapes.Object p d ≡ shapes.Object (length s.pointers) (length s.values) = sym e ∙ h in
->>>>>>> main
-    let same : p ≡ length s.pointers = cc in
-<<<<<<< HEAD
-    omega (arith, length-append s.pointers s.weaks)
-counted_tile (Some (Gap m)) p weak d n i shape h some e f l = cc
-counted_tile (Some (Moved to m)) p weak d n i shape h some e f l = cc
-||||||| 3906014
-    omega arith
-counted_tile (Some (Gap m)) p d n i shape h some e f l = cc
-counted_tile (Some (Moved to m)) p d n i shape h some e f l = cc
-=======
-    omega arith
-counted_tile (Some (Filler m)) p d n i shape h some e f l = cc
-counted_tile (Some (Forwarded to m)) p d n i shape h some e f l = cc
->>>>>>> main
+-- a tile with an object's shape is one
+object_tile_is : (o : Option Tile) (p weak d : ℕ) (shape : Shape) → IfSome o (λ u. shape ≡ tile_shape u) → IsSome o → shape ≡ shapes.Object p weak d → IsSome (tile_object o)
+object_tile_is None p weak d shape h some e = cc
+object_tile_is (Some (Object s)) p weak d shape h some e = refl
+object_tile_is (Some (Filler m)) p weak d shape h some e = cc
+object_tile_is (Some (Forwarded to m)) p weak d shape h some e = cc
 
-pub counted : (t : Table) (a i n p weak d : ℕ) (shape : Shape) → IfSome (tile_in t a) (λ u. shape ≡ tile_shape u) → IsSome (tile_in t a) → shape ≡ shapes.Object p weak d → n ≡ p → i < n → i < length (fields_at t a)
-unfolding fields_at object_at
-counted t a i n p weak d shape h some e f l = counted_tile (tile_in t a) p weak d n i shape h some e f l
+pub is_object : (t : Table) (a p weak d : ℕ) (shape : Shape) → IfSome (tile_in t a) (λ u. shape ≡ tile_shape u) → IsSome (tile_in t a) → shape ≡ shapes.Object p weak d → IsSome (object_at t a)
+unfolding object_at
+is_object t a p weak d shape h some e = object_tile_is (tile_in t a) p weak d shape h some e
 
 pub tile_some : (t : Table) (a w : ℕ) → IsHolder t a w → IsSome (tile_in t a)
 tile_some t a w h = rw h.tile_is refl

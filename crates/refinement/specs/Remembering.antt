@@ -51,6 +51,11 @@ pub record LeadsInside (words regions : ℕ) (kept : ℕ → Option Stored) : Ty
 abbrev pub KeepsFields : (ℕ → Option Stored) → (ℕ → Option Stored) → Type 0
 KeepsFields old new = (at : ℕ) (object : Stored) → new at ≡ Some object → (before : Stored) × (old at ≡ Some before) × (fields object ≡ fields before)
 
+-- what is kept now was kept, and each of its fields is nil or what it was
+abbrev pub ClearsFields : (ℕ → Option Stored) → (ℕ → Option Stored) → Type 0
+ClearsFields old new = (at : ℕ) (object : Stored) → new at ≡ Some object → (before : Stored) × (old at ≡ Some before)
+    × ((index target : ℕ) → slice_get (fields object) index ≡ Some (Some target) → slice_get (fields before) index ≡ Some (Some target))
+
 -- a value in a field is nil, or leads into the field's own region, or the field's card is dirty
 abbrev pub IsNoted : ℕ → ℕ → (ℕ → Bool) → ℕ → Option ℕ → Type 0
 IsNoted words card_words dirty word None = ⊤

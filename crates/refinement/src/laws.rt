@@ -4,18 +4,21 @@
 //! ```text
 //!   a new heap, which keeps nothing; a new object                   kept_law
 //!   a stored data word; fewer objects are kept                      fields_law, kept_law
-//!   a stored pointer                                                store_law
+//!   a stored pointer or weak slot                                   store_law
+//!   marking ends: fewer objects are kept, weak slots are cleared    cleared_law
 //!   a card becomes dirty; a card is added to a set                  more_law
 //!   a region's set is cleared, and the region is released           fields_law, release_law
 //! ```
 
 ghost use Rattle.std.specs.Prelude.{◌≡◌, ◌≢◌, ℕ, ◌/◌, ◌<◌, Bool, true, false, List, Option, Some, None, if◌then◌else◌, length};
 ghost use Rattle.heap_model.specs.Heap.{fields, Heap, IsClosed, Stored};
+ghost use Rattle.heap_model.specs.Marking.{Marking};
+ghost use Rattle.heap_model.specs.Weak.{cleared_after};
 ghost use Rattle.regions.specs.Table.{Table};
 ghost use Rattle.mark_bitmap.specs.Tops.{Tops, is_in_region};
 ghost use Rattle.mark_bitmap.specs.Kept.{heap_in, kept_in};
 ghost use Rattle.remembered_sets.specs.Sets.{Sets, covers};
-ghost use Rattle.refinement.specs.Remembering.{field_card, field_word, AddsNil, Gains, IsCrossing, IsNoted, KeepsFields, LeadsInside, NoneLeadsInto, Remembers, SetsField};
+ghost use Rattle.refinement.specs.Remembering.{field_card, field_word, AddsNil, ClearsFields, Gains, IsCrossing, IsNoted, KeepsFields, LeadsInside, NoneLeadsInto, Remembers, SetsField};
 ghost use Rattle.refinement.specs.Refining.{AddsCard};
 
 /// Where nothing is kept, all is remembered. So it is where what is kept now was kept with the same fields: where fewer
@@ -37,6 +40,16 @@ pub fn fields_law()
         → ((a : ℕ) → kept' a ≡ (if gone a then None else kept a)) → KeepsFields kept kept' }
     ensures values { (kept kept' : ℕ → Option Stored) (at : ℕ) (before after : Stored)
         → kept at ≡ Some before → kept' at ≡ Some after → fields after ≡ fields before → ((a : ℕ) → a ≢ at → kept' a ≡ kept a) → KeepsFields kept kept' }
+{}
+
+/// What is kept now was kept, and each of its fields is nil or what it was: what was remembered still is. So it is once
+/// marking is over, where weak slots are cleared.
+pub fn cleared_law()
+    ensures remembers { (words card_words : ℕ) (kept kept' : ℕ → Option Stored) (dirty : ℕ → Bool) (covered : ℕ → ℕ → Bool)
+        → ClearsFields kept kept' → Remembers words kept card_words dirty covered → Remembers words kept' card_words dirty covered }
+    ensures inside { (words regions : ℕ) (kept kept' : ℕ → Option Stored)
+        → ClearsFields kept kept' → LeadsInside words regions kept → LeadsInside words regions kept' }
+    ensures over { (h : Heap) (m : Marking) (kept' : ℕ → Option Stored) → ((a : ℕ) → kept' a ≡ cleared_after h m a) → ClearsFields h.kept kept' }
 {}
 
 /// A field gets a value that is nil, or leads into the field's own region, or the field's card is dirty afterwards.

@@ -1,4 +1,5 @@
-//! Refinement: the pointers of a dirty card enter the remembered sets of the regions that they lead into.
+//! Refinement: the fields of a dirty card, pointers and weak slots, enter the remembered sets of the regions that they lead
+//! into.
 //!
 //! A card is a row of words, and a region is a whole number of cards. A field is crossing if it is one of a kept object
 //! and leads into another region than the field's word lies in. Crossing fields are remembered: the card of each is

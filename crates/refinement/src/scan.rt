@@ -13,16 +13,8 @@
 
 ghost use Rattle.std.specs.Prelude.{◌≡◌, ◌≢◌, ◌↔◌, true, ℕ, ◌+◌, ◌*◌, ◌/◌, ◌<◌, ◌≤◌, Option, Some, IsSome, IsTrue, length, slice_get};
 ghost use Rattle.heap_model.specs.Heap.{Stored};
-<<<<<<< HEAD
-ghost use Rattle.regions.specs.Table.{object_at, fields_at, tile_in};
-ghost use Rattle.regions.specs.Walks.{IsPlacedTile};
-||||||| 3906014
-ghost use Rattle.regions.specs.Table.{object_at, pointers_at, tile_in};
-ghost use Rattle.regions.specs.Walks.{IsPlacedTile};
-=======
 ghost use Rattle.regions.specs.Table.{object_at, fields_at};
 ghost use Rattle.regions.specs.Walks.{IsHolder, IsPlacedTile};
->>>>>>> main
 ghost use Rattle.mark_bitmap.specs.Kept.{kept_in};
 ghost use Rattle.remembered_sets.specs.Sets.{card_count, covers};
 ghost use Rattle.refinement.specs.Remembering.{field_word, Gains, IsCovered};

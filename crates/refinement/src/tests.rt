@@ -25,8 +25,8 @@ use remembered_sets::RememberedSets;
 use std::alloc::Global;
 use std::test::Fail;
 
-/// Puts an object with nil pointers and no data at the top of an ordinary region, if there is room.
-fn add(table: &mut RegionTable, region: u32, pointers: u32)
+/// Puts an object with nil fields and no data at the top of an ordinary region, if there is room.
+fn add(table: &mut RegionTable, region: u32, pointers: u32, weaks: u8)
     requires small { pointers < 2 ^ 16 }
     requires sample { IsSample table.old }
     ensures sample { IsSample table.new }
@@ -39,13 +39,14 @@ fn add(table: &mut RegionTable, region: u32, pointers: u32)
     if table.kind(region) != Kind::Ordinary {
         return;
     }
-    if !table.has_room(region, 2 + pointers) {
+    let words = 2 + pointers + u32::from(weaks);
+    if !table.has_room(region, words) {
         return;
     }
-    let size = FillerSize::new(2 + pointers);
+    let size = FillerSize::new(words);
     let counts = Counts {
         pointers: Count::new(pointers),
-        weaks: 0,
+        weaks,
         values: Count::new(0),
     };
     let at = table.push_filler(region, size);
@@ -89,10 +90,10 @@ fn link(table: &mut RegionTable, from: u32, field: u32, to: u32)
     let Some(at) = table.first_tile(Addr::new(from)) else {
         return;
     };
-    let Shape::Object { pointers, .. } = table.tile(at) else {
+    let Shape::Object { .. } = table.tile(at) else {
         return;
     };
-    if field < pointers.get() {
+    if field < table.field_count(at) {
         table.set_field(at, field, Some(Addr::new(to)));
     }
 }
@@ -124,16 +125,36 @@ fn five_objects(alloc: Global) -> Result<RegionTable, Fail>
     take(&mut table);
     take(&mut table);
     take(&mut table);
-    add(&mut table, 0, 2);
-    add(&mut table, 0, 3);
-    add(&mut table, 0, 2);
-    add(&mut table, 1, 0);
-    add(&mut table, 2, 0);
+    add(&mut table, 0, 2, 0);
+    add(&mut table, 0, 3, 0);
+    add(&mut table, 0, 2, 0);
+    add(&mut table, 1, 0, 0);
+    add(&mut table, 2, 0, 0);
     link(&mut table, 0, 0, 16);
     link(&mut table, 0, 1, 9);
     link(&mut table, 4, 1, 32);
     link(&mut table, 4, 2, 16);
     link(&mut table, 9, 0, 4);
+    Ok(table)
+}
+
+/// An object at 0 with a pointer and two weak slots, which lead to region 1 and to region 0; and one at 5 with three weak
+/// slots, of which the last two lie in card 1: they lead to region 2, nowhere and to region 1.
+fn weak_objects(alloc: Global) -> Result<RegionTable, Fail>
+    ensures { IfOk result IsSample }
+{
+    let mut table = free_regions(alloc)?;
+    take(&mut table);
+    take(&mut table);
+    take(&mut table);
+    add(&mut table, 0, 1, 2);
+    add(&mut table, 0, 0, 3);
+    add(&mut table, 1, 0, 0);
+    add(&mut table, 2, 0, 0);
+    link(&mut table, 0, 1, 16);
+    link(&mut table, 0, 2, 5);
+    link(&mut table, 5, 0, 32);
+    link(&mut table, 5, 2, 16);
     Ok(table)
 }
 
@@ -145,7 +166,7 @@ fn one_run(alloc: Global) -> Result<RegionTable, Fail>
     let mut table = free_regions(alloc)?;
     take_run(&mut table, 30);
     take(&mut table);
-    add(&mut table, 2, 0);
+    add(&mut table, 2, 0, 0);
     link(&mut table, 0, 0, 0);
     link(&mut table, 0, 1, 32);
     link(&mut table, 0, 13, 0);
@@ -160,11 +181,11 @@ fn small_objects(alloc: Global) -> Result<RegionTable, Fail>
 {
     let mut table = free_regions(alloc)?;
     take(&mut table);
-    add(&mut table, 0, 0);
-    add(&mut table, 0, 0);
-    add(&mut table, 0, 0);
-    add(&mut table, 0, 0);
-    add(&mut table, 0, 0);
+    add(&mut table, 0, 0, 0);
+    add(&mut table, 0, 0, 0);
+    add(&mut table, 0, 0, 0);
+    add(&mut table, 0, 0, 0);
+    add(&mut table, 0, 0, 0);
     Ok(table)
 }
 
@@ -305,6 +326,18 @@ fn skips_dead_objects(rt: HostRuntime) -> Result<(), Fail> {
         assert_eq!(rt; scan(&mut sample, 0), (0, 0, 1));
         assert_eq!(rt; scan(&mut sample, 1), (0, 2, 1));
     }
+    Ok(())
+}
+
+/// Weak slots are fields behind the pointers: in card 0 one leads to region 1 and one, the last word, to region 2, and in card
+/// 1 one leads to region 1. Those of the object at 0 ask for nothing once it is dead.
+#[test]
+fn scans_weak_slots(rt: HostRuntime) -> Result<(), Fail> {
+    let mut sample = over(rt.alloc(), weak_objects(rt.alloc())?, 0)?;
+    assert_eq!(rt; scan(&mut sample, 1), (0, 2, 0));
+    assert_eq!(rt; scan(&mut sample, 0), (0, 3, 1));
+    let mut sample = over(rt.alloc(), weak_objects(rt.alloc())?, 5)?;
+    assert_eq!(rt; scan(&mut sample, 0), (0, 0, 1));
     Ok(())
 }
 

@@ -1,5 +1,5 @@
 use Rattle.std.proofs.Common.{sym, ◌∙◌}
-use Rattle.marker.proofs.Samples.{linked_closed, object_kept}
+use Rattle.marker.proofs.Samples.{linked_closed, none_below, object_kept}
 use Rattle.marker.proofs.tests.begun.Goals as goal
 
 pub begin-requires-clause-closed : goal.begin-requires-clause-closed
@@ -12,3 +12,7 @@ returns-clause-kept c = λ a h.
 
 pub begin-requires-clause-stands : goal.begin-requires-clause-stands
 begin-requires-clause-stands c = c.in_ok-marker.ensures.stands c.args.table.now (c.requires.count ∙ sym c.sizes.ensures.regions) (c.requires.words ∙ sym c.sizes.ensures.words)
+
+pub returns-clause-all_kept : goal.returns-clause-all_kept
+returns-clause-all_kept c =
+    none_below c.args.table.now c.in_ok-marker.marker c.begin.new.self (λ b. c.in_ok-marker.ensures.all_kept c.args.table.now b (c.requires.words ∙ sym c.sizes.ensures.words)) c.begin.ensures.previous_tops

@@ -18,6 +18,6 @@ returns c =
     let room : used_of c.args.table.now c.new-region.result + c.new-size.result ≤ c.args.table.now.words_per_region = search rules in
     let e = rw (c.new.ensures, c.new-2.ensures) at c.make_object.ensures in
     record {
-      sample = add_sample c.args.table.now c.push_filler-at.new.self c.make_object.new.self c.new-region.result c.push_filler-at.result c.new-size.result c.args.pointers 7
-          c.law.ensures c.law-2.ensures known ordinary room c.new-size.ensures c.push_filler-at.ensures.at c.push_filler-at.ensures.pushed e c.requires.sample;
+      sample = add_sample c.args.table.now c.push_filler-at.new.self c.make_object.new.self c.new-region.result c.push_filler-at.result c.new-size.result c.args.pointers c.args.weaks 7
+          c.law.ensures c.law-2.ensures known ordinary room (omega (arith, c.new-size.ensures)) c.push_filler-at.ensures.at c.push_filler-at.ensures.pushed e c.requires.sample;
     }

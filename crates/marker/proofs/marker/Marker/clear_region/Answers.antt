@@ -19,4 +19,4 @@ next_tile-left-requires c =
 pub loop-left-preserved : goal.loop-left-preserved
 loop-left-preserved c =
     let same = same_marking c.args.table.now c.loop-left.table c.args.self.now c.loop-left.invariant.some.size in
-    tile_done _ _ _ _ _ _ _ _ _ same c.in-Some.is c.loop-left.invariant c.clear_tile.ensures c.next_tile-left.ensures
+    tile_done _ _ _ _ _ _ _ _ _ same c.in-Some.is c.loop-left.invariant c.clear_tile.ensures c.next_tile-left.ensures.next c.next_tile-left.ensures.last

@@ -1,20 +1,10 @@
-<<<<<<< HEAD
-use Rattle.std.proofs.Common.{false, refl, sym, ap, subst, ◌∙◌}
+use Rattle.std.proofs.Common.{◌+◌, false, refl, sym, ap, ◌∙◌, subst, Bool, List}
 use Rattle.heap_model.specs.Marking.{Marking}
-use Rattle.marker.specs.Clears.{ClearsTable}
-use Rattle.marker.specs.declared.marker.Marker.{Marker}
-use Rattle.mark_bitmap.specs.Marks.{marked_count}
-use Rattle.marker.proofs.Ended.{over, done_count, exchanged_stands, exchanged_marking, ends_exactly}
-||||||| 3906014
-use Rattle.std.proofs.Common.{refl, sym, ap, ◌∙◌}
-use Rattle.mark_bitmap.specs.Marks.{marked_count}
-use Rattle.marker.proofs.Ended.{over, done_count, exchanged_stands, ends_exactly}
-=======
-use Rattle.std.proofs.Common.{◌+◌, refl, sym, ap, ◌∙◌, subst, Bool, List}
 use Rattle.mark_bitmap.specs.Marks.{is_marked, marked_count}
+use Rattle.marker.specs.Clears.{ClearsTable}
 use Rattle.marker.specs.Counts.{ScanTotals, IsMore}
-use Rattle.marker.proofs.Ended.{over, done_count, exchanged_stands, ends_exactly}
->>>>>>> main
+use Rattle.marker.specs.declared.marker.Marker.{Marker}
+use Rattle.marker.proofs.Ended.{over, done_count, exchanged_stands, exchanged_marking, ends_exactly}
 use Rattle.marker.proofs.marker.Marker.finish.Goals as goal
 
 pub clear_weaks-requires : goal.clear_weaks-requires
@@ -30,8 +20,7 @@ pub returns-clause-exact : goal.returns-clause-exact
 returns-clause-exact c =
     let p = over c.args.table.now c.args.self.now c.take_logs.new.self c.mark.new.self c.mark.result c.law.ensures c.requires.running c.take_logs.ensures.same c.take_logs.ensures.snapshots c.take_logs.ensures.emptied
     c.mark.ensures.stands c.mark.ensures.same c.mark.ensures.snapshots c.mark.ensures.logs c.mark.ensures.count c.mark.ensures.none_left in
-<<<<<<< HEAD
-    ends_exactly c.args.table.now c.clear_weaks.new.table c.args.self.now c.mark.new.self _ _ p c.clear_weaks.ensures (record { previous = c.swap_roles.ensures.previous; next = c.swap_roles.ensures.next; tams = c.swap_roles-2.ensures; grey = refl; logs = refl; off = refl }) (done_count c.args.table.now c.mark.new.self p.stands p.running p.done)
+    rw c.since-count.ensures (ends_exactly c.args.table.now c.clear_weaks.new.table c.args.self.now c.mark.new.self _ _ p c.clear_weaks.ensures (record { previous = c.swap_roles.ensures.previous; next = c.swap_roles.ensures.next; tams = c.swap_roles-2.ensures; grey = refl; logs = refl; off = refl }) (done_count c.args.table.now c.mark.new.self p.stands p.running p.done))
 
 pub returns-clause-cleared : goal.returns-clause-cleared
 returns-clause-cleared c =
@@ -44,11 +33,6 @@ returns-clause-cleared c =
       scans = c.mark.new.self.scans;
     } in
     subst (λ (m : Marking). ClearsTable m c.args.table.now c.clear_weaks.new.table) (sym (exchanged_marking c.args.table.now c.mark.new.self last (record { previous = c.swap_roles.ensures.previous; next = c.swap_roles.ensures.next; tams = c.swap_roles-2.ensures; grey = refl; logs = refl; off = refl }))) c.clear_weaks.ensures
-||||||| 3906014
-    ends_exactly c.args.table.now c.args.self.now c.mark.new.self _ _ p (record { previous = c.swap_roles.ensures.previous; next = c.swap_roles.ensures.next; tams = c.swap_roles-2.ensures; grey = refl; logs = refl; off = refl }) (done_count c.args.table.now c.mark.new.self p.stands p.running p.done)
-=======
-    rw c.since-count.ensures (ends_exactly c.args.table.now c.args.self.now c.mark.new.self _ _ p (record { previous = c.swap_roles.ensures.previous; next = c.swap_roles.ensures.next; tams = c.swap_roles-2.ensures; grey = refl; logs = refl; off = refl }) (done_count c.args.table.now c.mark.new.self p.stands p.running p.done))
->>>>>>> main
 
 pub returns-clause-count : goal.returns-clause-count
 returns-clause-count c =

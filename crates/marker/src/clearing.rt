@@ -1,10 +1,20 @@
-//! The clearing of weak slots, when all that will be marked is marked.
+//! The clearing of weak slots, at the end of marking.
+//!
+//! A weak slot is a field that marking doesn't follow, so an object that weak slots alone lead to is found dead. While
+//! marking runs, a mutator that reads one saves what it read, which is marked for it. Once all is marked that will be,
+//! each slot of an object that stays either leads to what stays too, or becomes nil; the target's space can be
+//! reclaimed only after that.
 //!
 //! ```text
-//!   an object that is marked or new   its weak slots   nil, or what is marked or new     stays
-//!                                                      what is old and unmarked          nil
-//!   another object                    is dead: its slots stay
+//!                    made      marking runs          marking ends                          later
+//!   a weak slot      nil --->  stored and read as -> its target is marked, or new: stays    it holds what is kept
+//!                              a pointer is; what    its target is old and unmarked: nil    or nil
+//!                              is read is saved
+//!   of a dead object                                 stays, and is reclaimed with it
 //! ```
+//!
+//! New is what was made since marking began. Only regions that have objects with weak slots are looked at, each of their
+//! tiles once: where there is no weak slot, nothing is walked.
 
 ghost use Rattle.std.specs.Prelude.{◌≡◌, ◌<◌, ◌⊎◌, ◌↔◌, true, false, IsSome, IsTrue, length};
 ghost use Rattle.heap_model.specs.Weak.{cleared_word};
@@ -87,13 +97,16 @@ impl Marker {
         }
     }
 
-    /// Clears the weak slots of all objects that stay.
+    /// Clears the weak slots of all objects that stay. It looks at the regions that have objects with weak slots alone.
     pub(crate) fn clear_weaks(&self, table: &mut RegionTable)
         requires { MarksObjects table.old self.now.tams.next self.now.bitmaps.next }
         ensures { ClearsTable (marking_of table.old self.now) table.old table.new }
     {
-        for number in 0..table.region_count() {
+        table.law();
+        let mut left = table.next_with_weaks(0);
+        while let Some(number) = left {
             self.clear_region(table, RegionNo::new(number));
+            left = table.next_with_weaks(number + 1);
         }
     }
 }
