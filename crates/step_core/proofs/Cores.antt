@@ -1,7 +1,9 @@
 pub mod Sizes
+pub mod Resting
 pub mod Remembering
 pub mod Added
 pub mod Layers
 pub mod Keeping
+pub mod Snapshots
 pub mod Following
 pub mod Beginning

@@ -1,4 +1,5 @@
 pub mod Cycling
+pub mod Remarked
 pub mod Forgetting
 pub mod Releasing
 pub mod Cleaning

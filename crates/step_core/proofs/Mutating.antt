@@ -1,4 +1,5 @@
 pub mod Small
+pub mod Fields
 pub mod Reading
 pub mod Written
 pub mod Acting
@@ -7,3 +8,5 @@ pub mod Storing
 pub mod Stored
 pub mod Noting
 pub mod Creating
+pub mod WeakStoring
+pub mod Touching

@@ -2,23 +2,27 @@
 use Rattle.std.specs.Prelude.{◌≡◌, ℕ, Some, None}
 use Rattle.heap_words.specs.Sizes.{size_of}
 use Rattle.heap_model.specs.Graph.{Graph, next_name}
-use Rattle.object_graph.specs.Machine.{act}
+use Rattle.object_graph.specs.Machine.{Outcome, act}
+use Rattle.object_graph.specs.State.{State}
 use Rattle.object_graph.specs.Run.{Happens}
 use Rattle.object_graph.specs.declared.step.Action.{Action}
 use Rattle.object_graph.specs.declared.step.Action.TheVariants as actions
 use Rattle.object_graph.specs.declared.step.Step.{Step}
 use Rattle.object_graph.specs.declared.step.Step.TheVariants as steps
-use Rattle.object_graph.specs.declared.step.CollectorStep.TheVariants as collector
 use Rattle.object_graph.specs.declared.step.Reply.{Reply}
 use Rattle.object_graph.specs.declared.step.Reply.TheVariants as replies
 use Rattle.object_graph.specs.declared.step.Refusal.TheVariants as refusals
 use Rattle.alloc_buffers.specs.Placement.{place_of}
-use Rattle.step_core.specs.Stands.{CoreState, State, ShowsGraph, Stands}
+use Rattle.step_core.specs.Stands.{CoreState, ShowsGraph, Stands}
+
+-- the reply is an outcome's, and the core shows the outcome's graph
+pub record Yields (out : Outcome) (reply : Reply) (c : CoreState) : Type 0 where
+  pub reply_is : reply ≡ out.0
+  pub shows : ShowsGraph out.1 c
 
 -- the reply is the graph's, and the core shows the graph after it
-pub record Acts (g : Graph) (m : ℕ) (a : Action) (reply : Reply) (c : CoreState) : Type 0 where
-  pub reply_is : reply ≡ (act g m a).0
-  pub shows : ShowsGraph (act g m a).1 c
+abbrev pub Acts : Graph → ℕ → Action → Reply → CoreState → Type 0
+Acts g m a reply c = Yields (act g m a) reply c
 
 -- placement finds no place for so many words
 abbrev pub HasNoPlace : CoreState → ℕ → ℕ → Type 0
@@ -26,7 +30,8 @@ HasNoPlace c m size = place_of c.table c.buffers m size ≡ None
 
 -- the graph creates an object, and the heap has no place for it
 abbrev pub IsFull : Graph → ℕ → Action → CoreState → Type 0
-IsFull g m (actions.New to counts) c = ((act g m (actions.New to counts)).0 ≡ replies.Named (Some (next_name g))) × HasNoPlace c m (size_of counts.pointers counts.values)
+IsFull g m (actions.New to counts) c = ((act g m (actions.New to counts)).0 ≡ replies.Named (Some (next_name g))) × HasNoPlace c m (size_of counts.pointers 0 counts.values)
+IsFull g m (actions.NewWeak to counts weaks) c = ((act g m (actions.NewWeak to counts weaks)).0 ≡ replies.Named (Some (next_name g))) × HasNoPlace c m (size_of counts.pointers weaks counts.values)
 IsFull g m _ c = ⊥
 
 -- the same of a step: the collector creates nothing
@@ -40,17 +45,8 @@ pub record RepliesFull (g : Graph) (m : ℕ) (a : Action) (c : CoreState) (reply
   pub full : IsFull g m a c
   pub same : c' ≡ c
 
--- the snapshot after a step: the present graph where marking begins
-abbrev pub snapshot_after : State → Step → Reply → Graph
-snapshot_after s (steps.Collector collector.Begin) replies.Done = s.graph
-snapshot_after s _ _ = s.snapshot
-
--- the state after a step that leads to this graph
-abbrev pub state_after : State → Step → Reply → Graph → State
-state_after s step reply after = record { graph = after; snapshot = snapshot_after s step reply }
-
--- the step takes the graph to another one, and the core stands for the state after it
+-- the step takes the state to another one, for which the core stands
 pub record Follows (s : State) (step : Step) (reply : Reply) (c : CoreState) : Type 0 where
-  pub after : Graph
-  pub happens : Happens s.graph step reply after
-  pub stands : Stands (state_after s step reply after) c
+  pub after : State
+  pub happens : Happens s step reply after
+  pub stands : Stands after c

@@ -11,7 +11,10 @@ use Rattle.mark_bitmap.specs.Marks.{is_marked, marked_count, HasNone}
 use Rattle.mark_bitmap.specs.Tops.{exchanged, is_in_region}
 use Rattle.mark_bitmap.specs.Grey.{is_grey}
 use Rattle.mark_bitmap.specs.Live.{live_bound_of}
+use Rattle.heap_model.specs.Weak.{Clears}
+use Rattle.marker.specs.Clears.{ClearsTable}
 use Rattle.marker.specs.Ends.{EndsMarking}
+use Rattle.marker.specs.Views as views
 use Rattle.marker.specs.Counts.{IsMore, restarted}
 use Rattle.marker.specs.Steps.{Grows, SameRoles, ScansMore}
 use Rattle.remembered_sets.specs.Sets.{empty_set, set_of}
@@ -22,7 +25,8 @@ use Rattle.object_graph.specs.declared.step.Step.TheVariants as steps
 use Rattle.object_graph.specs.declared.step.Reply.{Reply}
 use Rattle.object_graph.specs.declared.step.Reply.TheVariants as replies
 use Rattle.object_graph.specs.declared.step.Refusal.TheVariants as refusals
-use Rattle.step_core.specs.Stands.{CoreState, kept_of, heap_of, marking_of, State, Stands}
+use Rattle.object_graph.specs.State.{State, ForSnapshot}
+use Rattle.step_core.specs.Stands.{CoreState, kept_of, heap_of, marking_of, ShowsGraph, Stands}
 use Rattle.step_core.specs.Mutators.{ActsOn}
 use Rattle.region_choice.specs.declared.LiveRow.{LiveRow}
 use Rattle.evacuation.specs.Evacuates.{is_chosen}
@@ -73,13 +77,21 @@ pub record HasMarked (k : ℕ) (c c' : CoreState) : Type 0 where
   pub roles : SameRoles c.marker c'.marker
   pub logs : c'.marker.logs ≡ c.marker.logs
 
+-- the core shows the graph with its weak slots cleared by the snapshot
+pub record ShowsCleared (s g : Graph) (c : CoreState) : Type 0 where
+  pub after : Graph
+  pub clears : Clears s g after
+  pub shows : ShowsGraph after c
+
 -- Marking is over. The names marked are those that were reachable in the snapshot, n of them, each scanned once; what
--- is kept from now on is those and what was made since, and where the snapshot is still the graph, what is reachable
+-- is kept from now on is those and what was made since, and where the snapshot is still the graph, what is reachable. Weak slots
+-- that lead to what was neither marked nor made since are nil now, and nothing else of the table changed
 pub record HasRemarked (n : ℕ) (c c' : CoreState) : Type 0 where
-  pub same : c' ≡ record c { marker = c'.marker }
+  pub same : c' ≡ record c { table = c'.table; marker = c'.marker }
   pub over : c'.marker.running ≡ false
-  pub ends : (s : State) → Stands s c → EndsMarking s.snapshot s.graph c.table c.roots c.marker c'.marker n
-  pub quiet : (g : Graph) → Stands (record { graph = g; snapshot = g }) c → (a : ℕ) (x : Stored) → kept_of c' a ≡ Some x → IsReachable g x.name
+  pub cleared : ClearsTable (views.marking_of c.table (views.with_roles_exchanged c'.marker)) c.table c'.table
+  pub ends : (s : State) → Stands s c → ForSnapshot s.snapshot (λ taken. EndsMarking taken s.graph c.table c'.table c.roots c.marker c'.marker n)
+  pub quiet : (g : Graph) → Stands (record { graph = g; snapshot = Some g }) c → (a : ℕ) (x : Stored) → kept_of c' a ≡ Some x → IsReachable g x.name
   pub scans : c'.marker.scans.since ≡ n
   pub counted : c'.marker.scans.since ≡ marked_count c'.marker.grey.scanned
   pub work : ScansMore c.marker c'.marker

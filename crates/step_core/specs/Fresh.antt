@@ -1,14 +1,13 @@
--- The core of a new heap, and what it stands for.
+-- The core of a new heap.
 use Rattle.std.specs.Prelude.{◌+◌, ◌*◌, ◌/◌, None, replicate}
 use Rattle.heap_words.specs.declared.config.Config.{Config}
 use Rattle.heap_words.specs.Configs.{card_words}
-use Rattle.object_graph.specs.State.{first_state}
 use Rattle.regions.specs.Table.{free_table}
 use Rattle.alloc_buffers.specs.Placement.{closed}
 use Rattle.marker.specs.Views.{fresh_marker}
 use Rattle.cards.specs.Cards.{clean_cards}
 use Rattle.remembered_sets.specs.Sets.{empty_sets}
-use Rattle.step_core.specs.Stands.{CoreState, State}
+use Rattle.step_core.specs.Stands.{CoreState}
 
 -- every region is free, no buffer open, nothing marked, each card clean, each set empty and each root nil
 abbrev pub fresh_core : Config → CoreState
@@ -24,7 +23,3 @@ fresh_core c = record {
   roots = replicate (16 + 8 * c.mutators) None;
   next = c.first_name;
 }
-
--- the graph of a new heap, which is its first snapshot too
-abbrev pub fresh_state : Config → State
-fresh_state c = record { graph = first_state c; snapshot = first_state c }

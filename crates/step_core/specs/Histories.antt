@@ -1,4 +1,4 @@
--- The cores and graphs of a run.
+-- The cores and states of a run.
 use Rattle.std.specs.Prelude.{◌≡◌, ◌↔◌, List, [], ◌∷◌}
 use Rattle.heap_words.specs.declared.config.Config.{Config}
 use Rattle.heap_words.specs.Configs.{Suits, IsFirstFault}
@@ -12,9 +12,10 @@ use Rattle.object_graph.specs.declared.step.Refusal.TheVariants as refusals
 use Rattle.cards.specs.Cards.{ListsDirtyOnce}
 use Rattle.step_core.specs.declared.runs.RunFault.{RunFault}
 use Rattle.step_core.specs.declared.runs.RunFault.TheVariants as faults
-use Rattle.step_core.specs.Stands.{CoreState, State, Stands, IsCore, IsWhole}
-use Rattle.step_core.specs.Fresh.{fresh_core, fresh_state}
-use Rattle.step_core.specs.Answers.{Follows, IsFullStep, state_after}
+use Rattle.object_graph.specs.State.{State, first_state}
+use Rattle.step_core.specs.Stands.{CoreState, Stands, IsCore, IsWhole}
+use Rattle.step_core.specs.Fresh.{fresh_core}
+use Rattle.step_core.specs.Answers.{Follows, IsFullStep}
 use Rattle.step_core.specs.Cycle.{Does}
 
 -- An event takes a core that stands for a state to the next. The reply is Full exactly where there is no place; the next core
@@ -25,12 +26,12 @@ pub record Passes (s : State) (c : CoreState) (e : Event) (c' : CoreState) : Typ
   pub full : (e.reply ≡ replies.Refused refusals.Full) ↔ IsFullStep s.graph e.step c
   pub core : IsCore c'
   pub listed : ListsDirtyOnce c'.cards
-  pub whole : IsWhole follows.after c'
+  pub whole : IsWhole follows.after.graph c'
 
 -- states and cores between the events: each core stands for its state
 abbrev pub IsHistory : State → CoreState → List Event → State → CoreState → Type 0
 IsHistory s c [] s' c' = (s' ≡ s) × (c' ≡ c)
-IsHistory s c (e ∷ es) s' c' = (mid : CoreState) × (p : Passes s c e mid) × IsHistory (state_after s e.step e.reply p.follows.after) mid es s' c'
+IsHistory s c (e ∷ es) s' c' = (mid : CoreState) × (p : Passes s c e mid) × IsHistory p.follows.after mid es s' c'
 
 -- a history from a state and a core on, to some state for which the last core stands
 pub record Runs (s : State) (c : CoreState) (es : List Event) (c' : CoreState) : Type 0 where
@@ -38,11 +39,11 @@ pub record Runs (s : State) (c : CoreState) (es : List Event) (c' : CoreState) :
   pub stands : Stands last c'
   pub history : IsHistory s c es last c'
 
--- the events of a new heap, up to a core: a history from the new core on, which stands for the first graph
+-- the events of a new heap, up to a core: a history from the new core on, which stands for the first state
 pub record RunsTo (config : Config) (es : List Event) (c : CoreState) : Type 0 where
   pub core : IsCore (fresh_core config)
-  pub stands : Stands (fresh_state config) (fresh_core config)
-  pub runs : Runs (fresh_state config) (fresh_core config) es c
+  pub stands : Stands (first_state config) (fresh_core config)
+  pub runs : Runs (first_state config) (fresh_core config) es c
 
 -- the same, up to some core
 abbrev pub RunsFromNew : Config → List Event → Type 0

@@ -1,8 +1,8 @@
 -- What each step of a mutator does to a core, exactly.
-use Rattle.std.specs.Prelude.{◌≡◌, ℕ, ◌+◌, ◌/◌, ◌==◌, Option, Some, None, if◌then◌else◌, slice_index_or, slice_set, unwrap_or}
+use Rattle.std.specs.Prelude.{◌≡◌, ℕ, ◌+◌, ◌/◌, ◌==◌, Option, Some, None, if◌then◌else◌, length, slice_index_or, slice_set, unwrap_or}
 use Rattle.heap_words.specs.Sizes.{size_of}
 use Rattle.heap_words.specs.Configs.{card_words}
-use Rattle.regions.specs.Table.{pointers_at, set_pointer, set_value, new_object}
+use Rattle.regions.specs.Table.{pointers_at, weaks_at, set_pointer, set_weak, set_value, new_object}
 use Rattle.alloc_buffers.specs.Placement.{Placement, place_of, made_at, address_of}
 use Rattle.marker.specs.Steps.{Overwrites}
 use Rattle.marker.specs.declared.marker.Marker.{Marker}
@@ -31,7 +31,15 @@ object_of c m r = unwrap_or (register_of c m r) 0
 abbrev pub pointer_of : CoreState → ℕ → ℕ → Option ℕ
 pointer_of c a i = slice_index_or (pointers_at c.table a) i None
 
--- what put stores: nil, or what a register holds
+-- what an object's weak slot holds
+abbrev pub weak_of : CoreState → ℕ → ℕ → Option ℕ
+weak_of c a i = slice_index_or (weaks_at c.table a) i None
+
+-- the field as which a weak slot counts: behind the object's pointers
+abbrev pub weak_field : CoreState → ℕ → ℕ → ℕ
+weak_field c a i = length (pointers_at c.table a) + i
+
+-- what is stored: nil, or what a register holds
 abbrev pub value_of : CoreState → ℕ → Option Register → Option ℕ
 value_of c m None = None
 value_of c m (Some r) = register_of c m r
@@ -40,7 +48,7 @@ value_of c m (Some r) = register_of c m r
 abbrev pub with_root_word : CoreState → ℕ → Option ℕ → CoreState
 with_root_word c place w = record c { roots = slice_set c.roots place w }
 
--- the cards once a pointer is stored in a word: the word's card is dirty if it leads into another region than the word's
+-- the cards once a value is stored in a field's word: the word's card is dirty if it leads into another region than the word's
 abbrev pub noted : CoreState → ℕ → ℕ → Option ℕ → Cards
 noted c m word None = c.cards
 noted c m word (Some target) = if target / c.table.words_per_region == word / c.table.words_per_region then c.cards else dirtied c.cards m (word / card_words c.config)
@@ -49,19 +57,27 @@ noted c m word (Some target) = if target / c.table.words_per_region == word / c.
 abbrev pub with_pointer : CoreState → ℕ → ℕ → ℕ → Option ℕ → CoreState
 with_pointer c m a i w = record c { table = set_pointer c.table a i w; cards = noted c m (field_word a i) w }
 
+-- the core with a weak slot of an object changed
+abbrev pub with_weak : CoreState → ℕ → ℕ → ℕ → Option ℕ → CoreState
+with_weak c m a i w = record c { table = set_weak c.table a i w; cards = noted c m (field_word a (weak_field c a i)) w }
+
 -- the core with a new object in its place, which a root place names
-abbrev pub with_made : CoreState → ℕ → Counts → Option Placement → CoreState
-with_made c place counts None = c
-with_made c place counts (Some x) = record c {
-  table = made_at x.table x.place (new_object c.next counts.pointers counts.values);
+abbrev pub with_made : CoreState → ℕ → Counts → ℕ → Option Placement → CoreState
+with_made c place counts weaks None = c
+with_made c place counts weaks (Some x) = record c {
+  table = made_at x.table x.place (new_object c.next counts.pointers weaks counts.values);
   buffers = x.buffers;
   roots = slice_set c.roots place (Some (address_of x.table x.place));
   next = c.next + 1;
 }
 
+-- the core once an object is made
+abbrev pub after_new : CoreState → ℕ → Register → Counts → ℕ → CoreState
+after_new c m to counts weaks = with_made c (register_place m to.number) counts weaks (place_of c.table c.buffers m (size_of counts.pointers weaks counts.values))
+
 -- the core after a step that isn't refused, but for its marker
 abbrev pub core_after : CoreState → ℕ → Action → CoreState
-core_after c m (actions.New to counts) = with_made c (register_place m to.number) counts (place_of c.table c.buffers m (size_of counts.pointers counts.values))
+core_after c m (actions.New to counts) = after_new c m to counts 0
 core_after c m (actions.Get to object i) = with_root_word c (register_place m to.number) (pointer_of c (object_of c m object) i)
 core_after c m (actions.Put object i value) = with_pointer c m (object_of c m object) i (value_of c m value)
 core_after c m (actions.Read object i) = c
@@ -71,10 +87,15 @@ core_after c m (actions.Drop register) = with_root_word c (register_place m regi
 core_after c m (actions.Load to from) = with_root_word c (register_place m to.number) (root_of c from.number)
 core_after c m (actions.Save to from) = with_root_word c to.number (register_of c m from)
 core_after c m (actions.Shape object) = c
+core_after c m (actions.NewWeak to counts weaks) = after_new c m to counts weaks
+core_after c m (actions.GetWeak to object i) = with_root_word c (register_place m to.number) (weak_of c (object_of c m object) i)
+core_after c m (actions.PutWeak object i value) = with_weak c m (object_of c m object) i (value_of c m value)
+core_after c m (actions.Weaks object) = c
 
--- the marker after it: a put saves the pointer that it overwrites, and no other step concerns the marker
+-- the marker after it: a put saves the pointer that it overwrites, a getweak what it reads, and no other step concerns the marker
 abbrev pub MarkerAfter : CoreState → ℕ → Action → Marker → Type 0
 MarkerAfter c m (actions.Put object i value) m' = Overwrites c.marker.running c.table m (pointer_of c (object_of c m object) i) c.marker m'
+MarkerAfter c m (actions.GetWeak to object i) m' = Overwrites c.marker.running c.table m (weak_of c (object_of c m object) i) c.marker m'
 MarkerAfter c m _ m' = m' ≡ c.marker
 
 pub record HasActed (m : ℕ) (a : Action) (c c' : CoreState) : Type 0 where

@@ -1,11 +1,12 @@
--- A core, and the graph that it stands for.
-use Rattle.std.specs.Prelude.{◌≡◌, ℕ, ◌+◌, ◌-◌, ◌*◌, ◌/◌, ◌^◌, ◌<◌, ◌≤◌, ⊤, List, Option, Some, None, length, slice_get, slice_index, true}
+-- A core, and the graph and snapshot that it stands for.
+use Rattle.std.specs.Prelude.{◌≡◌, ℕ, ◌+◌, ◌-◌, ◌*◌, ◌/◌, ◌^◌, ◌<◌, ◌≤◌, ⊤, List, Option, Some, None, length, slice_get, slice_index, true, false}
 use Rattle.std.specs.List.{AllZip}
 use Rattle.heap_words.specs.declared.config.Config.{Config}
 use Rattle.heap_words.specs.Configs.{Suits, card_words}
-use Rattle.heap_model.specs.Graph.{Graph, Object, next_name, object_named, IsReachable}
+use Rattle.heap_model.specs.Graph.{Graph, Object, next_name, object_named, IsReachable, IsSound}
 use Rattle.heap_model.specs.Heap.{Heap, Stored, Shows, IsShown, IsRoot, StandsOnce}
 use Rattle.heap_model.specs.Marking.{Marking, KeepsSnapshot}
+use Rattle.heap_model.specs.Weak.{KeepsUnreached}
 use Rattle.regions.specs.Tiles as tiles
 use Rattle.regions.specs.Tiles.{tile_size}
 use Rattle.regions.specs.Table.{Table, object_at, object_words, kind_of, HasNoForwarded, AreHalves}
@@ -22,7 +23,8 @@ use Rattle.cards.specs.Cards.{Cards, is_dirty}
 use Rattle.remembered_sets.specs.Sets.{Sets, card_count, covers}
 use Rattle.refinement.specs.Remembering.{Remembers}
 use Rattle.evacuation.specs.Rooms.{RoomSizes}
-use Rattle.object_graph.specs.State.{root_at}
+use Rattle.object_graph.specs.State.{State, IsSoundState, root_at}
+use Rattle.object_graph.specs.Since.{IsSinceState}
 
 pub record CoreState : Type 0 where
   pub config : Config
@@ -70,15 +72,30 @@ pub record KeepsFrom (s : Graph) (c : CoreState) : Type 0 where
   pub earlier : next_name s ≤ c.next
   pub marking : c.marker.running ≡ true → KeepsSnapshot s (heap_of c) (marking_of c)
 
--- what a core stands for: the present graph, and the snapshot, the graph when marking last began
-pub record State : Type 0 where
+-- there is a snapshot exactly while marking runs, and what it needs is kept
+abbrev pub KeepsFor : Option Graph → CoreState → Type 0
+KeepsFor None c = c.marker.running ≡ false
+KeepsFor (Some s) c = (c.marker.running ≡ true) × KeepsFrom s c
+
+-- The core shows the state's graph, and keeps what its snapshot needs. Every name in them is borne by an object; and since marking began,
+-- all that a mutator can come by was reachable in the snapshot from a root or a touched name, or is newer
+pub record Stands (s : State) (c : CoreState) : Type 0 where
+  pub shows : ShowsGraph s.graph c
+  pub keeps : KeepsFor s.snapshot c
+  pub sound : IsSoundState s
+  pub since : IsSinceState s
+
+-- a graph, and one from which marking goes on while it runs
+pub record Footing : Type 0 where
   pub graph : Graph
   pub snapshot : Graph
 
--- the core shows the graph, and keeps what the snapshot needs
-pub record Stands (s : State) (c : CoreState) : Type 0 where
-  pub shows : ShowsGraph s.graph c
-  pub keeps : KeepsFrom s.snapshot c
+-- the core shows the graph and keeps what the snapshot needs, and what the snapshot doesn't reach has the pointers that it had in it
+pub record RestsOn (f : Footing) (c : CoreState) : Type 0 where
+  pub shows : ShowsGraph f.graph c
+  pub keeps : KeepsFrom f.snapshot c
+  pub sound : IsSound f.graph
+  pub unreached : KeepsUnreached f.snapshot f.graph
 
 -- each name that a root reaches is borne by one kept object, which has the graph's contents; and every word of
 -- a kept object lies in a region that isn't free
@@ -121,7 +138,8 @@ pub record IsRoomFor (config : Config) (room : RoomSizes) : Type 0 where
   pub regions : room.regions ≡ config.regions
   pub cards : room.cards ≡ config.regions * (config.words / card_words config)
 
--- What every core keeps. There is a state that it stands for: so each root is the start of an object
+-- What every core keeps. There are a graph and a snapshot on which it rests: so each root is the start of an object, and what a weak slot
+-- holds may be saved
 pub record IsCore (c : CoreState) : Type 0 where
   pub suits : Suits c.config
   pub layers : LayersFit c.config c.table c.buffers c.marker
@@ -131,8 +149,8 @@ pub record IsCore (c : CoreState) : Type 0 where
   pub rows : c.config.regions ≤ c.row_room
   pub places : length c.roots ≡ 16 + 8 * c.config.mutators
   pub names : c.next < 2 ^ 64
-  pub state : State
-  pub stands : Stands state c
+  pub footing : Footing
+  pub rests : RestsOn footing c
 
 -- a word that shows something: nil, or the start of a kept object
 pub record IsWordOf (h : Heap) (w : Option ℕ) : Type 0 where
@@ -153,6 +171,7 @@ pub record HasObject (g : Graph) (c : CoreState) (place a : ℕ) : Type 0 where
   pub named : object_named g stored.name ≡ Some object
   pub found : slice_get g.objects (stored.name - g.first_name) ≡ Some object
   pub pointers : AllZip (IsShown (heap_of c)) stored.pointers object.pointers
+  pub weaks : AllZip (IsShown (heap_of c)) stored.weaks object.weaks
   pub values : stored.values ≡ object.values
 
 -- where a register or global leads

@@ -1,11 +1,14 @@
-//! The write barrier: what a store into a pointer does beside the store.
+//! The barriers: what a store into a field does beside the store, and what reading a weak slot does beside the reading.
 //!
 //! While marking runs, the pointer that is overwritten is saved in its mutator's deletion log, if it leads to an object
 //! that was there when marking began: so what the snapshot reached is found even if this was the last pointer to it. A log
 //! that is full then is taken within the same store: what it names is marked, and it is empty. This is the deletion
 //! barrier of Yuasa, 'Real-time garbage collection on general-purpose machines' (1990).
 //!
-//! A pointer that leads out of the region of the field's word makes the field's card dirty, so that refinement finds it:
+//! Marking doesn't follow weak slots. So while it runs, what a mutator reads from one is saved in the same way: it
+//! will be marked, and the mutator may keep it. What is overwritten in a weak slot isn't saved.
+//!
+//! A value that leads out of the region of the field's word makes the field's card dirty, so that refinement finds it:
 //! the card enters its mutator's card log, and a log of four cards goes to the queue. The object's own region doesn't
 //! count: a humongous object's fields lie in several.
 //!
@@ -22,25 +25,28 @@
 ghost use Rattle.std.specs.Prelude.{◌≡◌, ℕ, ◌<◌, Option, Some, length, slice_set};
 ghost use Rattle.heap_model.specs.Graph.{Graph, Object, object_named, with_changed};
 ghost use Rattle.heap_model.specs.Heap.{Stored, IsRoot, IsHeld, IsShown};
-ghost use Rattle.regions.specs.Table.{pointers_at, set_pointer};
+ghost use Rattle.heap_model.specs.Weak.{touched, KeepsUnreached};
+ghost use Rattle.object_graph.specs.State.{with_root, register_place};
+ghost use Rattle.regions.specs.Table.{pointers_at, weaks_at, fields_at, set_pointer, set_weak};
 ghost use Rattle.cards.specs.Cards.{is_dirty};
 ghost use Rattle.refinement.specs.Remembering.{field_word, IsNoted};
 ghost use Rattle.heap_words.specs.Configs.{card_words};
-ghost use Rattle.step_core.specs.Stands.{ShowsGraph, KeepsFrom, heap_of, kept_of};
+ghost use Rattle.step_core.specs.Stands.{ShowsGraph, KeepsFrom, heap_of, kept_of, IsWordOf};
 ghost use Rattle.marker.specs.Steps.{Overwrites};
-ghost use Rattle.step_core.specs.Mutators.{noted, pointer_of, with_pointer};
+ghost use Rattle.step_core.specs.Mutators.{noted, pointer_of, with_pointer, weak_field, with_weak, with_root_word};
 ghost use Rattle.step_core.specs.Cycle.{LeavesRegions};
 
-use crate::heap::Core;
+use crate::heap::{Core, register_index};
 use heap_words::addr::{Addr, Card, Ptr};
+use object_graph::Register;
 
 impl Core {
-    /// A pointer is about to be stored: the field's card becomes dirty if the pointer leads into another region than the
-    /// field's word lies in.
+    /// A value is about to be stored in a pointer or a weak slot: the field's card becomes dirty if the value leads into another
+    /// region than the field's word lies in.
     fn note(&mut self, mutator: u32, object: Addr, field: u32, target: &Ptr)
         requires known { mutator < self.old.config.mutators }
         requires rooted { IsRoot (heap_of self.old) object }
-        requires field { field < length (pointers_at self.old.table object) }
+        requires field { field < length (fields_at self.old.table object) }
         ensures same { self.new ≡ record self.old { cards = self.new.cards } }
         ensures cards { self.new.cards ≡ noted self.old mutator (field_word object field) target.now }
         ensures noted { IsNoted self.new.table.words_per_region (card_words self.new.config) (is_dirty self.new.cards) (field_word object field) target.now }
@@ -64,7 +70,7 @@ impl Core {
         requires field { field < length (pointers_at self.old.table object) }
         requires held { IsHeld (heap_of self.old) target }
         ensures shows { (g : Graph) (x : Stored) (o : Object) (v : Option ℕ) → ShowsGraph g self.old → kept_of self.old object ≡ Some x → object_named g x.name ≡ Some o
-            → IsShown (heap_of self.old) target v → ShowsGraph (with_changed g x.name (record { pointers = slice_set o.pointers field v; values = o.values })) self.new }
+            → IsShown (heap_of self.old) target v → ShowsGraph (with_changed g x.name (record o { pointers = slice_set o.pointers field v })) self.new }
         ensures keeps { (s : Graph) → KeepsFrom s self.old → KeepsFrom s self.new }
         ensures core { self.new ≡ record (with_pointer self.old mutator object field target) { marker = self.new.marker } }
         ensures marker { Overwrites self.old.marker.running self.old.table mutator (pointer_of self.old object field) self.old.marker self.new.marker }
@@ -82,7 +88,7 @@ impl Core {
         requires held { IsHeld (heap_of self.old) target }
         requires noted { IsNoted self.old.table.words_per_region (card_words self.old.config) (is_dirty self.old.cards) (field_word object field) target }
         ensures shows { (g : Graph) (x : Stored) (o : Object) (v : Option ℕ) → ShowsGraph g self.old → kept_of self.old object ≡ Some x → object_named g x.name ≡ Some o
-            → IsShown (heap_of self.old) target v → ShowsGraph (with_changed g x.name (record { pointers = slice_set o.pointers field v; values = o.values })) self.new }
+            → IsShown (heap_of self.old) target v → ShowsGraph (with_changed g x.name (record o { pointers = slice_set o.pointers field v })) self.new }
         ensures keeps { (s : Graph) → KeepsFrom s self.old → KeepsFrom s self.new }
         ensures core { self.new ≡ record self.old { table = set_pointer self.old.table object field target; marker = self.new.marker } }
         ensures marker { Overwrites self.old.marker.running self.old.table mutator (pointer_of self.old object field) self.old.marker self.new.marker }
@@ -95,6 +101,58 @@ impl Core {
         let overwritten = self.table.get_ptr(object, field);
         let full = self.marker.save(&self.table, mutator, overwritten);
         self.table.set_ptr(object, field, target);
+        if full {
+            self.marker.take_log(&self.table, mutator);
+        }
+    }
+
+    /// Stores a value into a weak slot of an object that a root names, and keeps remembering right. Marking isn't concerned.
+    pub(crate) fn store_weak(&mut self, mutator: u32, object: Addr, slot: u32, target: Ptr)
+        requires known { mutator < self.old.config.mutators }
+        requires rooted { IsRoot (heap_of self.old) object }
+        requires slot { slot < length (weaks_at self.old.table object) }
+        requires word { IsWordOf (heap_of self.old) target }
+        ensures shows { (g : Graph) (x : Stored) (o : Object) (v : Option ℕ) → ShowsGraph g self.old → kept_of self.old object ≡ Some x → object_named g x.name ≡ Some o
+            → IsShown (heap_of self.old) target v → ShowsGraph (with_changed g x.name (record o { weaks = slice_set o.weaks slot v })) self.new }
+        ensures keeps { (s : Graph) → KeepsFrom s self.old → KeepsFrom s self.new }
+        ensures after { self.new ≡ with_weak self.old mutator object slot target }
+        ensures leaves { LeavesRegions self.old self.new }
+    {
+        let field = self.table.pointer_count(object) + slot;
+        self.note(mutator, object, field, &target);
+        self.store_weak_noted(object, slot, target);
+    }
+
+    /// Stores a value into a weak slot whose card is noted.
+    fn store_weak_noted(&mut self, object: Addr, slot: u32, target: Ptr)
+        requires rooted { IsRoot (heap_of self.old) object }
+        requires slot { slot < length (weaks_at self.old.table object) }
+        requires word { IsWordOf (heap_of self.old) target }
+        requires noted { IsNoted self.old.table.words_per_region (card_words self.old.config) (is_dirty self.old.cards) (field_word object (weak_field self.old object slot)) target }
+        ensures shows { (g : Graph) (x : Stored) (o : Object) (v : Option ℕ) → ShowsGraph g self.old → kept_of self.old object ≡ Some x → object_named g x.name ≡ Some o
+            → IsShown (heap_of self.old) target v → ShowsGraph (with_changed g x.name (record o { weaks = slice_set o.weaks slot v })) self.new }
+        ensures keeps { (s : Graph) → KeepsFrom s self.old → KeepsFrom s self.new }
+        ensures after { self.new ≡ record self.old { table = set_weak self.old.table object slot target } }
+        ensures leaves { LeavesRegions self.old self.new }
+    {
+        self.table.set_weak(object, slot, target);
+    }
+
+    /// A register takes what was read from a weak slot. While marking runs, that is saved, and its name is touched.
+    pub(crate) fn touch(&mut self, mutator: u32, to: Register, value: Ptr)
+        requires known { mutator < self.old.config.mutators }
+        requires word { IsWordOf (heap_of self.old) value }
+        ensures shows { (g : Graph) (v : Option ℕ) → ShowsGraph g self.old → IsShown (heap_of self.old) value v → ShowsGraph (with_root g (register_place mutator to.number) v) self.new }
+        ensures keeps { (s g : Graph) (v : Option ℕ) → ShowsGraph g self.old → KeepsUnreached s g → IsShown (heap_of self.old) value v → KeepsFrom s self.old → KeepsFrom (touched s v) self.new }
+        ensures core { self.new ≡ record (with_root_word self.old (register_place mutator to.number) value) { marker = self.new.marker } }
+        ensures marker { Overwrites self.old.marker.running self.old.table mutator value self.old.marker self.new.marker }
+        ensures leaves { LeavesRegions self.old self.new }
+    {
+        self.roots[register_index(mutator, to)] = value;
+        if !self.marker.running {
+            return;
+        }
+        let full = self.marker.save(&self.table, mutator, value);
         if full {
             self.marker.take_log(&self.table, mutator);
         }

@@ -5,11 +5,14 @@
 //!   idle ----------------> marking ---------------> marking ----------------> idle -----------------> idle
 //!          no buffer is open;       k grey objects            logs are taken,        dead regions are
 //!          what roots name is       are scanned               all grey scanned;      released
-//!          grey                                               the new marks tell
-//!                                                             what is kept
+//!          grey                                               weak slots are
+//!                                                             cleared; the new
+//!                                                             marks tell what
+//!                                                             is kept
 //! ```
 //!
-//! Mutators go on between these steps: their stores save what they overwrite (`barrier`), and what they make lies at or above
+//! Mutators go on between these steps: their stores save what they overwrite, they save what they read from weak slots
+//! (`barrier`), and what they make lies at or above
 //! the tops at mark start, so that it is kept without a mark.
 
 ghost use Rattle.std.specs.Prelude.{◌≡◌, ◌↔◌, ◌<◌, ◌≤◌, ◌+◌, ℕ, true, false, Some, IsTrue, length, count_by};
@@ -17,7 +20,7 @@ ghost use Rattle.heap_model.specs.Graph.{Graph};
 ghost use Rattle.regions.specs.Table.{is_free};
 ghost use Rattle.object_graph.specs.declared.step.Reply.TheVariants as replies;
 ghost use Rattle.step_core.specs.Stands.{ShowsGraph, KeepsFrom, Stands};
-ghost use Rattle.step_core.specs.Cycle.{HasBegun, HasMarked, HasRemarked, HasCleaned};
+ghost use Rattle.step_core.specs.Cycle.{HasBegun, HasMarked, HasRemarked, HasCleaned, ShowsCleared};
 
 use crate::heap::Core;
 use object_graph::{Refusal, Reply};
@@ -45,13 +48,13 @@ impl Core {
         self.marker.mark(&self.table, units);
     }
 
-    /// Marking is brought to its end. The result is how many objects are marked.
+    /// Marking is brought to its end, and weak slots are cleared of what it didn't reach. The result is how many objects
+    /// are marked.
     pub(crate) fn remark(&mut self) -> u32
         requires { self.old.marker.running ≡ true }
-        ensures shows { (g : Graph) → ShowsGraph g self.old → ShowsGraph g self.new }
-        ensures keeps { (s : Graph) → KeepsFrom s self.old → KeepsFrom s self.new }
+        ensures shows { (s g : Graph) → ShowsGraph g self.old → KeepsFrom s self.old → ShowsCleared s g self.new }
         ensures remarked { HasRemarked result self.old self.new }
     {
-        self.marker.finish(&self.table)
+        self.marker.finish(&mut self.table)
     }
 }

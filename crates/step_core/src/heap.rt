@@ -4,10 +4,10 @@ ghost use Rattle.std.specs.Prelude.{◌≡◌, ℕ, ◌<◌, ◌≤◌, ◌+◌,
 ghost use Rattle.heap_words.specs.Configs.{Suits, IsNewFault};
 ghost use Rattle.heap_model.specs.Graph.{Graph};
 ghost use Rattle.heap_model.specs.Heap.{IsShown, IsHeld};
-ghost use Rattle.object_graph.specs.State.{register_place, with_root, root_at};
-ghost use Rattle.step_core.specs.Stands.{ShowsGraph, KeepsFrom, State, Stands, IsCore, IsWhole, heap_of, IsWordOf, IsRootWord, Leads, name_in, RemembersFields};
+ghost use Rattle.object_graph.specs.State.{State, register_place, with_root, root_at, first_state};
+ghost use Rattle.step_core.specs.Stands.{ShowsGraph, KeepsFrom, Stands, IsCore, IsWhole, heap_of, IsWordOf, IsRootWord, Leads, name_in, RemembersFields};
 ghost use Rattle.cards.specs.Cards.{ListsDirtyOnce};
-ghost use Rattle.step_core.specs.Fresh.{fresh_core, fresh_state};
+ghost use Rattle.step_core.specs.Fresh.{fresh_core};
 ghost use Rattle.step_core.specs.Mutators.{register_of, with_root_word};
 ghost use Rattle.step_core.specs.Cycle.{LeavesRegions};
 
@@ -69,7 +69,7 @@ impl Core {
     pub fn new(alloc: Global, config: &Config) -> Result<Core, NewFault>
         ensures fresh { IfOk result (λ c. c ≡ fresh_core config.now) }
         ensures core { IfOk result IsCore }
-        ensures stands { IfOk result (Stands (fresh_state config.now)) }
+        ensures stands { IfOk result (Stands (first_state config.now)) }
         ensures config { IfOk result (λ c. c.config ≡ config.now) }
         ensures suits { OnOk result (Suits config.now) }
         ensures fault { IfErr result (IsNewFault config.now) }

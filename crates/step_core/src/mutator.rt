@@ -4,12 +4,15 @@ ghost use Rattle.std.specs.Prelude.{◌≡◌, ℕ, ◌<◌, ◌≤◌, ◌+◌,
 ghost use Rattle.heap_words.specs.Sizes.{size_of};
 ghost use Rattle.heap_model.specs.Graph.{Graph, next_name};
 ghost use Rattle.heap_model.specs.Heap.{IsShown};
+ghost use Rattle.heap_model.specs.Weak.{KeepsUnreached};
+ghost use Rattle.object_graph.specs.State.{State, ForSnapshot};
+ghost use Rattle.object_graph.specs.Run.{snapshot_after};
 ghost use Rattle.object_graph.specs.Machine.{stored};
 ghost use Rattle.object_graph.specs.declared.step.Reply.TheVariants as replies;
 ghost use Rattle.object_graph.specs.declared.step.Refusal.TheVariants as refusals;
 ghost use Rattle.regions.specs.Table.{new_object};
 ghost use Rattle.alloc_buffers.specs.Placement.{address_of, CanHold, made_at};
-ghost use Rattle.step_core.specs.Stands.{ShowsGraph, KeepsFrom, State, Stands, heap_of, IsWordOf, IsRootWord};
+ghost use Rattle.step_core.specs.Stands.{ShowsGraph, KeepsFrom, Stands, heap_of, IsWordOf, IsRootWord};
 ghost use Rattle.step_core.specs.Answers.{Acts, HasNoPlace, IsFull, RepliesFull, Follows};
 ghost use Rattle.step_core.specs.Mutators.{ActsOn, value_of};
 ghost use Rattle.step_core.specs.Cycle.{LeavesRegions};
@@ -25,14 +28,14 @@ use regions::RegionTable;
 
 /// Makes a new object in its place, and answers its address.
 fn make(table: &mut RegionTable, place: Place, name: u64, counts: header::Counts) -> Addr
-    requires { CanHold table.old place (size_of counts.pointers counts.values) }
+    requires { CanHold table.old place (size_of counts.pointers counts.weaks counts.values) }
     ensures at { result ≡ address_of table.old place }
-    ensures made { table.new ≡ made_at table.old place (new_object name counts.pointers counts.values) }
+    ensures made { table.new ≡ made_at table.old place (new_object name counts.pointers counts.weaks counts.values) }
 {
     table.law();
     match place {
         Place::Filler(at) => {
-            let size = 2 + counts.pointers.get() + counts.values.get();
+            let size = 2 + counts.pointers.get() + u32::from(counts.weaks) + counts.values.get();
             table.make_object(at, FillerSize::new(size), name, counts);
             at
         }
@@ -81,7 +84,7 @@ impl Core {
         Reply::Word(self.table.get_value(at, field))
     }
 
-    /// What `put` stores: nil, or what a register holds.
+    /// What is stored: nil, or what a register holds.
     fn stored(&self, mutator: u32, value: Option<Register>) -> Ptr
         requires { mutator < self.now.config.mutators }
         ensures value { result ≡ value_of self.now mutator value }
@@ -192,16 +195,67 @@ impl Core {
         }
     }
 
-    fn new_object(&mut self, mutator: u32, to: Register, counts: Counts) -> Reply
+    fn get_weak(&mut self, mutator: u32, to: Register, object: Register, slot: u32) -> Reply
         requires { mutator < self.old.config.mutators }
-        ensures acts { (g : Graph) → ShowsGraph g self.old → Acts g mutator (actions.New to counts) result self.new
-            ⊎ RepliesFull g mutator (actions.New to counts) self.old result self.new }
-        ensures keeps { (s : Graph) → KeepsFrom s self.old → KeepsFrom s self.new }
-        ensures after { ActsOn mutator (actions.New to counts) result self.old self.new }
+        ensures acts { (g : Graph) → ShowsGraph g self.old → Acts g mutator (actions.GetWeak to object slot) result self.new }
+        // What was replied is touched.
+        ensures keeps { (s g : Graph) → ShowsGraph g self.old → KeepsUnreached s g → KeepsFrom s self.old
+            → ForSnapshot (snapshot_after (Some s) (actions.GetWeak to object slot) result) (λ t. KeepsFrom t self.new) }
+        ensures after { ActsOn mutator (actions.GetWeak to object slot) result self.old self.new }
         ensures leaves { LeavesRegions self.old self.new }
-        ensures full { HasNoPlace self.old mutator (size_of counts.pointers counts.values) → (name : Option ℕ) → result ≢ replies.Named name }
     {
-        let size = counts.size();
+        let Some(at) = self.register(mutator, object) else {
+            return Reply::Refused(Refusal::Nil);
+        };
+        if slot >= self.table.weak_count(at) {
+            return Reply::Refused(Refusal::NoField);
+        }
+        let value = self.table.get_weak(at, slot);
+        let name = self.name_of(&value);
+        self.touch(mutator, to, value);
+        Reply::Named(name)
+    }
+
+    fn put_weak(&mut self, mutator: u32, object: Register, slot: u32, value: Option<Register>) -> Reply
+        requires { mutator < self.old.config.mutators }
+        ensures acts { (g : Graph) → ShowsGraph g self.old → Acts g mutator (actions.PutWeak object slot value) result self.new }
+        ensures keeps { (s : Graph) → KeepsFrom s self.old → KeepsFrom s self.new }
+        ensures after { ActsOn mutator (actions.PutWeak object slot value) result self.old self.new }
+        ensures leaves { LeavesRegions self.old self.new }
+    {
+        let Some(at) = self.register(mutator, object) else {
+            return Reply::Refused(Refusal::Nil);
+        };
+        let target = self.stored(mutator, value);
+        if slot >= self.table.weak_count(at) {
+            return Reply::Refused(Refusal::NoField);
+        }
+        self.store_weak(mutator, at, slot, target);
+        Reply::Done
+    }
+
+    fn weaks(&self, mutator: u32, object: Register) -> Reply
+        requires { mutator < self.now.config.mutators }
+        ensures acts { (g : Graph) → ShowsGraph g self.now → Acts g mutator (actions.Weaks object) result self.now }
+        ensures after { ActsOn mutator (actions.Weaks object) result self.now self.now }
+    {
+        let Some(at) = self.register(mutator, object) else {
+            return Reply::Refused(Refusal::Nil);
+        };
+        Reply::Word(u64::from(self.table.weak_count(at)))
+    }
+
+    /// Makes an object with so many weak slots, 0 of them for a plain one.
+    fn new_object(&mut self, mutator: u32, to: Register, counts: Counts, weaks: u8) -> Reply
+        requires { mutator < self.old.config.mutators }
+        ensures acts { (g : Graph) → ShowsGraph g self.old → Acts g mutator (actions.NewWeak to counts weaks) result self.new
+            ⊎ RepliesFull g mutator (actions.NewWeak to counts weaks) self.old result self.new }
+        ensures keeps { (s : Graph) → KeepsFrom s self.old → KeepsFrom s self.new }
+        ensures after { ActsOn mutator (actions.NewWeak to counts weaks) result self.old self.new }
+        ensures leaves { LeavesRegions self.old self.new }
+        ensures full { HasNoPlace self.old mutator (size_of counts.pointers weaks counts.values) → (name : Option ℕ) → result ≢ replies.Named name }
+    {
+        let size = counts.size(weaks);
         let Config { regions, words, .. } = self.config;
         if u64::from(regions) * u64::from(words) < size {
             return Reply::Refused(Refusal::TooBig);
@@ -217,6 +271,7 @@ impl Core {
         self.table.law();
         let counts = header::Counts {
             pointers: Count::new(counts.pointers),
+            weaks,
             values: Count::new(counts.values),
         };
         let at = make(&mut self.table, place, name, counts);
@@ -235,7 +290,7 @@ impl Core {
     {
         let mutator = op.mutator;
         match op.action {
-            Action::New { to, counts } => self.new_object(mutator, to, counts),
+            Action::New { to, counts } => self.new_object(mutator, to, counts, 0),
             Action::Get { to, object, field } => self.get(mutator, to, object, field),
             Action::Put {
                 object,
@@ -253,6 +308,14 @@ impl Core {
             Action::Load { to, from } => self.load(mutator, to, from),
             Action::Save { to, from } => self.save(mutator, to, from),
             Action::Shape { object } => self.shape(mutator, object),
+            Action::NewWeak { to, counts, weaks } => self.new_object(mutator, to, counts, weaks),
+            Action::GetWeak { to, object, slot } => self.get_weak(mutator, to, object, slot),
+            Action::PutWeak {
+                object,
+                slot,
+                value,
+            } => self.put_weak(mutator, object, slot, value),
+            Action::Weaks { object } => self.weaks(mutator, object),
         }
     }
 }

@@ -2,12 +2,11 @@
 
 ghost use Rattle.std.specs.Prelude.{◌≡◌, ◌<◌, All, IfOk, IfErr, OnOk, map};
 ghost use Rattle.heap_words.specs.Configs.{Suits, IsNewFault};
-ghost use Rattle.heap_model.specs.Graph.{Graph};
-ghost use Rattle.object_graph.specs.State.{first_state};
+ghost use Rattle.object_graph.specs.State.{State, first_state};
 ghost use Rattle.object_graph.specs.Run.{IsRun};
 ghost use Rattle.object_graph.specs.Actors.{IsStep, IsStepOf};
 ghost use Rattle.heap_words.specs.declared.config.Config.{Config};
-ghost use Rattle.step_core.specs.Stands.{State, Stands};
+ghost use Rattle.step_core.specs.Stands.{Stands};
 ghost use Rattle.step_core.specs.Histories.{Runs, RunsTo, RunsFromNew, step_in, actor_in, actor_of, IsRunFault};
 
 use crate::heap::Core;
@@ -71,8 +70,8 @@ fn run_on(alloc: Global, core: &mut Core, steps: &[Step]) -> Result<Record, Allo
 }
 
 /// Does the steps in order, in a new heap, and answers the record and the core after the last step. The record's events
-/// are the steps in their order, each with its actor and its reply; between them stand cores and graphs, each core
-/// standing for its graph, with every object that a root reaches whole and once in the heap.
+/// are the steps in their order, each with its actor and its reply; between them stand cores and states, each core
+/// standing for its state, with every object that a root reaches whole and once in the heap.
 pub fn run_to_core(
     alloc: Global,
     config: &Config,
@@ -84,7 +83,7 @@ pub fn run_to_core(
     ensures actors { IfOk result (λ r. map actor_in r.0.events ≡ map actor_of steps.now) }
     ensures history { IfOk result (λ r. RunsTo config.now r.0.events r.1) }
     // The replies are those of the graph.
-    ensures run { IfOk result (λ r. (last : Graph) × IsRun (first_state config.now) r.0.events last) }
+    ensures run { IfOk result (λ r. (last : State) × IsRun (first_state config.now) r.0.events last) }
     ensures suits { OnOk result (Suits config.now) }
     ensures fault { IfErr result (IsRunFault config.now) }
 {
@@ -106,7 +105,7 @@ pub fn run(alloc: Global, config: &Config, steps: &[Step]) -> Result<Record, Run
     ensures actors { IfOk result (λ r. map actor_in r.events ≡ map actor_of steps.now) }
     ensures history { IfOk result (λ r. RunsFromNew config.now r.events) }
     // The replies are those of the graph.
-    ensures run { IfOk result (λ r. (last : Graph) × IsRun (first_state config.now) r.events last) }
+    ensures run { IfOk result (λ r. (last : State) × IsRun (first_state config.now) r.events last) }
     ensures suits { OnOk result (Suits config.now) }
     ensures fault { IfErr result (IsRunFault config.now) }
 {

@@ -5,7 +5,8 @@ ghost use Rattle.object_graph.specs.Actors.{IsStep};
 ghost use Rattle.object_graph.specs.declared.step.Step.TheVariants as steps;
 ghost use Rattle.object_graph.specs.declared.step.Reply.TheVariants as replies;
 ghost use Rattle.object_graph.specs.declared.step.Refusal.TheVariants as refusals;
-ghost use Rattle.step_core.specs.Stands.{State, Stands};
+ghost use Rattle.object_graph.specs.State.{State};
+ghost use Rattle.step_core.specs.Stands.{Stands};
 ghost use Rattle.step_core.specs.Answers.{Follows, IsFullStep};
 ghost use Rattle.step_core.specs.Reclaimed.{IsReclaimed};
 ghost use Rattle.step_core.specs.Cycle.{Collects, Does, MayReclaim};
@@ -59,7 +60,7 @@ impl Core {
         }
     }
 
-    /// Does a step. The reply is one that the graph gives, and the core stands for the graph after it. It is Full exactly
+    /// Does a step. The reply is one that the graph and its snapshot give, and the core stands for those after it. It is Full exactly
     /// where the graph would create an object and the heap has no place for it; a step of the collector is refused exactly
     /// where marking runs and it mustn't, or doesn't and it must. Regions are reclaimed by a cleanup, those that
     /// hold nothing live, and by a pause, those that it evacuates. No step takes memory.

@@ -21,7 +21,7 @@ use Rattle.regions.proofs.LongRuns.Blocks.{kind_is}
 use Rattle.regions.proofs.Tiles.Released.{row_within}
 use Rattle.std.proofs.lemmas.List.{length-replicate}
 
-object_none : (t : Table) (y n : ℕ) → tile_in t y ≡ Some (Filler n) → object_at t y ≡ None
+pub object_none : (t : Table) (y n : ℕ) → tile_in t y ≡ Some (Filler n) → object_at t y ≡ None
 unfolding object_at
 object_none t y n e = rw e refl
 
@@ -60,12 +60,12 @@ pub record Fills (t t' : Table) (b : Buffers) (a : ℕ) (x : Stored) : Type 0 wh
   pub kinds : (k : ℕ) → kind_of t' k ≡ kind_of t k
   pub stand : BuffersStand t' b
 
-pub fills : (t t' : Table) (b : Buffers) (a n name p d : ℕ) → 0 < t.words_per_region → AreFitting t → HasNoForwarded t → tile_in t a ≡ Some (Filler n) → n ≡ 2 + p + d → t' ≡ replace_tile t a (Object (new_object name p d) ∷ remainder (n - (2 + p + d)))
-    → ((m : ℕ) (x : Buffer) → slice_get b.open_buffers m ≡ Some (Some x) → x.next ≢ a) → BuffersStand t b → Fills t t' b a (new_object name p d)
-fills t t' b a n name p d z fitting none h size is spare s =
-    let x : Stored = new_object name p d in
-    let long : tile_size (Object x) ≡ n = omega (arith, length-replicate {A = Option ℕ} p None, length-replicate {A = ℕ} d 0) in
-    let none_left : n - (2 + p + d) ≡ 0 = omega arith in
+pub fills : (t t' : Table) (b : Buffers) (a n name p weak d : ℕ) → 0 < t.words_per_region → AreFitting t → HasNoForwarded t → tile_in t a ≡ Some (Filler n) → n ≡ 2 + p + weak + d → t' ≡ replace_tile t a (Object (new_object name p weak d) ∷ remainder (n - (2 + p + weak + d)))
+    → ((m : ℕ) (x : Buffer) → slice_get b.open_buffers m ≡ Some (Some x) → x.next ≢ a) → BuffersStand t b → Fills t t' b a (new_object name p weak d)
+fills t t' b a n name p weak d z fitting none h size is spare s =
+    let x : Stored = new_object name p weak d in
+    let long : tile_size (Object x) ≡ n = omega (arith, length-replicate {A = Option ℕ} p None, length-replicate {A = Option ℕ} weak None, length-replicate {A = ℕ} d 0) in
+    let none_left : n - (2 + p + weak + d) ≡ 0 = omega arith in
     let is' : replace_tile t a (Object x ∷ []) ≡ t' = sym (is ∙ ap (λ (r : ℕ). replace_tile t a (Object x ∷ remainder r)) none_left) in
     let w' = filler_replaced t a n (Object x ∷ []) z fitting h (omega arith) (omega (arith, long), tt) (omega (arith, long)) tt in
     let w : Replaces t t' a n (Object x ∷ []) = subst (λ (u : Table). Replaces t u a n (Object x ∷ [])) is' w' in
@@ -113,12 +113,12 @@ pub record Creates (t t' : Table) (b b' : Buffers) (a : ℕ) (x : Stored) : Type
   pub words : b'.words ≡ b.words
   pub above : (limit : ℕ → ℕ) → AreAbove t b limit → IsAbove t.words_per_region limit a × AreAbove t' b' limit
 
-creates_small : (t t1 : Table) (b b1 : Buffers) (a n name p d : ℕ) → 0 < t1.words_per_region → AreFitting t1 → 2 * n ≤ t.words_per_region → IsPlaced t t1 b b1 n a → n ≡ 2 + p + d
-    → Creates t (replace_tile t1 a (Object (new_object name p d) ∷ [])) b b1 a (new_object name p d)
-creates_small t t1 b b1 a n name p d z fitting half placed size =
-    let t2 : Table = replace_tile t1 a (Object (new_object name p d) ∷ []) in
-    let none_left : 0 ≡ n - (2 + p + d) = omega arith in
-    let w = fills t1 t2 b1 a n name p d z fitting placed.unmoved placed.filler size (ap (λ (r : ℕ). replace_tile t1 a (Object (new_object name p d) ∷ remainder r)) none_left) placed.spare placed.stand in
+creates_small : (t t1 : Table) (b b1 : Buffers) (a n name p weak d : ℕ) → 0 < t1.words_per_region → AreFitting t1 → 2 * n ≤ t.words_per_region → IsPlaced t t1 b b1 n a → n ≡ 2 + p + weak + d
+    → Creates t (replace_tile t1 a (Object (new_object name p weak d) ∷ [])) b b1 a (new_object name p weak d)
+creates_small t t1 b b1 a n name p weak d z fitting half placed size =
+    let t2 : Table = replace_tile t1 a (Object (new_object name p weak d) ∷ []) in
+    let none_left : 0 ≡ n - (2 + p + weak + d) = omega arith in
+    let w = fills t1 t2 b1 a n name p weak d z fitting placed.unmoved placed.filler size (ap (λ (r : ℕ). replace_tile t1 a (Object (new_object name p weak d) ∷ remainder r)) none_left) placed.spare placed.stand in
     record {
       was = was_none t t1 b b1 n a placed;
       is = w.is;
@@ -127,7 +127,7 @@ creates_small t t1 b b1 a n name p d z fitting half placed size =
       region_size = w.region_size ∙ placed.region_size;
       region_count = w.region_count ∙ placed.count;
       kinds_stay = λ j used. w.kinds j ∙ placed.kinds_stay j used;
-      half = λ o. omega (arith, length-replicate {A = Option ℕ} p None, length-replicate {A = ℕ} d 0);
+      half = λ o. omega (arith, length-replicate {A = Option ℕ} p None, length-replicate {A = Option ℕ} weak None, length-replicate {A = ℕ} d 0);
       stand = w.stand;
       open_count = placed.open_count;
       words = placed.words;
@@ -164,10 +164,10 @@ creates_run t b n k count x shaped none stand run =
     }
 
 -- a new object is made in its place
-pub creates : (t t1 : Table) (b b1 : Buffers) (place : Place) (n name p d : ℕ) → IsShaped t → IsShaped t1 → HasNoForwarded t → BuffersStand t b → IsPlace t t1 b b1 n place → n ≡ 2 + p + d
-    → Creates t (made_at t1 place (new_object name p d)) b b1 (address_of t1 place) (new_object name p d)
-creates t t1 b b1 (places.Filler a) n name p d shaped shaped1 none stand is size = creates_small t t1 b b1 a n name p d shaped1.positive shaped1.fitting is.0 is.1 size
-creates t t1 b b1 (places.Run k count) n name p d shaped shaped1 none stand is size =
-    subst (λ (u : Table). Creates t (with_regions u k count (run_regions u.words_per_region (new_object name p d) count)) b b1 (k * u.words_per_region) (new_object name p d)) (sym is.1.table)
-    (subst (λ (c : Buffers). Creates t (with_regions t k count (run_regions t.words_per_region (new_object name p d) count)) b c (k * t.words_per_region) (new_object name p d)) (sym is.1.buffers)
-    (creates_run t b n k count (new_object name p d) shaped none stand is.1.run))
+pub creates : (t t1 : Table) (b b1 : Buffers) (place : Place) (n name p weak d : ℕ) → IsShaped t → IsShaped t1 → HasNoForwarded t → BuffersStand t b → IsPlace t t1 b b1 n place → n ≡ 2 + p + weak + d
+    → Creates t (made_at t1 place (new_object name p weak d)) b b1 (address_of t1 place) (new_object name p weak d)
+creates t t1 b b1 (places.Filler a) n name p weak d shaped shaped1 none stand is size = creates_small t t1 b b1 a n name p weak d shaped1.positive shaped1.fitting is.0 is.1 size
+creates t t1 b b1 (places.Run k count) n name p weak d shaped shaped1 none stand is size =
+    subst (λ (u : Table). Creates t (with_regions u k count (run_regions u.words_per_region (new_object name p weak d) count)) b b1 (k * u.words_per_region) (new_object name p weak d)) (sym is.1.table)
+    (subst (λ (c : Buffers). Creates t (with_regions t k count (run_regions t.words_per_region (new_object name p weak d) count)) b c (k * t.words_per_region) (new_object name p weak d)) (sym is.1.buffers)
+    (creates_run t b n k count (new_object name p weak d) shaped none stand is.1.run))

@@ -1,4 +1,4 @@
--- A new heap shows the first graph.
+-- A new heap stands for the first state.
 use Rattle.std.proofs.Common.{◌≡◌, ℕ, zero, suc, ◌+◌, ◌*◌, ◌^◌, ◌/◌, ◌<◌, ◌≤◌, false, Option, Some, None, List, [], length, get_or, replicate, refl, sym, ◌∙◌, ap, arith, inl, inr}
 use Rattle.std.specs.Prelude.{slice_get, slice_index, IsTrue, ◌%◌, count_ones}
 use Rattle.std.specs.Int.{is_power_of_two}
@@ -13,7 +13,11 @@ use Rattle.heap_model.specs.Heap.{Heap, Stored, IsShown}
 use Rattle.heap_words.specs.declared.config.Config.{Config}
 use Rattle.regions.specs.Table.{Table, Free, free_table, object_at, tile_in, region_at, top_of}
 use Rattle.regions.proofs.Tiles.Making.{free_table-unmoved}
-use Rattle.object_graph.specs.State.{first_state}
+use Rattle.heap_model.specs.Graph.{IsSound}
+use Rattle.heap_model.proofs.Unreached.{unreached_begins}
+use Rattle.object_graph.specs.State.{first_graph, first_state}
+use Rattle.object_graph.proofs.Sound.{first_sound}
+use Rattle.object_graph.proofs.SinceLaws.{holds_sound}
 use Rattle.heap_words.specs.Configs.{Suits}
 use Rattle.alloc_buffers.specs.declared.buffers.Buffer.{Buffer}
 use Rattle.alloc_buffers.specs.Placement.{BuffersStand, AreAbove, closed}
@@ -26,7 +30,6 @@ use Rattle.refinement.proofs.Remembered.{remembers_none}
 use Rattle.evacuation.specs.Rooms.{RoomSizes}
 use Rattle.heap_words.specs.Configs.{card_words}
 use Rattle.heap_words.proofs.Limits.{region_cards}
-use Rattle.step_core.specs.Fresh.{fresh_state}
 use Rattle.step_core.specs.Stands.{IsRoomFor, CoreState, kept_of, heap_of, CardsFit, ShowsGraph, Stands, IsCore}
 use Rattle.step_core.proofs.Mutating.Reading.{object_kept}
 use Rattle.step_core.proofs.Mutating.Small.{words_none}
@@ -54,7 +57,7 @@ first_core g m d r = record { config = g; table = free_table g.regions g.words; 
 none_kept : (g : Config) (m : Marker) (d : RoomSizes) (r : ℕ) (a : ℕ) (x : Stored) → kept_of (first_core g m d r) a ≡ Some x → ⊥
 none_kept g m d r a x e = let none = nothing_at g.regions g.words a in let is = object_kept (first_core g m d r) a x e in cc
 
-pub first_shows : (g : Config) (m : Marker) (d : RoomSizes) (r : ℕ) → ShowsGraph (first_state g) (first_core g m d r)
+pub first_shows : (g : Config) (m : Marker) (d : RoomSizes) (r : ℕ) → ShowsGraph (first_graph g) (first_core g m d r)
 first_shows g m d r = record {
   room = refl;
   mutators = refl;
@@ -66,8 +69,11 @@ first_shows g m d r = record {
   };
 }
 
-pub first_stands : (g : Config) (m : Marker) (d : RoomSizes) (r : ℕ) → m.running ≡ false → Stands (fresh_state g) (first_core g m d r)
-first_stands g m d r idle = record { shows = first_shows g m d r; keeps = record { earlier = omega arith; marking = λ run. absurd cc } }
+pub first_stands : (g : Config) (m : Marker) (d : RoomSizes) (r : ℕ) → m.running ≡ false → Stands (first_state g) (first_core g m d r)
+first_stands g m d r idle = record { shows = first_shows g m d r; keeps = idle; sound = first_sound g; since = tt }
+
+first_graph_sound : (g : Config) → IsSound (first_graph g)
+first_graph_sound g = holds_sound (first_graph g) (first_sound g).graph
 
 no_buffer : (n m : ℕ) (x : Buffer) → slice_get (replicate {A = Option Buffer} n None) m ≡ Some (Some x) → ⊥
 no_buffer zero m x e = cc
@@ -131,6 +137,11 @@ first_is g m d r stand suits to rows names idle logs stands =
       rows = rows;
       places = length-replicate (16 + 8 * g.mutators) None;
       names = names;
-      state = record { graph = first_state g; snapshot = first_state g };
-      stands = first_stands g m d r idle;
+      footing = record { graph = first_graph g; snapshot = first_graph g };
+      rests = record {
+        shows = first_shows g m d r;
+        keeps = record { earlier = omega arith; marking = λ run. absurd cc };
+        sound = first_graph_sound g;
+        unreached = unreached_begins (first_graph g) (first_graph_sound g);
+      };
     }

@@ -1,14 +1,16 @@
 -- What each part of a step keeps: k is the core by its fields, c the same by its value.
 use Rattle.std.proofs.Common.{◌≡◌, ℕ, ◌+◌, ◌*◌, ◌<◌, Option, Some, None, List, length, get_or, refl, sym, ◌∙◌, ap, subst, arith}
-use Rattle.std.specs.Prelude.{slice_get, IsSome, IfSome}
+use Rattle.std.specs.Prelude.{slice_get, slice_set, IsSome, IfSome}
 use Rattle.std.proofs.lemmas.List.{get_or_read, length-set}
-use Rattle.heap_model.specs.Graph.{Graph}
+use Rattle.heap_model.specs.Graph.{Graph, Object, IsSound}
 use Rattle.heap_model.specs.Heap.{Stored, IsShown, IsRoot, IsHeld, ObjectSet}
-use Rattle.regions.specs.Table.{Table, object_at, pointers_at, values_at, set_value}
+use Rattle.heap_model.specs.Weak.{KeepsUnreached}
+use Rattle.heap_model.proofs.Unreached.{unreached_root, unreached_written}
+use Rattle.regions.specs.Table.{Table, object_at, pointers_at, weaks_at, values_at, set_value}
 use Rattle.regions.proofs.Tiles.Changes.{WritesObject, value_put}
 use Rattle.regions.proofs.Words.Values.{with_value}
 use Rattle.object_graph.specs.State.{root_at, with_root, register_place}
-use Rattle.object_graph.specs.Machine.{act}
+use Rattle.object_graph.specs.Machine.{Outcome, act}
 use Rattle.object_graph.specs.declared.step.Action.TheVariants as actions
 use Rattle.object_graph.specs.declared.step.Reply.TheVariants as replies
 use Rattle.object_graph.specs.declared.step.Register.{Register}
@@ -16,11 +18,12 @@ use Rattle.step_core.specs.Stands.{CoreState, kept_of, heap_of, RemembersFields,
 use Rattle.step_core.specs.Cycle.{LeavesRegions}
 use Rattle.step_core.specs.Answers.{Acts}
 use Rattle.step_core.proofs.Cores.Sizes.{some_words}
+use Rattle.step_core.proofs.Cores.Resting.{root_rests, object_rests}
 use Rattle.step_core.proofs.Cores.Layers.{layers_writes, follows_of}
 use Rattle.step_core.proofs.Mutating.Written.{object_written, write_keeps, root_keeps}
 use Rattle.step_core.proofs.Cores.Remembering.{remembers_on, written_fields}
 use Rattle.step_core.proofs.Mutating.Reading.{root_shown, leads, root_word, root_rooted, object_kept, pointers_there, field_held, led_object, word_object}
-use Rattle.step_core.proofs.Mutating.Acting.{root_shows, with_root_word, write_done, field_word}
+use Rattle.step_core.proofs.Mutating.Acting.{root_shows, with_root_word, write_is, write_done, field_word, slot_word}
 
 pub core_of : (k c : CoreState) → k ≡ c → IsCore k → IsCore c
 core_of k c e core = subst (λ (d : CoreState). IsCore d) e core
@@ -54,7 +57,7 @@ module _ (k c : CoreState) (place : ℕ) (w : Option ℕ) (e : k ≡ c) where
     held' = subst (λ (d : CoreState). IsHeld (heap_of d) w) (sym e) held
 
     pub root_kept_from : (s : Graph) → KeepsFrom s c → KeepsFrom s (with_root_word k place w)
-    root_kept_from s = subst (λ (d : CoreState). KeepsFrom s d → KeepsFrom s (with_root_word k place w)) e (root_keeps core.state.graph s k place w _ core.stands.shows held' refl)
+    root_kept_from s = subst (λ (d : CoreState). KeepsFrom s d → KeepsFrom s (with_root_word k place w)) e (root_keeps core.footing.graph s k place w _ core.rests.shows held' refl)
 
     root_remembers : RemembersFields (with_root_word k place w)
     unfolding kept_of
@@ -75,10 +78,12 @@ module _ (k c : CoreState) (place : ℕ) (w : Option ℕ) (e : k ≡ c) where
           rows = core.rows;
           places = length-set k.roots place w ∙ core.places;
           names = core.names;
-          state = record { graph = with_root core.state.graph place word'.name; snapshot = core.state.snapshot };
-          stands = record {
-            shows = root_shows core.state.graph k place w word'.name core.stands.shows word'.shown;
-            keeps = root_keeps core.state.graph core.state.snapshot k place w _ core.stands.shows held' refl core.stands.keeps;
+          footing = record { graph = with_root core.footing.graph place word'.name; snapshot = core.footing.snapshot };
+          rests = record {
+            shows = root_shows core.footing.graph k place w word'.name core.rests.shows word'.shown;
+            keeps = root_keeps core.footing.graph core.footing.snapshot k place w _ core.rests.shows held' refl core.rests.keeps;
+            sound = root_rests core.footing.graph k place w word'.name core.rests.shows word'.shown core.rests.sound;
+            unreached = unreached_root core.footing.snapshot core.footing.graph core.rests.unreached place word'.name;
           };
         }
 
@@ -107,8 +112,8 @@ module _ (k c : CoreState) (e : k ≡ c) (core : IsCore k) (m : ℕ) (object : R
   pub write_after : (g : Graph) → ShowsGraph g c → Acts g m (actions.Write object i v) replies.Done (record k { table = t })
   write_after g s = write_by g (subst (λ (d : CoreState). ShowsGraph g d) (sym e) s)
 
-  h : HasObject core.state.graph k (register_place m object.number) a
-  h = subst (λ (d : CoreState). Leads d (register_place m object.number) (Some a)) (sym e) l core.state.graph core.stands.shows
+  h : HasObject core.footing.graph k (register_place m object.number) a
+  h = subst (λ (d : CoreState). Leads d (register_place m object.number) (Some a)) (sym e) l core.footing.graph core.rests.shows
 
   writes : WritesObject k.table t a h.stored (with_value h.stored i v)
   writes = subst (λ (u : Table). WritesObject k.table u a h.stored (with_value h.stored i v)) (sym is) (value_put k.table a i v h.stored (some_words k core) (object_kept k a h.stored h.at))
@@ -125,13 +130,27 @@ module _ (k c : CoreState) (e : k ≡ c) (core : IsCore k) (m : ℕ) (object : R
   pub write_leaves : LeavesRegions c (record k { table = t })
   write_leaves = subst (λ (d : CoreState). LeavesRegions d (record k { table = t })) e (record { config = refl; in_use = λ j n u. n (sym (writes.kinds j) ∙ u) })
 
+  abbrev written : Object
+  written = record h.object { values = slice_set h.object.values i v }
+
+  l' : Leads k (register_place m object.number) (Some a)
+  l' = subst (λ (d : CoreState). Leads d (register_place m object.number) (Some a)) (sym e) l
+
+  write_sound : IsSound (act core.footing.graph m (actions.Write object i v)).1
+  write_sound = subst (λ (out : Outcome). IsSound out.1) (sym (write_is core.footing.graph k core.rests.shows m object a l' i v h within))
+      (object_rests core.footing.graph k h.stored.name h.object written h.stored.pointers h.stored.weaks core.rests.shows h.named h.pointers h.weaks core.rests.sound)
+
+  write_unreached : KeepsUnreached core.footing.snapshot (act core.footing.graph m (actions.Write object i v)).1
+  write_unreached = subst (λ (out : Outcome). KeepsUnreached core.footing.snapshot out.1) (sym (write_is core.footing.graph k core.rests.shows m object a l' i v h within))
+      (unreached_written core.footing.snapshot core.footing.graph core.rests.unreached h.stored.name h.object written h.named refl)
+
   pub write_kept : IsCore (record k { table = t })
   write_kept =
-      let shows = (write_by core.state.graph core.stands.shows).shows in
-      let keeps = keeps_by core.state.snapshot core.stands.keeps in
+      let shows = (write_by core.footing.graph core.rests.shows).shows in
+      let keeps = keeps_by core.footing.snapshot core.rests.keeps in
       record {
         suits = core.suits;
-        layers = layers_writes k.config k.table t k.buffers k.marker a h.stored (with_value h.stored i v) writes core.layers (follows_of (record k { table = t }) _ core.state.snapshot shows keeps) (ap (λ (n : ℕ). 2 + length h.stored.pointers + n) (length-set h.stored.values i v));
+        layers = layers_writes k.config k.table t k.buffers k.marker a h.stored (with_value h.stored i v) writes core.layers (follows_of (record k { table = t }) _ core.footing.snapshot shows keeps) (ap (λ (n : ℕ). 2 + length h.stored.pointers + length h.stored.weaks + n) (length-set h.stored.values i v));
         cards = core.cards;
         remembers = remembers_on k (record k { table = t }) refl writes.size refl refl
             (written_fields (heap_of k) (heap_of (record k { table = t })) a h.stored (with_value h.stored i v) write_set refl) core.remembers;
@@ -139,8 +158,8 @@ module _ (k c : CoreState) (e : k ≡ c) (core : IsCore k) (m : ℕ) (object : R
         rows = core.rows;
         places = core.places;
         names = core.names;
-        state = record { graph = (act core.state.graph m (actions.Write object i v)).1; snapshot = core.state.snapshot };
-        stands = record { shows = shows; keeps = keeps };
+        footing = record { graph = (act core.footing.graph m (actions.Write object i v)).1; snapshot = core.footing.snapshot };
+        rests = record { shows = shows; keeps = keeps; sound = write_sound; unreached = write_unreached };
       }
 
 -- the pointers and the data words of the object at an address, by the core's value
@@ -150,11 +169,17 @@ pointers_of k c a e = ap (λ (d : CoreState). pointers_at d.table a) e
 pub values_of : (k c : CoreState) (a : ℕ) → k ≡ c → values_at k.table a ≡ values_at c.table a
 values_of k c a e = ap (λ (d : CoreState). values_at d.table a) e
 
+pub weaks_of : (k c : CoreState) (a : ℕ) → k ≡ c → weaks_at k.table a ≡ weaks_at c.table a
+weaks_of k c a e = ap (λ (d : CoreState). weaks_at d.table a) e
+
+pub slot_of : (k c : CoreState) (place a i : ℕ) (w : Option ℕ) → k ≡ c → IsCore k → Leads c place (Some a) → slice_get (weaks_at k.table a) i ≡ Some w → IsWordOf (heap_of c) w
+slot_of k c place a i w e core l is = slot_word c place a i w (core_of k c e core) l (ap (λ (ps : List (Option ℕ)). slice_get ps i) (sym (weaks_of k c a e)) ∙ is)
+
 pub field_of : (k c : CoreState) (place a i : ℕ) (w : Option ℕ) → k ≡ c → IsCore k → Leads c place (Some a) → slice_get (pointers_at k.table a) i ≡ Some w → IsWordOf (heap_of c) w
 field_of k c place a i w e core l is = field_word c place a i w (core_of k c e core) l (ap (λ (ps : List (Option ℕ)). slice_get ps i) (sym (pointers_of k c a e)) ∙ is)
 
 -- what the field of an object that a register names holds, can be stored
 pub field_can_be_stored : (k c : CoreState) (place a i : ℕ) (w : Option ℕ) → k ≡ c → IsCore k → Leads c place (Some a) → IsRoot (heap_of c) a → slice_get (pointers_at k.table a) i ≡ Some w → IsHeld (heap_of c) w
 field_can_be_stored k c place a i w e core l root is =
-    let h = l core.state.graph (subst (λ (d : CoreState). ShowsGraph core.state.graph d) e core.stands.shows) in
+    let h = l core.footing.graph (subst (λ (d : CoreState). ShowsGraph core.footing.graph d) e core.rests.shows) in
     field_held c a i h.stored w root h.at (ap (λ (ps : List (Option ℕ)). slice_get ps i) (sym (pointers_there c a h.stored h.at) ∙ sym (pointers_of k c a e)) ∙ is)

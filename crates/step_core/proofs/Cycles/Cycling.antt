@@ -1,26 +1,25 @@
--- Marking begins, goes on and ends in a core: k is the core by its fields before the step.
+-- Marking begins and goes on in a core: k is the core by its fields before the step.
 use Rattle.std.proofs.Common.{◌≡◌, ℕ, zero, suc, ◌+◌, ◌<◌, ◌≤◌, true, false, List, [], ◌∷◌, None, length, refl, sym, ◌∙◌, ap, subst, arith}
 use Rattle.std.specs.Prelude.{slice_index}
 use Rattle.std.proofs.lemmas.List.{length-replicate}
 use Rattle.heap_model.specs.Graph.{Graph}
 use Rattle.heap_model.specs.Heap.{Heap, Shows, IsClosed}
 use Rattle.heap_model.proofs.Shown.{closed}
+use Rattle.heap_model.proofs.Unreached.{unreached_begins}
 use Rattle.heap_model.specs.Marking.{KeepsSnapshot, Begins}
 use Rattle.regions.specs.Table.{Table, top_of}
 use Rattle.alloc_buffers.specs.Placement.{Buffers, BuffersStand, AreAbove, retired}
-use Rattle.mark_bitmap.specs.Marks.{is_marked, marked_count, HasNone}
-use Rattle.mark_bitmap.specs.Tops.{exchanged}
+use Rattle.mark_bitmap.specs.Marks.{marked_count, HasNone}
 use Rattle.mark_bitmap.specs.Grey.{is_grey}
-use Rattle.satb_log.specs.Logs.{log_of, logged}
+use Rattle.satb_log.specs.Logs.{log_of}
 use Rattle.marker.specs.Views as views
 use Rattle.marker.specs.Stands.{MarkerStands}
-use Rattle.marker.specs.Steps.{SameRoles, KeepsSnapshots, Grows, ScansMore}
+use Rattle.marker.specs.Steps.{SameRoles, KeepsSnapshots, Grows}
 use Rattle.marker.specs.Counts.{IsMore, restarted}
-use Rattle.marker.specs.Ends.{EndsExactly}
 use Rattle.marker.specs.declared.marker.Marker.{Marker}
 use Rattle.marker.proofs.Views.{same_heap, previous_heap}
 use Rattle.step_core.specs.Stands.{CoreState, kept_of, heap_of, RemembersFields, ShowsGraph, KeepsFrom, IsCore}
-use Rattle.step_core.specs.Cycle.{HasBegun, HasMarked, HasRemarked}
+use Rattle.step_core.specs.Cycle.{HasBegun, HasMarked}
 use Rattle.regions.specs.Shaped.{IsShaped}
 use Rattle.step_core.proofs.Cores.Layers.{layers_marked}
 use Rattle.step_core.proofs.Mutating.Small.{ends_at_tops}
@@ -36,7 +35,7 @@ to_fields k c e P p = subst P (sym e) p
 -- marking can begin
 pub can_begin : (k : CoreState) → IsCore k → IsClosed (views.heap_of k.table k.roots k.marker)
 unfolding kept_of
-can_begin k core = closed core.state.graph (heap_of k) core.stands.shows.shows
+can_begin k core = closed core.footing.graph (heap_of k) core.rests.shows.shows
 
 -- the same heap is shown
 shows_same : (c : CoreState) (b : Buffers) (m : Marker) → views.heap_of c.table c.roots m ≡ views.heap_of c.table c.roots c.marker → (g : Graph) → ShowsGraph g c → ShowsGraph g (with_marker c b m)
@@ -105,8 +104,13 @@ module _ (k : CoreState) (core : IsCore k) (b : Buffers) (m : Marker) (retires :
     rows = core.rows;
     places = core.places;
     names = core.names;
-    state = record { graph = core.state.graph; snapshot = core.state.graph };
-    stands = record { shows = begun_shows core.state.graph core.stands.shows; keeps = begun_keeps core.state.graph core.stands.shows };
+    footing = record { graph = core.footing.graph; snapshot = core.footing.graph };
+    rests = record {
+      shows = begun_shows core.footing.graph core.rests.shows;
+      keeps = begun_keeps core.footing.graph core.rests.shows;
+      sound = core.rests.sound;
+      unreached = unreached_begins core.footing.graph core.rests.sound;
+    };
   }
 
 -- marking goes on
@@ -120,7 +124,7 @@ module _ (k : CoreState) (core : IsCore k) (run : k.marker.running ≡ true) (m 
 
   pub marked_keeps : (s : Graph) → KeepsFrom s k → KeepsFrom s (with_marker k k.buffers m)
   unfolding kept_of
-  marked_keeps s f = record { earlier = f.earlier; marking = λ on. snapshots s core.state.graph k.roots core.stands.shows.shows (f.marking run) }
+  marked_keeps s f = record { earlier = f.earlier; marking = λ on. snapshots s core.footing.graph k.roots core.rests.shows.shows (f.marking run) }
 
   has_marked : (units n : ℕ) → n ≤ units → (n < units → HasNone (is_grey m.bitmaps.next m.grey) 0) → IsMore k.marker.scans m.scans n
       → marked_count m.grey.scanned ≡ marked_count k.marker.grey.scanned + n → Grows k.marker m → HasMarked units k (with_marker k k.buffers m)
@@ -150,84 +154,6 @@ module _ (k : CoreState) (core : IsCore k) (run : k.marker.running ≡ true) (m 
     rows = core.rows;
     places = core.places;
     names = core.names;
-    state = core.state;
-    stands = record { shows = marked_shows core.state.graph core.stands.shows; keeps = marked_keeps core.state.snapshot core.stands.keeps };
-  }
-
--- logs that hold nothing together are empty
-none_in : (ls : List (List ℕ)) (n : ℕ) → logged ls ≡ [] → length (log_of ls n) ≡ 0
-none_in [] n e = refl
-none_in ([] ∷ ls) zero e = refl
-none_in ([] ∷ ls) (suc n) e = none_in ls n e
-none_in ((x ∷ l) ∷ ls) n e = absurd cc
-
--- marking ends
-module _ (k : CoreState) (core : IsCore k) (run : k.marker.running ≡ true) (m : Marker) (n : ℕ) (st : MarkerStands k.table m) (over : m.running ≡ false)
-    (exact : EndsExactly k.table k.marker m n) (tops : m.tams ≡ exchanged k.marker.tams) (logs : length m.logs ≡ length k.marker.logs) where
-  pub remarked_shows : (g : Graph) → ShowsGraph g k → ShowsGraph g (with_marker k k.buffers m)
-  unfolding kept_of
-  remarked_shows g s = record {
-    room = s.room;
-    mutators = s.mutators;
-    next = s.next;
-    shows = (exact.ends core.state.snapshot g k.roots s.shows (core.stands.keeps.marking run)).shows;
-  }
-
-  -- what is kept then was kept before
-  remarked_remembers : RemembersFields (with_marker k k.buffers m)
-  unfolding kept_of
-  remarked_remembers =
-      let ends = exact.ends core.state.snapshot core.state.graph k.roots core.stands.shows.shows (core.stands.keeps.marking run) in
-      remembers_on k (with_marker k k.buffers m) refl refl refl refl (λ a o e. (o, ends.kept a o e, refl)) core.remembers
-
-  pub remarked_keeps : (s : Graph) → KeepsFrom s k → KeepsFrom s (with_marker k k.buffers m)
-  remarked_keeps s f = record { earlier = f.earlier; marking = λ on. absurd cc }
-
-  module _ (scans : m.scans.since ≡ n) (counted : m.scans.since ≡ marked_count m.grey.scanned) (work : ScansMore k.marker m) (scanned : (a : ℕ) → is_marked k.marker.grey.scanned a ≡ true → is_marked m.grey.scanned a ≡ true)
-      (marks : m.bitmaps.next ≡ k.marker.bitmaps.previous) where
-    has_remarked : HasRemarked n k (with_marker k k.buffers m)
-    unfolding kept_of
-    has_remarked = record {
-      same = refl;
-      over = over;
-      ends = λ s stands. exact.ends s.snapshot s.graph k.roots stands.shows.shows (stands.keeps.marking run);
-      quiet = λ g stands. exact.quiet g k.roots stands.shows.shows (stands.keeps.marking run);
-      scans = scans;
-      counted = counted;
-      work = work;
-      scanned = scanned;
-      tops = tops;
-      marks = marks;
-    }
-
-    pub remarked_from : (c : CoreState) → k ≡ c → HasRemarked n c (with_marker k k.buffers m)
-    remarked_from c e = subst (λ (d : CoreState). HasRemarked n d (with_marker k k.buffers m)) e has_remarked
-
-  pub remarked_kept : IsCore (with_marker k k.buffers m)
-  remarked_kept = record {
-    suits = core.suits;
-    layers = record {
-      region_size = core.layers.region_size;
-      region_count = core.layers.region_count;
-      buffer_size = core.layers.buffer_size;
-      open_buffers = core.layers.open_buffers;
-      logs = logs ∙ core.layers.logs;
-      buffers = core.layers.buffers;
-      unmoved = core.layers.unmoved;
-      marker = st;
-      above_previous = rw tops core.layers.above_next;
-      above_next = rw tops core.layers.above_previous;
-      room = λ i. let none = none_in m.logs i (st.idle over) in omega arith;
-      halves = core.layers.halves;
-      ends_previous = rw tops core.layers.ends_next;
-      ends_next = rw tops core.layers.ends_previous;
-    };
-    cards = core.cards;
-    remembers = remarked_remembers;
-    room = core.room;
-    rows = core.rows;
-    places = core.places;
-    names = core.names;
-    state = core.state;
-    stands = record { shows = remarked_shows core.state.graph core.stands.shows; keeps = remarked_keeps core.state.snapshot core.stands.keeps };
+    footing = core.footing;
+    rests = record { shows = marked_shows core.footing.graph core.rests.shows; keeps = marked_keeps core.footing.snapshot core.rests.keeps; sound = core.rests.sound; unreached = core.rests.unreached };
   }

@@ -199,8 +199,8 @@ module _ (k : CoreState) (core : IsCore k) (shaped : IsShaped k.table) (n m : �
 
   remembers_after : RemembersFields after
   remembers_after =
-      let shows = release_shows core.state.graph core.stands.shows in
-      let field = closed core.state.graph (heap_of after) shows.shows in
+      let shows = release_shows core.footing.graph core.rests.shows in
+      let field = closed core.footing.graph (heap_of after) shows.shows in
       subst (λ (w : ℕ). Remembers w (kept_of after) (card_words k.config) (is_dirty k.cards) (covers ss)) (sym frees.size) (record {
         each = λ at index target x.
             let old = core.remembers.each at index target (record { object = x.object; kept_is = sym (kept_same at) ∙ x.kept_is; field_is = x.field_is; leaves = x.leaves }) in
@@ -263,8 +263,8 @@ module _ (k : CoreState) (core : IsCore k) (shaped : IsShaped k.table) (n m : �
     rows = core.rows;
     places = core.places;
     names = core.names;
-    state = core.state;
-    stands = record { shows = release_shows core.state.graph core.stands.shows; keeps = release_keeps core.state.snapshot core.stands.keeps };
+    footing = core.footing;
+    rests = record { shows = release_shows core.footing.graph core.rests.shows; keeps = release_keeps core.footing.snapshot core.rests.keeps; sound = core.rests.sound; unreached = core.rests.unreached };
   }
 
   -- the live bounds of the other regions

@@ -8,7 +8,7 @@ use Rattle.heap_words.specs.declared.config.Config.{Config}
 use Rattle.std.proofs.lemmas.List.{length-set}
 use Rattle.std.proofs.lemmas.Option.{slice_get-get_or}
 use Rattle.heap_model.proofs.Changed.{root_set_shows, object_set_shows}
-use Rattle.regions.specs.Table.{Table, pointers_at, values_at, object_values, set_value}
+use Rattle.regions.specs.Table.{Table, pointers_at, weaks_at, values_at, object_values, set_value}
 use Rattle.regions.proofs.Tiles.Changes.{WritesObject, value_put}
 use Rattle.regions.proofs.Words.Values.{with_value}
 use Rattle.object_graph.specs.State.{with_root, register_place}
@@ -21,7 +21,7 @@ use Rattle.object_graph.specs.declared.step.Refusal.TheVariants as refusals
 use Rattle.object_graph.specs.declared.step.Register.{Register}
 use Rattle.step_core.specs.Stands.{CoreState, kept_of, heap_of, ShowsGraph, IsCore, IsWordOf, HasObject, Leads, name_in}
 use Rattle.step_core.specs.Answers.{Acts}
-use Rattle.step_core.proofs.Mutating.Reading.{field_shown, no_field, no_value, shown_name, object_kept, pointers_there, AllZip-length}
+use Rattle.step_core.proofs.Mutating.Reading.{field_shown, slot_shown, no_field, no_slot, no_value, shown_name, object_kept, pointers_there, weaks_there, AllZip-length}
 use Rattle.step_core.proofs.Mutating.Written.{SamePlaces, object_written}
 
 pub acts_by : (g : Graph) (m : ℕ) (a : Action) (reply : Reply) (c : CoreState) (out : Outcome) → act g m a ≡ out → reply ≡ out.0 → ShowsGraph out.1 c → Acts g m a reply c
@@ -49,19 +49,25 @@ values_there c a x e = ap object_values (object_kept c a x e)
 
 pub field_word : (c : CoreState) (place a i : ℕ) (w : Option ℕ) → IsCore c → Leads c place (Some a) → slice_get (pointers_at c.table a) i ≡ Some w → IsWordOf (heap_of c) w
 field_word c place a i w k l e =
-    let h = l k.state.graph k.stands.shows in
-    let f = field_shown k.state.graph c place a i w h (ap (λ (ps : List (Option ℕ)). slice_get ps i) (sym (pointers_there c a h.stored h.at)) ∙ e) in
+    let h = l k.footing.graph k.rests.shows in
+    let f = field_shown k.footing.graph c place a i w h (ap (λ (ps : List (Option ℕ)). slice_get ps i) (sym (pointers_there c a h.stored h.at)) ∙ e) in
+    record { name = f.name; shown = f.shown }
+
+pub slot_word : (c : CoreState) (place a i : ℕ) (w : Option ℕ) → IsCore c → Leads c place (Some a) → slice_get (weaks_at c.table a) i ≡ Some w → IsWordOf (heap_of c) w
+slot_word c place a i w k l e =
+    let h = l k.footing.graph k.rests.shows in
+    let f = slot_shown k.footing.graph c place a i w h (ap (λ (ps : List (Option ℕ)). slice_get ps i) (sym (weaks_there c a h.stored h.at)) ∙ e) in
     record { name = f.name; shown = f.shown }
 
 -- the core with another object of the same name at an address
 pub object_shows : (g : Graph) (c c' : CoreState) (a : ℕ) (x y : Stored) (o p : Object) → ShowsGraph g c → SamePlaces c c' → ObjectSet (heap_of c) (heap_of c') a x y
-    → object_named g x.name ≡ Some o → AllZip (IsShown (heap_of c)) y.pointers p.pointers → y.values ≡ p.values
+    → object_named g x.name ≡ Some o → AllZip (IsShown (heap_of c)) y.pointers p.pointers → AllZip (IsShown (heap_of c)) y.weaks p.weaks → y.values ≡ p.values
     → ShowsGraph (with_changed g x.name p) c'
-object_shows g c c' a x y o p s same set named pointers values = record {
+object_shows g c c' a x y o p s same set named pointers weaks values = record {
   room = s.room ∙ sym (ap (λ (k : Config). k.regions * k.words) same.config);
   mutators = s.mutators ∙ sym (ap (λ (k : Config). k.mutators) same.config);
   next = ap (λ n. g.first_name + n) (length-set g.objects (x.name - g.first_name) p) ∙ s.next ∙ sym same.next;
-  shows = object_set_shows g (heap_of c) (heap_of c') s.shows a x y o p set named pointers values;
+  shows = object_set_shows g (heap_of c) (heap_of c') s.shows a x y o p set named pointers weaks values;
 }
 
 module _ (g : Graph) (c : CoreState) (s : ShowsGraph g c) (m : ℕ) (object : Register) where
@@ -77,6 +83,18 @@ module _ (g : Graph) (c : CoreState) (s : ShowsGraph g c) (m : ℕ) (object : Re
         let h = l g s in
         let none = no_field g c _ a i h (rw (pointers_there c a h.stored h.at) at k) in
         acts_by g m (actions.Put object i value) (replies.Refused refusals.NoField) c (refused g refusals.NoField) (on_found g c m a object _ h ∙ rw none refl) refl s
+
+    pub get_weak_past : (to : Register) (i : ℕ) → length (weaks_at c.table a) ≤ i → Acts g m (actions.GetWeak to object i) (replies.Refused refusals.NoField) c
+    get_weak_past to i k =
+        let h = l g s in
+        let none = no_slot g c _ a i h (rw (weaks_there c a h.stored h.at) at k) in
+        acts_by g m (actions.GetWeak to object i) (replies.Refused refusals.NoField) c (refused g refusals.NoField) (on_found g c m a object _ h ∙ rw none refl) refl s
+
+    pub put_weak_past : (i : ℕ) (value : Option Register) → length (weaks_at c.table a) ≤ i → Acts g m (actions.PutWeak object i value) (replies.Refused refusals.NoField) c
+    put_weak_past i value k =
+        let h = l g s in
+        let none = no_slot g c _ a i h (rw (weaks_there c a h.stored h.at) at k) in
+        acts_by g m (actions.PutWeak object i value) (replies.Refused refusals.NoField) c (refused g refusals.NoField) (on_found g c m a object _ h ∙ rw none refl) refl s
 
     pub read_past : (i : ℕ) → length (values_at c.table a) ≤ i → Acts g m (actions.Read object i) (replies.Refused refusals.NoField) c
     read_past i k =
@@ -101,6 +119,31 @@ module _ (g : Graph) (c : CoreState) (s : ShowsGraph g c) (m : ℕ) (object : Re
         acts_by g m (actions.Get to object i) (replies.Named n) c' (replies.Named f.name, with_root g (register_place m to.number) f.name)
         (on_found g c m a object _ h ∙ rw there refl) (ap replies.Named (name ∙ shown_name c w f.name f.shown)) (after g f.name s f.shown)
 
+    -- the same of a weak slot
+    pub get_weak_done : (to : Register) (i : ℕ) (w : Option ℕ) (n : Option ℕ) (c' : CoreState) → slice_get (weaks_at c.table a) i ≡ Some w → n ≡ name_in c.table w
+        → ((g : Graph) (v : Option ℕ) → ShowsGraph g c → IsShown (heap_of c) w v → ShowsGraph (with_root g (register_place m to.number) v) c')
+        → Acts g m (actions.GetWeak to object i) (replies.Named n) c'
+    get_weak_done to i w n c' e name after =
+        let h = l g s in
+        let f = slot_shown g c _ a i w h (ap (λ (ps : List (Option ℕ)). slice_get ps i) (sym (weaks_there c a h.stored h.at)) ∙ e) in
+        let there = f.there in
+        acts_by g m (actions.GetWeak to object i) (replies.Named n) c' (replies.Named f.name, with_root g (register_place m to.number) f.name)
+        (on_found g c m a object _ h ∙ rw there refl) (ap replies.Named (name ∙ shown_name c w f.name f.shown)) (after g f.name s f.shown)
+
+    -- what the reply names is what the slot shows
+    pub slot_named : (i : ℕ) (w n v : Option ℕ) → slice_get (weaks_at c.table a) i ≡ Some w → n ≡ name_in c.table w → replies.Named n ≡ replies.Named v → IsShown (heap_of c) w v
+    slot_named i w n v e name reply =
+        let h = l g s in
+        let f = slot_shown g c _ a i w h (ap (λ (ps : List (Option ℕ)). slice_get ps i) (sym (weaks_there c a h.stored h.at)) ∙ e) in
+        let same : n ≡ v = let q = reply in cc in
+        subst (IsShown (heap_of c) w) (sym (shown_name c w f.name f.shown) ∙ sym name ∙ same) f.shown
+
+    pub weaks_done : (n : ℕ) → n ≡ length (weaks_at c.table a) → Acts g m (actions.Weaks object) (replies.Word n) c
+    weaks_done n e =
+        let h = l g s in
+        let count : n ≡ length h.object.weaks = e ∙ ap (λ (ps : List (Option ℕ)). length ps) (weaks_there c a h.stored h.at) ∙ AllZip-length (IsShown (heap_of c)) h.stored.weaks h.object.weaks h.weaks in
+        acts_by g m (actions.Weaks object) (replies.Word n) c (replies.Word (length h.object.weaks), g) (on_found g c m a object _ h) (ap replies.Word count) s
+
     pub read_done : (i w : ℕ) → slice_get (values_at c.table a) i ≡ Some w → Acts g m (actions.Read object i) (replies.Word w) c
     read_done i w e =
         let h = l g s in
@@ -117,7 +160,7 @@ module _ (g : Graph) (c : CoreState) (s : ShowsGraph g c) (m : ℕ) (object : Re
     -- put: the store
     pub put_done : (i : ℕ) (value : Option Register) (w : Option ℕ) (c' : CoreState) → i < length (pointers_at c.table a) → IsShown (heap_of c) w (stored g m value)
         → ((g : Graph) (x : Stored) (o : Object) (v : Option ℕ) → ShowsGraph g c → kept_of c a ≡ Some x → object_named g x.name ≡ Some o → IsShown (heap_of c) w v
-        → ShowsGraph (with_changed g x.name (record { pointers = slice_set o.pointers i v; values = o.values })) c')
+        → ShowsGraph (with_changed g x.name (record o { pointers = slice_set o.pointers i v })) c')
         → Acts g m (actions.Put object i value) replies.Done c'
     put_done i value w c' k shown after =
         let h = l g s in
@@ -125,19 +168,38 @@ module _ (g : Graph) (c : CoreState) (s : ShowsGraph g c) (m : ℕ) (object : Re
         let f = field_shown g c _ a i _ h (slice_get-get_or h.stored.pointers i None k') in
         let there = f.there in
         let v : Option ℕ = stored g m value in
-        let p : Object = record { pointers = slice_set h.object.pointers i v; values = h.object.values } in
+        let p : Object = record h.object { pointers = slice_set h.object.pointers i v } in
         acts_by g m (actions.Put object i value) replies.Done c' (replies.Done, with_changed g h.stored.name p)
         (on_found g c m a object _ h ∙ rw there refl) refl (after g h.stored h.object v s h.at h.named shown)
+
+    pub put_weak_done : (i : ℕ) (value : Option Register) (w : Option ℕ) (c' : CoreState) → i < length (weaks_at c.table a) → IsShown (heap_of c) w (stored g m value)
+        → ((g : Graph) (x : Stored) (o : Object) (v : Option ℕ) → ShowsGraph g c → kept_of c a ≡ Some x → object_named g x.name ≡ Some o → IsShown (heap_of c) w v
+        → ShowsGraph (with_changed g x.name (record o { weaks = slice_set o.weaks i v })) c')
+        → Acts g m (actions.PutWeak object i value) replies.Done c'
+    put_weak_done i value w c' k shown after =
+        let h = l g s in
+        let k' : i < length h.stored.weaks = rw (weaks_there c a h.stored h.at) at k in
+        let f = slot_shown g c _ a i _ h (slice_get-get_or h.stored.weaks i None k') in
+        let there = f.there in
+        let v : Option ℕ = stored g m value in
+        let p : Object = record h.object { weaks = slice_set h.object.weaks i v } in
+        acts_by g m (actions.PutWeak object i value) replies.Done c' (replies.Done, with_changed g h.stored.name p)
+        (on_found g c m a object _ h ∙ rw there refl) refl (after g h.stored h.object v s h.at h.named shown)
+
+    pub write_is : (i v : ℕ) (h : HasObject g c (register_place m object.number) a) → i < length (values_at c.table a)
+        → act g m (actions.Write object i v) ≡ (replies.Done, with_changed g h.stored.name (record h.object { values = slice_set h.object.values i v }))
+    write_is i v h k =
+        let k' : i < length h.stored.values = rw (values_there c a h.stored h.at) at k in
+        let there : slice_get h.object.values i ≡ Some (get_or h.stored.values i 0) = ap (λ (ps : List ℕ). slice_get ps i) (sym h.values) ∙ slice_get-get_or h.stored.values i 0 k' in
+        on_found g c m a object _ h ∙ rw there refl
 
     pub write_done : (i v : ℕ) (t : Table) → i < length (values_at c.table a) → 0 < c.table.words_per_region → t ≡ set_value c.table a i v
         → Acts g m (actions.Write object i v) replies.Done (record c { table = t })
     write_done i v t k z e =
         let h = l g s in
-        let k' : i < length h.stored.values = rw (values_there c a h.stored h.at) at k in
-        let there : slice_get h.object.values i ≡ Some (get_or h.stored.values i 0) = ap (λ (ps : List ℕ). slice_get ps i) (sym h.values) ∙ slice_get-get_or h.stored.values i 0 k' in
-        let p : Object = record { pointers = h.object.pointers; values = slice_set h.object.values i v } in
+        let p : Object = record h.object { values = slice_set h.object.values i v } in
         let writes = subst (λ (u : Table). WritesObject c.table u a h.stored (with_value h.stored i v)) (sym e) (value_put c.table a i v h.stored z (object_kept c a h.stored h.at)) in
         acts_by g m (actions.Write object i v) replies.Done (record c { table = t }) (replies.Done, with_changed g h.stored.name p)
-        (on_found g c m a object _ h ∙ rw there refl) refl
+        (write_is i v h k) refl
         (object_shows g c (record c { table = t }) a h.stored (with_value h.stored i v) h.object p s (record { config = refl; next = refl })
-        (object_written c (record c { table = t }) a h.stored (with_value h.stored i v) writes refl h.at (record { tams = refl; previous = refl; roots = refl })) h.named h.pointers (ap (λ (ps : List ℕ). slice_set ps i v) h.values))
+        (object_written c (record c { table = t }) a h.stored (with_value h.stored i v) writes refl h.at (record { tams = refl; previous = refl; roots = refl })) h.named h.pointers h.weaks (ap (λ (ps : List ℕ). slice_set ps i v) h.values))

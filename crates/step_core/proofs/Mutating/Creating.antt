@@ -12,9 +12,10 @@ use Rattle.heap_model.specs.Kept.{kept_by}
 use Rattle.heap_model.specs.Marking.{Marking, KeepsSnapshot}
 use Rattle.heap_model.proofs.Mutate.{object_added}
 use Rattle.heap_model.proofs.Changed.{object_added_shows}
+use Rattle.heap_model.proofs.Unreached.{object_sound, unreached_object}
 use Rattle.regions.specs.Table.{Table, new_object, object_at}
 use Rattle.object_graph.specs.State.{register_place}
-use Rattle.object_graph.specs.Machine.{act}
+use Rattle.object_graph.specs.Machine.{made}
 use Rattle.object_graph.specs.declared.step.Action.TheVariants as actions
 use Rattle.object_graph.specs.declared.step.Reply.TheVariants as replies
 use Rattle.object_graph.specs.declared.step.Register.{Register}
@@ -25,6 +26,7 @@ use Rattle.step_core.specs.Stands.{CoreState, kept_of, heap_of, marking_of, Show
 use Rattle.step_core.specs.Cycle.{LeavesRegions}
 use Rattle.step_core.specs.Answers.{Acts}
 use Rattle.step_core.proofs.Mutating.Acting.{acts_by}
+use Rattle.step_core.proofs.Mutating.Fields.{nil_get, nil_fields}
 use Rattle.step_core.proofs.Mutating.Small.{halves_added, ends_added}
 use Rattle.step_core.proofs.Cores.Added.{Creates}
 use Rattle.step_core.proofs.Cores.Sizes.{some_words}
@@ -32,20 +34,15 @@ use Rattle.step_core.proofs.Mutating.Written.{kept_is, kept_above, kept_same, ma
 use Rattle.step_core.proofs.Cores.Remembering.{remembers_new}
 use Rattle.step_core.proofs.Cores.Layers.{follows_of, stands_over}
 
-abbrev fresh : ℕ → ℕ → Object
-fresh p d = record { pointers = replicate p None; values = replicate d 0 }
+abbrev fresh : ℕ → ℕ → ℕ → Object
+fresh p weak d = record { pointers = replicate p None; weaks = replicate weak None; values = replicate d 0 }
 
-act_new : (g : Graph) (m p d : ℕ) (to : Register) → 2 + p + d ≤ g.room → next_name g ≢ 2 ^ 64 - 1 → act g m (actions.New to (record { pointers = p; values = d })) ≡ (replies.Named (Some (next_name g)), with_object g (fresh p d) (register_place m to.number))
-act_new g m p d to h n = grind (arith, common_steps, nat_tests)
+made_is : (g : Graph) (m p weak d : ℕ) (to : Register) → 2 + p + weak + d ≤ g.room → next_name g ≢ 2 ^ 64 - 1 → made g m to (record { pointers = p; values = d }) weak ≡ (replies.Named (Some (next_name g)), with_object g (fresh p weak d) (register_place m to.number))
+made_is g m p weak d to h n = grind (arith, common_steps, nat_tests)
 
 nil_shown : (h : Heap) (p : ℕ) → AllZip (IsShown h) (replicate p None) (replicate p None)
 nil_shown h zero = tt
 nil_shown h (suc p) = (tt, nil_shown h p)
-
-nil_get : (p i b : ℕ) → slice_get (replicate {A = Option ℕ} p None) i ≡ Some (Some b) → ⊥
-nil_get zero i b e = cc
-nil_get (suc p) zero b e = cc
-nil_get (suc p) (suc i) b e = nil_get p i b e
 
 -- the core with a new object
 abbrev pub with_new : CoreState → Table → Buffers → ℕ → ℕ → CoreState
@@ -59,14 +56,14 @@ above_below words tops a z above = lt-not (above (a / words) (omega arith) (omeg
     lt-not : slice_index tops (a / words) ≤ a → nat_lt a (slice_index tops (a / words)) ≡ false
     lt-not le = grind (arith, common_steps, nat_tests)
 
-module _ (k : CoreState) (m : ℕ) (to : Register) (t2 : Table) (b1 : Buffers) (a p d : ℕ)
-    (core : IsCore k) (made : Creates k.table t2 k.buffers b1 a (new_object k.next p d)) (room : 2 + p + d ≤ k.config.regions * k.config.words) (names : k.next ≢ 2 ^ 64 - 1) where
+module _ (k : CoreState) (m : ℕ) (to : Register) (t2 : Table) (b1 : Buffers) (a p weak d : ℕ)
+    (core : IsCore k) (makes : Creates k.table t2 k.buffers b1 a (new_object k.next p weak d)) (room : 2 + p + weak + d ≤ k.config.regions * k.config.words) (names : k.next ≢ 2 ^ 64 - 1) where
   words : t2.words_per_region ≡ k.table.words_per_region
-  words = made.region_size
+  words = makes.region_size
 
   -- the place lies above both tops at mark start of its region
   new_below : (tops : List ℕ) → AreAbove k.table k.buffers (slice_index tops) → is_below k.table.words_per_region tops a ≡ false
-  new_below tops above = above_below k.table.words_per_region tops a (some_words k core) (made.above (slice_index tops) above).0
+  new_below tops above = above_below k.table.words_per_region tops a (some_words k core) (makes.above (slice_index tops) above).0
 
   abbrev new : ℕ → CoreState
   new place = with_new k t2 b1 place a
@@ -75,83 +72,93 @@ module _ (k : CoreState) (m : ℕ) (to : Register) (t2 : Table) (b1 : Buffers) (
   unfolding kept_of
   kept_new place y = rw words refl
 
-  added : (place : ℕ) → ObjectAdded (heap_of k) (heap_of (new place)) a (new_object k.next p d) place
+  added : (place : ℕ) → ObjectAdded (heap_of k) (heap_of (new place)) a (new_object k.next p weak d) place
   added place = record {
-    was = kept_is k a ∙ kept_above (object_at k.table) (is_below k.table.words_per_region k.marker.tams.previous) (is_marked k.marker.bitmaps.previous) a below ∙ made.was;
-    is = kept_new place a ∙ kept_above (object_at t2) (is_below k.table.words_per_region k.marker.tams.previous) (is_marked k.marker.bitmaps.previous) a below ∙ made.is;
-    nil = nil_get p;
-    others = λ y ne. kept_new place y ∙ kept_same (object_at k.table) (object_at t2) (is_below k.table.words_per_region k.marker.tams.previous) (is_marked k.marker.bitmaps.previous) y (made.others y ne) ∙ sym (kept_is k y);
+    was = kept_is k a ∙ kept_above (object_at k.table) (is_below k.table.words_per_region k.marker.tams.previous) (is_marked k.marker.bitmaps.previous) a below ∙ makes.was;
+    is = kept_new place a ∙ kept_above (object_at t2) (is_below k.table.words_per_region k.marker.tams.previous) (is_marked k.marker.bitmaps.previous) a below ∙ makes.is;
+    nil = λ i b e. nil_get p i b e;
+    others = λ y ne. kept_new place y ∙ kept_same (object_at k.table) (object_at t2) (is_below k.table.words_per_region k.marker.tams.previous) (is_marked k.marker.bitmaps.previous) y (makes.others y ne) ∙ sym (kept_is k y);
     roots = refl;
   }
     where
       below : is_below k.table.words_per_region k.marker.tams.previous a ≡ false
       below = new_below k.marker.tams.previous core.layers.above_previous
 
-  pub new_acts : (g : Graph) → ShowsGraph g k → Acts g m (actions.New to (record { pointers = p; values = d })) (replies.Named (Some k.next)) (with_new k t2 b1 (register_place m to.number) a)
+  new_shows : (g : Graph) → ShowsGraph g k → ShowsGraph (with_object g (fresh p weak d) (register_place m to.number)) (with_new k t2 b1 (register_place m to.number) a)
+  new_shows g s = record {
+    room = s.room;
+    mutators = s.mutators;
+    next = (let next = s.next in let len = length-append g.objects (fresh p weak d ∷ []) in omega arith);
+    shows = object_added_shows g (heap_of k) (heap_of (with_new k t2 b1 (register_place m to.number) a)) s.shows a (new_object k.next p weak d) (fresh p weak d) (register_place m to.number) (added (register_place m to.number)) (sym s.next)
+        (nil_shown (heap_of k) p) (nil_shown (heap_of k) weak) refl;
+  }
+
+  pub new_acts : (g : Graph) → ShowsGraph g k → Acts g m (actions.NewWeak to (record { pointers = p; values = d }) weak) (replies.Named (Some k.next)) (with_new k t2 b1 (register_place m to.number) a)
   new_acts g s =
       let next = s.next in
-      let fits : 2 + p + d ≤ g.room = rw s.room room in
+      let fits : 2 + p + weak + d ≤ g.room = rw s.room room in
       let there : next_name g ≢ 2 ^ 64 - 1 = λ h. names (sym next ∙ h) in
-      acts_by g m (actions.New to (record { pointers = p; values = d })) (replies.Named (Some k.next)) (with_new k t2 b1 (register_place m to.number) a) (replies.Named (Some (next_name g)), with_object g (fresh p d) (register_place m to.number))
-      (act_new g m p d to fits there) (ap (λ (j : ℕ). replies.Named (Some j)) (sym next)) (record {
-        room = s.room;
-        mutators = s.mutators;
-        next = (let len = length-append g.objects (fresh p d ∷ []) in omega arith);
-        shows = object_added_shows g (heap_of k) (heap_of (with_new k t2 b1 (register_place m to.number) a)) s.shows a (new_object k.next p d) (fresh p d) (register_place m to.number) (added (register_place m to.number)) (sym next) (nil_shown (heap_of k) p) refl;
-      })
+      acts_by g m (actions.NewWeak to (record { pointers = p; values = d }) weak) (replies.Named (Some k.next)) (with_new k t2 b1 (register_place m to.number) a) (replies.Named (Some (next_name g)), with_object g (fresh p weak d) (register_place m to.number))
+      (made_is g m p weak d to fits there) (ap (λ (j : ℕ). replies.Named (Some j)) (sym next)) (new_shows g s)
 
   pub new_keeps : (s : Graph) → KeepsFrom s k → KeepsFrom s (with_new k t2 b1 (register_place m to.number) a)
   new_keeps s f = record {
     earlier = (let le = f.earlier in omega arith);
     marking = λ run. subst (λ (marks : Marking). KeepsSnapshot s (heap_of (new (register_place m to.number))) marks) (sym (marking_same k.table t2 k.marker words))
-        (object_added (IsReachable s) (next_name s) (heap_of k) (marking_of k) (f.marking run) (heap_of (new (register_place m to.number))) a (new_object k.next p d) (register_place m to.number)
+        (object_added (IsReachable s) (next_name s) (heap_of k) (marking_of k) (f.marking run) (heap_of (new (register_place m to.number))) a (new_object k.next p weak d) (register_place m to.number)
         (new_below k.marker.tams.next core.layers.above_next) f.earlier (added (register_place m to.number)));
   }
 
   new_leaves_by : LeavesRegions k (with_new k t2 b1 (register_place m to.number) a)
-  new_leaves_by = record { config = refl; in_use = λ j used free. used (sym (made.kinds_stay j used) ∙ free) }
+  new_leaves_by = record { config = refl; in_use = λ j used free. used (sym (makes.kinds_stay j used) ∙ free) }
 
   pub new_leaves : (c : CoreState) → k ≡ c → LeavesRegions c (with_new k t2 b1 (register_place m to.number) a)
   new_leaves c e = subst (λ (d : CoreState). LeavesRegions d (with_new k t2 b1 (register_place m to.number) a)) e new_leaves_by
 
   pub new_kept : IsCore (with_new k t2 b1 (register_place m to.number) a)
   new_kept =
-      let shows = (new_acts core.state.graph core.stands.shows).shows in
-      let keeps = new_keeps core.state.snapshot core.stands.keeps in
-      let previous = (made.above (slice_index k.marker.tams.previous) core.layers.above_previous).1 in
-      let next = (made.above (slice_index k.marker.tams.next) core.layers.above_next).1 in
+      let g = core.footing.graph in
+      let shows = new_shows g core.rests.shows in
+      let keeps = new_keeps core.footing.snapshot core.rests.keeps in
+      let previous = (makes.above (slice_index k.marker.tams.previous) core.layers.above_previous).1 in
+      let next = (makes.above (slice_index k.marker.tams.next) core.layers.above_next).1 in
       record {
         suits = core.suits;
         layers = record {
           region_size = words ∙ core.layers.region_size;
-          region_count = made.region_count ∙ core.layers.region_count;
-          buffer_size = made.words ∙ core.layers.buffer_size;
-          open_buffers = made.open_count ∙ core.layers.open_buffers;
+          region_count = makes.region_count ∙ core.layers.region_count;
+          buffer_size = makes.words ∙ core.layers.buffer_size;
+          open_buffers = makes.open_count ∙ core.layers.open_buffers;
           logs = core.layers.logs;
-          buffers = made.stand;
-          unmoved = made.unmoved;
-          marker = stands_over k.table t2 k.marker core.layers.marker made.region_count words
-              (λ j lt. previous.tops j (rw made.region_count lt)) (λ j lt. next.tops j (rw made.region_count lt)) still
-              (follows_of (new (register_place m to.number)) _ core.state.snapshot shows keeps);
+          buffers = makes.stand;
+          unmoved = makes.unmoved;
+          marker = stands_over k.table t2 k.marker core.layers.marker makes.region_count words
+              (λ j lt. previous.tops j (rw makes.region_count lt)) (λ j lt. next.tops j (rw makes.region_count lt)) still
+              (follows_of (new (register_place m to.number)) _ core.footing.snapshot shows keeps);
           above_previous = previous;
           above_next = next;
           room = core.layers.room;
-          halves = halves_added k.table t2 a (new_object k.next p d) words made.kinds_stay made.is made.others (some_words k core) made.half core.layers.halves;
-          ends_previous = ends_added k.table t2 a (new_object k.next p d) words made.kinds_stay made.is made.others k.marker.tams.previous (made.above (slice_index k.marker.tams.previous) core.layers.above_previous).0 core.layers.ends_previous;
-          ends_next = ends_added k.table t2 a (new_object k.next p d) words made.kinds_stay made.is made.others k.marker.tams.next (made.above (slice_index k.marker.tams.next) core.layers.above_next).0 core.layers.ends_next;
+          halves = halves_added k.table t2 a (new_object k.next p weak d) words makes.kinds_stay makes.is makes.others (some_words k core) makes.half core.layers.halves;
+          ends_previous = ends_added k.table t2 a (new_object k.next p weak d) words makes.kinds_stay makes.is makes.others k.marker.tams.previous (makes.above (slice_index k.marker.tams.previous) core.layers.above_previous).0 core.layers.ends_previous;
+          ends_next = ends_added k.table t2 a (new_object k.next p weak d) words makes.kinds_stay makes.is makes.others k.marker.tams.next (makes.above (slice_index k.marker.tams.next) core.layers.above_next).0 core.layers.ends_next;
         };
         cards = core.cards;
-        remembers = remembers_new k (new (register_place m to.number)) a (new_object k.next p d) (register_place m to.number) refl words refl refl (added (register_place m to.number)) core.remembers;
+        remembers = remembers_new k (new (register_place m to.number)) a (new_object k.next p weak d) (register_place m to.number) refl words refl refl (added (register_place m to.number)) (λ i b e. nil_fields k.next p weak d i b e) core.remembers;
         room = core.room;
         rows = core.rows;
         places = length-set k.roots (register_place m to.number) (Some a) ∙ core.places;
         names = (let old = core.names in omega arith);
-        state = record { graph = (act core.state.graph m (actions.New to (record { pointers = p; values = d }))).1; snapshot = core.state.snapshot };
-        stands = record { shows = shows; keeps = keeps };
+        footing = record { graph = with_object g (fresh p weak d) (register_place m to.number); snapshot = core.footing.snapshot };
+        rests = record {
+          shows = shows;
+          keeps = keeps;
+          sound = object_sound g (fresh p weak d) (register_place m to.number) core.rests.sound (λ i n e. nil_fields k.next p weak d i n e);
+          unreached = unreached_object core.footing.snapshot g core.rests.unreached (fresh p weak d) (register_place m to.number) (let next = core.rests.shows.next in let early = core.rests.keeps.earlier in omega (arith, next, early));
+        };
       }
     where
       still : (y : ℕ) (x : Stored) → object_at k.table y ≡ Some x → (u : Stored) × (object_at t2 y ≡ Some u)
       still y x e = elim (cases_eq y a) [
-        | inl q ↦ (new_object k.next p d, ap (object_at t2) q ∙ made.is)
-        | inr ne ↦ (x, made.others y ne ∙ e)
+        | inl q ↦ (new_object k.next p weak d, ap (object_at t2) q ∙ makes.is)
+        | inr ne ↦ (x, makes.others y ne ∙ e)
       ]

@@ -2,7 +2,7 @@
 use Rattle.std.proofs.Common.{◌≡◌, ℕ, ◌+◌, ◌*◌, ◌/◌, ◌<◌, ◌≤◌, Bool, true, false, Option, Some, List, length, refl, sym, ◌∙◌, ap, subst, arith, inl, inr}
 use Rattle.std.specs.Prelude.{◌||◌, ◌==◌}
 use Rattle.heap_model.specs.Heap.{Heap, Stored, IsRoot, IsHeld, IsShown}
-use Rattle.regions.specs.Table.{Table, object_at, pointers_at}
+use Rattle.regions.specs.Table.{Table, object_at, fields_at}
 use Rattle.regions.specs.Tiles.{Object, tile_size}
 use Rattle.regions.specs.Shaped.{IsShaped}
 use Rattle.regions.proofs.Tiles.Laws.{object_tile}
@@ -10,6 +10,7 @@ use Rattle.cards.specs.Cards.{Cards, is_dirty, dirtied}
 use Rattle.cards.proofs.Laws.{dirty_after}
 use Rattle.heap_model.specs.Graph.{Graph}
 use Rattle.std.proofs.lemmas.Grind.{common_steps}
+use Rattle.std.proofs.lemmas.List.{length-append}
 use Rattle.std.proofs.lemmas.Bool.Decides.{nat_tests}
 use Rattle.remembered_sets.specs.Sets.{covers}
 use Rattle.refinement.specs.Remembering.{field_word, IsNoted}
@@ -18,7 +19,7 @@ use Rattle.heap_words.specs.Configs.{card_words}
 use Rattle.heap_words.proofs.Limits.{card_between}
 use Rattle.std.proofs.Math.Nat.{mul_assoc, mul-div_cancel, div-lt_iff_lt-mul}
 use Rattle.step_core.specs.Stands.{CoreState, kept_of, heap_of, ShowsGraph, KeepsFrom, IsCore}
-use Rattle.step_core.proofs.Mutating.Reading.{object_kept, pointers_there}
+use Rattle.step_core.proofs.Mutating.Reading.{object_kept, fields_there}
 use Rattle.step_core.proofs.Mutating.Storing.{rooted}
 
 tile_of : (t : Table) (a : ℕ) (x : Stored) → IsShaped t → object_at t a ≡ Some x → a + tile_size (Object x) ≤ length t.regions * t.words_per_region
@@ -26,11 +27,11 @@ unfolding object_at
 tile_of t a x shaped e = shaped.within a (Object x) (object_tile _ x e)
 
 -- the word of a field lies in the heap
-pub field_inside : (k : CoreState) (a i : ℕ) → IsCore k → IsShaped k.table → IsRoot (heap_of k) a → i < length (pointers_at k.table a) → a + 2 + i < length k.table.regions * k.table.words_per_region
+pub field_inside : (k : CoreState) (a i : ℕ) → IsCore k → IsShaped k.table → IsRoot (heap_of k) a → i < length (fields_at k.table a) → a + 2 + i < length k.table.regions * k.table.words_per_region
 field_inside k a i core shaped root within =
     let r = rooted k a core root in
     let whole = tile_of k.table a r.stored shaped (object_kept k a r.stored r.at) in
-    let count = ap (λ (ps : List (Option ℕ)). length ps) (pointers_there k a r.stored r.at) in
+    let count = ap (λ (ps : List (Option ℕ)). length ps) (fields_there k a r.stored r.at) ∙ length-append r.stored.pointers r.stored.weaks in
     omega (arith, whole, count, within)
 
 -- a card has a word
@@ -91,8 +92,8 @@ module _ (k : CoreState) (core : IsCore k) (m card : ℕ) (cs : Cards) (known : 
     rows = core.rows;
     places = core.places;
     names = core.names;
-    state = core.state;
-    stands = record { shows = shows_too core.state.graph core.stands.shows; keeps = keeps_too core.state.snapshot core.stands.keeps };
+    footing = core.footing;
+    rests = record { shows = shows_too core.footing.graph core.rests.shows; keeps = keeps_too core.footing.snapshot core.rests.keeps; sound = core.rests.sound; unreached = core.rests.unreached };
   }
     where
       shows_too : (g : Graph) → ShowsGraph g k → ShowsGraph g (record k { cards = cs })

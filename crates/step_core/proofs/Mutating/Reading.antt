@@ -4,16 +4,16 @@ use Rattle.std.specs.Prelude.{slice_get, IsSome}
 use Rattle.std.specs.List.{AllZip}
 use Rattle.std.proofs.lemmas.Option.{slice_get-get_or}
 use Rattle.heap_model.specs.Graph.{Graph, Object}
-use Rattle.heap_model.specs.Heap.{Heap, Stored, IsShown, IsRoot, IsHeld}
+use Rattle.heap_model.specs.Heap.{Heap, Stored, IsShown, IsRoot, IsHeld, fields}
 use Rattle.heap_model.proofs.Lists.{AllZip-get}
 use Rattle.heap_model.proofs.Changed.{root_read, at_least, named_at}
-use Rattle.regions.specs.Table.{object_at, pointers_at, object_pointers}
-use Rattle.object_graph.specs.State.{root_at}
+use Rattle.regions.specs.Table.{object_at, pointers_at, weaks_at, fields_at, object_pointers, object_weaks, object_fields}
 use Rattle.heap_model.proofs.Shown.{stands_once}
 use Rattle.regions.specs.Shaped.{IsShaped}
 use Rattle.regions.proofs.Tiles.InUse.{object_in_use}
 use Rattle.marker.proofs.Views.{kept_object}
-use Rattle.step_core.specs.Stands.{State, CoreState, kept_of, heap_of, ShowsGraph, Stands, IsCore, IsWordOf, IsRootWord, HasObject, Leads, name_in, name_of, IsWhole}
+use Rattle.object_graph.specs.State.{State, root_at}
+use Rattle.step_core.specs.Stands.{CoreState, kept_of, heap_of, ShowsGraph, Stands, IsCore, IsWordOf, IsRootWord, HasObject, Leads, name_in, name_of, IsWhole}
 
 pub get_or-get : {A : Type 0} (xs : List A) (i : ℕ) (d x : A) → slice_get xs i ≡ Some x → get_or xs i d ≡ x
 get_or-get [] i d x e = cc
@@ -51,6 +51,7 @@ object_there g c place a s shown =
       named = o.named;
       found = sym (named_at g x.name (at_least g x.name o.object o.named)) ∙ o.named;
       pointers = o.pointers;
+      weaks = o.weaks;
       values = o.values;
     }
 
@@ -59,7 +60,7 @@ leads c place None k e = λ g s. shown_nil (heap_of c) (root_at g place) (root_s
 leads c place (Some a) k e = λ g s. object_there g c place a s (root_shown g c place (Some a) s k e).shown
 
 pub root_word : (c : CoreState) (place : ℕ) (w : Option ℕ) → IsCore c → place < length c.roots → w ≡ get_or c.roots place None → IsWordOf (heap_of c) w
-root_word c place w i k e = record { name = root_at i.state.graph place; shown = (root_shown i.state.graph c place w i.stands.shows k e).shown }
+root_word c place w i k e = record { name = root_at i.footing.graph place; shown = (root_shown i.footing.graph c place w i.rests.shows k e).shown }
 
 pub root_rooted : (c : CoreState) (place : ℕ) (w : Option ℕ) → place < length c.roots → w ≡ get_or c.roots place None → IsRootWord (heap_of c) w
 root_rooted c place None k e = tt
@@ -71,26 +72,39 @@ unfolding kept_of
 object_kept c a x e = kept_object c.table c.marker.tams c.marker.bitmaps.previous a x e
 
 pub led_object : (c : CoreState) (place a : ℕ) → IsCore c → Leads c place (Some a) → IsSome (object_at c.table a)
-led_object c place a i l = let o = l i.state.graph i.stands.shows in let e = object_kept c a o.stored o.at in rw e refl
+led_object c place a i l = let o = l i.footing.graph i.rests.shows in let e = object_kept c a o.stored o.at in rw e refl
 
 pub pointers_there : (c : CoreState) (a : ℕ) (x : Stored) → kept_of c a ≡ Some x → pointers_at c.table a ≡ x.pointers
 unfolding pointers_at
 pointers_there c a x e = ap object_pointers (object_kept c a x e)
+
+pub weaks_there : (c : CoreState) (a : ℕ) (x : Stored) → kept_of c a ≡ Some x → weaks_at c.table a ≡ x.weaks
+unfolding weaks_at
+weaks_there c a x e = ap object_weaks (object_kept c a x e)
+
+pub fields_there : (c : CoreState) (a : ℕ) (x : Stored) → kept_of c a ≡ Some x → fields_at c.table a ≡ fields x
+unfolding fields_at
+fields_there c a x e = ap object_fields (object_kept c a x e)
 
 -- what a pointer of an object holds that a root names can be stored
 pub field_held : (c : CoreState) (b i : ℕ) (x : Stored) (w : Option ℕ) → IsRoot (heap_of c) b → kept_of c b ≡ Some x → slice_get x.pointers i ≡ Some w → IsHeld (heap_of c) w
 field_held c b i x None root at is = tt
 field_held c b i x (Some a) root at is = inr (b, root, record { object = x; at = at; field = i; is = is })
 
--- the field of an object, and the field of the graph's
-pub record FieldRead (g : Graph) (c : CoreState) (o : Object) (i : ℕ) (w : Option ℕ) : Type 0 where
+-- what stands in the graph in a place of a list, which a word shows
+pub record FieldRead (c : CoreState) (vs : List (Option ℕ)) (i : ℕ) (w : Option ℕ) : Type 0 where
   pub name : Option ℕ
-  pub there : slice_get o.pointers i ≡ Some name
+  pub there : slice_get vs i ≡ Some name
   pub shown : IsShown (heap_of c) w name
 
-pub field_shown : (g : Graph) (c : CoreState) (place a i : ℕ) (w : Option ℕ) (h : HasObject g c place a) → slice_get h.stored.pointers i ≡ Some w → FieldRead g c h.object i w
+pub field_shown : (g : Graph) (c : CoreState) (place a i : ℕ) (w : Option ℕ) (h : HasObject g c place a) → slice_get h.stored.pointers i ≡ Some w → FieldRead c h.object.pointers i w
 field_shown g c place a i w h e =
     let (v, is, shown) = AllZip-get (IsShown (heap_of c)) h.stored.pointers h.object.pointers h.pointers i w e in
+    record { name = v; there = is; shown = shown }
+
+pub slot_shown : (g : Graph) (c : CoreState) (place a i : ℕ) (w : Option ℕ) (h : HasObject g c place a) → slice_get h.stored.weaks i ≡ Some w → FieldRead c h.object.weaks i w
+slot_shown g c place a i w h e =
+    let (v, is, shown) = AllZip-get (IsShown (heap_of c)) h.stored.weaks h.object.weaks h.weaks i w e in
     record { name = v; there = is; shown = shown }
 
 past_end : {A : Type 0} (xs : List A) (i : ℕ) → length xs ≤ i → slice_get xs i ≡ None
@@ -108,6 +122,11 @@ pub no_field : (g : Graph) (c : CoreState) (place a i : ℕ) (h : HasObject g c 
 no_field g c place a i h k =
     let e = AllZip-length (IsShown (heap_of c)) h.stored.pointers h.object.pointers h.pointers in
     past_end h.object.pointers i (omega arith)
+
+pub no_slot : (g : Graph) (c : CoreState) (place a i : ℕ) (h : HasObject g c place a) → length h.stored.weaks ≤ i → slice_get h.object.weaks i ≡ None
+no_slot g c place a i h k =
+    let e = AllZip-length (IsShown (heap_of c)) h.stored.weaks h.object.weaks h.weaks in
+    past_end h.object.weaks i (omega arith)
 
 pub no_value : (g : Graph) (c : CoreState) (place a i : ℕ) (h : HasObject g c place a) → length h.stored.values ≤ i → slice_get h.object.values i ≡ None
 no_value g c place a i h k = past_end h.object.values i (rw (← h.values) k)

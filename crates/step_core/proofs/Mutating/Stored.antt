@@ -76,14 +76,14 @@ module _ (k c : CoreState) (e : k ≡ c) (core : IsCore k) (a i : ℕ) (w : Opti
     noted' = subst (λ (d : CoreState). IsNoted d.table.words_per_region (card_words d.config) (is_dirty d.cards) (field_word a i) w) (sym e) noted
 
     pub store_shows : (m : Marker) → SameRoles k.marker m → (g : Graph) (y : Stored) (o : Object) (v : Option ℕ) → ShowsGraph g c → kept_of c a ≡ Some y → object_named g y.name ≡ Some o → IsShown (heap_of c) w v
-        → ShowsGraph (with_changed g y.name (record { pointers = slice_set o.pointers i v; values = o.values })) (with_store k t m)
+        → ShowsGraph (with_changed g y.name (record o { pointers = slice_set o.pointers i v })) (with_store k t m)
     store_shows m same =
         subst (λ (d : CoreState). (g : Graph) (y : Stored) (o : Object) (v : Option ℕ) → ShowsGraph g d → kept_of d a ≡ Some y → object_named g y.name ≡ Some o → IsShown (heap_of d) w v
-        → ShowsGraph (with_changed g y.name (record { pointers = slice_set o.pointers i v; values = o.values })) (with_store k t m)) e
+        → ShowsGraph (with_changed g y.name (record o { pointers = slice_set o.pointers i v })) (with_store k t m)) e
         (storing.store_shows k core a i w t root' within' held' is r' noted' m same)
 
     pub idle_shows : (g : Graph) (y : Stored) (o : Object) (v : Option ℕ) → ShowsGraph g c → kept_of c a ≡ Some y → object_named g y.name ≡ Some o → IsShown (heap_of c) w v
-        → ShowsGraph (with_changed g y.name (record { pointers = slice_set o.pointers i v; values = o.values })) (with_store k t k.marker)
+        → ShowsGraph (with_changed g y.name (record o { pointers = slice_set o.pointers i v })) (with_store k t k.marker)
     idle_shows = store_shows k.marker (record { previous = refl; tams = refl; running = refl })
 
     pub store_leaves : (m : Marker) → LeavesRegions c (with_store k t m)

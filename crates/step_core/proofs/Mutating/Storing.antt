@@ -1,12 +1,14 @@
 -- The write barrier: a store into a pointer of an object that a root names.
 use Rattle.std.proofs.lemmas.List.{length-set}
-use Rattle.std.proofs.Common.{◌≡◌, ℕ, ◌+◌, ◌<◌, true, false, List, Option, Some, None, length, refl, sym, ◌∙◌, ap, subst, inl, inr}
+use Rattle.std.proofs.Common.{◌≡◌, ℕ, ◌+◌, ◌<◌, true, false, List, Option, Some, None, length, refl, sym, ◌∙◌, ap, subst, inl, inr, arith}
 use Rattle.std.specs.Prelude.{slice_get, slice_set}
 use Rattle.std.specs.List.{AllZip}
-use Rattle.heap_model.specs.Graph.{Graph, Object, IsReachable, next_name, object_named, with_changed}
+use Rattle.heap_model.specs.Graph.{Graph, Object, IsReachable, IsSound, next_name, object_named, with_changed}
 use Rattle.heap_model.specs.Heap.{Stored, IsRoot, IsHeld, IsShown, ObjectSet}
 use Rattle.heap_model.specs.Marking.{Marking, KeepsSnapshot, IsSaved}
-use Rattle.heap_model.proofs.Lists.{AllZip-set}
+use Rattle.heap_model.specs.Weak.{KeepsUnreached}
+use Rattle.heap_model.proofs.Lists.{AllZip-set, get-append_left}
+use Rattle.heap_model.proofs.Unreached.{unreached_begins, unreached_changed}
 use Rattle.heap_model.proofs.Shown.{closed}
 use Rattle.heap_model.proofs.Mutate.{object_set}
 use Rattle.regions.specs.Table.{Table, pointers_at, set_pointer}
@@ -22,6 +24,8 @@ use Rattle.heap_words.specs.Configs.{card_words}
 use Rattle.step_core.specs.Stands.{CoreState, kept_of, heap_of, marking_of, RemembersFields, ShowsGraph, KeepsFrom, IsCore}
 use Rattle.step_core.specs.Cycle.{LeavesRegions}
 use Rattle.step_core.proofs.Cores.Sizes.{some_words}
+use Rattle.step_core.proofs.Cores.Resting.{object_rests, rooted_known}
+use Rattle.step_core.proofs.Mutating.Fields.{pointer_fields}
 use Rattle.step_core.proofs.Cores.Remembering.{remembers_stored}
 use Rattle.cards.specs.Cards.{is_dirty}
 use Rattle.refinement.specs.Remembering.{field_word, IsNoted}
@@ -36,7 +40,7 @@ pub record Rooted (c : CoreState) (a : ℕ) : Type 0 where
   pub at : kept_of c a ≡ Some stored
 
 pub rooted : (c : CoreState) (a : ℕ) → IsCore c → IsRoot (heap_of c) a → Rooted c a
-rooted c a core r = let (x, at) = (closed core.state.graph (heap_of c) core.stands.shows.shows).root r.place a r.is in record { stored = x; at = at }
+rooted c a core r = let (x, at) = (closed core.footing.graph (heap_of c) core.rests.shows.shows).root r.place a r.is in record { stored = x; at = at }
 
 pub is_kept : (c : CoreState) (a : ℕ) (x : Stored) → kept_of c a ≡ Some x → IsKept c.table c.marker a
 unfolding kept_of
@@ -45,9 +49,9 @@ is_kept c a x e = record { object = x; is = e }
 -- what the field held is kept
 pub overwritten_kept : (c : CoreState) (a i b : ℕ) (w : Option ℕ) → IsCore c → Rooted c a → slice_get (pointers_at c.table a) i ≡ Some w → w ≡ Some b → IsKept c.table c.marker b
 overwritten_kept c a i b w core r is e =
-    let all = closed core.state.graph (heap_of c) core.stands.shows.shows in
+    let all = closed core.footing.graph (heap_of c) core.rests.shows.shows in
     let there : slice_get r.stored.pointers i ≡ Some (Some b) = ap (λ (ps : List (Option ℕ)). slice_get ps i) (sym (pointers_there c a r.stored r.at)) ∙ is ∙ ap Some e in
-    let (x, at) = all.field a i b r.stored r.at there in
+    let (x, at) = all.field a i b r.stored r.at (get-append_left r.stored.pointers r.stored.weaks i (Some b) there) in
     is_kept c b x at
 
 -- the core with the table and the marker changed
@@ -79,18 +83,19 @@ module _ (k : CoreState) (core : IsCore k) (a i : ℕ) (w : Option ℕ) (t : Tab
 
     -- the heap shows the graph with the field changed
     pub store_shows : (g : Graph) (y : Stored) (o : Object) (v : Option ℕ) → ShowsGraph g k → kept_of k a ≡ Some y → object_named g y.name ≡ Some o → IsShown (heap_of k) w v
-        → ShowsGraph (with_changed g y.name (record { pointers = slice_set o.pointers i v; values = o.values })) after
+        → ShowsGraph (with_changed g y.name (record o { pointers = slice_set o.pointers i v })) after
     store_shows g y o v s aty named shown =
         let at_x = at in
         let here : y ≡ x = cc in
         let shown_object = s.shows.objects a x at in
         let same_object : shown_object.object ≡ o = let e1 = shown_object.named in let e2 = ap (λ (z : Stored). object_named g z.name) here in cc in
         let pointers : AllZip (IsShown (heap_of k)) x.pointers o.pointers = subst (λ (q : Object). AllZip (IsShown (heap_of k)) x.pointers q.pointers) same_object shown_object.pointers in
+        let weaks : AllZip (IsShown (heap_of k)) x.weaks o.weaks = subst (λ (q : Object). AllZip (IsShown (heap_of k)) x.weaks q.weaks) same_object shown_object.weaks in
         let values : x.values ≡ o.values = shown_object.values ∙ ap (λ (q : Object). q.values) same_object in
-        let p : Object = record { pointers = slice_set o.pointers i v; values = o.values } in
+        let p : Object = record o { pointers = slice_set o.pointers i v } in
         subst (λ (z : Stored). ShowsGraph (with_changed g z.name p) after) (sym here)
         (object_shows g k after a x (with_pointer x i w) o p s (record { config = refl; next = refl }) set_in (ap (λ (z : Stored). object_named g z.name) (sym here) ∙ named)
-        (AllZip-set (IsShown (heap_of k)) x.pointers o.pointers pointers i w v shown) values)
+        (AllZip-set (IsShown (heap_of k)) x.pointers o.pointers pointers i w v shown) weaks values)
 
     -- the old value was saved, so what is to be marked still will be
     pub store_keeps : (was : Option ℕ) → slice_get (pointers_at k.table a) i ≡ Some was → IsSaved (views.marking_of k.table k.marker) (views.marking_of k.table m) was
@@ -98,16 +103,19 @@ module _ (k : CoreState) (core : IsCore k) (a i : ℕ) (w : Option ℕ) (t : Tab
     store_keeps was there saved s f = record {
       earlier = f.earlier;
       marking = λ run. subst (λ (marks : Marking). KeepsSnapshot s (heap_of after) marks) (sym (marking_same k.table t m writes.size))
-          (object_set (IsReachable s) (next_name s) core.state.graph (heap_of k) (marking_of k) core.stands.shows.shows (f.marking (sym same.running ∙ run)) (heap_of after) (views.marking_of k.table m)
+          (object_set (IsReachable s) (next_name s) core.footing.graph (heap_of k) (marking_of k) core.rests.shows.shows (f.marking (sym same.running ∙ run)) (heap_of after) (views.marking_of k.table m)
           a x (with_pointer x i w) i was w root held (ap (λ (ps : List (Option ℕ)). slice_get ps i) (sym (pointers_there k a x at)) ∙ there) set_in refl saved);
     }
+
+  inside : i < length x.pointers
+  inside = subst (λ (ps : List (Option ℕ)). i < length ps) (pointers_there k a x at) within
 
   pub same_roles : SameRoles k.marker k.marker
   same_roles = record { previous = refl; tams = refl; running = refl }
 
   -- the field's card is noted, so all stays remembered
   pub store_remembers : (m : Marker) (same : SameRoles k.marker m) → RemembersFields (with_store k t m)
-  store_remembers m same = remembers_stored k (with_store k t m) a i w x (with_pointer x i w) refl writes.size refl refl (set_in m same) refl noted core.remembers
+  store_remembers m same = remembers_stored k (with_store k t m) a i w x (with_pointer x i w) refl writes.size refl refl (set_in m same) (pointer_fields x i w inside) noted core.remembers
 
   -- while marking doesn't run there is nothing to save
   pub idle_keeps : k.marker.running ≡ false → (s : Graph) → KeepsFrom s k → KeepsFrom s (with_store k t k.marker)
@@ -123,32 +131,43 @@ module _ (k : CoreState) (core : IsCore k) (a i : ℕ) (w : Option ℕ) (t : Tab
       name : (u : Option ℕ) → IsHeld (heap_of k) u → (v : Option ℕ) × IsShown (heap_of k) u v
       name None h = (None, tt)
       name (Some b) (inl r) = let o = rooted k b core r in all b o.stored o.at
-      name (Some b) (inr p) = let (z, e) = (closed core.state.graph (heap_of k) core.stands.shows.shows).field p.0 p.2.field b p.2.object p.2.at p.2.is in all b z e
+      name (Some b) (inr p) = let (z, e) = (closed core.footing.graph (heap_of k) core.rests.shows.shows).field p.0 p.2.field b p.2.object p.2.at (get-append_left p.2.object.pointers p.2.object.weaks p.2.field (Some b) p.2.is) in all b z e
 
   -- the graph that the invariant knows, with the field changed
   abbrev pub graph_after : Graph
   graph_after =
-      let o = core.stands.shows.shows.objects a x at in
-      with_changed core.state.graph x.name (record { pointers = slice_set o.object.pointers i held_name.0; values = o.object.values })
+      let o = core.rests.shows.shows.objects a x at in
+      with_changed core.footing.graph x.name (record o.object { pointers = slice_set o.object.pointers i held_name.0 })
 
   pub shows_after : (m : Marker) (same : SameRoles k.marker m) → ShowsGraph graph_after (with_store k t m)
   shows_after m same =
-      let o = core.stands.shows.shows.objects a x at in
-      store_shows m same core.state.graph x o.object held_name.0 core.stands.shows at o.named held_name.1
+      let o = core.rests.shows.shows.objects a x at in
+      store_shows m same core.footing.graph x o.object held_name.0 core.rests.shows at o.named held_name.1
+
+  sound_after : IsSound graph_after
+  sound_after =
+      let o = core.rests.shows.shows.objects a x at in
+      object_rests core.footing.graph k x.name o.object (record o.object { pointers = slice_set o.object.pointers i held_name.0 }) (slice_set x.pointers i w) x.weaks core.rests.shows o.named
+      (AllZip-set (IsShown (heap_of k)) x.pointers o.object.pointers o.pointers i w held_name.0 held_name.1) o.weaks core.rests.sound
 
   -- the core after a store while marking doesn't run
   pub idle_kept : k.marker.running ≡ false → IsCore (with_store k t k.marker)
   idle_kept idle = record {
     suits = core.suits;
-    layers = layers_writes k.config k.table t k.buffers k.marker a x (with_pointer x i w) writes core.layers (λ run. absurd cc) (ap (λ (n : ℕ). 2 + n + length x.values) (length-set x.pointers i w));
+    layers = layers_writes k.config k.table t k.buffers k.marker a x (with_pointer x i w) writes core.layers (λ run. absurd cc) (ap (λ (n : ℕ). 2 + n + length x.weaks + length x.values) (length-set x.pointers i w));
     cards = core.cards;
     remembers = store_remembers k.marker same_roles;
     room = core.room;
     rows = core.rows;
     places = core.places;
     names = core.names;
-    state = record { graph = graph_after; snapshot = core.state.snapshot };
-    stands = record { shows = shows_after k.marker same_roles; keeps = idle_keeps idle core.state.snapshot core.stands.keeps };
+    footing = record { graph = graph_after; snapshot = graph_after };
+    rests = (let shows = shows_after k.marker same_roles in let next = shows.next in record {
+      shows = shows;
+      keeps = record { earlier = omega (arith, next); marking = λ run. absurd cc };
+      sound = sound_after;
+      unreached = unreached_begins graph_after sound_after;
+    });
   }
 
   pub store_leaves : (m : Marker) → LeavesRegions k (with_store k t m)
@@ -161,12 +180,18 @@ module _ (k : CoreState) (core : IsCore k) (a i : ℕ) (w : Option ℕ) (t : Tab
     mid_keeps = store_keeps m same was there saved
 
     pub mid_follows : m.running ≡ true → CanFollow t m
-    mid_follows = follows_of (with_store k t m) graph_after core.state.snapshot (shows_after m same) (mid_keeps core.state.snapshot core.stands.keeps)
+    mid_follows = follows_of (with_store k t m) graph_after core.footing.snapshot (shows_after m same) (mid_keeps core.footing.snapshot core.rests.keeps)
 
     pub mid_stands : MarkerStands t m
     mid_stands =
         let tams = same.tams in
         marker_writes k.table t k.buffers m a x (with_pointer x i w) writes (rw tams core.layers.above_previous) (rw tams core.layers.above_next) st mid_follows
+
+    unreached_after : k.marker.running ≡ true → KeepsUnreached core.footing.snapshot graph_after
+    unreached_after run =
+        let o = core.rests.shows.shows.objects a x at in
+        unreached_changed core.footing.snapshot core.footing.graph core.rests.unreached x.name o.object (record o.object { pointers = slice_set o.object.pointers i held_name.0 }) o.named
+        (rooted_known core.footing.graph core.footing.snapshot k a x core.rests.shows (core.rests.keeps.marking run) root at)
 
     -- a log of eight was taken, or none was full
     module _ (m2 : Marker) (then : SameRoles m m2) (snapshots : KeepsSnapshots t m m2) (st2 : MarkerStands t m2)
@@ -183,16 +208,16 @@ module _ (k : CoreState) (core : IsCore k) (a i : ℕ) (w : Option ℕ) (t : Tab
 
       pub last_kept : m.running ≡ true → IsCore (with_store k t m2)
       last_kept run =
-          let keeps = last_keeps run core.state.snapshot core.stands.keeps in
+          let keeps = last_keeps run core.footing.snapshot core.rests.keeps in
           record {
             suits = core.suits;
-            layers = layers_changed k.config k.table t k.buffers k.marker m2 a x (with_pointer x i w) writes core.layers st2 same2.tams logs room (ap (λ (n : ℕ). 2 + n + length x.values) (length-set x.pointers i w));
+            layers = layers_changed k.config k.table t k.buffers k.marker m2 a x (with_pointer x i w) writes core.layers st2 same2.tams logs room (ap (λ (n : ℕ). 2 + n + length x.weaks + length x.values) (length-set x.pointers i w));
             cards = core.cards;
             remembers = store_remembers m2 same2;
             room = core.room;
             rows = core.rows;
             places = core.places;
             names = core.names;
-            state = record { graph = graph_after; snapshot = core.state.snapshot };
-            stands = record { shows = shows_after m2 same2; keeps = keeps };
+            footing = record { graph = graph_after; snapshot = core.footing.snapshot };
+            rests = record { shows = shows_after m2 same2; keeps = keeps; sound = sound_after; unreached = unreached_after (sym same.running ∙ run) };
           }

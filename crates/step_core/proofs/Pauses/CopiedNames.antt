@@ -2,7 +2,7 @@
 use Rattle.std.proofs.Common.{◌≡◌, ℕ, zero, suc, ◌+◌, Bool, List, [], ◌∷◌, Option, Some, None, length, refl, sym, ◌∙◌, ap, arith}
 use Rattle.std.specs.Prelude.{slice_get}
 use Rattle.heap_model.specs.Graph.{Graph, object_named}
-use Rattle.heap_model.specs.Heap.{Heap, Stored, Shows, IsShown, fields}
+use Rattle.heap_model.specs.Heap.{Heap, Stored, Shows, IsShown}
 use Rattle.heap_model.specs.Evacuation.{IsReached, ByRootWord, ByOutside, ByInside}
 use Rattle.heap_model.proofs.Shown.{closed}
 use Rattle.regions.specs.Tiles.{Object, tile_size}
@@ -50,11 +50,12 @@ module _ (g : Graph) (h : Heap) (shows : Shows g h) (set : ℕ → Bool) where
   same_words : (a : ℕ) (x : Stored) → h.kept a ≡ Some x → named_words (object_named g (name_at (h.kept a))) ≡ stored_words (h.kept a)
   same_words a x e =
       let o = shows.objects a x e in
-      let count = AllZip-length (IsShown h) (fields x) o.object.pointers o.pointers in
+      let count = AllZip-length (IsShown h) x.pointers o.object.pointers o.pointers in
+      let slots = AllZip-length (IsShown h) x.weaks o.object.weaks o.weaks in
       let values = ap (λ (vs : List ℕ). length vs) o.values in
-      let in_graph : named_words (object_named g (name_at (h.kept a))) ≡ 2 + length o.object.pointers + length o.object.values = ap (λ (n : ℕ). named_words (object_named g n)) (name_is a x e) ∙ ap named_words o.named in
+      let in_graph : named_words (object_named g (name_at (h.kept a))) ≡ 2 + length o.object.pointers + length o.object.weaks + length o.object.values = ap (λ (n : ℕ). named_words (object_named g n)) (name_is a x e) ∙ ap named_words o.named in
       let in_heap : stored_words (h.kept a) ≡ tile_size (Object x) = ap stored_words e in
-      omega (arith, in_graph, in_heap, count, values)
+      omega (arith, in_graph, in_heap, count, slots, values)
 
   words_same : (addresses : List ℕ) → ((i a : ℕ) → slice_get addresses i ≡ Some a → (x : Stored) × (h.kept a ≡ Some x)) → words_of g (names_of addresses) ≡ words_at h.kept addresses
   unfolding names_of

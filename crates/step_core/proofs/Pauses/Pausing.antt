@@ -73,7 +73,7 @@ module _ (k : CoreState) (core : IsCore k) (budget : ℕ) (chosen : List LiveRow
     unmoved = core.layers.unmoved;
     previous = core.layers.marker.previous;
     next = core.layers.marker.next;
-    closed = closed core.state.graph (heap_of k) core.stands.shows.shows;
+    closed = closed core.footing.graph (heap_of k) core.rests.shows.shows;
     halves = core.layers.halves;
     fit = (can_scan k core).fit;
     each_card = core.cards.each_card;
@@ -169,7 +169,7 @@ module _ (k : CoreState) (core : IsCore k) (budget : ℕ) (chosen : List LiveRow
       earlier = f.earlier;
       marking = λ run.
           let keeps : KeepsOld place (heap_of k) (marking_of k) = ev.keeps_old (all_new run) (marking_of k) (λ a. refl) in
-          let moved = relocated_invariant place core.state.graph (heap_of k) (heap_of after) core.stands.shows.shows ev.relocates (IsReachable s) (next_name s) (marking_of k) (f.marking run) keeps in
+          let moved = relocated_invariant place core.footing.graph (heap_of k) (heap_of after) core.rests.shows.shows ev.relocates (IsReachable s) (next_name s) (marking_of k) (f.marking run) keeps in
           same_invariant (IsReachable s) (next_name s) (heap_of after) (heap_of after) (marking_of k) (marking_of after) (record { kept = λ a. refl; roots = refl }) (same_marking run) moved;
     }
 
@@ -194,7 +194,7 @@ module _ (k : CoreState) (core : IsCore k) (budget : ℕ) (chosen : List LiveRow
       scanned = core.layers.marker.scanned ∙ sym ev.next.each_word;
       finger = λ run a lt. ap (λ (b : Bool). b && not (is_marked k.marker.grey.scanned a)) (marks_same run a) ∙ core.layers.marker.finger run a lt;
       newer = newer;
-      follows = λ run. follows_of after core.state.graph core.state.snapshot (paused_shows core.state.graph core.stands.shows) (paused_keeps core.state.snapshot core.stands.keeps) run;
+      follows = λ run. follows_of after core.footing.graph core.footing.snapshot (paused_shows core.footing.graph core.rests.shows) (paused_keeps core.footing.snapshot core.rests.keeps) run;
       idle = core.layers.marker.idle;
       scanned_marked = λ run a e. marks_same run a ∙ core.layers.marker.scanned_marked run a e;
       counted = core.layers.marker.counted;
@@ -270,8 +270,8 @@ module _ (k : CoreState) (core : IsCore k) (budget : ℕ) (chosen : List LiveRow
         rows = rw rows_same core.rows;
         places = places ∙ core.places;
         names = core.names;
-        state = core.state;
-        stands = record { shows = paused_shows core.state.graph core.stands.shows; keeps = paused_keeps core.state.snapshot core.stands.keeps };
+        footing = core.footing;
+        rests = record { shows = paused_shows core.footing.graph core.rests.shows; keeps = paused_keeps core.footing.snapshot core.rests.keeps; sound = core.rests.sound; unreached = core.rests.unreached };
       }
 
       -- exactly the chosen regions are reclaimed

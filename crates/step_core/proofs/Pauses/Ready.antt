@@ -66,8 +66,8 @@ module _ (k : CoreState) (b : Buffers) (cs : Cards) where
       rows = core.rows;
       places = core.places;
       names = core.names;
-      state = core.state;
-      stands = record { shows = closed_shows core.state.graph core.stands.shows; keeps = closed_keeps core.state.snapshot core.stands.keeps };
+      footing = core.footing;
+      rests = record { shows = closed_shows core.footing.graph core.rests.shows; keeps = closed_keeps core.footing.snapshot core.rests.keeps; sound = core.rests.sound; unreached = core.rests.unreached };
     }
 
 -- where nothing is listed no card is dirty

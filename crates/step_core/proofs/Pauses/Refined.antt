@@ -29,7 +29,7 @@ can_scan k core = record {
     each_region = core.cards.each_region ∙ sym core.layers.region_count;
   };
   each_word = core.layers.marker.previous.each_word;
-  inside = closed_inside k.table k.marker.tams k.marker.bitmaps.previous k.roots (closed core.state.graph (heap_of k) core.stands.shows.shows);
+  inside = closed_inside k.table k.marker.tams k.marker.bitmaps.previous k.roots (closed core.footing.graph (heap_of k) core.rests.shows.shows);
 }
 
 module _ (k : CoreState) (core : IsCore k) (result : Bool) (cs : Cards) (ss : Sets) (scan : CanScan k.table k.marker.tams k.marker.bitmaps.previous (card_words k.config) ss) (count : length cs.dirty ≡ card_count ss)
@@ -64,8 +64,8 @@ module _ (k : CoreState) (core : IsCore k) (result : Bool) (cs : Cards) (ss : Se
     rows = core.rows;
     places = core.places;
     names = core.names;
-    state = core.state;
-    stands = record { shows = cards_show core.state.graph core.stands.shows; keeps = cards_keep core.state.snapshot core.stands.keeps };
+    footing = core.footing;
+    rests = record { shows = cards_show core.footing.graph core.rests.shows; keeps = cards_keep core.footing.snapshot core.rests.keeps; sound = core.rests.sound; unreached = core.rests.unreached };
   }
 
   -- what sets cover once the card was added

@@ -1,5 +1,6 @@
 use Rattle.std.proofs.Common.{◌≡◌, take, map}
-use Rattle.step_core.specs.Stands.{State, Stands}
+use Rattle.object_graph.specs.State.{State}
+use Rattle.step_core.specs.Stands.{Stands}
 use Rattle.step_core.specs.Histories.{Runs, step_in, actor_in, actor_of}
 use Rattle.step_core.proofs.runs.run_on.Given as goal
 

@@ -2,7 +2,7 @@ use Rattle.std.proofs.Common.{◌+◌, ◌<◌, ◌/◌, ◌∙◌, ℕ, length,
 use Rattle.step_core.proofs.Cycles.Cycling.{to_fields}
 use Rattle.step_core.proofs.Mutating.Noting.{field_inside, card_inside, dirtied_kept, noted_so}
 use Rattle.heap_model.specs.Heap.{IsRoot}
-use Rattle.regions.specs.Table.{pointers_at}
+use Rattle.regions.specs.Table.{fields_at}
 use Rattle.heap_words.specs.Configs.{card_words}
 use Rattle.step_core.specs.Stands.{heap_of}
 use Rattle.step_core.proofs.heap.Core.note.Goals as goal
@@ -10,7 +10,7 @@ use Rattle.step_core.proofs.heap.Core.note.Goals as goal
 pub dirty-requires-clause-card : goal.dirty-requires-clause-card
 dirty-requires-clause-card c =
     let root = to_fields _ _ c.self.view_is (λ d. IsRoot (heap_of d) c.args.object) c.requires.rooted in
-    let within = to_fields _ _ c.self.view_is (λ d. c.args.field < length (pointers_at d.table c.args.object)) c.requires.field in
+    let within = to_fields _ _ c.self.view_is (λ d. c.args.field < length (fields_at d.table c.args.object)) c.requires.field in
     let inside = field_inside _ c.args.object c.args.field c.self.invariant c.law.ensures root within in
     let card = c.new.ensures ∙ ap (λ (n : ℕ). (c.word.result + 2 + c.args.field) / n) c.card_words.ensures in
     let known = subst (λ (n : ℕ). n < length c.self.inside.cards.dirty) (sym card)
@@ -20,7 +20,7 @@ dirty-requires-clause-card c =
 pub invariant_of-self : goal.invariant_of-self
 invariant_of-self c =
     let root = to_fields _ _ c.self.view_is (λ d. IsRoot (heap_of d) c.args.object) c.requires.rooted in
-    let within = to_fields _ _ c.self.view_is (λ d. c.args.field < length (pointers_at d.table c.args.object)) c.requires.field in
+    let within = to_fields _ _ c.self.view_is (λ d. c.args.field < length (fields_at d.table c.args.object)) c.requires.field in
     let inside = field_inside _ c.args.object c.args.field c.self.invariant c.law.ensures root within in
     let card = c.new.ensures ∙ ap (λ (n : ℕ). (c.word.result + 2 + c.args.field) / n) c.card_words.ensures in
     let known = subst (λ (n : ℕ). n < length c.self.inside.cards.dirty) (sym card)
@@ -31,21 +31,21 @@ invariant_of-self c =
 pub overflow_add-word : goal.overflow_add-word
 overflow_add-word c =
     let root = to_fields _ _ c.self.view_is (λ d. IsRoot (heap_of d) c.args.object) c.requires.rooted in
-    let within = to_fields _ _ c.self.view_is (λ d. c.args.field < length (pointers_at d.table c.args.object)) c.requires.field in
+    let within = to_fields _ _ c.self.view_is (λ d. c.args.field < length (fields_at d.table c.args.object)) c.requires.field in
     let inside = field_inside _ c.args.object c.args.field c.self.invariant c.law.ensures root within in
     omega (arith, inside, c.law.ensures.in_all, c.word.ensures)
 
 pub overflow_add-word-2 : goal.overflow_add-word-2
 overflow_add-word-2 c =
     let root = to_fields _ _ c.self.view_is (λ d. IsRoot (heap_of d) c.args.object) c.requires.rooted in
-    let within = to_fields _ _ c.self.view_is (λ d. c.args.field < length (pointers_at d.table c.args.object)) c.requires.field in
+    let within = to_fields _ _ c.self.view_is (λ d. c.args.field < length (fields_at d.table c.args.object)) c.requires.field in
     let inside = field_inside _ c.args.object c.args.field c.self.invariant c.law.ensures root within in
     omega (arith, inside, c.law.ensures.in_all, c.word.ensures)
 
 pub returns-then-word-words-clause-noted : goal.returns-then-word-words-clause-noted
 returns-then-word-words-clause-noted c =
     let root = to_fields _ _ c.self.view_is (λ d. IsRoot (heap_of d) c.args.object) c.requires.rooted in
-    let within = to_fields _ _ c.self.view_is (λ d. c.args.field < length (pointers_at d.table c.args.object)) c.requires.field in
+    let within = to_fields _ _ c.self.view_is (λ d. c.args.field < length (fields_at d.table c.args.object)) c.requires.field in
     let inside = field_inside _ c.args.object c.args.field c.self.invariant c.law.ensures root within in
     let card = c.new.ensures ∙ ap (λ (n : ℕ). (c.word.result + 2 + c.args.field) / n) c.card_words.ensures in
     let known = subst (λ (n : ℕ). n < length c.self.inside.cards.dirty) (sym card)

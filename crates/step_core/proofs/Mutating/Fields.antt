@@ -1,0 +1,32 @@
+-- A pointer or a weak slot that is set, among all fields of its object.
+use Rattle.std.proofs.Common.{◌≡◌, ℕ, zero, suc, ◌+◌, ◌<◌, List, [], ◌∷◌, ◌++◌, Option, Some, None, length, refl, ap, arith, inl, inr}
+use Rattle.std.specs.Prelude.{slice_get, slice_set, replicate}
+use Rattle.heap_model.specs.Heap.{Stored, fields}
+use Rattle.heap_model.proofs.Lists.{get-append_cases}
+use Rattle.regions.proofs.Words.Fields.{with_pointer, with_weak}
+use Rattle.regions.specs.Table.{new_object}
+
+set_front : (xs ys : List (Option ℕ)) (i : ℕ) (v : Option ℕ) → i < length xs → slice_set xs i v ++ ys ≡ slice_set (xs ++ ys) i v
+set_front [] ys i v h = absurd (omega arith)
+set_front (x ∷ xs) ys zero v h = refl
+set_front (x ∷ xs) ys (suc i) v h = ap (λ k. x ∷ k) (set_front xs ys i v (omega arith))
+
+set_back : (xs ys : List (Option ℕ)) (i j : ℕ) (v : Option ℕ) → i ≡ length xs + j → xs ++ slice_set ys j v ≡ slice_set (xs ++ ys) i v
+set_back [] ys i j v e = let same : i ≡ j = omega arith in rw same refl
+set_back (x ∷ xs) ys zero j v e = absurd (omega arith)
+set_back (x ∷ xs) ys (suc i) j v e = ap (λ k. x ∷ k) (set_back xs ys i j v (omega arith))
+
+pub pointer_fields : (x : Stored) (i : ℕ) (w : Option ℕ) → i < length x.pointers → fields (with_pointer x i w) ≡ slice_set (fields x) i w
+pointer_fields x i w h = set_front x.pointers x.weaks i w h
+
+pub weak_fields : (x : Stored) (i : ℕ) (w : Option ℕ) → fields (with_weak x i w) ≡ slice_set (fields x) (length x.pointers + i) w
+weak_fields x i w = set_back x.pointers x.weaks (length x.pointers + i) i w refl
+
+-- the fields of an object just made are nil
+pub nil_get : (p i b : ℕ) → slice_get (replicate {A = Option ℕ} p None) i ≡ Some (Some b) → ⊥
+nil_get zero i b e = cc
+nil_get (suc p) zero b e = cc
+nil_get (suc p) (suc i) b e = nil_get p i b e
+
+pub nil_fields : (name p weak d i b : ℕ) → slice_get (fields (new_object name p weak d)) i ≡ Some (Some b) → ⊥
+nil_fields name p weak d i b e = elim (get-append_cases (replicate p None) (replicate weak None) i (Some b) e) [ inl q ↦ nil_get p i b q | inr q ↦ nil_get weak q.0 b q.1 ]

@@ -1,0 +1,143 @@
+-- A store into a weak slot of an object that a root names: the field's card is noted, and marking isn't concerned.
+use Rattle.std.proofs.Common.{◌≡◌, ℕ, ◌+◌, ◌<◌, List, ◌++◌, Option, Some, length, refl, sym, ◌∙◌, ap, subst, arith}
+use Rattle.std.specs.Prelude.{slice_set}
+use Rattle.std.specs.List.{AllZip}
+use Rattle.std.proofs.lemmas.List.{length-set, length-append}
+use Rattle.heap_model.specs.Graph.{Graph, Object, IsSound, object_named, with_changed}
+use Rattle.heap_model.specs.Heap.{Stored, IsRoot, IsShown, ObjectSet}
+use Rattle.heap_model.specs.Weak.{KeepsUnreached}
+use Rattle.heap_model.proofs.Lists.{AllZip-set}
+use Rattle.heap_model.proofs.Unreached.{unreached_written}
+use Rattle.regions.specs.Table.{Table, pointers_at, weaks_at, fields_at, set_weak}
+use Rattle.regions.proofs.Tiles.Changes.{WritesObject, weak_put}
+use Rattle.regions.proofs.Words.Fields.{with_weak}
+use Rattle.heap_words.specs.Configs.{card_words}
+use Rattle.cards.specs.Cards.{is_dirty}
+use Rattle.refinement.specs.Remembering.{field_word, IsNoted}
+use Rattle.step_core.specs.Stands.{CoreState, kept_of, heap_of, RemembersFields, ShowsGraph, KeepsFrom, IsCore, IsWordOf}
+use Rattle.step_core.specs.Mutators.{weak_field}
+use Rattle.step_core.specs.Cycle.{LeavesRegions}
+use Rattle.step_core.proofs.Cores.Sizes.{some_words}
+use Rattle.step_core.proofs.Cores.Resting.{object_rests}
+use Rattle.step_core.proofs.Cores.Layers.{follows_of, layers_writes}
+use Rattle.step_core.proofs.Cores.Remembering.{remembers_stored}
+use Rattle.step_core.proofs.Mutating.Fields.{weak_fields}
+use Rattle.step_core.proofs.Mutating.Reading.{object_kept, pointers_there, weaks_there, fields_there}
+use Rattle.step_core.proofs.Mutating.Written.{object_written, write_keeps}
+use Rattle.step_core.proofs.Mutating.Acting.{object_shows}
+use Rattle.step_core.proofs.Mutating.Storing.{Rooted, rooted}
+
+-- a weak slot counts among the fields
+pub slot_within : (k : CoreState) (a i : ℕ) → IsCore k → IsRoot (heap_of k) a → i < length (weaks_at k.table a) → weak_field k a i < length (fields_at k.table a)
+slot_within k a i core root within =
+    let r = rooted k a core root in
+    let all = ap (λ (ps : List (Option ℕ)). length ps) (fields_there k a r.stored r.at) ∙ length-append r.stored.pointers r.stored.weaks in
+    let pointers = ap (λ (ps : List (Option ℕ)). length ps) (pointers_there k a r.stored r.at) in
+    let weaks = ap (λ (ps : List (Option ℕ)). length ps) (weaks_there k a r.stored r.at) in
+    omega (arith, all, pointers, weaks, within)
+
+module _ (k : CoreState) (core : IsCore k) (a i : ℕ) (w : Option ℕ) (t : Table) (root : IsRoot (heap_of k) a) (within : i < length (weaks_at k.table a)) (word : IsWordOf (heap_of k) w)
+    (noted : IsNoted k.table.words_per_region (card_words k.config) (is_dirty k.cards) (field_word a (weak_field k a i)) w) (is : t ≡ set_weak k.table a i w) where
+  r : Rooted k a
+  r = rooted k a core root
+
+  abbrev x : Stored
+  x = r.stored
+
+  abbrev after : CoreState
+  after = record k { table = t }
+
+  writes : WritesObject k.table t a x (with_weak x i w)
+  writes = subst (λ (u : Table). WritesObject k.table u a x (with_weak x i w)) (sym is) (weak_put k.table a i w x (some_words k core) (object_kept k a x r.at))
+
+  set_in : ObjectSet (heap_of k) (heap_of after) a x (with_weak x i w)
+  set_in = object_written k after a x (with_weak x i w) writes refl r.at (record { tams = refl; previous = refl; roots = refl })
+
+  -- the heap shows the graph with the slot changed
+  shows_by : (g : Graph) (y : Stored) (o : Object) (v : Option ℕ) → ShowsGraph g k → kept_of k a ≡ Some y → object_named g y.name ≡ Some o → IsShown (heap_of k) w v
+      → ShowsGraph (with_changed g y.name (record o { weaks = slice_set o.weaks i v })) after
+  shows_by g y o v s aty named shown =
+      let at_x = r.at in
+      let here : y ≡ x = cc in
+      let shown_object = s.shows.objects a x r.at in
+      let same_object : shown_object.object ≡ o = let e1 = shown_object.named in let e2 = ap (λ (z : Stored). object_named g z.name) here in cc in
+      let pointers : AllZip (IsShown (heap_of k)) x.pointers o.pointers = subst (λ (q : Object). AllZip (IsShown (heap_of k)) x.pointers q.pointers) same_object shown_object.pointers in
+      let weaks : AllZip (IsShown (heap_of k)) x.weaks o.weaks = subst (λ (q : Object). AllZip (IsShown (heap_of k)) x.weaks q.weaks) same_object shown_object.weaks in
+      let values : x.values ≡ o.values = shown_object.values ∙ ap (λ (q : Object). q.values) same_object in
+      let p : Object = record o { weaks = slice_set o.weaks i v } in
+      subst (λ (z : Stored). ShowsGraph (with_changed g z.name p) after) (sym here)
+      (object_shows g k after a x (with_weak x i w) o p s (record { config = refl; next = refl }) set_in (ap (λ (z : Stored). object_named g z.name) (sym here) ∙ named)
+      pointers (AllZip-set (IsShown (heap_of k)) x.weaks o.weaks weaks i w v shown) values)
+
+  keeps_by : (s : Graph) → KeepsFrom s k → KeepsFrom s after
+  keeps_by s f = write_keeps s k t a x (with_weak x i w) writes refl r.at refl f
+
+  leaves_by : LeavesRegions k after
+  leaves_by = record { config = refl; in_use = λ j n u. n (sym (writes.kinds j) ∙ u) }
+
+  remembers_by : RemembersFields after
+  remembers_by =
+      let field : weak_field k a i ≡ length x.pointers + i = ap (λ (ps : List (Option ℕ)). length ps + i) (pointers_there k a x r.at) in
+      remembers_stored k after a (weak_field k a i) w x (with_weak x i w) refl writes.size refl refl set_in (weak_fields x i w ∙ ap (λ (n : ℕ). slice_set (x.pointers ++ x.weaks) n w) (sym field)) noted core.remembers
+
+  abbrev changed : Object
+  changed = let o = core.rests.shows.shows.objects a x r.at in record o.object { weaks = slice_set o.object.weaks i word.name }
+
+  abbrev graph_after : Graph
+  graph_after = with_changed core.footing.graph x.name changed
+
+  sound_after : IsSound graph_after
+  sound_after =
+      let o = core.rests.shows.shows.objects a x r.at in
+      object_rests core.footing.graph k x.name o.object changed x.pointers (slice_set x.weaks i w) core.rests.shows o.named o.pointers (AllZip-set (IsShown (heap_of k)) x.weaks o.object.weaks o.weaks i w word.name word.shown) core.rests.sound
+
+  unreached_after : KeepsUnreached core.footing.snapshot graph_after
+  unreached_after = let o = core.rests.shows.shows.objects a x r.at in unreached_written core.footing.snapshot core.footing.graph core.rests.unreached x.name o.object changed o.named refl
+
+  kept_by_store : IsCore after
+  kept_by_store =
+      let o = core.rests.shows.shows.objects a x r.at in
+      let shows = shows_by core.footing.graph x o.object word.name core.rests.shows r.at o.named word.shown in
+      let keeps = keeps_by core.footing.snapshot core.rests.keeps in
+      record {
+        suits = core.suits;
+        layers = layers_writes k.config k.table t k.buffers k.marker a x (with_weak x i w) writes core.layers (follows_of after graph_after core.footing.snapshot shows keeps)
+            (ap (λ (n : ℕ). 2 + length x.pointers + n + length x.values) (length-set x.weaks i w));
+        cards = core.cards;
+        remembers = remembers_by;
+        room = core.room;
+        rows = core.rows;
+        places = core.places;
+        names = core.names;
+        footing = record { graph = graph_after; snapshot = core.footing.snapshot };
+        rests = record { shows = shows; keeps = keeps; sound = sound_after; unreached = unreached_after };
+      }
+
+-- the same by the core's value c: k is the core by its fields
+module _ (k c : CoreState) (e : k ≡ c) (core : IsCore k) (a i : ℕ) (w : Option ℕ) (root : IsRoot (heap_of c) a) (within : i < length (weaks_at c.table a)) (word : IsWordOf (heap_of c) w)
+    (noted : IsNoted c.table.words_per_region (card_words c.config) (is_dirty c.cards) (field_word a (weak_field c a i)) w) (t : Table) (is : t ≡ set_weak k.table a i w) where
+  root' : IsRoot (heap_of k) a
+  root' = subst (λ (d : CoreState). IsRoot (heap_of d) a) (sym e) root
+
+  within' : i < length (weaks_at k.table a)
+  within' = subst (λ (d : CoreState). i < length (weaks_at d.table a)) (sym e) within
+
+  word' : IsWordOf (heap_of k) w
+  word' = subst (λ (d : CoreState). IsWordOf (heap_of d) w) (sym e) word
+
+  noted' : IsNoted k.table.words_per_region (card_words k.config) (is_dirty k.cards) (field_word a (weak_field k a i)) w
+  noted' = subst (λ (d : CoreState). IsNoted d.table.words_per_region (card_words d.config) (is_dirty d.cards) (field_word a (weak_field d a i)) w) (sym e) noted
+
+  pub weak_kept : IsCore (record k { table = t })
+  weak_kept = kept_by_store k core a i w t root' within' word' noted' is
+
+  pub weak_shows : (g : Graph) (y : Stored) (o : Object) (v : Option ℕ) → ShowsGraph g c → kept_of c a ≡ Some y → object_named g y.name ≡ Some o → IsShown (heap_of c) w v
+      → ShowsGraph (with_changed g y.name (record o { weaks = slice_set o.weaks i v })) (record k { table = t })
+  weak_shows = subst (λ (d : CoreState). (g : Graph) (y : Stored) (o : Object) (v : Option ℕ) → ShowsGraph g d → kept_of d a ≡ Some y → object_named g y.name ≡ Some o → IsShown (heap_of d) w v
+      → ShowsGraph (with_changed g y.name (record o { weaks = slice_set o.weaks i v })) (record k { table = t })) e (shows_by k core a i w t root' within' word' noted' is)
+
+  pub weak_keeps : (s : Graph) → KeepsFrom s c → KeepsFrom s (record k { table = t })
+  weak_keeps s f = keeps_by k core a i w t root' within' word' noted' is s (subst (λ (d : CoreState). KeepsFrom s d) (sym e) f)
+
+  pub weak_leaves : LeavesRegions c (record k { table = t })
+  weak_leaves = subst (λ (d : CoreState). LeavesRegions d (record k { table = t })) e (leaves_by k core a i w t root' within' word' noted' is)
