@@ -256,7 +256,7 @@ gc mark 1
 heap 4 16 8 1 0
 next name 3
 marking runs, objects scanned: 1
-region 0: ordinary, 16 of 16 words handed out
+region 0: ordinary, current, 16 of 16 words handed out
   top at mark start 0, next 16, live bound 16
   at 0: #0, pointers #0, weak slots #1 nil, data 0, kept, scanned
   at 6: filler of 2
@@ -292,12 +292,10 @@ gc remark
 heap 2 16 8 1 0
 next name 2
 marking doesn't run
-region 0: ordinary, 16 of 16 words handed out
-  top at mark start 16, live bound 5
+region 0: ordinary, current, 8 of 16 words handed out
+  top at mark start 8, live bound 5
   at 0: #0, weak slots nil #0, data 0, kept
-  at 5: filler of 3
-  at 8: #1, data 0, dead
-  at 11: filler of 5
+  at 5: #1, data 0, dead
 region 1: free
 queue of cards: none
 globals: all nil
