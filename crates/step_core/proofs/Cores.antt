@@ -6,4 +6,5 @@ pub mod Layers
 pub mod Keeping
 pub mod Snapshots
 pub mod Following
+pub mod Collecting
 pub mod Beginning

@@ -118,8 +118,9 @@ impl Core {
         ensures after { self.new ≡ with_weak self.old mutator object slot target }
         ensures leaves { LeavesRegions self.old self.new }
     {
-        let field = self.table.pointer_count(object) + slot;
-        self.note(mutator, object, field, &target);
+        self.table.law();
+        let index = self.table.pointer_count(object) + slot;
+        self.note(mutator, object, index, &target);
         self.store_weak_noted(object, slot, target);
     }
 

@@ -5,6 +5,7 @@ ghost use Rattle.std.specs.Prelude.{◌≡◌, ◌<◌};
 mod humongous;
 mod pauses;
 mod places;
+mod weak;
 
 use crate::{Core, RunFault, run};
 use heap_words::addr::{Card, RegionNo};

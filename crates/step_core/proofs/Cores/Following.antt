@@ -1,24 +1,30 @@
 -- A step as one of the state's, and histories of them.
-use Rattle.std.proofs.Common.{◌≡◌, ℕ, ◌+◌, ◌<◌, Some, List, [], ◌∷◌, ◌++◌, length, take, map, get_or, refl, sym, ◌∙◌, ap, subst, arith, inl, inr}
+use Rattle.std.proofs.Common.{◌≡◌, ℕ, ◌+◌, ◌<◌, ◌⊎◌, Option, Some, None, List, [], ◌∷◌, ◌++◌, length, take, map, get_or, refl, sym, ◌∙◌, ap, subst, arith, inl, inr}
 use Rattle.std.specs.Prelude.{◌↔◌}
 use Rattle.std.proofs.lemmas.List.{take_more, length-map, get_or-map}
-use Rattle.heap_model.specs.Graph.{next_name}
+use Rattle.heap_model.specs.Graph.{Graph, next_name}
+use Rattle.heap_model.specs.Weak.{KeepsUnreached}
 use Rattle.object_graph.specs.declared.step.Step.{Step}
-use Rattle.object_graph.specs.State.{State}
+use Rattle.object_graph.specs.State.{State, ForSnapshot, IsEarlier}
+use Rattle.object_graph.specs.Since.{IsSince}
 use Rattle.object_graph.specs.Machine.{Outcome, act}
 use Rattle.object_graph.specs.Run.{Happens, IsNew, IsRun, snapshot_after}
 use Rattle.object_graph.specs.declared.step.Op.{Op}
 use Rattle.object_graph.specs.declared.step.Action.{Action}
+use Rattle.object_graph.specs.declared.step.Action.TheVariants as actions
+use Rattle.object_graph.specs.declared.step.Counts.{Counts}
+use Rattle.object_graph.specs.declared.step.Register.{Register}
 use Rattle.object_graph.specs.declared.step.Step.TheVariants as steps
 use Rattle.object_graph.specs.declared.step.Event.{Event}
 use Rattle.object_graph.specs.declared.step.Reply.{Reply}
 use Rattle.object_graph.specs.declared.step.Reply.TheVariants as replies
 use Rattle.object_graph.specs.declared.step.Refusal.TheVariants as refusals
 use Rattle.object_graph.proofs.Sound.{happens_sound}
-use Rattle.object_graph.proofs.SinceLaws.{happens_since}
+use Rattle.object_graph.proofs.SinceLaws.{happens_since, since_unreached}
 use Rattle.step_core.specs.Stands.{CoreState, ShowsGraph, KeepsFor, Stands, IsCore, IsWhole}
 use Rattle.cards.specs.Cards.{ListsDirtyOnce}
 use Rattle.step_core.specs.Cycle.{Does}
+use Rattle.step_core.specs.Mutators.{ActsOn}
 use Rattle.step_core.specs.Answers.{Acts, Follows, IsFullStep, RepliesFull}
 use Rattle.step_core.specs.Histories.{IsHistory, Passes, Runs}
 
@@ -40,14 +46,48 @@ acted s o m a reply c c' em ea st h keeps =
     let after : State = record { graph = (act g m a).1; snapshot = snapshot_after s.snapshot o.action reply } in
     follows_by s after (steps.Mutator o) reply c c' st (inl (reply_same ∙ same, refl)) h.shows (subst (λ (b : Action). KeepsFor (snapshot_after s.snapshot b reply) c') (sym ea) keeps)
 
--- nothing changed, since there was no place
-pub refused_full : (s : State) (o : Op) (m : ℕ) (a : Action) (reply : Reply) (c c' : CoreState) → o.mutator ≡ m → o.action ≡ a → IsNew a → Stands s c → RepliesFull s.graph m a c reply c' → (act s.graph m a).0 ≡ replies.Named (Some (next_name s.graph))
-    → Follows s (steps.Mutator o) reply c'
-refused_full s o m a reply c c' em ea new st h names =
+-- the graph creates an object, and nothing changed since there was no place
+pub refused_full : (s : State) (o : Op) (m : ℕ) (a : Action) (reply : Reply) (c c' : CoreState) → o.mutator ≡ m → o.action ≡ a → IsNew a → Stands s c → (act s.graph m a).0 ≡ replies.Named (Some (next_name s.graph))
+    → reply ≡ replies.Refused refusals.Full → c' ≡ c → Follows s (steps.Mutator o) reply c'
+refused_full s o m a reply c c' em ea new st names full same =
     let g = s.graph in
-    let same : act g m a ≡ act g o.mutator o.action = ap (λ (n : ℕ). act g n a) (sym em) ∙ ap (act g o.mutator) (sym ea) in
-    follows_by s s (steps.Mutator o) reply c c' st (inr ((subst IsNew (sym ea) new, sym (ap (λ (x : Outcome). x.0) same) ∙ names), h.reply_is, refl))
-    (subst (λ (d : CoreState). ShowsGraph g d) (sym h.same) st.shows) (subst (λ (d : CoreState). KeepsFor s.snapshot d) (sym h.same) st.keeps)
+    let is : act g m a ≡ act g o.mutator o.action = ap (λ (n : ℕ). act g n a) (sym em) ∙ ap (act g o.mutator) (sym ea) in
+    follows_by s s (steps.Mutator o) reply c c' st (inr ((subst IsNew (sym ea) new, sym (ap (λ (x : Outcome). x.0) is) ∙ names), full, refl))
+    (subst (λ (d : CoreState). ShowsGraph g d) (sym same) st.shows) (subst (λ (d : CoreState). KeepsFor s.snapshot d) (sym same) st.keeps)
+
+-- a new object, or no place for it
+pub created : (s : State) (o : Op) (m : ℕ) (to : Register) (counts : Counts) (weaks : ℕ) (reply : Reply) (c c' : CoreState) → o.mutator ≡ m → o.action ≡ actions.NewWeak to counts weaks → Stands s c
+    → Acts s.graph m (actions.NewWeak to counts weaks) reply c' ⊎ RepliesFull s.graph m (actions.NewWeak to counts weaks) c reply c' → KeepsFor (snapshot_after s.snapshot (actions.NewWeak to counts weaks) reply) c'
+    → Follows s (steps.Mutator o) reply c'
+created s o m to counts weaks reply c c' em ea st (inl h) keeps = acted s o m (actions.NewWeak to counts weaks) reply c c' em ea st h keeps
+created s o m to counts weaks reply c c' em ea st (inr h) keeps = refused_full s o m (actions.NewWeak to counts weaks) reply c c' em ea tt st h.full.0 h.reply_is h.same
+
+-- the same of an object with no weak slots
+pub created_plain : (s : State) (o : Op) (m : ℕ) (to : Register) (counts : Counts) (reply : Reply) (c c' : CoreState) → o.mutator ≡ m → o.action ≡ actions.New to counts → Stands s c
+    → Acts s.graph m (actions.NewWeak to counts 0) reply c' ⊎ RepliesFull s.graph m (actions.NewWeak to counts 0) c reply c' → KeepsFor (snapshot_after s.snapshot (actions.New to counts) reply) c'
+    → Follows s (steps.Mutator o) reply c'
+created_plain s o m to counts reply c c' em ea st (inl h) keeps = acted s o m (actions.New to counts) reply c c' em ea st h keeps
+created_plain s o m to counts reply c c' em ea st (inr h) keeps = refused_full s o m (actions.New to counts) reply c c' em ea tt st h.full.0 h.reply_is h.same
+
+-- what it does to the core
+pub acts_plain : (m : ℕ) (to : Register) (counts : Counts) (r : Reply) (c c' : CoreState) → ActsOn m (actions.NewWeak to counts 0) r c c' → ActsOn m (actions.New to counts) r c c'
+acts_plain m to counts replies.Done c c' h = record { core = h.core; marker = h.marker }
+acts_plain m to counts (replies.Named v) c c' h = record { core = h.core; marker = h.marker }
+acts_plain m to counts (replies.Word w) c c' h = record { core = h.core; marker = h.marker }
+acts_plain m to counts (replies.Shape p d) c c' h = record { core = h.core; marker = h.marker }
+acts_plain m to counts (replies.Marked n) c c' h = record { core = h.core; marker = h.marker }
+acts_plain m to counts (replies.Reclaimed n) c c' h = record { core = h.core; marker = h.marker }
+acts_plain m to counts (replies.Refined n) c c' h = record { core = h.core; marker = h.marker }
+acts_plain m to counts (replies.Moved n w) c c' h = record { core = h.core; marker = h.marker }
+acts_plain m to counts (replies.Refused why) c c' h = h
+
+-- what the snapshot doesn't reach has the pointers that it had
+pub unreached_of : (s : State) (x : Graph) (c : CoreState) → Stands s c → s.snapshot ≡ Some x → KeepsUnreached x s.graph
+unreached_of s x c st is = go s.snapshot st.sound.snapshot st.since is
+  where
+    go : (sn : Option Graph) → ForSnapshot sn (λ t. IsEarlier t s.graph) → ForSnapshot sn (λ t. IsSince t s.graph) → sn ≡ Some x → KeepsUnreached x s.graph
+    go None earlier since e = cc
+    go (Some y) earlier since e = let same : y ≡ x = cc in subst (λ (t : Graph). KeepsUnreached t s.graph) same (since_unreached y s.graph earlier since)
 
 -- a history goes on by one event
 pub goes_on : (s : State) (c : CoreState) (es : List Event) (e : Event) (mid c' : CoreState) → Runs s c es mid → ((r : State) → Stands r mid → Follows r e.step e.reply c')

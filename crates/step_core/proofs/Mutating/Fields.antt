@@ -4,7 +4,8 @@ use Rattle.std.specs.Prelude.{slice_get, slice_set, replicate}
 use Rattle.heap_model.specs.Heap.{Stored, fields}
 use Rattle.heap_model.proofs.Lists.{get-append_cases}
 use Rattle.regions.proofs.Words.Fields.{with_pointer, with_weak}
-use Rattle.regions.specs.Table.{new_object}
+use Rattle.regions.specs.Table.{Table, new_object, object_at, pointers_at, weaks_at, fields_at, object_pointers, object_weaks, object_fields}
+use Rattle.std.proofs.lemmas.List.{length-append}
 
 set_front : (xs ys : List (Option ℕ)) (i : ℕ) (v : Option ℕ) → i < length xs → slice_set xs i v ++ ys ≡ slice_set (xs ++ ys) i v
 set_front [] ys i v h = absurd (omega arith)
@@ -21,6 +22,15 @@ pointer_fields x i w h = set_front x.pointers x.weaks i w h
 
 pub weak_fields : (x : Stored) (i : ℕ) (w : Option ℕ) → fields (with_weak x i w) ≡ slice_set (fields x) (length x.pointers + i) w
 weak_fields x i w = set_back x.pointers x.weaks (length x.pointers + i) i w refl
+
+-- so many fields there are
+pub fields_count : (t : Table) (a : ℕ) → length (fields_at t a) ≡ length (pointers_at t a) + length (weaks_at t a)
+unfolding fields_at pointers_at weaks_at
+fields_count t a = go (object_at t a)
+  where
+    go : (o : Option Stored) → length (object_fields o) ≡ length (object_pointers o) + length (object_weaks o)
+    go None = refl
+    go (Some x) = length-append x.pointers x.weaks
 
 -- the fields of an object just made are nil
 pub nil_get : (p i b : ℕ) → slice_get (replicate {A = Option ℕ} p None) i ≡ Some (Some b) → ⊥

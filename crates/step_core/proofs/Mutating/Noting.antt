@@ -18,7 +18,7 @@ use Rattle.refinement.proofs.Remembered as remembered
 use Rattle.heap_words.specs.Configs.{card_words}
 use Rattle.heap_words.proofs.Limits.{card_between}
 use Rattle.std.proofs.Math.Nat.{mul_assoc, mul-div_cancel, div-lt_iff_lt-mul}
-use Rattle.step_core.specs.Stands.{CoreState, kept_of, heap_of, ShowsGraph, KeepsFrom, IsCore}
+use Rattle.step_core.specs.Stands.{CoreState, kept_of, heap_of, ShowsGraph, KeepsFrom, IsCore, IsWordOf}
 use Rattle.step_core.proofs.Mutating.Reading.{object_kept, fields_there}
 use Rattle.step_core.proofs.Mutating.Storing.{rooted}
 
@@ -109,6 +109,9 @@ heap_noted c c' e = ap (λ (d : CoreState). heap_of d) e
 
 pub held_noted : (c c' : CoreState) (w : Option ℕ) → c' ≡ record c { cards = c'.cards } → IsHeld (heap_of c) w → IsHeld (heap_of c') w
 held_noted c c' w e h = subst (λ (x : Heap). IsHeld x w) (sym (heap_noted c c' e)) h
+
+pub word_noted : (c c' : CoreState) (w : Option ℕ) → c' ≡ record c { cards = c'.cards } → IsWordOf (heap_of c) w → IsWordOf (heap_of c') w
+word_noted c c' w e h = subst (λ (x : Heap). IsWordOf x w) (sym (heap_noted c c' e)) h
 
 pub kept_noted : (c c' : CoreState) (a : ℕ) → c' ≡ record c { cards = c'.cards } → kept_of c' a ≡ kept_of c a
 kept_noted c c' a e = ap (λ (x : Heap). x.kept a) (heap_noted c c' e)

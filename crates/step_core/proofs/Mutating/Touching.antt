@@ -27,7 +27,7 @@ use Rattle.step_core.proofs.Mutating.Storing.{is_kept}
 abbrev pub with_touch : CoreState → ℕ → Option ℕ → Marker → CoreState
 with_touch c place w m = record c { roots = slice_set c.roots place w; marker = m }
 
-same_roles : (m : Marker) → SameRoles m m
+pub same_roles : (m : Marker) → SameRoles m m
 same_roles m = record { previous = refl; tams = refl; running = refl }
 
 -- the core with another root word and marker, where what is kept stays

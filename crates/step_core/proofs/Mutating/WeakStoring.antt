@@ -1,14 +1,14 @@
 -- A store into a weak slot of an object that a root names: the field's card is noted, and marking isn't concerned.
 use Rattle.std.proofs.Common.{◌≡◌, ℕ, ◌+◌, ◌<◌, List, ◌++◌, Option, Some, length, refl, sym, ◌∙◌, ap, subst, arith}
-use Rattle.std.specs.Prelude.{slice_set}
+use Rattle.std.specs.Prelude.{slice_set, IsSome}
 use Rattle.std.specs.List.{AllZip}
-use Rattle.std.proofs.lemmas.List.{length-set, length-append}
+use Rattle.std.proofs.lemmas.List.{length-set}
 use Rattle.heap_model.specs.Graph.{Graph, Object, IsSound, object_named, with_changed}
 use Rattle.heap_model.specs.Heap.{Stored, IsRoot, IsShown, ObjectSet}
 use Rattle.heap_model.specs.Weak.{KeepsUnreached}
 use Rattle.heap_model.proofs.Lists.{AllZip-set}
 use Rattle.heap_model.proofs.Unreached.{unreached_written}
-use Rattle.regions.specs.Table.{Table, pointers_at, weaks_at, fields_at, set_weak}
+use Rattle.regions.specs.Table.{Table, object_at, weaks_at, fields_at, set_weak}
 use Rattle.regions.proofs.Tiles.Changes.{WritesObject, weak_put}
 use Rattle.regions.proofs.Words.Fields.{with_weak}
 use Rattle.heap_words.specs.Configs.{card_words}
@@ -21,20 +21,24 @@ use Rattle.step_core.proofs.Cores.Sizes.{some_words}
 use Rattle.step_core.proofs.Cores.Resting.{object_rests}
 use Rattle.step_core.proofs.Cores.Layers.{follows_of, layers_writes}
 use Rattle.step_core.proofs.Cores.Remembering.{remembers_stored}
-use Rattle.step_core.proofs.Mutating.Fields.{weak_fields}
-use Rattle.step_core.proofs.Mutating.Reading.{object_kept, pointers_there, weaks_there, fields_there}
+use Rattle.step_core.proofs.Mutating.Fields.{weak_fields, fields_count}
+use Rattle.step_core.proofs.Mutating.Reading.{object_kept, pointers_there}
 use Rattle.step_core.proofs.Mutating.Written.{object_written, write_keeps}
 use Rattle.step_core.proofs.Mutating.Acting.{object_shows}
 use Rattle.step_core.proofs.Mutating.Storing.{Rooted, rooted}
 
--- a weak slot counts among the fields
-pub slot_within : (k : CoreState) (a i : ℕ) → IsCore k → IsRoot (heap_of k) a → i < length (weaks_at k.table a) → weak_field k a i < length (fields_at k.table a)
-slot_within k a i core root within =
-    let r = rooted k a core root in
-    let all = ap (λ (ps : List (Option ℕ)). length ps) (fields_there k a r.stored r.at) ∙ length-append r.stored.pointers r.stored.weaks in
-    let pointers = ap (λ (ps : List (Option ℕ)). length ps) (pointers_there k a r.stored r.at) in
-    let weaks = ap (λ (ps : List (Option ℕ)). length ps) (weaks_there k a r.stored r.at) in
-    omega (arith, all, pointers, weaks, within)
+-- a root names an object
+pub rooted_object : (k c : CoreState) (a : ℕ) → k ≡ c → IsCore k → IsRoot (heap_of c) a → IsSome (object_at k.table a)
+rooted_object k c a e core root =
+    let r = rooted k a core (subst (λ (d : CoreState). IsRoot (heap_of d) a) (sym e) root) in
+    let is = object_kept k a r.stored r.at in rw is refl
+
+-- a weak slot counts among the fields, behind the pointers
+pub slot_within : (k c : CoreState) (a i : ℕ) → k ≡ c → i < length (weaks_at c.table a) → weak_field k a i < length (fields_at k.table a)
+slot_within k c a i e within =
+    let within' : i < length (weaks_at k.table a) = subst (λ (d : CoreState). i < length (weaks_at d.table a)) (sym e) within in
+    let count = fields_count k.table a in
+    omega (arith, count, within')
 
 module _ (k : CoreState) (core : IsCore k) (a i : ℕ) (w : Option ℕ) (t : Table) (root : IsRoot (heap_of k) a) (within : i < length (weaks_at k.table a)) (word : IsWordOf (heap_of k) w)
     (noted : IsNoted k.table.words_per_region (card_words k.config) (is_dirty k.cards) (field_word a (weak_field k a i)) w) (is : t ≡ set_weak k.table a i w) where

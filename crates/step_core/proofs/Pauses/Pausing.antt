@@ -213,7 +213,7 @@ module _ (k : CoreState) (core : IsCore k) (budget : ℕ) (chosen : List LiveRow
         ]
       where
         size : (x y : Stored) → IsSameBut x y → tile_size (Object y) ≡ tile_size (Object x)
-        size x y s = let count = s.count in let values = ap (λ (vs : List ℕ). length vs) s.values in omega (arith, count, values)
+        size x y s = let pointers = s.pointers in let weaks = s.weaks in let values = ap (λ (vs : List ℕ). length vs) s.values in omega (arith, pointers, weaks, values)
 
     ends_after : (tops tops' : List ℕ) (marks marks' : List Bool) → MarksAfter k.table.words_per_region chosen tops tops' marks marks' → MarksObjects k.table tops marks
         → EndsBelow k.table tops → EndsBelow t tops'

@@ -1,6 +1,10 @@
-use Rattle.std.proofs.Common.{◌∙◌}
+use Rattle.std.proofs.Common.{◌∙◌, arith}
+use Rattle.step_core.proofs.Mutating.Fields.{fields_count}
 use Rattle.step_core.proofs.Mutating.Noting.{held_noted, kept_noted, shown_noted, shows_noted, keeps_noted}
 use Rattle.step_core.proofs.heap.Core.store.Goals as goal
+
+pub note-requires-clause-field : goal.note-requires-clause-field
+note-requires-clause-field c = let count = fields_count c.args.self.now.table c.args.object in let within = c.requires.field in omega (arith, count, within)
 
 pub store_noted-requires-clause-held : goal.store_noted-requires-clause-held
 store_noted-requires-clause-held c = held_noted c.args.self.now c.note.new.self c.args.target c.note.ensures.same c.requires.held
