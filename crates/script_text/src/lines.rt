@@ -133,6 +133,40 @@ fn put_value(buffer: &mut [u8], at: usize, value: Option<Register>) -> usize
     }
 }
 
+/// A verb and a space, the register that takes a field, and the object with its field.
+fn put_taken(
+    buffer: &mut [u8],
+    at: usize,
+    word: &[u8],
+    to: Register,
+    object: Register,
+    field: u32,
+) -> usize
+    requires { at + length word.now + 16 ≤ length buffer.old }
+    ensures put { take result buffer.new ≡ take at buffer.old ++ word.now ++ register_word to ++ codes " " ++ register_word object ++ codes " " ++ decimal field }
+    ensures end { result ≤ at + length word.now + 16 }
+{
+    let at = put_named(buffer, at, word, to);
+    put_field(buffer, at, b" ", object, field)
+}
+
+/// A verb and a space, the object with its field, and what the field takes.
+fn put_stored(
+    buffer: &mut [u8],
+    at: usize,
+    word: &[u8],
+    object: Register,
+    field: u32,
+    value: Option<Register>,
+) -> usize
+    requires { at + length word.now + 17 ≤ length buffer.old }
+    ensures put { take result buffer.new ≡ take at buffer.old ++ word.now ++ register_word object ++ codes " " ++ decimal field ++ codes " " ++ value_word value }
+    ensures end { result ≤ at + length word.now + 17 }
+{
+    let at = put_field(buffer, at, word, object, field);
+    put_value(buffer, at, value)
+}
+
 /// The step that makes an object with weak slots.
 fn put_new_weak(buffer: &mut [u8], at: usize, to: Register, counts: Counts, weaks: u8) -> usize
     requires { at + 48 ≤ length buffer.old }
@@ -154,18 +188,12 @@ fn put_action(buffer: &mut [u8], at: usize, action: Action) -> usize
             let at = put_field(buffer, at, b"new ", to, counts.pointers);
             put_count(buffer, at, b" ", counts.values)
         }
-        Action::Get { to, object, field } => {
-            let at = put_named(buffer, at, b"get ", to);
-            put_field(buffer, at, b" ", object, field)
-        }
+        Action::Get { to, object, field } => put_taken(buffer, at, b"get ", to, object, field),
         Action::Put {
             object,
             field,
             value,
-        } => {
-            let at = put_field(buffer, at, b"put ", object, field);
-            put_value(buffer, at, value)
-        }
+        } => put_stored(buffer, at, b"put ", object, field, value),
         Action::Read { object, field } => put_field(buffer, at, b"read ", object, field),
         Action::Write {
             object,
@@ -194,17 +222,13 @@ fn put_action(buffer: &mut [u8], at: usize, action: Action) -> usize
         Action::Shape { object } => put_named(buffer, at, b"shape ", object),
         Action::NewWeak { to, counts, weaks } => put_new_weak(buffer, at, to, counts, weaks),
         Action::GetWeak { to, object, slot } => {
-            let at = put_named(buffer, at, b"getweak ", to);
-            put_field(buffer, at, b" ", object, slot)
+            put_taken(buffer, at, b"getweak ", to, object, slot)
         }
         Action::PutWeak {
             object,
             slot,
             value,
-        } => {
-            let at = put_field(buffer, at, b"putweak ", object, slot);
-            put_value(buffer, at, value)
-        }
+        } => put_stored(buffer, at, b"putweak ", object, slot, value),
         Action::Weaks { object } => put_named(buffer, at, b"weaks ", object),
     }
 }
