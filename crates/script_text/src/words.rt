@@ -126,7 +126,7 @@ pub(crate) fn register(word: &[u8]) -> Option<Register>
 }
 
 /// The global that a word spells, `g0` to `g15`.
-#[tactic(auto, using(crate::proofs::Numbers::global_numbered_is), unfolding(crate::specs::Reading::global_of))]
+#[tactic(auto, using(crate::proofs::Parts::Numbers::global_numbered_is), unfolding(crate::specs::Reading::global_of))]
 pub(crate) fn global(word: &[u8]) -> Option<GlobalRoot>
     ensures { result ≡ global_of word.now }
 {

@@ -1,7 +1,7 @@
 use Rattle.std.proofs.Common.{◌+◌, arith}
 use Rattle.std.specs.Fmt.{decimal}
 use Rattle.std.proofs.lemmas.Fmt.{length-decimal-le}
-use Rattle.script_text.proofs.Digits.{put_behind}
+use Rattle.script_text.proofs.Output.Digits.{put_behind}
 use Rattle.script_text.proofs.bytes.put_number.Goals as goal
 
 pub overflow_add-end : goal.overflow_add-end

@@ -1,6 +1,6 @@
 use Rattle.std.proofs.Common.{sym, arith}
 use Rattle.itoa.proofs.Decimal.{length_one}
-use Rattle.script_text.proofs.Digits.{digits_are}
+use Rattle.script_text.proofs.Output.Digits.{digits_are}
 use Rattle.script_text.proofs.bytes.short_digit_count.Goals as goal
 
 pub returns-then-number-lt10 : goal.returns-then-number-lt10

@@ -1,6 +1,6 @@
 use Rattle.std.proofs.Common.{◌+◌, ◌-◌, drop, length, arith}
 use Rattle.std.proofs.lemmas.List.{take_all, length-drop}
-use Rattle.script_text.proofs.Parting.{answer_behind, no_answer}
+use Rattle.script_text.proofs.Reading.Parting.{answer_behind, no_answer}
 use Rattle.script_text.proofs.events.answer.Goals as goal
 
 pub returns-then-words-end-gt1 : goal.returns-then-words-end-gt1

@@ -1,5 +1,5 @@
 use Rattle.std.proofs.Common.{map, arith}
-use Rattle.script_text.proofs.Parting.{one_later, at_word, found_here, found_nowhere}
+use Rattle.script_text.proofs.Reading.Parting.{one_later, at_word, found_here, found_nowhere}
 use Rattle.std.proofs.lemmas.List.{length-map}
 use Rattle.script_text.proofs.events.equals_at.Goals as goal
 

@@ -1,5 +1,5 @@
 use Rattle.std.proofs.Common.{length, ◌-◌, ◌≤◌, map}
-use Rattle.script_text.proofs.Parting.{NoneBefore}
+use Rattle.script_text.proofs.Reading.Parting.{NoneBefore}
 use Rattle.script_text.proofs.events.equals_at.Given as goal
 
 abbrev pub invariant-loop-at : goal.invariant-loop-at

@@ -1,5 +1,5 @@
 use Rattle.std.proofs.Common.{arith}
-use Rattle.script_text.proofs.Parting.{words_before, words_all}
+use Rattle.script_text.proofs.Reading.Parting.{words_before, words_all}
 use Rattle.script_text.proofs.events.step_part.Goals as goal
 
 pub returns-then-words-end-gt1 : goal.returns-then-words-end-gt1

@@ -1,4 +1,4 @@
-use Rattle.script_text.proofs.Actions.{action_again, action_is}
+use Rattle.script_text.proofs.BothWays.Actions.{action_again, action_is}
 use Rattle.script_text.proofs.laws.action_is_read.Goals as goal
 
 pub returns : goal.returns

@@ -1,4 +1,4 @@
-use Rattle.script_text.proofs.ReplyLaws.{reply_read, reply_is}
+use Rattle.script_text.proofs.BothWays.ReplyLaws.{reply_read, reply_is}
 use Rattle.script_text.proofs.laws.reply_is_read.Goals as goal
 
 pub returns : goal.returns

@@ -1,4 +1,4 @@
-use Rattle.script_text.proofs.RecordTexts.{record_again}
+use Rattle.script_text.proofs.BothWays.RecordTexts.{record_again}
 use Rattle.script_text.proofs.laws.spelled_record_is_read.Goals as goal
 
 pub returns : goal.returns

@@ -1,6 +1,6 @@
 use Rattle.std.proofs.Common.{◌+◌, ◌∷◌, [], arith}
 use Rattle.std.proofs.lemmas.Fmt.{decimal_digit}
-use Rattle.script_text.proofs.Digits.{behind_both}
+use Rattle.script_text.proofs.Output.Digits.{behind_both}
 use Rattle.script_text.proofs.lines.put_register.Goals as goal
 
 pub returns-clause-put : goal.returns-clause-put

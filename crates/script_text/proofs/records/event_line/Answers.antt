@@ -1,6 +1,6 @@
 use Rattle.std.proofs.Common.{◌∙◌}
-use Rattle.script_text.proofs.ElevenEvents.{event_line_words}
-use Rattle.script_text.proofs.EventsRead.{event_line_known}
+use Rattle.script_text.proofs.Reading.ElevenEvents.{event_line_words}
+use Rattle.script_text.proofs.BothWays.EventsRead.{event_line_known}
 use Rattle.script_text.proofs.records.event_line.Goals as goal
 
 pub returns-clause-exact : goal.returns-clause-exact

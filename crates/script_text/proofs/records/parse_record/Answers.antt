@@ -1,10 +1,10 @@
 use Rattle.std.proofs.Common.{◌∙◌, ◌+◌, ap, sym, refl, arith, rules, length, take}
 use Rattle.std.proofs.lemmas.List.{length-drop}
 use Rattle.script_text.specs.declared.fault.Kind.TheVariants as kinds
-use Rattle.script_text.proofs.RecordOn.{begins, begins_wrong, no_line, goes_on, goes_wrong, is_done, is_cut, read_from, read_with}
-use Rattle.script_text.proofs.Stops.{fault_is, heap_line_never, one_less}
-use Rattle.script_text.proofs.RecordStops.{event_line_never, stops}
-use Rattle.script_text.proofs.Pieces.{behind, behind_is, pieces_behind}
+use Rattle.script_text.proofs.Reading.RecordOn.{begins, begins_wrong, no_line, goes_on, goes_wrong, is_done, is_cut, read_from, read_with}
+use Rattle.script_text.proofs.Reading.Stops.{fault_is, heap_line_never, one_less}
+use Rattle.script_text.proofs.Reading.RecordStops.{event_line_never, stops}
+use Rattle.script_text.proofs.Parts.Pieces.{behind, behind_is, pieces_behind}
 use Rattle.object_graph.specs.Actors.{EventList}
 use Rattle.script_text.proofs.records.parse_record.Goals as goal
 

@@ -1,7 +1,7 @@
 use Rattle.std.proofs.Common.{◌≡◌, ◌+◌, ◌≤◌, length}
 use Rattle.script_text.specs.Lines.{pieces_of}
 use Rattle.script_text.specs.Events.{events_of, record_of}
-use Rattle.script_text.proofs.RecordOn.{read_on}
+use Rattle.script_text.proofs.Reading.RecordOn.{read_on}
 use Rattle.script_text.proofs.records.parse_record.Given as goal
 
 abbrev pub invariant-loop-line : goal.invariant-loop-line

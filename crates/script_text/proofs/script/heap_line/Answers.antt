@@ -1,5 +1,5 @@
 use Rattle.std.proofs.Common.{◌∙◌, sym}
-use Rattle.script_text.proofs.Eleven.{heap_line_some, heap_line_none}
+use Rattle.script_text.proofs.Reading.Eleven.{heap_line_some, heap_line_none}
 use Rattle.script_text.proofs.script.heap_line.Goals as goal
 
 pub returns-in-Some : goal.returns-in-Some

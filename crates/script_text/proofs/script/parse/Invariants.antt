@@ -1,6 +1,6 @@
 use Rattle.std.proofs.Common.{◌≡◌, ◌+◌, ◌≤◌, length}
 use Rattle.script_text.specs.Lines.{pieces_of, steps_of, script_of}
-use Rattle.script_text.proofs.ReadOn.{read_on}
+use Rattle.script_text.proofs.Reading.ReadOn.{read_on}
 use Rattle.script_text.proofs.script.parse.Given as goal
 
 abbrev pub invariant-loop-line : goal.invariant-loop-line

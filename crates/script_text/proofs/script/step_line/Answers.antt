@@ -1,5 +1,5 @@
 use Rattle.std.proofs.Common.{◌∙◌}
-use Rattle.script_text.proofs.Eleven.{step_line_is}
+use Rattle.script_text.proofs.Reading.Eleven.{step_line_is}
 use Rattle.script_text.proofs.script.step_line.Goals as goal
 
 pub returns-clause-exact : goal.returns-clause-exact

@@ -1,5 +1,5 @@
 use Rattle.std.proofs.Common.{◌∙◌, sym}
-use Rattle.script_text.proofs.Numbers.{global_read}
+use Rattle.script_text.proofs.Parts.Numbers.{global_read}
 use Rattle.script_text.proofs.words.global.Goals as goal
 
 pub returns : goal.returns

@@ -1,5 +1,5 @@
 use Rattle.std.proofs.Common.{arith}
-use Rattle.script_text.proofs.Numbers.{number_of_exact, number_of_fits}
+use Rattle.script_text.proofs.Parts.Numbers.{number_of_exact, number_of_fits}
 use Rattle.script_text.proofs.words.number.Goals as goal
 
 pub returns-clause-exact : goal.returns-clause-exact

@@ -1,4 +1,4 @@
-use Rattle.script_text.proofs.Numbers.{register_of_exact}
+use Rattle.script_text.proofs.Parts.Numbers.{register_of_exact}
 use Rattle.script_text.proofs.words.register.Goals as goal
 
 pub returns : goal.returns

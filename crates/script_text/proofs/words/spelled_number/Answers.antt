@@ -1,5 +1,5 @@
 use Rattle.std.proofs.Common.{◌≡◌, ◌+◌, ◌*◌, ◌<◌, sym, length, get_or, drop, arith, rules}
-use Rattle.script_text.proofs.Numbers.{no_empty, no_leading_zero, after_more, digit_is, after_at_least, value_of_decimal, digit_of_decimal, spells, all_read, none_left}
+use Rattle.script_text.proofs.Parts.Numbers.{no_empty, no_leading_zero, after_more, digit_is, after_at_least, value_of_decimal, digit_of_decimal, spells, all_read, none_left}
 use Rattle.std.specs.Char.{digit_value}
 use Rattle.script_text.proofs.words.spelled_number.Goals as goal
 use Rattle.script_text.proofs.words.spelled_number.Goals.{then-byte-lt48-via-then-byte-lt48, then-byte-lt48-via-else-byte-lt48+then-byte-gt57, else-word-gt1-via-then-word-gt1+else-word-eq48, else-word-gt1-via-else-word-gt1}

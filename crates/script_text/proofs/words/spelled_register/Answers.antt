@@ -1,5 +1,5 @@
 use Rattle.std.proofs.Common.{arith}
-use Rattle.script_text.proofs.Numbers.{register_bytes, digit_word}
+use Rattle.script_text.proofs.Parts.Numbers.{register_bytes, digit_word}
 use Rattle.script_text.proofs.words.spelled_register.Goals as goal
 
 pub returns-then-word-ne2-clause-none : goal.returns-then-word-ne2-clause-none

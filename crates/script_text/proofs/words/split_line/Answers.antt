@@ -1,6 +1,6 @@
 use Rattle.std.proofs.Common.{◌≡◌, ◌+◌, ◌-◌, ◌≤◌, ◌<◌, ℕ, List, ◌∷◌, [], ◌++◌, length, map, take, drop, get_or, set, refl, ap, ◌∙◌, arith, Bor}
 use Rattle.std.proofs.lemmas.List.{length-take-le, length-map, length-set}
-use Rattle.script_text.proofs.Splitting.{kept_more, goes_on, new_word, last_word, no_more, first_piece, one_piece, IsSplit}
+use Rattle.script_text.proofs.Parts.Splitting.{kept_more, goes_on, new_word, last_word, no_more, first_piece, one_piece, IsSplit}
 use Rattle.script_text.proofs.words.split_line.Goals as goal
 use Rattle.script_text.proofs.words.split_line.Goals.{then-byte-eq32+then-count-lt11-2, else-byte-eq32, else-byte-eq32-via-then-byte-eq32+else-count-lt11-2, else-byte-eq32-via-else-byte-eq32}
 

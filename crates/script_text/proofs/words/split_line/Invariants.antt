@@ -1,5 +1,5 @@
 use Rattle.std.proofs.Common.{◌≡◌, ◌≤◌, ◌-◌, length, take, map}
-use Rattle.script_text.proofs.Splitting.{IsSplit}
+use Rattle.script_text.proofs.Parts.Splitting.{IsSplit}
 use Rattle.script_text.proofs.words.split_line.Given as goal
 
 abbrev pub invariant-loop-at : goal.invariant-loop-at

@@ -3,8 +3,8 @@ use Rattle.std.proofs.lemmas.List.{append-nil}
 use Rattle.heap_words.specs.declared.config.Config.{Config}
 use Rattle.script_text.specs.Spelling.{heap_words, line}
 use Rattle.script_text.specs.Records.{event_line, event_lines, record_text}
-use Rattle.script_text.proofs.RecordLaws.{text_so_far, one_more, rest_of_text}
-use Rattle.script_text.proofs.WriteLaws.{nothing_written, part_written, more_held, stopped, if_stopped}
+use Rattle.script_text.proofs.Output.RecordLaws.{text_so_far, one_more, rest_of_text}
+use Rattle.script_text.proofs.Output.WriteLaws.{nothing_written, part_written, more_held, stopped, if_stopped}
 use Rattle.script_text.proofs.writing.write_lines.Goals as goal
 
 pub loop-index-init : goal.loop-index-init

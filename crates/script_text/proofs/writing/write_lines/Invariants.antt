@@ -1,6 +1,6 @@
 use Rattle.std.proofs.Common.{◌≡◌, ◌≤◌, length, take}
-use Rattle.script_text.proofs.RecordLaws.{text_so_far}
-use Rattle.script_text.proofs.WriteLaws.{IsWriting}
+use Rattle.script_text.proofs.Output.RecordLaws.{text_so_far}
+use Rattle.script_text.proofs.Output.WriteLaws.{IsWriting}
 use Rattle.script_text.proofs.writing.write_lines.Given as goal
 
 abbrev pub invariant-loop-index : goal.invariant-loop-index

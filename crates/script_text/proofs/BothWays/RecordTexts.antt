@@ -17,13 +17,13 @@ use Rattle.script_text.specs.Spelling.{heap_words, spaced}
 use Rattle.script_text.specs.Records.{event_lines, record_text}
 use Rattle.script_text.specs.Lines.{◌>>=◌, at, pieces_of, heap_line_of}
 use Rattle.script_text.specs.Events.{event_line_of, events_of, pieces_record, record_of}
-use Rattle.script_text.proofs.ReadOn.{fault}
-use Rattle.script_text.proofs.RecordOn.{begun, read_on, record_begins, events_more}
-use Rattle.script_text.proofs.StepsRead.{result_bind, guarded, heap_line_is}
-use Rattle.script_text.proofs.StepsSpelled.{heap_line_again, heap_no_feed}
-use Rattle.script_text.proofs.Texts.{at_ok}
-use Rattle.script_text.proofs.EventsRead.{event_text, IsEventLine, event_line_is}
-use Rattle.script_text.proofs.EventsSpelled.{IsGood, event_line_again, event_no_feed}
+use Rattle.script_text.proofs.Reading.ReadOn.{fault}
+use Rattle.script_text.proofs.Reading.RecordOn.{begun, read_on, record_begins, events_more}
+use Rattle.script_text.proofs.BothWays.StepsRead.{result_bind, guarded, heap_line_is}
+use Rattle.script_text.proofs.BothWays.StepsSpelled.{heap_line_again, heap_no_feed}
+use Rattle.script_text.proofs.BothWays.Texts.{at_ok}
+use Rattle.script_text.proofs.BothWays.EventsRead.{event_text, IsEventLine, event_line_is}
+use Rattle.script_text.proofs.BothWays.EventsSpelled.{IsGood, event_line_again, event_no_feed}
 
 -- events that were read of the lines behind the heap line
 record AreRead (n : ℕ) (c : Config) (text : List ℕ) (es : List Event) : Type 0 where

@@ -10,7 +10,7 @@ use Rattle.script_text.specs.declared.fault.Kind.TheVariants as kinds
 use Rattle.script_text.specs.declared.fault.LineFault.{LineFault}
 use Rattle.script_text.specs.Lines.{◌>>=◌, pieces_of, heap_line_of}
 use Rattle.script_text.specs.Events.{event_line_of, events_of, pieces_record, record_of}
-use Rattle.script_text.proofs.ReadOn.{fault, pieces_some}
+use Rattle.script_text.proofs.Reading.ReadOn.{fault, pieces_some}
 
 abbrev pub begun : Config → EventList
 begun c = record { config = c; events = [] }

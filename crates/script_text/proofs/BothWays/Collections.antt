@@ -12,8 +12,8 @@ use Rattle.object_graph.specs.declared.step.CollectorStep.TheVariants as collect
 use Rattle.script_text.specs.Reading.{◌>>=◌, number_of, small, large, collection_of, sizes_in, sizes_of}
 use Rattle.script_text.specs.Fits.{CollectionFits, FormatFits, ConfigFits}
 use Rattle.script_text.specs.Spelling.{collection_words, verb_of, size_words, words_of_card, heap_words}
-use Rattle.script_text.proofs.Numbers.{number_of_is}
-use Rattle.script_text.proofs.Actions.{option_bind, chosen}
+use Rattle.script_text.proofs.Parts.Numbers.{number_of_is}
+use Rattle.script_text.proofs.BothWays.Actions.{option_bind, chosen}
 
 collection_some : (k j : CollectorStep) → Some k ≡ Some j → k ≡ j
 collection_some k j e = cc

@@ -27,12 +27,12 @@ use Rattle.script_text.specs.Records.{actor_word, body_words, reply_words}
 use Rattle.script_text.specs.EventWords.{background_of, marker_step, refiner_step, taken_of, step_part, reply_part, reply_of, answer_of}
 use Rattle.script_text.specs.Lines.{◌>>=◌, or_fault, words_of, mutator_of}
 use Rattle.script_text.specs.Events.{foreground_of, actor_of, counted_of, event_of, event_line_of}
-use Rattle.script_text.proofs.Numbers.{number_of_is}
-use Rattle.script_text.proofs.Actions.{option_bind, action_is}
-use Rattle.script_text.proofs.Collections.{collection_is}
-use Rattle.script_text.proofs.StepsRead.{result_bind, or_fault_is, either, mutator_is, joined, too_long}
-use Rattle.script_text.proofs.ReplyLaws.{pick, reply_is}
-use Rattle.script_text.proofs.Parting.{parted}
+use Rattle.script_text.proofs.Parts.Numbers.{number_of_is}
+use Rattle.script_text.proofs.BothWays.Actions.{option_bind, action_is}
+use Rattle.script_text.proofs.BothWays.Collections.{collection_is}
+use Rattle.script_text.proofs.BothWays.StepsRead.{result_bind, or_fault_is, either, mutator_is, joined, too_long}
+use Rattle.script_text.proofs.BothWays.ReplyLaws.{pick, reply_is}
+use Rattle.script_text.proofs.Reading.Parting.{parted}
 
 -- the words of an event
 abbrev pub event_words : ℕ → Event → List (List ℕ)

@@ -15,7 +15,7 @@ use Rattle.object_graph.specs.declared.step.GlobalRoot.{GlobalRoot}
 use Rattle.script_text.specs.Reading.{small, large}
 use Rattle.script_text.specs.Spelling.{register_word, global_word, value_word, spaced}
 use Rattle.script_text.specs.Lines.{words_of}
-use Rattle.script_text.proofs.Numbers.{register_word_is}
+use Rattle.script_text.proofs.Parts.Numbers.{register_word_is}
 
 -- a word has no space and no line feed, and at most 21 bytes
 pub record IsWord (w : List ℕ) : Type 0 where

@@ -10,7 +10,7 @@ use Rattle.object_graph.specs.declared.step.Action.TheVariants as actions
 use Rattle.script_text.specs.Spelling.{register_word, value_word, action_words}
 use Rattle.script_text.specs.Fits.{Fits}
 use Rattle.script_text.specs.Reading.{◌>>=◌, number_of, small, large, register_of, global_of, value_of, new_of, get_of, put_of, write_of, read_of, move_of, drop_of, load_of, save_of, shape_of, long_action_of, pair_action_of, lone_action_of, action_of}
-use Rattle.script_text.proofs.Numbers.{number_of_some, number_of_is, register_of_some, register_of_is, global_of_some, global_of_is}
+use Rattle.script_text.proofs.Parts.Numbers.{number_of_some, number_of_is, register_of_some, register_of_is, global_of_some, global_of_is}
 
 reg : (r : Register) → register_of (register_word r) ≡ Some r
 reg r = register_of_some (register_word r) r refl

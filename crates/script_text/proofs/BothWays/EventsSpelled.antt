@@ -30,13 +30,13 @@ use Rattle.script_text.specs.Records.{actor_word, body_words, refusal_words, rep
 use Rattle.script_text.specs.EventWords.{background_of, marker_step, refiner_step, taken_of, answer_of}
 use Rattle.script_text.specs.Lines.{words_of}
 use Rattle.script_text.specs.Events.{foreground_of, actor_of, counted_of, event_of, event_line_of}
-use Rattle.script_text.proofs.Numbers.{number_of_some, first_is_digit, register_word_is}
-use Rattle.script_text.proofs.Actions.{action_again}
-use Rattle.script_text.proofs.Spelled.{IsWord, AreWords, literal, number_short, number_word, small_word, global_is_word, word1, word2, word3, words_again, no_feed}
-use Rattle.script_text.proofs.StepsSpelled.{action_is_words, collection_is_words, collection_again, not_gc, mutator_again}
-use Rattle.script_text.proofs.ReplyLaws.{number_not, reply_read}
-use Rattle.script_text.proofs.Parting.{is_equals, answered, step_again, reply_again}
-use Rattle.script_text.proofs.EventsRead.{event_words, event_text, event_text_is, some_reply, KnownActor}
+use Rattle.script_text.proofs.Parts.Numbers.{number_of_some, first_is_digit, register_word_is}
+use Rattle.script_text.proofs.BothWays.Actions.{action_again}
+use Rattle.script_text.proofs.Parts.Spelled.{IsWord, AreWords, literal, number_short, number_word, small_word, global_is_word, word1, word2, word3, words_again, no_feed}
+use Rattle.script_text.proofs.BothWays.StepsSpelled.{action_is_words, collection_is_words, collection_again, not_gc, mutator_again}
+use Rattle.script_text.proofs.BothWays.ReplyLaws.{number_not, reply_read}
+use Rattle.script_text.proofs.Reading.Parting.{is_equals, answered, step_again, reply_again}
+use Rattle.script_text.proofs.BothWays.EventsRead.{event_words, event_text, event_text_is, some_reply, KnownActor}
 
 -- no word of a step is `=`
 abbrev ArePlain : List (List ℕ) → Type 0

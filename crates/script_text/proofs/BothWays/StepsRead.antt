@@ -17,9 +17,9 @@ use Rattle.script_text.specs.Reading.{number_of, small, action_of, collection_of
 use Rattle.script_text.specs.Fits.{StepFits, ConfigFits}
 use Rattle.script_text.specs.Spelling.{action_words, collection_words, step_words, heap_words, spaced}
 use Rattle.script_text.specs.Lines.{◌>>=◌, or_fault, words_of, mutator_of, step_of, step_of, step_line_of, heap_line_of}
-use Rattle.script_text.proofs.Numbers.{number_of_is}
-use Rattle.script_text.proofs.Actions.{action_is}
-use Rattle.script_text.proofs.Collections.{collection_is, heap_is}
+use Rattle.script_text.proofs.Parts.Numbers.{number_of_is}
+use Rattle.script_text.proofs.BothWays.Actions.{action_is}
+use Rattle.script_text.proofs.BothWays.Collections.{collection_is, heap_is}
 
 -- the steps of a reading that gave something
 pub result_bind : {A B E : Type 0} (r : Result A E) (f : A → Result B E) (y : B) → (r >>= f) ≡ Ok y → (x : A) × (r ≡ Ok x) × (f x ≡ Ok y)

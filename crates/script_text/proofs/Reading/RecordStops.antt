@@ -14,9 +14,9 @@ use Rattle.script_text.specs.Reading.{number_of, large}
 use Rattle.script_text.specs.EventWords.{background_of, taken_of, step_part, answer_of}
 use Rattle.script_text.specs.Lines.{◌>>=◌, or_fault, at, words_of, pieces_of, mutator_of, StopsAt}
 use Rattle.script_text.specs.Events.{foreground_of, actor_of, counted_of, event_of, event_line_of, events_of, record_of}
-use Rattle.script_text.proofs.ReadOn.{fault, pieces_some}
-use Rattle.script_text.proofs.RecordOn.{with_event, read_on, goes_on}
-use Rattle.script_text.proofs.Stops.{Never, never_or, never_cond, never_bind, never_ok, never_err, mutator_never, at_line}
+use Rattle.script_text.proofs.Reading.ReadOn.{fault, pieces_some}
+use Rattle.script_text.proofs.Reading.RecordOn.{with_event, read_on, goes_on}
+use Rattle.script_text.proofs.Reading.Stops.{Never, never_or, never_cond, never_bind, never_ok, never_err, mutator_never, at_line}
 
 foreground_never : (c : Config) (word : List ℕ) (o : Option Actor) → Never (foreground_of c word o)
 unfolding foreground_of

@@ -16,8 +16,8 @@ use Rattle.script_text.specs.Reading.{number_of, large, action_of, collection_of
 use Rattle.script_text.specs.EventWords.{taken_of, equals_at, step_part, answer_of}
 use Rattle.script_text.specs.Lines.{◌>>=◌, or_fault, words_of}
 use Rattle.script_text.specs.Events.{actor_of, counted_of, event_of, event_line_of}
-use Rattle.script_text.proofs.ReplyLaws.{no_long_reply}
-use Rattle.script_text.proofs.Parting.{is_equals, answered, step_before, step_all, reply_behind}
+use Rattle.script_text.proofs.BothWays.ReplyLaws.{no_long_reply}
+use Rattle.script_text.proofs.Reading.Parting.{is_equals, answered, step_before, step_all, reply_behind}
 
 no_long_step : (a : Actor) (ws : List (List ℕ)) → 5 ≤ length ws → taken_of a ws ≡ None
 unfolding taken_of action_of collection_of

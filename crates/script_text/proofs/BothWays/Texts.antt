@@ -17,9 +17,9 @@ use Rattle.script_text.specs.Reading.{small}
 use Rattle.script_text.specs.Fits.{StepFits, IsScript}
 use Rattle.script_text.specs.Spelling.{step_words, heap_words, spaced, line, script_text}
 use Rattle.script_text.specs.Lines.{◌>>=◌, at, pieces_of, step_line_of, heap_line_of, steps_of, pieces_script, script_of}
-use Rattle.script_text.proofs.ReadOn.{fault, begun, read_on, script_begins, steps_more}
-use Rattle.script_text.proofs.StepsRead.{result_bind, guarded, IsLine, step_line_is, heap_line_is}
-use Rattle.script_text.proofs.StepsSpelled.{step_line_again, heap_line_again, step_no_feed, heap_no_feed}
+use Rattle.script_text.proofs.Reading.ReadOn.{fault, begun, read_on, script_begins, steps_more}
+use Rattle.script_text.proofs.BothWays.StepsRead.{result_bind, guarded, IsLine, step_line_is, heap_line_is}
+use Rattle.script_text.proofs.BothWays.StepsSpelled.{step_line_again, heap_line_again, step_no_feed, heap_no_feed}
 
 abbrev lines : List Step → List ℕ
 lines ss = flat_map (λ s. line (step_words s)) ss

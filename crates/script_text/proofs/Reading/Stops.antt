@@ -11,7 +11,7 @@ use Rattle.script_text.specs.declared.fault.Kind.TheVariants as kinds
 use Rattle.script_text.specs.declared.fault.LineFault.{LineFault}
 use Rattle.script_text.specs.Reading.{number_of, small, action_of, collection_of, sizes_of}
 use Rattle.script_text.specs.Lines.{◌>>=◌, or_fault, at, words_of, pieces_of, mutator_of, step_of, heap_line_of, step_line_of, steps_of, script_of, FailsBy, StopsAt}
-use Rattle.script_text.proofs.ReadOn.{fault, with_step, read_on, pieces_some, goes_on}
+use Rattle.script_text.proofs.Reading.ReadOn.{fault, with_step, read_on, pieces_some, goes_on}
 
 -- a line's own fault is never want of memory
 abbrev pub Never : {A : Type 0} → Result A Kind → Type 0

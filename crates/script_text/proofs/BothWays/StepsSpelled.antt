@@ -24,9 +24,9 @@ use Rattle.script_text.specs.Reading.{small, large, collection_of, sizes_in, siz
 use Rattle.script_text.specs.Fits.{Fits, CollectionFits, StepFits, FormatFits, ConfigFits}
 use Rattle.script_text.specs.Spelling.{action_words, collection_words, step_words, verb_of, size_words, words_of_card, heap_words, spaced}
 use Rattle.script_text.specs.Lines.{or_fault, words_of, mutator_of, step_of, step_line_of, heap_line_of}
-use Rattle.script_text.proofs.Numbers.{number_of_some, first_is_digit}
-use Rattle.script_text.proofs.Actions.{action_again}
-use Rattle.script_text.proofs.Spelled.{IsWord, AreWords, literal, number_word, small_word, register_is_word, global_is_word, value_is_word, word1, word2, word3, word4, words_again, spaced_short, no_feed}
+use Rattle.script_text.proofs.Parts.Numbers.{number_of_some, first_is_digit}
+use Rattle.script_text.proofs.BothWays.Actions.{action_again}
+use Rattle.script_text.proofs.Parts.Spelled.{IsWord, AreWords, literal, number_word, small_word, register_is_word, global_is_word, value_is_word, word1, word2, word3, word4, words_again, spaced_short, no_feed}
 
 pub action_is_words : (a : Action) → Fits a → AreWords (action_words a)
 action_is_words (actions.New to counts) fits = word4 _ _ _ _ (literal (codes "new") refl refl) (register_is_word to) (small_word counts.pointers fits.0) (small_word counts.values fits.1)

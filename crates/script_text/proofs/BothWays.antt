@@ -1,0 +1,11 @@
+-- The laws both ways: what is read is spelled so, and what is spelled so is read, for steps, replies, events, whole
+-- scripts and whole records.
+pub mod Actions
+pub mod Collections
+pub mod ReplyLaws
+pub mod StepsRead
+pub mod EventsRead
+pub mod StepsSpelled
+pub mod EventsSpelled
+pub mod Texts
+pub mod RecordTexts

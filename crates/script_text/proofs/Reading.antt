@@ -1,0 +1,9 @@
+-- Reading: where the step of an event ends, that eleven words of a line tell as much as all, how reading goes on line
+-- by line, and where it stops for want of memory.
+pub mod Eleven
+pub mod ElevenEvents
+pub mod Parting
+pub mod ReadOn
+pub mod RecordOn
+pub mod Stops
+pub mod RecordStops
