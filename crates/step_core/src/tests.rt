@@ -10,6 +10,7 @@ use crate::{Core, RunFault, run};
 use heap_words::addr::{Card, RegionNo};
 use heap_words::config::{Config, Format, NewFault};
 use object_graph::{Action, CollectorStep, Counts, GlobalRoot, Op, Refusal, Register, Reply, Step};
+use std::process::Abort;
 use std::test::Fail;
 
 const CONFIG: Config = Config {
@@ -261,20 +262,8 @@ fn reclaims_regions(rt: HostRuntime) -> Result<(), Fail> {
     Ok(())
 }
 
-/// Four stores out of region 0 and 1 into region 2 fill a card log; refined, they are remembered by region 2, and the next
-/// store makes its card dirty again.
-#[test]
-fn a_card_log_fills(rt: HostRuntime) -> Result<(), Fail> {
-    let Ok(mut core) = Core::new(
-        rt.alloc(),
-        &Config {
-            format: Format::V1,
-            buffer: 4,
-            ..CONFIG
-        },
-    ) else {
-        return Err(Fail::from("a core"));
-    };
+/// Five objects of registers 0 to 4: two in region 0, two in region 1, and the last one in region 2.
+fn five_objects(rt: &impl Abort, core: &mut Core) {
     for number in 0..5u8 {
         let action = Action::New {
             to: register(number),
@@ -283,54 +272,80 @@ fn a_card_log_fills(rt: HostRuntime) -> Result<(), Fail> {
                 values: 2,
             },
         };
-        assert!(rt; act(&mut core, 0, action).is_some());
+        assert!(rt; act(core, 0, action).is_some());
     }
-    let put = |number: u8, field: u32| Action::Put {
+}
+
+/// Four stores out of region 0 and 1 into region 2 fill a card log; refined, they are remembered by region 2, and the next
+/// store makes its card dirty again.
+#[test]
+fn a_card_log_fills(rt: HostRuntime) -> Result<(), Fail> {
+    let config = Config {
+        buffer: 4,
+        ..CONFIG
+    };
+    let Ok(mut core) = Core::new(rt.alloc(), &config) else {
+        return Err(Fail::from("a core"));
+    };
+    five_objects(&rt, &mut core);
+    fill_a_log(&rt, &mut core);
+    check_refined(&rt, &mut core, 3, 3);
+    check_refined(&rt, &mut core, 9, 1);
+    check_stored(&rt, &mut core, 0, 2);
+    check_refined(&rt, &mut core, 9, 0);
+    check_remembered(&rt, &core);
+    Ok(())
+}
+
+/// Nothing is queued while the log has room.
+fn fill_a_log(rt: &impl Abort, core: &mut Core) {
+    check_stored(rt, core, 0, 0);
+    check_stored(rt, core, 0, 1);
+    check_stored(rt, core, 1, 0);
+    check_stored(rt, core, 2, 0);
+    check_refined(rt, core, 9, 0);
+    check_stored(rt, core, 3, 0);
+    assert_eq!(rt; core.queued(), 4);
+}
+
+/// The last object is stored into a field of another.
+fn check_stored(rt: &impl Abort, core: &mut Core, number: u8, field: u32) {
+    let put = Action::Put {
         object: Register { number: number % 8 },
         field,
         value: Some(Register { number: 4 }),
     };
-    for (number, field) in [(0, 0), (0, 1), (1, 0), (2, 0)] {
-        assert_eq!(rt; act(&mut core, 0, put(number, field)), Some(Reply::Done));
-    }
+    assert_eq!(rt; act(core, 0, put), Some(Reply::Done));
+}
+
+fn check_refined(rt: &impl Abort, core: &mut Core, cards: u32, refined: u32) {
     assert_eq!(rt;
-        collect(&mut core, CollectorStep::Refine(9)),
-        Reply::Refined(0)
+        collect(core, CollectorStep::Refine(cards)),
+        Reply::Refined(refined)
     );
-    assert_eq!(rt; act(&mut core, 0, put(3, 0)), Some(Reply::Done));
-    assert_eq!(rt; core.queued(), 4);
-    assert_eq!(rt;
-        collect(&mut core, CollectorStep::Refine(3)),
-        Reply::Refined(3)
-    );
-    assert_eq!(rt;
-        collect(&mut core, CollectorStep::Refine(9)),
-        Reply::Refined(1)
-    );
-    assert_eq!(rt; act(&mut core, 0, put(0, 2)), Some(Reply::Done));
-    assert_eq!(rt;
-        collect(&mut core, CollectorStep::Refine(9)),
-        Reply::Refined(0)
-    );
+}
+
+/// Region 2 alone remembers the first four cards, and the first card alone is dirty.
+fn check_remembered(rt: &impl Abort, core: &Core) {
     for card in 0..8u32 {
         for region in 0..4u32 {
             assert_eq!(rt;
-                remembers(&core, region, card),
+                remembers(core, region, card),
                 Some((region == 2 && card < 4, card == 0))
             );
         }
     }
-    Ok(())
 }
 
 /// Whether a region remembers a card, and whether the card is dirty. None where there is no such region or card.
 fn remembers(core: &Core, region: u32, card: u32) -> Option<(bool, bool)> {
     core.table.law();
     let regions = core.table.region_count();
-    if card >= 1024 || region >= regions {
+    let length = core.config.card_words();
+    if card >= 1024 || length > 64 || region >= regions {
         return None;
     }
-    if card * 8 >= regions * core.table.words_per_region() {
+    if card * length >= regions * core.table.words_per_region() {
         return None;
     }
     let covered = core.sets.covers(RegionNo::new(region), Card::new(card));
@@ -376,7 +391,6 @@ fn faults(rt: HostRuntime) -> Result<(), Fail> {
         assert_eq!(rt; printed.as_str(), text);
     }
     let small = Config {
-        format: Format::V1,
         regions: 1,
         ..CONFIG
     };
