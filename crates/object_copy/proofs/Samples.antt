@@ -1,9 +1,10 @@
 -- The table that the tests copy from.
-use Rattle.std.proofs.Common.{◌≡◌, ℕ, ◌+◌, ◌-◌, ◌/◌, [], ◌∷◌, length, refl, arith}
-use Rattle.std.specs.Prelude.{IsSome, Some}
+use Rattle.std.proofs.Common.{◌≡◌, ℕ, ◌+◌, ◌-◌, ◌/◌, ◌<◌, ◌∙◌, [], ◌∷◌, None, Some, length, ap, refl, arith}
+use Rattle.std.specs.Prelude.{IsSome}
 use Rattle.regions.specs.Tiles.{Object, Filler}
-use Rattle.regions.specs.Table.{Table, Free, Ordinary, remainder, kind_of, new_object, object_at, object_words, push_tile, region_at, nth_region, replace_tile, tile_in, used_of}
+use Rattle.regions.specs.Table.{Table, Free, Ordinary, remainder, kind_of, new_object, object_at, object_words, fields_at, weaks_at, push_tile, put_object, region_at, nth_region, replace_tile, set_field, tile_in, tile_object, used_of}
 use Rattle.regions.specs.declared.row.Kind.TheVariants as kinds
+use Rattle.regions.proofs.Tiles.Changes.{object_of_tile}
 use Rattle.regions.proofs.Samples.{sample, filled1, IsUsable}
 use Rattle.object_copy.specs.Samples.{IsCopyable, copied}
 
@@ -22,9 +23,20 @@ pub filler_there : (t : Table) (a n : ℕ) → t ≡ pushed → a ≡ 0 → n �
 unfolding tile_in region_at
 filler_there t a n e p q = rw (e, p, q) refl
 
-pub one_made : (t t' : Table) (a n p d : ℕ) → t ≡ pushed → t' ≡ replace_tile t a (Object (new_object 7 p d) ∷ remainder (n - (2 + p + d))) → a ≡ 0 → n ≡ 4 → p ≡ 0 → d ≡ 2 → IsCopyable t'
+abbrev pub made : Table
+made = sample (Ordinary (Object (record { name = 7; pointers = []; weaks = None ∷ []; values = 0 ∷ [] }) ∷ []) ∷ Free ∷ Free ∷ Free ∷ [])
+
+pub one_made : (t t' : Table) (a n p weak d : ℕ) → t ≡ pushed → t' ≡ replace_tile t a (Object (new_object 7 p weak d) ∷ remainder (n - (2 + p + weak + d))) → a ≡ 0 → n ≡ 4 → p ≡ 0 → weak ≡ 1 → d ≡ 1 → t' ≡ made
 unfolding replace_tile region_at
-one_made t t' a n p d e f h i j k = rw (f, e, h, i, j, k) refl
+one_made t t' a n p weak d e f h i j l k = rw (f, e, h, i, j, l, k) refl
+
+pub field_there : (t : Table) (a : ℕ) → t ≡ made → a ≡ 0 → 0 < length (fields_at t a)
+unfolding fields_at object_at tile_in region_at
+field_there t a e p = rw (e, p) (omega arith)
+
+pub one_named : (t t' : Table) (a : ℕ) → t ≡ made → t' ≡ set_field t a 0 (Some a) → a ≡ 0 → IsCopyable t'
+unfolding set_field object_at tile_in region_at put_object
+one_named t t' a e f p = rw (f, e, p) refl
 
 -- what a copy asks for
 pub record CanCopy (t : Table) (a : ℕ) : Type 0 where
@@ -41,3 +53,14 @@ can_copy t a e p = rw (e, p) (record { object = refl; words = refl; size = refl;
 pub stored_there : (t : Table) (a : ℕ) → IsCopyable t → a ≡ 0 → object_at t a ≡ Some copied
 unfolding object_at tile_in region_at
 stored_there t a e p = rw (e, p) refl
+
+-- what reading the copy's weak slot asks for
+pub record HasSlot (t : Table) (a : ℕ) : Type 0 where
+  pub object : IsSome (object_at t a)
+  pub weaks : 0 < length (weaks_at t a)
+
+pub has_slot : (t : Table) (a : ℕ) → tile_in t a ≡ Some (Object copied) → HasSlot t a
+unfolding weaks_at
+has_slot t a e =
+    let o : object_at t a ≡ Some copied = object_of_tile t a ∙ ap tile_object e in
+    record { object = rw o refl; weaks = rw o (omega arith) }

@@ -1,11 +1,12 @@
 -- The table that the tests copy from.
-use Rattle.std.specs.Prelude.{◌≡◌, [], ◌∷◌}
+use Rattle.std.specs.Prelude.{◌≡◌, Some, [], ◌∷◌}
 use Rattle.heap_model.specs.Heap.{Stored}
 use Rattle.regions.specs.Tiles.{Object}
 use Rattle.regions.specs.Table.{Table, Free, Ordinary}
 
+-- its weak slot names what stands at 0
 abbrev pub copied : Stored
-copied = record { name = 7; pointers = []; values = 0 ∷ 0 ∷ [] }
+copied = record { name = 7; pointers = []; weaks = Some 0 ∷ []; values = 0 ∷ [] }
 
 -- an object of four words at 0, and three free regions
 abbrev pub IsCopyable : Table → Type 0

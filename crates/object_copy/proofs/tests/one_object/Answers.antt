@@ -1,5 +1,6 @@
+use Rattle.std.proofs.Common.{refl}
 use Rattle.regions.proofs.Samples.{fill_take}
-use Rattle.object_copy.proofs.Samples.{usable, one_pushed, filler_there, one_made}
+use Rattle.object_copy.proofs.Samples.{usable, one_pushed, filler_there, one_made, field_there, one_named}
 use Rattle.object_copy.proofs.tests.one_object.Goals as goal
 
 pub push_filler-requires-clause-known : goal.push_filler-requires-clause-known
@@ -23,8 +24,16 @@ make_object-requires-clause-there c =
     let t2 = one_pushed _ _ _ _ t1 c.push_filler.ensures.pushed c.new-2.ensures c.new-3.ensures in
     filler_there _ _ _ t2 c.new-object.ensures c.new-6.ensures
 
+pub set_field-requires : goal.set_field-requires
+set_field-requires c =
+    let t1 = fill_take _ _ c.in-Ok.ensures.made c.take_free.ensures.taken in
+    let t2 = one_pushed _ _ _ _ t1 c.push_filler.ensures.pushed c.new-2.ensures c.new-3.ensures in
+    let t3 = one_made _ _ _ _ _ _ _ t2 c.make_object.ensures c.new-object.ensures c.new-6.ensures c.new-4.ensures refl c.new-5.ensures in
+    field_there _ _ t3 c.new-object.ensures
+
 pub returns : goal.returns
 returns c =
     let t1 = fill_take _ _ c.in-Ok.ensures.made c.take_free.ensures.taken in
     let t2 = one_pushed _ _ _ _ t1 c.push_filler.ensures.pushed c.new-2.ensures c.new-3.ensures in
-    one_made _ _ _ _ _ _ t2 c.make_object.ensures c.new-object.ensures c.new-6.ensures c.new-4.ensures c.new-5.ensures
+    let t3 = one_made _ _ _ _ _ _ _ t2 c.make_object.ensures c.new-object.ensures c.new-6.ensures c.new-4.ensures refl c.new-5.ensures in
+    one_named _ _ _ t3 c.set_field.ensures c.new-object.ensures
