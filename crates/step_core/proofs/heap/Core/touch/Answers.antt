@@ -7,7 +7,7 @@ pub invariant_of-self : goal.invariant_of-self
 invariant_of-self c = idle_kept _ _ c.self.view_is c.self.invariant _ c.args.value.now c.requires.word c.if-not-self.true
 
 pub returns-then-not-self-clause-shows : goal.returns-then-not-self-clause-shows
-returns-then-not-self-clause-shows c = rw c.register_index.ensures (idle_shows _ _ c.self.view_is c.self.invariant c.register_index.result c.args.value.now c.requires.word c.if-not-self.true)
+returns-then-not-self-clause-shows c = rw c.register_index.ensures (idle_shows _ _ c.self.view_is c.self.invariant _ c.args.value.now c.requires.word c.if-not-self.true)
 
 pub returns-then-not-self-clause-keeps : goal.returns-then-not-self-clause-keeps
 returns-then-not-self-clause-keeps c = idle_keeps _ _ c.self.view_is c.self.invariant c.register_index.result c.args.value.now c.requires.word c.if-not-self.true
@@ -31,7 +31,7 @@ pub returns-then-full-clause-shows : goal.returns-then-full-clause-shows
 returns-then-full-clause-shows c =
     let s = c.save-full.ensures in
     let t = c.take_log.ensures in
-    rw c.register_index.ensures (taken_shows _ _ c.self.view_is c.self.invariant c.register_index.result c.args.value.now c.requires.word c.if-not-self.false _ s.same s.saved _ t.same t.snapshots)
+    rw c.register_index.ensures (taken_shows _ _ c.self.view_is c.self.invariant _ c.args.value.now c.requires.word c.if-not-self.false _ s.same s.saved _ t.same t.snapshots)
 
 pub returns-then-full-clause-keeps : goal.returns-then-full-clause-keeps
 returns-then-full-clause-keeps c =
@@ -58,7 +58,7 @@ invariant_of-self-else-full c =
 pub returns-else-full-clause-shows : goal.returns-else-full-clause-shows
 returns-else-full-clause-shows c =
     let s = c.save-full.ensures in
-    rw c.register_index.ensures (taken_shows _ _ c.self.view_is c.self.invariant c.register_index.result c.args.value.now c.requires.word c.if-not-self.false _ s.same s.saved _ (same_roles _) (λ t g roots shows keeps. keeps))
+    rw c.register_index.ensures (taken_shows _ _ c.self.view_is c.self.invariant _ c.args.value.now c.requires.word c.if-not-self.false _ s.same s.saved _ (same_roles _) (λ t g roots shows keeps. keeps))
 
 pub returns-else-full-clause-keeps : goal.returns-else-full-clause-keeps
 returns-else-full-clause-keeps c =
