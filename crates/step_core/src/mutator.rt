@@ -212,11 +212,17 @@ impl Core {
         }
         let value = self.table.get_weak(at, slot);
         let name = self.name_of(&value);
-        self.touch(mutator, to, value);
+        self.touch(mutator, to, &value);
         Reply::Named(name)
     }
 
-    fn put_weak(&mut self, mutator: u32, object: Register, slot: u32, value: Option<Register>) -> Reply
+    fn put_weak(
+        &mut self,
+        mutator: u32,
+        object: Register,
+        slot: u32,
+        value: Option<Register>,
+    ) -> Reply
         requires { mutator < self.old.config.mutators }
         ensures acts { (g : Graph) → ShowsGraph g self.old → Acts g mutator (actions.PutWeak object slot value) result self.new }
         ensures keeps { (s : Graph) → KeepsFrom s self.old → KeepsFrom s self.new }
