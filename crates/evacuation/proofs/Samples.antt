@@ -20,7 +20,7 @@ use Rattle.region_choice.specs.Choice.{live_sum}
 use Rattle.region_choice.specs.declared.LiveRow.{LiveRow}
 use Rattle.refinement.specs.Remembering.{Remembers, field_card, field_word}
 use Rattle.refinement.proofs.Holders.{kept_object}
-use Rattle.evacuation.specs.Evacuates.{Layers, CanEvacuate, IsRow, kept_of}
+use Rattle.evacuation.specs.Evacuates.{Layers, CanEvacuate, IsRow, RegionsAfter, kept_of}
 use Rattle.evacuation.specs.Samples.{IsFresh, by_weak_slot, held, holder, itself, selfish}
 
 the_row : (row : LiveRow) (P : LiveRow → Type 0) → P row → All P (row ∷ [])
@@ -266,3 +266,10 @@ shaped_object (Some (Forwarded to n)) p weak d shape h some e = absurd cc
 pub object_of_shape : (t : Table) (a p weak d : ℕ) (shape : Shape) → IfSome (tile_in t a) (λ v. shape ≡ tile_shape v) → IsSome (tile_in t a) → shape ≡ shapes.Object p weak d → IsSome (object_at t a)
 unfolding object_at
 object_of_shape t a p weak d shape h some e = shaped_object (tile_in t a) p weak d shape h some e
+
+-- a word of the heap is one after the pause
+pub word_there : (rows : List LiveRow) (t t' v : Table) (w n : ℕ) → RegionsAfter rows t t' → t ≡ v → v.words_per_region ≡ 16 → length v.regions ≡ 4 → w ≡ n → n < 64 → w < length t'.regions * t'.words_per_region
+word_there rows t t' v w n r e size count is low =
+    let size' : t'.words_per_region ≡ 16 = r.size ∙ ap (λ (u : Table). u.words_per_region) e ∙ size in
+    let count' : length t'.regions ≡ 4 = r.count ∙ ap (λ (u : Table). length u.regions) e ∙ count in
+    rw (size', count', is) low

@@ -1,8 +1,10 @@
-use Rattle.std.proofs.Common.{◌≡◌, ℕ, Some, [], ◌∷◌, sym, ap, subst}
-use Rattle.remembered_sets.specs.Sets.{empty_sets}
+use Rattle.std.proofs.Common.{◌≡◌, ◌∙◌, ℕ, length, Some, [], ◌∷◌, arith, refl, sym, ap, subst}
+use Rattle.remembered_sets.specs.Sets.{card_count, empty_sets}
+use Rattle.regions.specs.Table.{Table}
+use Rattle.evacuation.specs.Rooms.{RoomSizes}
 use Rattle.evacuation.specs.Evacuates.{Layers, CanEvacuate}
 use Rattle.evacuation.specs.Samples.{IsFresh, itself}
-use Rattle.evacuation.proofs.Samples.{can_evacuate, itself_suited}
+use Rattle.evacuation.proofs.Samples.{can_evacuate, itself_suited, word_there}
 use Rattle.evacuation.proofs.tests.copies_what_names_itself.Goals as goal
 
 pub evacuate-moved-requires-clause-can : goal.evacuate-moved-requires-clause-can
@@ -19,3 +21,12 @@ evacuate-moved-requires-clause-can g c =
       roots = ap (λ (n : ℕ). Some n ∷ []) c.new-6.ensures;
     } in
     subst (λ (n : ℕ). CanEvacuate h (record { region = n; live_bound = 4 } ∷ []) 8) (sym c.new-7.ensures) (can_evacuate itself (empty_sets 4 2) (record { region = 0; live_bound = 4 }) itself_suited h fresh)
+
+pub evacuate-moved-requires-clause-each_region : goal.evacuate-moved-requires-clause-each_region
+evacuate-moved-requires-clause-each_region g c = ap (λ (r : RoomSizes). r.regions) c.in_ok-room.ensures ∙ sym (ap (λ (t : Table). length t.regions) c.in_ok-table.ensures)
+
+pub evacuate-moved-requires-clause-each_card : goal.evacuate-moved-requires-clause-each_card
+evacuate-moved-requires-clause-each_card g c = ap (λ (r : RoomSizes). r.cards) c.in_ok-room.ensures ∙ sym (ap card_count c.in_ok-sets.ensures)
+
+pub tile_and_fields-requires : goal.tile_and_fields-requires
+tile_and_fields-requires g c = word_there _ _ _ itself _ 19 c.evacuate-moved.ensures.evacuated.regions c.in_ok-table.ensures refl refl c.new-last.ensures (omega arith)

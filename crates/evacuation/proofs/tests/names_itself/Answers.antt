@@ -32,8 +32,8 @@ set_field-requires c =
     let t3 = is_made _ _ _ _ _ _ _ t2 c.make_object.ensures c.new-object.ensures c.new-5.ensures c.new-3.ensures refl c.new-4.ensures in
     has_field _ _ _ _ 0 t3 c.new-object.ensures (omega arith)
 
-pub set_field-2-requires : goal.set_field-2-requires
-set_field-2-requires c =
+pub set_field-requires-2 : goal.set_field-requires-2
+set_field-requires-2 c =
     let t1 = fill_take _ _ c.in_ok-table.ensures.free c.take_free.ensures.taken in
     let t2 = is_cut _ _ _ _ 4 t1 c.push_filler.ensures.pushed c.new.ensures c.new-2.ensures in
     let t3 = is_made _ _ _ _ _ _ _ t2 c.make_object.ensures c.new-object.ensures c.new-5.ensures c.new-3.ensures refl c.new-4.ensures in

@@ -1,8 +1,10 @@
-use Rattle.std.proofs.Common.{◌≡◌, ◌∙◌, ℕ, Some, [], ◌∷◌, sym, ap, subst}
-use Rattle.remembered_sets.specs.Sets.{Sets, added, empty_sets}
+use Rattle.std.proofs.Common.{◌≡◌, ◌∙◌, ℕ, Some, [], ◌∷◌, arith, length, refl, sym, ap, subst}
+use Rattle.remembered_sets.specs.Sets.{Sets, added, card_count, empty_sets}
+use Rattle.regions.specs.Table.{Table}
+use Rattle.evacuation.specs.Rooms.{RoomSizes}
 use Rattle.evacuation.specs.Evacuates.{Layers, CanEvacuate}
 use Rattle.evacuation.specs.Samples.{IsFresh, by_weak_slot}
-use Rattle.evacuation.proofs.Samples.{can_evacuate, one_card, weak_suited}
+use Rattle.evacuation.proofs.Samples.{can_evacuate, one_card, weak_suited, word_there}
 use Rattle.evacuation.proofs.tests.updates_a_weak_slot_outside.Goals as goal
 
 pub evacuate-moved-requires-clause-can : goal.evacuate-moved-requires-clause-can
@@ -19,3 +21,15 @@ evacuate-moved-requires-clause-can g c =
       roots = ap (λ (n : ℕ). Some n ∷ []) c.new-8.ensures;
     } in
     subst (λ (n : ℕ). CanEvacuate h (record { region = n; live_bound = 2 } ∷ []) 8) (sym c.new-9.ensures) (can_evacuate by_weak_slot one_card (record { region = 1; live_bound = 2 }) weak_suited h fresh)
+
+pub evacuate-moved-requires-clause-each_region : goal.evacuate-moved-requires-clause-each_region
+evacuate-moved-requires-clause-each_region g c = ap (λ (r : RoomSizes). r.regions) c.in_ok-room.ensures ∙ sym (ap (λ (t : Table). length t.regions) c.in_ok-table.ensures)
+
+pub evacuate-moved-requires-clause-each_card : goal.evacuate-moved-requires-clause-each_card
+evacuate-moved-requires-clause-each_card g c = ap (λ (r : RoomSizes). r.cards) c.in_ok-room.ensures ∙ sym (ap card_count (c.add.ensures.after ∙ ap (λ (s : Sets). added s c.new-6.result c.new-7.result) c.in_ok-sets.ensures ∙ ap (λ (n : ℕ). added (empty_sets 4 2) n c.new-7.result) c.new-6.ensures ∙ ap (λ (n : ℕ). added (empty_sets 4 2) 1 n) c.new-7.ensures))
+
+pub tile_and_fields-requires : goal.tile_and_fields-requires
+tile_and_fields-requires g c = word_there _ _ _ by_weak_slot _ 33 c.evacuate-moved.ensures.evacuated.regions c.in_ok-table.ensures refl refl c.new-last.ensures (omega arith)
+
+pub tile_and_fields-requires-2 : goal.tile_and_fields-requires-2
+tile_and_fields-requires-2 g c = word_there _ _ _ by_weak_slot _ 0 c.evacuate-moved.ensures.evacuated.regions c.in_ok-table.ensures refl refl c.new-holder.ensures (omega arith)
