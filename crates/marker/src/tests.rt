@@ -330,8 +330,8 @@ fn add_new(
     Some(at)
 }
 
-/// What a field of the object that holds a word leads to.
-fn read(table: &RegionTable, word: u32, field: u32) -> Ptr {
+/// The word that a field of the object at another word leads to, or none.
+fn read(table: &RegionTable, word: u32, field: u32) -> Option<u32> {
     table.law();
     if word >= table.region_count() * table.words_per_region() {
         return None;
@@ -342,10 +342,23 @@ fn read(table: &RegionTable, word: u32, field: u32) -> Ptr {
     let Shape::Object { .. } = table.tile(at) else {
         return None;
     };
-    if field < table.field_count(at) {
-        return table.get_field(at, field);
+    if field >= table.field_count(at) {
+        return None;
     }
-    None
+    let Some(target) = table.get_field(at, field) else {
+        return None;
+    };
+    Some(target.word())
+}
+
+/// Whether fields of the object at a word lead, from one on, to these words.
+fn lead(table: &RegionTable, word: u32, fields: &[Option<u32>]) -> bool {
+    for i in 0..fields.len() {
+        if read(table, word, i as u32) != fields[i] {
+            return false;
+        }
+    }
+    true
 }
 
 /// The object at 0 is marked, and its pointer's target at 16. Of its weak slots those stay that lead to what is marked, and to
@@ -357,18 +370,15 @@ fn clears_weak_slots(rt: HostRuntime) -> Result<(), Fail> {
     let mut made = build(rt.alloc(), &shapes, &links)?;
     let roots = roots_of(rt.alloc(), &made, &[(16, 0)])?;
     let mut marker = begun(rt.alloc(), &made.table, &roots)?;
-    assert_eq!(rt; add_new(&mut made, &marker, 0, 4, 2), Some(Addr::new(10)));
-    assert_eq!(rt; read(&made.table, 0, 2), Some(Addr::new(32)));
-    assert_eq!(rt; read(&made.table, 10, 0), Some(Addr::new(32)));
+    add_new(&mut made, &marker, 0, 4, 2);
+    let old = &[Some(16), Some(16), Some(32), Some(0), Some(10)];
+    assert!(rt; lead(&made.table, 0, old));
+    assert!(rt; lead(&made.table, 10, &[Some(32), Some(10)]));
     assert_eq!(rt; marker.finish(&mut made.table), 2);
-    assert_eq!(rt; read(&made.table, 0, 0), Some(Addr::new(16)));
-    assert_eq!(rt; read(&made.table, 0, 1), Some(Addr::new(16)));
-    assert_eq!(rt; read(&made.table, 0, 2), None);
-    assert_eq!(rt; read(&made.table, 0, 3), Some(Addr::new(0)));
-    assert_eq!(rt; read(&made.table, 0, 4), Some(Addr::new(10)));
-    assert_eq!(rt; read(&made.table, 10, 0), None);
-    assert_eq!(rt; read(&made.table, 10, 1), Some(Addr::new(10)));
-    assert_eq!(rt; read(&made.table, 7, 0), Some(Addr::new(32)));
+    let cleared = &[Some(16), Some(16), None, Some(0), Some(10)];
+    assert!(rt; lead(&made.table, 0, cleared));
+    assert!(rt; lead(&made.table, 10, &[None, Some(10)]));
+    assert!(rt; lead(&made.table, 7, &[Some(32)]));
     Ok(())
 }
 
@@ -380,6 +390,6 @@ fn keeps_what_was_read(rt: HostRuntime) -> Result<(), Fail> {
     let mut marker = begun(rt.alloc(), &made.table, &roots)?;
     save(&mut marker, &made, 0, 1);
     assert_eq!(rt; marker.finish(&mut made.table), 2);
-    assert_eq!(rt; read(&made.table, 0, 0), Some(Addr::new(16)));
+    assert_eq!(rt; read(&made.table, 0, 0), Some(16));
     Ok(())
 }
