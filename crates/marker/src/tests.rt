@@ -20,10 +20,9 @@ fn add(
     table: &mut RegionTable,
     region: RegionNo,
     name: u64,
-    pointers: u32,
+    pointers: u8,
     weaks: u8,
 ) -> Option<Addr>
-    requires { pointers < 2 ^ 16 }
     ensures keeps { Keeps table.old table.new }
     ensures object { IfSome result (HasObject table.new) }
 {
@@ -34,13 +33,13 @@ fn add(
     if table.kind(region) != Kind::Ordinary {
         return None;
     }
-    let words = 2 + pointers + u32::from(weaks);
+    let words = 2 + u32::from(pointers) + u32::from(weaks);
     if !table.has_room(region, words) {
         return None;
     }
     let size = FillerSize::new(words);
     let counts = Counts {
-        pointers: Count::new(pointers),
+        pointers: Count::new(u32::from(pointers)),
         weaks,
         values: Count::new(0),
     };
@@ -92,6 +91,19 @@ fn sizes() -> Config
     }
 }
 
+/// Stores an object's address in a field of another one, both by their place in the list, if all are there.
+fn link_listed(table: &mut RegionTable, objects: &[Addr], from: usize, field: u32, to: usize)
+    requires objects { (i a : ℕ) → slice_get objects.now i ≡ Some a → HasObject table.old a }
+    ensures keeps { Keeps table.old table.new }
+{
+    if from >= objects.len() || to >= objects.len() {
+        return;
+    }
+    let holder = objects[from];
+    let target = objects[to];
+    link(table, holder, field, target);
+}
+
 /// Objects of so many pointers and weak slots, the i-th in region i % 3, with links from a field of one to another.
 fn build(alloc: Global, shapes: &[(u8, u8)], links: &[(usize, u32, usize)]) -> Result<Made, Fail>
     ensures count { IfOk result (λ made. length made.table.regions ≡ 4) }
@@ -109,15 +121,13 @@ fn build(alloc: Global, shapes: &[(u8, u8)], links: &[(usize, u32, usize)]) -> R
     for i in 0..shapes.len() {
         let region = RegionNo::new((i % 3) as u32);
         let (pointers, weaks) = shapes[i];
-        let Some(at) = add(&mut table, region, i as u64, u32::from(pointers), weaks) else {
+        let Some(at) = add(&mut table, region, i as u64, pointers, weaks) else {
             return Err(Fail::from("an object is made"));
         };
         objects.push(at)?;
     }
     for (from, field, to) in links {
-        if *from < objects.len() && *to < objects.len() {
-            link(&mut table, objects[*from], *field, objects[*to]);
-        }
+        link_listed(&mut table, &objects, *from, *field, *to);
     }
     Ok(Made { table, objects })
 }
@@ -351,10 +361,10 @@ fn read(table: &RegionTable, word: u32, field: u32) -> Option<u32> {
     Some(target.word())
 }
 
-/// Whether fields of the object at a word lead, from one on, to these words.
-fn lead(table: &RegionTable, word: u32, fields: &[Option<u32>]) -> bool {
-    for i in 0..fields.len() {
-        if read(table, word, i as u32) != fields[i] {
+/// Whether fields of the object at a word lead to these words.
+fn lead(table: &RegionTable, word: u32, fields: &[(u32, Option<u32>)]) -> bool {
+    for (field, target) in fields {
+        if read(table, word, *field) != *target {
             return false;
         }
     }
@@ -371,14 +381,26 @@ fn clears_weak_slots(rt: HostRuntime) -> Result<(), Fail> {
     let roots = roots_of(rt.alloc(), &made, &[(16, 0)])?;
     let mut marker = begun(rt.alloc(), &made.table, &roots)?;
     add_new(&mut made, &marker, 0, 4, 2);
-    let old = &[Some(16), Some(16), Some(32), Some(0), Some(10)];
+    let old = &[
+        (0, Some(16)),
+        (1, Some(16)),
+        (2, Some(32)),
+        (3, Some(0)),
+        (4, Some(10)),
+    ];
     assert!(rt; lead(&made.table, 0, old));
-    assert!(rt; lead(&made.table, 10, &[Some(32), Some(10)]));
+    assert!(rt; lead(&made.table, 10, &[(0, Some(32)), (1, Some(10))]));
     assert_eq!(rt; marker.finish(&mut made.table), 2);
-    let cleared = &[Some(16), Some(16), None, Some(0), Some(10)];
+    let cleared = &[
+        (0, Some(16)),
+        (1, Some(16)),
+        (2, None),
+        (3, Some(0)),
+        (4, Some(10)),
+    ];
     assert!(rt; lead(&made.table, 0, cleared));
-    assert!(rt; lead(&made.table, 10, &[None, Some(10)]));
-    assert!(rt; lead(&made.table, 7, &[Some(32)]));
+    assert!(rt; lead(&made.table, 10, &[(0, None), (1, Some(10))]));
+    assert!(rt; lead(&made.table, 7, &[(0, Some(32))]));
     Ok(())
 }
 
