@@ -1,6 +1,6 @@
 -- Tables that tests build: each pointer leads to an object.
 use Rattle.std.proofs.Common.{inl, inr, ◌≡◌, ◌≢◌, ℕ, zero, suc, ◌+◌, ◌-◌, ◌*◌, ◌/◌, ◌%◌, ◌<◌, ◌≤◌, true, false, List, [], ◌∷◌, ◌++◌, Option, Some, None, length, get_or, set, replicate, refl, sym, ap, ◌∙◌, subst, arith, get_or-set_same, get_or-set_other, length-set}
-use Rattle.std.specs.Prelude.{slice_get}
+use Rattle.std.specs.Prelude.{slice_get, IsSome}
 use Rattle.std.proofs.lemmas.Bool.{cases_lt, cases_eq}
 use Rattle.std.proofs.lemmas.Bool.Decides.{leb_tells}
 use Rattle.std.proofs.lemmas.List.{get_or-replicate, length-replicate, get_or_past}
@@ -12,6 +12,7 @@ use Rattle.regions.specs.Tiles.{Tile, Object, Filler, tile_size, tile_at}
 use Rattle.regions.specs.Table.{Region, Free, Table, region_tile, region_at, tile_in, tile_object, object_at, free_table, taken, first_free, set_field, push_tile, replace_tile, new_object, remainder, used_of, top_of, kind_of, HasObject}
 use Rattle.regions.specs.declared.row.Kind.TheVariants as kinds
 use Rattle.regions.specs.Shaped.{IsShaped}
+use Rattle.regions.specs.Walks.{IsHolder}
 use Rattle.regions.proofs.Tiles.Changes.{WritesObject, field_put, object_same}
 use Rattle.regions.proofs.Tiles.Placing.{region_taken, Pushed, filler_push, Replaces, filler_replaced}
 use Rattle.mark_bitmap.specs.Tops.{is_below, below_previous}
@@ -253,3 +254,6 @@ grown_stands t t' m st linked none k =
           logged_kept = λ a l. kept a (f.logged_kept a l);
           logged_below = λ a l. ap (λ (n : ℕ). is_below n m.tams.next a) k.size ∙ f.logged_below a l;
         }
+
+pub held : (t : Table) (a w : ℕ) → IsHolder t a w → IsSome (tile_in t a)
+held t a w h = rw h.tile_is refl

@@ -96,8 +96,8 @@ impl Marker {
         }
     }
 
-    /// Saves what a pointer held before it is overwritten: its address enters the mutator's log, if it was there when
-    /// marking began. Whether the log is full now, so that it has to be taken before the next one is saved.
+    /// Saves what a pointer held before it is overwritten, or what was read from a weak slot: its address enters the mutator's
+    /// log, if it was there when marking began. Whether the log is full now, so that it has to be taken before the next one is saved.
     pub fn save(&mut self, table: &RegionTable, mutator: u32, overwritten: Ptr) -> bool
         requires stands { MarkerStands table.now self.old }
         requires running { self.old.running ≡ true }

@@ -20,10 +20,9 @@ fn add(
     table: &mut RegionTable,
     region: RegionNo,
     name: u64,
-    pointers: u32,
+    pointers: u8,
     weaks: u8,
 ) -> Option<Addr>
-    requires { pointers < 2 ^ 16 }
     ensures keeps { Keeps table.old table.new }
     ensures object { IfSome result (HasObject table.new) }
 {
@@ -34,13 +33,13 @@ fn add(
     if table.kind(region) != Kind::Ordinary {
         return None;
     }
-    let words = 2 + pointers + u32::from(weaks);
+    let words = 2 + u32::from(pointers) + u32::from(weaks);
     if !table.has_room(region, words) {
         return None;
     }
     let size = FillerSize::new(words);
     let counts = Counts {
-        pointers: Count::new(pointers),
+        pointers: Count::new(u32::from(pointers)),
         weaks,
         values: Count::new(0),
     };
@@ -92,6 +91,19 @@ fn sizes() -> Config
     }
 }
 
+/// Stores an object's address in a field of another one, both by their place in the list, if all are there.
+fn link_listed(table: &mut RegionTable, objects: &[Addr], from: usize, field: u32, to: usize)
+    requires objects { (i a : ℕ) → slice_get objects.now i ≡ Some a → HasObject table.old a }
+    ensures keeps { Keeps table.old table.new }
+{
+    if from >= objects.len() || to >= objects.len() {
+        return;
+    }
+    let holder = objects[from];
+    let target = objects[to];
+    link(table, holder, field, target);
+}
+
 /// Objects of so many pointers and weak slots, the i-th in region i % 3, with links from a field of one to another.
 fn build(alloc: Global, shapes: &[(u8, u8)], links: &[(usize, u32, usize)]) -> Result<Made, Fail>
     ensures count { IfOk result (λ made. length made.table.regions ≡ 4) }
@@ -109,15 +121,13 @@ fn build(alloc: Global, shapes: &[(u8, u8)], links: &[(usize, u32, usize)]) -> R
     for i in 0..shapes.len() {
         let region = RegionNo::new((i % 3) as u32);
         let (pointers, weaks) = shapes[i];
-        let Some(at) = add(&mut table, region, i as u64, u32::from(pointers), weaks) else {
+        let Some(at) = add(&mut table, region, i as u64, pointers, weaks) else {
             return Err(Fail::from("an object is made"));
         };
         objects.push(at)?;
     }
     for (from, field, to) in links {
-        if *from < objects.len() && *to < objects.len() {
-            link(&mut table, objects[*from], *field, objects[*to]);
-        }
+        link_listed(&mut table, &objects, *from, *field, *to);
     }
     Ok(Made { table, objects })
 }
@@ -330,8 +340,8 @@ fn add_new(
     Some(at)
 }
 
-/// What a field of the object that holds a word leads to.
-fn read(table: &RegionTable, word: u32, field: u32) -> Ptr {
+/// The word that a field of the object at another word leads to, or none.
+fn read(table: &RegionTable, word: u32, field: u32) -> Option<u32> {
     table.law();
     if word >= table.region_count() * table.words_per_region() {
         return None;
@@ -342,10 +352,23 @@ fn read(table: &RegionTable, word: u32, field: u32) -> Ptr {
     let Shape::Object { .. } = table.tile(at) else {
         return None;
     };
-    if field < table.field_count(at) {
-        return table.get_field(at, field);
+    if field >= table.field_count(at) {
+        return None;
     }
-    None
+    let Some(target) = table.get_field(at, field) else {
+        return None;
+    };
+    Some(target.word())
+}
+
+/// Whether fields of the object at a word lead to these words.
+fn lead(table: &RegionTable, word: u32, fields: &[(u32, Option<u32>)]) -> bool {
+    for (field, target) in fields {
+        if read(table, word, *field) != *target {
+            return false;
+        }
+    }
+    true
 }
 
 /// The object at 0 is marked, and its pointer's target at 16. Of its weak slots those stay that lead to what is marked, and to
@@ -357,18 +380,27 @@ fn clears_weak_slots(rt: HostRuntime) -> Result<(), Fail> {
     let mut made = build(rt.alloc(), &shapes, &links)?;
     let roots = roots_of(rt.alloc(), &made, &[(16, 0)])?;
     let mut marker = begun(rt.alloc(), &made.table, &roots)?;
-    assert_eq!(rt; add_new(&mut made, &marker, 0, 4, 2), Some(Addr::new(10)));
-    assert_eq!(rt; read(&made.table, 0, 2), Some(Addr::new(32)));
-    assert_eq!(rt; read(&made.table, 10, 0), Some(Addr::new(32)));
+    add_new(&mut made, &marker, 0, 4, 2);
+    let old = &[
+        (0, Some(16)),
+        (1, Some(16)),
+        (2, Some(32)),
+        (3, Some(0)),
+        (4, Some(10)),
+    ];
+    assert!(rt; lead(&made.table, 0, old));
+    assert!(rt; lead(&made.table, 10, &[(0, Some(32)), (1, Some(10))]));
     assert_eq!(rt; marker.finish(&mut made.table), 2);
-    assert_eq!(rt; read(&made.table, 0, 0), Some(Addr::new(16)));
-    assert_eq!(rt; read(&made.table, 0, 1), Some(Addr::new(16)));
-    assert_eq!(rt; read(&made.table, 0, 2), None);
-    assert_eq!(rt; read(&made.table, 0, 3), Some(Addr::new(0)));
-    assert_eq!(rt; read(&made.table, 0, 4), Some(Addr::new(10)));
-    assert_eq!(rt; read(&made.table, 10, 0), None);
-    assert_eq!(rt; read(&made.table, 10, 1), Some(Addr::new(10)));
-    assert_eq!(rt; read(&made.table, 7, 0), Some(Addr::new(32)));
+    let cleared = &[
+        (0, Some(16)),
+        (1, Some(16)),
+        (2, None),
+        (3, Some(0)),
+        (4, Some(10)),
+    ];
+    assert!(rt; lead(&made.table, 0, cleared));
+    assert!(rt; lead(&made.table, 10, &[(0, None), (1, Some(10))]));
+    assert!(rt; lead(&made.table, 7, &[(0, Some(32))]));
     Ok(())
 }
 
@@ -380,6 +412,6 @@ fn keeps_what_was_read(rt: HostRuntime) -> Result<(), Fail> {
     let mut marker = begun(rt.alloc(), &made.table, &roots)?;
     save(&mut marker, &made, 0, 1);
     assert_eq!(rt; marker.finish(&mut made.table), 2);
-    assert_eq!(rt; read(&made.table, 0, 0), Some(Addr::new(16)));
+    assert_eq!(rt; read(&made.table, 0, 0), Some(16));
     Ok(())
 }

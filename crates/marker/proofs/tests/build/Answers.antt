@@ -1,5 +1,5 @@
 use Rattle.std.proofs.Common.{◌∙◌}
-use Rattle.marker.proofs.Samples.{free_linked, free_size, objects_push, object_read}
+use Rattle.marker.proofs.Samples.{free_linked, free_size, objects_push}
 use Rattle.marker.proofs.tests.build.Goals as goal
 
 pub loop-init : goal.loop-init
@@ -18,8 +18,8 @@ loop-i-preserved c =
       objects = objects_push c.loop-i.table c.add.new.table c.loop-i.objects.items c.push.new.self.items c.in-Some.at k c.in-Some.ensures.object c.in_ok-push.ensures.items p.objects;
     }
 
-pub link-requires-clause-from : goal.link-requires-clause-from
-link-requires-clause-from c = object_read c.loop-from.table c.loop-i.objects.items c.len.result _ c.index.result.now (c.len.ensures ∙ c.loop-i.objects.ok.0) c.if-from-len.true c.index.ensures c.loop-from.invariant.objects
-
-pub link-requires-clause-to : goal.link-requires-clause-to
-link-requires-clause-to c = object_read c.loop-from.table c.loop-i.objects.items c.len-then-from-len.result _ c.index-then-to-len.result.now (c.len-then-from-len.ensures ∙ c.loop-i.objects.ok.0) c.if-to-len.true c.index-then-to-len.ensures c.loop-from.invariant.objects
+pub loop-from-preserved : goal.loop-from-preserved
+loop-from-preserved c =
+    let p = c.loop-from.invariant in
+    let k = c.link_listed.ensures.keeps in
+    record { count = k.count ∙ p.count; words = k.size ∙ p.words; linked = k.linked p.linked; objects = λ i a e. k.stays a (p.objects i a e) }
