@@ -5,3 +5,4 @@ pub mod FieldUpdates
 pub mod Loops
 pub mod WholePause
 pub mod Samples
+pub mod SampleTables

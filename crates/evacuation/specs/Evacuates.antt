@@ -93,11 +93,12 @@ pub record AreReachedWords (set : ℕ → Bool) (h : Heap) (words : ℕ) : Type 
   pub total : words_at h.kept addresses ≡ words
 
 -- ---- what becomes of the regions
--- the same object, but that some of its fields are others
+-- the same object, with as many pointers and weak slots, but that some of these are others
 pub record IsSameBut (x y : Stored) : Type 0 where
   pub name : y.name ≡ x.name
   pub values : y.values ≡ x.values
-  pub count : length (fields y) ≡ length (fields x)
+  pub pointers : length y.pointers ≡ length x.pointers
+  pub weaks : length y.weaks ≡ length x.weaks
 
 -- Chosen regions are free, and free ones free or ordinary; what was free and is ordinary isn't empty, and holds live objects alone. A
 -- region in use that isn't chosen is of its kind still, as many of its words are handed out, and its objects stand where they stood, the

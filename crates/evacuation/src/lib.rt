@@ -1,8 +1,8 @@
 //! Evacuation: what is reached of a set of regions is copied out of it, and the regions are released.
 //!
 //! Roots, fields of kept objects outside the set, and copied fields that name an object of the set name its copy afterwards.
-//! Whatever isn't reached is gone with the set's regions. Only cards that the set's remembered sets cover are looked at
-//! outside.
+//! Whatever isn't reached is gone with the set's regions. Fields are pointers and weak slots alike: a pause keeps what a weak slot
+//! names, and only marking tells the two apart. Only cards that the set's remembered sets cover are looked at outside.
 //!
 //! ```text
 //!                region 0          region 1 (chosen)         region 2 free     roots   card of f

@@ -4,7 +4,7 @@
 ghost use Rattle.std.specs.Prelude.{◌≡◌, ◌*◌, ◌<◌, IfOk, length};
 ghost use Rattle.regions.specs.Table.{free_table};
 ghost use Rattle.refinement.specs.Samples.{IsSample};
-ghost use Rattle.evacuation.specs.Samples.{NamesItself};
+ghost use Rattle.evacuation.specs.Samples.{alone, by_weak_slot, itself};
 
 use crate::visited::flag_visited;
 use crate::{Moved, PauseRoom, evacuate};
@@ -73,39 +73,76 @@ fn visits_no_card_of_a_free_region(rt: HostRuntime) -> Result<(), Fail> {
     Ok(())
 }
 
-/// Region 0 is taken, and has an object at 0 whose one pointer names the object itself.
+/// Region 0 is taken, and has an object at 0 whose one pointer and one weak slot name the object itself.
 fn names_itself(alloc: Global) -> Result<RegionTable, Fail>
-    ensures { IfOk result NamesItself }
+    ensures { IfOk result (λ table. table ≡ itself) }
+{
+    let mut table = free_regions(alloc)?;
+    let object = Addr::new(0);
+    table.take_free();
+    table.push_filler(RegionNo::new(0), FillerSize::new(4));
+    let counts = Counts {
+        pointers: Count::new(1),
+        weaks: 1,
+        values: Count::new(0),
+    };
+    table.make_object(object, FillerSize::new(4), 7, counts);
+    table.set_field(object, 0, Some(object));
+    table.set_field(object, 1, Some(object));
+    Ok(table)
+}
+
+/// Region 0 is taken, and has an object at 0 whose one weak slot is nil.
+fn has_weak_slot(alloc: Global) -> Result<RegionTable, Fail>
+    ensures { IfOk result (λ table. table ≡ alone) }
 {
     let mut table = free_regions(alloc)?;
     let object = Addr::new(0);
     table.take_free();
     table.push_filler(RegionNo::new(0), FillerSize::new(3));
     let counts = Counts {
-        pointers: Count::new(1),
+        pointers: Count::new(0),
+        weaks: 1,
         values: Count::new(0),
     };
     table.make_object(object, FillerSize::new(3), 7, counts);
-    table.set_field(object, 0, Some(object));
     Ok(table)
 }
 
-/// The first field of the object that holds a word, nil where there is none.
-fn first_field(table: &RegionTable, word: Addr) -> Ptr
+/// Besides, region 1 is taken, and has an object at 16, of no field, which the weak slot names.
+fn held_weakly(alloc: Global) -> Result<RegionTable, Fail>
+    ensures { IfOk result (λ table. table ≡ by_weak_slot) }
+{
+    let mut table = has_weak_slot(alloc)?;
+    let object = Addr::new(16);
+    table.take_free();
+    table.push_filler(RegionNo::new(1), FillerSize::new(2));
+    let counts = Counts {
+        pointers: Count::new(0),
+        weaks: 0,
+        values: Count::new(0),
+    };
+    table.make_object(object, FillerSize::new(2), 8, counts);
+    table.set_weak(Addr::new(0), 0, Some(object));
+    Ok(table)
+}
+
+/// A field of the object that holds a word, its pointers counted before its weak slots; nil where there is none.
+fn field(table: &RegionTable, word: Addr, index: u32) -> Ptr
     requires { word < length table.now.regions * table.now.words_per_region }
 {
     let at = table.first_tile(word)?;
-    let Shape::Object { pointers, .. } = table.tile(at) else {
+    let Shape::Object { .. } = table.tile(at) else {
         return None;
     };
-    if 0 < pointers.get() {
-        table.get_field(at, 0)
+    if index < table.field_count(at) {
+        table.get_field(at, index)
     } else {
         None
     }
 }
 
-/// The object is copied once, to the lowest free region, and the root and the copy's field name the copy.
+/// The object is copied once, with its weak slot, to the lowest free region, and the root and the copy's fields name the copy.
 #[test]
 fn copies_what_names_itself(rt: HostRuntime) -> Result<(), Fail> {
     let mut table = names_itself(rt.alloc())?;
@@ -117,7 +154,7 @@ fn copies_what_names_itself(rt: HostRuntime) -> Result<(), Fail> {
     let mut roots = [Some(Addr::new(0))];
     let rows = [LiveRow {
         region: RegionNo::new(0),
-        live_bound: 3,
+        live_bound: 4,
     }];
     let moved = evacuate(
         &mut table,
@@ -135,14 +172,58 @@ fn copies_what_names_itself(rt: HostRuntime) -> Result<(), Fail> {
         moved,
         Moved {
             regions: 1,
-            words: 3
+            words: 4
         }
     );
     assert_eq!(rt; roots[0], Some(place));
     assert_eq!(rt; table.free_count(), 3);
     assert_eq!(rt; cards.queued(), 0);
-    let last = Addr::new(18);
+    let last = Addr::new(19);
     assert_eq!(rt; table.first_tile(last), Some(place));
-    assert_eq!(rt; first_field(&table, last), Some(place));
+    assert_eq!(rt; field(&table, last, 0), Some(place));
+    assert_eq!(rt; field(&table, last, 1), Some(place));
+    Ok(())
+}
+
+/// A pause keeps what a weak slot outside the set names, though nothing else does. The slot names the copy afterwards, and its
+/// card is dirty.
+#[test]
+fn updates_a_weak_slot_outside(rt: HostRuntime) -> Result<(), Fail> {
+    let mut table = held_weakly(rt.alloc())?;
+    let mut tams = Tams::new(rt.alloc(), 4, 16)?;
+    let mut bitmaps = Bitmaps::new(rt.alloc(), 64)?;
+    let mut cards = CardTable::new(rt.alloc(), 8, 1)?;
+    let mut sets = RememberedSets::new(rt.alloc(), 4, 2)?;
+    sets.add(RegionNo::new(1), Card::new(0));
+    let mut room = PauseRoom::new(rt.alloc(), 4, 8)?;
+    let mut roots = [Some(Addr::new(0))];
+    let rows = [LiveRow {
+        region: RegionNo::new(1),
+        live_bound: 2,
+    }];
+    let moved = evacuate(
+        &mut table,
+        &mut tams,
+        &mut bitmaps,
+        &mut cards,
+        &mut sets,
+        &mut roots,
+        &mut room,
+        &rows,
+        8,
+    );
+    let place = Addr::new(32);
+    assert_eq!(rt;
+        moved,
+        Moved {
+            regions: 1,
+            words: 2
+        }
+    );
+    assert_eq!(rt; roots[0], Some(Addr::new(0)));
+    assert_eq!(rt; table.free_count(), 2);
+    assert_eq!(rt; cards.queued(), 1);
+    assert_eq!(rt; table.first_tile(Addr::new(33)), Some(place));
+    assert_eq!(rt; field(&table, Addr::new(0), 0), Some(place));
     Ok(())
 }

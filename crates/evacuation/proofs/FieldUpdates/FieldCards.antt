@@ -4,7 +4,7 @@ use Rattle.std.proofs.Common.{◌≡◌, ℕ, ◌+◌, ◌*◌, ◌^◌, ◌/◌
 use Rattle.std.specs.Prelude.{slice_get, slice_set}
 use Rattle.std.proofs.lemmas.Bool.{cases_eq, cases_lt}
 use Rattle.std.proofs.lemmas.Nat.{mul-le}
-use Rattle.std.proofs.lemmas.List.{get_or-set_same, get_or-set_other}
+use Rattle.std.proofs.lemmas.List.{get_or-set_same, get_or-set_other, length-append}
 use Rattle.heap_model.specs.Heap.{Stored, fields}
 use Rattle.regions.specs.Table.{Table, fields_at}
 use Rattle.regions.specs.Shaped.{IsShaped}
@@ -26,7 +26,7 @@ word_within p t at i shaped s f =
     let a = object_within t at f.object shaped (kept_object p t at f.object f.at) in
     let b : length t.regions * t.words_per_region ≡ length p.start.regions * p.start.words_per_region = rw (s.count, s.size) refl in
     let w = f.within in
-    omega arith
+    omega (arith, length-append f.object.pointers f.object.weaks)
 
 pub all_small : (p : Pause) → IsPause p → length p.start.regions * p.start.words_per_region ≤ max_words
 all_small p q = q.shaped.in_all

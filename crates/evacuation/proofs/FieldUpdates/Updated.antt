@@ -5,6 +5,7 @@ use Rattle.std.proofs.lemmas.Bool.{cases_eq}
 use Rattle.std.proofs.lemmas.List.{length-set}
 use Rattle.heap_model.specs.Heap.{Heap, Stored, IsClosed, ObjectSet, fields, with_field}
 use Rattle.heap_model.specs.Evacuation.{IsReached, ByRootWord, ByOutside, ByInside}
+use Rattle.heap_model.proofs.Fields.{IsFieldSet, field_set}
 use Rattle.heap_model.proofs.Lists.{get-set_same, get-set_other}
 use Rattle.heap_model.proofs.Evacuated.{field_reached, field_updated}
 use Rattle.object_copy.specs.Copies.{Places}
@@ -32,8 +33,15 @@ module _ (l : Layout) (p : Plan) (s s' : Space) (d : Places) (c : IsCopying l p 
   abbrev updated : Stored
   updated = with_field y i (Some b)
 
+  is_set : IsFieldSet y updated i (Some b)
+  is_set = field_set y i (Some b)
+
   change : ObjectSet (seen_as s p.heap) (seen_as s' p.heap) at y updated
-  change = record { was = here; is = u.object; name = refl; others = u.others; roots = refl }
+  change = record { was = here; is = u.object; name = is_set.name; others = u.others; roots = refl }
+
+  -- the fields of the object that is there now
+  set_at : (j : ℕ) (w : Option ℕ) → slice_get (fields updated) j ≡ Some w → slice_get (slice_set (fields y) i (Some b)) j ≡ Some w
+  set_at j w e = ap (λ (ws : List (Option ℕ)). slice_get ws j) (sym is_set.fields_are) ∙ e
 
   filled_same : (w : Option ℕ) → filled s' w ≡ filled s w
   filled_same None = refl
@@ -42,7 +50,7 @@ module _ (l : Layout) (p : Plan) (s s' : Space) (d : Places) (c : IsCopying l p 
   pub updated_copying : IsCopying l p s' d
   updated_copying = record {
     heap = same_evacuating (set_of l) p.heap s.forward s'.forward p.heap.roots s'.object s'.object (λ x. sym (u.forward x)) (λ x. refl)
-        (field_updated (set_of l) p.heap s.forward (seen_as s p.heap) c.heap (seen_as s' p.heap) at i a b y updated out names inside f change refl refl);
+        (field_updated (set_of l) p.heap s.forward (seen_as s p.heap) c.heap (seen_as s' p.heap) at i a b y updated out names inside f change is_set.values is_set.shape is_set.fields_are);
     free = λ k e. c.free k (sym (u.free k) ∙ e);
     taken = c.taken;
     last = c.last;
@@ -75,7 +83,7 @@ module _ (l : Layout) (p : Plan) (s s' : Space) (d : Places) (c : IsCopying l p 
     updated_settled z w e g =
         let o = u.object in
         let k : updated ≡ z = cc in
-        let g' : slice_get (slice_set (fields y) i (Some b)) i ≡ Some w = subst (λ (m : Stored). slice_get (fields m) i ≡ Some w) (sym k) g in
+        let g' = set_at i w (subst (λ (m : Stored). slice_get (fields m) i ≡ Some w) (sym k) g) in
         let h = get-set_same (fields y) i (Some b) (Some a) names in
         word_settled w cc
 
@@ -95,7 +103,7 @@ module _ (l : Layout) (p : Plan) (s s' : Space) (d : Places) (c : IsCopying l p 
           object = updated;
           here = u.object;
           outside = out;
-          field = get-set_same (fields y) i (Some b) (Some a) names;
+          field = ap (λ (ws : List (Option ℕ)). slice_get ws i) is_set.fields_are ∙ get-set_same (fields y) i (Some b) (Some a) names;
           clean = new_outside;
           in_card = sym o.0;
           leaves = o.1;
@@ -106,7 +114,7 @@ module _ (l : Layout) (p : Plan) (s s' : Space) (d : Places) (c : IsCopying l p 
       taken_grows = λ j k e. e;
       used_grows = λ k. let e = u.used k in omega arith;
       stays = λ x z o e. elim (cases_eq x at) [
-        | inl k ↦ (updated, ap s'.object k ∙ u.object, length-set (fields y) i (Some b) ∙ ap (λ (m : Stored). length (fields m)) (let e1 = ap s.object k in let r : y ≡ z = cc in r))
+        | inl k ↦ (updated, ap s'.object k ∙ u.object, ap (λ (ws : List (Option ℕ)). length ws) is_set.fields_are ∙ length-set (fields y) i (Some b) ∙ ap (λ (m : Stored). length (fields m)) (let e1 = ap s.object k in let r : y ≡ z = cc in r))
         | inr n ↦ (z, u.others x n ∙ e, refl)
       ];
       new_above = λ x z o e. inl (was x z e);
@@ -115,7 +123,7 @@ module _ (l : Layout) (p : Plan) (s s' : Space) (d : Places) (c : IsCopying l p 
         | inl k ↦
             let k1 : z ≡ y = let e1 = ap s.object k in cc in
             let k2 : z' ≡ updated = let e1 = ap s'.object k in let e2 = u.object in cc in
-            let g' : slice_get (slice_set (fields y) i (Some b)) j ≡ Some w = subst (λ (m : Stored). slice_get (fields m) j ≡ Some w) k2 g in
+            let g' = set_at j w (subst (λ (m : Stored). slice_get (fields m) j ≡ Some w) k2 g) in
             elim (place_cases j w g') [
               | inl v ↦ inr (
                 Some a,

@@ -1,14 +1,14 @@
 -- A field is written, as copying sees it.
 use Rattle.std.proofs.Common.{◌≡◌, ℕ, ◌*◌, ◌/◌, ◌<◌, ◌≤◌, ◌≢◌, false, None, Option, Some, length, sym, ap, ◌∙◌, subst, inl, inr, arith}
 use Rattle.std.proofs.lemmas.Bool.{cases_eq}
-use Rattle.std.proofs.lemmas.List.{length-set}
-use Rattle.heap_model.specs.Heap.{Stored, fields, with_field}
+use Rattle.heap_model.specs.Heap.{Stored, with_field}
+use Rattle.heap_model.proofs.Fields.{field_set}
 use Rattle.regions.specs.Tiles.{Object, tile_size}
 use Rattle.regions.specs.Table.{Table, kind_of, moved_to, object_at, set_field, tile_in, EachForwardedIn}
 use Rattle.regions.specs.Rows.{kind_is_free}
 use Rattle.regions.specs.declared.row.Kind.TheVariants as kinds
-use Rattle.regions.proofs.Words.FieldAccess.{field_put, set_field-is}
-use Rattle.regions.proofs.Tiles.Changes.{WritesObject, object_same}
+use Rattle.regions.proofs.Words.FieldAccess.{set_field-is}
+use Rattle.regions.proofs.Tiles.Changes.{WritesObject, field_put, field_size, field_weaks, object_same}
 use Rattle.regions.proofs.Tiles.Kept.{put_object-moved}
 use Rattle.object_copy.specs.Copies.{Places}
 use Rattle.object_copy.proofs.Frees.{free_by_kind, same_free}
@@ -54,7 +54,7 @@ module _ (p : Pause) (q : IsPause p) (t t' : Table) (d : Places) (turn : IsTurn 
   }
 
   same : (x : Stored) → IsSameBut x y → IsSameBut x (with_field y i v)
-  same x s = record { name = s.name; values = s.values; count = length-set (fields y) i v ∙ s.count }
+  same x s = let f = field_set y i v in record { name = f.name ∙ s.name; values = f.values ∙ s.values; pointers = f.shape ∙ s.pointers; weaks = field_weaks y i v ∙ s.weaks }
 
   pub write_stays : TableStays p t'
   write_stays =
@@ -85,7 +85,7 @@ module _ (p : Pause) (q : IsPause p) (t t' : Table) (d : Places) (turn : IsTurn 
               let k = w.is in
               let r : with_field y i v ≡ x = cc in
               let before = s.small a y o f (ap (object_at t) g ∙ object) in
-              let n = length-set (fields y) i v in
+              let n = field_size y i v in
               subst (λ (m : Stored). 2 * tile_size (Object m) ≤ p.start.words_per_region) r (omega arith)
           | inr n ↦ s.small a x o f (sym (other a n) ∙ e)
         ];

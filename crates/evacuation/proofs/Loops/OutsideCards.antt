@@ -3,6 +3,7 @@ use Rattle.std.proofs.Common.{◌≡◌, ℕ, ◌+◌, ◌*◌, ◌/◌, ◌<◌
 use Rattle.std.specs.Prelude.{IsSome}
 use Rattle.std.specs.List.{AllZip}
 use Rattle.std.proofs.lemmas.Bool.{cases_eq, cases_lt}
+use Rattle.std.proofs.lemmas.List.{length-append}
 use Rattle.heap_model.specs.Heap.{Stored, fields}
 use Rattle.heap_model.specs.Evacuation.{IsWord, place_after}
 use Rattle.regions.specs.Tiles.{Object}
@@ -31,11 +32,11 @@ zip_length place [] (y ∷ ys) z = absurd z
 zip_length place (x ∷ xs) [] z = absurd z
 zip_length place (x ∷ xs) (y ∷ ys) z = let k = zip_length place xs ys z.1 in omega arith
 
--- an object that stood outside the set stands there still, with as many pointers
+-- an object that stood outside the set stands there still, with as many fields
 pub outside_stands : (p : Pause) (t : Table) (d : Places) (b : ℕ) (x : Stored) → IsTurn p t d → (plan p).heap.kept b ≡ Some x → in_set p b ≡ false → IsStill (space p t) b (length (fields x))
 outside_stands p t d b x turn at out =
     let k = turn.copying.heap.objects b b x at (rw out refl) in
-    (k.part, k.at, zip_length (place_after (in_set p) (space p t).forward) (fields x) (fields k.part) k.pointers)
+    (k.part, k.at, zip_length (place_after (in_set p) (space p t).forward) (fields x) (fields k.part) k.words)
 
 pub visited_field : (p : Pause) (t : Table) (d : Places) (visited : List Bool) (b i : ℕ) → IsTurn p t d → IsVisited (layout p) (plan p) visited b i → IsField (space p t) b i
 visited_field p t d visited b i turn v = let (y, at, n) = outside_stands p t d b v.object turn v.at v.outside in let k = v.within in record { object = y; at = at; within = omega arith }
@@ -45,7 +46,7 @@ visited_holder : (p : Pause) (t : Table) (d : Places) (visited : List Bool) (b i
 visited_holder p t d visited b i turn v =
     let f = visited_field p t d visited b i turn v in
     let w = f.within in
-    record { tile = Object f.object; tile_is = tile_of_object t b f.object (kept_object p t b f.object f.at); low = omega arith; high = omega arith }
+    record { tile = Object f.object; tile_is = tile_of_object t b f.object (kept_object p t b f.object f.at); low = omega arith; high = omega (arith, length-append f.object.pointers f.object.weaks) }
 
 module _ (p : Pause) (q : IsPause p) (card : ℕ) where
   has_words : 0 < p.card_words

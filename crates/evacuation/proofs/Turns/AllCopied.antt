@@ -3,6 +3,7 @@ use Rattle.std.proofs.Common.{◌≡◌, ℕ, ◌/◌, Bool, true, false, List, 
 use Rattle.std.specs.Prelude.{slice_get}
 use Rattle.std.specs.List.{AllZip}
 use Rattle.std.proofs.lemmas.Bool.{cases_Bool}
+use Rattle.std.proofs.lemmas.List.{length-append}
 use Rattle.heap_model.specs.Heap.{Heap, Stored, fields}
 use Rattle.heap_model.specs.Relocation.{IsMoved, Relocates}
 use Rattle.heap_model.specs.Evacuation.{IsReached, ByRootWord, ByOutside, ByInside, place_after, IsWord, IsEvacuating, IsEvacuated, IsClean, released}
@@ -51,7 +52,7 @@ module _ (p : Pause) (q : IsPause p) (noted visited : List Bool) (t : Table) (d 
   evacuating : IsEvacuating set (plan p).heap forward now
   evacuating = let c = turn.copying.heap in record {
     roots = zip_map p.roots roots moved;
-    objects = λ a b x e f. let k = c.objects a b x e f in record { part = k.part; at = k.at; name = k.name; values = k.values; pointers = k.pointers };
+    objects = λ a b x e f. let k = c.objects a b x e f in record { part = k.part; at = k.at; name = k.name; values = k.values; shape = k.shape; words = k.words };
     came = c.came;
     untouched = c.untouched;
     reached = c.reached;
@@ -78,12 +79,12 @@ module _ (p : Pause) (q : IsPause p) (noted visited : List Bool) (t : Table) (d 
         let k = turn.copying.heap.objects b b x here (rw out refl) in
         let same : y ≡ k.part = let e1 = k.at in cc in
         let e' = subst (λ (z : Stored). slice_get (fields z) i ≡ Some (Some a)) same e in
-        let (w, is, v) = AllZip-get_right (IsWord (place_after set forward)) (fields x) (fields k.part) k.pointers i (Some a) e' in
+        let (w, is, v) = AllZip-get_right (IsWord (place_after set forward)) (fields x) (fields k.part) k.words i (Some a) e' in
         let was = word_was set (plan p).heap forward (seen_as (space p t) (plan p).heap) turn.copying.heap w a v inside in
         let named = is ∙ ap Some was in
         let within = get_below (fields x) i (Some a) named in
         let big = object_within p.start b x q.shaped (kept_object p p.start b x (start_kept p b ∙ here)) in
-        let card = card_within p visited (field_word b i) p.card_words q refl each (omega arith) in
+        let card = card_within p visited (field_word b i) p.card_words q refl each (omega (arith, length-append x.pointers x.weaks)) in
         outside b i (record { object = x; at = here; outside = out; within = within; card = remembered b i a x here out named inside }) card y (Some a) at e
     | inr k ↦ k
   ]

@@ -4,6 +4,7 @@ use Rattle.std.specs.Prelude.{slice_get, count_by, ◌||◌, ◌==◌}
 use Rattle.std.specs.List.{list_any}
 use Rattle.std.proofs.lemmas.Bool.{cases_lt}
 use Rattle.std.proofs.lemmas.Bool.Decides.{eqb_tells}
+use Rattle.std.proofs.lemmas.List.{length-append}
 use Rattle.std.proofs.lemmas.List.Sums.{count_by-le-length}
 use Rattle.std.proofs.lemmas.List.Recursion.{is_sum_by}
 use Rattle.std.proofs.lemmas.Nat.{mul-le}
@@ -177,7 +178,7 @@ module _ (h : Layers) (rows : List LiveRow) (cw : ℕ) (can : CanEvacuate h rows
         let o = object b x at in
         let n = get_below (fields x) i (Some a) e in
         let big = object_within h.table b x shaped o in
-        let holder : IsHolder h.table b (field_word b i) = record { tile = Object x; tile_is = tile_of_object h.table b x o; low = omega arith; high = omega arith } in
+        let holder : IsHolder h.table b (field_word b i) = record { tile = Object x; tile_is = tile_of_object h.table b x o; low = omega arith; high = omega (arith, length-append x.pointers x.weaks) } in
         let leaves : a / words ≢ field_word b i / words = λ same. apart b (field_word b i) holder out (ap (flag flags) (sym same) ∙ inside) in
         let crossing : IsCrossing words kept b i a = record { object = x; kept_is = at; field_is = e; leaves = leaves } in
         let (j, row, f, g, r) = row_of (a / words) inside in

@@ -64,7 +64,7 @@ module _ (p : Pause) (q : IsPause p) (room : 2 * (space p p.start).left ≤ free
     was_free = λ k e. inl e;
     kinds_same = λ k e m. refl;
     used = λ k e m. refl;
-    objects = λ a x o e. (x, e, record { name = refl; values = refl; count = refl });
+    objects = λ a x o e. (x, e, record { name = refl; values = refl; pointers = refl; weaks = refl });
     none = λ a o m e. e;
     unkept = λ a o m e. refl;
     filled = λ k f o. absurd (let n : kinds.Free ≡ kinds.Ordinary = sym f ∙ o in cc);

@@ -180,7 +180,8 @@ module _ (h : Layers) (rows : List LiveRow) (cw : ℕ) (can : CanEvacuate h rows
           let (y, g, s) = turn.table.objects a z out f in
           let same : y ≡ x = cc in
           let q = can.halves a z f (sym (turn.table.kinds_same (a / words) out n) ∙ kind) in
-          let e1 = s.count in
+          let e1 = s.pointers in
+          let e3 = s.weaks in
           let e2 = ap (λ (m : List ℕ). length m) s.values in
           subst (λ (m : Stored). 2 * tile_size (Object m) ≤ words) same (omega arith)
 

@@ -1,20 +1,21 @@
 use Rattle.std.proofs.Common.{◌≡◌, ℕ, Some, [], ◌∷◌, sym, ap, subst}
+use Rattle.remembered_sets.specs.Sets.{empty_sets}
 use Rattle.evacuation.specs.Evacuates.{Layers, CanEvacuate}
-use Rattle.evacuation.specs.Samples.{IsFresh}
-use Rattle.evacuation.proofs.Samples.{can_evacuate}
+use Rattle.evacuation.specs.Samples.{IsFresh, itself}
+use Rattle.evacuation.proofs.Samples.{can_evacuate, itself_suited}
 use Rattle.evacuation.proofs.tests.copies_what_names_itself.Goals as goal
 
 pub evacuate-moved-requires-clause-can : goal.evacuate-moved-requires-clause-can
 evacuate-moved-requires-clause-can g c =
     let h : Layers = record { table = c.in_ok-table.table; tams = c.in_ok-tams.tams; previous = c.in_ok-bitmaps.bitmaps.previous; next = c.in_ok-bitmaps.bitmaps.next; cards = c.in_ok-cards.cards; sets = c.in_ok-sets.sets; roots = Some c.new-6.result ∷ [] } in
-    let fresh : IsFresh h = record {
-      table = c.in_ok-table.ensures;
+    let fresh : IsFresh itself (empty_sets 4 2) h = record {
+      table_is = c.in_ok-table.ensures;
       previous_tops = c.in_ok-tams.ensures.previous;
       next_tops = c.in_ok-tams.ensures.next;
       previous = c.in_ok-bitmaps.ensures.previous;
       next = c.in_ok-bitmaps.ensures.next;
       cards = c.in_ok-cards.ensures;
-      sets = c.in_ok-sets.ensures;
+      sets_are = c.in_ok-sets.ensures;
       roots = ap (λ (n : ℕ). Some n ∷ []) c.new-6.ensures;
     } in
-    subst (λ (n : ℕ). CanEvacuate h (record { region = n; live_bound = 3 } ∷ []) 8) (sym c.new-7.ensures) (can_evacuate h fresh)
+    subst (λ (n : ℕ). CanEvacuate h (record { region = n; live_bound = 4 } ∷ []) 8) (sym c.new-7.ensures) (can_evacuate itself (empty_sets 4 2) (record { region = 0; live_bound = 4 }) itself_suited h fresh)

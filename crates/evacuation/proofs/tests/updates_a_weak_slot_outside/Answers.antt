@@ -1,0 +1,21 @@
+use Rattle.std.proofs.Common.{◌≡◌, ◌∙◌, ℕ, Some, [], ◌∷◌, sym, ap, subst}
+use Rattle.remembered_sets.specs.Sets.{Sets, added, empty_sets}
+use Rattle.evacuation.specs.Evacuates.{Layers, CanEvacuate}
+use Rattle.evacuation.specs.Samples.{IsFresh, by_weak_slot}
+use Rattle.evacuation.proofs.Samples.{can_evacuate, one_card, weak_suited}
+use Rattle.evacuation.proofs.tests.updates_a_weak_slot_outside.Goals as goal
+
+pub evacuate-moved-requires-clause-can : goal.evacuate-moved-requires-clause-can
+evacuate-moved-requires-clause-can g c =
+    let h : Layers = record { table = c.in_ok-table.table; tams = c.in_ok-tams.tams; previous = c.in_ok-bitmaps.bitmaps.previous; next = c.in_ok-bitmaps.bitmaps.next; cards = c.in_ok-cards.cards; sets = c.add.new.self; roots = Some c.new-8.result ∷ [] } in
+    let fresh : IsFresh by_weak_slot one_card h = record {
+      table_is = c.in_ok-table.ensures;
+      previous_tops = c.in_ok-tams.ensures.previous;
+      next_tops = c.in_ok-tams.ensures.next;
+      previous = c.in_ok-bitmaps.ensures.previous;
+      next = c.in_ok-bitmaps.ensures.next;
+      cards = c.in_ok-cards.ensures;
+      sets_are = c.add.ensures.after ∙ ap (λ (s : Sets). added s c.new-6.result c.new-7.result) c.in_ok-sets.ensures ∙ ap (λ (n : ℕ). added (empty_sets 4 2) n c.new-7.result) c.new-6.ensures ∙ ap (λ (n : ℕ). added (empty_sets 4 2) 1 n) c.new-7.ensures;
+      roots = ap (λ (n : ℕ). Some n ∷ []) c.new-8.ensures;
+    } in
+    subst (λ (n : ℕ). CanEvacuate h (record { region = n; live_bound = 2 } ∷ []) 8) (sym c.new-9.ensures) (can_evacuate by_weak_slot one_card (record { region = 1; live_bound = 2 }) weak_suited h fresh)
