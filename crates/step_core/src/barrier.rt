@@ -140,20 +140,20 @@ impl Core {
     }
 
     /// A register takes what was read from a weak slot. While marking runs, that is saved, and its name is touched.
-    pub(crate) fn touch(&mut self, mutator: u32, to: Register, value: Ptr)
+    pub(crate) fn touch(&mut self, mutator: u32, to: Register, value: &Ptr)
         requires known { mutator < self.old.config.mutators }
-        requires word { IsWordOf (heap_of self.old) value }
-        ensures shows { (g : Graph) (v : Option ℕ) → ShowsGraph g self.old → IsShown (heap_of self.old) value v → ShowsGraph (with_root g (register_place mutator to.number) v) self.new }
-        ensures keeps { (s g : Graph) (v : Option ℕ) → ShowsGraph g self.old → KeepsUnreached s g → IsShown (heap_of self.old) value v → KeepsFrom s self.old → KeepsFrom (touched s v) self.new }
-        ensures core { self.new ≡ record (with_root_word self.old (register_place mutator to.number) value) { marker = self.new.marker } }
-        ensures marker { Overwrites self.old.marker.running self.old.table mutator value self.old.marker self.new.marker }
+        requires word { IsWordOf (heap_of self.old) value.now }
+        ensures shows { (g : Graph) (v : Option ℕ) → ShowsGraph g self.old → IsShown (heap_of self.old) value.now v → ShowsGraph (with_root g (register_place mutator to.number) v) self.new }
+        ensures keeps { (s g : Graph) (v : Option ℕ) → ShowsGraph g self.old → KeepsUnreached s g → IsShown (heap_of self.old) value.now v → KeepsFrom s self.old → KeepsFrom (touched s v) self.new }
+        ensures core { self.new ≡ record (with_root_word self.old (register_place mutator to.number) value.now) { marker = self.new.marker } }
+        ensures marker { Overwrites self.old.marker.running self.old.table mutator value.now self.old.marker self.new.marker }
         ensures leaves { LeavesRegions self.old self.new }
     {
-        self.roots[register_index(mutator, to)] = value;
+        self.roots[register_index(mutator, to)] = *value;
         if !self.marker.running {
             return;
         }
-        let full = self.marker.save(&self.table, mutator, value);
+        let full = self.marker.save(&self.table, mutator, *value);
         if full {
             self.marker.take_log(&self.table, mutator);
         }

@@ -212,7 +212,7 @@ impl Core {
         }
         let value = self.table.get_weak(at, slot);
         let name = self.name_of(&value);
-        self.touch(mutator, to, value);
+        self.touch(mutator, to, &value);
         Reply::Named(name)
     }
 

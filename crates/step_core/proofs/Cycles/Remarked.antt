@@ -83,7 +83,7 @@ was_object m t t' a y c e =
     by_clearing q = go (object_at t a) refl (sym q ∙ e)
 
 cleared_size : (m : Marking) (x : Stored) → tile_size (Object (cleared m x)) ≡ tile_size (Object x)
-cleared_size m x = ap (λ (n : ℕ). 2 + length x.pointers + n + length x.values) (length-map (cleared_word m) x.weaks)
+cleared_size m x = ap (λ (n : ℕ). 2 + length x.pointers + n + length x.values) (length-map x.weaks (cleared_word m))
 
 module _ (m : Marking) (t t' : Table) (c : ClearsTable m t t') where
   -- objects have as many words as before

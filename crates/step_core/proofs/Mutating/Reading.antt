@@ -35,7 +35,7 @@ shown_nil : (h : Heap) (v : Option ℕ) → IsShown h None v → v ≡ None
 shown_nil h None s = refl
 shown_nil h (Some n) s = absurd s
 
-shown_there : (h : Heap) (a : ℕ) (v : Option ℕ) → IsShown h (Some a) v → (x : Stored) × (h.kept a ≡ Some x) × (v ≡ Some x.name)
+pub shown_there : (h : Heap) (a : ℕ) (v : Option ℕ) → IsShown h (Some a) v → (x : Stored) × (h.kept a ≡ Some x) × (v ≡ Some x.name)
 shown_there h a None s = absurd s
 shown_there h a (Some n) s = (s.0, s.1, ap Some (sym s.2))
 

@@ -15,7 +15,7 @@ use super::{act, collect, remembers};
 use crate::Core;
 use drawn::{action, below, collection, growth, sizes};
 use object_graph::{CollectorStep, Reply};
-use plain::{CARD_WORDS, PlainPause, plain_pause};
+use plain::{PlainPause, part_of, plain_pause};
 use rand_pcg::Lcg64Xsh32;
 use sight::{Sight, look};
 use std::alloc::Global;
@@ -58,7 +58,8 @@ fn is_dirty(core: &Core, card: u32) -> Option<bool> {
 /// These cards wait, and no others.
 fn check_cards(rt: &impl Abort, core: &Core, cards: &[u32], script: u64) {
     let config = core.config();
-    for card in 0..config.regions.saturating_mul(config.words) / CARD_WORDS {
+    let words = config.regions.saturating_mul(config.words);
+    for card in 0..part_of(config.card_words(), words) {
         let waits = cards.iter().any(|waiting| *waiting == card);
         assert_eq!(rt;
             is_dirty(core, card),

@@ -6,11 +6,8 @@ use regions::Kind;
 use std::alloc::{AllocError, Global};
 use std::test::Fail;
 
-/// How many words a card has.
-pub(crate) const CARD_WORDS: u32 = 8;
-
-/// The region of an address, where a region has so many words.
-fn region_of(words: u32, at: u32) -> u32 {
+/// The number of an address's region or card, where one has so many words.
+pub(crate) fn part_of(words: u32, at: u32) -> u32 {
     if words == 0 { 0 } else { at / words }
 }
 
@@ -25,7 +22,7 @@ struct Candidate {
 fn live_words(heap: &Sight, space: &Space) -> u32 {
     let mut live = space.top.saturating_sub(space.previous);
     for object in &heap.objects {
-        let below = region_of(heap.words, object.at) == space.number && object.at < space.previous;
+        let below = part_of(heap.words, object.at) == space.number && object.at < space.previous;
         if object.kept && below {
             live = live.saturating_add(object.size);
         }
@@ -86,6 +83,8 @@ pub(crate) struct Copied {
 pub(crate) struct PlainPause {
     /// The words of a region.
     words: u32,
+    /// The words of a card.
+    card_words: u32,
     /// The regions that are evacuated.
     pub(crate) chosen: Vec<u32>,
     pub(crate) copies: Vec<Copied>,
@@ -102,7 +101,7 @@ pub(crate) struct PlainPause {
 impl PlainPause {
     /// Whether an address lies in a region that is evacuated.
     fn leaves(&self, at: u32) -> bool {
-        let region = region_of(self.words, at);
+        let region = part_of(self.words, at);
         self.chosen.iter().any(|chosen| *chosen == region)
     }
 
@@ -204,7 +203,7 @@ impl PlainPause {
         let mut regions = self
             .copies
             .iter()
-            .map(|copied| region_of(self.words, copied.to));
+            .map(|copied| part_of(self.words, copied.to));
         match regions.next() {
             Some(first) => regions.any(|region| region != first),
             None => false,
@@ -216,7 +215,7 @@ impl PlainPause {
         let mut word = object.at.saturating_add(1);
         for field in &object.fields {
             word = word.saturating_add(1);
-            let behind = region_of(self.words, word) != region_of(self.words, object.at);
+            let behind = part_of(self.words, word) != part_of(self.words, object.at);
             if behind && object.kept && self.after(*field) != *field {
                 return true;
             }
@@ -242,7 +241,7 @@ impl PlainPause {
             after.next = bottom;
         }
         for copied in &self.copies {
-            if region_of(self.words, copied.to) == space.number {
+            if part_of(self.words, copied.to) == space.number {
                 after.kind = Kind::Ordinary;
                 after.top = copied.to.saturating_add(copied.object.size);
             }
@@ -285,6 +284,7 @@ impl PlainPause {
         }
         Ok(Sight {
             words: heap.words,
+            card_words: heap.card_words,
             spaces,
             objects: self.objects_after(alloc, heap)?,
             roots,
@@ -302,8 +302,8 @@ impl PlainPause {
                 continue;
             };
             let updated = to != object.at || after != *field;
-            if updated && region_of(self.words, target) != region_of(self.words, word) {
-                cards.push(word / CARD_WORDS)?;
+            if updated && part_of(self.words, target) != part_of(self.words, word) {
+                cards.push(part_of(self.card_words, word))?;
             }
         }
         Ok(())
@@ -335,6 +335,7 @@ pub(crate) fn plain_pause(
 ) -> Result<PlainPause, Fail> {
     let mut pause = PlainPause {
         words: heap.words,
+        card_words: heap.card_words,
         chosen: choice(alloc, heap, marking, budget)?,
         copies: Vec::new(alloc),
         place: 0,

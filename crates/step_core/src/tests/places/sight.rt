@@ -37,6 +37,8 @@ pub(crate) struct Space {
 pub(crate) struct Sight {
     /// The words of a region.
     pub(crate) words: u32,
+    /// The words of a card.
+    pub(crate) card_words: u32,
     pub(crate) spaces: Vec<Space>,
     pub(crate) objects: Vec<Seen>,
     pub(crate) roots: Vec<Option<u32>>,
@@ -136,6 +138,7 @@ pub(crate) fn look(alloc: Global, core: &Core) -> Result<Sight, AllocError> {
     }
     Ok(Sight {
         words,
+        card_words: core.config().card_words(),
         spaces,
         objects,
         roots,
