@@ -171,6 +171,16 @@ none_is {V} f xs places k v p row spot place script over =
     past (x ∷ xs) zero over = absurd (omega arith)
     past (x ∷ xs) (suc i) over = past xs i (omega arith)
 
+-- a place before the end of its script: not each script is at its end
+pub not_ended : {V : Type 0} (f : V → List Step) (xs : List V) (places : List ℕ) (m k : ℕ) (v : V) (p : ℕ)
+    → k < length xs → k < length places → k ≤ m → p ≡ get_or places k p → v ≡ get_or xs k v → p < length (f v)
+    → ((j : ℕ) → j ≤ m → length (get_or (map f xs) j []) ≤ get_or places j 0) → ⊥
+not_ended f xs places m k v p row spot within place script more all =
+    let h = reads f xs places k v p row spot place script in
+    let over = all k within in
+    let same : length (get_or (map f xs) k []) ≡ length (f v) = ap (λ (l : List Step). length l) h.1 in
+    omega (arith, over, same, h.0, more)
+
 -- the whole turn of a scripted actor
 pub row_turn : (d w : JournalState) (c : CoreState) (a : Actor) (k p : ℕ) (s : Step) (r : Reply) (events : List Event) → w ≡ d → Keeps w
     → k ≤ mutators_of d → a ≡ scripted (mutators_of d) k → next_at w k ≡ Some s → slice_index w.places k ≡ p

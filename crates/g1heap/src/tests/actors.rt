@@ -54,6 +54,28 @@ const REFINED_RECORD: &str = "heap 4 16 4 1 0
 12 f0 refine 2 = refined 2
 ";
 
+/// Two mutators and the collector share an object with two weak slots, and cycles begin and end between their steps.
+const WEAK: &str = "heap 4 16 8 2 0
+0 newweak r0 0 2 0
+0 save g0 r0
+0 new r1 0 1
+0 putweak r0 0 r1
+0 drop r1
+0 getweak r1 r0 1
+0 weaks r0
+1 load r0 g0
+1 getweak r1 r0 0
+1 putweak r0 1 r1
+1 drop r1
+1 getweak r2 r0 1
+gc begin
+gc mark 1
+gc remark
+gc begin
+gc remark
+gc pause 100
+";
+
 fn simulated<H: Threads + Wait + Sync>(
     rt: &H,
     alloc: Global,
@@ -160,6 +182,26 @@ fn two_mutators(rt: HostRuntime) -> Result<(), Fail> {
         assert_eq!(rt; outcome.err.is_empty(), true);
         assert_interleaved(&rt, alloc, &outcome, TWO)?;
         assert_judged(&rt, alloc, &outcome, 6)?;
+    }
+    Ok(())
+}
+
+/// Whatever the seed, and whatever the threads do: the judge accepts what actors do that share weak slots.
+#[test]
+fn shared_weak_slots(rt: HostRuntime) -> Result<(), Fail> {
+    let alloc = rt.alloc();
+    for seed in 0..64 {
+        let seed = format!(in alloc; "{seed}")?;
+        let outcome = simulated(&rt, alloc, seed.as_str(), WEAK)?;
+        assert_eq!(rt; outcome.status, 0);
+        assert_interleaved(&rt, alloc, &outcome, WEAK)?;
+        assert_judged(&rt, alloc, &outcome, 18)?;
+    }
+    for _ in 0..100 {
+        let outcome = threaded(&rt, alloc, "4", WEAK)?;
+        assert_eq!(rt; outcome.status, 0);
+        assert_interleaved(&rt, alloc, &outcome, WEAK)?;
+        assert_judged(&rt, alloc, &outcome, 18)?;
     }
     Ok(())
 }
