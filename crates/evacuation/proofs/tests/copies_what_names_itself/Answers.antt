@@ -28,5 +28,11 @@ evacuate-moved-requires-clause-each_region g c = ap (λ (r : RoomSizes). r.regio
 pub evacuate-moved-requires-clause-each_card : goal.evacuate-moved-requires-clause-each_card
 evacuate-moved-requires-clause-each_card g c = ap (λ (r : RoomSizes). r.cards) c.in_ok-room.ensures ∙ sym (ap card_count c.in_ok-sets.ensures)
 
-pub tile_and_fields-requires : goal.tile_and_fields-requires
-tile_and_fields-requires g c = word_there _ _ _ itself _ 19 c.evacuate-moved.ensures.evacuated.regions c.in_ok-table.ensures refl refl c.new-last.ensures (omega arith)
+pub first_tile-requires : goal.first_tile-requires
+first_tile-requires g c = word_there _ _ _ itself _ 19 c.evacuate-moved.ensures.evacuated.regions c.in_ok-table.ensures refl refl c.new-last.ensures (omega arith)
+
+pub field-requires : goal.field-requires
+field-requires g c = word_there _ _ _ itself _ 19 c.evacuate-moved.ensures.evacuated.regions c.in_ok-table.ensures refl refl c.new-last.ensures (omega arith)
+
+pub field-requires-2 : goal.field-requires-2
+field-requires-2 g c = word_there _ _ _ itself _ 19 c.evacuate-moved.ensures.evacuated.regions c.in_ok-table.ensures refl refl c.new-last.ensures (omega arith)

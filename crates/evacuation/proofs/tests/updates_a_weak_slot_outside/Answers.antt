@@ -28,8 +28,8 @@ evacuate-moved-requires-clause-each_region g c = ap (λ (r : RoomSizes). r.regio
 pub evacuate-moved-requires-clause-each_card : goal.evacuate-moved-requires-clause-each_card
 evacuate-moved-requires-clause-each_card g c = ap (λ (r : RoomSizes). r.cards) c.in_ok-room.ensures ∙ sym (ap card_count (c.add.ensures.after ∙ ap (λ (s : Sets). added s c.new-6.result c.new-7.result) c.in_ok-sets.ensures ∙ ap (λ (n : ℕ). added (empty_sets 4 2) n c.new-7.result) c.new-6.ensures ∙ ap (λ (n : ℕ). added (empty_sets 4 2) 1 n) c.new-7.ensures))
 
-pub tile_and_fields-requires : goal.tile_and_fields-requires
-tile_and_fields-requires g c = word_there _ _ _ by_weak_slot _ 33 c.evacuate-moved.ensures.evacuated.regions c.in_ok-table.ensures refl refl c.new-last.ensures (omega arith)
+pub first_tile-requires : goal.first_tile-requires
+first_tile-requires g c = word_there _ _ _ by_weak_slot _ 33 c.evacuate-moved.ensures.evacuated.regions c.in_ok-table.ensures refl refl c.new-last.ensures (omega arith)
 
-pub tile_and_fields-requires-2 : goal.tile_and_fields-requires-2
-tile_and_fields-requires-2 g c = word_there _ _ _ by_weak_slot _ 0 c.evacuate-moved.ensures.evacuated.regions c.in_ok-table.ensures refl refl c.new-holder.ensures (omega arith)
+pub field-requires : goal.field-requires
+field-requires g c = word_there _ _ _ by_weak_slot _ 0 c.evacuate-moved.ensures.evacuated.regions c.in_ok-table.ensures refl refl c.new-holder.ensures (omega arith)
