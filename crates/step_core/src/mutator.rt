@@ -216,7 +216,13 @@ impl Core {
         Reply::Named(name)
     }
 
-    fn put_weak(&mut self, mutator: u32, object: Register, slot: u32, value: Option<Register>) -> Reply
+    fn put_weak(
+        &mut self,
+        mutator: u32,
+        object: Register,
+        slot: u32,
+        value: Option<Register>,
+    ) -> Reply
         requires { mutator < self.old.config.mutators }
         ensures acts { (g : Graph) → ShowsGraph g self.old → Acts g mutator (actions.PutWeak object slot value) result self.new }
         ensures keeps { (s : Graph) → KeepsFrom s self.old → KeepsFrom s self.new }

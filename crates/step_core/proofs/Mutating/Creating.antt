@@ -1,7 +1,7 @@
 -- A new object.
 use Rattle.std.proofs.Common.{◌≡◌, ◌≢◌, ℕ, zero, suc, ◌+◌, ◌-◌, ◌*◌, ◌/◌, ◌^◌, ◌<◌, ◌≤◌, false, Option, Some, None, List, [], ◌∷◌, replicate, refl, sym, ◌∙◌, ap, subst, arith, inl, inr}
 use Rattle.std.proofs.lemmas.Bool.{cases_eq}
-use Rattle.std.specs.Prelude.{slice_get, slice_set, slice_index, nat_lt}
+use Rattle.std.specs.Prelude.{◌==◌, slice_set, slice_index, nat_lt}
 use Rattle.std.specs.List.{AllZip}
 use Rattle.std.proofs.lemmas.Grind.{common_steps}
 use Rattle.std.proofs.lemmas.Bool.Decides.{nat_tests}
@@ -37,8 +37,17 @@ use Rattle.step_core.proofs.Cores.Layers.{follows_of, stands_over}
 abbrev fresh : ℕ → ℕ → ℕ → Object
 fresh p weak d = record { pointers = replicate p None; weaks = replicate weak None; values = replicate d 0 }
 
+not_below : (a b : ℕ) → b ≤ a → nat_lt a b ≡ false
+not_below a b le = grind (arith, common_steps, nat_tests)
+
+not_same : (a b : ℕ) → a ≢ b → (a == b) ≡ false
+not_same a b ne = grind (arith, common_steps, nat_tests)
+
 made_is : (g : Graph) (m p weak d : ℕ) (to : Register) → 2 + p + weak + d ≤ g.room → next_name g ≢ 2 ^ 64 - 1 → made g m to (record { pointers = p; values = d }) weak ≡ (replies.Named (Some (next_name g)), with_object g (fresh p weak d) (register_place m to.number))
-made_is g m p weak d to h n = grind (arith, common_steps, nat_tests)
+made_is g m p weak d to h n =
+    let fits : nat_lt g.room (2 + p + weak + d) ≡ false = not_below g.room (2 + p + weak + d) h in
+    let there : (next_name g == 2 ^ 64 - 1) ≡ false = not_same (next_name g) (2 ^ 64 - 1) n in
+    rw (fits, there) refl
 
 nil_shown : (h : Heap) (p : ℕ) → AllZip (IsShown h) (replicate p None) (replicate p None)
 nil_shown h zero = tt

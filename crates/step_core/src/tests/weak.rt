@@ -216,7 +216,14 @@ fn noted(rt: HostRuntime) -> Result<(), Fail> {
         weaks: 29,
     };
     check_act(&rt, &mut core, wide, Reply::Named(Some(2)));
-    check_act(&rt, &mut core, Action::Weaks { object: register(0) }, Reply::Word(29));
+    check_act(
+        &rt,
+        &mut core,
+        Action::Weaks {
+            object: register(0),
+        },
+        Reply::Word(29),
+    );
     let small = Action::New {
         to: register(1),
         counts: Counts {
