@@ -25,6 +25,12 @@ actors, have 1,024 regions of 1,024 words, the largest that a heap line allows.
 | actors_1_long, actors_16_long | the same with 1,000,000 steps |
 | many_objects | 1,000,000 steps, nearly all of them make an object of 2 words that is lost; a marking cycle every 50,000 |
 | many_objects_P_V | the same with objects of P pointers and V data words |
+| weak_kept_256, _1024 | 1,000 times `begin` and `remark` with 1,000 weak slots, in four objects, whose target is kept |
+| weak_none_256, _1024 | the same with data words in the place of the weak slots |
+| weak_cleared_256, _1024 | 50 times: 1,000 weak slots take new objects that nothing else names, and a marking cycle clears them all |
+| weak_cleared_256_base, _1024_base | the same without the marking cycles |
+| weak_spread | 100 times `begin` and `remark`; each of 1,000 regions has one object with one weak slot among 339 without, all of them dead |
+| weak_spread_none | the same with a data word in the place of each weak slot |
 | many_fields | 1,000,000 steps that read and write fields of 1,000 objects, taken from a table |
 
 A pause copies at most half of the free words, so never more than a third of the heap, here 349,525 words.
@@ -255,6 +261,42 @@ def many_objects(pointers, values):
     return lines
 
 
+def weak_holders(regions, maker):
+    """Four objects of 250 weak slots, or of as many data words, in the registers from r2 on; r0 names an object."""
+    return [heap(8, 1, regions), "0 new r0 0 0"] + [f"0 {maker.format(register=register)}" for register in range(2, 6)]
+
+
+def weak_places():
+    return [(register, place) for register in range(2, 6) for place in range(250)]
+
+
+def weak_kept(regions):
+    lines = weak_holders(regions, "newweak r{register} 0 250 0")
+    lines += [f"0 putweak r{register} {place} r0" for register, place in weak_places()]
+    return lines + ["gc begin", "gc remark"] * 1000
+
+
+def weak_none(regions):
+    return weak_holders(regions, "new r{register} 0 250") + ["gc begin", "gc remark"] * 1000
+
+
+def weak_cleared(regions, cycle):
+    lines = weak_holders(regions, "newweak r{register} 0 250 0")
+    for _ in range(50):
+        for register, place in weak_places():
+            lines += ["0 new r1 0 0", f"0 putweak r{register} {place} r1"]
+        lines += ["0 drop r1"] + cycle
+    return lines
+
+
+def weak_spread(maker):
+    """Regions of two buffers, each with 340 objects of 3 words, one of which has a weak slot or a data word."""
+    lines = [heap(HALF), "0 new r0 0 0"]
+    for _ in range(1000):
+        lines += ["0 new r1 0 1"] * 339 + [f"0 {maker}"]
+    return lines + ["0 drop r1", "0 drop r2"] + ["gc begin", "gc remark"] * 100
+
+
 def many_fields():
     chosen = random.Random(4)
     places = HALF - 2
@@ -294,6 +336,12 @@ SCRIPTS = {
     **{f"many_objects_{pointers}_{values}": lambda pointers=pointers, values=values: many_objects(pointers, values)
        for pointers, values in ((1, 0), (0, 1), (2, 2), (4, 4))},
     "many_fields": many_fields,
+    **{f"weak_{name}_{regions}": lambda script=script, regions=regions: script(regions)
+       for name, script in (("kept", weak_kept), ("none", weak_none)) for regions in (256, 1024)},
+    **{f"weak_cleared_{regions}{ending}": lambda regions=regions, cycle=cycle: weak_cleared(regions, cycle)
+       for regions in (256, 1024) for ending, cycle in (("", ["gc begin", "gc remark", "gc cleanup"]), ("_base", []))},
+    "weak_spread": lambda: weak_spread("newweak r2 0 1 0"),
+    "weak_spread_none": lambda: weak_spread("new r2 0 1"),
 }
 
 
