@@ -67,7 +67,7 @@ keeps_for None c c' same each k = same ∙ k
 keeps_for (Some s) c c' same each k = (same ∙ k.0, each s k.1)
 
 -- a weak slot is read
-pub touches : Action → Bool
+abbrev pub touches : Action → Bool
 touches (actions.GetWeak to object i) = true
 touches _ = false
 
@@ -84,7 +84,7 @@ same_after (Some s) (actions.Load to from) r e = refl
 same_after (Some s) (actions.Save to from) r e = refl
 same_after (Some s) (actions.Shape object) r e = refl
 same_after (Some s) (actions.NewWeak to counts weaks) r e = refl
-same_after (Some s) (actions.GetWeak to object i) r e = cc
+same_after (Some s) (actions.GetWeak to object i) r e = absurd (let apart : true ≡ false = e in cc)
 same_after (Some s) (actions.PutWeak object i v) r e = refl
 same_after (Some s) (actions.Weaks object) r e = refl
 

@@ -8,11 +8,11 @@ returns-in-New-clause-follows c = λ s st. created_plain s c.args.op _ _ _ _ _ _
     (keeps_after s.snapshot _ _ _ _ _ refl (acts_plain _ _ _ _ _ _ c.new_object.ensures.after) c.new_object.ensures.keeps st.keeps)
 
 pub returns-in-New-clause-after : goal.returns-in-New-clause-after
-returns-in-New-clause-after c = acts_plain _ _ _ _ _ _ c.new_object.ensures.after
+returns-in-New-clause-after c = rw c.in-New.is (acts_plain _ _ _ _ _ _ c.new_object.ensures.after)
 
 pub returns-in-NewWeak-clause-follows : goal.returns-in-NewWeak-clause-follows
-returns-in-NewWeak-clause-follows c = λ s st. created s c.args.op _ _ _ _ _ _ _ refl c.in-NewWeak.is st (c.new_object-2.ensures.acts s.graph st.shows)
-    (keeps_after s.snapshot _ _ _ _ _ refl c.new_object-2.ensures.after c.new_object-2.ensures.keeps st.keeps)
+returns-in-NewWeak-clause-follows c = λ s st. created s c.args.op _ _ _ _ _ _ _ refl c.in-NewWeak.is st (c.new_object-in-NewWeak.ensures.acts s.graph st.shows)
+    (keeps_after s.snapshot _ _ _ _ _ refl c.new_object-in-NewWeak.ensures.after c.new_object-in-NewWeak.ensures.keeps st.keeps)
 
 pub returns-in-GetWeak-clause-follows : goal.returns-in-GetWeak-clause-follows
 returns-in-GetWeak-clause-follows c = λ s st. acted s c.args.op _ _ _ _ _ refl c.in-GetWeak.is st (c.get_weak.ensures.acts s.graph st.shows)
