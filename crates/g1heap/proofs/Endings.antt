@@ -2,6 +2,7 @@
 use Rattle.std.proofs.Common.{◌≡◌, ◌≢◌, ◌<◌, ◌≤◌, ◌⊎◌, ℕ, List, [], Option, Err, arith, subst, refl, inl, inr, sym}
 use Rattle.std.specs.Prelude.{◌↔◌, Ok, Result, ⊤, IfOk, IfErr, None, map}
 use Rattle.heap_words.specs.declared.config.Config.{Config}
+use Rattle.heap_words.specs.Configs.{Suits}
 use Rattle.object_graph.specs.Actors.{StepList, EventList}
 use Rattle.object_graph.specs.declared.step.Step.{Step}
 use Rattle.step_core.specs.declared.runs.RunFault.{RunFault}
@@ -108,3 +109,8 @@ comes_threaded plan workers refiners markers outcome run bad fault =
 pub if_ok : {A E P : Type 0} (r : Result A E) → P → IfOk r (λ x. P)
 if_ok (Ok x) p = p
 if_ok (Err e) p = tt
+
+-- want of memory, where the heap's sizes suit
+pub memory_alone : {A : Type 0} (config : Config) (r : Result A RunFault) → IfErr r (λ fault. fault ≡ runs.NoMemory) → Suits config → IfErr r (IsRunFault config)
+memory_alone config (Ok x) memory suits = tt
+memory_alone config (Err e) memory suits = subst (IsRunFault config) (sym memory) suits

@@ -1,7 +1,8 @@
 use Rattle.std.proofs.Common.{subst}
+use Rattle.heap_words.specs.Configs.{Suits}
 use Rattle.object_graph.specs.Actors.{StepList}
 use Rattle.g1heap.specs.Runs.{IsRunInOrder}
-use Rattle.g1heap.proofs.Endings.{same_plan, if_ok}
+use Rattle.g1heap.proofs.Endings.{same_plan, if_ok, memory_alone}
 use Rattle.g1heap.proofs.view.view_of.Goals as goal
 
 pub returns-in-Ok-clause-run : goal.returns-in-Ok-clause-run
@@ -14,3 +15,9 @@ returns-in-Ok-clause-run c =
       subst (λ (p : StepList). IsRunInOrder p c.in-Ok._record) same
           (record { config = run.config; steps = run.steps; actors = run.actors; last = last; run = is; history = (c.in-Ok.core, run.history) }),
     )
+
+pub returns-in-Ok-clause-fault : goal.returns-in-Ok-clause-fault
+returns-in-Ok-clause-fault c =
+    let run = c.in-Ok.ensures in
+    let same = c.config.ensures in
+    memory_alone c.args.plan.now.config c.text_of.result c.text_of.ensures (subst Suits same run.suits)
