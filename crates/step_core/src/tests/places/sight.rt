@@ -166,7 +166,7 @@ fn space_seen(core: &Core, number: u32) -> Space
     }
 }
 
-/// The heap as it stands, word by word, behind each object's last word on.
+/// The heap as it stands, word by word. The words inside an object that was seen are skipped.
 pub(crate) fn look(alloc: Global, core: &Core) -> Result<Sight, AllocError> {
     let words = core.config().words;
     let mut spaces = Vec::new(alloc);

@@ -1,5 +1,5 @@
-//! The steps on weak slots, and a cycle of marking, over a heap as it is seen. It knows no logs: what is marked in the end is what
-//! the roots reached when marking began, or what was read from a weak slot since.
+//! The steps on weak slots, and a cycle of marking, over a heap as it is seen. It knows no logs: what is marked in the end is
+//! what the pointers reached when marking began, from the roots or from what was read from a weak slot since.
 
 use super::sight::{Seen, Sight, Space};
 use object_graph::{Action, Refusal, Register, Reply};
