@@ -187,6 +187,15 @@ fn begin(core: &mut Core, alloc: Global, cycle: &mut PlainCycle) -> Result<(), F
     Ok(())
 }
 
+/// The reply tells how many objects are marked.
+fn check_marked(rt: &impl Abort, reply: Reply, count: usize, script: u64) -> Result<(), Fail> {
+    let Reply::Marked(marked) = reply else {
+        return Err(Fail::from("the reply at the end of marking"));
+    };
+    assert_eq!(rt; marked as usize, count, "script {script}");
+    Ok(())
+}
+
 /// The end of marking, compared with the plain one.
 fn remark(
     rt: &impl Abort,
@@ -199,13 +208,8 @@ fn remark(
     let by_roots = cycle.reached(alloc, &[])?.len();
     let marked = cycle.reached(alloc, &cycle.touched)?;
     let expected = heap_marked(alloc, &before, &marked)?;
-    let reply = Reply::Marked(marked.len() as u32);
-    assert_eq!(rt;
-        collect(core, CollectorStep::Remark),
-        reply,
-        "script {}",
-        tally.scripts
-    );
+    let reply = collect(core, CollectorStep::Remark);
+    check_marked(rt, reply, marked.len(), tally.scripts)?;
     check_sight(rt, &look(alloc, core)?, &expected, tally.scripts);
     tally.remarks = more(tally.remarks, true);
     tally.cleared = tally.cleared.saturating_add(changed(&before, &expected));
