@@ -1,26 +1,30 @@
-//! Pauses in drawn heaps. Each is compared with a plain pause over what was seen of the heap just before it: where every object
-//! stands, what every field and every root names, what every region is, and which cards wait, in order.
+//! Pauses, ends of marking and steps on weak slots in drawn heaps. Each is compared with a plain one over what was seen of the
+//! heap just before it: where every object stands, what every field and every root names, and what every region is; after a
+//! pause also which cards wait, in order.
 //!
 //! ```text
 //!   seen before     every object, root and region
 //!   plain pause     a list of candidates, sorted; a list of copies, which grows while it is gone through
+//!   plain remark    a list of what is marked, over the heap as it was seen when marking began
 //!   seen after      the same objects in the same places
 //! ```
 
 mod drawn;
 mod plain;
 mod sight;
+mod weak;
 
 use super::{act, collect, remembers};
 use crate::Core;
-use drawn::{action, below, collection, growth, sizes};
-use object_graph::{CollectorStep, Reply};
+use drawn::{action, below, collection, growth, sizes, weak_growth, weak_readings};
+use object_graph::{Action, CollectorStep, Counts, Register, Reply};
 use plain::{PlainPause, part_of, plain_pause};
 use rand_pcg::Lcg64Xsh32;
-use sight::{Sight, look};
+use sight::{FIELDS, Sight, look, named};
 use std::alloc::Global;
 use std::process::Abort;
 use std::test::Fail;
+use weak::{PlainCycle, changed, heap_marked, place_of};
 
 /// What happened in all scripts together.
 #[derive(Debug, Drop)]
@@ -45,6 +49,16 @@ struct Tally {
     copied: u64,
     /// Objects that were compared.
     compared: u64,
+    /// Ends of marking.
+    remarks: u64,
+    /// Objects whose weak slots an end of marking cleared.
+    cleared: u64,
+    /// Ends of marking with marked objects that only a reading of a weak slot reached.
+    touched: u64,
+    /// Objects that were made with weak slots.
+    made: u64,
+    /// Steps on weak slots that weren't refused.
+    weak_steps: u64,
 }
 
 /// Whether a card is dirty, None for a card that isn't there.
@@ -164,65 +178,255 @@ impl Tally {
     }
 }
 
-/// A script of 50 turns, each drawn when it is taken: about 95 steps.
+/// Marking begins, and the heap is kept as it is seen then.
+fn begin(core: &mut Core, alloc: Global, cycle: &mut PlainCycle) -> Result<(), Fail> {
+    if collect(core, CollectorStep::Begin) == Reply::Done {
+        cycle.began = look(alloc, core)?;
+        cycle.touched.clear();
+    }
+    Ok(())
+}
+
+/// The reply tells how many objects are marked.
+fn check_marked(rt: &impl Abort, reply: Reply, count: usize, script: u64) -> Result<(), Fail> {
+    let Reply::Marked(marked) = reply else {
+        return Err(Fail::from("the reply at the end of marking"));
+    };
+    assert_eq!(rt; marked as usize, count, "script {script}");
+    Ok(())
+}
+
+/// The end of marking, compared with the plain one.
+fn remark(
+    rt: &impl Abort,
+    alloc: Global,
+    core: &mut Core,
+    cycle: &PlainCycle,
+    tally: &mut Tally,
+) -> Result<(), Fail> {
+    let before = look(alloc, core)?;
+    let by_roots = cycle.reached(alloc, &[])?.len();
+    let marked = cycle.reached(alloc, &cycle.touched)?;
+    let expected = heap_marked(alloc, &before, &marked)?;
+    let reply = collect(core, CollectorStep::Remark);
+    check_marked(rt, reply, marked.len(), tally.scripts)?;
+    check_sight(rt, &look(alloc, core)?, &expected, tally.scripts);
+    tally.remarks = more(tally.remarks, true);
+    tally.cleared = tally.cleared.saturating_add(changed(&before, &expected));
+    tally.touched = more(tally.touched, marked.len() > by_roots);
+    Ok(())
+}
+
+/// A step of the collector, compared where there is a plain one.
+fn collector(
+    rt: &impl Abort,
+    alloc: Global,
+    core: &mut Core,
+    step: CollectorStep,
+    cycle: &mut PlainCycle,
+    tally: &mut Tally,
+) -> Result<(), Fail> {
+    match step {
+        CollectorStep::Pause(budget) => pause(rt, alloc, core, budget, tally),
+        CollectorStep::Begin => begin(core, alloc, cycle),
+        CollectorStep::Remark if core.marking() => remark(rt, alloc, core, cycle, tally),
+        _ => {
+            collect(core, step);
+            Ok(())
+        }
+    }
+}
+
+/// An object is made with weak slots; if there is room, a register names it, and its fields are nil.
+fn make(
+    rt: &impl Abort,
+    core: &mut Core,
+    mutator: u32,
+    (to, counts, weaks): (Register, Counts, u8),
+    tally: &mut Tally,
+) -> Result<(), Fail> {
+    let action = Action::NewWeak { to, counts, weaks };
+    let Some(Reply::Named(Some(name))) = act(core, mutator, action) else {
+        return Ok(());
+    };
+    let Some(object) = named(core, place_of(mutator, to)) else {
+        return Err(Fail::from("a new object"));
+    };
+    let size = counts.size(weaks);
+    assert_eq!(rt; (object.name, object.pointers), (name, counts.pointers));
+    assert_eq!(rt;
+        (object.weaks, u64::from(object.size)),
+        (u32::from(weaks), size)
+    );
+    assert_eq!(rt; object.fields, [None; FIELDS]);
+    tally.made = more(tally.made, true);
+    Ok(())
+}
+
+/// A step on a weak slot, compared with the plain one. What is read from one is touched.
+fn weak_step(
+    rt: &impl Abort,
+    alloc: Global,
+    core: &mut Core,
+    mutator: u32,
+    action: Action,
+    cycle: &mut PlainCycle,
+    tally: &mut Tally,
+) -> Result<(), Fail> {
+    let mut expected = look(alloc, core)?;
+    let Some(reply) = expected.weak_step(mutator, action) else {
+        return Err(Fail::from("a step on a weak slot"));
+    };
+    assert_eq!(rt;
+        act(core, mutator, action),
+        Some(reply),
+        "script {}",
+        tally.scripts
+    );
+    check_sight(rt, &look(alloc, core)?, &expected, tally.scripts);
+    if let Action::GetWeak { to, .. } = action {
+        cycle.touch(expected.root(place_of(mutator, to)), reply)?;
+    }
+    tally.weak_steps = more(tally.weak_steps, !matches!(reply, Reply::Refused(_)));
+    Ok(())
+}
+
+/// A mutator's step, compared where there is a plain one.
+fn mutate(
+    rt: &impl Abort,
+    alloc: Global,
+    core: &mut Core,
+    mutator: u32,
+    action: Action,
+    cycle: &mut PlainCycle,
+    tally: &mut Tally,
+) -> Result<(), Fail> {
+    match action {
+        Action::NewWeak { to, counts, weaks } => {
+            make(rt, core, mutator, (to, counts, weaks), tally)
+        }
+        Action::GetWeak { .. } | Action::PutWeak { .. } | Action::Weaks { .. } => {
+            weak_step(rt, alloc, core, mutator, action, cycle, tally)
+        }
+        _ => {
+            assert!(rt; act(core, mutator, action).is_some());
+            Ok(())
+        }
+    }
+}
+
+/// Steps of one mutator.
+fn mutate_all(
+    rt: &impl Abort,
+    alloc: Global,
+    core: &mut Core,
+    mutator: u32,
+    actions: &[Action],
+    cycle: &mut PlainCycle,
+    tally: &mut Tally,
+) -> Result<(), Fail> {
+    for action in actions {
+        mutate(rt, alloc, core, mutator, *action, cycle, tally)?;
+    }
+    Ok(())
+}
+
+/// One to four steps.
+fn turn(
+    rt: &impl Abort,
+    alloc: Global,
+    core: &mut Core,
+    draw: &mut Lcg64Xsh32,
+    cycle: &mut PlainCycle,
+    tally: &mut Tally,
+) -> Result<(), Fail> {
+    let mutator = below(draw, 2) % core.config().mutators;
+    match below(draw, 14) {
+        0..=4 => collector(rt, alloc, core, collection(draw), cycle, tally),
+        5..=9 => mutate_all(rt, alloc, core, mutator, &growth(draw), cycle, tally),
+        10 => mutate_all(rt, alloc, core, mutator, &weak_growth(draw), cycle, tally),
+        11 => {
+            begin(core, alloc, cycle)?;
+            mutate_all(rt, alloc, core, mutator, &weak_readings(draw), cycle, tally)
+        }
+        _ => mutate(rt, alloc, core, mutator, action(draw), cycle, tally),
+    }
+}
+
+/// A script of 50 turns, each drawn when it is taken: about 105 steps.
 fn script(rt: &impl Abort, alloc: Global, tally: &mut Tally) -> Result<(), Fail> {
     let mut draw = Lcg64Xsh32::new(tally.scripts, 54);
     let config = sizes(&mut draw);
     let Ok(mut core) = Core::new(alloc, &config) else {
         return Err(Fail::from("a core"));
     };
+    let mut cycle = PlainCycle {
+        began: look(alloc, &core)?,
+        touched: Vec::new(alloc),
+    };
     for _ in 0..50 {
-        let mutator = below(&mut draw, 2) % core.config().mutators;
-        match below(&mut draw, 9) {
-            0..=2 => match collection(&mut draw) {
-                CollectorStep::Pause(budget) => pause(rt, alloc, &mut core, budget, tally)?,
-                step => {
-                    collect(&mut core, step);
-                }
-            },
-            3..=6 => {
-                for action in growth(&mut draw) {
-                    assert!(rt; act(&mut core, mutator, action).is_some());
-                }
-            }
-            _ => assert!(rt; act(&mut core, mutator, action(&mut draw)).is_some()),
-        }
+        turn(rt, alloc, &mut core, &mut draw, &mut cycle, tally)?;
     }
     Ok(())
 }
 
-/// 2,500 scripts. Many pauses copy something, also while marking runs, also what only fields name, also into more than one
-/// region; some update a field in a later region of a run; and many leave more than one card.
+impl Tally {
+    fn empty() -> Tally {
+        Tally {
+            scripts: 0,
+            pauses: 0,
+            copying: 0,
+            copying_while_marking: 0,
+            outside: 0,
+            deep: 0,
+            wide: 0,
+            later: 0,
+            ordered: 0,
+            copied: 0,
+            compared: 0,
+            remarks: 0,
+            cleared: 0,
+            touched: 0,
+            made: 0,
+            weak_steps: 0,
+        }
+    }
+
+    fn check_pauses(&self, rt: &impl Abort) {
+        assert!(rt;
+            self.copying > 600 && self.copying_while_marking > 300 && self.later > 2,
+            "{self:?}"
+        );
+        assert!(rt;
+            self.outside > 100 && self.deep > 50 && self.wide > 45,
+            "{self:?}"
+        );
+        assert!(rt;
+            self.ordered > 80 && self.copied > 1_200 && self.compared > 18_000,
+            "{self:?}"
+        );
+    }
+
+    fn check_weak(&self, rt: &impl Abort) {
+        assert!(rt;
+            self.remarks > 700 && self.cleared > 100 && self.touched > 25,
+            "{self:?}"
+        );
+        assert!(rt; self.made > 2_400 && self.weak_steps > 2_800, "{self:?}");
+    }
+}
+
+/// 400 scripts. Many pauses copy something, also while marking runs, also what only fields name, also into more than one
+/// region; some update a field in a later region of a run; and many leave more than one card. Weak slots are read and stored,
+/// some keep what they held, and many are cleared.
 #[test]
 fn pauses_are_plain_ones(rt: HostRuntime) -> Result<(), Fail> {
-    let mut tally = Tally {
-        scripts: 0,
-        pauses: 0,
-        copying: 0,
-        copying_while_marking: 0,
-        outside: 0,
-        deep: 0,
-        wide: 0,
-        later: 0,
-        ordered: 0,
-        copied: 0,
-        compared: 0,
-    };
-    for _ in 0..2_500 {
+    let mut tally = Tally::empty();
+    for _ in 0..400 {
         script(&rt, rt.alloc(), &mut tally)?;
         tally.scripts = more(tally.scripts, true);
     }
-    assert!(rt;
-        tally.copying > 3_700 && tally.copying_while_marking > 1_000 && tally.later > 25,
-        "{tally:?}"
-    );
-    assert!(rt;
-        tally.outside > 650 && tally.deep > 330 && tally.wide > 220,
-        "{tally:?}"
-    );
-    assert!(rt;
-        tally.ordered > 550 && tally.copied > 7_500 && tally.compared > 115_000,
-        "{tally:?}"
-    );
+    tally.check_weak(&rt);
+    tally.check_pauses(&rt);
     Ok(())
 }

@@ -243,3 +243,158 @@ fn noted(rt: HostRuntime) -> Result<(), Fail> {
     assert_eq!(rt; core.queued(), 4);
     Ok(())
 }
+
+/// An object is made, and this is its name.
+fn made(to: u8, counts: Counts, weaks: u8, name: u64) -> (Action, Reply)
+    requires { to < 8 }
+{
+    let action = Action::NewWeak {
+        to: register(to),
+        counts,
+        weaks,
+    };
+    (action, Reply::Named(Some(name)))
+}
+
+/// A weak slot in a register's object takes what another holds.
+fn put_in(object: u8, slot: u32, value: u8) -> (Action, Reply)
+    requires object { object < 8 }
+    requires value { value < 8 }
+{
+    let action = Action::PutWeak {
+        object: register(object),
+        slot,
+        value: Some(register(value)),
+    };
+    (action, Reply::Done)
+}
+
+/// r7 takes what a weak slot in a register's object holds.
+fn get_from(object: u8, slot: u32, name: Option<u64>) -> (Action, Reply)
+    requires { object < 8 }
+{
+    let action = Action::GetWeak {
+        to: register(7),
+        object: register(object),
+        slot,
+    };
+    (action, Reply::Named(name))
+}
+
+fn forget(number: u8) -> (Action, Reply)
+    requires { number < 8 }
+{
+    let register = register(number);
+    (Action::Drop { register }, Reply::Done)
+}
+
+/// Each action has its reply.
+fn check_acts(rt: &impl Abort, core: &mut Core, steps: &[(Action, Reply)]) {
+    for (action, reply) in steps {
+        check_act(rt, core, *action, *reply);
+    }
+}
+
+/// Marking begins and ends.
+fn check_cycle(rt: &impl Abort, core: &mut Core, marked: u32) {
+    check_collect(rt, core, CollectorStep::Begin, Reply::Done);
+    check_collect(rt, core, CollectorStep::Remark, Reply::Marked(marked));
+}
+
+fn check_cleanup(rt: &impl Abort, core: &mut Core, regions: u32) {
+    let reply = Reply::Reclaimed(regions);
+    check_collect(rt, core, CollectorStep::Cleanup, reply);
+}
+
+/// The object of r0 has 20 words, two regions to itself, and 17 weak slots. The first and the last one, which lies in the
+/// second region, hold the object of r1; the object of r2 has a weak slot that holds the object of r0.
+fn held_in_a_run(rt: &impl Abort, alloc: Global) -> Core {
+    let Ok(mut core) = Core::new(alloc, &WEAK) else {
+        panic!(rt; "a core");
+    };
+    let none = Counts {
+        pointers: 0,
+        values: 0,
+    };
+    let one = Counts {
+        pointers: 0,
+        values: 1,
+    };
+    let steps = [
+        made(0, one, 17, 0),
+        made(1, one, 0, 1),
+        made(2, none, 1, 2),
+        put_in(0, 0, 1),
+        put_in(0, 16, 1),
+        put_in(2, 0, 0),
+    ];
+    check_acts(rt, &mut core, &steps);
+    core
+}
+
+/// A run's weak slots are cleared in both of its regions, once what they hold is lost.
+#[test]
+fn cleared_in_a_run(rt: HostRuntime) -> Result<(), Fail> {
+    let mut core = held_in_a_run(&rt, rt.alloc());
+    check_cycle(&rt, &mut core, 3);
+    let kept = [get_from(0, 0, Some(1)), get_from(0, 16, Some(1))];
+    check_acts(&rt, &mut core, &kept);
+    check_acts(&rt, &mut core, &[forget(1), forget(7)]);
+    check_cycle(&rt, &mut core, 2);
+    let cleared = [get_from(0, 0, None), get_from(0, 16, None)];
+    check_acts(&rt, &mut core, &cleared);
+    check_acts(&rt, &mut core, &[get_from(2, 0, Some(0))]);
+    Ok(())
+}
+
+/// A pause copies what a run's weak slots hold, and they name the copy, also the one in its second region.
+#[test]
+fn moved_from_a_run(rt: HostRuntime) -> Result<(), Fail> {
+    let mut core = held_in_a_run(&rt, rt.alloc());
+    check_acts(&rt, &mut core, &[forget(1)]);
+    let moved = Reply::Moved {
+        regions: 1,
+        words: 6,
+    };
+    check_collect(&rt, &mut core, CollectorStep::Pause(100), moved);
+    let names = [get_from(0, 0, Some(1)), get_from(0, 16, Some(1))];
+    check_acts(&rt, &mut core, &names);
+    let read = Action::Read {
+        object: register(7),
+        field: 0,
+    };
+    check_acts(&rt, &mut core, &[(read, Reply::Word(0))]);
+    Ok(())
+}
+
+/// A run that a weak slot alone leads to is lost: the slot is cleared, and both of its regions are reclaimed and taken again.
+#[test]
+fn a_run_held_weakly(rt: HostRuntime) -> Result<(), Fail> {
+    let mut core = held_in_a_run(&rt, rt.alloc());
+    check_acts(&rt, &mut core, &[forget(0)]);
+    check_cycle(&rt, &mut core, 2);
+    check_acts(&rt, &mut core, &[get_from(2, 0, None)]);
+    check_cleanup(&rt, &mut core, 2);
+    let one = Counts {
+        pointers: 0,
+        values: 1,
+    };
+    let again = [made(0, one, 29, 3), get_from(0, 28, None)];
+    check_acts(&rt, &mut core, &again);
+    Ok(())
+}
+
+/// A run that was read from a weak slot while marking runs is kept through this cycle, and reclaimed in the next one.
+#[test]
+fn a_touched_run(rt: HostRuntime) -> Result<(), Fail> {
+    let mut core = held_in_a_run(&rt, rt.alloc());
+    check_acts(&rt, &mut core, &[forget(0)]);
+    check_collect(&rt, &mut core, CollectorStep::Begin, Reply::Done);
+    check_acts(&rt, &mut core, &[get_from(2, 0, Some(0)), forget(7)]);
+    check_collect(&rt, &mut core, CollectorStep::Remark, Reply::Marked(3));
+    check_cleanup(&rt, &mut core, 0);
+    check_cycle(&rt, &mut core, 2);
+    check_acts(&rt, &mut core, &[get_from(2, 0, None)]);
+    check_cleanup(&rt, &mut core, 2);
+    Ok(())
+}

@@ -38,7 +38,7 @@ fn stored(draw: &mut Lcg64Xsh32) -> Option<Register> {
 /// Four fields at most, and now and then so many that the last ones lie behind the first 16 words.
 fn pointers(draw: &mut Lcg64Xsh32) -> u32 {
     if below(draw, 14) == 0 {
-        15 + below(draw, 6)
+        16 + below(draw, 5)
     } else {
         below(draw, 5)
     }
@@ -51,6 +51,13 @@ fn counts(draw: &mut Lcg64Xsh32, pointers: u32) -> Counts {
         pointers,
         values: below(draw, most),
     }
+}
+
+/// One to four weak slots.
+fn weaks(draw: &mut Lcg64Xsh32) -> u8
+    ensures { 0 < result }
+{
+    1 + below(draw, 4) as u8
 }
 
 /// One of the first fields, or one of the last of an object that has many.
@@ -87,18 +94,48 @@ fn access(draw: &mut Lcg64Xsh32) -> Action {
     }
 }
 
+/// A step on a weak slot of an object: a reading, a store, or how many there are.
+fn weak_access(draw: &mut Lcg64Xsh32) -> Action {
+    let object = register(draw);
+    let slot = below(draw, 3);
+    match below(draw, 9) {
+        0 => Action::Weaks { object },
+        1..=4 => Action::GetWeak {
+            to: register(draw),
+            object,
+            slot,
+        },
+        _ => Action::PutWeak {
+            object,
+            slot,
+            value: stored(draw),
+        },
+    }
+}
+
+/// An object with so many pointers is made, each third time with weak slots.
+fn made(draw: &mut Lcg64Xsh32, to: Register, pointers: u32) -> Action {
+    let counts = counts(draw, pointers);
+    if below(draw, 3) == 0 {
+        Action::NewWeak {
+            to,
+            counts,
+            weaks: weaks(draw),
+        }
+    } else {
+        Action::New { to, counts }
+    }
+}
+
 fn new(draw: &mut Lcg64Xsh32) -> Action {
     let to = register(draw);
     let pointers = pointers(draw);
-    Action::New {
-        to,
-        counts: counts(draw, pointers),
-    }
+    made(draw, to, pointers)
 }
 
 /// An action of a mutator.
 pub(crate) fn action(draw: &mut Lcg64Xsh32) -> Action {
-    match below(draw, 20) {
+    match below(draw, 26) {
         0..=5 => new(draw),
         6 => Action::Move {
             to: register(draw),
@@ -115,30 +152,80 @@ pub(crate) fn action(draw: &mut Lcg64Xsh32) -> Action {
             to: global(draw),
             from: register(draw),
         },
+        10..=15 => weak_access(draw),
         _ => access(draw),
     }
 }
 
-/// An object is made, one of its fields takes what a register holds, and a register's object takes the new one.
+/// A field or a weak slot of a register's object takes what another holds.
+fn linked(draw: &mut Lcg64Xsh32, value: Register) -> Action {
+    let object = register(draw);
+    if below(draw, 3) == 0 {
+        Action::PutWeak {
+            object,
+            slot: below(draw, 2),
+            value: Some(value),
+        }
+    } else {
+        Action::Put {
+            object,
+            field: field(draw),
+            value: Some(value),
+        }
+    }
+}
+
+/// An object is made, one of its fields takes what a register holds, and a register's object takes the new one, also into a weak
+/// slot.
 pub(crate) fn growth(draw: &mut Lcg64Xsh32) -> [Action; 3] {
     let to = register(draw);
     let pointers = pointers(draw).max(1);
-    let made = Action::New {
-        to,
-        counts: counts(draw, pointers),
-    };
-    let last = below(draw, pointers.min(4));
+    let made = made(draw, to, pointers);
+    let last = below(draw, pointers.min(2));
     let first = Action::Put {
         object: to,
         field: pointers.saturating_sub(1 + last),
         value: Some(register(draw)),
     };
-    let second = Action::Put {
-        object: register(draw),
-        field: field(draw),
-        value: Some(to),
+    [made, first, linked(draw, to)]
+}
+
+/// An object is made with weak slots, one of them takes what a register holds, and the register takes the object.
+pub(crate) fn weak_growth(draw: &mut Lcg64Xsh32) -> [Action; 3] {
+    let holder = register(draw);
+    let held = register(draw);
+    let pointers = pointers(draw);
+    let made = Action::NewWeak {
+        to: holder,
+        counts: counts(draw, pointers),
+        weaks: weaks(draw),
     };
-    [made, first, second]
+    let stored = Action::PutWeak {
+        object: holder,
+        slot: 0,
+        value: Some(held),
+    };
+    let moved = Action::Move {
+        to: held,
+        from: holder,
+    };
+    [made, stored, moved]
+}
+
+/// A reading of one of the first weak slots.
+fn weak_reading(draw: &mut Lcg64Xsh32) -> Action {
+    Action::GetWeak {
+        to: register(draw),
+        object: register(draw),
+        slot: below(draw, 2),
+    }
+}
+
+/// Some readings of weak slots.
+pub(crate) fn weak_readings(draw: &mut Lcg64Xsh32) -> [Action; 3] {
+    let first = weak_reading(draw);
+    let second = weak_reading(draw);
+    [first, second, weak_reading(draw)]
 }
 
 /// Nothing, a few words, many, or more than any heap has.

@@ -9,17 +9,38 @@ use regions::{Kind, Shape};
 use std::alloc::{AllocError, Global};
 
 /// How many fields an object of a drawn heap has at most.
-pub(crate) const FIELDS: usize = 20;
+pub(crate) const FIELDS: usize = 24;
 
-/// An object where it stands, and what its fields name. The fields that it hasn't name nothing.
+/// An object where it stands, and what its fields name: its pointers, and its weak slots behind them. The fields that it
+/// hasn't name nothing.
 #[derive(Clone, Copy, Debug, PartialEq, Eq)]
 pub(crate) struct Seen {
     pub(crate) at: u32,
     pub(crate) size: u32,
     pub(crate) name: u64,
+    pub(crate) pointers: u32,
+    pub(crate) weaks: u32,
     /// Whether it starts at or above its region's previous top at mark start, or is marked.
     pub(crate) kept: bool,
     pub(crate) fields: [Option<u32>; FIELDS],
+}
+
+impl Seen {
+    /// What a field names, None behind the last one.
+    pub(crate) fn field(&self, number: u32) -> Option<u32> {
+        if (number as usize) < FIELDS {
+            self.fields[number as usize]
+        } else {
+            None
+        }
+    }
+
+    /// A field takes what it is to name.
+    pub(crate) fn set_field(&mut self, number: u32, word: Option<u32>) {
+        if (number as usize) < FIELDS {
+            self.fields[number as usize] = word;
+        }
+    }
 }
 
 /// What a region is, its top, and its tops at mark start.
@@ -44,6 +65,22 @@ pub(crate) struct Sight {
     pub(crate) roots: Vec<Option<u32>>,
 }
 
+impl Sight {
+    /// The object that a word names.
+    pub(crate) fn object(&self, word: Option<u32>) -> Option<Seen> {
+        let at = word?;
+        self.objects.iter().find(|object| object.at == at).copied()
+    }
+
+    /// What a root place holds.
+    pub(crate) fn root(&self, place: usize) -> Option<u32> {
+        match self.roots.get(place) {
+            Some(word) => *word,
+            None => None,
+        }
+    }
+}
+
 /// What a field of the object at an address names, None behind its last field.
 fn field_of(core: &Core, at: Addr, field: u32) -> Option<u32>
     requires { IsSome (object_at core.now.table at) }
@@ -60,7 +97,8 @@ fn fields_of(core: &Core, at: Addr) -> [Option<u32>; FIELDS]
     requires { IsSome (object_at core.now.table at) }
 {
     let mut fields = [None; FIELDS];
-    for number in 0..FIELDS {
+    let count = core.table.field_count(at) as usize;
+    for number in 0..FIELDS.min(count) {
         fields[number] = field_of(core, at, number as u32);
     }
     fields
@@ -76,6 +114,8 @@ fn object_seen(core: &Core, at: Addr, previous: u32) -> Seen
         at: at.word(),
         size: core.table.object_size(at),
         name: core.table.name(at),
+        pointers: core.table.pointer_count(at),
+        weaks: core.table.weak_count(at),
         kept: marked || at.word() >= previous,
         fields: fields_of(core, at),
     }
@@ -104,6 +144,14 @@ fn word_seen(core: &Core, word: u32, previous: u32) -> Option<Seen> {
     tile_seen(core, at, previous)
 }
 
+/// The object that a root place names.
+pub(crate) fn named(core: &Core, place: usize) -> Option<Seen> {
+    match core.roots.get(place) {
+        Some(Some(at)) => word_seen(core, at.word(), 0),
+        _ => None,
+    }
+}
+
 /// The region of this number.
 fn space_seen(core: &Core, number: u32) -> Space
     requires { number < core.now.config.regions }
@@ -118,7 +166,7 @@ fn space_seen(core: &Core, number: u32) -> Space
     }
 }
 
-/// The heap as it stands, word by word.
+/// The heap as it stands, word by word. The words inside an object that was seen are skipped.
 pub(crate) fn look(alloc: Global, core: &Core) -> Result<Sight, AllocError> {
     let words = core.config().words;
     let mut spaces = Vec::new(alloc);
@@ -126,8 +174,13 @@ pub(crate) fn look(alloc: Global, core: &Core) -> Result<Sight, AllocError> {
     for number in 0..core.config().regions {
         let space = space_seen(core, number);
         spaces.push(space)?;
+        let mut end = 0u32;
         for word in number.saturating_mul(words)..space.top {
+            if word < end {
+                continue;
+            }
             if let Some(object) = word_seen(core, word, space.previous) {
+                end = word.saturating_add(object.size);
                 objects.push(object)?;
             }
         }
