@@ -7,7 +7,7 @@ ghost use Rattle.refinement.specs.Samples.{IsSample};
 ghost use Rattle.evacuation.specs.Samples.{alone, by_weak_slot, itself};
 
 use crate::visited::flag_visited;
-use crate::{PauseRoom, evacuate};
+use crate::{Moved, PauseRoom, evacuate};
 use cards::CardTable;
 use heap_words::addr::{Addr, Card, Ptr, RegionNo};
 use heap_words::bounded::BoundedBits;
@@ -142,15 +142,26 @@ fn field(table: &RegionTable, word: Addr, index: u32) -> Ptr
     }
 }
 
-/// The object is copied once, with its weak slot, to the lowest free region, and the root and the copy's fields name the copy.
-#[test]
-fn copies_what_names_itself(rt: HostRuntime) -> Result<(), Fail> {
-    let mut table = names_itself(rt.alloc())?;
-    let mut tams = Tams::new(rt.alloc(), 4, 16)?;
-    let mut bitmaps = Bitmaps::new(rt.alloc(), 64)?;
-    let mut cards = CardTable::new(rt.alloc(), 8, 1)?;
-    let mut sets = RememberedSets::new(rt.alloc(), 4, 2)?;
-    let mut room = PauseRoom::new(rt.alloc(), 4, 8)?;
+/// What a pause leaves of a heap with one root.
+#[derive(Drop)]
+struct Paused {
+    table: RegionTable,
+    moved: Moved,
+    root: Ptr,
+    queued: u32,
+}
+
+/// A pause that evacuates the region of the object that names itself.
+fn pause_itself(alloc: Global) -> Result<Paused, Fail>
+    ensures count { IfOk result (λ paused. length paused.table.regions ≡ 4) }
+    ensures words { IfOk result (λ paused. paused.table.words_per_region ≡ 16) }
+{
+    let mut table = names_itself(alloc)?;
+    let mut tams = Tams::new(alloc, 4, 16)?;
+    let mut bitmaps = Bitmaps::new(alloc, 64)?;
+    let mut cards = CardTable::new(alloc, 8, 1)?;
+    let mut sets = RememberedSets::new(alloc, 4, 2)?;
+    let mut room = PauseRoom::new(alloc, 4, 8)?;
     let mut roots = [Some(Addr::new(0))];
     let rows = [LiveRow {
         region: RegionNo::new(0),
@@ -167,28 +178,28 @@ fn copies_what_names_itself(rt: HostRuntime) -> Result<(), Fail> {
         &rows,
         8,
     );
-    let place = Addr::new(16);
-    assert_eq!(rt; (moved.regions, moved.words), (1, 4));
-    assert_eq!(rt; roots[0], Some(place));
-    assert_eq!(rt; (table.free_count(), cards.queued()), (3, 0));
-    let last = Addr::new(19);
-    assert_eq!(rt; table.first_tile(last), Some(place));
-    assert_eq!(rt; field(&table, last, 0), Some(place));
-    assert_eq!(rt; field(&table, last, 1), Some(place));
-    Ok(())
+    let root = roots[0];
+    let queued = cards.queued();
+    Ok(Paused {
+        table,
+        moved,
+        root,
+        queued,
+    })
 }
 
-/// A pause keeps what a weak slot outside the set names, though nothing else does. The slot names the copy afterwards, and its
-/// card is dirty.
-#[test]
-fn updates_a_weak_slot_outside(rt: HostRuntime) -> Result<(), Fail> {
-    let mut table = held_weakly(rt.alloc())?;
-    let mut tams = Tams::new(rt.alloc(), 4, 16)?;
-    let mut bitmaps = Bitmaps::new(rt.alloc(), 64)?;
-    let mut cards = CardTable::new(rt.alloc(), 8, 1)?;
-    let mut sets = RememberedSets::new(rt.alloc(), 4, 2)?;
+/// A pause that evacuates the region of the object that a weak slot alone names.
+fn pause_held(alloc: Global) -> Result<Paused, Fail>
+    ensures count { IfOk result (λ paused. length paused.table.regions ≡ 4) }
+    ensures words { IfOk result (λ paused. paused.table.words_per_region ≡ 16) }
+{
+    let mut table = held_weakly(alloc)?;
+    let mut tams = Tams::new(alloc, 4, 16)?;
+    let mut bitmaps = Bitmaps::new(alloc, 64)?;
+    let mut cards = CardTable::new(alloc, 8, 1)?;
+    let mut sets = RememberedSets::new(alloc, 4, 2)?;
     sets.add(RegionNo::new(1), Card::new(0));
-    let mut room = PauseRoom::new(rt.alloc(), 4, 8)?;
+    let mut room = PauseRoom::new(alloc, 4, 8)?;
     let mut roots = [Some(Addr::new(0))];
     let rows = [LiveRow {
         region: RegionNo::new(1),
@@ -205,12 +216,42 @@ fn updates_a_weak_slot_outside(rt: HostRuntime) -> Result<(), Fail> {
         &rows,
         8,
     );
+    let root = roots[0];
+    let queued = cards.queued();
+    Ok(Paused {
+        table,
+        moved,
+        root,
+        queued,
+    })
+}
+
+/// The object is copied once, with its weak slot, to the lowest free region, and the root and the copy's fields name the copy.
+#[test]
+fn copies_what_names_itself(rt: HostRuntime) -> Result<(), Fail> {
+    let paused = pause_itself(rt.alloc())?;
+    let place = Addr::new(16);
+    assert_eq!(rt; (paused.moved.regions, paused.moved.words), (1, 4));
+    assert_eq!(rt; paused.root, Some(place));
+    assert_eq!(rt; (paused.table.free_count(), paused.queued), (3, 0));
+    let last = Addr::new(19);
+    assert_eq!(rt; paused.table.first_tile(last), Some(place));
+    assert_eq!(rt; field(&paused.table, last, 0), Some(place));
+    assert_eq!(rt; field(&paused.table, last, 1), Some(place));
+    Ok(())
+}
+
+/// A pause keeps what a weak slot outside the set names, though nothing else does. The slot names the copy afterwards, and its
+/// card is dirty.
+#[test]
+fn updates_a_weak_slot_outside(rt: HostRuntime) -> Result<(), Fail> {
+    let paused = pause_held(rt.alloc())?;
     let place = Addr::new(32);
-    assert_eq!(rt; (moved.regions, moved.words), (1, 2));
-    assert_eq!(rt; (table.free_count(), cards.queued()), (2, 1));
+    assert_eq!(rt; (paused.moved.regions, paused.moved.words), (1, 2));
+    assert_eq!(rt; (paused.table.free_count(), paused.queued), (2, 1));
     let last = Addr::new(33);
-    assert_eq!(rt; table.first_tile(last), Some(place));
+    assert_eq!(rt; paused.table.first_tile(last), Some(place));
     let holder = Addr::new(0);
-    assert_eq!(rt; field(&table, holder, 0), Some(place));
+    assert_eq!(rt; field(&paused.table, holder, 0), Some(place));
     Ok(())
 }

@@ -1,38 +1,11 @@
-use Rattle.std.proofs.Common.{◌≡◌, ◌∙◌, ℕ, length, Some, [], ◌∷◌, arith, refl, sym, ap, subst}
-use Rattle.remembered_sets.specs.Sets.{card_count, empty_sets}
-use Rattle.regions.specs.Table.{Table}
-use Rattle.evacuation.specs.Rooms.{RoomSizes}
-use Rattle.evacuation.specs.Evacuates.{Layers, CanEvacuate}
-use Rattle.evacuation.specs.Samples.{IsFresh, itself}
-use Rattle.evacuation.proofs.Samples.{can_evacuate, itself_suited, word_there}
+use Rattle.std.proofs.Common.{arith}
 use Rattle.evacuation.proofs.tests.copies_what_names_itself.Goals as goal
 
-pub evacuate-moved-requires-clause-can : goal.evacuate-moved-requires-clause-can
-evacuate-moved-requires-clause-can g c =
-    let h : Layers = record { table = c.in_ok-table.table; tams = c.in_ok-tams.tams; previous = c.in_ok-bitmaps.bitmaps.previous; next = c.in_ok-bitmaps.bitmaps.next; cards = c.in_ok-cards.cards; sets = c.in_ok-sets.sets; roots = Some c.new-6.result ∷ [] } in
-    let fresh : IsFresh itself (empty_sets 4 2) h = record {
-      table_is = c.in_ok-table.ensures;
-      previous_tops = c.in_ok-tams.ensures.previous;
-      next_tops = c.in_ok-tams.ensures.next;
-      previous = c.in_ok-bitmaps.ensures.previous;
-      next = c.in_ok-bitmaps.ensures.next;
-      cards = c.in_ok-cards.ensures;
-      sets_are = c.in_ok-sets.ensures;
-      roots = ap (λ (n : ℕ). Some n ∷ []) c.new-6.ensures;
-    } in
-    subst (λ (n : ℕ). CanEvacuate h (record { region = n; live_bound = 4 } ∷ []) 8) (sym c.new-7.ensures) (can_evacuate itself (empty_sets 4 2) (record { region = 0; live_bound = 4 }) itself_suited h fresh)
-
-pub evacuate-moved-requires-clause-each_region : goal.evacuate-moved-requires-clause-each_region
-evacuate-moved-requires-clause-each_region g c = ap (λ (r : RoomSizes). r.regions) c.in_ok-room.ensures ∙ sym (ap (λ (t : Table). length t.regions) c.in_ok-table.ensures)
-
-pub evacuate-moved-requires-clause-each_card : goal.evacuate-moved-requires-clause-each_card
-evacuate-moved-requires-clause-each_card g c = ap (λ (r : RoomSizes). r.cards) c.in_ok-room.ensures ∙ sym (ap card_count c.in_ok-sets.ensures)
-
 pub first_tile-requires : goal.first_tile-requires
-first_tile-requires g c = word_there _ _ _ itself _ 19 c.evacuate-moved.ensures.evacuated.regions c.in_ok-table.ensures refl refl c.new-last.ensures (omega arith)
+first_tile-requires g c = rw (c.in_ok-paused.ensures.count, c.in_ok-paused.ensures.words, c.new-last.ensures) (omega arith)
 
 pub field-requires : goal.field-requires
-field-requires g c = word_there _ _ _ itself _ 19 c.evacuate-moved.ensures.evacuated.regions c.in_ok-table.ensures refl refl c.new-last.ensures (omega arith)
+field-requires g c = rw (c.in_ok-paused.ensures.count, c.in_ok-paused.ensures.words, c.new-last.ensures) (omega arith)
 
 pub field-requires-2 : goal.field-requires-2
-field-requires-2 g c = word_there _ _ _ itself _ 19 c.evacuate-moved.ensures.evacuated.regions c.in_ok-table.ensures refl refl c.new-last.ensures (omega arith)
+field-requires-2 g c = rw (c.in_ok-paused.ensures.count, c.in_ok-paused.ensures.words, c.new-last.ensures) (omega arith)

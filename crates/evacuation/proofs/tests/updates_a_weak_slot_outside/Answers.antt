@@ -1,35 +1,8 @@
-use Rattle.std.proofs.Common.{◌≡◌, ◌∙◌, ℕ, Some, [], ◌∷◌, arith, length, refl, sym, ap, subst}
-use Rattle.remembered_sets.specs.Sets.{Sets, added, card_count, empty_sets}
-use Rattle.regions.specs.Table.{Table}
-use Rattle.evacuation.specs.Rooms.{RoomSizes}
-use Rattle.evacuation.specs.Evacuates.{Layers, CanEvacuate}
-use Rattle.evacuation.specs.Samples.{IsFresh, by_weak_slot}
-use Rattle.evacuation.proofs.Samples.{can_evacuate, one_card, weak_suited, word_there}
+use Rattle.std.proofs.Common.{arith}
 use Rattle.evacuation.proofs.tests.updates_a_weak_slot_outside.Goals as goal
 
-pub evacuate-moved-requires-clause-can : goal.evacuate-moved-requires-clause-can
-evacuate-moved-requires-clause-can g c =
-    let h : Layers = record { table = c.in_ok-table.table; tams = c.in_ok-tams.tams; previous = c.in_ok-bitmaps.bitmaps.previous; next = c.in_ok-bitmaps.bitmaps.next; cards = c.in_ok-cards.cards; sets = c.add.new.self; roots = Some c.new-8.result ∷ [] } in
-    let fresh : IsFresh by_weak_slot one_card h = record {
-      table_is = c.in_ok-table.ensures;
-      previous_tops = c.in_ok-tams.ensures.previous;
-      next_tops = c.in_ok-tams.ensures.next;
-      previous = c.in_ok-bitmaps.ensures.previous;
-      next = c.in_ok-bitmaps.ensures.next;
-      cards = c.in_ok-cards.ensures;
-      sets_are = c.add.ensures.after ∙ ap (λ (s : Sets). added s c.new-6.result c.new-7.result) c.in_ok-sets.ensures ∙ ap (λ (n : ℕ). added (empty_sets 4 2) n c.new-7.result) c.new-6.ensures ∙ ap (λ (n : ℕ). added (empty_sets 4 2) 1 n) c.new-7.ensures;
-      roots = ap (λ (n : ℕ). Some n ∷ []) c.new-8.ensures;
-    } in
-    subst (λ (n : ℕ). CanEvacuate h (record { region = n; live_bound = 2 } ∷ []) 8) (sym c.new-9.ensures) (can_evacuate by_weak_slot one_card (record { region = 1; live_bound = 2 }) weak_suited h fresh)
-
-pub evacuate-moved-requires-clause-each_region : goal.evacuate-moved-requires-clause-each_region
-evacuate-moved-requires-clause-each_region g c = ap (λ (r : RoomSizes). r.regions) c.in_ok-room.ensures ∙ sym (ap (λ (t : Table). length t.regions) c.in_ok-table.ensures)
-
-pub evacuate-moved-requires-clause-each_card : goal.evacuate-moved-requires-clause-each_card
-evacuate-moved-requires-clause-each_card g c = ap (λ (r : RoomSizes). r.cards) c.in_ok-room.ensures ∙ sym (ap card_count (c.add.ensures.after ∙ ap (λ (s : Sets). added s c.new-6.result c.new-7.result) c.in_ok-sets.ensures ∙ ap (λ (n : ℕ). added (empty_sets 4 2) n c.new-7.result) c.new-6.ensures ∙ ap (λ (n : ℕ). added (empty_sets 4 2) 1 n) c.new-7.ensures))
-
 pub first_tile-requires : goal.first_tile-requires
-first_tile-requires g c = word_there _ _ _ by_weak_slot _ 33 c.evacuate-moved.ensures.evacuated.regions c.in_ok-table.ensures refl refl c.new-last.ensures (omega arith)
+first_tile-requires g c = rw (c.in_ok-paused.ensures.count, c.in_ok-paused.ensures.words, c.new-last.ensures) (omega arith)
 
 pub field-requires : goal.field-requires
-field-requires g c = word_there _ _ _ by_weak_slot _ 0 c.evacuate-moved.ensures.evacuated.regions c.in_ok-table.ensures refl refl c.new-holder.ensures (omega arith)
+field-requires g c = rw (c.in_ok-paused.ensures.count, c.in_ok-paused.ensures.words, c.new-holder.ensures) (omega arith)
