@@ -43,6 +43,7 @@ use object_graph::Register;
 impl Core {
     /// A value is about to be stored in a pointer or a weak slot: the field's card becomes dirty if the value leads into another
     /// region than the field's word lies in.
+    #[inline(always)]
     fn note(&mut self, mutator: u32, object: Addr, field: u32, target: &Ptr)
         requires known { mutator < self.old.config.mutators }
         requires rooted { IsRoot (heap_of self.old) object }

@@ -1,5 +1,5 @@
 -- A step of the collector as one of the state's.
-use Rattle.std.proofs.Common.{◌≡◌, ℕ, Bool, true, false, Option, Some, None, refl, sym, ◌∙◌, ap, subst}
+use Rattle.std.proofs.Common.{◌≡◌, ℕ, true, false, Option, Some, None, refl, sym, ◌∙◌, ap, subst}
 use Rattle.heap_model.specs.Graph.{Graph}
 use Rattle.object_graph.specs.State.{State}
 use Rattle.object_graph.specs.Run.{IsCollectorReply, Collects, ClearsBy}

@@ -2,7 +2,7 @@
 use Rattle.std.proofs.Common.{◌≡◌, ℕ, ◌<◌, ◌≤◌, ◌⊎◌, Option, Some, None, List, refl, sym, ◌∙◌, ap, subst, inl, inr}
 use Rattle.std.specs.Prelude.{slice_get}
 use Rattle.std.specs.List.{AllZip}
-use Rattle.heap_model.specs.Graph.{Graph, Object, IsReachable, FromRoot, IsSound, next_name, object_named, object_fields, with_root, with_changed}
+use Rattle.heap_model.specs.Graph.{Graph, Object, IsReachable, FromRoot, IsSound, next_name, object_named, with_root, with_changed}
 use Rattle.heap_model.specs.Heap.{Stored, IsShown, IsRoot}
 use Rattle.heap_model.specs.Marking.{KeepsSnapshot}
 use Rattle.heap_model.proofs.Lists.{AllZip-get_right, get-append_cases}

@@ -1,5 +1,5 @@
 -- Marking begins and goes on in a core: k is the core by its fields before the step.
-use Rattle.std.proofs.Common.{◌≡◌, ℕ, zero, suc, ◌+◌, ◌<◌, ◌≤◌, true, false, List, [], ◌∷◌, None, length, refl, sym, ◌∙◌, ap, subst, arith}
+use Rattle.std.proofs.Common.{◌≡◌, ℕ, ◌+◌, ◌<◌, ◌≤◌, true, List, None, length, refl, sym, ◌∙◌, ap, subst, arith}
 use Rattle.std.specs.Prelude.{slice_index}
 use Rattle.std.proofs.lemmas.List.{length-replicate}
 use Rattle.heap_model.specs.Graph.{Graph}
@@ -11,7 +11,6 @@ use Rattle.regions.specs.Table.{Table, top_of}
 use Rattle.alloc_buffers.specs.Placement.{Buffers, BuffersStand, AreAbove, retired}
 use Rattle.mark_bitmap.specs.Marks.{marked_count, HasNone}
 use Rattle.mark_bitmap.specs.Grey.{is_grey}
-use Rattle.satb_log.specs.Logs.{log_of}
 use Rattle.marker.specs.Views as views
 use Rattle.marker.specs.Stands.{MarkerStands}
 use Rattle.marker.specs.Steps.{SameRoles, KeepsSnapshots, Grows}

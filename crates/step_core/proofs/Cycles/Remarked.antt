@@ -1,16 +1,16 @@
 -- Marking ends in a core, and weak slots are cleared: k is the core by its fields before that.
-use Rattle.std.proofs.Common.{◌≡◌, ℕ, zero, suc, ◌+◌, ◌<◌, ◌≤◌, ◌⊎◌, Bool, true, false, List, [], ◌∷◌, ◌++◌, Option, Some, None, length, map, refl, sym, ◌∙◌, ap, subst, arith, inl, inr}
+use Rattle.std.proofs.Common.{◌≡◌, ℕ, zero, suc, ◌+◌, ◌≤◌, ◌⊎◌, Bool, true, false, List, [], ◌∷◌, ◌++◌, Option, Some, None, length, map, refl, sym, ◌∙◌, ap, subst, arith, inl, inr}
 use Rattle.std.specs.Prelude.{slice_get, slice_index, if◌then◌else◌}
 use Rattle.std.proofs.lemmas.List.{length-map}
-use Rattle.heap_model.specs.Graph.{Graph, next_name}
+use Rattle.heap_model.specs.Graph.{Graph}
 use Rattle.heap_model.specs.Heap.{Stored, fields}
 use Rattle.heap_model.specs.Marking.{Marking}
-use Rattle.heap_model.specs.Weak.{Clears, ClearsObject, cleared, cleared_object, cleared_word}
+use Rattle.heap_model.specs.Weak.{ClearsObject, cleared, cleared_object, cleared_word}
 use Rattle.heap_model.proofs.Lists.{AllZip_length}
 use Rattle.heap_model.proofs.Names.{bool_cases}
 use Rattle.heap_model.proofs.Unreached.{unreached_begins, cleared_sound}
-use Rattle.regions.specs.Tiles.{Filler, Object, tile_size}
-use Rattle.regions.specs.Table.{Table, object_at, object_words, tile_in}
+use Rattle.regions.specs.Tiles.{Object, tile_size}
+use Rattle.regions.specs.Table.{Table, object_at, object_words}
 use Rattle.alloc_buffers.specs.Placement.{Buffers, BuffersStand, AreAbove, IsAbove}
 use Rattle.mark_bitmap.specs.Marks.{is_marked, marked_count}
 use Rattle.mark_bitmap.specs.Tops.{exchanged}
@@ -30,7 +30,7 @@ use Rattle.step_core.specs.Stands.{CoreState, kept_of, RemembersFields, ShowsGra
 use Rattle.step_core.specs.Cycle.{HasRemarked, ShowsCleared}
 use Rattle.step_core.proofs.Cores.Added.{stand_same, object_none}
 use Rattle.step_core.proofs.Mutating.Reading.{object_kept}
-use Rattle.step_core.proofs.Mutating.Small.{halves_same, ends_same, words_by, words_are, words_none}
+use Rattle.step_core.proofs.Mutating.Small.{halves_same, ends_same, words_are, words_none}
 
 -- logs that hold nothing together are empty
 none_in : (ls : List (List ℕ)) (n : ℕ) → logged ls ≡ [] → length (log_of ls n) ≡ 0

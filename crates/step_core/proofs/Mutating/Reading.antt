@@ -3,7 +3,7 @@ use Rattle.std.proofs.Common.{◌≡◌, ℕ, zero, suc, ◌<◌, ◌≤◌, Opt
 use Rattle.std.specs.Prelude.{slice_get, IsSome}
 use Rattle.std.specs.List.{AllZip}
 use Rattle.std.proofs.lemmas.Option.{slice_get-get_or}
-use Rattle.heap_model.specs.Graph.{Graph, Object}
+use Rattle.heap_model.specs.Graph.{Graph}
 use Rattle.heap_model.specs.Heap.{Heap, Stored, IsShown, IsRoot, IsHeld, fields}
 use Rattle.heap_model.proofs.Lists.{AllZip-get}
 use Rattle.heap_model.proofs.Changed.{root_read, at_least, named_at}

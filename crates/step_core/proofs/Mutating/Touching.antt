@@ -1,9 +1,9 @@
 -- A register takes what was read from a weak slot, which is saved while marking runs: k is the core by its fields, c the same by its value.
-use Rattle.std.proofs.Common.{◌≡◌, ℕ, ◌+◌, ◌*◌, ◌<◌, ◌≤◌, Bool, true, false, List, Option, Some, None, length, refl, sym, ◌∙◌, ap, subst, arith}
+use Rattle.std.proofs.Common.{◌≡◌, ℕ, ◌<◌, ◌≤◌, Bool, true, false, Option, Some, length, refl, sym, ◌∙◌, ap, subst, arith}
 use Rattle.std.specs.Prelude.{◌==◌, slice_set}
 use Rattle.std.proofs.lemmas.List.{length-set}
 use Rattle.heap_model.specs.Graph.{Graph, next_name, with_root}
-use Rattle.heap_model.specs.Heap.{Heap, Stored, IsShown, RootSet}
+use Rattle.heap_model.specs.Heap.{Heap, IsShown, RootSet}
 use Rattle.heap_model.specs.Marking.{IsSaved}
 use Rattle.heap_model.specs.Weak.{touched, KeepsUnreached}
 use Rattle.heap_model.proofs.Changed.{root_set_shows}

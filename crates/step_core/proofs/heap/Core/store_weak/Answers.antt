@@ -1,4 +1,4 @@
-use Rattle.std.proofs.Common.{◌∙◌, ◌+◌, ◌<◌, ℕ, length, ap, arith, subst, sym}
+use Rattle.std.proofs.Common.{◌∙◌, ◌+◌, ◌<◌, ℕ, length, arith, subst, sym}
 use Rattle.heap_model.specs.Heap.{IsRoot}
 use Rattle.regions.specs.Table.{fields_at}
 use Rattle.step_core.specs.Stands.{CoreState, heap_of}
