@@ -1,9 +1,7 @@
 -- How the tests make their tables.
 use Rattle.std.proofs.Common.{◌≡◌, ℕ, ◌+◌, ◌-◌, ◌<◌, ◌≤◌, [], ◌∷◌, Option, Some, None, length, refl, arith}
-use Rattle.heap_model.specs.Heap.{Stored}
 use Rattle.regions.specs.Tiles.{Object, Filler}
 use Rattle.regions.specs.Table.{Table, Free, Ordinary, fields_at, first_free, weaks_at, kind_of, object_at, put_object, push_tile, region_at, nth_region, replace_tile, set_field, set_weak, taken, tile_in, used_of, new_object, remainder}
-use Rattle.regions.specs.declared.row.Kind.TheVariants as kinds
 use Rattle.regions.proofs.Samples.{filled1, IsUsable}
 use Rattle.evacuation.specs.Samples.{alone, by_weak_slot, held, holder, itself, sample_of}
 

@@ -1,5 +1,5 @@
 -- The heaps that the tests evacuate.
-use Rattle.std.proofs.Common.{◌≡◌, ◌∙◌, ℕ, zero, suc, ◌+◌, ◌-◌, ◌*◌, ◌/◌, ◌%◌, ◌<◌, ◌≤◌, ◌⊎◌, Bool, true, false, List, [], ◌∷◌, Option, Some, None, length, get_or, refl, sym, ap, subst, inl, inr, arith}
+use Rattle.std.proofs.Common.{◌≡◌, ◌∙◌, ℕ, zero, suc, ◌-◌, ◌*◌, ◌/◌, ◌%◌, ◌<◌, ◌≤◌, ◌⊎◌, Bool, true, false, List, [], ◌∷◌, Option, Some, None, length, get_or, refl, sym, ap, subst, inl, inr, arith}
 use Rattle.std.specs.Prelude.{All, IfSome, IsSome, slice_get, nat_le, if◌then◌else◌}
 use Rattle.std.proofs.lemmas.List.{length-replicate}
 use Rattle.heap_model.specs.Heap.{Stored, fields}

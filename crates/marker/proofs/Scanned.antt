@@ -1,9 +1,8 @@
 -- A scan is a part of marking that keeps the snapshot invariant.
-use Rattle.std.proofs.Common.{inl, inr, ◌≡◌, ℕ, ◌-◌, ◌^◌, ◌<◌, Bool, true, false, not, List, Option, Some, length, set, refl, sym, ap, ◌∙◌, subst, arith, length-set}
+use Rattle.std.proofs.Common.{inl, inr, ◌≡◌, ℕ, ◌<◌, Bool, true, false, not, List, Option, Some, length, set, refl, sym, ap, ◌∙◌, subst, arith, length-set}
 use Rattle.std.specs.Prelude.{Contains, slice_get, ◌&&◌}
 use Rattle.std.proofs.lemmas.Bool.{cases_lt}
 use Rattle.std.proofs.lemmas.List.{get_or_past}
-use Rattle.std.proofs.lemmas.List.Sums.{count_by-le-length}
 use Rattle.std.proofs.lemmas.Option.{slice_get_within}
 use Rattle.heap_model.specs.Graph.{IsReachable, next_name}
 use Rattle.heap_model.specs.Heap.{Heap}
@@ -11,7 +10,6 @@ use Rattle.heap_model.specs.Marking.{KeepsSnapshot, MarksMore}
 use Rattle.heap_model.proofs.Marks.{marks_more}
 use Rattle.heap_model.proofs.Lists.{get-append_left}
 use Rattle.regions.specs.Table.{Table, pointers_at}
-use Rattle.regions.specs.Shaped.{IsShaped}
 use Rattle.mark_bitmap.specs.Marks.{is_marked, marked_count}
 use Rattle.mark_bitmap.specs.Tops.{Tops, below_next}
 use Rattle.mark_bitmap.specs.Grey.{Scans, HasFingers, is_grey}

@@ -9,7 +9,7 @@ use Rattle.remembered_sets.specs.Sets.{Sets, covers, card_count}
 use Rattle.refinement.specs.Remembering.{field_word, field_card, IsCrossing}
 use Rattle.refinement.specs.Refining.{AddsCard, IsScanned, FieldsInside, SetsFit, with_field}
 use Rattle.regions.proofs.Words.Divides.{card_within, div_is, div_low, div_high}
-use Rattle.refinement.proofs.Entered.{adds_none, adds_more, adds_sets, field_adds, field_grows}
+use Rattle.refinement.proofs.Entered.{adds_more, adds_sets, field_adds, field_grows}
 use Rattle.refinement.proofs.Holders.{field_at, fields_of}
 
 -- the fields of an object from one on up to another are done

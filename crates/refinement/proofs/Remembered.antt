@@ -1,16 +1,14 @@
 -- How remembering goes over from one state of the heap to the next.
-use Rattle.std.proofs.Common.{inl, inr, ◌≡◌, ◌≢◌, ◌⊎◌, ℕ, zero, suc, ◌+◌, ◌*◌, ◌/◌, ◌<◌, Bool, true, false, Option, Some, None, List, [], ◌∷◌, ◌++◌, map, length, set, ⊎_elim, refl, sym, ap, subst, ◌∙◌, arith, get_or-set_same, get_or-set_other, length-set}
+use Rattle.std.proofs.Common.{inl, inr, ◌≡◌, ◌≢◌, ◌⊎◌, ℕ, zero, suc, ◌/◌, Bool, true, false, Option, Some, None, List, [], ◌∷◌, ◌++◌, map, length, set, ⊎_elim, refl, sym, ap, subst, ◌∙◌, arith, get_or-set_same, get_or-set_other, length-set}
 use Rattle.std.specs.Prelude.{slice_get, if◌then◌else◌}
-use Rattle.std.proofs.lemmas.Bool.{cases_eq, le-leb, lt-ltb}
+use Rattle.std.proofs.lemmas.Bool.{cases_eq}
 use Rattle.std.proofs.lemmas.Option.{slice_get_within, slice_get_read, get_or_from_slice_get}
-use Rattle.heap_model.specs.Heap.{Heap, IsClosed, Stored, fields}
+use Rattle.heap_model.specs.Heap.{Heap, Stored, fields}
 use Rattle.heap_model.specs.Marking.{Marking}
 use Rattle.heap_model.specs.Weak.{cleared, cleared_word, cleared_after}
 use Rattle.heap_model.proofs.Cleared.{cleared_was}
 use Rattle.heap_model.proofs.Names.{bool_cases}
-use Rattle.mark_bitmap.specs.Tops.{is_in_region}
 use Rattle.refinement.specs.Remembering.{field_word, field_card, IsCrossing, ClearsFields, LeadsInside, Remembers, KeepsFields, IsNoted, SetsField, AddsNil, NoneLeadsInto}
-use Rattle.regions.proofs.Words.Divides.{div_low, div_high}
 
 pub crossing_kept : (words : ℕ) (kept kept' : ℕ → Option Stored) (a i v : ℕ) → KeepsFields kept kept' → IsCrossing words kept' a i v → IsCrossing words kept a i v
 crossing_kept words kept kept' a i v f x =

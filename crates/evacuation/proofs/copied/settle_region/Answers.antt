@@ -1,6 +1,6 @@
 use Rattle.heap_words.specs.Configs.{max_words}
 use Rattle.evacuation.specs.Space.{IsTaken}
-use Rattle.std.proofs.Common.{◌≡◌, ◌∙◌, ℕ, ap, refl, subst, arith, ◌<◌, ◌≤◌, ◌+◌, ◌*◌, ◌/◌, ◌-◌, ◌^◌, length, sym}
+use Rattle.std.proofs.Common.{◌≡◌, ◌∙◌, ℕ, ap, refl, subst, arith, ◌<◌, ◌≤◌, ◌+◌, ◌*◌, ◌/◌, ◌-◌, length, sym}
 use Rattle.std.proofs.lemmas.Nat.{mul-le}
 use Rattle.regions.specs.Tiles.{Object}
 use Rattle.object_copy.proofs.Copied.{tile_of_object}
