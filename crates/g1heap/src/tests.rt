@@ -7,6 +7,7 @@ mod judged;
 mod judging;
 mod programs;
 mod records;
+mod weak;
 
 use crate::faults::{JobFault, JudgeFault, tell};
 use crate::job::{Order, Task, read_words};
@@ -23,6 +24,7 @@ use std::sync::Wait;
 use std::test::Fail;
 use std::thread::Threads;
 use step_core::RunFault;
+use weak::WEAK_RECORDS;
 
 /// What a job answered and wrote.
 #[derive(Drop)]
@@ -102,14 +104,28 @@ fn script_of(alloc: Global, record: &str) -> Result<String, Fail> {
     Ok(script)
 }
 
-#[test]
-fn whole_records(rt: HostRuntime) -> Result<(), Fail> {
-    for (name, record) in &RECORDS {
-        let script = script_of(rt.alloc(), record)?;
-        let outcome = run(&rt, rt.alloc(), script.as_str())?;
-        assert_outcome(&rt, name, &outcome, 0, record, "");
+/// Each record is what its own script gives.
+fn check_records<H: Threads + Wait + Sync + Abort>(
+    rt: &H,
+    alloc: Global,
+    records: &[(&str, &str)],
+) -> Result<(), Fail> {
+    for (name, record) in records {
+        let script = script_of(alloc, record)?;
+        let outcome = run(rt, alloc, script.as_str())?;
+        assert_outcome(rt, name, &outcome, 0, record, "");
     }
     Ok(())
+}
+
+#[test]
+fn whole_records(rt: HostRuntime) -> Result<(), Fail> {
+    check_records(&rt, rt.alloc(), &RECORDS)
+}
+
+#[test]
+fn weak_records(rt: HostRuntime) -> Result<(), Fail> {
+    check_records(&rt, rt.alloc(), &WEAK_RECORDS)
 }
 
 /// A script of 10,000 steps and more than 128 KiB.

@@ -1,6 +1,7 @@
 //! Scripts whose actors take turns, by drawn schedules and in threads.
 
 use super::records::RECORDS;
+use super::weak::WEAK_RECORDS;
 use super::{Outcome, assert_outcome, outcome_of, script_of};
 use object_graph::{Verdict, check};
 use script_text::parse_record;
@@ -218,27 +219,38 @@ fn is_of_one(record: &str) -> bool {
     is
 }
 
-/// A script of mutator 0 alone has one record, whatever the seed and however many workers there are.
-#[test]
-fn one_mutator(rt: HostRuntime) -> Result<(), Fail> {
-    let alloc = rt.alloc();
+/// How many of the records are of mutator 0 alone. The script of such a one has this record, whatever the seed and however many
+/// workers there are.
+fn count_lone<H: Threads + Wait + Sync + Abort>(
+    rt: &H,
+    alloc: Global,
+    records: &[(&str, &str)],
+) -> Result<u32, Fail> {
     let mut scripts = 0u32;
-    for (name, record) in &RECORDS {
+    for (name, record) in records {
         if !is_of_one(record) {
             continue;
         }
         let script = script_of(alloc, record)?;
         for seed in ["0", "9", "18446744073709551615"] {
-            let outcome = simulated(&rt, alloc, seed, script.as_str())?;
-            assert_outcome(&rt, name, &outcome, 0, record, "");
+            let outcome = simulated(rt, alloc, seed, script.as_str())?;
+            assert_outcome(rt, name, &outcome, 0, record, "");
         }
         for workers in ["1", "2", "8", "32"] {
-            let outcome = threaded(&rt, alloc, workers, script.as_str())?;
-            assert_outcome(&rt, name, &outcome, 0, record, "");
+            let outcome = threaded(rt, alloc, workers, script.as_str())?;
+            assert_outcome(rt, name, &outcome, 0, record, "");
         }
         scripts = scripts.saturating_add(1);
     }
+    Ok(scripts)
+}
+
+#[test]
+fn one_mutator(rt: HostRuntime) -> Result<(), Fail> {
+    let scripts = count_lone(&rt, rt.alloc(), &RECORDS)?;
     assert!(rt; scripts >= 4);
+    let scripts = count_lone(&rt, rt.alloc(), &WEAK_RECORDS)?;
+    assert!(rt; scripts >= 1);
     Ok(())
 }
 

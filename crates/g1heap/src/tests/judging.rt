@@ -1,13 +1,16 @@
 //! Records that are judged, and jobs with a read or a write in trouble.
 
+use super::cases::Case;
 use super::judged::CASES;
 use super::records::RECORDS;
+use super::weak::{WEAK_CASES, WEAK_RECORDS};
 use super::{Outcome, assert_outcome, outcome_of, words};
 use crate::job::{Job, Order, Task, read_words};
 use crate::perform::perform;
 use std::alloc::Global;
 use std::io;
 use std::io::{ErrorKind, Read, Write};
+use std::process::Abort;
 use std::sync::Wait;
 use std::test::Fail;
 use std::thread::Threads;
@@ -17,26 +20,51 @@ fn judge<H: Threads + Wait + Sync>(rt: &H, alloc: Global, record: &str) -> Resul
     outcome_of(rt, alloc, &["check", "given.record"], record)
 }
 
-#[test]
-fn judged_cases(rt: HostRuntime) -> Result<(), Fail> {
-    for case in &CASES {
-        let outcome = judge(&rt, rt.alloc(), case.script)?;
-        assert_outcome(&rt, case.name, &outcome, case.status, case.out, case.err);
+fn check_cases<H: Threads + Wait + Sync + Abort>(
+    rt: &H,
+    alloc: Global,
+    cases: &[Case],
+) -> Result<(), Fail> {
+    for case in cases {
+        let outcome = judge(rt, alloc, case.script)?;
+        assert_outcome(rt, case.name, &outcome, case.status, case.out, case.err);
     }
     Ok(())
 }
 
-/// What `run` writes is judged yes.
 #[test]
-fn records_of_runs(rt: HostRuntime) -> Result<(), Fail> {
-    let alloc = rt.alloc();
-    for (name, record) in &RECORDS {
+fn judged_cases(rt: HostRuntime) -> Result<(), Fail> {
+    check_cases(&rt, rt.alloc(), &CASES)
+}
+
+#[test]
+fn judged_weak_slots(rt: HostRuntime) -> Result<(), Fail> {
+    check_cases(&rt, rt.alloc(), &WEAK_CASES)
+}
+
+/// What `run` writes is judged yes.
+fn check_runs<H: Threads + Wait + Sync + Abort>(
+    rt: &H,
+    alloc: Global,
+    records: &[(&str, &str)],
+) -> Result<(), Fail> {
+    for (name, record) in records {
         let events = record.lines().count().saturating_sub(1);
         let verdict = format!(in alloc; "yes {events}\n")?;
-        let outcome = judge(&rt, alloc, record)?;
-        assert_outcome(&rt, name, &outcome, 0, verdict.as_str(), "");
+        let outcome = judge(rt, alloc, record)?;
+        assert_outcome(rt, name, &outcome, 0, verdict.as_str(), "");
     }
     Ok(())
+}
+
+#[test]
+fn records_of_runs(rt: HostRuntime) -> Result<(), Fail> {
+    check_runs(&rt, rt.alloc(), &RECORDS)
+}
+
+#[test]
+fn records_of_weak_slots(rt: HostRuntime) -> Result<(), Fail> {
+    check_runs(&rt, rt.alloc(), &WEAK_RECORDS)
 }
 
 /// A record of 10,000 events, and the same with its last reply exchanged for another.
