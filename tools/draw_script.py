@@ -87,29 +87,21 @@ class Drawer:
     def number(self, low, high):
         return low + int(self.chance() * (high - low + 1))
 
-    def register(self, registers):
-        """A register that names an object, where there is one."""
+    def register(self, registers, suits=lambda target: True):
+        """A register that names an object that suits, where there is one."""
         start = int(self.chance() * 8)
         for register in ORDERS[start]:
-            if registers[register] is not None:
+            if registers[register] is not None and suits(registers[register]):
                 return register
         return start
 
     def holder(self, registers):
         """A register that names an object with pointers, where there is one."""
-        start = int(self.chance() * 8)
-        for register in ORDERS[start]:
-            if registers[register] is not None and registers[register].pointers:
-                return register
-        return start
+        return self.register(registers, lambda target: target.pointers)
 
     def dataful(self, registers):
         """A register that names an object with data words, where there is one."""
-        start = int(self.chance() * 8)
-        for register in ORDERS[start]:
-            if registers[register] is not None and registers[register].data:
-                return register
-        return start
+        return self.register(registers, lambda target: target.data)
 
     def index(self, count):
         """A place below a count, and now and then the first beyond it."""
@@ -427,11 +419,7 @@ class WeakDrawer(Drawer):
 
     def slotted(self, registers):
         """A register that names an object with weak slots, where there is one."""
-        start = int(self.chance() * 8)
-        for register in ORDERS[start]:
-            if registers[register] is not None and registers[register].weaks:
-                return register
-        return start
+        return self.register(registers, lambda target: target.weaks)
 
     def slot(self, registers):
         """Such a register, and a place in its object's weak slots."""
