@@ -13,20 +13,19 @@
 //!   of a dead object                                 stays, and is reclaimed with it
 //! ```
 //!
-//! New is what was made since marking began. Only regions that have objects with weak slots are looked at, each of their
-//! tiles once: where there is no weak slot, nothing is walked.
+//! New is what was made since marking began. Only objects with weak slots are looked at, each once: where there is none,
+//! nothing is walked.
 
-ghost use Rattle.std.specs.Prelude.{◌≡◌, ◌<◌, ◌⊎◌, ◌↔◌, true, false, IsSome, IsTrue, length};
+ghost use Rattle.std.specs.Prelude.{◌≡◌, ◌↔◌, IsSome, IsTrue};
 ghost use Rattle.heap_model.specs.Weak.{cleared_word};
-ghost use Rattle.regions.specs.Table.{object_at, tile_in};
-ghost use Rattle.regions.specs.Walks.{StartsIn};
+ghost use Rattle.regions.specs.Table.{object_at};
 ghost use Rattle.mark_bitmap.specs.Kept.{MarksObjects};
 ghost use Rattle.marker.specs.Views.{marking_of};
-ghost use Rattle.marker.specs.Clears.{ClearsTable, ClearsSome, ClearsTile, HasCleared};
+ghost use Rattle.marker.specs.Clears.{IsStaying, ClearsTable, ClearsStaying, HasCleared};
 
 use crate::marker::Marker;
-use heap_words::addr::{Addr, Ptr, RegionNo};
-use regions::{RegionTable, Shape};
+use heap_words::addr::{Addr, Ptr};
+use regions::RegionTable;
 
 impl Marker {
     /// What a weak slot holds once marking is over.
@@ -47,7 +46,7 @@ impl Marker {
     /// Whether the object at an address is kept once marking is over: it is marked or new.
     fn keeps(&self, table: &RegionTable, at: Addr) -> bool
         requires { MarksObjects table.now self.now.tams.next self.now.bitmaps.next }
-        ensures { IsTrue result ↔ (((marking_of table.now self.now).marked at ≡ true) ⊎ ((marking_of table.now self.now).old at ≡ false)) }
+        ensures { IsTrue result ↔ IsStaying (marking_of table.now self.now) at }
     {
         table.law();
         if !self.tams.is_below_next(table.words_per_region(), at) {
@@ -70,43 +69,28 @@ impl Marker {
         }
     }
 
-    /// Clears the weak slots of the object that is the tile at an address, if it is one that stays.
-    fn clear_tile(&self, table: &mut RegionTable, at: Addr)
-        requires tile { IsSome (tile_in table.old at) }
+    /// Clears the weak slots of an object, if it is one that stays.
+    fn clear_staying(&self, table: &mut RegionTable, object: Addr)
+        requires object { IsSome (object_at table.old object) }
         requires marks { MarksObjects table.old self.now.tams.next self.now.bitmaps.next }
-        ensures { ClearsTile (marking_of table.old self.now) table.old table.new at }
+        ensures { ClearsStaying (marking_of table.old self.now) table.old table.new object }
     {
-        let Shape::Object { .. } = table.tile(at) else {
-            return;
-        };
-        if self.keeps(table, at) {
-            self.clear_object(table, at);
+        if self.keeps(table, object) {
+            self.clear_object(table, object);
         }
     }
 
-    /// Clears the weak slots of a region's objects that stay.
-    fn clear_region(&self, table: &mut RegionTable, region: RegionNo)
-        requires known { region < length table.old.regions }
-        requires marks { MarksObjects table.old self.now.tams.next self.now.bitmaps.next }
-        ensures { ClearsSome (marking_of table.old self.now) table.old table.new (λ a. StartsIn table.old region a) }
-    {
-        let mut left = table.lowest_tile(region);
-        while let Some(at) = left {
-            self.clear_tile(table, at);
-            left = table.next_tile(at);
-        }
-    }
-
-    /// Clears the weak slots of all objects that stay. It looks at the regions that have objects with weak slots alone.
+    /// Clears the weak slots of all objects that stay. It looks at the objects that have weak slots alone.
     pub(crate) fn clear_weaks(&self, table: &mut RegionTable)
         requires { MarksObjects table.old self.now.tams.next self.now.bitmaps.next }
         ensures { ClearsTable (marking_of table.old self.now) table.old table.new }
     {
-        table.law();
-        let mut left = table.next_with_weaks(0);
-        while let Some(number) = left {
-            self.clear_region(table, RegionNo::new(number));
-            left = table.next_with_weaks(number + 1);
+        let mut left = table.next_with_weaks(Addr::new(0));
+        while let Some(object) = left {
+            table.law();
+            let behind = Addr::new(object.word() + 1);
+            self.clear_staying(table, object);
+            left = table.next_with_weaks(behind);
         }
     }
 }

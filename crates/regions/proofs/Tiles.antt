@@ -20,4 +20,4 @@ pub mod Released
 pub mod Steps
 pub mod Lowest
 pub mod Holders
-pub mod WeakRegions
+pub mod WeakStarts

@@ -2,4 +2,3 @@ pub mod WalkLaws
 pub mod WalkMade
 pub mod WalkFrom
 pub mod WalkTiles
-pub mod SameWalks

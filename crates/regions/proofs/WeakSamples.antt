@@ -1,5 +1,5 @@
 -- The tables that the test of weak slots goes through.
-use Rattle.std.proofs.Common.{◌≡◌, ◌≢◌, ℕ, ◌+◌, ◌-◌, ◌/◌, ◌<◌, Option, Some, None, [], ◌∷◌, length, refl, arith}
+use Rattle.std.proofs.Common.{◌≡◌, ℕ, ◌+◌, ◌-◌, ◌<◌, Option, Some, None, [], ◌∷◌, length, refl, arith}
 use Rattle.std.specs.Prelude.{IsSome}
 use Rattle.heap_model.specs.Heap.{Stored}
 use Rattle.regions.specs.Tiles.{Object}

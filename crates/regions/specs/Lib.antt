@@ -5,4 +5,4 @@ pub mod Walks
 pub mod Shaped
 pub mod Rows
 pub mod FirstTiles
-pub mod WeakRegions
+pub mod WeakStarts

@@ -9,7 +9,7 @@ use Rattle.heap_model.specs.Heap.{Stored}
 use Rattle.regions.specs.Tiles.{stored_of, tiles, IsTiled}
 use Rattle.regions.specs.Table.{Region, Free, Ordinary, First, Rest, Table, HasTargets}
 use Rattle.regions.specs.FirstTiles.{Entries, AreEntries}
-use Rattle.regions.specs.WeakRegions.{AreFlagged}
+use Rattle.regions.specs.WeakStarts.{Starts, AreStarts}
 use Rattle.regions.specs.declared.row.Row.{Row}
 use Rattle.regions.specs.declared.row.Kind.{Kind}
 use Rattle.regions.specs.declared.row.Kind.TheVariants as kinds
@@ -132,9 +132,9 @@ free_row = record { kind = kinds.Free; used = 0 }
 abbrev pub AreUsedBelow : ℕ → List Row → Type 0
 AreUsedBelow n rows = (k : ℕ) → k < n → kind_is_free (slice_index_or rows k free_row).kind ≡ false
 
--- words and rows are a table's, with 2 ^ shift words a region, which are whole cards; no row below `lowest` is free; and each card
--- has its entry; and each region with weak slots is in the set of `flags`
-pub record IsSound (size shift lowest : ℕ) (entries : Entries) (flags : List Bool) (words : List ℕ) (rows : List Row) : Type 0 where
+-- words and rows are a table's, with 2 ^ shift words a region, which are whole cards; no row below `lowest` is free; each card
+-- has its entry; and `weaks` tells where objects with weak slots start
+pub record IsSound (size shift lowest : ℕ) (entries : Entries) (weaks : Starts) (words : List ℕ) (rows : List Row) : Type 0 where
   pub table : IsTable size words rows
   pub power : size ≡ 2 ^ shift
   pub narrow : shift < 32
@@ -142,8 +142,9 @@ pub record IsSound (size shift lowest : ℕ) (entries : Entries) (flags : List B
   pub whole_cards : (cards : ℕ) × (size ≡ cards * entries.card_words)
   pub each_card : length words ≡ length entries.starts * entries.card_words
   pub first_tiles : AreEntries (table_of size words rows) entries
-  pub flag_count : length flags ≡ length rows
-  pub weak_regions : AreFlagged (table_of size words rows) flags
+  pub weak_regions : weaks.region_words ≡ size
+  pub weak_count : length weaks.flags ≡ length words
+  pub weak_starts : AreStarts (table_of size words rows) weaks.flags
 
 -- the kind of a run's i-th region
 abbrev pub run_kind : ℕ → Kind

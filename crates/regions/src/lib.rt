@@ -18,7 +18,7 @@
 //! A run is found by `free_run`, written with its object by `make_run`, and goes whole by `release`.
 //!
 //! A field is read or written by its address in constant time, and the first tile of a card is found by a look at an entry or two
-//! (`first_tiles`). The regions in which an object with weak slots may lie are a set (`weak_regions`). Nothing but
+//! (`first_tiles`). Where objects with weak slots start is a set (`weak_starts`). Nothing but
 //! `RegionTable::new` takes memory.
 #![tactic(auto)]
 
@@ -29,7 +29,7 @@ mod runs;
 pub mod table;
 mod updates;
 pub mod walk;
-mod weak_regions;
+mod weak_starts;
 
 pub use row::{Kind, Shape};
 pub use table::RegionTable;

@@ -9,7 +9,6 @@ ghost use Rattle.heap_words.specs.Configs.{max_words};
 use crate::row::{Kind, Row, is_free};
 use crate::table::RegionTable;
 use crate::updates::rests_from;
-use crate::weak_regions::note;
 use heap_words::addr::{Addr, RegionNo};
 use heap_words::header::Counts;
 
@@ -88,7 +87,7 @@ impl RegionTable {
             self.words_per_region,
             size,
         );
-        note(&mut self.weak_regions, number, weaks);
+        self.weak_starts.note(bottom, weaks);
     }
 
     /// Makes a humongous object in the lowest run of `count` free regions, and answers its first region;

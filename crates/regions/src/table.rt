@@ -10,8 +10,8 @@ ghost use Rattle.regions.specs.declared.row.Kind.TheVariants as kinds;
 
 use crate::first_tiles::FirstTiles;
 use crate::row::{Kind, Row, Shape, free_rows};
+use crate::weak_starts::WeakStarts;
 use heap_words::addr::{Addr, RegionNo};
-use heap_words::bits::Bits;
 use heap_words::config::{Config, NewFault};
 use heap_words::header::Header;
 use heap_words::words::Words;
@@ -30,8 +30,8 @@ pub struct RegionTable {
     pub(crate) lowest: usize,
     /// Where the tile of each card's first word starts.
     pub(crate) first_tiles: FirstTiles,
-    /// The regions in which an object with weak slots may lie.
-    pub(crate) weak_regions: Bits,
+    /// Where the objects with weak slots start.
+    pub(crate) weak_starts: WeakStarts,
 }
 
 impl Model for RegionTable {
@@ -43,7 +43,7 @@ impl Model for RegionTable {
 
     ghost view = { λ a. table_of a.words_per_region a.words a.rows.items };
 
-    ghost invariant = { λ a. IsSound a.words_per_region a.shift a.lowest a.first_tiles a.weak_regions a.words a.rows.items };
+    ghost invariant = { λ a. IsSound a.words_per_region a.shift a.lowest a.first_tiles a.weak_starts a.words a.rows.items };
 }
 
 /// The size of the object at an address, 1 where there is none.
@@ -107,7 +107,7 @@ impl RegionTable {
         let Ok(first_tiles) = FirstTiles::new(alloc, count as u32, config.card_words()) else {
             return Err(NewFault::NoMemory);
         };
-        let Ok(weak_regions) = Bits::new(alloc, config.regions) else {
+        let Ok(weak_starts) = WeakStarts::new(alloc, config.regions, config.words) else {
             return Err(NewFault::NoMemory);
         };
         Ok(RegionTable {
@@ -117,7 +117,7 @@ impl RegionTable {
             shift: config.words.ilog2(),
             lowest: 0,
             first_tiles,
-            weak_regions,
+            weak_starts,
         })
     }
 

@@ -187,17 +187,18 @@ fn moves_an_object(rt: HostRuntime) -> Result<(), Fail> {
     assert_eq!(rt; table.take_free(), Some(to));
     assert_eq!(rt; table.push_filler(from, FillerSize::new(4)), object);
     table.make_object(object, FillerSize::new(4), 7, counts(0, 2, 0));
-    assert_eq!(rt; table.next_with_weaks(0), Some(0));
-    assert_eq!(rt; table.next_with_weaks(1), None);
+    assert_eq!(rt; table.next_with_weaks(object), Some(object));
+    assert_eq!(rt; table.next_with_weaks(Addr::new(1)), None);
     assert_eq!(rt; table.copy_object(object, to), copy);
-    assert_eq!(rt; table.next_with_weaks(1), Some(1));
+    assert_eq!(rt; table.next_with_weaks(Addr::new(1)), Some(copy));
     table.forward(object, copy);
+    assert_eq!(rt; table.next_with_weaks(object), Some(copy));
     assert_eq!(rt; table.target(object), Some(copy));
     assert_eq!(rt; table.tile(object), Shape::Forwarded { to: copy, size: 4 });
     table.release(from);
     assert_eq!(rt; table.kind(from), Kind::Free);
-    assert_eq!(rt; table.next_with_weaks(0), Some(1));
-    assert_eq!(rt; table.next_with_weaks(2), None);
+    assert_eq!(rt; table.next_with_weaks(object), Some(copy));
+    assert_eq!(rt; table.next_with_weaks(Addr::new(17)), None);
     assert_eq!(rt; table.top(to), Addr::new(20));
     Ok(())
 }
@@ -213,8 +214,8 @@ fn holds_a_run(rt: HostRuntime) -> Result<(), Fail> {
     assert_eq!(rt; table.take_free(), Some(RegionNo::new(0)));
     assert_eq!(rt; table.free_run(4), None);
     assert_eq!(rt; table.take_run(2, 8, counts(3, 1, 19)), Some(first));
-    assert_eq!(rt; table.next_with_weaks(0), Some(1));
-    assert_eq!(rt; table.next_with_weaks(2), None);
+    assert_eq!(rt; table.next_with_weaks(Addr::new(0)), Some(Addr::new(16)));
+    assert_eq!(rt; table.next_with_weaks(Addr::new(17)), None);
     assert_eq!(rt; table.kind(first), Kind::First);
     assert_eq!(rt; table.kind(later), Kind::Rest);
     assert_eq!(rt; table.run_length(first), 2);
@@ -225,7 +226,7 @@ fn holds_a_run(rt: HostRuntime) -> Result<(), Fail> {
     table.release(first);
     assert_eq!(rt; table.kind(first), Kind::Free);
     assert_eq!(rt; table.kind(later), Kind::Free);
-    assert_eq!(rt; table.next_with_weaks(0), None);
+    assert_eq!(rt; table.next_with_weaks(Addr::new(0)), None);
     Ok(())
 }
 
@@ -238,13 +239,13 @@ fn holds_weak_slots(rt: HostRuntime) -> Result<(), Fail> {
     let region = RegionNo::new(0);
     let object = Addr::new(0);
     let other = Addr::new(9);
-    assert_eq!(rt; table.next_with_weaks(0), None);
+    assert_eq!(rt; table.next_with_weaks(object), None);
     assert_eq!(rt; table.take_free(), Some(region));
     assert_eq!(rt; table.push_filler(region, FillerSize::new(6)), object);
     table.make_object(object, FillerSize::new(6), 7, counts(1, 2, 1));
     assert_eq!(rt; table.lowest_tile(region), Some(object));
-    assert_eq!(rt; table.next_with_weaks(0), Some(0));
-    assert_eq!(rt; table.next_with_weaks(1), None);
+    assert_eq!(rt; table.next_with_weaks(object), Some(object));
+    assert_eq!(rt; table.next_with_weaks(Addr::new(1)), None);
     table.set_weak(object, 1, Some(other));
     table.set_field(object, 1, Some(object));
     table.set_value(object, 0, 9);
@@ -253,6 +254,6 @@ fn holds_weak_slots(rt: HostRuntime) -> Result<(), Fail> {
     assert_eq!(rt; slots(&table, object), (2, Some(object), Some(other)));
     assert_eq!(rt; ends(&table, object), (3, None, Some(other)));
     table.release(region);
-    assert_eq!(rt; table.next_with_weaks(0), None);
+    assert_eq!(rt; table.next_with_weaks(object), None);
     Ok(())
 }

@@ -10,7 +10,6 @@ ghost use Rattle.regions.specs.declared.row.Kind.TheVariants as kinds;
 
 use crate::row::{Kind, Row, is_free, is_rest};
 use crate::table::RegionTable;
-use crate::weak_regions::note;
 use heap_words::addr::{Addr, RegionNo};
 use heap_words::header::{Counts, FillerSize};
 use heap_words::words::Words;
@@ -91,7 +90,7 @@ impl RegionTable {
         let rests = rests_from(&self.rows, at + 1);
         write_free(&mut self.rows, at, rests + 1);
         self.lowest = self.lowest.min(at);
-        self.weak_regions.remove(region.number());
+        self.weak_starts.release(region.number());
     }
 
     /// Puts a filler at the top of an ordinary region, and says where it starts.
@@ -140,7 +139,6 @@ impl RegionTable {
         requires room { size_of counts.pointers counts.weaks counts.values ≤ filler }
         ensures { self.new ≡ replace_tile self.old at (Object (new_object name counts.pointers counts.weaks counts.values) ∷ remainder (filler - size_of counts.pointers counts.weaks counts.values)) }
     {
-        let region = self.region_of(at).number();
         let weaks = u32::from(counts.weaks);
         let size = 2 + counts.pointers.get() + weaks + counts.values.get();
         self.words.write_object(at, name, counts);
@@ -148,7 +146,7 @@ impl RegionTable {
         self.first_tiles.put_front(at.word(), size, filler.get());
         self.first_tiles
             .move_filler(at.word() + size, at.word() + filler.get());
-        note(&mut self.weak_regions, region, weaks);
+        self.weak_starts.note(at.word(), weaks);
     }
 
     /// The object at `from` becomes forwarded to its copy at `to`.
@@ -160,7 +158,9 @@ impl RegionTable {
         requires untargeted { EachForwardedIn (λ x. x ≢ from) self.old.regions }
         ensures { self.new ≡ replace_tile self.old from (Forwarded to (object_words self.old from) ∷ []) }
     {
+        let weaks = self.weak_count(from);
         self.words.write_forwarded(from, to);
+        self.weak_starts.forget(from.word(), weaks);
     }
 
     /// Puts a copy of the object at `from` at the top of an ordinary region, and says where it starts.
@@ -183,7 +183,7 @@ impl RegionTable {
             kind: Kind::Ordinary,
             used: used + size,
         };
-        note(&mut self.weak_regions, region.number(), weaks);
+        self.weak_starts.note(to.word(), weaks);
         to
     }
 }

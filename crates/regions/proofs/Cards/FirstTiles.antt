@@ -50,13 +50,13 @@ card_behind c end len z h = let d = div_ceil_times end len z in let m = mul-le (
 pub cards_fit : (end len n : ℕ) → 0 < len → end ≤ n * len → div_ceil end len ≤ n
 cards_fit end len n z h = elim (cases_lt n (div_ceil end len)) [ inl b ↦ (let x = card_before n end len z b in absurd (omega arith)) | inr b ↦ b ]
 
-pub if_between : (from to w x y : ℕ) → from ≤ w → w < to → (if is_between from to w then x else y) ≡ x
+pub if_between : {A : Type 0} (from to w : ℕ) (x y : A) → from ≤ w → w < to → (if is_between from to w then x else y) ≡ x
 if_between from to w x y l h = rw (le-leb from w l, lt-ltb w to h) refl
 
-pub if_below : (from to w x y : ℕ) → w < from → (if is_between from to w then x else y) ≡ y
+pub if_below : {A : Type 0} (from to w : ℕ) (x y : A) → w < from → (if is_between from to w then x else y) ≡ y
 if_below from to w x y h = rw (lt-leb from w h) refl
 
-pub if_above : (from to w x y : ℕ) → to ≤ w → (if is_between from to w then x else y) ≡ y
+pub if_above : {A : Type 0} (from to w : ℕ) (x y : A) → to ≤ w → (if is_between from to w then x else y) ≡ y
 if_above from to w x y h = go (leb from w)
   where
     none : ltb w to ≡ false

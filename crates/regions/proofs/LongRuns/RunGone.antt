@@ -87,7 +87,7 @@ frees-moved : (P : ℕ → Type 0) (m : ℕ) → EachForwardedIn P (replicate m 
 frees-moved P zero = tt
 frees-moved P (suc m) = frees-moved P m
 
-rest_no_tile : (r : Region) (o : ℕ) → is_rest r ≡ true → region_tile r o ≡ None
+pub rest_no_tile : (r : Region) (o : ℕ) → is_rest r ≡ true → region_tile r o ≡ None
 rest_no_tile Free o h = cc
 rest_no_tile (Ordinary ts) o h = cc
 rest_no_tile (First s) o h = cc

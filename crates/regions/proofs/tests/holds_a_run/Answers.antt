@@ -42,10 +42,10 @@ pub first_tile-requires : goal.first_tile-requires
 first_tile-requires g c =
     let t1 = fill_take _ _ c.in-Ok.ensures c.take_free.ensures.taken in
     let t2 = run_take _ _ _ _ _ t1 c.take_run.ensures.taken c.counts.ensures.pointers_are c.counts.ensures.weaks_are c.counts.ensures.values_are in
-    word_inside _ _ _ _ t2 refl c.new-4.ensures (omega arith)
+    word_inside _ _ _ _ t2 refl c.new-7.ensures (omega arith)
 
 pub first_tile-requires-2 : goal.first_tile-requires-2
 first_tile-requires-2 g c =
     let t1 = fill_take _ _ c.in-Ok.ensures c.take_free.ensures.taken in
     let t2 = run_take _ _ _ _ _ t1 c.take_run.ensures.taken c.counts.ensures.pointers_are c.counts.ensures.weaks_are c.counts.ensures.values_are in
-    word_inside _ _ _ _ t2 refl c.new-6.ensures (omega arith)
+    word_inside _ _ _ _ t2 refl c.new-9.ensures (omega arith)

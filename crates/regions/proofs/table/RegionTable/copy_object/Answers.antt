@@ -8,9 +8,9 @@ use Rattle.regions.proofs.Words.ObjectWords.{object_there}
 use Rattle.regions.proofs.Words.Copies.{copy_pushed}
 use Rattle.std.proofs.Common.{refl}
 use Rattle.regions.proofs.Rows.UsedBelow.{used_set}
-use Rattle.regions.proofs.Cards.Entries.{region_flags, push_sound}
+use Rattle.regions.proofs.Cards.Entries.{push_sound}
 use Rattle.regions.proofs.Words.FieldAccess.{weaks_are}
-use Rattle.regions.specs.WeakRegions.{noted}
+use Rattle.regions.specs.WeakStarts.{noted}
 use Rattle.std.proofs.Common.{List, Option, length}
 use Rattle.regions.specs.Tiles.{Object, tile_size}
 use Rattle.regions.specs.Table.{object_words}
@@ -67,7 +67,7 @@ invariant_of-self c =
     let w = copy_pushed _ _ _ _ _ c.args.from _ _ _ _ o.0 _ c.self.invariant.table c.self.view_is c.requires.known c.requires.ordinary o.1.is c.requires.room c.top-to.ensures (ap (λ (row : Row). row.used) read) c.object_size-size.ensures c.number-number.ensures c.copy.ensures in
     let long : object_words c.args.self.now c.args.from ≡ tile_size (Object o.0) = o.1.words_are in
     let slots : c.weak_count-weaks.result ≡ length o.0.weaks = c.weak_count-weaks.ensures ∙ ap (λ (l : List (Option ℕ)). length l) (weaks_are c.args.self.now c.args.from o.0 o.1.is) in
-    let flags = c.note.ensures ∙ ap (λ (k : ℕ). noted c.self.inside.weak_regions k c.weak_count-weaks.result) c.number.ensures ∙ ap (λ (n : ℕ). noted c.self.inside.weak_regions c.args.region n) slots in
+    let flags = c.note.ensures ∙ ap (λ (k : ℕ). noted c.self.inside.weak_starts k c.weak_count-weaks.result) (c.word-2.ensures ∙ sym c.word.ensures) ∙ ap (λ (n : ℕ). noted c.self.inside.weak_starts c.word.result n) slots in
     push_sound _ _ _ _ _ _ _ _ c.self.invariant c.self.view_is _ _ _ _ _ c.args.region _ _ (length o.0.weaks) (Object o.0) c.requires.known c.requires.ordinary (omega (arith, o.1.large, long)) (rw long at c.requires.room) tt (c.word.ensures ∙ c.top-to.ensures) (c.object_size-size.ensures ∙ long) c.put_object.ensures.card_words c.put_object.ensures.len c.put_object.ensures.entries refl flags (used_set _ _ _ _ (omega (arith, n.in_rows, c.number-number.ensures)) refl c.self.invariant.used_below) w
 
 pub returns-clause-pushed : goal.returns-clause-pushed
@@ -78,5 +78,9 @@ returns-clause-pushed c s is =
 
 pub note-requires : goal.note-requires
 note-requires c =
-    let count = region_flags _ _ _ _ _ _ _ _ c.self.invariant c.self.view_is in
-    rw (c.number.ensures, count) c.requires.known
+    let n = known _ _ _ _ _ c.self.view_is c.requires.known in
+    let o = object_there _ _ _ _ _ c.self.invariant.table c.self.view_is c.requires.object in
+    let t = top_is _ _ _ _ _ c.self.invariant.table c.self.view_is c.requires.known c.requires.ordinary in
+    let at : c.top-to.result ≡ c.args.region * c.self.inside.words_per_region + used_of c.args.self.now c.args.region = c.top-to.ensures ∙ ap (λ (m : ℕ). c.args.region * m + used_of c.args.self.now c.args.region) (sym n.size_is) in
+    let count = c.self.invariant.weak_count in
+    omega (arith, at, t.room, n.size_is, c.requires.room, o.1.large, o.1.words_are, c.word-2.ensures, count)

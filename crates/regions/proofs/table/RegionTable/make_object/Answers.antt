@@ -1,13 +1,11 @@
-use Rattle.std.proofs.Common.{arith, ◌≡◌, ◌+◌, ◌-◌, ◌/◌, ℕ, Option, None, ap, ◌∙◌}
+use Rattle.std.proofs.Common.{arith, ◌≡◌, ◌+◌, ◌-◌, ℕ, Option, None, ap, ◌∙◌}
 use Rattle.std.proofs.lemmas.List.{length-replicate}
-use Rattle.regions.specs.WeakRegions.{noted}
-use Rattle.regions.proofs.Walks.WalkFrom.{tile_listed}
-use Rattle.regions.specs.Tiles.{Filler}
+use Rattle.regions.specs.WeakStarts.{noted}
 use Rattle.heap_words.specs.Headers.{header_word}
 use Rattle.heap_words.specs.declared.header.Header.TheVariants as headers
 use Rattle.regions.proofs.Words.Puts.{put_object_length}
 use Rattle.regions.proofs.Tiles.Replaced.{filler_fits, filler_filled}
-use Rattle.regions.proofs.Cards.Entries.{region_flags, front_sound, new_size, object_written, filler_entries}
+use Rattle.regions.proofs.Cards.Entries.{front_sound, new_size, object_written, filler_entries}
 use Rattle.regions.specs.Tiles.{Object, tile_size}
 use Rattle.regions.specs.Table.{new_object}
 use Rattle.regions.proofs.table.RegionTable.make_object.Goals as goal
@@ -59,7 +57,7 @@ invariant_of-self c =
     let rest : c.get-3.result - (2 + c.get.result + c.from-weaks.result + c.get-2.result) ≡ c.args.filler - (2 + c.args.counts.pointers + c.args.counts.weaks + c.args.counts.values) = omega (arith, c.get-3.ensures.value, c.get.ensures.value, c.from-weaks.ensures, c.get-2.ensures.value) in
     let w = filler_filled _ _ _ _ c.args.at c.args.name c.args.counts.pointers c.args.counts.weaks c.args.counts.values c.args.filler _ _ _ _ _ c.self.invariant.table c.self.view_is c.requires.there (omega (arith, c.requires.room)) (omega (arith, c.get.ensures.value, c.get.ensures.small)) (omega arith) (omega (arith, c.get-2.ensures.value, c.get-2.ensures.small)) c.write_object.ensures c.write_remainder.ensures size rest in
     let long : 2 + c.get.result + c.from-weaks.result + c.get-2.result ≡ tile_size (Object (new_object c.args.name c.args.counts.pointers c.args.counts.weaks c.args.counts.values)) = omega (arith, c.get.ensures.value, c.from-weaks.ensures, c.get-2.ensures.value, new_size c.args.name c.args.counts.pointers c.args.counts.weaks c.args.counts.values) in
-    let flags = c.note.ensures ∙ ap (λ (k : ℕ). noted c.self.inside.weak_regions k c.from-weaks.result) (c.number-region.ensures ∙ c.region_of.ensures) ∙ ap (λ (n : ℕ). noted c.self.inside.weak_regions (c.args.at / c.args.self.now.words_per_region) n) c.from-weaks.ensures in
+    let flags = c.note.ensures ∙ ap (λ (k : ℕ). noted c.self.inside.weak_starts k c.from-weaks.result) c.word-5.ensures ∙ ap (λ (n : ℕ). noted c.self.inside.weak_starts c.args.at n) c.from-weaks.ensures in
     front_sound _ _ _ _ _ _ _ _ c.self.invariant c.self.view_is c.put_front.new.self c.move_filler.new.self _ _ c.args.at c.args.filler _ _ _ _ c.args.counts.weaks (Object (new_object c.args.name c.args.counts.pointers c.args.counts.weaks c.args.counts.values)) c.requires.there (omega (arith, long)) (omega (arith, c.requires.room, long, c.get.ensures.value, c.from-weaks.ensures, c.get-2.ensures.value)) tt long (omega (arith, c.word-3.ensures, long)) (omega (arith, c.word-4.ensures, c.get-4.ensures.value))
     c.put_front.ensures.card_words c.move_filler.ensures.card_words c.put_front.ensures.len c.move_filler.ensures.len (object_written _ _ _ _ _ _ c.word-2.ensures c.put_front.ensures.entries) c.move_filler.ensures.entries (length-replicate {A = Option ℕ} c.args.counts.weaks None) flags w
 
@@ -75,6 +73,6 @@ put_front-requires-clause-entries c n low high =
 
 pub note-requires : goal.note-requires
 note-requires c =
-    let known = (tile_listed c.args.self.now c.args.at (Filler c.args.filler) c.requires.there).1 in
-    let count = region_flags _ _ _ _ _ _ _ _ c.self.invariant c.self.view_is in
-    rw (c.number-region.ensures, c.region_of.ensures, count) known
+    let f = filler_fits _ _ _ _ _ _ c.self.invariant.table c.self.view_is c.requires.there in
+    let count = c.self.invariant.weak_count in
+    omega (arith, f, c.requires.room, count, c.word-5.ensures)

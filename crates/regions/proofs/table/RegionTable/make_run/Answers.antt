@@ -1,6 +1,6 @@
 use Rattle.std.proofs.Common.{arith, ◌≡◌, ◌+◌, ◌*◌, ◌≤◌, length, Option, None, Some, sym, ap, ◌∙◌, ℕ}
 use Rattle.std.proofs.lemmas.List.{length-replicate}
-use Rattle.regions.specs.WeakRegions.{noted}
+use Rattle.regions.specs.WeakStarts.{noted}
 use Rattle.regions.specs.Table.{first_run}
 use Rattle.regions.proofs.Rows.Search.{free, first_run-is}
 use Rattle.regions.proofs.LongRuns.RunMade.{run_taken, run_here_is}
@@ -58,7 +58,7 @@ invariant_of-self c =
     let rows = rw (c.deref_mut.ensures.value, c.number-number.ensures) at c.write_run.ensures in
     let f = run_here_is _ _ _ _ _ c.self.invariant.table e in
     let w = run_taken _ _ _ _ _ _ c.args.name c.args.counts.pointers c.args.counts.weaks c.args.counts.values _ _ _ _ _ c.self.invariant.table c.self.view_is e c.requires.positive c.requires.covers c.requires.tight (omega (arith, c.get.ensures.value, c.get.ensures.small)) (omega arith) (omega (arith, c.get-2.ensures.value, c.get-2.ensures.small)) bottom size number c.write_object.ensures rows in
-    let flags = c.note.ensures ∙ ap (λ (k : ℕ). noted c.self.inside.weak_regions k c.from-weaks.result) c.number-number.ensures ∙ ap (λ (n : ℕ). noted c.self.inside.weak_regions c.args.first n) c.from-weaks.ensures in
+    let flags = c.note.ensures ∙ ap (λ (n : ℕ). noted c.self.inside.weak_starts (c.number-number.result * c.self.inside.words_per_region) n) c.from-weaks.ensures in
     run_sound _ _ _ _ _ _ _ _ c.self.invariant c.self.view_is _ _ _ _ _ c.args.first c.args.count _ _ c.args.counts.weaks (new_object c.args.name c.args.counts.pointers c.args.counts.weaks c.args.counts.values) c.requires.positive c.requires.lowest (ap (λ (k : ℕ). k * c.self.inside.words_per_region) c.number-number.ensures ∙ ap (λ (m : ℕ). c.args.first * m) (size_is_of _ _ _ _ c.self.view_is)) (omega (arith, size, new_size c.args.name c.args.counts.pointers c.args.counts.weaks c.args.counts.values)) c.put_object.ensures.card_words c.put_object.ensures.len c.put_object.ensures.entries (length-replicate {A = Option ℕ} c.args.counts.weaks None) flags (used_written c.self.inside.rows.items _ _ c.self.inside.lowest c.args.first c.args.count c.self.inside.lowest _ c.self.invariant.used_below (omega (arith, f.room)) (used_le c.self.inside.rows.items c.self.inside.lowest c.args.first c.self.invariant.used_below (front_free c.self.inside.rows.items c.args.first c.args.count c.requires.positive f.free)) (omega arith) number rows) w
 
 pub returns : goal.returns
@@ -74,5 +74,6 @@ pub note-requires : goal.note-requires
 note-requires c =
     let e : first_run free c.args.count c.self.inside.rows.items ≡ Some c.args.first = sym (first_run-is _ _ _ _ c.args.count c.self.view_is) ∙ c.requires.lowest in
     let f = run_here_is _ _ _ _ _ c.self.invariant.table e in
-    let count = c.self.invariant.flag_count in
-    omega (arith, f.room, count, c.requires.positive, c.number-number.ensures)
+    let covers : 2 + c.args.counts.pointers + c.args.counts.weaks + c.args.counts.values ≤ c.args.count * c.self.inside.words_per_region = rw (size_is_of _ _ _ _ c.self.view_is) c.requires.covers in
+    let count = c.self.invariant.weak_count in
+    rw c.number-number.ensures (omega (arith, f.ends, covers, count))

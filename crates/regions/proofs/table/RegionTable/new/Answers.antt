@@ -5,10 +5,8 @@ use Rattle.heap_words.proofs.Limits.{small_region, small_heap, card_power, regio
 use Rattle.regions.specs.Table.{Table, HasNoForwarded}
 use Rattle.regions.specs.FirstTiles.{Entries, AreEntries}
 use Rattle.regions.proofs.Cards.Entries.{free_entries}
-use Rattle.regions.specs.WeakRegions.{AreFlagged}
-use Rattle.regions.specs.Rows.{free_row}
-use Rattle.regions.specs.declared.row.Row.{Row}
-use Rattle.regions.proofs.Tiles.WeakRegions.{flagged_free}
+use Rattle.regions.specs.WeakStarts.{Starts, AreStarts}
+use Rattle.regions.proofs.Tiles.WeakStarts.{starts_free}
 use Rattle.regions.proofs.Tiles.Making.{new_table, free_table-unmoved}
 use Rattle.regions.proofs.Rows.Sound.{power_is, whole_starts}
 use Rattle.regions.proofs.Rows.UsedBelow.{used_none}
@@ -37,7 +35,7 @@ invariant_of-result c =
     let len : c.in-Ok-new.first_tiles.card_words ≡ card = ap (λ (f : Entries). f.card_words) tiles ∙ c.card_words.ensures in
     let count : length c.in-Ok-new.first_tiles.starts ≡ c.args.config.now.regions * c.args.config.now.words / card =
     ap (λ (f : Entries). length f.starts) tiles ∙ length-replicate {A = ℕ} _ 0 ∙ ap (λ (n : ℕ). c.args.config.now.regions * c.args.config.now.words / n) c.card_words.ensures in
-    let flags : length c.in-Ok-new-2.weak_regions ≡ c.args.config.now.regions = ap (λ (f : List Bool). length f) c.in-Ok-new-2.ensures ∙ length-replicate {A = Bool} c.args.config.now.regions false in
+    let flags : c.in-Ok-new-2.weak_starts.flags ≡ replicate (c.args.config.now.regions * c.args.config.now.words) false = ap (λ (s : Starts). s.flags) c.in-Ok-new-2.ensures in
     record {
       table = made.is_table;
       power = power;
@@ -46,8 +44,9 @@ invariant_of-result c =
       whole_cards = rw len (c.args.config.now.words / card, whole);
       each_card = rw (len, count) (long ∙ sym (whole_starts c.args.config.now.regions c.args.config.now.words card (omega (arith, some.0)) whole));
       first_tiles = subst (λ (t : Table). AreEntries t c.in-Ok-new.first_tiles) (sym made.table_is) (free_entries _ _ _);
-      flag_count = flags ∙ sym (ap (λ (rs : List Row). length rs) c.in-Ok-free_rows.ensures ∙ length-replicate {A = Row} c.args.config.now.regions free_row);
-      weak_regions = subst (λ (t : Table). AreFlagged t c.in-Ok-new-2.weak_regions) (sym made.table_is) (flagged_free _ _ _);
+      weak_regions = ap (λ (s : Starts). s.region_words) c.in-Ok-new-2.ensures;
+      weak_count = ap (λ (f : List Bool). length f) flags ∙ length-replicate {A = Bool} _ false ∙ sym long;
+      weak_starts = subst (λ (t : Table). AreStarts t c.in-Ok-new-2.weak_starts.flags) (sym made.table_is) (starts_free _ _ _ _ flags);
     }
 
 pub returns-clause-made : goal.returns-clause-made

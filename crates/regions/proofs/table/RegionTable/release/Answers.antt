@@ -1,9 +1,11 @@
-use Rattle.std.proofs.Common.{arith, set, false, ◌≡◌, ℕ, suc, List, ◌+◌, length, drop, ap, ◌∙◌}
+use Rattle.std.proofs.lemmas.Nat.{row_fits}
+use Rattle.std.proofs.Common.{arith, ◌≡◌, ℕ, suc, List, ◌+◌, length, drop, ap, ◌∙◌}
 use Rattle.regions.specs.declared.row.Row.{Row}
 use Rattle.regions.specs.Table.{front_count}
 use Rattle.regions.proofs.LongRuns.RunGone.{rest, release_by, release_room, rows_small}
 use Rattle.regions.proofs.Rows.UsedBelow.{used_written}
-use Rattle.regions.proofs.Cards.Entries.{region_flags, release_sound}
+use Rattle.regions.proofs.Cards.Entries.{flag_count, region_words, release_sound}
+use Rattle.regions.proofs.Tiles.WeakStarts.{clears}
 use Rattle.regions.proofs.table.RegionTable.release.Goals as goal
 
 pub rests_from-rests-requires : goal.rests_from-rests-requires
@@ -35,8 +37,8 @@ invariant_of-self c =
     let room = release_room _ _ _ _ _ c.self.invariant.table c.self.view_is c.requires.known c.requires.releasable c.requires.untargeted in
     let low = c.min-self-inside.ensures in
     let w = release_by _ _ _ _ _ _ _ _ _ c.self.invariant.table c.self.view_is c.requires.known c.requires.releasable c.requires.untargeted c.number-at.ensures total number rows in
-    let flags = c.remove.ensures ∙ ap (λ (k : ℕ). set c.self.inside.weak_regions k false) c.number.ensures in
-    release_sound _ _ _ _ _ _ _ _ c.self.invariant c.self.view_is _ _ _ _ c.args.region c.requires.known c.requires.releasable (used_written c.self.inside.rows.items _ _ c.self.inside.lowest c.number-at.result (c.rests_from-rests.result + 1) c.min-self-inside.result _ c.self.invariant.used_below (omega (arith, room, count, c.number-at.ensures)) (omega (arith, low)) (omega (arith, low)) number rows) flags w
+    let clear = clears _ _ _ c.args.region _ c.number.ensures (region_words _ _ _ _ _ _ _ _ c.self.invariant c.self.view_is) c.release.ensures.region_words c.release.ensures.len c.release.ensures.flags in
+    release_sound _ _ _ _ _ _ _ _ c.self.invariant c.self.view_is _ _ _ _ c.args.region c.requires.known c.requires.releasable (used_written c.self.inside.rows.items _ _ c.self.inside.lowest c.number-at.result (c.rests_from-rests.result + 1) c.min-self-inside.result _ c.self.invariant.used_below (omega (arith, room, count, c.number-at.ensures)) (omega (arith, low)) (omega (arith, low)) number rows) clear w
 
 pub returns : goal.returns
 returns c =
@@ -47,7 +49,8 @@ returns c =
     let rows = rw c.deref_mut.ensures.value at c.write_free.ensures in
     (release_by _ _ _ _ _ _ _ _ _ c.self.invariant.table c.self.view_is c.requires.known c.requires.releasable c.requires.untargeted c.number-at.ensures total number rows).table_is
 
-pub remove-requires : goal.remove-requires
-remove-requires c =
-    let count = region_flags _ _ _ _ _ _ _ _ c.self.invariant c.self.view_is in
-    rw (c.number.ensures, count) c.requires.known
+pub release-requires : goal.release-requires
+release-requires c =
+    let count = flag_count _ _ _ _ _ _ _ _ c.self.invariant c.self.view_is in
+    let words = region_words _ _ _ _ _ _ _ _ c.self.invariant c.self.view_is in
+    rw (c.number.ensures, words, count) (row_fits c.args.region c.args.self.now.words_per_region (length c.args.self.now.regions) c.args.self.now.words_per_region c.requires.known (omega arith))
