@@ -75,6 +75,11 @@ with_made c place counts weaks (Some x) = record c {
 abbrev pub after_new : CoreState → ℕ → Register → Counts → ℕ → CoreState
 after_new c m to counts weaks = with_made c (register_place m to.number) counts weaks (place_of c.table c.buffers m (size_of counts.pointers weaks counts.values))
 
+-- how many weak slots the object that an action makes has
+abbrev pub weaks_made : Action → ℕ
+weaks_made (actions.NewWeak to counts weaks) = weaks
+weaks_made _ = 0
+
 -- the core after a step that isn't refused, but for its marker
 abbrev pub core_after : CoreState → ℕ → Action → CoreState
 core_after c m (actions.New to counts) = after_new c m to counts 0

@@ -14,7 +14,7 @@ ghost use Rattle.regions.specs.Table.{new_object};
 ghost use Rattle.alloc_buffers.specs.Placement.{address_of, CanHold, made_at};
 ghost use Rattle.step_core.specs.Stands.{ShowsGraph, KeepsFrom, Stands, heap_of, IsWordOf, IsRootWord};
 ghost use Rattle.step_core.specs.Answers.{Acts, HasNoPlace, IsFull, RepliesFull, Follows};
-ghost use Rattle.step_core.specs.Mutators.{ActsOn, value_of};
+ghost use Rattle.step_core.specs.Mutators.{ActsOn, value_of, weaks_made};
 ghost use Rattle.step_core.specs.Cycle.{LeavesRegions};
 
 use crate::heap::{Core, register_index};
@@ -44,6 +44,16 @@ fn make(table: &mut RegionTable, place: Place, name: u64, counts: header::Counts
             table.make_run(first, count, name, counts);
             Addr::new(first.number() * words)
         }
+    }
+}
+
+/// How many weak slots the object that an action makes has.
+fn weaks_of(action: Action) -> u8
+    ensures { result ≡ weaks_made action }
+{
+    match action {
+        Action::NewWeak { weaks, .. } => weaks,
+        _ => 0,
     }
 }
 
@@ -296,7 +306,9 @@ impl Core {
     {
         let mutator = op.mutator;
         match op.action {
-            Action::New { to, counts } => self.new_object(mutator, to, counts, 0),
+            Action::New { to, counts } | Action::NewWeak { to, counts, .. } => {
+                self.new_object(mutator, to, counts, weaks_of(op.action))
+            }
             Action::Get { to, object, field } => self.get(mutator, to, object, field),
             Action::Put {
                 object,
@@ -314,7 +326,6 @@ impl Core {
             Action::Load { to, from } => self.load(mutator, to, from),
             Action::Save { to, from } => self.save(mutator, to, from),
             Action::Shape { object } => self.shape(mutator, object),
-            Action::NewWeak { to, counts, weaks } => self.new_object(mutator, to, counts, weaks),
             Action::GetWeak { to, object, slot } => self.get_weak(mutator, to, object, slot),
             Action::PutWeak {
                 object,

@@ -24,7 +24,7 @@ use Rattle.object_graph.proofs.SinceLaws.{happens_since, since_unreached}
 use Rattle.step_core.specs.Stands.{CoreState, ShowsGraph, KeepsFor, Stands, IsCore, IsWhole}
 use Rattle.cards.specs.Cards.{ListsDirtyOnce}
 use Rattle.step_core.specs.Cycle.{Does}
-use Rattle.step_core.specs.Mutators.{ActsOn}
+use Rattle.step_core.specs.Mutators.{ActsOn, weaks_made}
 use Rattle.step_core.specs.Answers.{Acts, Follows, IsFullStep, RepliesFull}
 use Rattle.step_core.specs.Histories.{IsHistory, Passes, Runs}
 
@@ -56,21 +56,21 @@ refused_full s o m a reply c c' em ea new st names full same =
     (subst (λ (d : CoreState). ShowsGraph g d) (sym same) st.shows) (subst (λ (d : CoreState). KeepsFor s.snapshot d) (sym same) st.keeps)
 
 -- a new object, or no place for it
-pub created : (s : State) (o : Op) (m : ℕ) (to : Register) (counts : Counts) (weaks : ℕ) (reply : Reply) (c c' : CoreState) → o.mutator ≡ m → o.action ≡ actions.NewWeak to counts weaks → Stands s c
+created : (s : State) (o : Op) (m : ℕ) (to : Register) (counts : Counts) (weaks : ℕ) (reply : Reply) (c c' : CoreState) → o.mutator ≡ m → o.action ≡ actions.NewWeak to counts weaks → Stands s c
     → Acts s.graph m (actions.NewWeak to counts weaks) reply c' ⊎ RepliesFull s.graph m (actions.NewWeak to counts weaks) c reply c' → KeepsFor (snapshot_after s.snapshot (actions.NewWeak to counts weaks) reply) c'
     → Follows s (steps.Mutator o) reply c'
 created s o m to counts weaks reply c c' em ea st (inl h) keeps = acted s o m (actions.NewWeak to counts weaks) reply c c' em ea st h keeps
 created s o m to counts weaks reply c c' em ea st (inr h) keeps = refused_full s o m (actions.NewWeak to counts weaks) reply c c' em ea tt st h.full.0 h.reply_is h.same
 
 -- the same of an object with no weak slots
-pub created_plain : (s : State) (o : Op) (m : ℕ) (to : Register) (counts : Counts) (reply : Reply) (c c' : CoreState) → o.mutator ≡ m → o.action ≡ actions.New to counts → Stands s c
+created_plain : (s : State) (o : Op) (m : ℕ) (to : Register) (counts : Counts) (reply : Reply) (c c' : CoreState) → o.mutator ≡ m → o.action ≡ actions.New to counts → Stands s c
     → Acts s.graph m (actions.NewWeak to counts 0) reply c' ⊎ RepliesFull s.graph m (actions.NewWeak to counts 0) c reply c' → KeepsFor (snapshot_after s.snapshot (actions.New to counts) reply) c'
     → Follows s (steps.Mutator o) reply c'
 created_plain s o m to counts reply c c' em ea st (inl h) keeps = acted s o m (actions.New to counts) reply c c' em ea st h keeps
 created_plain s o m to counts reply c c' em ea st (inr h) keeps = refused_full s o m (actions.New to counts) reply c c' em ea tt st h.full.0 h.reply_is h.same
 
 -- what it does to the core
-pub acts_plain : (m : ℕ) (to : Register) (counts : Counts) (r : Reply) (c c' : CoreState) → ActsOn m (actions.NewWeak to counts 0) r c c' → ActsOn m (actions.New to counts) r c c'
+acts_plain : (m : ℕ) (to : Register) (counts : Counts) (r : Reply) (c c' : CoreState) → ActsOn m (actions.NewWeak to counts 0) r c c' → ActsOn m (actions.New to counts) r c c'
 acts_plain m to counts replies.Done c c' h = record { core = h.core; marker = h.marker }
 acts_plain m to counts (replies.Named v) c c' h = record { core = h.core; marker = h.marker }
 acts_plain m to counts (replies.Word w) c c' h = record { core = h.core; marker = h.marker }
@@ -80,6 +80,29 @@ acts_plain m to counts (replies.Reclaimed n) c c' h = record { core = h.core; ma
 acts_plain m to counts (replies.Refined n) c c' h = record { core = h.core; marker = h.marker }
 acts_plain m to counts (replies.Moved n w) c c' h = record { core = h.core; marker = h.marker }
 acts_plain m to counts (replies.Refused why) c c' h = h
+
+-- the action makes an object with as many weak slots as it says, 0 where it says none: what it does to the core
+pub acts_as : (m : ℕ) (a : Action) (to : Register) (counts : Counts) (weaks : ℕ) (r : Reply) (c c' : CoreState) → (a ≡ actions.New to counts) ⊎ ((w : ℕ) × (a ≡ actions.NewWeak to counts w)) → weaks ≡ weaks_made a
+    → ActsOn m (actions.NewWeak to counts weaks) r c c' → ActsOn m a r c c'
+acts_as m a to counts weaks r c c' (inl e) many h = rw e (acts_plain m to counts r c c' (subst (λ (n : ℕ). ActsOn m (actions.NewWeak to counts n) r c c') (many ∙ ap weaks_made e) h))
+acts_as m a to counts weaks r c c' (inr (w, e)) many h = rw e (subst (λ (n : ℕ). ActsOn m (actions.NewWeak to counts n) r c c') (many ∙ ap weaks_made e) h)
+
+-- and the new object, or no place for it
+pub created_as : (s : State) (o : Op) (m : ℕ) (to : Register) (counts : Counts) (weaks : ℕ) (reply : Reply) (c c' : CoreState) → o.mutator ≡ m
+    → (o.action ≡ actions.New to counts) ⊎ ((w : ℕ) × (o.action ≡ actions.NewWeak to counts w)) → weaks ≡ weaks_made o.action → Stands s c
+    → Acts s.graph m (actions.NewWeak to counts weaks) reply c' ⊎ RepliesFull s.graph m (actions.NewWeak to counts weaks) c reply c' → KeepsFor (snapshot_after s.snapshot (actions.NewWeak to counts weaks) reply) c'
+    → Follows s (steps.Mutator o) reply c'
+created_as s o m to counts weaks reply c c' em (inl e) many st h keeps =
+    created_plain s o m to counts reply c c' em e st
+    (subst (λ (n : ℕ). Acts s.graph m (actions.NewWeak to counts n) reply c' ⊎ RepliesFull s.graph m (actions.NewWeak to counts n) c reply c') (many ∙ ap weaks_made e) h)
+    (subst (λ (sn : Option Graph). KeepsFor sn c') (untouched s.snapshot) keeps)
+  where
+    untouched : (sn : Option Graph) → snapshot_after sn (actions.NewWeak to counts weaks) reply ≡ snapshot_after sn (actions.New to counts) reply
+    untouched None = refl
+    untouched (Some x) = refl
+created_as s o m to counts weaks reply c c' em (inr (w, e)) many st h keeps =
+    let same : weaks ≡ w = many ∙ ap weaks_made e in
+    created s o m to counts weaks reply c c' em (e ∙ ap (λ (n : ℕ). actions.NewWeak to counts n) (sym same)) st h keeps
 
 -- what the snapshot doesn't reach has the pointers that it had
 pub unreached_of : (s : State) (x : Graph) (c : CoreState) → Stands s c → s.snapshot ≡ Some x → KeepsUnreached x s.graph

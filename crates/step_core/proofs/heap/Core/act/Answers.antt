@@ -1,18 +1,14 @@
 use Rattle.std.proofs.Common.{refl}
-use Rattle.step_core.proofs.Cores.Following.{acted, created, created_plain, acts_plain, unreached_of}
+use Rattle.step_core.proofs.Cores.Following.{acted, created_as, acts_as, unreached_of}
 use Rattle.step_core.proofs.Cores.Snapshots.{keeps_after, keeps_touched}
 use Rattle.step_core.proofs.heap.Core.act.Goals as goal
 
 pub returns-in-New-clause-follows : goal.returns-in-New-clause-follows
-returns-in-New-clause-follows c = λ s st. created_plain s c.args.op _ _ _ _ _ _ refl c.in-New.is st (c.new_object.ensures.acts s.graph st.shows)
-    (keeps_after s.snapshot _ _ _ _ _ refl (acts_plain _ _ _ _ _ _ c.new_object.ensures.after) c.new_object.ensures.keeps st.keeps)
+returns-in-New-clause-follows c = λ s st. created_as s c.args.op _ _ _ _ _ _ _ refl c.in-New.is c.weaks_of.ensures st (c.new_object.ensures.acts s.graph st.shows)
+    (keeps_after s.snapshot _ _ _ _ _ refl c.new_object.ensures.after c.new_object.ensures.keeps st.keeps)
 
 pub returns-in-New-clause-after : goal.returns-in-New-clause-after
-returns-in-New-clause-after c = rw c.in-New.is (acts_plain _ _ _ _ _ _ c.new_object.ensures.after)
-
-pub returns-in-NewWeak-clause-follows : goal.returns-in-NewWeak-clause-follows
-returns-in-NewWeak-clause-follows c = λ s st. created s c.args.op _ _ _ _ _ _ _ refl c.in-NewWeak.is st (c.new_object-in-NewWeak.ensures.acts s.graph st.shows)
-    (keeps_after s.snapshot _ _ _ _ _ refl c.new_object-in-NewWeak.ensures.after c.new_object-in-NewWeak.ensures.keeps st.keeps)
+returns-in-New-clause-after c = acts_as _ _ _ _ _ _ _ _ c.in-New.is c.weaks_of.ensures c.new_object.ensures.after
 
 pub returns-in-GetWeak-clause-follows : goal.returns-in-GetWeak-clause-follows
 returns-in-GetWeak-clause-follows c = λ s st. acted s c.args.op _ _ _ _ _ refl c.in-GetWeak.is st (c.get_weak.ensures.acts s.graph st.shows)
