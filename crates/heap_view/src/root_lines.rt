@@ -5,6 +5,7 @@ ghost use Rattle.std.specs.Prelude.{◌<◌, ◌+◌, ◌*◌, ◌≤◌, length
 use crate::card_lines::write_card_log;
 use crate::names::write_name;
 use heap_words::addr::Ptr;
+use object_graph::{GLOBALS, REGISTERS};
 use std::io::{Result, Write};
 use step_core::Core;
 
@@ -71,8 +72,8 @@ fn write_mutator<W: Write>(core: &Core, writer: &mut W, mutator: u32) -> Result<
 {
     core.remembers();
     write!(writer, "mutator {mutator}:")?;
-    let first = 16 + 8 * mutator as usize;
-    write_places(core, writer, "r", &core.roots()[first..first + 8])?;
+    let first = GLOBALS + REGISTERS * mutator as usize;
+    write_places(core, writer, "r", &core.roots()[first..first + REGISTERS])?;
     write_buffer(core, writer, mutator)?;
     write_card_log(core, writer, mutator)?;
     write_deletion_log(core, writer, mutator)
@@ -82,7 +83,7 @@ fn write_mutator<W: Write>(core: &Core, writer: &mut W, mutator: u32) -> Result<
 pub(crate) fn write_roots<W: Write>(core: &Core, writer: &mut W) -> Result<()> {
     core.remembers();
     write!(writer, "globals:")?;
-    write_places(core, writer, "g", &core.roots()[..16])?;
+    write_places(core, writer, "g", &core.roots()[..GLOBALS])?;
     for mutator in 0..core.config().mutators {
         write_mutator(core, writer, mutator)?;
     }

@@ -1,5 +1,5 @@
 -- Every name that stands in a state's graphs is borne by an object: at the beginning, and after each event.
-use Rattle.std.proofs.Common.{◌≡◌, ℕ, zero, suc, ◌+◌, ◌-◌, ◌*◌, ◌<◌, ◌≤◌, List, ◌∷◌, [], ◌++◌, length, Option, Some, None, refl, sym, ap, ◌∙◌, subst, inl, inr, arith}
+use Rattle.std.proofs.Common.{◌≡◌, ℕ, zero, suc, ◌-◌, ◌<◌, ◌≤◌, List, ◌∷◌, [], ◌++◌, length, Option, Some, None, refl, sym, ap, ◌∙◌, subst, inl, inr, arith}
 use Rattle.std.specs.Prelude.{slice_get, slice_set, slice_index_or, replicate, nat_lt, ◌==◌, ◌^◌}
 use Rattle.heap_words.specs.Sizes.{size_of}
 use Rattle.heap_words.specs.declared.config.Config.{Config}
@@ -7,7 +7,7 @@ use Rattle.heap_model.specs.Graph.{Graph, Object, next_name, object_fields, with
 use Rattle.heap_model.specs.Weak.{touched, IsClearedSlot, ClearsObject, Clears}
 use Rattle.heap_model.proofs.Lists.{AllZip-get_right, AllZip_length, get-set_cases, get-append_cases, get-append_left, get-append_right, get-push_cases, length-set, length-push}
 use Rattle.heap_model.proofs.Unreached.{touched_cases}
-use Rattle.object_graph.specs.State.{State, register_place, root_at, Occurs, AtRoot, AtField, IsNameOf, HoldsNames, IsEarlier, ForSnapshot, IsSoundState, first_graph, first_state}
+use Rattle.object_graph.specs.State.{State, root_places, register_place, root_at, Occurs, AtRoot, AtField, IsNameOf, HoldsNames, IsEarlier, ForSnapshot, IsSoundState, first_graph, first_state}
 use Rattle.object_graph.specs.Machine.{Outcome, refused, on_contents, on_name, on_field, stored, made, act, outcome_of}
 use Rattle.object_graph.specs.Run.{snapshot_after, ClearsBy, Collects, Happens, IsRun}
 use Rattle.object_graph.specs.declared.step.Action.{Action}
@@ -300,7 +300,7 @@ pub first_sound : (c : Config) → IsSoundState (first_state c)
 first_sound c = record { graph = λ n o. absurd (nowhere n o); snapshot = tt }
   where
     nowhere : (n : ℕ) → Occurs (first_graph c) n → ⊥
-    nowhere n (AtRoot j e) = nils (16 + 8 * c.mutators) j n e
+    nowhere n (AtRoot j e) = nils (root_places c.mutators) j n e
     nowhere n (AtField p i x at e) = cc
 
 -- a run keeps the number of mutators

@@ -1,12 +1,9 @@
--- The graph of a heap and the snapshot of its marking: where roots stand, and the state of a new heap.
-use Rattle.std.specs.Prelude.{◌≡◌, ℕ, ◌+◌, ◌*◌, ◌-◌, ◌<◌, ◌≤◌, ◌^◌, List, Option, Some, None, length, slice_get, slice_index_or, replicate, [], nat_lt, if◌then◌else◌}
+-- The graph of a heap and the snapshot of its marking, and the state of a new heap.
+use Rattle.std.specs.Prelude.{◌≡◌, ℕ, ◌*◌, ◌-◌, ◌<◌, ◌≤◌, ◌^◌, List, Option, Some, None, length, slice_get, slice_index_or, replicate, [], nat_lt, if◌then◌else◌}
 use Rattle.heap_words.specs.declared.config.Config.{Config}
 use Rattle.heap_model.specs.Graph.{Graph, Object, next_name, object_fields}
+pub use Rattle.object_graph.specs.Roots.{root_places, register_place}
 pub use Rattle.heap_model.specs.Graph.{with_root}
-
--- the place of a mutator's register among the roots: behind the 16 globals, 8 registers a mutator
-abbrev pub register_place : ℕ → ℕ → ℕ
-register_place mutator register = 16 + 8 * mutator + register
 
 -- what a root place holds
 abbrev pub root_at : Graph → ℕ → Option ℕ
@@ -15,7 +12,7 @@ root_at g place = slice_index_or g.roots place None
 -- names are words, and there is a root place for each global and each register
 pub record IsState (g : Graph) : Type 0 where
   pub names : next_name g < 2 ^ 64
-  pub roots : length g.roots ≡ 16 + 8 * g.mutators
+  pub roots : length g.roots ≡ root_places g.mutators
 
 -- the place, if the list has it
 abbrev pub within : List Object → ℕ → Option ℕ
@@ -34,7 +31,7 @@ pub record State : Type 0 where
 
 -- the graph of a new heap: no objects, and each root nil
 abbrev pub first_graph : Config → Graph
-first_graph c = record { room = c.regions * c.words; first_name = c.first_name; mutators = c.mutators; objects = []; roots = replicate (16 + 8 * c.mutators) None }
+first_graph c = record { room = c.regions * c.words; first_name = c.first_name; mutators = c.mutators; objects = []; roots = replicate (root_places c.mutators) None }
 
 -- the state of a new heap
 abbrev pub first_state : Config → State

@@ -5,6 +5,7 @@ ghost use Rattle.std.specs.Prelude.{◌≡◌, ◌<◌, ◌≤◌, ◌+◌, ◌*
 use crate::clear::clear_all;
 use crate::objects::Objects;
 use crate::pointer::Pointer;
+use crate::roots::{register_place, root_places};
 use crate::search::Search;
 use crate::step::{Action, Counts, GlobalRoot, Op, Refusal, Register, Reply};
 use heap_words::config::Config;
@@ -47,14 +48,14 @@ impl Graph {
         requires { mutator < self.now.mutators }
         ensures { result ≡ root_at self.now (register_place mutator register.number) }
     {
-        self.roots[16 + 8 * mutator as usize + register.number as usize]
+        self.roots[register_place(mutator, register)]
     }
 
     fn set_register(&mut self, mutator: u32, register: Register, value: Pointer)
         requires { mutator < self.old.mutators }
         ensures { self.new ≡ with_root self.old (register_place mutator register.number) value }
     {
-        self.roots[16 + 8 * mutator as usize + register.number as usize] = value;
+        self.roots[register_place(mutator, register)] = value;
     }
 
     /// Where the object stands that a register names, if it names one.
@@ -363,13 +364,12 @@ impl Graph {
     pub fn new(alloc: Global, config: &Config) -> Result<Graph, AllocError>
         ensures { IfOk result (λ g. g ≡ first_graph config.now) }
     {
-        let places = 16 + 8 * config.mutators as usize;
         Ok(Graph {
             room: u64::from(config.regions) * u64::from(config.words),
             first_name: config.first_name,
             mutators: config.mutators,
             objects: Objects::new(alloc),
-            roots: vec![in alloc; Pointer::nil(); places]?,
+            roots: vec![in alloc; Pointer::nil(); root_places(config.mutators)]?,
         })
     }
 }

@@ -40,6 +40,7 @@ mod machine;
 mod objects;
 mod pointer;
 mod record;
+mod roots;
 mod search;
 mod step;
 #[cfg(test)]
@@ -49,6 +50,7 @@ pub use graph::Graph;
 pub use judge::{Verdict, check};
 pub use laws::{cleared_law, judged_once, run_is_sound, run_once, since_law, sound_law};
 pub use record::{Plan, Record};
+pub use roots::{GLOBALS, REGISTERS, register_place, root_places};
 pub use step::{
     Action, Actor, CollectorStep, Counts, Event, GlobalRoot, Op, Refusal, Register, Reply, Step,
 };

@@ -2,13 +2,14 @@
 
 ghost use Rattle.std.specs.Prelude.{◌≡◌, ◌<◌};
 ghost use Rattle.heap_words.specs.Sizes.{size_of};
+ghost use Rattle.object_graph.specs.Roots.{globals, registers};
 
 /// One of a mutator's registers, `r0` to `r7`. A register holds nil or an object's name.
 #[derive(Clone, Copy, Debug, PartialEq, Eq)]
 pub struct Register {
     /// 0 to 7.
     pub number: u8,
-    pub ghost in_range: { number < 8 },
+    pub ghost in_range: { number < registers },
 }
 
 /// One of the globals, `g0` to `g15`. A global holds nil or an object's name.
@@ -16,7 +17,7 @@ pub struct Register {
 pub struct GlobalRoot {
     /// 0 to 15.
     pub number: u8,
-    pub ghost in_range: { number < 16 },
+    pub ghost in_range: { number < globals },
 }
 
 /// How many pointers and data words an object has.

@@ -23,7 +23,7 @@ use Rattle.cards.specs.Cards.{Cards, is_dirty}
 use Rattle.remembered_sets.specs.Sets.{Sets, card_count, covers}
 use Rattle.refinement.specs.Remembering.{Remembers}
 use Rattle.evacuation.specs.Rooms.{RoomSizes}
-use Rattle.object_graph.specs.State.{State, IsSoundState, root_at}
+use Rattle.object_graph.specs.State.{State, IsSoundState, root_places, root_at}
 use Rattle.object_graph.specs.Since.{IsSinceState}
 
 pub record CoreState : Type 0 where
@@ -147,7 +147,7 @@ pub record IsCore (c : CoreState) : Type 0 where
   pub remembers : RemembersFields c
   pub room : IsRoomFor c.config c.room
   pub rows : c.config.regions ≤ c.row_room
-  pub places : length c.roots ≡ 16 + 8 * c.config.mutators
+  pub places : length c.roots ≡ root_places c.config.mutators
   pub names : c.next < 2 ^ 64
   pub footing : Footing
   pub rests : RestsOn footing c

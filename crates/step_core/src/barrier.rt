@@ -36,9 +36,9 @@ ghost use Rattle.marker.specs.Steps.{Overwrites};
 ghost use Rattle.step_core.specs.Mutators.{noted, pointer_of, with_pointer, weak_field, with_weak, with_root_word};
 ghost use Rattle.step_core.specs.Cycle.{LeavesRegions};
 
-use crate::heap::{Core, register_index};
+use crate::heap::Core;
 use heap_words::addr::{Addr, Card, Ptr};
-use object_graph::Register;
+use object_graph::{Register, register_place};
 
 impl Core {
     /// A value is about to be stored in a pointer or a weak slot: the field's card becomes dirty if the value leads into another
@@ -150,7 +150,7 @@ impl Core {
         ensures marker { Overwrites self.old.marker.running self.old.table mutator value.now self.old.marker self.new.marker }
         ensures leaves { LeavesRegions self.old self.new }
     {
-        self.roots[register_index(mutator, to)] = *value;
+        self.roots[register_place(mutator, to)] = *value;
         if !self.marker.running {
             return;
         }

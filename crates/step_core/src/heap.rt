@@ -4,7 +4,7 @@ ghost use Rattle.std.specs.Prelude.{◌≡◌, ℕ, ◌<◌, ◌≤◌, ◌+◌,
 ghost use Rattle.heap_words.specs.Configs.{Suits, IsNewFault};
 ghost use Rattle.heap_model.specs.Graph.{Graph};
 ghost use Rattle.heap_model.specs.Heap.{IsShown, IsHeld};
-ghost use Rattle.object_graph.specs.State.{State, register_place, with_root, root_at, first_state};
+ghost use Rattle.object_graph.specs.State.{State, root_places, register_place, with_root, root_at, first_state};
 ghost use Rattle.step_core.specs.Stands.{ShowsGraph, KeepsFrom, Stands, IsCore, IsWhole, heap_of, IsWordOf, IsRootWord, Leads, name_in, RemembersFields};
 ghost use Rattle.cards.specs.Cards.{ListsDirtyOnce};
 ghost use Rattle.step_core.specs.Fresh.{fresh_core};
@@ -17,7 +17,7 @@ use evacuation::PauseRoom;
 use heap_words::addr::{Addr, Ptr};
 use heap_words::config::{Config, NewFault};
 use marker::Marker;
-use object_graph::Register;
+use object_graph::{Register, register_place, root_places};
 use region_choice::LiveRow;
 use regions::RegionTable;
 use remembered_sets::RememberedSets;
@@ -49,13 +49,6 @@ impl Model for Core {
     ghost view = { λ c. record { config = c.config; table = c.table; buffers = c.buffers; marker = c.marker; cards = c.cards; sets = c.sets; room = c.room; row_room = vec_capacity c.rows; roots = c.roots.items; next = c.next } };
 
     ghost invariant = { λ c. IsCore (record { config = c.config; table = c.table; buffers = c.buffers; marker = c.marker; cards = c.cards; sets = c.sets; room = c.room; row_room = vec_capacity c.rows; roots = c.roots.items; next = c.next }) };
-}
-
-/// Where a mutator's register stands among the roots, behind the 16 globals.
-pub(crate) fn register_index(mutator: u32, register: Register) -> usize
-    ensures { result ≡ register_place mutator register.number }
-{
-    16 + 8 * mutator as usize + register.number as usize
 }
 
 fn nil_roots(alloc: Global, count: usize) -> Result<Vec<Ptr>, AllocError>
@@ -92,7 +85,7 @@ impl Core {
         let Ok(sets) = RememberedSets::new(alloc, config.regions, cards_per_region) else {
             return Err(NewFault::NoMemory);
         };
-        let Ok(roots) = nil_roots(alloc, 16 + 8 * config.mutators as usize) else {
+        let Ok(roots) = nil_roots(alloc, root_places(config.mutators)) else {
             return Err(NewFault::NoMemory);
         };
         let Ok(room) = PauseRoom::new(alloc, config.regions, config.regions * cards_per_region)
@@ -165,7 +158,7 @@ impl Core {
 
     /// What a root place holds.
     pub(crate) fn root(&self, place: usize) -> Ptr
-        requires { place < 16 + 8 * self.now.config.mutators }
+        requires { place < root_places self.now.config.mutators }
         ensures value { result ≡ slice_index_or self.now.roots place None }
         ensures word { IsWordOf (heap_of self.now) result }
         ensures rooted { IsRootWord (heap_of self.now) result }
@@ -176,7 +169,7 @@ impl Core {
     }
 
     pub(crate) fn set_root(&mut self, place: usize, value: Ptr)
-        requires place { place < 16 + 8 * self.old.config.mutators }
+        requires place { place < root_places self.old.config.mutators }
         requires word { IsWordOf (heap_of self.old) value }
         requires held { IsHeld (heap_of self.old) value }
         ensures shows { (g : Graph) (v : Option ℕ) → ShowsGraph g self.old → IsShown (heap_of self.old) value v → ShowsGraph (with_root g place v) self.new }
@@ -196,7 +189,7 @@ impl Core {
         ensures leads { Leads self.now (register_place mutator register.number) result }
         ensures shows { (g : Graph) → ShowsGraph g self.now → IsShown (heap_of self.now) result (root_at g (register_place mutator register.number)) }
     {
-        self.root(register_index(mutator, register))
+        self.root(register_place(mutator, register))
     }
 
     pub(crate) fn set_register(&mut self, mutator: u32, register: Register, value: Ptr)
@@ -208,7 +201,7 @@ impl Core {
         ensures after { self.new ≡ with_root_word self.old (register_place mutator register.number) value }
         ensures leaves { LeavesRegions self.old self.new }
     {
-        let place = register_index(mutator, register);
+        let place = register_place(mutator, register);
         self.set_root(place, value);
     }
 

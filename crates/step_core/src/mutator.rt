@@ -17,13 +17,13 @@ ghost use Rattle.step_core.specs.Answers.{Acts, HasNoPlace, IsFull, RepliesFull,
 ghost use Rattle.step_core.specs.Mutators.{ActsOn, value_of, weaks_made};
 ghost use Rattle.step_core.specs.Cycle.{LeavesRegions};
 
-use crate::heap::{Core, register_index};
+use crate::heap::Core;
 use alloc_buffers::Place;
 use heap_words::addr::{Addr, Ptr};
 use heap_words::config::Config;
 use heap_words::header;
 use heap_words::header::{Count, FillerSize};
-use object_graph::{Action, Counts, GlobalRoot, Op, Refusal, Register, Reply};
+use object_graph::{Action, Counts, GlobalRoot, Op, Refusal, Register, Reply, register_place};
 use regions::RegionTable;
 
 /// Makes a new object in its place, and answers its address.
@@ -291,7 +291,7 @@ impl Core {
             values: Count::new(counts.values),
         };
         let at = make(&mut self.table, place, name, counts);
-        self.roots[register_index(mutator, to)] = Some(at);
+        self.roots[register_place(mutator, to)] = Some(at);
         self.next += 1;
         Reply::Named(Some(name))
     }

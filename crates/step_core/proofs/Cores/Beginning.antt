@@ -9,7 +9,7 @@ use Rattle.regions.specs.Table.{Table, Free, free_table, object_at, tile_in, reg
 use Rattle.regions.proofs.Tiles.Making.{free_table-unmoved}
 use Rattle.heap_model.specs.Graph.{IsSound}
 use Rattle.heap_model.proofs.Unreached.{unreached_begins}
-use Rattle.object_graph.specs.State.{first_graph, first_state}
+use Rattle.object_graph.specs.State.{first_graph, first_state, root_places}
 use Rattle.object_graph.proofs.Sound.{first_sound}
 use Rattle.object_graph.proofs.SinceLaws.{holds_sound}
 use Rattle.heap_words.specs.Configs.{Suits}
@@ -46,7 +46,7 @@ nil_shown h zero = tt
 nil_shown h (suc p) = (tt, nil_shown h p)
 
 abbrev pub first_core : Config → Marker → RoomSizes → ℕ → CoreState
-first_core g m d r = record { config = g; table = free_table g.regions g.words; buffers = closed g.buffer g.mutators; marker = m; cards = clean_cards (g.regions * (g.words / card_words g)) g.mutators; sets = empty_sets g.regions (g.words / card_words g); room = d; row_room = r; roots = replicate (16 + 8 * g.mutators) None; next = g.first_name }
+first_core g m d r = record { config = g; table = free_table g.regions g.words; buffers = closed g.buffer g.mutators; marker = m; cards = clean_cards (g.regions * (g.words / card_words g)) g.mutators; sets = empty_sets g.regions (g.words / card_words g); room = d; row_room = r; roots = replicate (root_places g.mutators) None; next = g.first_name }
 
 none_kept : (g : Config) (m : Marker) (d : RoomSizes) (r : ℕ) (a : ℕ) (x : Stored) → kept_of (first_core g m d r) a ≡ Some x → ⊥
 none_kept g m d r a x e = let none = nothing_at g.regions g.words a in let is = object_kept (first_core g m d r) a x e in cc
@@ -57,7 +57,7 @@ first_shows g m d r = record {
   mutators = refl;
   next = omega arith;
   shows = record {
-    roots = nil_shown (heap_of (first_core g m d r)) (16 + 8 * g.mutators);
+    roots = nil_shown (heap_of (first_core g m d r)) (root_places g.mutators);
     distinct = λ a b x y h k n. absurd (none_kept g m d r a x h);
     objects = λ a x h. absurd (none_kept g m d r a x h);
   };
@@ -129,7 +129,7 @@ first_is g m d r stand suits to rows names idle logs stands =
       remembers = remembers_none (first_core g m d r).table.words_per_region (card_words g) (kept_of (first_core g m d r)) (is_dirty (first_core g m d r).cards) (covers (first_core g m d r).sets) (first_none g m d r);
       room = to;
       rows = rows;
-      places = length-replicate (16 + 8 * g.mutators) None;
+      places = length-replicate (root_places g.mutators) None;
       names = names;
       footing = record { graph = first_graph g; snapshot = first_graph g };
       rests = record {

@@ -9,7 +9,7 @@ use Rattle.heap_model.proofs.Unreached.{unreached_root, unreached_written}
 use Rattle.regions.specs.Table.{Table, object_at, pointers_at, weaks_at, values_at, set_value}
 use Rattle.regions.proofs.Tiles.Changes.{WritesObject, value_put}
 use Rattle.regions.proofs.Words.Values.{with_value}
-use Rattle.object_graph.specs.State.{root_at, with_root, register_place}
+use Rattle.object_graph.specs.State.{root_at, with_root, root_places, register_place}
 use Rattle.object_graph.specs.Machine.{Outcome, act}
 use Rattle.object_graph.specs.declared.step.Action.TheVariants as actions
 use Rattle.object_graph.specs.declared.step.Reply.TheVariants as replies
@@ -34,7 +34,7 @@ pub record RootFacts (c : CoreState) (place : ℕ) (w : Option ℕ) : Type 0 whe
   pub leads : Leads c place w
   pub shows : (g : Graph) → ShowsGraph g c → IsShown (heap_of c) w (root_at g place)
 
-pub root_facts : (k c : CoreState) (place : ℕ) (w : Option ℕ) → k ≡ c → IsCore k → place < 16 + 8 * c.config.mutators → w ≡ get_or k.roots place w → RootFacts c place w
+pub root_facts : (k c : CoreState) (place : ℕ) (w : Option ℕ) → k ≡ c → IsCore k → place < root_places c.config.mutators → w ≡ get_or k.roots place w → RootFacts c place w
 root_facts k c place w e core k0 r =
     let core' = core_of k c e core in
     let within : place < length c.roots = omega (arith, core'.places) in

@@ -10,7 +10,7 @@ invariant_of-self-2 c =
     let words : c.from.result * c.from-2.result ≡ c.self.inside.config.regions * c.self.inside.config.words = ap (λ (n : ℕ). n * c.from-2.result) c.from.ensures ∙ ap (λ (n : ℕ). c.self.inside.config.regions * n) c.from-2.ensures in
     let layers = c.self.invariant.layers in
     let w = creates _ _ _ _ c.in-Ok.place _ c.self.inside.next c.args.counts.pointers c.args.weaks c.args.counts.values c.law.ensures c.law-2.ensures layers.unmoved layers.buffers c.in-Ok.ensures.placed (omega (arith, c.size-size.ensures)) in
-    rw (c.register_index.ensures, c.make-at.ensures.at, made) (new_kept _ c.args.mutator c.args.to _ _ _ c.args.counts.pointers c.args.weaks c.args.counts.values c.self.invariant w (omega (arith, words, c.size-size.ensures)) c.if-self.false)
+    rw (c.register_place.ensures, c.make-at.ensures.at, made) (new_kept _ c.args.mutator c.args.to _ _ _ c.args.counts.pointers c.args.weaks c.args.counts.values c.self.invariant w (omega (arith, words, c.size-size.ensures)) c.if-self.false)
 
 pub returns-clause-acts : goal.returns-clause-acts
 returns-clause-acts c = λ g s.
@@ -19,7 +19,7 @@ returns-clause-acts c = λ g s.
     let layers = c.self.invariant.layers in
     let w = creates _ _ _ _ c.in-Ok.place _ c.self.inside.next c.args.counts.pointers c.args.weaks c.args.counts.values c.law.ensures c.law-2.ensures layers.unmoved layers.buffers c.in-Ok.ensures.placed (omega (arith, c.size-size.ensures)) in
     let s' = subst (λ (d : CoreState). ShowsGraph g d) (sym c.self.view_is) s in
-    inl (rw (c.register_index.ensures, c.make-at.ensures.at, made) (new_acts _ c.args.mutator c.args.to _ _ _ c.args.counts.pointers c.args.weaks c.args.counts.values c.self.invariant w (omega (arith, words, c.size-size.ensures)) c.if-self.false g s'))
+    inl (rw (c.register_place.ensures, c.make-at.ensures.at, made) (new_acts _ c.args.mutator c.args.to _ _ _ c.args.counts.pointers c.args.weaks c.args.counts.values c.self.invariant w (omega (arith, words, c.size-size.ensures)) c.if-self.false g s'))
 
 pub returns-clause-keeps : goal.returns-clause-keeps
 returns-clause-keeps c = λ s f.
@@ -28,7 +28,7 @@ returns-clause-keeps c = λ s f.
     let layers = c.self.invariant.layers in
     let w = creates _ _ _ _ c.in-Ok.place _ c.self.inside.next c.args.counts.pointers c.args.weaks c.args.counts.values c.law.ensures c.law-2.ensures layers.unmoved layers.buffers c.in-Ok.ensures.placed (omega (arith, c.size-size.ensures)) in
     let f' = subst (λ (d : CoreState). KeepsFrom s d) (sym c.self.view_is) f in
-    rw (c.register_index.ensures, c.make-at.ensures.at, made) (new_keeps _ c.args.mutator c.args.to _ _ _ c.args.counts.pointers c.args.weaks c.args.counts.values c.self.invariant w (omega (arith, words, c.size-size.ensures)) c.if-self.false s f')
+    rw (c.register_place.ensures, c.make-at.ensures.at, made) (new_keeps _ c.args.mutator c.args.to _ _ _ c.args.counts.pointers c.args.weaks c.args.counts.values c.self.invariant w (omega (arith, words, c.size-size.ensures)) c.if-self.false s f')
 
 pub returns-clause-leaves : goal.returns-clause-leaves
 returns-clause-leaves c =
@@ -36,4 +36,4 @@ returns-clause-leaves c =
     let words : c.from.result * c.from-2.result ≡ c.self.inside.config.regions * c.self.inside.config.words = ap (λ (n : ℕ). n * c.from-2.result) c.from.ensures ∙ ap (λ (n : ℕ). c.self.inside.config.regions * n) c.from-2.ensures in
     let layers = c.self.invariant.layers in
     let w = creates _ _ _ _ c.in-Ok.place _ c.self.inside.next c.args.counts.pointers c.args.weaks c.args.counts.values c.law.ensures c.law-2.ensures layers.unmoved layers.buffers c.in-Ok.ensures.placed (omega (arith, c.size-size.ensures)) in
-    rw (c.register_index.ensures, c.make-at.ensures.at, made) (new_leaves _ c.args.mutator c.args.to _ _ _ c.args.counts.pointers c.args.weaks c.args.counts.values c.self.invariant w (omega (arith, words, c.size-size.ensures)) c.if-self.false _ c.self.view_is)
+    rw (c.register_place.ensures, c.make-at.ensures.at, made) (new_leaves _ c.args.mutator c.args.to _ _ _ c.args.counts.pointers c.args.weaks c.args.counts.values c.self.invariant w (omega (arith, words, c.size-size.ensures)) c.if-self.false _ c.self.view_is)

@@ -7,23 +7,23 @@ pub invariant_of-self : goal.invariant_of-self
 invariant_of-self c = idle_kept _ _ c.self.view_is c.self.invariant _ c.args.value.now c.requires.word c.if-not-self.true
 
 pub returns-then-not-self-clause-shows : goal.returns-then-not-self-clause-shows
-returns-then-not-self-clause-shows c = rw c.register_index.ensures (idle_shows _ _ c.self.view_is c.self.invariant _ c.args.value.now c.requires.word c.if-not-self.true)
+returns-then-not-self-clause-shows c = rw c.register_place.ensures (idle_shows _ _ c.self.view_is c.self.invariant _ c.args.value.now c.requires.word c.if-not-self.true)
 
 pub returns-then-not-self-clause-keeps : goal.returns-then-not-self-clause-keeps
-returns-then-not-self-clause-keeps c = idle_keeps _ _ c.self.view_is c.self.invariant c.register_index.result c.args.value.now c.requires.word c.if-not-self.true
+returns-then-not-self-clause-keeps c = idle_keeps _ _ c.self.view_is c.self.invariant c.register_place.result c.args.value.now c.requires.word c.if-not-self.true
 
 pub returns-then-not-self-clause-leaves : goal.returns-then-not-self-clause-leaves
-returns-then-not-self-clause-leaves c = touch_leaves _ _ c.self.view_is c.self.invariant c.register_index.result c.args.value.now c.requires.word _
+returns-then-not-self-clause-leaves c = touch_leaves _ _ c.self.view_is c.self.invariant c.register_place.result c.args.value.now c.requires.word _
 
 pub save-full-requires-clause-kept : goal.save-full-requires-clause-kept
-save-full-requires-clause-kept c = word_kept _ _ c.self.view_is c.self.invariant c.register_index.result c.args.value.now c.requires.word
+save-full-requires-clause-kept c = word_kept _ _ c.self.view_is c.self.invariant c.register_place.result c.args.value.now c.requires.word
 
 pub invariant_of-self-then-full : goal.invariant_of-self-then-full
 invariant_of-self-then-full c =
     let s = c.save-full.ensures in
     let t = c.take_log.ensures in
     let known = known_log _ _ c.self.view_is c.self.invariant c.args.mutator _ s.mutators c.requires.known in
-    taken_kept _ _ c.self.view_is c.self.invariant c.register_index.result c.args.value.now c.requires.word c.if-not-self.false _ s.same s.saved _ t.same t.snapshots t.stands
+    taken_kept _ _ c.self.view_is c.self.invariant c.register_place.result c.args.value.now c.requires.word c.if-not-self.false _ s.same s.saved _ t.same t.snapshots t.stands
     (ap (λ (ls : List (List ℕ)). length ls) t.emptied ∙ length-set c.save-full.new.self.logs c.args.mutator [] ∙ s.mutators)
     (taken_room c.self.inside.marker.logs _ _ c.args.mutator c.self.invariant.layers.room s.others known t.emptied)
 
@@ -31,16 +31,16 @@ pub returns-then-full-clause-shows : goal.returns-then-full-clause-shows
 returns-then-full-clause-shows c =
     let s = c.save-full.ensures in
     let t = c.take_log.ensures in
-    rw c.register_index.ensures (taken_shows _ _ c.self.view_is c.self.invariant _ c.args.value.now c.requires.word c.if-not-self.false _ s.same s.saved _ t.same t.snapshots)
+    rw c.register_place.ensures (taken_shows _ _ c.self.view_is c.self.invariant _ c.args.value.now c.requires.word c.if-not-self.false _ s.same s.saved _ t.same t.snapshots)
 
 pub returns-then-full-clause-keeps : goal.returns-then-full-clause-keeps
 returns-then-full-clause-keeps c =
     let s = c.save-full.ensures in
     let t = c.take_log.ensures in
-    taken_keeps _ _ c.self.view_is c.self.invariant c.register_index.result c.args.value.now c.requires.word c.if-not-self.false _ s.same s.saved _ t.same t.snapshots
+    taken_keeps _ _ c.self.view_is c.self.invariant c.register_place.result c.args.value.now c.requires.word c.if-not-self.false _ s.same s.saved _ t.same t.snapshots
 
 pub returns-then-full-clause-leaves : goal.returns-then-full-clause-leaves
-returns-then-full-clause-leaves c = touch_leaves _ _ c.self.view_is c.self.invariant c.register_index.result c.args.value.now c.requires.word _
+returns-then-full-clause-leaves c = touch_leaves _ _ c.self.view_is c.self.invariant c.register_place.result c.args.value.now c.requires.word _
 
 pub returns-then-full-clause-marker : goal.returns-then-full-clause-marker
 returns-then-full-clause-marker c =
@@ -52,21 +52,21 @@ returns-then-full-clause-marker c =
 pub invariant_of-self-else-full : goal.invariant_of-self-else-full
 invariant_of-self-else-full c =
     let s = c.save-full.ensures in
-    taken_kept _ _ c.self.view_is c.self.invariant c.register_index.result c.args.value.now c.requires.word c.if-not-self.false _ s.same s.saved _ (same_roles _) (λ t g roots shows keeps. keeps) s.stands s.mutators
+    taken_kept _ _ c.self.view_is c.self.invariant c.register_place.result c.args.value.now c.requires.word c.if-not-self.false _ s.same s.saved _ (same_roles _) (λ t g roots shows keeps. keeps) s.stands s.mutators
     (saved_room c.self.inside.marker.logs _ c.args.mutator c.self.invariant.layers.room s.others s.most (sym s.full ∙ c.if-full.false))
 
 pub returns-else-full-clause-shows : goal.returns-else-full-clause-shows
 returns-else-full-clause-shows c =
     let s = c.save-full.ensures in
-    rw c.register_index.ensures (taken_shows _ _ c.self.view_is c.self.invariant _ c.args.value.now c.requires.word c.if-not-self.false _ s.same s.saved _ (same_roles _) (λ t g roots shows keeps. keeps))
+    rw c.register_place.ensures (taken_shows _ _ c.self.view_is c.self.invariant _ c.args.value.now c.requires.word c.if-not-self.false _ s.same s.saved _ (same_roles _) (λ t g roots shows keeps. keeps))
 
 pub returns-else-full-clause-keeps : goal.returns-else-full-clause-keeps
 returns-else-full-clause-keeps c =
     let s = c.save-full.ensures in
-    taken_keeps _ _ c.self.view_is c.self.invariant c.register_index.result c.args.value.now c.requires.word c.if-not-self.false _ s.same s.saved _ (same_roles _) (λ t g roots shows keeps. keeps)
+    taken_keeps _ _ c.self.view_is c.self.invariant c.register_place.result c.args.value.now c.requires.word c.if-not-self.false _ s.same s.saved _ (same_roles _) (λ t g roots shows keeps. keeps)
 
 pub returns-else-full-clause-leaves : goal.returns-else-full-clause-leaves
-returns-else-full-clause-leaves c = touch_leaves _ _ c.self.view_is c.self.invariant c.register_index.result c.args.value.now c.requires.word _
+returns-else-full-clause-leaves c = touch_leaves _ _ c.self.view_is c.self.invariant c.register_place.result c.args.value.now c.requires.word _
 
 pub returns-else-full-clause-marker : goal.returns-else-full-clause-marker
 returns-else-full-clause-marker c =
