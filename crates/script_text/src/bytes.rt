@@ -67,6 +67,7 @@ pub fn put_number(buffer: &mut [u8], at: usize, number: u64) -> usize
 }
 
 /// Puts a number of 32 bits behind the first `at` bytes, and answers where it ends. It has at most 10 digits.
+#[inline(always)]
 pub(crate) fn put_small(buffer: &mut [u8], at: usize, number: u32) -> usize
     requires { at + 10 ≤ length buffer.old }
     ensures put { take result buffer.new ≡ take at buffer.old ++ decimal number }

@@ -16,6 +16,7 @@ use object_graph::{
 pub(crate) const LINE_ROOM: usize = 128;
 
 /// A text that ends in a space, and a number.
+#[inline(always)]
 fn put_count(buffer: &mut [u8], at: usize, word: &[u8], count: u32) -> usize
     requires { at + length word.now + 10 ≤ length buffer.old }
     ensures put { take result buffer.new ≡ take at buffer.old ++ word.now ++ decimal count }
@@ -112,6 +113,7 @@ fn put_named(buffer: &mut [u8], at: usize, word: &[u8], register: Register) -> u
 }
 
 /// A text that ends in a space, a register and a number.
+#[inline(always)]
 fn put_field(buffer: &mut [u8], at: usize, word: &[u8], object: Register, field: u32) -> usize
     requires { at + length word.now + 13 ≤ length buffer.old }
     ensures put { take result buffer.new ≡ take at buffer.old ++ word.now ++ register_word object ++ codes " " ++ decimal field }
@@ -134,6 +136,7 @@ fn put_value(buffer: &mut [u8], at: usize, value: Option<Register>) -> usize
 }
 
 /// A verb and a space, the register that takes a field, and the object with its field.
+#[inline(always)]
 fn put_taken(
     buffer: &mut [u8],
     at: usize,
@@ -151,6 +154,7 @@ fn put_taken(
 }
 
 /// A verb and a space, the object with its field, and what the field takes.
+#[inline(always)]
 fn put_stored(
     buffer: &mut [u8],
     at: usize,

@@ -64,6 +64,7 @@ impl Core {
     /// where the graph would create an object and the heap has no place for it; a step of the collector is refused exactly
     /// where marking runs and it mustn't, or doesn't and it must. Regions are reclaimed by a cleanup, those that
     /// hold nothing live, and by a pause, those that it evacuates. No step takes memory.
+    #[inline(always)]
     pub fn step(&mut self, step: Step) -> Reply
         requires { IsStep self.old.config step }
         ensures follows { (s : State) → Stands s self.old → Follows s step result self.new }
