@@ -196,9 +196,8 @@ fn job_of<'a>(name: &str, found: &ArgMatches<'a>) -> Option<Job<'a>> {
     })
 }
 
-/// What the words of a command line ask for, or the text for the user.
-pub fn read_words<'a>(alloc: Global, words: &'a [String]) -> Result<Job<'a>, Error> {
-    let mut command = command(alloc)?;
+/// What a command line's words ask for, by the commands that there are.
+fn job_among<'a>(command: &mut Command<'a>, words: &'a [String]) -> Result<Job<'a>, Error> {
     let matches = command.try_get_matches_from_mut(words)?;
     let Some((name, found)) = matches.subcommand() else {
         return Err(command.error(ErrorKind::MissingSubcommand, "a subcommand is required")?);
@@ -207,6 +206,12 @@ pub fn read_words<'a>(alloc: Global, words: &'a [String]) -> Result<Job<'a>, Err
         return Err(command.error(ErrorKind::MissingRequiredArgument, "an argument is missing")?);
     };
     Ok(job)
+}
+
+/// What the words of a command line ask for, or the text for the user.
+pub fn read_words<'a>(alloc: Global, words: &'a [String]) -> Result<Job<'a>, Error> {
+    let mut command = command(alloc)?;
+    job_among(&mut command, words)
 }
 
 /// The text for the user where a word isn't UTF-8.

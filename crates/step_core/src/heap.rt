@@ -1,6 +1,6 @@
 //! The core: the heap's layers in one value, and its root places.
 
-ghost use Rattle.std.specs.Prelude.{◌≡◌, ℕ, ◌<◌, ◌≤◌, ◌+◌, ◌*◌, length, Option, Some, None, slice_index_or, IfOk, IfErr, OnOk, false, replicate};
+ghost use Rattle.std.specs.Prelude.{◌≡◌, ℕ, ◌<◌, ◌≤◌, ◌+◌, ◌*◌, length, Option, Some, None, slice_index_or, IfOk, IfErr, OnOk};
 ghost use Rattle.heap_words.specs.Configs.{Suits, IsNewFault};
 ghost use Rattle.heap_model.specs.Graph.{Graph};
 ghost use Rattle.heap_model.specs.Heap.{IsShown, IsHeld};
@@ -11,6 +11,7 @@ ghost use Rattle.step_core.specs.Fresh.{fresh_core};
 ghost use Rattle.step_core.specs.Mutators.{register_of, with_root_word};
 ghost use Rattle.step_core.specs.Cycle.{LeavesRegions};
 
+use crate::layers::{Collecting, Mutating, Pausing, Remembering, new_collecting, new_mutating};
 use alloc_buffers::AllocBuffers;
 use cards::CardTable;
 use evacuation::PauseRoom;
@@ -21,12 +22,11 @@ use object_graph::{Register, register_place, root_places};
 use region_choice::LiveRow;
 use regions::RegionTable;
 use remembered_sets::RememberedSets;
-use std::alloc::{AllocError, Global};
+use std::alloc::Global;
 use std::marker::Model;
 
 /// A heap: its table of regions, its allocation buffers, its marker, its dirty cards and remembered sets, the room that a pause
 /// uses, its roots and the name of its next object.
-#[derive(Drop)]
 pub struct Core {
     pub(crate) config: Config,
     pub(crate) table: RegionTable,
@@ -51,10 +51,22 @@ impl Model for Core {
     ghost invariant = { λ c. IsCore (record { config = c.config; table = c.table; buffers = c.buffers; marker = c.marker; cards = c.cards; sets = c.sets; room = c.room; row_room = vec_capacity c.rows; roots = c.roots.items; next = c.next }) };
 }
 
-fn nil_roots(alloc: Global, count: usize) -> Result<Vec<Ptr>, AllocError>
-    ensures { IfOk result (λ v. v.items ≡ replicate count None) }
-{
-    vec![in alloc; None; count]
+/// Where a core is let go there is one call, and not a drop for each part of each layer.
+impl Drop for Core {
+    fn drop(self) {
+        let Core {
+            config: _,
+            table: _,
+            buffers: _,
+            marker: _,
+            cards: _,
+            sets: _,
+            room: _,
+            rows: _,
+            roots: _,
+            next: _,
+        } = self;
+    }
 }
 
 impl Core {
@@ -71,30 +83,24 @@ impl Core {
             Ok(table) => table,
             Err(fault) => return Err(fault),
         };
-        let Ok(buffers) = AllocBuffers::new(alloc, config) else {
+        let Ok(mutating) = new_mutating(alloc, config) else {
             return Err(NewFault::NoMemory);
         };
-        let Ok(marker) = Marker::new(alloc, config) else {
+        let Ok(collecting) = new_collecting(alloc, config) else {
             return Err(NewFault::NoMemory);
         };
-        let cards_per_region = config.words / config.card_words();
-        let Ok(cards) = CardTable::new(alloc, config.regions * cards_per_region, config.mutators)
-        else {
-            return Err(NewFault::NoMemory);
-        };
-        let Ok(sets) = RememberedSets::new(alloc, config.regions, cards_per_region) else {
-            return Err(NewFault::NoMemory);
-        };
-        let Ok(roots) = nil_roots(alloc, root_places(config.mutators)) else {
-            return Err(NewFault::NoMemory);
-        };
-        let Ok(room) = PauseRoom::new(alloc, config.regions, config.regions * cards_per_region)
-        else {
-            return Err(NewFault::NoMemory);
-        };
-        let Ok(rows) = Vec::with_capacity(alloc, config.regions as usize) else {
-            return Err(NewFault::NoMemory);
-        };
+        let Mutating {
+            buffers,
+            roots,
+            next,
+        } = mutating;
+        let Collecting {
+            marker,
+            remembering,
+            pausing,
+        } = collecting;
+        let Remembering { cards, sets } = remembering;
+        let Pausing { room, rows } = pausing;
         Ok(Core {
             config: *config,
             table,
@@ -105,7 +111,7 @@ impl Core {
             room,
             rows,
             roots,
-            next: config.first_name,
+            next,
         })
     }
 

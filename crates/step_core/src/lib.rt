@@ -24,7 +24,7 @@
 //!
 //! `steps` has the mutator's steps, `barrier` what a store and a weak read do beside, `cycle` the steps of marking, `cleanup` the
 //! reclaiming, `refine` refinement, `candidates` the choice of what a pause evacuates, `pause` the pause, `step` any step,
-//! `runs` a list of them, `readers` what is read of a core from outside.
+//! `runs` a list of them, `readers` what is read of a core from outside, `layers` the parts that a new core is made of.
 //!
 //! A field is read or written in constant time: no step tests or walks its region to see that an address is an object.
 #![tactic(auto)]
@@ -34,6 +34,7 @@ mod candidates;
 mod cleanup;
 mod cycle;
 mod heap;
+mod layers;
 mod mutator;
 mod pause;
 mod readers;

@@ -4,19 +4,26 @@ use Rattle.step_core.proofs.heap.Core.new.Goals as goal
 
 pub invariant_of-result : goal.invariant_of-result
 invariant_of-result c =
-    let m = c.in-Ok-new-2.ensures in
-    rw (c.in-Ok.ensures.made, c.in-Ok-new.ensures.closed, c.in-Ok-new-3.ensures, c.in-Ok-new-4.ensures, c.in-Ok-nil_roots.ensures, c.root_places.ensures, c.card_words.ensures)
-    (first_is c.args.config.now c.in-Ok-new-2.marker _ _ (rw c.in-Ok-new.ensures.closed at c.in-Ok-new.ensures.stand) (c.in-Ok.ensures.suits refl) (rw (c.in-Ok-new-5.ensures, c.card_words.ensures) (record { regions = refl; cards = refl })) c.in-Ok-with_capacity.ensures.capacity (omega arith) m.idle m.logs m.stands)
+    let m = c.in-Ok-new_mutating.ensures in
+    let k = c.in-Ok-new_collecting.ensures in
+    rw (c.in-Ok.ensures.made, m.closed, m.roots, m.next, k.cards, k.sets)
+    (first_is c.args.config.now c.in-Ok-new_collecting.collecting.marker _ _ (rw m.closed at m.stand) (c.in-Ok.ensures.suits refl) (rw k.room (record { regions = refl; cards = refl })) (omega (arith, k.rows)) (omega (arith, m.next, m.names)) k.idle k.logs k.stands)
 
 pub returns-clause-stands : goal.returns-clause-stands
 returns-clause-stands c =
-    rw (c.in-Ok.ensures.made, c.in-Ok-new.ensures.closed, c.in-Ok-new-3.ensures, c.in-Ok-new-4.ensures, c.in-Ok-nil_roots.ensures, c.root_places.ensures, c.card_words.ensures) (first_stands c.args.config.now c.in-Ok-new-2.marker _ _ c.in-Ok-new-2.ensures.idle)
+    let m = c.in-Ok-new_mutating.ensures in
+    let k = c.in-Ok-new_collecting.ensures in
+    rw (c.in-Ok.ensures.made, m.closed, m.roots, m.next, k.cards, k.sets) (first_stands c.args.config.now c.in-Ok-new_collecting.collecting.marker _ _ k.idle)
 
 pub returns-clause-core : goal.returns-clause-core
 returns-clause-core c =
-    let m = c.in-Ok-new-2.ensures in
-    rw (c.in-Ok.ensures.made, c.in-Ok-new.ensures.closed, c.in-Ok-new-3.ensures, c.in-Ok-new-4.ensures, c.in-Ok-nil_roots.ensures, c.root_places.ensures, c.card_words.ensures)
-    (first_is c.args.config.now c.in-Ok-new-2.marker _ _ (rw c.in-Ok-new.ensures.closed at c.in-Ok-new.ensures.stand) (c.in-Ok.ensures.suits refl) (rw (c.in-Ok-new-5.ensures, c.card_words.ensures) (record { regions = refl; cards = refl })) c.in-Ok-with_capacity.ensures.capacity (omega arith) m.idle m.logs m.stands)
+    let m = c.in-Ok-new_mutating.ensures in
+    let k = c.in-Ok-new_collecting.ensures in
+    rw (c.in-Ok.ensures.made, m.closed, m.roots, m.next, k.cards, k.sets)
+    (first_is c.args.config.now c.in-Ok-new_collecting.collecting.marker _ _ (rw m.closed at m.stand) (c.in-Ok.ensures.suits refl) (rw k.room (record { regions = refl; cards = refl })) (omega (arith, k.rows)) (omega (arith, m.next, m.names)) k.idle k.logs k.stands)
 
-pub returns-in_default-with_capacity-clause-fault : goal.returns-in_default-with_capacity-clause-fault
-returns-in_default-with_capacity-clause-fault c = c.in-Ok.ensures.suits refl
+pub returns-clause-fresh : goal.returns-clause-fresh
+returns-clause-fresh c =
+    let m = c.in-Ok-new_mutating.ensures in
+    let k = c.in-Ok-new_collecting.ensures in
+    rw (c.in-Ok.ensures.made, m.closed, m.roots, m.next, k.marker, k.cards, k.sets, k.room, k.rows) refl

@@ -1,0 +1,132 @@
+//! The layers of a new core, made in groups.
+//!
+//! Making one may be refused for memory, and then those that were made before it are dropped. Each function here makes two or three, and
+//! `Core::new` three: the proof of one that makes all eight grows with each way out, past any useful time.
+
+ghost use Rattle.std.specs.Prelude.{◌≡◌, ℕ, ◌<◌, ◌*◌, ◌/◌, ◌^◌, length, None, [], false, replicate, IfOk, vec_capacity};
+ghost use Rattle.heap_words.specs.Configs.{Suits, card_words};
+ghost use Rattle.regions.specs.Table.{Table};
+ghost use Rattle.alloc_buffers.specs.Placement.{BuffersStand, closed};
+ghost use Rattle.marker.specs.Stands.{MarkerStands};
+ghost use Rattle.marker.specs.Views.{fresh_marker};
+ghost use Rattle.cards.specs.Cards.{clean_cards};
+ghost use Rattle.remembered_sets.specs.Sets.{empty_sets};
+ghost use Rattle.object_graph.specs.State.{root_places};
+
+use alloc_buffers::AllocBuffers;
+use cards::CardTable;
+use evacuation::PauseRoom;
+use heap_words::addr::Ptr;
+use heap_words::config::Config;
+use marker::Marker;
+use object_graph::root_places;
+use region_choice::LiveRow;
+use remembered_sets::RememberedSets;
+use std::alloc::{AllocError, Global};
+
+/// What the mutators' steps work on, beside the table of regions.
+#[derive(Drop)]
+pub(crate) struct Mutating {
+    pub(crate) buffers: AllocBuffers,
+    pub(crate) roots: Vec<Ptr>,
+    pub(crate) next: u64,
+}
+
+/// What remembers cross-region pointers.
+#[derive(Drop)]
+pub(crate) struct Remembering {
+    pub(crate) cards: CardTable,
+    pub(crate) sets: RememberedSets,
+}
+
+/// What a pause works in.
+#[derive(Drop)]
+pub(crate) struct Pausing {
+    pub(crate) room: PauseRoom,
+    pub(crate) rows: Vec<LiveRow>,
+}
+
+/// What the collector works on, beside the table of regions.
+#[derive(Drop)]
+pub(crate) struct Collecting {
+    pub(crate) marker: Marker,
+    pub(crate) remembering: Remembering,
+    pub(crate) pausing: Pausing,
+}
+
+fn nil_roots(alloc: Global, count: usize) -> Result<Vec<Ptr>, AllocError>
+    ensures { IfOk result (λ v. v.items ≡ replicate count None) }
+{
+    vec![in alloc; None; count]
+}
+
+fn first_name(config: &Config) -> u64
+    ensures { result ≡ config.now.first_name }
+{
+    config.first_name
+}
+
+/// No open buffer, each root nil, and the first name the next.
+pub(crate) fn new_mutating(alloc: Global, config: &Config) -> Result<Mutating, AllocError>
+    requires { Suits config.now }
+    ensures closed { IfOk result (λ m. m.buffers ≡ closed config.now.buffer config.now.mutators) }
+    ensures stand { IfOk result (λ m. (t : Table) → BuffersStand t m.buffers) }
+    ensures roots { IfOk result (λ m. m.roots.items ≡ replicate (root_places config.now.mutators) None) }
+    ensures next { IfOk result (λ m. m.next ≡ config.now.first_name) }
+    ensures names { IfOk result (λ m. m.next < 2 ^ 64) }
+{
+    let buffers = AllocBuffers::new(alloc, config)?;
+    let roots = nil_roots(alloc, root_places(config.mutators))?;
+    let next = first_name(config);
+    Ok(Mutating {
+        buffers,
+        roots,
+        next,
+    })
+}
+
+/// Each card clean, and each remembered set empty.
+fn new_remembering(alloc: Global, config: &Config) -> Result<Remembering, AllocError>
+    requires { Suits config.now }
+    ensures cards { IfOk result (λ r. r.cards ≡ clean_cards (config.now.regions * (config.now.words / card_words config.now)) config.now.mutators) }
+    ensures sets { IfOk result (λ r. r.sets ≡ empty_sets config.now.regions (config.now.words / card_words config.now)) }
+{
+    let cards_per_region = config.words / config.card_words();
+    let cards = CardTable::new(alloc, config.regions * cards_per_region, config.mutators)?;
+    let sets = RememberedSets::new(alloc, config.regions, cards_per_region)?;
+    Ok(Remembering { cards, sets })
+}
+
+/// Room for a pause over every region and every card.
+fn new_pausing(alloc: Global, config: &Config) -> Result<Pausing, AllocError>
+    requires { Suits config.now }
+    ensures room { IfOk result (λ p. p.room ≡ record { regions = config.now.regions; cards = config.now.regions * (config.now.words / card_words config.now) }) }
+    ensures rows { IfOk result (λ p. vec_capacity p.rows ≡ config.now.regions) }
+{
+    let cards_per_region = config.words / config.card_words();
+    let room = PauseRoom::new(alloc, config.regions, config.regions * cards_per_region)?;
+    let rows = Vec::with_capacity(alloc, config.regions as usize)?;
+    Ok(Pausing { room, rows })
+}
+
+/// Marking doesn't run and nothing is marked, nothing is remembered, and a pause has room.
+pub(crate) fn new_collecting(alloc: Global, config: &Config) -> Result<Collecting, AllocError>
+    requires { Suits config.now }
+    ensures marker { IfOk result (λ c. c.marker ≡ fresh_marker config.now) }
+    ensures stands { IfOk result (λ c. (t : Table) → length t.regions ≡ config.now.regions → t.words_per_region ≡ config.now.words → MarkerStands t c.marker) }
+    ensures idle { IfOk result (λ c. c.marker.running ≡ false) }
+    ensures logs { IfOk result (λ c. c.marker.logs ≡ replicate config.now.mutators []) }
+    ensures cards { IfOk result (λ c. c.remembering.cards ≡ clean_cards (config.now.regions * (config.now.words / card_words config.now)) config.now.mutators) }
+    ensures sets { IfOk result (λ c. c.remembering.sets ≡ empty_sets config.now.regions (config.now.words / card_words config.now)) }
+    ensures room { IfOk result (λ c. c.pausing.room ≡ record { regions = config.now.regions; cards = config.now.regions * (config.now.words / card_words config.now) }) }
+    ensures rows { IfOk result (λ c. vec_capacity c.pausing.rows ≡ config.now.regions) }
+{
+    let marker = Marker::new(alloc, config)?;
+    let remembering = new_remembering(alloc, config)?;
+    let pausing = new_pausing(alloc, config)?;
+    Ok(Collecting {
+        marker,
+        remembering,
+        pausing,
+    })
+}
