@@ -1,0 +1,123 @@
+//! Each public call on a text, where memory is there.
+
+use super::words;
+use crate::actors::{simulate_script, thread_script};
+use crate::job::{Order, Task, misspelt, read_words};
+use crate::judge::judge_record;
+use crate::program::refuse;
+use crate::script::run_script;
+use crate::view::view_script;
+use object_graph::Verdict;
+use std::alloc::Global;
+use std::test::Fail;
+
+const SCRIPT: &[u8] = b"heap 4 16 8 1 0\n0 new r0 1 1\n";
+
+const RECORD: &[u8] = b"heap 4 16 8 1 0\n1 0 new r0 1 1 = #0\n";
+
+#[test]
+fn runs_a_script(rt: HostRuntime) {
+    let mut out = Vec::new(rt.alloc());
+    let mut reader = SCRIPT;
+    assert_eq!(rt; run_script(rt.alloc(), &mut reader, &mut out), Ok(()));
+    assert_eq!(rt; out.as_slice(), RECORD);
+}
+
+#[test]
+fn simulates_a_script(rt: HostRuntime) {
+    let mut out = Vec::new(rt.alloc());
+    let mut reader = SCRIPT;
+    assert_eq!(rt;
+        simulate_script(rt.alloc(), 4, 0, 0, &mut reader, &mut out),
+        Ok(())
+    );
+    assert_eq!(rt; out.as_slice(), RECORD);
+}
+
+#[test]
+fn threads_a_script(rt: HostRuntime) {
+    let mut out = Vec::new(rt.alloc());
+    let mut reader = SCRIPT;
+    assert_eq!(rt;
+        thread_script(&rt, rt.alloc(), 2, 0, 0, &mut reader, &mut out),
+        Ok(())
+    );
+    assert_eq!(rt; out.as_slice(), RECORD);
+}
+
+#[test]
+fn judges_a_record(rt: HostRuntime) {
+    let mut out = Vec::new(rt.alloc());
+    let mut reader = RECORD;
+    assert_eq!(rt;
+        judge_record(rt.alloc(), &mut reader, &mut out),
+        Ok(Verdict::Yes(1))
+    );
+    assert_eq!(rt; out.as_slice(), b"yes 1\n".as_slice());
+}
+
+#[test]
+fn views_a_script(rt: HostRuntime) {
+    let mut out = Vec::new(rt.alloc());
+    let mut reader = SCRIPT;
+    assert_eq!(rt; view_script(rt.alloc(), &mut reader, &mut out), Ok(()));
+    assert!(rt;
+        out.as_slice()
+            .starts_with(b"heap 4 16 8 1 0\nnext name 1\n")
+    );
+}
+
+/// Words that aren't text are a mistake.
+#[test]
+fn refuses_words(rt: HostRuntime) {
+    let mut out = Vec::new(rt.alloc());
+    let mut err = Vec::new(rt.alloc());
+    assert_eq!(rt; refuse(&misspelt(rt.alloc()), &mut out, &mut err), 2);
+    assert!(rt; out.is_empty());
+    assert!(rt; !err.is_empty());
+}
+
+/// What the words ask for.
+fn task_of(alloc: Global, line: &[&str]) -> Result<Task, Fail> {
+    let words = words(alloc, line)?;
+    match read_words(alloc, words.as_slice()) {
+        Ok(job) => Ok(job.task()),
+        Err(_) => Err(Fail::from("the words are understood")),
+    }
+}
+
+/// From outside, markers of threads can't be told from refiners, nor some workers from others.
+#[test]
+fn reads_counts_of_threads(rt: HostRuntime) -> Result<(), Fail> {
+    let line = [
+        "g1heap",
+        "threads",
+        "a.heap",
+        "--markers",
+        "4",
+        "--workers",
+        "4294967295",
+        "--refiners",
+        "6",
+    ];
+    let order = Order::Threads {
+        workers: 4_294_967_295,
+        refiners: 6,
+        markers: 4,
+    };
+    assert_eq!(rt; task_of(rt.alloc(), &line)?, Task::Script(order));
+    Ok(())
+}
+
+/// No background actors are asked for where no word says so.
+#[test]
+fn reads_workers_alone(rt: HostRuntime) -> Result<(), Fail> {
+    let line = ["g1heap", "threads", "--workers", "5", "a.heap"];
+    let order = Order::Threads {
+        workers: 5,
+        refiners: 0,
+        markers: 0,
+    };
+    assert_eq!(rt; task_of(rt.alloc(), &line)?, Task::Script(order));
+    Ok(())
+}
