@@ -160,41 +160,53 @@ fn act(core: &mut Core, mutator: u32, action: Action) -> Option<Reply> {
     }
 }
 
-/// A cycle by steps: each reply, whether marking runs afterwards, and how many objects were scanned since it began. The
-/// object of r1 is found by the log alone, since its last pointer goes before it is scanned; once it is unreachable the
-/// next cycle doesn't mark it. Neither region is reclaimed: the one is current, and the other holds an object.
-#[test]
-fn a_marking_cycle(rt: HostRuntime) -> Result<(), Fail> {
-    let r0 = register(0);
-    let r1 = register(1);
-    let Ok(mut core) = Core::new(rt.alloc(), &CONFIG) else {
-        return Err(Fail::from("a core"));
-    };
+/// An object in r0 that names another, which no register holds any more.
+fn make_two(rt: &impl Abort, core: &mut Core) {
     let made = [
         Action::New {
-            to: r0,
+            to: register(0),
             counts: Counts {
                 pointers: 1,
                 values: 0,
             },
         },
         Action::New {
-            to: r1,
+            to: register(1),
             counts: Counts {
                 pointers: 0,
                 values: 1,
             },
         },
         Action::Put {
-            object: r0,
+            object: register(0),
             field: 0,
-            value: Some(r1),
+            value: Some(register(1)),
         },
-        Action::Drop { register: r1 },
+        Action::Drop {
+            register: register(1),
+        },
     ];
     for action in made {
-        assert!(rt; act(&mut core, 0, action).is_some());
+        assert!(rt; act(core, 0, action).is_some());
     }
+}
+
+/// Steps of the collector: each reply, whether marking runs afterwards, and how many objects were scanned since it began.
+fn check_cycle(rt: &impl Abort, core: &mut Core, rows: &[(CollectorStep, Reply, bool, u32)]) {
+    for (step, reply, marking, scans) in rows {
+        assert_eq!(rt; collect(core, *step), *reply);
+        assert!(rt; core.marking() == *marking && core.scans() == *scans);
+    }
+}
+
+/// A cycle by steps. The object that r0 names is found by the log alone, since its last pointer goes before it is scanned; once it is
+/// unreachable the next cycle doesn't mark it. Neither region is reclaimed: the one is current, and the other holds an object.
+#[test]
+fn a_marking_cycle(rt: HostRuntime) -> Result<(), Fail> {
+    let Ok(mut core) = Core::new(rt.alloc(), &CONFIG) else {
+        return Err(Fail::from("a core"));
+    };
+    make_two(&rt, &mut core);
     let refused = Reply::Refused(Refusal::MarkRunning);
     let idle = Reply::Refused(Refusal::NotMarking);
     let before = [
@@ -214,20 +226,14 @@ fn a_marking_cycle(rt: HostRuntime) -> Result<(), Fail> {
         (CollectorStep::Remark, Reply::Marked(1), false, 1),
         (CollectorStep::Cleanup, Reply::Reclaimed(0), false, 1),
     ];
-    for (step, reply, marking, scans) in before {
-        assert_eq!(rt; collect(&mut core, step), reply);
-        assert!(rt; core.marking() == marking && core.scans() == scans);
-    }
+    check_cycle(&rt, &mut core, &before);
     let deleted = Action::Put {
-        object: r0,
+        object: register(0),
         field: 0,
         value: None,
     };
     assert_eq!(rt; act(&mut core, 0, deleted), Some(Reply::Done));
-    for (step, reply, marking, scans) in after {
-        assert_eq!(rt; collect(&mut core, step), reply);
-        assert!(rt; core.marking() == marking && core.scans() == scans);
-    }
+    check_cycle(&rt, &mut core, &after);
     Ok(())
 }
 
