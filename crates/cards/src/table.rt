@@ -16,7 +16,6 @@ use std::collections::VecDeque;
 use std::marker::Model;
 
 /// A dirty flag for each card, a log for each mutator, and the queue. Clauses see the three lists.
-#[derive(Drop)]
 pub struct CardTable {
     dirty: Vec<bool>,
     logs: Vec<CardLog>,
@@ -33,6 +32,17 @@ impl Model for CardTable {
     ghost view = { cards_of };
 
     ghost invariant = { IsSound };
+}
+
+/// Where it is let go there is one call, and not a drop for each of its parts.
+impl Drop for CardTable {
+    fn drop(self) {
+        let CardTable {
+            dirty: _,
+            logs: _,
+            queue: _,
+        } = self;
+    }
 }
 
 impl CardTable {

@@ -27,7 +27,6 @@ use std::marker::Model;
 
 /// The destinations, a flag for each region that is evacuated, and the sets of the cards that are visited and noted. What it holds
 /// counts within a pause alone: clauses see how many regions and cards it has room for.
-#[derive(Drop)]
 pub struct PauseRoom {
     pub(crate) destinations: Destinations,
     pub(crate) chosen: Vec<bool>,
@@ -43,6 +42,18 @@ impl Model for PauseRoom {
     ghost view = { sizes_of };
 
     ghost invariant = { IsSound };
+}
+
+/// Where it is let go there is one call, and not a drop for each of its parts.
+impl Drop for PauseRoom {
+    fn drop(self) {
+        let PauseRoom {
+            destinations: _,
+            chosen: _,
+            visited: _,
+            noted: _,
+        } = self;
+    }
 }
 
 fn flags(alloc: Global, count: u32) -> Result<Vec<bool>, AllocError>

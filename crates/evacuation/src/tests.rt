@@ -143,12 +143,23 @@ fn field(table: &RegionTable, word: Addr, index: u32) -> Ptr
 }
 
 /// What a pause leaves of a heap with one root.
-#[derive(Drop)]
 struct Paused {
     table: RegionTable,
     moved: Moved,
     root: Ptr,
     queued: u32,
+}
+
+/// Where it is let go there is one call, and not a drop for each of its parts.
+impl Drop for Paused {
+    fn drop(self) {
+        let Paused {
+            table: _,
+            moved: _,
+            root: _,
+            queued: _,
+        } = self;
+    }
 }
 
 /// A pause that evacuates the region of the object that names itself.

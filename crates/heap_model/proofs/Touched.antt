@@ -17,6 +17,13 @@ shown_target h None (Some n) k sh e = absurd sh
 shown_target h (Some a) None k sh e = absurd sh
 shown_target h (Some a) (Some n) k sh e = (a, refl, sh.0, sh.1, sh.2 ∙ (let q : n ≡ k = cc in q))
 
+-- the two that follow are over plain variables: in a proof with a whole heap in scope a tactic reads all of it
+same_some : {A : Type 0} (m : Option A) (x y : A) → m ≡ Some x → m ≡ Some y → x ≡ y
+same_some m x y p q = cc
+
+apart : (k n : ℕ) → k < n → n ≤ k → ⊥
+apart k n p q = omega arith
+
 -- a name that was reachable in the snapshot, or is new
 abbrev pub IsKnown : Graph → ℕ → Type 0
 IsKnown s n = IsReachable s n ⊎ (next_name s ≤ n)
@@ -29,7 +36,7 @@ module _ (s g : Graph) (h : Heap) (m : Marking) (shows : Shows g h) (i : KeepsSn
   found_from : (a b : ℕ) (p : Points h a b) → IsKnown s p.object.name → IsFound (IsReachable s) h m b
   found_from a b p (inl r) = ByLive a b p r
   found_from a b p (inr above) = elim (bool_cases (m.old a)) [
-    | inl o ↦ absurd (let below = i.old_names a p.object p.at o in omega arith)
+    | inl o ↦ absurd (apart p.object.name (next_name s) (i.old_names a p.object p.at o) above)
     | inr o ↦ ByNew a b p o
   ]
 
@@ -47,7 +54,7 @@ module _ (s g : Graph) (h : Heap) (m : Marking) (shows : Shows g h) (i : KeepsSn
   reached_kept n (FromObject q k j o r e is) =
       let b = reached_kept q r in
       let t = pointer_stands g h shows b.address b.object o j k b.at (ap (object_named g) b.named ∙ e) is in
-      let same : t.points.object ≡ b.object = let e1 = t.points.at in let e2 = b.at in cc in
+      let same = same_some (h.kept b.address) t.points.object b.object t.points.at b.at in
       let known = subst (IsKnown s) (sym (ap (λ (z : Stored). z.name) same ∙ b.named)) b.known in
       record { address = t.address; object = t.object; at = t.at; named = t.named; known = subst (IsKnown s) t.named (known_at t.address t.object t.at (found_from b.address t.address t.points known)) }
 
@@ -84,7 +91,7 @@ module _ (s g : Graph) (h : Heap) (m : Marking) (shows : Shows g h) (i : KeepsSn
     below_s n r = subst (λ l. n < l) (touched_next s v) (below n r)
 
     old_at : (a : ℕ) (x : Stored) → h.kept a ≡ Some x → x.name < next_name s → m.old a ≡ true
-    old_at a x at k = elim (bool_cases (m.old a)) [ inl o ↦ o | inr o ↦ absurd (let above = i.new_names a x at o in omega arith) ]
+    old_at a x at k = elim (bool_cases (m.old a)) [ inl o ↦ o | inr o ↦ absurd (apart x.name (next_name s) k (i.new_names a x at o)) ]
 
     -- a name that was touched, or is reachable in the snapshot, is borne by a kept object that is marked or will be
     all_on : (n : ℕ) → IsReachable (touched s v) n → WillBeMarked h' m' n
@@ -105,11 +112,11 @@ module _ (s g : Graph) (h : Heap) (m : Marking) (shows : Shows g h) (i : KeepsSn
         elim (u.each q t.object named (below_s q r)) [
           | inl rs ↦ live_on rs
           | inr same ↦
-              let is' : slice_get t.object.pointers j ≡ Some (Some k) = ap (λ l. slice_get l j) (same.2 ∙ ap (λ (z : Object). z.pointers) (let e1 = same.1 in let q : same.0 ≡ o = cc in q)) ∙ is in
+              let is' : slice_get t.object.pointers j ≡ Some (Some k) = ap (λ l. slice_get l j) (same.2 ∙ ap (λ (z : Object). z.pointers) (same_some (object_named s q) same.0 o same.1 e')) ∙ is in
               let c = pointer_stands g h shows b.address b.object t.object j k at t.named is' in
               let marked_on : m.marked b.address ≡ true → WillBeMarked h' m' k = λ k1.
               let l = i.marked b.address k1 in
-              let here : l.object ≡ b.object = let e1 = l.at in cc in
+              let here = same_some (h.kept b.address) l.object b.object l.at at in
               live_on (subst (IsReachable s) (ap (λ (z : Stored). z.name) here ∙ b.named) l.is_live) in
               let old = old_at b.address b.object at (subst (λ l. l < next_name s) (sym b.named) (below_s q r)) in
               elim b.why [
@@ -135,7 +142,7 @@ module _ (s g : Graph) (h : Heap) (m : Marking) (shows : Shows g h) (i : KeepsSn
     word_live : (a : ℕ) (x : Stored) → h.kept a ≡ Some x → m.old a ≡ true → w ≡ Some a → IsReachable (touched s v) x.name
     word_live a x at o q =
         let (n, vq, y, here, named) = shown_name h a v (subst (λ k. IsShown h k v) q shown) in
-        let same : y ≡ x = cc in
+        let same = same_some (h.kept a) y x here at in
         let vq' : v ≡ Some x.name = vq ∙ ap Some (sym named ∙ ap (λ (z : Stored). z.name) same) in
         subst (λ k. IsReachable (touched s k) x.name) (sym vq') (touched_reached s x.name (i.old_names a x at o))
 
@@ -147,7 +154,7 @@ module _ (s g : Graph) (h : Heap) (m : Marking) (shows : Shows g h) (i : KeepsSn
           | inr same ↦
               let (v0, is, sh) = AllZip-get (IsShown h) p.object.pointers t.object.pointers t.pointers p.field (Some a) p.is in
               let (n, vq, y, here, named) = shown_name h a v0 sh in
-              let yx : y ≡ x = cc in
+              let yx = same_some (h.kept a) y x here at in
               let nx : n ≡ x.name = sym named ∙ ap (λ (z : Stored). z.name) yx in
               FromObject p.object.name x.name p.field same.0 l (touched_named s v p.object.name ∙ same.1)
               (ap (λ k. slice_get k p.field) (sym same.2) ∙ is ∙ ap Some (vq ∙ ap Some nx))

@@ -14,10 +14,19 @@ use crate::marks::Marks;
 use std::alloc::{AllocError, Global};
 
 /// The marks of the marking that is over, and of the one that runs or comes.
-#[derive(Drop)]
 pub struct Bitmaps {
     pub previous: Marks,
     pub next: Marks,
+}
+
+/// Where it is let go there is one call, and not a drop for each of its parts.
+impl Drop for Bitmaps {
+    fn drop(self) {
+        let Bitmaps {
+            previous: _,
+            next: _,
+        } = self;
+    }
 }
 
 impl Bitmaps {

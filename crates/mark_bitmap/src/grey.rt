@@ -30,7 +30,6 @@ use std::alloc::{AllocError, Global};
 use std::marker::Model;
 
 /// Which objects are scanned, and the fingers. Clauses see both.
-#[derive(Drop)]
 pub struct Grey {
     scanned: Marks,
     fingers: Summary,
@@ -46,6 +45,16 @@ impl Model for Grey {
     ghost view = { λ g. record { scanned = g.scanned; fingers = g.fingers } };
 
     ghost invariant = { λ g. length g.fingers ≡ div_ceil (length g.scanned) 64 };
+}
+
+/// Where it is let go there is one call, and not a drop for each of its parts.
+impl Drop for Grey {
+    fn drop(self) {
+        let Grey {
+            scanned: _,
+            fingers: _,
+        } = self;
+    }
 }
 
 impl Grey {

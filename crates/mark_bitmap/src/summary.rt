@@ -24,7 +24,6 @@ use std::alloc::{AllocError, Global};
 use std::marker::Model;
 
 /// A set of numbers below a length that is given when it is made. Clauses see a flag for each number.
-#[derive(Drop)]
 pub struct Summary {
     members: Bits,
     groups: Bits,
@@ -40,6 +39,17 @@ impl Model for Summary {
     ghost view = { λ s. s.members };
 
     ghost invariant = { λ s. AreLevels s.members s.groups s.blocks };
+}
+
+/// Where it is let go there is one call, and not a drop for each of its parts.
+impl Drop for Summary {
+    fn drop(self) {
+        let Summary {
+            members: _,
+            groups: _,
+            blocks: _,
+        } = self;
+    }
 }
 
 /// The lowest member of a group.

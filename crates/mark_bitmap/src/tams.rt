@@ -17,7 +17,6 @@ use std::alloc::{AllocError, Global};
 use std::marker::Model;
 
 /// The tops at mark start of each region. Clauses see two lists of addresses.
-#[derive(Drop)]
 pub struct Tams {
     previous: Vec<u32>,
     next: Vec<u32>,
@@ -29,6 +28,16 @@ impl Model for Tams {
     ghost Value = { Tops };
 
     ghost view = { λ t. record { previous = t.previous.items; next = t.next.items } };
+}
+
+/// Where it is let go there is one call, and not a drop for each of its parts.
+impl Drop for Tams {
+    fn drop(self) {
+        let Tams {
+            previous: _,
+            next: _,
+        } = self;
+    }
 }
 
 /// The bottom of each region.

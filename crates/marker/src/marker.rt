@@ -16,7 +16,6 @@ use satb_log::logs::DeletionLogs;
 use std::alloc::{AllocError, Global};
 
 /// What marking knows beside the table and the root words. `MarkerStands` says what it has to do with the table.
-#[derive(Drop)]
 pub struct Marker {
     /// The marks of the marking that is over, and of the one that runs or comes.
     pub bitmaps: Bitmaps,
@@ -30,6 +29,20 @@ pub struct Marker {
     pub running: bool,
     /// How many objects were scanned since marking began.
     pub scans: ScanCount,
+}
+
+/// Where it is let go there is one call, and not a drop for each of its parts.
+impl Drop for Marker {
+    fn drop(self) {
+        let Marker {
+            bitmaps: _,
+            tams: _,
+            grey: _,
+            logs: _,
+            running: _,
+            scans: _,
+        } = self;
+    }
 }
 
 impl Marker {

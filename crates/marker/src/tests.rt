@@ -69,10 +69,19 @@ fn take(table: &mut RegionTable) -> Option<RegionNo>
 }
 
 /// A table of four regions of 16 words, and its objects.
-#[derive(Drop)]
 struct Made {
     table: RegionTable,
     objects: Vec<Addr>,
+}
+
+/// Where it is let go there is one call, and not a drop for each of its parts.
+impl Drop for Made {
+    fn drop(self) {
+        let Made {
+            table: _,
+            objects: _,
+        } = self;
+    }
 }
 
 /// Four regions of 16 words, and two mutators.
@@ -193,7 +202,7 @@ fn count_from(
     Ok(marker.finish(&mut made.table))
 }
 
-/// Two objects that name each other, the first in a register: two scans, and no third. With nil roots there is none.
+/// Two objects that name each other, the first in a register: two scans, and no third.
 #[test]
 fn marks_a_ring(rt: HostRuntime) -> Result<(), Fail> {
     let mut made = build(rt.alloc(), &[(1, 0), (1, 0)], &[(0, 0, 1), (1, 0, 0)])?;
@@ -204,11 +213,17 @@ fn marks_a_ring(rt: HostRuntime) -> Result<(), Fail> {
     assert_eq!(rt; (marker.mark(&made.table, 9), marker.scans()), (1, 2));
     assert_eq!(rt; (marker.mark(&made.table, 9), marker.scans()), (0, 2));
     assert_eq!(rt; (marker.finish(&mut made.table), marker.scans()), (2, 2));
-    let mut other = build(rt.alloc(), &[(1, 0), (1, 0)], &[(0, 0, 1), (1, 0, 0)])?;
-    let nil = roots_of(rt.alloc(), &other, &[])?;
-    let mut idle = begun(rt.alloc(), &other.table, &nil)?;
-    assert_eq!(rt; idle.mark(&other.table, 9), 0);
-    assert_eq!(rt; (idle.finish(&mut other.table), idle.scans()), (0, 0));
+    Ok(())
+}
+
+/// The same two objects with nil roots: there is no scan.
+#[test]
+fn marks_nothing(rt: HostRuntime) -> Result<(), Fail> {
+    let mut made = build(rt.alloc(), &[(1, 0), (1, 0)], &[(0, 0, 1), (1, 0, 0)])?;
+    let roots = roots_of(rt.alloc(), &made, &[])?;
+    let mut marker = begun(rt.alloc(), &made.table, &roots)?;
+    assert_eq!(rt; marker.mark(&made.table, 9), 0);
+    assert_eq!(rt; (marker.finish(&mut made.table), marker.scans()), (0, 0));
     Ok(())
 }
 
@@ -247,28 +262,36 @@ fn counts_what_roots_reach(rt: HostRuntime) -> Result<(), Fail> {
     Ok(())
 }
 
-/// What only a log names is marked in the end, and what it leads to.
+/// Two objects that name each other, and one that a global holds.
+fn ring_and_one(alloc: Global) -> Result<Made, Fail>
+    ensures count { IfOk result (λ made. length made.table.regions ≡ 4) }
+    ensures words { IfOk result (λ made. made.table.words_per_region ≡ 16) }
+    ensures linked { IfOk result (λ made. IsLinked made.table) }
+    ensures objects { IfOk result (λ made. (i a : ℕ) → slice_get made.objects.items i ≡ Some a → HasObject made.table a) }
+{
+    build(alloc, &[(1, 0), (1, 0), (0, 0)], &[(0, 0, 1), (1, 0, 0)])
+}
+
+/// What no root and no log names isn't marked.
 #[test]
-fn takes_what_was_logged(rt: HostRuntime) -> Result<(), Fail> {
-    let mut made = build(
-        rt.alloc(),
-        &[(1, 0), (1, 0), (0, 0)],
-        &[(0, 0, 1), (1, 0, 0)],
-    )?;
+fn leaves_what_nothing_names(rt: HostRuntime) -> Result<(), Fail> {
+    let mut made = ring_and_one(rt.alloc())?;
     let roots = roots_of(rt.alloc(), &made, &[(3, 2)])?;
     let mut marker = begun(rt.alloc(), &made.table, &roots)?;
     assert_eq!(rt; marker.mark(&made.table, 9), 1);
     assert_eq!(rt; marker.finish(&mut made.table), 1);
-    let mut logging = build(
-        rt.alloc(),
-        &[(1, 0), (1, 0), (0, 0)],
-        &[(0, 0, 1), (1, 0, 0)],
-    )?;
-    let roots = roots_of(rt.alloc(), &logging, &[(3, 2)])?;
-    let mut other = begun(rt.alloc(), &logging.table, &roots)?;
-    save(&mut other, &logging, 1, 1);
-    assert_eq!(rt; other.mark(&logging.table, 9), 1);
-    assert_eq!(rt; (other.finish(&mut logging.table), other.scans()), (3, 3));
+    Ok(())
+}
+
+/// What only a log names is marked in the end, and what it leads to.
+#[test]
+fn takes_what_was_logged(rt: HostRuntime) -> Result<(), Fail> {
+    let mut made = ring_and_one(rt.alloc())?;
+    let roots = roots_of(rt.alloc(), &made, &[(3, 2)])?;
+    let mut marker = begun(rt.alloc(), &made.table, &roots)?;
+    save(&mut marker, &made, 1, 1);
+    assert_eq!(rt; marker.mark(&made.table, 9), 1);
+    assert_eq!(rt; (marker.finish(&mut made.table), marker.scans()), (3, 3));
     Ok(())
 }
 
@@ -283,8 +306,8 @@ fn exchange(marker: &mut Marker, _table: &RegionTable)
     marker.tams.swap_roles();
 }
 
-/// Two marked objects in two regions. Once the first region is forgotten, its mark is gone from either role, and both
-/// its tops are at its bottom; the other region's mark stays.
+/// Two marked objects in two regions. Once the first region is forgotten, its mark is gone and its top is at its bottom; the
+/// other region's mark stays.
 #[test]
 fn forgets_a_region(rt: HostRuntime) -> Result<(), Fail> {
     let mut made = build(rt.alloc(), &[(1, 0), (1, 0)], &[(0, 0, 1)])?;
@@ -298,16 +321,24 @@ fn forgets_a_region(rt: HostRuntime) -> Result<(), Fail> {
     marker.forget(&made.table, region);
     assert_eq!(rt; marker.bitmaps.previous.next(bottom), Some(Addr::new(16)));
     assert_eq!(rt; marker.tams.previous(region), bottom);
-    let mut next = build(rt.alloc(), &[(1, 0), (1, 0)], &[(0, 0, 1)])?;
-    let roots = roots_of(rt.alloc(), &next, &[(16, 0)])?;
-    let mut other = begun(rt.alloc(), &next.table, &roots)?;
-    assert_eq!(rt; other.finish(&mut next.table), 2);
-    exchange(&mut other, &next.table);
-    assert_eq!(rt; other.bitmaps.next.next(bottom), Some(bottom));
-    assert_eq!(rt; other.tams.next(region), Addr::new(3));
-    other.forget(&next.table, region);
-    assert_eq!(rt; other.bitmaps.next.next(bottom), Some(Addr::new(16)));
-    assert_eq!(rt; other.tams.next(region), bottom);
+    Ok(())
+}
+
+/// The same where the marks are the next.
+#[test]
+fn forgets_the_next_marks(rt: HostRuntime) -> Result<(), Fail> {
+    let mut made = build(rt.alloc(), &[(1, 0), (1, 0)], &[(0, 0, 1)])?;
+    let roots = roots_of(rt.alloc(), &made, &[(16, 0)])?;
+    let region = RegionNo::new(0);
+    let bottom = Addr::new(0);
+    let mut marker = begun(rt.alloc(), &made.table, &roots)?;
+    assert_eq!(rt; marker.finish(&mut made.table), 2);
+    exchange(&mut marker, &made.table);
+    assert_eq!(rt; marker.bitmaps.next.next(bottom), Some(bottom));
+    assert_eq!(rt; marker.tams.next(region), Addr::new(3));
+    marker.forget(&made.table, region);
+    assert_eq!(rt; marker.bitmaps.next.next(bottom), Some(Addr::new(16)));
+    assert_eq!(rt; marker.tams.next(region), bottom);
     Ok(())
 }
 

@@ -1,6 +1,7 @@
 -- A run's own faults aren't those of counts.
 use Rattle.std.proofs.Common.{◌≡◌, ◌≢◌, ◌<◌, ◌≤◌, ◌⊎◌, ℕ, arith, subst}
-use Rattle.std.specs.Prelude.{◌↔◌, Err, Result}
+use Rattle.std.specs.Prelude.{◌↔◌, Err, IfErr, Ok, Result}
+use Rattle.heap_words.specs.Configs.{Suits}
 use Rattle.heap_words.specs.declared.config.Config.{Config}
 use Rattle.step_core.specs.declared.runs.RunFault.{RunFault}
 use Rattle.step_core.specs.declared.runs.RunFault.TheVariants as faults
@@ -20,5 +21,12 @@ threads_fault config faults.BadWorkers is = is
 threads_fault config faults.NoWorker is = absurd is
 threads_fault config faults.Unfinished is = absurd is
 
-pub counts_fit : (w r m : ℕ) → w ≢ 0 → w ≤ 32 → r ≤ 8 → m ≤ 8 → (w ≡ 0) ⊎ (32 < w) ⊎ (8 < r) ⊎ (8 < m) → ⊥
-counts_fit w r m some few refiners markers over = omega (arith, over, some)
+-- what runs once the counts are in range doesn't answer that they aren't
+pub never_bad : {A P : Type 0} (config : Config) (r : Result A RunFault) → IfErr r (λ f. Suits config → IsThreadsFault config f) → Suits config → (P → ⊥) → (r ≡ Err faults.BadWorkers) ↔ P
+never_bad {A} {P} config (Ok a) h suits none = (λ same. absurd (cc), λ p. absurd (none p))
+never_bad {A} {P} config (Err f) h suits none =
+    (λ same. let is : f ≡ faults.BadWorkers = cc in absurd (subst (IsThreadsFault config) is (h suits)), λ p. absurd (none p))
+
+pub its_fault : {A : Type 0} (config : Config) (r : Result A RunFault) → IfErr r (λ f. Suits config → IsThreadsFault config f) → Suits config → IfErr r (λ f. f ≢ faults.BadWorkers → IsThreadsFault config f)
+its_fault {A} config (Ok a) h suits = h
+its_fault {A} config (Err f) h suits = λ other. h suits

@@ -1,7 +1,7 @@
 -- A turn keeps what the journal keeps.
 use Rattle.std.proofs.Common.{◌≡◌, ◌≢◌, ℕ, ◌+◌, ◌<◌, ◌≤◌, ◌==◌, Bool, true, false, cond, List, [], ◌∷◌, ◌++◌, Some, None, length, take, refl, ap, sym, ◌∙◌, subst, arith, get_or, get_or-set_same, get_or-set_other, ⊎_elim, zero, suc, length-set, eqb, map}
-use Rattle.std.specs.Prelude.{All, slice_index, slice_index_or, slice_get, slice_set}
-use Rattle.std.proofs.lemmas.List.{take_more, get_or-map}
+use Rattle.std.specs.Prelude.{◌↔◌, IsTrue, All, slice_index, slice_index_or, slice_get, slice_set}
+use Rattle.std.proofs.lemmas.List.{take_more, get_or-map, length-map}
 use Rattle.std.proofs.lemmas.Option.{get_or_from_slice_get, slice_get-get_or}
 use Rattle.std.proofs.lemmas.Grind.{get_or_default_zero}
 use Rattle.std.proofs.lemmas.List.Elements.{All-append}
@@ -171,15 +171,15 @@ none_is {V} f xs places k v p row spot place script over =
     past (x ∷ xs) zero over = absurd (omega arith)
     past (x ∷ xs) (suc i) over = past xs i (omega arith)
 
--- a place before the end of its script: not each script is at its end
-pub not_ended : {V : Type 0} (f : V → List Step) (xs : List V) (places : List ℕ) (m k : ℕ) (v : V) (p : ℕ)
-    → k < length xs → k < length places → k ≤ m → p ≡ get_or places k p → v ≡ get_or xs k v → p < length (f v)
-    → ((j : ℕ) → j ≤ m → length (get_or (map f xs) j []) ≤ get_or places j 0) → ⊥
-not_ended f xs places m k v p row spot within place script more all =
-    let h = reads f xs places k v p row spot place script in
-    let over = all k within in
-    let same : length (get_or (map f xs) k []) ≡ length (f v) = ap (λ (l : List Step). length l) h.1 in
-    omega (arith, over, same, h.0, more)
+-- each of the scripts that the code read is at its end just where each of the journal's is
+pub each_ended : {V : Type 0} (f : V → List Step) (xs ys : List V) (places qs : List ℕ) (m : ℕ) (b : Bool) → ys ≡ xs → qs ≡ places → length (map f xs) ≡ m + 1
+    → (IsTrue b ↔ ((k : ℕ) → k < length ys → length (get_or (map f ys) k []) ≤ get_or qs k 0))
+    → IsTrue b ↔ ((k : ℕ) → k ≤ m → length (get_or (map f xs) k []) ≤ get_or places k 0)
+each_ended {V} f xs ys places qs m b same same' len is =
+    let n : length xs ≡ m + 1 = sym (length-map xs f) ∙ len in
+    let Q : List V × List ℕ → Type 0 = λ x. IsTrue b ↔ ((k : ℕ) → k < length x.0 → length (get_or (map f x.0) k []) ≤ get_or x.1 k 0) in
+    let h : Q (xs, places) = subst Q (λ i. (same i, same' i)) is in
+    (λ t k within. h.0 t k (omega arith), λ all. h.1 (λ k below. all k (omega arith)))
 
 -- the whole turn of a scripted actor
 pub row_turn : (d w : JournalState) (c : CoreState) (a : Actor) (k p : ℕ) (s : Step) (r : Reply) (events : List Event) → w ≡ d → Keeps w

@@ -27,7 +27,6 @@ pub enum Turn {
 }
 
 /// A heap, the script of each of its mutators and of the collector, how many lines of each are done, and the events.
-#[derive(Drop)]
 pub struct Journal {
     core: Core,
     scripts: Vec<Vec<Step>>,
@@ -44,6 +43,18 @@ impl Model for Journal {
     ghost view = { λ j. record { core = j.core; scripts = map (λ s. s.items) j.scripts.items; places = j.places.items; events = j.events.items } };
 
     ghost invariant = { λ j. Keeps (record { core = j.core; scripts = map (λ s. s.items) j.scripts.items; places = j.places.items; events = j.events.items }) };
+}
+
+/// Where a journal is let go there is one call, and not a drop for each of its parts.
+impl Drop for Journal {
+    fn drop(self) {
+        let Journal {
+            core: _,
+            scripts: _,
+            places: _,
+            events: _,
+        } = self;
+    }
 }
 
 /// The place of a step's actor among the scripted ones: mutators by number, then the collector.
@@ -144,6 +155,19 @@ fn record(
     core.remembers();
     events.push_reserved(Event { actor, step, reply });
     Ok(reply)
+}
+
+/// Whether each script is at its end.
+fn are_ended(scripts: &[Vec<Step>], places: &[usize]) -> bool
+    requires { length scripts.now ≤ length places.now }
+    ensures { IsTrue result ↔ ((k : ℕ) → k < length scripts.now → length (slice_index_or (map (λ s. s.items) scripts.now) k []) ≤ slice_index places.now k) }
+{
+    for k in 0..scripts.len() {
+        if places[k] < scripts[k].len() {
+            return false;
+        }
+    }
+    true
 }
 
 impl Journal {
@@ -258,12 +282,7 @@ impl Journal {
     pub fn is_ended(&self) -> bool
         ensures { IsTrue result ↔ ((k : ℕ) → k ≤ mutators_of self.now → length (script_at self.now k) ≤ slice_index self.now.places k) }
     {
-        for k in 0..self.scripts.len() {
-            if self.places[k] < self.scripts[k].len() {
-                return false;
-            }
-        }
-        true
+        are_ended(&self.scripts, &self.places)
     }
 
     /// Whether the scripted actor at a place has lines left.

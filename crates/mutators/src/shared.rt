@@ -1,6 +1,6 @@
 //! What the workers share: the journal under its lock, and the queue of places.
 
-ghost use Rattle.std.specs.Prelude.{◌≡◌, ℕ, ◌+◌, ◌^◌, ◌<◌, All, ⊤, [], length, if◌then◌else◌};
+ghost use Rattle.std.specs.Prelude.{◌≡◌, ℕ, ◌+◌, ◌^◌, ◌<◌, All, ⊤, [], length, if◌then◌else◌, IfSome, None};
 ghost use Rattle.heap_words.specs.declared.config.Format.TheVariants.{V1};
 ghost use Rattle.object_graph.specs.Actors.{StepList};
 ghost use Rattle.mutators.specs.Turns.{IsCast};
@@ -117,6 +117,22 @@ impl<C: Crew> Shared<C> {
         done.audit(mine);
         let _events = journal.len();
         is_done
+    }
+
+    /// One turn where anything is left to do, and whether it was done, which counts in the share.
+    pub fn next_turn(&mut self, actor: Actor, mine: &mut Share<C>) -> Option<bool>
+        requires cast { IsCast C.plan.config.mutators actor }
+        requires asked { IsAsked C.markers C.refiners actor }
+        requires part { 0 < mine.old.parts }
+        ensures parts { mine.new.parts ≡ mine.old.parts }
+        ensures amount { IfSome result (λ d. mine.new.amount ≡ mine.old.amount + (if d then 1 else 0)) }
+        ensures fits { IfSome result (λ d. mine.new.amount < 2 ^ 64) }
+        ensures over { result ≡ None → mine.new.amount ≡ mine.old.amount }
+    {
+        if self.is_over() {
+            return None;
+        }
+        Some(self.turn(actor, mine))
     }
 
     /// Takes it apart. A share with every part has the number of events.

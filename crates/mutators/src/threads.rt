@@ -8,7 +8,7 @@
 //! Each worker counts its done turns in its share of a ledger, whose book lies under the lock and has the number of events: so the
 //! counts that the workers hand back sum to it.
 
-ghost use Rattle.std.specs.Prelude.{◌≡◌, ℕ, ◌+◌, ◌≤◌, ◌<◌, [], length, sum, slice_index, vec_capacity, vec_len, IfOk, IfErr, IfSome, None, true, ◌≢◌, ◌↔◌, ◌⊎◌};
+ghost use Rattle.std.specs.Prelude.{◌≡◌, ℕ, ◌+◌, ◌≤◌, ◌<◌, [], length, sum, slice_index, vec_capacity, vec_len, IfOk, IfErr, IfSome, IsFalse, IsTrue, None, true, ◌≢◌, ◌↔◌, ◌⊎◌};
 ghost use Rattle.crossbeam_queue.specs.Passes.{IsPassOf};
 ghost use Rattle.heap_words.specs.Configs.{Suits};
 ghost use Rattle.heap_words.specs.declared.config.Config.{Config};
@@ -95,47 +95,64 @@ fn unspent<C: Crew>(share: Share<C>) -> Spent<C>
     Spent { count: 0, share }
 }
 
-/// Where the worker's number is the one that is skipped, it does nothing.
-fn work<C: Crew, F: Fn(u32) + Sync, R: Wait>(
-    rt: &R,
-    shared: &Mutex<Shared<C>>,
-    places: &Places<C>,
+/// What the workers of a run share.
+#[derive(Drop)]
+struct Hall<'a, C: Crew, F: Fn(u32) + Sync, R: Wait> {
+    rt: &'a R,
+    shared: &'a Mutex<Shared<C>>,
+    places: &'a Places<C>,
+    skipped: &'a AtomicU64,
+    seen: &'a F,
     cast: Cast,
+    ghost same_cast: { (cast.mutators ≡ C.plan.config.mutators) × (cast.markers ≡ C.markers) × (cast.refiners ≡ C.refiners) },
+    ghost all_places: { cast.mutators + 1 + cast.markers + cast.refiners ≡ C.places },
+}
+
+/// Whether this worker could not be started, and so does nothing.
+fn is_skipped(skipped: &AtomicU64, worker: u32) -> bool {
+    skipped.load(Ordering::SeqCst) == u64::from(worker)
+}
+
+/// Takes turns till nothing is left to do.
+fn work<C: Crew, F: Fn(u32) + Sync, R: Wait>(
+    hall: &Hall<'_, C, F, R>,
     mut pass: Pass<u32, ()>,
     mut share: Share<C>,
     worker: u32,
-    skipped: &AtomicU64,
-    seen: &F,
 ) -> Spent<C>
-    requires pass { IsPassOf places.now pass }
+    requires pass { IsPassOf hall.now.places.now pass }
     requires part { share.parts ≡ 1 }
     requires amount { share.amount ≡ 0 }
-    requires cast { (cast.mutators ≡ C.plan.config.mutators) × (cast.markers ≡ C.markers) × (cast.refiners ≡ C.refiners) }
-    requires places { cast.mutators + 1 + cast.markers + cast.refiners ≡ C.places }
-    requires seen { F.pre seen.now worker }
+    requires seen { F.pre hall.now.seen.now worker }
 {
-    if skipped.load(Ordering::SeqCst) == u64::from(worker) {
-        return unspent(share);
-    }
+    let rt = hall.rt;
     let mut held: Option<u32> = None;
     let mut count = 0u64;
     for _ in rt.forever() {
         if held.is_none() {
-            held = places.pop_as::<Below<C>, R>(rt, &mut pass);
-        }
-        let mut guard = shared.lock(rt);
-        if guard.is_over() {
-            break;
+            held = hall.places.pop_as::<Below<C>, R>(rt, &mut pass);
         }
         let Some(place) = held else {
+            let is_over = hall.shared.lock(rt).is_over();
+            if is_over {
+                break;
+            }
             continue;
         };
-        let is_done = guard.turn(cast.actor_at(place), &mut share);
-        drop(guard);
-        held = places.push_as::<Below<C>, R>(rt, &mut pass, place).err();
+        let turn = hall
+            .shared
+            .lock(rt)
+            .next_turn(hall.cast.actor_at(place), &mut share);
+        let Some(is_done) = turn else {
+            break;
+        };
+        held = hall
+            .places
+            .push_as::<Below<C>, R>(rt, &mut pass, place)
+            .err();
         if is_done {
             count += 1;
-            seen(worker);
+            (hall.seen)(worker);
         }
     }
     Spent { count, share }
@@ -174,33 +191,26 @@ fn join_all<C: Crew, R: Threads>(
 
 /// Starts the workers, joins them, and puts their parts together.
 fn start_all<'x, C: Crew + Send + Sync, F: Fn(u32) + Sync, R: Threads + Wait + Sync>(
-    rt: &'x R,
-    shared: &'x Mutex<Shared<C>>,
-    places: &'x Places<C>,
-    skipped: &'x AtomicU64,
-    seen: &'x F,
-    cast: Cast,
+    hall: &'x Hall<'x, C, F, R>,
     workers: u32,
     all: Share<C>,
     pass: Pass<u32, ()>,
     hands: Vec<Hand<C>>,
 ) -> Gathered<C>
     requires workers { workers ≤ 32 }
-    requires pass { IsPassOf places.now pass }
+    requires pass { IsPassOf hall.now.places.now pass }
     requires whole { (all.parts ≡ workers + 1) × (all.amount ≡ 0) }
-    requires cast { (cast.mutators ≡ C.plan.config.mutators) × (cast.markers ≡ C.markers) × (cast.refiners ≡ C.refiners) }
-    requires places { cast.mutators + 1 + cast.markers + cast.refiners ≡ C.places }
     requires hands { (hands.items ≡ []) × (workers ≤ vec_capacity hands) }
-    requires seen { (w : ℕ) → w < 32 → F.pre seen.now w }
+    requires seen { (w : ℕ) → w < 32 → F.pre hall.now.seen.now w }
     ensures parts { result.all.parts ≡ workers + 1 }
     ensures amount { sum result.done ≡ result.all.amount }
     ensures rest { (w : ℕ) → workers ≤ w → slice_index result.done w ≡ 0 }
 {
     thread::scope(
         thread::scope_env(),
-        rt,
+        hall.rt,
         move |scope| -> Gathered<C>
-            requires { (workers ≤ 32) × IsPassOf places.now pass × ((all.parts ≡ workers + 1) × (all.amount ≡ 0)) × ((cast.mutators ≡ C.plan.config.mutators) × (cast.markers ≡ C.markers) × (cast.refiners ≡ C.refiners)) × (cast.mutators + 1 + cast.markers + cast.refiners ≡ C.places) × ((hands.items ≡ []) × (workers ≤ vec_capacity hands)) × ((w : ℕ) → w < 32 → F.pre seen.now w) }
+            requires { (workers ≤ 32) × IsPassOf hall.now.places.now pass × ((all.parts ≡ workers + 1) × (all.amount ≡ 0)) × ((hands.items ≡ []) × (workers ≤ vec_capacity hands)) × ((w : ℕ) → w < 32 → F.pre hall.now.seen.now w) }
             ensures { (result.all.parts ≡ workers + 1) × (sum result.done ≡ result.all.amount) × ((w : ℕ) → workers ≤ w → slice_index result.done w ≡ 0) }
         {
             let mut all = all;
@@ -209,22 +219,28 @@ fn start_all<'x, C: Crew + Send + Sync, F: Fn(u32) + Sync, R: Threads + Wait + S
             let mut started = 0u32;
             'start: for worker in 0..workers {
                 let share = all.split_off(1, 0);
-                let mine = places.another::<Below<C>>(&mut pass);
+                let mine = hall.places.another::<Below<C>>(&mut pass);
                 let job = move || -> Spent<C>
-                    requires { IsPassOf places.now mine × (share.parts ≡ 1) × (share.amount ≡ 0) × ((cast.mutators ≡ C.plan.config.mutators) × (cast.markers ≡ C.markers) × (cast.refiners ≡ C.refiners)) × (cast.mutators + 1 + cast.markers + cast.refiners ≡ C.places) × F.pre seen.now worker }
-                { work(rt, shared, places, cast, mine, share, worker, skipped, seen) };
-                match scope.spawn(job) {
+                    requires { IsPassOf hall.now.places.now mine × (share.parts ≡ 1) × (share.amount ≡ 0) × F.pre hall.now.seen.now worker }
+                {
+                    if is_skipped(hall.skipped, worker) {
+                        return unspent(share);
+                    }
+                    work(hall, mine, share, worker)
+                };
+                let hand = match scope.spawn(job) {
                     Ok(handle) => {
                         started += 1;
-                        hands.push_reserved(Hand::Running(handle));
+                        Hand::Running(handle)
                     }
                     Err(refused) => {
-                        skipped.store(u64::from(worker), Ordering::SeqCst);
-                        hands.push_reserved(Hand::Idle((refused.value)()));
+                        hall.skipped.store(u64::from(worker), Ordering::SeqCst);
+                        Hand::Idle((refused.value)())
                     }
-                }
+                };
+                hands.push_reserved(hand);
             }
-            join_all(rt, all, hands, started)
+            join_all(hall.rt, all, hands, started)
         },
     )
 }
@@ -321,10 +337,10 @@ fn gather<C: Crew + Send + Sync, F: Fn(u32) + Sync, R: Threads + Wait + Sync>(
     ensures rest { IfOk result (λ t. (w : ℕ) → workers ≤ w → slice_index t.done w ≡ 0) }
     ensures fault { IfErr result (λ f. Suits plan.now.config → IsThreadsFault plan.now.config f) }
 {
-    let (book, all) = blank.open::<C>();
     let Ok(Room { queue, pass, hands }) = room_of::<C, R>(rt, alloc, cast, workers) else {
         return Err(RunFault::NoMemory);
     };
+    let (book, all) = blank.open::<C>();
     let shared = Mutex::new(Shared::new(journal, book));
     let skipped = AtomicU64::new(u64::MAX);
     let Gathered {
@@ -332,10 +348,66 @@ fn gather<C: Crew + Send + Sync, F: Fn(u32) + Sync, R: Threads + Wait + Sync>(
         done,
         started,
     } = start_all(
-        rt, &shared, &queue, &skipped, seen, cast, workers, all, pass, hands,
+        &Hall {
+            rt,
+            shared: &shared,
+            places: &queue,
+            skipped: &skipped,
+            seen,
+            cast,
+        },
+        workers,
+        all,
+        pass,
+        hands,
     );
     let (journal, fault) = shared.into_inner().close(&mut all);
     finish(plan, cast, journal, fault, started, done)
+}
+
+/// Whether the counts of a run are in range.
+fn are_counts(workers: u32, refiners: u32, markers: u32) -> bool
+    ensures bad { IsFalse result ↔ ((workers ≡ 0) ⊎ (32 < workers) ⊎ (8 < refiners) ⊎ (8 < markers)) }
+    ensures few { IsTrue result → (workers ≤ 32) × (refiners ≤ 8) × (markers ≤ 8) }
+{
+    workers != 0 && workers <= 32 && refiners <= 8 && markers <= 8
+}
+
+/// What a run starts with: a new heap of the plan, and how many actors there are.
+struct Start {
+    journal: Journal,
+    cast: Cast,
+}
+
+/// What a run of so many workers, refiners and markers starts with.
+fn begin(
+    alloc: Global,
+    plan: &Plan,
+    workers: u32,
+    refiners: u32,
+    markers: u32,
+) -> Result<Start, RunFault>
+    ensures of { IfOk result (λ s. IsOf plan.now markers refiners s.journal) }
+    ensures empty { IfOk result (λ s. length s.journal.events ≡ 0) }
+    ensures cast { IfOk result (λ s. (s.cast.mutators ≡ plan.now.config.mutators) × (s.cast.markers ≡ markers) × (s.cast.refiners ≡ refiners)) }
+    ensures suits { IfOk result (λ s. Suits plan.now.config) }
+    ensures few { IfOk result (λ s. workers ≤ 32) }
+    ensures bad { (result ≡ Err RunFault.BadWorkers) ↔ ((workers ≡ 0) ⊎ (32 < workers) ⊎ (8 < refiners) ⊎ (8 < markers)) }
+    ensures fault { IfErr result (λ f. f ≢ RunFault.BadWorkers → IsThreadsFault plan.now.config f) }
+{
+    if !are_counts(workers, refiners, markers) {
+        return Err(RunFault::BadWorkers);
+    }
+    let journal = match Journal::new(alloc, plan) {
+        Ok(journal) => journal,
+        Err(fault) => return Err(run_fault(fault)),
+    };
+    let cast = Cast {
+        mutators: journal.config().mutators,
+        markers,
+        refiners,
+    };
+    Ok(Start { journal, cast })
 }
 
 /// Does a plan's scripts in a new heap by so many workers, with so many refiners and markers beside, and calls `seen` with a worker's
@@ -357,18 +429,7 @@ pub fn run_threads_seen<F: Fn(u32) + Sync, R: Threads + Wait + Sync>(
     ensures bad { (result ≡ Err RunFault.BadWorkers) ↔ ((workers ≡ 0) ⊎ (32 < workers) ⊎ (8 < refiners) ⊎ (8 < markers)) }
     ensures fault { IfErr result (λ f. f ≢ RunFault.BadWorkers → IsThreadsFault plan.now.config f) }
 {
-    if workers == 0 || workers > 32 || refiners > 8 || markers > 8 {
-        return Err(RunFault::BadWorkers);
-    }
-    let journal = match Journal::new(alloc, plan) {
-        Ok(journal) => journal,
-        Err(fault) => return Err(run_fault(fault)),
-    };
-    let cast = Cast {
-        mutators: journal.config().mutators,
-        markers,
-        refiners,
-    };
+    let Start { journal, cast } = begin(alloc, plan, workers, refiners, markers)?;
     gather::<Brand, F, R>(
         rt,
         alloc,

@@ -13,7 +13,7 @@ use std::alloc::{AllocError, Global};
 use std::marker::Model;
 
 /// The graph of objects by name, as a heap would be from which nothing is ever freed or moved.
-#[derive(Debug, Drop)]
+#[derive(Debug)]
 pub struct Graph {
     room: u64,
     first_name: u64,
@@ -31,6 +31,19 @@ impl Model for Graph {
     ghost view = { λ g. record { room = g.room; first_name = g.first_name; mutators = g.mutators; objects = g.objects; roots = g.roots.items } };
 
     ghost invariant = { λ g. IsState (record { room = g.room; first_name = g.first_name; mutators = g.mutators; objects = g.objects; roots = g.roots.items }) };
+}
+
+/// Where it is let go there is one call, and not a drop for each of its parts.
+impl Drop for Graph {
+    fn drop(self) {
+        let Graph {
+            room: _,
+            first_name: _,
+            mutators: _,
+            objects: _,
+            roots: _,
+        } = self;
+    }
 }
 
 impl Graph {

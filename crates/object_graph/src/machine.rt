@@ -16,7 +16,7 @@ use std::alloc::{AllocError, Global};
 use std::marker::Model;
 
 /// The graph when marking began, and the names that were touched since then, last first.
-#[derive(Debug, Drop)]
+#[derive(Debug)]
 struct Snapshot {
     graph: Graph,
     touched: Vec<Pointer>,
@@ -26,6 +26,16 @@ impl Model for Snapshot {
     ghost Value = { model.Graph };
 
     ghost view = { λ s. record s.graph { roots = reverse s.touched.items ++ s.graph.roots } };
+}
+
+/// Where it is let go there is one call, and not a drop for each of its parts.
+impl Drop for Snapshot {
+    fn drop(self) {
+        let Snapshot {
+            graph: _,
+            touched: _,
+        } = self;
+    }
 }
 
 impl Snapshot {
@@ -62,7 +72,7 @@ impl Snapshot {
 }
 
 /// The graph, and while a snapshot is kept, that.
-#[derive(Debug, Drop)]
+#[derive(Debug)]
 pub(crate) struct Machine {
     alloc: Global,
     graph: Graph,
@@ -73,6 +83,17 @@ impl Model for Machine {
     ghost Value = { State };
 
     ghost view = { λ m. record { graph = m.graph; snapshot = m.snapshot } };
+}
+
+/// Where it is let go there is one call, and not a drop for each of its parts.
+impl Drop for Machine {
+    fn drop(self) {
+        let Machine {
+            alloc: _,
+            graph: _,
+            snapshot: _,
+        } = self;
+    }
 }
 
 impl Machine {

@@ -60,7 +60,7 @@ impl Entry {
 }
 
 /// Objects, each with its pointers, its weak slots and its data words. None is ever taken away.
-#[derive(Debug, Drop)]
+#[derive(Debug)]
 pub(crate) struct Objects {
     words: Vec<u64>,
     entries: Vec<Entry>,
@@ -77,6 +77,17 @@ impl Model for Objects {
     ghost view = { λ o. objects_in o.words.items o.entries.items };
 
     ghost invariant = { λ o. AreInTurn o.entries.items 0 (length o.words.items) × (o.has_weaks ≡ some_weaks o.entries.items) };
+}
+
+/// Where it is let go there is one call, and not a drop for each of its parts.
+impl Drop for Objects {
+    fn drop(self) {
+        let Objects {
+            words: _,
+            entries: _,
+            has_weaks: _,
+        } = self;
+    }
 }
 
 impl Objects {

@@ -7,7 +7,7 @@ use crate::pointer::Pointer;
 use std::alloc::{AllocError, Global};
 use std::marker::Model;
 
-#[derive(Debug, Drop)]
+#[derive(Debug)]
 pub(crate) struct Search {
     first_name: u64,
     flags: Vec<bool>,
@@ -20,6 +20,17 @@ impl Model for Search {
     ghost Value = { reached.Search };
 
     ghost view = { λ s. record { first_name = s.first_name; flags = s.flags.items; queue = s.queue.items } };
+}
+
+/// Where it is let go there is one call, and not a drop for each of its parts.
+impl Drop for Search {
+    fn drop(self) {
+        let Search {
+            first_name: _,
+            flags: _,
+            queue: _,
+        } = self;
+    }
 }
 
 impl Search {
@@ -109,6 +120,11 @@ impl Search {
     pub(crate) fn into_flags(self) -> Vec<bool>
         ensures { result.items ≡ self.flags }
     {
-        self.flags
+        let Search {
+            first_name: _,
+            flags,
+            queue: _,
+        } = self;
+        flags
     }
 }

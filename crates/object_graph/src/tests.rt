@@ -14,6 +14,7 @@ use crate::step::{
 };
 use heap_words::config::{Config, Format};
 use std::alloc::{AllocError, Global};
+use std::process::Abort;
 use std::test::Fail;
 
 /// A heap of 64 words and one mutator.
@@ -72,73 +73,90 @@ fn apply(graph: &mut Graph, action: Action) -> Result<Reply, AllocError>
     graph.apply(Op { mutator: 0, action })
 }
 
+/// Takes actions of the one mutator, and compares each reply.
+fn check_replies(
+    rt: &impl Abort,
+    graph: &mut Graph,
+    rows: &[(Action, Reply)],
+) -> Result<(), AllocError>
+    requires { 0 < graph.old.mutators }
+{
+    for (action, reply) in rows {
+        assert_eq!(rt; apply(graph, *action)?, *reply);
+    }
+    Ok(())
+}
+
 #[test]
 fn reads_and_writes_objects(rt: HostRuntime) -> Result<(), Fail> {
-    let mut graph = Graph::new(rt.alloc(), &config(0))?;
-    let g = &mut graph;
-    assert_eq!(rt; apply(g, new(0, 1, 1))?, Reply::Named(Some(0)));
-    assert_eq!(rt; apply(g, new(1, 0, 2))?, Reply::Named(Some(1)));
     let put = Action::Put {
         object: r(0),
         field: 0,
         value: Some(r(1)),
     };
-    assert_eq!(rt; apply(g, put)?, Reply::Done);
-    assert_eq!(rt; apply(g, get(2, 0, 0))?, Reply::Named(Some(1)));
     let write = Action::Write {
         object: r(2),
         field: 1,
         value: 9,
     };
-    assert_eq!(rt; apply(g, write)?, Reply::Done);
-    assert_eq!(rt; apply(g, read(1, 1))?, Reply::Word(9));
     let shape = Reply::Shape {
         pointers: 1,
         values: 1,
     };
-    assert_eq!(rt; apply(g, Action::Shape { object: r(0) })?, shape);
+    let rows = [
+        (new(0, 1, 1), Reply::Named(Some(0))),
+        (new(1, 0, 2), Reply::Named(Some(1))),
+        (put, Reply::Done),
+        (get(2, 0, 0), Reply::Named(Some(1))),
+        (write, Reply::Done),
+        (read(1, 1), Reply::Word(9)),
+        (Action::Shape { object: r(0) }, shape),
+    ];
+    let mut graph = Graph::new(rt.alloc(), &config(0))?;
+    check_replies(&rt, &mut graph, &rows)?;
     Ok(())
 }
 
 #[test]
 fn moves_roots(rt: HostRuntime) -> Result<(), Fail> {
-    let mut graph = Graph::new(rt.alloc(), &config(0))?;
-    let g = &mut graph;
-    assert_eq!(rt; apply(g, new(0, 1, 1))?, Reply::Named(Some(0)));
     let copy = Action::Move {
         to: r(3),
         from: r(0),
     };
-    assert_eq!(rt; apply(g, copy)?, Reply::Done);
     let save = Action::Save {
         to: GlobalRoot { number: 15 },
         from: r(3),
     };
-    assert_eq!(rt; apply(g, save)?, Reply::Done);
-    assert_eq!(rt; apply(g, Action::Drop { register: r(3) })?, Reply::Done);
     let load = Action::Load {
         to: r(4),
         from: GlobalRoot { number: 15 },
     };
-    assert_eq!(rt; apply(g, load)?, Reply::Named(Some(0)));
-    assert_eq!(rt; apply(g, read(3, 0))?, Reply::Refused(Refusal::Nil));
+    let rows = [
+        (new(0, 1, 1), Reply::Named(Some(0))),
+        (copy, Reply::Done),
+        (save, Reply::Done),
+        (Action::Drop { register: r(3) }, Reply::Done),
+        (load, Reply::Named(Some(0))),
+        (read(3, 0), Reply::Refused(Refusal::Nil)),
+    ];
+    let mut graph = Graph::new(rt.alloc(), &config(0))?;
+    check_replies(&rt, &mut graph, &rows)?;
     Ok(())
 }
 
 #[test]
 fn refuses_in_order(rt: HostRuntime) -> Result<(), Fail> {
+    let rows = [
+        (read(0, 0), Reply::Refused(Refusal::Nil)),
+        (new(0, 60, 3), Reply::Refused(Refusal::TooBig)),
+        (new(0, 60, 2), Reply::Named(Some(u64::MAX - 1))),
+        (get(1, 0, 60), Reply::Refused(Refusal::NoField)),
+        (get(1, 0, 59), Reply::Named(None)),
+        (new(0, 60, 3), Reply::Refused(Refusal::TooBig)),
+        (new(0, 0, 0), Reply::Refused(Refusal::NamesSpent)),
+    ];
     let mut graph = Graph::new(rt.alloc(), &config(u64::MAX - 1))?;
-    let g = &mut graph;
-    assert_eq!(rt; apply(g, read(0, 0))?, Reply::Refused(Refusal::Nil));
-    assert_eq!(rt; apply(g, new(0, 60, 3))?, Reply::Refused(Refusal::TooBig));
-    assert_eq!(rt; apply(g, new(0, 60, 2))?, Reply::Named(Some(u64::MAX - 1)));
-    assert_eq!(rt; apply(g, get(1, 0, 60))?, Reply::Refused(Refusal::NoField));
-    assert_eq!(rt; apply(g, get(1, 0, 59))?, Reply::Named(None));
-    assert_eq!(rt; apply(g, new(0, 60, 3))?, Reply::Refused(Refusal::TooBig));
-    assert_eq!(rt;
-        apply(g, new(0, 0, 0))?,
-        Reply::Refused(Refusal::NamesSpent)
-    );
+    check_replies(&rt, &mut graph, &rows)?;
     Ok(())
 }
 
@@ -198,63 +216,97 @@ fn set_weak(objects: &mut Objects, place: usize, slot: u32, value: Pointer) {
     }
 }
 
+/// Adds objects of so many pointers, data words and weak slots.
+fn push_all(objects: &mut Objects, rows: &[(u32, u32, u8)]) -> Result<(), AllocError> {
+    for (pointers, values, weaks) in rows {
+        objects.push(counts(*pointers, *values), *weaks)?;
+    }
+    Ok(())
+}
+
+/// Compares what pointers name: rows of a place, a field and the name.
+fn check_pointers(rt: &impl Abort, objects: &Objects, rows: &[(usize, u32, Option<Option<u64>>)]) {
+    for (place, field, name) in rows {
+        assert_eq!(rt; pointer(objects, *place, *field), *name);
+    }
+}
+
+/// The same of weak slots.
+fn check_weaks(rt: &impl Abort, objects: &Objects, rows: &[(usize, u32, Option<Option<u64>>)]) {
+    for (place, slot, name) in rows {
+        assert_eq!(rt; weak(objects, *place, *slot), *name);
+    }
+}
+
+/// The same of data words.
+fn check_values(rt: &impl Abort, objects: &Objects, rows: &[(usize, u32, Option<u64>)]) {
+    for (place, field, word) in rows {
+        assert_eq!(rt; value(objects, *place, *field), *word);
+    }
+}
+
 #[test]
 fn keeps_objects_apart(rt: HostRuntime) -> Result<(), Fail> {
+    let last = u64::MAX - 1;
+    let pointers = [
+        (0, 0, Some(None)),
+        (0, 1, Some(Some(last))),
+        (0, 2, None),
+        (1, 0, None),
+        (3, 0, Some(Some(0))),
+        (4, 0, Some(None)),
+    ];
+    let values = [
+        (0, 0, Some(7)),
+        (0, 1, None),
+        (1, 0, None),
+        (2, 0, Some(0)),
+        (2, 1, Some(u64::MAX)),
+        (4, 0, Some(0)),
+    ];
     let mut objects = Objects::new(rt.alloc());
-    let o = &mut objects;
-    o.push(counts(2, 1), 0)?;
-    o.push(counts(0, 0), 0)?;
-    o.push(counts(0, 2), 0)?;
-    o.push(counts(1, 0), 0)?;
-    assert_eq!(rt; o.len(), 4);
-    set_pointer(o, 0, 1, Pointer::to(u64::MAX - 1));
-    set_value(o, 0, 0, 7);
-    set_value(o, 2, 1, u64::MAX);
-    set_pointer(o, 3, 0, Pointer::to(0));
-    o.push(counts(1, 1), 3)?;
-    assert_eq!(rt; pointer(o, 0, 0), Some(None));
-    assert_eq!(rt; pointer(o, 0, 1), Some(Some(u64::MAX - 1)));
-    assert_eq!(rt; pointer(o, 0, 2), None);
-    assert_eq!(rt; value(o, 0, 0), Some(7));
-    assert_eq!(rt; value(o, 0, 1), None);
-    assert_eq!(rt; pointer(o, 1, 0), None);
-    assert_eq!(rt; value(o, 1, 0), None);
-    assert_eq!(rt; value(o, 2, 0), Some(0));
-    assert_eq!(rt; value(o, 2, 1), Some(u64::MAX));
-    assert_eq!(rt; pointer(o, 3, 0), Some(Some(0)));
-    assert_eq!(rt; pointer(o, 4, 0), Some(None));
-    assert_eq!(rt; value(o, 4, 0), Some(0));
-    set_pointer(o, 3, 0, Pointer::nil());
-    assert_eq!(rt; pointer(o, 3, 0), Some(None));
-    assert_eq!(rt; pointer(o, 0, 1), Some(Some(u64::MAX - 1)));
+    push_all(&mut objects, &[(2, 1, 0), (0, 0, 0), (0, 2, 0), (1, 0, 0)])?;
+    assert_eq!(rt; objects.len(), 4);
+    set_pointer(&mut objects, 0, 1, Pointer::to(last));
+    set_value(&mut objects, 0, 0, 7);
+    set_value(&mut objects, 2, 1, u64::MAX);
+    set_pointer(&mut objects, 3, 0, Pointer::to(0));
+    objects.push(counts(1, 1), 3)?;
+    check_pointers(&rt, &objects, &pointers);
+    check_values(&rt, &objects, &values);
+    set_pointer(&mut objects, 3, 0, Pointer::nil());
+    check_pointers(
+        &rt,
+        &objects,
+        &[(3, 0, Some(None)), (0, 1, Some(Some(last)))],
+    );
     Ok(())
 }
 
 #[test]
 fn keeps_weak_slots_apart(rt: HostRuntime) -> Result<(), Fail> {
+    let before = [(0, 0, None), (1, 254, Some(None)), (1, 255, None)];
+    let after = [
+        (1, 253, Some(None)),
+        (1, 254, Some(Some(9))),
+        (2, 0, Some(Some(0))),
+        (2, 1, Some(None)),
+    ];
     let mut objects = Objects::new(rt.alloc());
-    let o = &mut objects;
-    o.push(counts(1, 1), 0)?;
-    assert_eq!(rt; o.has_weaks(), false);
-    o.push(counts(1, 1), 255)?;
-    o.push(counts(1, 1), 2)?;
-    assert_eq!(rt; o.has_weaks(), true);
-    assert_eq!(rt; weak(o, 0, 0), None);
-    assert_eq!(rt; weak(o, 1, 254), Some(None));
-    assert_eq!(rt; weak(o, 1, 255), None);
-    set_weak(o, 1, 254, Pointer::to(9));
-    set_weak(o, 2, 0, Pointer::to(0));
-    set_value(o, 1, 0, 7);
-    set_pointer(o, 2, 0, Pointer::to(3));
-    assert_eq!(rt; weak(o, 1, 253), Some(None));
-    assert_eq!(rt; weak(o, 1, 254), Some(Some(9)));
-    assert_eq!(rt; value(o, 1, 0), Some(7));
-    assert_eq!(rt; pointer(o, 2, 0), Some(Some(3)));
-    assert_eq!(rt; weak(o, 2, 0), Some(Some(0)));
-    assert_eq!(rt; weak(o, 2, 1), Some(None));
-    assert_eq!(rt; value(o, 2, 0), Some(0));
-    let copy = o.copy()?;
-    assert_eq!(rt; weak(&copy, 1, 254), Some(Some(9)));
+    objects.push(counts(1, 1), 0)?;
+    assert_eq!(rt; objects.has_weaks(), false);
+    push_all(&mut objects, &[(1, 1, 255), (1, 1, 2)])?;
+    assert_eq!(rt; objects.has_weaks(), true);
+    check_weaks(&rt, &objects, &before);
+    set_weak(&mut objects, 1, 254, Pointer::to(9));
+    set_weak(&mut objects, 2, 0, Pointer::to(0));
+    set_value(&mut objects, 1, 0, 7);
+    set_pointer(&mut objects, 2, 0, Pointer::to(3));
+    check_weaks(&rt, &objects, &after);
+    check_values(&rt, &objects, &[(1, 0, Some(7)), (2, 0, Some(0))]);
+    check_pointers(&rt, &objects, &[(2, 0, Some(Some(3)))]);
+    let copy = objects.copy()?;
+    check_weaks(&rt, &copy, &[(1, 254, Some(Some(9)))]);
     Ok(())
 }
 
@@ -269,35 +321,58 @@ fn done(action: Action, reply: Reply) -> Event
     }
 }
 
-#[test]
-fn judges_records(rt: HostRuntime) -> Result<(), Fail> {
-    let alloc = rt.alloc();
-    let full = Reply::Refused(Refusal::Full);
-    let mut may_be = Record::new(alloc, config(0));
-    may_be.push(done(new(0, 0, 0), full))?;
-    may_be.push(done(read(0, 0), Reply::Refused(Refusal::Nil)))?;
-    may_be.push(Event {
+/// Compares what the judge says of a record.
+fn check_verdict(
+    rt: &impl Abort,
+    alloc: Global,
+    history: &Record,
+    verdict: Verdict,
+) -> Result<(), AllocError> {
+    assert_eq!(rt; check(alloc, history)?, verdict);
+    Ok(())
+}
+
+/// Nothing forbids any of these three.
+fn may_be(alloc: Global) -> Result<Record, AllocError> {
+    let mut record = Record::new(alloc, config(0));
+    record.push(done(new(0, 0, 0), Reply::Refused(Refusal::Full)))?;
+    record.push(done(read(0, 0), Reply::Refused(Refusal::Nil)))?;
+    record.push(Event {
         actor: Actor::Collector,
         step: Step::Collector(CollectorStep::Remark),
         reply: Reply::Marked(99),
     })?;
-    assert_eq!(rt; check(alloc, &may_be)?, Verdict::Yes(3));
+    Ok(record)
+}
 
-    let mut too_big = Record::new(alloc, config(0));
-    too_big.push(done(new(0, 63, 0), full))?;
-    assert_eq!(rt; check(alloc, &too_big)?, Verdict::No(1));
+/// An object that no heap of 64 words could hold isn't refused because the heap is full.
+fn too_big(alloc: Global) -> Result<Record, AllocError> {
+    let mut record = Record::new(alloc, config(0));
+    record.push(done(new(0, 63, 0), Reply::Refused(Refusal::Full)))?;
+    Ok(record)
+}
 
-    let mut misread = Record::new(alloc, config(7));
-    misread.push(done(new(0, 1, 0), Reply::Named(Some(7))))?;
-    misread.push(Event {
+/// A pointer that nothing was put into is nil.
+fn misread(alloc: Global) -> Result<Record, AllocError> {
+    let mut record = Record::new(alloc, config(7));
+    record.push(done(new(0, 1, 0), Reply::Named(Some(7))))?;
+    record.push(Event {
         actor: Actor::Marker(7),
         step: Step::Collector(CollectorStep::Mark(4)),
         reply: Reply::Done,
     })?;
-    misread.push(done(get(1, 0, 0), Reply::Named(Some(7))))?;
-    assert_eq!(rt; misread.events().len(), 3);
-    assert_eq!(rt; misread.config().first_name, 7);
-    assert_eq!(rt; check(alloc, &misread)?, Verdict::No(3));
+    record.push(done(get(1, 0, 0), Reply::Named(Some(7))))?;
+    Ok(record)
+}
+
+#[test]
+fn judges_records(rt: HostRuntime) -> Result<(), Fail> {
+    let alloc = rt.alloc();
+    check_verdict(&rt, alloc, &may_be(alloc)?, Verdict::Yes(3))?;
+    check_verdict(&rt, alloc, &too_big(alloc)?, Verdict::No(1))?;
+    let record = misread(alloc)?;
+    assert_eq!(rt; (record.events().len(), record.config().first_name), (3, 7));
+    check_verdict(&rt, alloc, &record, Verdict::No(3))?;
     Ok(())
 }
 
@@ -358,32 +433,25 @@ fn collected(step: CollectorStep, reply: Reply) -> Event
 
 #[test]
 fn reads_and_writes_weak_slots(rt: HostRuntime) -> Result<(), Fail> {
-    let mut graph = Graph::new(rt.alloc(), &config(0))?;
-    let g = &mut graph;
-    assert_eq!(rt; apply(g, new_weak(0, 1, 2, 1))?, Reply::Named(Some(0)));
-    assert_eq!(rt; apply(g, Action::Weaks { object: r(0) })?, Reply::Word(2));
     let shape = Reply::Shape {
         pointers: 1,
         values: 1,
     };
-    assert_eq!(rt; apply(g, Action::Shape { object: r(0) })?, shape);
-    assert_eq!(rt; apply(g, get_weak(1, 0, 1))?, Reply::Named(None));
-    assert_eq!(rt; apply(g, put_weak(0, 1, 0))?, Reply::Done);
-    assert_eq!(rt; apply(g, get_weak(1, 0, 1))?, Reply::Named(Some(0)));
-    assert_eq!(rt; apply(g, get(1, 0, 0))?, Reply::Named(None));
-    assert_eq!(rt;
-        apply(g, get_weak(1, 0, 2))?,
-        Reply::Refused(Refusal::NoField)
-    );
-    assert_eq!(rt;
-        apply(g, put_weak(0, 2, 0))?,
-        Reply::Refused(Refusal::NoField)
-    );
-    assert_eq!(rt; apply(g, put_weak(2, 0, 0))?, Reply::Refused(Refusal::Nil));
-    assert_eq!(rt;
-        apply(g, new_weak(2, 0, 255, 0))?,
-        Reply::Refused(Refusal::TooBig)
-    );
+    let rows = [
+        (new_weak(0, 1, 2, 1), Reply::Named(Some(0))),
+        (Action::Weaks { object: r(0) }, Reply::Word(2)),
+        (Action::Shape { object: r(0) }, shape),
+        (get_weak(1, 0, 1), Reply::Named(None)),
+        (put_weak(0, 1, 0), Reply::Done),
+        (get_weak(1, 0, 1), Reply::Named(Some(0))),
+        (get(1, 0, 0), Reply::Named(None)),
+        (get_weak(1, 0, 2), Reply::Refused(Refusal::NoField)),
+        (put_weak(0, 2, 0), Reply::Refused(Refusal::NoField)),
+        (put_weak(2, 0, 0), Reply::Refused(Refusal::Nil)),
+        (new_weak(2, 0, 255, 0), Reply::Refused(Refusal::TooBig)),
+    ];
+    let mut graph = Graph::new(rt.alloc(), &config(0))?;
+    check_replies(&rt, &mut graph, &rows)?;
     Ok(())
 }
 
@@ -399,20 +467,41 @@ fn held_weakly(alloc: Global) -> Result<Record, AllocError>
     Ok(record)
 }
 
+/// Marking begins, and ends with so many objects marked.
+fn mark(history: &mut Record, marked: u32) -> Result<(), AllocError>
+    ensures { history.new.config ≡ history.old.config }
+{
+    history.push(collected(CollectorStep::Begin, Reply::Done))?;
+    history.push(collected(CollectorStep::Remark, Reply::Marked(marked)))?;
+    Ok(())
+}
+
+/// What the weak slot of the object in r0 holds comes into a register, which then is nil.
+fn look(history: &mut Record, to: u8, name: u64) -> Result<(), AllocError>
+    requires mutators { history.old.config.mutators ≡ 1 }
+    requires to { to < 8 }
+    ensures { history.new.config ≡ history.old.config }
+{
+    history.push(done(get_weak(to, 0, 0), Reply::Named(Some(name))))?;
+    history.push(done(Action::Drop { register: r(to) }, Reply::Done))?;
+    Ok(())
+}
+
+/// #1 is held weakly while marking runs, and its slot's reply afterwards is this one.
+fn cleared_then(alloc: Global, reply: Reply) -> Result<Record, AllocError> {
+    let mut record = held_weakly(alloc)?;
+    mark(&mut record, 1)?;
+    record.push(done(get_weak(1, 0, 0), reply))?;
+    Ok(record)
+}
+
 #[test]
 fn clears_what_only_weak_slots_name(rt: HostRuntime) -> Result<(), Fail> {
     let alloc = rt.alloc();
-    let mut cleared = held_weakly(alloc)?;
-    cleared.push(collected(CollectorStep::Begin, Reply::Done))?;
-    cleared.push(collected(CollectorStep::Remark, Reply::Marked(1)))?;
-    cleared.push(done(get_weak(1, 0, 0), Reply::Named(None)))?;
-    assert_eq!(rt; check(alloc, &cleared)?, Verdict::Yes(7));
-
-    let mut wrong = held_weakly(alloc)?;
-    wrong.push(collected(CollectorStep::Begin, Reply::Done))?;
-    wrong.push(collected(CollectorStep::Remark, Reply::Marked(1)))?;
-    wrong.push(done(get_weak(1, 0, 0), Reply::Named(Some(1))))?;
-    assert_eq!(rt; check(alloc, &wrong)?, Verdict::No(7));
+    let cleared = cleared_then(alloc, Reply::Named(None))?;
+    check_verdict(&rt, alloc, &cleared, Verdict::Yes(7))?;
+    let wrong = cleared_then(alloc, Reply::Named(Some(1)))?;
+    check_verdict(&rt, alloc, &wrong, Verdict::No(7))?;
     Ok(())
 }
 
@@ -421,15 +510,12 @@ fn keeps_what_was_read_while_marking_ran(rt: HostRuntime) -> Result<(), Fail> {
     let alloc = rt.alloc();
     let mut touched = held_weakly(alloc)?;
     touched.push(collected(CollectorStep::Begin, Reply::Done))?;
-    touched.push(done(get_weak(1, 0, 0), Reply::Named(Some(1))))?;
-    touched.push(done(Action::Drop { register: r(1) }, Reply::Done))?;
+    look(&mut touched, 1, 1)?;
     touched.push(collected(CollectorStep::Remark, Reply::Marked(2)))?;
-    touched.push(done(get_weak(1, 0, 0), Reply::Named(Some(1))))?;
-    touched.push(done(Action::Drop { register: r(1) }, Reply::Done))?;
-    touched.push(collected(CollectorStep::Begin, Reply::Done))?;
-    touched.push(collected(CollectorStep::Remark, Reply::Marked(1)))?;
+    look(&mut touched, 1, 1)?;
+    mark(&mut touched, 1)?;
     touched.push(done(get_weak(1, 0, 0), Reply::Named(None)))?;
-    assert_eq!(rt; check(alloc, &touched)?, Verdict::Yes(13));
+    check_verdict(&rt, alloc, &touched, Verdict::Yes(13))?;
     Ok(())
 }
 
@@ -446,25 +532,31 @@ fn a_pause_leaves_weak_slots(rt: HostRuntime) -> Result<(), Fail> {
     moved.push(collected(CollectorStep::Remark, Reply::Marked(1)))?;
     moved.push(done(get_weak(1, 0, 0), Reply::Named(Some(1))))?;
     moved.push(done(read(1, 0), Reply::Word(0)))?;
-    assert_eq!(rt; check(alloc, &moved)?, Verdict::Yes(8));
+    check_verdict(&rt, alloc, &moved, Verdict::Yes(8))?;
     Ok(())
 }
 
-#[test]
-fn keeps_slots_made_while_marking_ran(rt: HostRuntime) -> Result<(), Fail> {
-    let alloc = rt.alloc();
+/// #1 is made while marking runs, and its weak slot then alone holds #0.
+fn made_while_marking(alloc: Global) -> Result<Record, AllocError>
+    ensures { IfOk result (λ made. made.config.mutators ≡ 1) }
+{
     let mut record = Record::new(alloc, config(0));
     record.push(done(new(1, 0, 1), Reply::Named(Some(0))))?;
     record.push(collected(CollectorStep::Begin, Reply::Done))?;
     record.push(done(new_weak(0, 0, 1, 0), Reply::Named(Some(1))))?;
     record.push(done(put_weak(0, 0, 1), Reply::Done))?;
     record.push(done(Action::Drop { register: r(1) }, Reply::Done))?;
+    Ok(record)
+}
+
+#[test]
+fn keeps_slots_made_while_marking_ran(rt: HostRuntime) -> Result<(), Fail> {
+    let alloc = rt.alloc();
+    let mut record = made_while_marking(alloc)?;
     record.push(collected(CollectorStep::Remark, Reply::Marked(1)))?;
-    record.push(done(get_weak(2, 0, 0), Reply::Named(Some(0))))?;
-    record.push(done(Action::Drop { register: r(2) }, Reply::Done))?;
-    record.push(collected(CollectorStep::Begin, Reply::Done))?;
-    record.push(collected(CollectorStep::Remark, Reply::Marked(1)))?;
+    look(&mut record, 2, 0)?;
+    mark(&mut record, 1)?;
     record.push(done(get_weak(2, 0, 0), Reply::Named(None)))?;
-    assert_eq!(rt; check(alloc, &record)?, Verdict::Yes(11));
+    check_verdict(&rt, alloc, &record, Verdict::Yes(11))?;
     Ok(())
 }

@@ -190,12 +190,23 @@ fn small_objects(alloc: Global) -> Result<RegionTable, Fail>
 }
 
 /// The table with its marks, and empty sets of two cards a region.
-#[derive(Drop)]
 struct Sample {
     table: RegionTable,
     tams: Tams,
     marks: Marks,
     sets: RememberedSets,
+}
+
+/// Where it is let go there is one call, and not a drop for each of its parts.
+impl Drop for Sample {
+    fn drop(self) {
+        let Sample {
+            table: _,
+            tams: _,
+            marks: _,
+            sets: _,
+        } = self;
+    }
 }
 
 /// Region 0 had its top at `start` when marking began, and of what starts below it the object at 4 alone is marked.

@@ -19,7 +19,6 @@ use std::alloc::Global;
 use std::marker::Model;
 
 /// The regions of a heap with their words. Clauses see a `Table` of regions and tiles, and no word.
-#[derive(Drop)]
 pub struct RegionTable {
     pub(crate) words: Words,
     pub(crate) rows: Vec<Row>,
@@ -44,6 +43,21 @@ impl Model for RegionTable {
     ghost view = { λ a. table_of a.words_per_region a.words a.rows.items };
 
     ghost invariant = { λ a. IsSound a.words_per_region a.shift a.lowest a.first_tiles a.weak_starts a.words a.rows.items };
+}
+
+/// Where it is let go there is one call, and not a drop for each of its parts.
+impl Drop for RegionTable {
+    fn drop(self) {
+        let RegionTable {
+            words: _,
+            rows: _,
+            words_per_region: _,
+            shift: _,
+            lowest: _,
+            first_tiles: _,
+            weak_starts: _,
+        } = self;
+    }
 }
 
 /// The size of the object at an address, 1 where there is none.

@@ -1,4 +1,4 @@
-ghost use Rattle.std.specs.Prelude.{◌≡◌, ◌<◌, ◌^◌, length, IfOk, IsSome};
+ghost use Rattle.std.specs.Prelude.{◌≡◌, ◌*◌, ◌<◌, ◌^◌, length, IfOk, IsSome};
 ghost use Rattle.regions.specs.Table.{free_table, object_at, pointers_at, weaks_at, fields_at, values_at};
 
 use crate::row::{Kind, Shape};
@@ -7,6 +7,7 @@ use heap_words::addr::{Addr, Ptr, RegionNo};
 use heap_words::config::{Config, Format, NewFault};
 use heap_words::header::{Count, Counts, FillerSize};
 use std::alloc::Global;
+use std::process::Abort;
 use std::test::Fail;
 
 fn counts(pointers: u32, weaks: u8, values: u32) -> Counts
@@ -82,6 +83,32 @@ fn ends(table: &RegionTable, object: Addr) -> (u32, Ptr, Ptr)
     )
 }
 
+/// Compares where the tile starts that a word lies in.
+fn check_first_tile(rt: &impl Abort, table: &RegionTable, word: Addr, tile: Option<Addr>)
+    requires { word < length table.now.regions * table.now.words_per_region }
+{
+    assert_eq!(rt; table.first_tile(word), tile);
+}
+
+/// Compares where the first object with weak slots starts, from an address on.
+fn check_next_with_weaks(rt: &impl Abort, table: &RegionTable, from: Addr, object: Option<Addr>) {
+    assert_eq!(rt; table.next_with_weaks(from), object);
+}
+
+/// Compares a region's kind.
+fn check_kind(rt: &impl Abort, table: &RegionTable, region: RegionNo, kind: Kind)
+    requires { region < length table.now.regions }
+{
+    assert_eq!(rt; table.kind(region), kind);
+}
+
+/// Compares a region's top.
+fn check_top(rt: &impl Abort, table: &RegionTable, region: RegionNo, top: Addr)
+    requires { region < length table.now.regions }
+{
+    assert_eq!(rt; table.top(region), top);
+}
+
 #[test]
 fn makes_what_suits(rt: HostRuntime) {
     for (sizes, fault) in [
@@ -145,9 +172,9 @@ fn fills_a_region(rt: HostRuntime) -> Result<(), Fail> {
         table.walk_from(rest).next(),
         Some((rest, Shape::Filler { size: 5 }))
     );
-    assert_eq!(rt; table.first_tile(Addr::new(4)), Some(Addr::new(4)));
-    assert_eq!(rt; table.first_tile(Addr::new(9)), Some(rest));
-    assert_eq!(rt; table.first_tile(Addr::new(10)), None);
+    check_first_tile(&rt, &table, Addr::new(4), Some(Addr::new(4)));
+    check_first_tile(&rt, &table, Addr::new(9), Some(rest));
+    check_first_tile(&rt, &table, Addr::new(10), None);
     Ok(())
 }
 
@@ -187,19 +214,19 @@ fn moves_an_object(rt: HostRuntime) -> Result<(), Fail> {
     assert_eq!(rt; table.take_free(), Some(to));
     assert_eq!(rt; table.push_filler(from, FillerSize::new(4)), object);
     table.make_object(object, FillerSize::new(4), 7, counts(0, 2, 0));
-    assert_eq!(rt; table.next_with_weaks(object), Some(object));
-    assert_eq!(rt; table.next_with_weaks(Addr::new(1)), None);
+    check_next_with_weaks(&rt, &table, object, Some(object));
+    check_next_with_weaks(&rt, &table, Addr::new(1), None);
     assert_eq!(rt; table.copy_object(object, to), copy);
-    assert_eq!(rt; table.next_with_weaks(Addr::new(1)), Some(copy));
+    check_next_with_weaks(&rt, &table, Addr::new(1), Some(copy));
     table.forward(object, copy);
-    assert_eq!(rt; table.next_with_weaks(object), Some(copy));
+    check_next_with_weaks(&rt, &table, object, Some(copy));
     assert_eq!(rt; table.target(object), Some(copy));
     assert_eq!(rt; table.tile(object), Shape::Forwarded { to: copy, size: 4 });
     table.release(from);
-    assert_eq!(rt; table.kind(from), Kind::Free);
-    assert_eq!(rt; table.next_with_weaks(object), Some(copy));
-    assert_eq!(rt; table.next_with_weaks(Addr::new(17)), None);
-    assert_eq!(rt; table.top(to), Addr::new(20));
+    check_kind(&rt, &table, from, Kind::Free);
+    check_next_with_weaks(&rt, &table, object, Some(copy));
+    check_next_with_weaks(&rt, &table, Addr::new(17), None);
+    check_top(&rt, &table, to, Addr::new(20));
     Ok(())
 }
 
@@ -214,19 +241,19 @@ fn holds_a_run(rt: HostRuntime) -> Result<(), Fail> {
     assert_eq!(rt; table.take_free(), Some(RegionNo::new(0)));
     assert_eq!(rt; table.free_run(4), None);
     assert_eq!(rt; table.take_run(2, 8, counts(3, 1, 19)), Some(first));
-    assert_eq!(rt; table.next_with_weaks(Addr::new(0)), Some(Addr::new(16)));
-    assert_eq!(rt; table.next_with_weaks(Addr::new(17)), None);
-    assert_eq!(rt; table.kind(first), Kind::First);
-    assert_eq!(rt; table.kind(later), Kind::Rest);
+    check_next_with_weaks(&rt, &table, Addr::new(0), Some(Addr::new(16)));
+    check_next_with_weaks(&rt, &table, Addr::new(17), None);
+    check_kind(&rt, &table, first, Kind::First);
+    check_kind(&rt, &table, later, Kind::Rest);
     assert_eq!(rt; table.run_length(first), 2);
-    assert_eq!(rt; table.top(first), Addr::new(32));
-    assert_eq!(rt; table.top(later), Addr::new(41));
-    assert_eq!(rt; table.first_tile(Addr::new(40)), Some(Addr::new(16)));
-    assert_eq!(rt; table.first_tile(Addr::new(41)), None);
+    check_top(&rt, &table, first, Addr::new(32));
+    check_top(&rt, &table, later, Addr::new(41));
+    check_first_tile(&rt, &table, Addr::new(40), Some(Addr::new(16)));
+    check_first_tile(&rt, &table, Addr::new(41), None);
     table.release(first);
-    assert_eq!(rt; table.kind(first), Kind::Free);
-    assert_eq!(rt; table.kind(later), Kind::Free);
-    assert_eq!(rt; table.next_with_weaks(Addr::new(0)), None);
+    check_kind(&rt, &table, first, Kind::Free);
+    check_kind(&rt, &table, later, Kind::Free);
+    check_next_with_weaks(&rt, &table, Addr::new(0), None);
     Ok(())
 }
 
@@ -239,13 +266,13 @@ fn holds_weak_slots(rt: HostRuntime) -> Result<(), Fail> {
     let region = RegionNo::new(0);
     let object = Addr::new(0);
     let other = Addr::new(9);
-    assert_eq!(rt; table.next_with_weaks(object), None);
+    check_next_with_weaks(&rt, &table, object, None);
     assert_eq!(rt; table.take_free(), Some(region));
     assert_eq!(rt; table.push_filler(region, FillerSize::new(6)), object);
     table.make_object(object, FillerSize::new(6), 7, counts(1, 2, 1));
     assert_eq!(rt; table.lowest_tile(region), Some(object));
-    assert_eq!(rt; table.next_with_weaks(object), Some(object));
-    assert_eq!(rt; table.next_with_weaks(Addr::new(1)), None);
+    check_next_with_weaks(&rt, &table, object, Some(object));
+    check_next_with_weaks(&rt, &table, Addr::new(1), None);
     table.set_weak(object, 1, Some(other));
     table.set_field(object, 1, Some(object));
     table.set_value(object, 0, 9);
@@ -254,6 +281,6 @@ fn holds_weak_slots(rt: HostRuntime) -> Result<(), Fail> {
     assert_eq!(rt; slots(&table, object), (2, Some(object), Some(other)));
     assert_eq!(rt; ends(&table, object), (3, None, Some(other)));
     table.release(region);
-    assert_eq!(rt; table.next_with_weaks(object), None);
+    check_next_with_weaks(&rt, &table, object, None);
     Ok(())
 }

@@ -23,7 +23,6 @@ use std::alloc::{AllocError, Global};
 use std::marker::Model;
 
 /// A set of addresses, with the regions in which it may have one. Clauses see a flag for each address.
-#[derive(Drop)]
 pub(crate) struct WeakStarts {
     region_words: u32,
     regions: Bits,
@@ -38,6 +37,17 @@ impl Model for WeakStarts {
     ghost view = { λ s. record { region_words = s.region_words; flags = s.addresses } };
 
     ghost invariant = { λ s. AreRegions s.region_words s.regions s.addresses };
+}
+
+/// Where it is let go there is one call, and not a drop for each of its parts.
+impl Drop for WeakStarts {
+    fn drop(self) {
+        let WeakStarts {
+            region_words: _,
+            regions: _,
+            addresses: _,
+        } = self;
+    }
 }
 
 impl WeakStarts {

@@ -16,7 +16,6 @@ use std::marker::Model;
 pub(crate) const INLINE: usize = 16;
 
 /// Cards, sixteen at most, and a mark for each region whose cards are all in the set. Clauses see the two lists.
-#[derive(Drop)]
 pub(crate) struct RememberedSet {
     inline: SmallVec<u32, 16>,
     sources: Bits,
@@ -32,6 +31,16 @@ impl Model for RememberedSet {
     ghost view = { set_of };
 
     ghost invariant = { IsSoundSet };
+}
+
+/// Where it is let go there is one call, and not a drop for each of its parts.
+impl Drop for RememberedSet {
+    fn drop(self) {
+        let RememberedSet {
+            inline: _,
+            sources: _,
+        } = self;
+    }
 }
 
 impl RememberedSet {

@@ -17,7 +17,6 @@ use std::alloc::{AllocError, Global};
 use std::marker::Model;
 
 /// A remembered set for each region. Clauses see the list of the sets, and how many cards a region has.
-#[derive(Drop)]
 pub struct RememberedSets {
     sets: Vec<RememberedSet>,
     cards_per_region: u32,
@@ -33,6 +32,16 @@ impl Model for RememberedSets {
     ghost view = { sets_of };
 
     ghost invariant = { IsSound };
+}
+
+/// Where it is let go there is one call, and not a drop for each of its parts.
+impl Drop for RememberedSets {
+    fn drop(self) {
+        let RememberedSets {
+            sets: _,
+            cards_per_region: _,
+        } = self;
+    }
 }
 
 impl RememberedSets {

@@ -12,7 +12,6 @@ use std::alloc::{AllocError, Global};
 use std::marker::Model;
 
 /// A deletion log for each mutator. Clauses see the list of the logs.
-#[derive(Drop)]
 pub struct DeletionLogs {
     logs: Vec<DeletionLog>,
 }
@@ -25,6 +24,13 @@ impl Model for DeletionLogs {
     ghost view = { λ all. all.logs.items };
 
     ghost invariant = { λ all. vec_len all.logs < 2 ^ 32 };
+}
+
+/// Where it is let go there is one call, and not a drop for each of its parts.
+impl Drop for DeletionLogs {
+    fn drop(self) {
+        let DeletionLogs { logs: _ } = self;
+    }
 }
 
 impl DeletionLogs {

@@ -17,6 +17,16 @@ use Rattle.object_copy.proofs.Copied.{tile_of_object}
 use Rattle.evacuation.specs.Space.{IsTaken, flag}
 use Rattle.evacuation.specs.Turns.{Pause, IsPause, IsTurn, TableStays, in_set, kept_now, plan, space}
 
+-- contradictions over plain variables: in a proof with a whole pause in scope a tactic reads all of it
+clash : {A : Type 0} (m : Option A) (x : A) → m ≡ None → m ≡ Some x → ⊥
+clash m x p q = cc
+
+free_ordinary : kinds.Free ≡ kinds.Ordinary → ⊥
+free_ordinary e = cc
+
+unfree : (x y : Bool) → x ≡ true → x ≡ y → y ≡ false → ⊥
+unfree x y e g h = cc
+
 pub no_tile : (t : Table) (a : ℕ) → kind_of t (a / t.words_per_region) ≡ kinds.Free → tile_in t a ≡ None
 unfolding kind_of tile_in region_at nth_region
 no_tile t a e = go (nth_region t (a / t.words_per_region)) refl
@@ -49,7 +59,7 @@ module _ (p : Pause) (q : IsPause p) (room : 2 * (space p p.start).left ≤ free
     where
       go : (b : Bool) → flag p.chosen k ≡ b → flag p.chosen k ≡ false
       go false f = f
-      go true f = absurd (let o = q.ordinary k f in let g = free_by_kind p.start k in let h = ap kind_is_free o in cc)
+      go true f = absurd (unfree _ _ e (free_by_kind p.start k) (ap kind_is_free (q.ordinary k f)))
 
   evacuating : IsEvacuating (in_set p) (plan p).heap (space p p.start).forward (record { kept = kept_now p p.start; roots = p.roots })
   evacuating =
@@ -67,15 +77,15 @@ module _ (p : Pause) (q : IsPause p) (room : 2 * (space p p.start).left ≤ free
     objects = λ a x o e. (x, e, record { name = refl; values = refl; pointers = refl; weaks = refl });
     none = λ a o m e. e;
     unkept = λ a o m e. refl;
-    filled = λ k f o. absurd (let n : kinds.Free ≡ kinds.Ordinary = sym f ∙ o in cc);
-    small = λ a x o f e. absurd (let g = tile_of_object p.start a x e in let h = no_tile p.start a f in cc);
-    moved = λ a to m e. absurd (let g = not_moved p.start a q.unmoved in let h = ap moved_to e in cc);
-    live = λ a u f e. absurd (let g = no_tile p.start a f in cc);
+    filled = λ k f o. absurd (free_ordinary (sym f ∙ o));
+    small = λ a x o f e. absurd (clash _ _ (no_tile p.start a f) (tile_of_object p.start a x e));
+    moved = λ a to m e. absurd (clash _ _ (not_moved p.start a q.unmoved) (ap moved_to e));
+    live = λ a u f e. absurd (clash _ _ (no_tile p.start a f) e);
     targets = EachForwardedIn-imp (λ _. ⊥) (λ to. in_set p to ≡ false) p.start.regions (λ to x. absurd x) q.unmoved;
   }
 
   none_taken : (k : ℕ) → IsTaken (no_places n) k → ⊥
-  none_taken k w = let e = w.is in absurd cc
+  none_taken k w = clash None _ refl w.is
 
   pub start_turn : IsTurn p p.start (no_places n)
   start_turn = record {
@@ -83,10 +93,10 @@ module _ (p : Pause) (q : IsPause p) (room : 2 * (space p p.start).left ≤ free
       heap = evacuating;
       free = no_free_chosen;
       taken = λ k w. absurd (none_taken k w);
-      last = λ k e. absurd cc;
-      last_at = λ k i e f. absurd cc;
+      last = λ k e. absurd (clash None _ refl e);
+      last_at = λ k i e f. absurd (clash None _ refl e);
       apart = λ k w. absurd (none_taken k w);
-      placed = λ a b i e. absurd (let g = not_moved p.start a q.unmoved in cc);
+      placed = λ a b i e. absurd (clash _ _ (not_moved p.start a q.unmoved) e);
       room = room;
       list = (let c = count_by-le-length is_free p.start.regions in omega arith);
       limit = (let l = limit in omega arith);
@@ -94,7 +104,7 @@ module _ (p : Pause) (q : IsPause p) (room : 2 * (space p p.start).left ≤ free
         from = [];
         distinct = λ i j a e. absurd cc;
         forwarded = λ i a e. absurd cc;
-        each = λ a b i e. absurd (let g = not_moved p.start a q.unmoved in cc);
+        each = λ a b i e. absurd (clash _ _ (not_moved p.start a q.unmoved) e);
         total = refl;
       };
       places = (let l = list in omega arith);

@@ -64,3 +64,9 @@ returns-in-Err-clause-fault c = λ other. c.run_fault.ensures c.args.plan.now.co
 pub returns-in-Err-clause-bad : goal.returns-in-Err-clause-bad
 returns-in-Err-clause-bad c =
     bad_exactly c.args.plan.now.config c.run_fault.result _ refl (c.run_fault.ensures c.args.plan.now.config c.in-Err.ensures.fault) (λ over. omega (arith, over, c.if-refiners-gt8.false, c.if-markers-gt8.false))
+
+pub returns-clause-bad : goal.returns-clause-bad
+returns-clause-bad c = (λ same. absurd (cc), λ over. absurd (omega (arith, over, c.if-refiners-gt8.false, c.if-markers-gt8.false)))
+
+pub returns-in_default-clause-bad : goal.returns-in_default-clause-bad
+returns-in_default-clause-bad c = (λ same. absurd (cc), λ over. absurd (omega (arith, over, c.if-refiners-gt8.false, c.if-markers-gt8.false)))

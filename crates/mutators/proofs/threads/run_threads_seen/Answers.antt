@@ -1,10 +1,16 @@
-use Rattle.std.proofs.Common.{refl, arith, rules}
-use Rattle.mutators.proofs.Faults.{bad_exactly, counts_fit, threads_fault}
+use Rattle.std.proofs.Common.{ℕ, subst}
+use Rattle.std.specs.Prelude.{IfOk}
+use Rattle.mutators.specs.Interleavings.{IsRunOf}
+use Rattle.mutators.proofs.Faults.{never_bad, its_fault}
 use Rattle.mutators.proofs.threads.run_threads_seen.Goals as goal
 
-pub returns-in-Err-clause-fault : goal.returns-in-Err-clause-fault
-returns-in-Err-clause-fault g c = λ other. threads_fault c.args.plan.now.config c.run_fault.result (c.run_fault.ensures c.args.plan.now.config c.in-Err.ensures.fault)
+pub returns-clause-run : goal.returns-clause-run
+returns-clause-run g c =
+    subst (λ (x : ℕ × ℕ). IfOk c.gather.result (λ t. IsRunOf c.args.plan.now x.0 x.1 t.history)) (λ i. (c.in_ok-journal.ensures.cast.1 i, c.in_ok-journal.ensures.cast.2 i)) c.gather.ensures.run
 
-pub returns-in-Err-clause-bad : goal.returns-in-Err-clause-bad
-returns-in-Err-clause-bad g c =
-    bad_exactly c.args.plan.now.config c.run_fault.result _ refl (c.run_fault.ensures c.args.plan.now.config c.in-Err.ensures.fault) (counts_fit c.args.workers c.args.refiners c.args.markers (search rules) (omega (arith, c.if-workers-gt32.false)) (omega (arith, c.if-refiners-gt8.false)) (omega (arith, c.if-markers-gt8.false)))
+pub returns-clause-bad : goal.returns-clause-bad
+returns-clause-bad g c =
+    never_bad c.args.plan.now.config c.gather.result c.gather.ensures.fault c.in_ok-journal.ensures.suits (λ p. let e = c.in_ok-journal.ensures.bad.1 p in absurd (cc))
+
+pub returns-clause-fault : goal.returns-clause-fault
+returns-clause-fault g c = its_fault c.args.plan.now.config c.gather.result c.gather.ensures.fault c.in_ok-journal.ensures.suits

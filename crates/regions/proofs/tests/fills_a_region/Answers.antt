@@ -132,8 +132,8 @@ walk_from-requires g c =
     let t6 = fill_value _ _ _ t5 c.set_value.ensures c.new-object.ensures in
     rest_is_tile _ _ _ _ t6 c.new-rest.ensures
 
-pub first_tile-requires : goal.first_tile-requires
-first_tile-requires g c =
+pub check_first_tile-requires : goal.check_first_tile-requires
+check_first_tile-requires g c =
     let t1 = fill_take _ _ c.in-Ok.ensures c.take_free.ensures.taken in
     let t2 = fill_push _ _ _ _ t1 c.push_filler.ensures.pushed c.new-region.ensures c.new.ensures in
     let t3 = fill_split _ _ _ _ _ t2 c.split_filler.ensures.split c.new-object.ensures c.new-2.ensures c.new-3.ensures in
@@ -142,8 +142,8 @@ first_tile-requires g c =
     let t6 = fill_value _ _ _ t5 c.set_value.ensures c.new-object.ensures in
     word_inside _ _ _ _ t6 refl c.new-5.ensures (omega arith)
 
-pub first_tile-requires-2 : goal.first_tile-requires-2
-first_tile-requires-2 g c =
+pub check_first_tile-requires-2 : goal.check_first_tile-requires-2
+check_first_tile-requires-2 g c =
     let t1 = fill_take _ _ c.in-Ok.ensures c.take_free.ensures.taken in
     let t2 = fill_push _ _ _ _ t1 c.push_filler.ensures.pushed c.new-region.ensures c.new.ensures in
     let t3 = fill_split _ _ _ _ _ t2 c.split_filler.ensures.split c.new-object.ensures c.new-2.ensures c.new-3.ensures in
@@ -152,8 +152,8 @@ first_tile-requires-2 g c =
     let t6 = fill_value _ _ _ t5 c.set_value.ensures c.new-object.ensures in
     word_inside _ _ _ _ t6 refl c.new-7.ensures (omega arith)
 
-pub first_tile-requires-3 : goal.first_tile-requires-3
-first_tile-requires-3 g c =
+pub check_first_tile-requires-3 : goal.check_first_tile-requires-3
+check_first_tile-requires-3 g c =
     let t1 = fill_take _ _ c.in-Ok.ensures c.take_free.ensures.taken in
     let t2 = fill_push _ _ _ _ t1 c.push_filler.ensures.pushed c.new-region.ensures c.new.ensures in
     let t3 = fill_split _ _ _ _ _ t2 c.split_filler.ensures.split c.new-object.ensures c.new-2.ensures c.new-3.ensures in

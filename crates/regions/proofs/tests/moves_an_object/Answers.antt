@@ -123,8 +123,8 @@ release-requires-clause-untargeted g c =
     let t5 = move_forward _ _ _ _ t4 c.forward.ensures c.new-object.ensures c.new-copy.ensures in
     (releasable5 _ _ t5 c.new-from.ensures).untargeted
 
-pub kind-requires : goal.kind-requires
-kind-requires g c =
+pub check_kind-requires : goal.check_kind-requires
+check_kind-requires g c =
     let t1 = move_take _ _ (fill_take _ _ c.in-Ok.ensures c.take_free.ensures.taken) c.take_free-2.ensures.taken in
     let t2 = move_push _ _ _ _ t1 c.push_filler.ensures.pushed c.new-from.ensures c.new.ensures in
     let t3 = move_make _ _ _ _ _ _ _ t2 c.make_object.ensures c.new-object.ensures c.new-2.ensures c.counts.ensures.pointers_are c.counts.ensures.weaks_are c.counts.ensures.values_are in
@@ -133,8 +133,8 @@ kind-requires g c =
     let t6 = move_release _ _ _ t5 c.release.ensures c.new-from.ensures in
     known6 _ _ _ t6 c.new-from.ensures (omega arith)
 
-pub top-requires : goal.top-requires
-top-requires g c =
+pub check_top-requires : goal.check_top-requires
+check_top-requires g c =
     let t1 = move_take _ _ (fill_take _ _ c.in-Ok.ensures c.take_free.ensures.taken) c.take_free-2.ensures.taken in
     let t2 = move_push _ _ _ _ t1 c.push_filler.ensures.pushed c.new-from.ensures c.new.ensures in
     let t3 = move_make _ _ _ _ _ _ _ t2 c.make_object.ensures c.new-object.ensures c.new-2.ensures c.counts.ensures.pointers_are c.counts.ensures.weaks_are c.counts.ensures.values_are in
