@@ -22,7 +22,7 @@
 //! every moment: the card of each field that leads into another region is dirty, or that region's set covers it. No step takes memory. `run`
 //! does a list of steps in a new heap; after each of them every object that a root reaches stands, whole and once, in regions in use.
 //!
-//! `steps` has the mutator's steps, `barrier` what a store and a weak read do beside, `cycle` the steps of marking, `cleanup` the
+//! `mutator` has the mutator's steps, `barrier` what a store and a weak read do beside, `cycle` the steps of marking, `cleanup` the
 //! reclaiming, `refine` refinement, `candidates` the choice of what a pause evacuates, `pause` the pause, `step` any step,
 //! `runs` a list of them, `readers` what is read of a core from outside, `layers` the parts that a new core is made of.
 //!
