@@ -1,3 +1,1 @@
 mod Endings
-mod Once
-mod Told

@@ -1,10 +1,9 @@
 //! A script whose actors take turns, by a seed's draws or in threads, answered by its record.
 
-ghost use Rattle.g1heap.specs.Runs.{Ends};
+ghost use Rattle.g1heap.specs.Runs.{EndsIn};
 
-use crate::faults::JobFault;
-use crate::job::Order;
-use crate::script::{answer, read_plan};
+use command_line::Order;
+use jobs::{JobFault, answer, read_plan};
 use mutators::{run_threads, simulate};
 use std::alloc::Global;
 use std::io::{Read, Write};
@@ -21,7 +20,7 @@ pub fn simulate_script<R: Read, W: Write>(
     reader: &mut R,
     writer: &mut W,
 ) -> Result<(), JobFault>
-    ensures { Ends (Order.Drawn seed refiners markers) (R.remaining reader.old) (R.remaining reader.new) (W.contents writer.old) (W.contents writer.new) result }
+    ensures { EndsIn (Order.Drawn seed refiners markers) (R.remaining reader.old) (R.remaining reader.new) (W.contents writer.old) (W.contents writer.new) result }
 {
     let plan = read_plan(alloc, reader)?;
     let outcome = simulate(alloc, &plan, seed, refiners, markers);
@@ -40,7 +39,7 @@ pub fn thread_script<H: Threads + Wait + Sync, R: Read, W: Write>(
     reader: &mut R,
     writer: &mut W,
 ) -> Result<(), JobFault>
-    ensures { Ends (Order.Threads workers refiners markers) (R.remaining reader.old) (R.remaining reader.new) (W.contents writer.old) (W.contents writer.new) result }
+    ensures { EndsIn (Order.Concurrent workers refiners markers) (R.remaining reader.old) (R.remaining reader.new) (W.contents writer.old) (W.contents writer.new) result }
 {
     let plan = read_plan(alloc, reader)?;
     let outcome = run_threads(rt, alloc, &plan, workers, refiners, markers);

@@ -2,30 +2,22 @@
 //! verdict of the graph comes out.
 //!
 //! ```text
-//!   words -- read_words --> Job;  FILE -- read_text, parse --> Plan -- run --> Record -- write_record --> output
-//!                                                                  simulate
-//!                                                                  run_threads
-//!                                                           -- run_to_core --> Core -- write_view --> output
-//!                                 FILE -- read_text, parse_record --> Record -- check --> Verdict -- write_verdict --> output
+//!   words -- read_words --> Job -- open --> input -- perform --> run_script       steps in the file's order
+//!                                                            --> simulate_script  in turns that a seed draws
+//!                                                            --> thread_script    in turns of threads
+//!                                                            --> judge_record     the verdict on a record
+//!                                                            --> view_script      the heap as it stands
 //! ```
 //!
-//! `program` reads the command line, opens the file and calls `perform`, which calls `run_script`, `simulate_script` or
-//! `thread_script`. That is where the theorem of the whole path stands: at Ok the input was a script, read to its end, and
-//! the text of a record was written, and no more, which is a run of the script in the order that was asked for, and of the graph
-//! of objects. Nothing is written before the run has ended well. `judge_record` has the theorem of the other path: which text
-//! gets which verdict. `view_script` runs a script too, and writes how its heap stands then.
+//! `program` reads the command line (crate `command_line`), opens the file and calls `perform`, which does the job (crate `jobs`) and tells
+//! its end. `simulate_script` and `thread_script` are here, since they need threads and waiting or stand beside what does.
 #![tactic(auto)]
 
 mod actors;
-mod faults;
-mod job;
-mod judge;
 mod perform;
 mod program;
-mod script;
 #[cfg(test)]
 mod tests;
-mod view;
 
 use program::program;
 use std::process::ExitCode;

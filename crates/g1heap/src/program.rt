@@ -3,15 +3,14 @@
 ghost use Rattle.std.specs.Prelude.{◌≡◌, ◌≢◌, ◌≤◌, ◌⊎◌, List, ℕ, Option, None};
 ghost use Rattle.std.specs.Io.KnownBytes.{Keeps};
 ghost use Rattle.clap.specs.Values.{kind_of};
-ghost use Rattle.g1heap.specs.FaultLines.{TellsLine};
+ghost use Rattle.jobs.specs.FaultLines.{TellsLine};
 ghost use Rattle.g1heap.specs.Jobs.{DoesJob};
 
-use crate::faults::JobFault;
-use crate::job::{Job, Task, misspelt, read_words};
-use crate::judge::conclude_verdict;
-use crate::perform::{conclude, perform};
+use crate::perform::perform;
 use clap::Error;
 use clap::error::ErrorKind;
+use command_line::{Job, Task, misspelt, read_words};
+use jobs::{JobFault, conclude, conclude_verdict};
 use script_text::ReadFault;
 use std::alloc::Global;
 use std::env::Env;

@@ -2,11 +2,9 @@
 
 use super::words;
 use crate::actors::{simulate_script, thread_script};
-use crate::job::{Order, Task, misspelt, read_words};
-use crate::judge::judge_record;
 use crate::program::refuse;
-use crate::script::run_script;
-use crate::view::view_script;
+use command_line::{Order, Task, misspelt, read_words};
+use jobs::{judge_record, run_script, view_script};
 use object_graph::Verdict;
 use std::alloc::Global;
 use std::test::Fail;
@@ -100,7 +98,7 @@ fn reads_counts_of_threads(rt: HostRuntime) -> Result<(), Fail> {
         "--refiners",
         "6",
     ];
-    let order = Order::Threads {
+    let order = Order::Concurrent {
         workers: 4_294_967_295,
         refiners: 6,
         markers: 4,
@@ -113,7 +111,7 @@ fn reads_counts_of_threads(rt: HostRuntime) -> Result<(), Fail> {
 #[test]
 fn reads_workers_alone(rt: HostRuntime) -> Result<(), Fail> {
     let line = ["g1heap", "threads", "--workers", "5", "a.heap"];
-    let order = Order::Threads {
+    let order = Order::Concurrent {
         workers: 5,
         refiners: 0,
         markers: 0,

@@ -1,8 +1,7 @@
 //! The line of each fault, also of those that no run brings about at will.
 
-use crate::faults::{JobFault, JudgeFault, tell};
-use crate::perform::conclude;
 use heap_words::config::NewFault;
+use jobs::{JobFault, JudgeFault, conclude, tell};
 use script_text::{Kind, LineFault, ReadFault, WriteFault};
 use std::alloc::Global;
 use std::process::Abort;

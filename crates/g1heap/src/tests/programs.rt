@@ -3,8 +3,8 @@
 ghost use Rattle.std.specs.Prelude.{◌≡◌};
 
 use super::{Outcome, assert_outcome, words};
-use crate::job::read_words;
 use crate::program::{open_and_perform, program};
+use command_line::read_words;
 use std::alloc::{Allocator, Global};
 use std::env::{Env, FillError};
 use std::fs::{Files, Metadata, OpenFile, OpenOptions};

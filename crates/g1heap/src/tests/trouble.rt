@@ -1,8 +1,8 @@
 //! Jobs with a read or a write in trouble.
 
 use super::{Outcome, assert_outcome, words};
-use crate::job::read_words;
 use crate::perform::perform;
+use command_line::read_words;
 use std::alloc::Global;
 use std::io;
 use std::io::{ErrorKind, Read, Write};

@@ -1,9 +1,11 @@
-use Rattle.g1heap.proofs.Endings.{ends, comes_drawn}
-use Rattle.g1heap.specs.declared.job.Order.TheVariants.{Drawn}
+use Rattle.jobs.proofs.Endings.{ends}
+use Rattle.g1heap.proofs.Endings.{comes_drawn}
+use Rattle.step_core.specs.Histories.{IsRunFault}
+use Rattle.g1heap.specs.Runs.{AreFew, IsDrawnRun, IsCountedFault}
 use Rattle.g1heap.proofs.actors.simulate_script.Goals as goal
 
 pub returns : goal.returns
 returns g c =
     let run = c.simulate-outcome.ensures in
-    ends (Drawn c.args.seed c.args.refiners c.args.markers) c.in_ok-plan.plan _ _ _ _ c.simulate-outcome.result c.answer.result c.in_ok-plan.ensures
+    ends (IsDrawnRun c.args.seed c.args.refiners c.args.markers) (IsCountedFault (AreFew c.args.refiners c.args.markers) IsRunFault) c.in_ok-plan.plan _ _ _ _ c.simulate-outcome.result c.answer.result c.in_ok-plan.ensures
     (comes_drawn c.in_ok-plan.plan c.args.seed c.args.refiners c.args.markers c.simulate-outcome.result run.run run.drawn run.bad run.fault) c.answer.ensures

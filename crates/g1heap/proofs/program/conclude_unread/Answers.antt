@@ -1,6 +1,6 @@
 use Rattle.std.proofs.Common.{[], Err}
 use Rattle.script_text.specs.declared.fault.ReadFault.TheVariants as reads
-use Rattle.g1heap.specs.declared.faults.JobFault.TheVariants as faults
+use Rattle.jobs.specs.declared.faults.JobFault.TheVariants as faults
 use Rattle.g1heap.proofs.program.conclude_unread.Goals as goal
 
 pub returns-in-Script : goal.returns-in-Script

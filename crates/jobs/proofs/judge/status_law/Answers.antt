@@ -1,5 +1,5 @@
-use Rattle.g1heap.proofs.Told.{told_yes, told_no}
-use Rattle.g1heap.proofs.judge.status_law.Goals as goal
+use Rattle.jobs.proofs.Told.{told_yes, told_no}
+use Rattle.jobs.proofs.judge.status_law.Goals as goal
 
 pub returns-clause-yes : goal.returns-clause-yes
 returns-clause-yes c = told_yes c.verdict_law.ensures.yes

@@ -2,8 +2,8 @@
 use Rattle.std.proofs.Common.{ℕ, ◌↔◌, List, Option, Result, Ok, Err, arith}
 use Rattle.object_graph.specs.declared.judge.Verdict.{Verdict}
 use Rattle.object_graph.specs.declared.judge.Verdict.TheVariants.{Yes, No}
-use Rattle.g1heap.specs.declared.faults.JobFault.{JobFault}
-use Rattle.g1heap.specs.Verdicts.{IsJudged, Judges, TellsVerdict, PerformsCheck, IsTextOfRun, IsTextBrokenAt, ToldYes, ToldNo}
+use Rattle.jobs.specs.declared.faults.JobFault.{JobFault}
+use Rattle.jobs.specs.Verdicts.{IsJudged, Judges, TellsVerdict, PerformsCheck, IsTextOfRun, IsTextBrokenAt, ToldYes, ToldNo}
 
 -- which texts get yes, and which get no
 abbrev pub YesLaw : Type 0

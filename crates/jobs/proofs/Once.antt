@@ -10,7 +10,7 @@ use Rattle.object_graph.specs.declared.step.Event.{Event}
 use Rattle.object_graph.specs.declared.judge.Verdict.{Verdict}
 use Rattle.object_graph.specs.declared.judge.Verdict.TheVariants.{Yes, No}
 use Rattle.script_text.specs.declared.fault.LineFault.{LineFault}
-use Rattle.g1heap.specs.Verdicts.{IsJudged}
+use Rattle.jobs.specs.Verdicts.{IsJudged}
 
 -- no events are both a run and broken
 abbrev pub NeverBoth : Type 0

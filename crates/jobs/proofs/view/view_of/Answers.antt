@@ -1,9 +1,9 @@
 use Rattle.std.proofs.Common.{subst}
 use Rattle.heap_words.specs.Configs.{Suits}
 use Rattle.object_graph.specs.Actors.{StepList}
-use Rattle.g1heap.specs.Runs.{IsRunInOrder}
-use Rattle.g1heap.proofs.Endings.{same_plan, if_ok, memory_alone}
-use Rattle.g1heap.proofs.view.view_of.Goals as goal
+use Rattle.jobs.specs.Runs.{IsRunInOrder}
+use Rattle.jobs.proofs.Endings.{same_plan, if_ok, memory_alone}
+use Rattle.jobs.proofs.view.view_of.Goals as goal
 
 pub returns-in-Ok-clause-run : goal.returns-in-Ok-clause-run
 returns-in-Ok-clause-run c =

@@ -15,12 +15,12 @@ use Rattle.script_text.specs.Fits.{IsRecord}
 use Rattle.script_text.specs.Records.{record_text}
 use Rattle.script_text.specs.Events.{record_of}
 use Rattle.script_text.specs.declared.fault.WriteFault.TheVariants as writes
-use Rattle.g1heap.specs.FaultLines.{TellsLine}
-use Rattle.g1heap.specs.Runs.{GivesAll}
-use Rattle.g1heap.specs.declared.faults.JobFault.{JobFault}
-use Rattle.g1heap.specs.declared.faults.JobFault.TheVariants as faults
-use Rattle.g1heap.specs.declared.faults.JudgeFault.{JudgeFault}
-use Rattle.g1heap.specs.declared.faults.JudgeFault.TheVariants as judges
+use Rattle.jobs.specs.FaultLines.{TellsLine}
+use Rattle.jobs.specs.Runs.{GivesAll}
+use Rattle.jobs.specs.declared.faults.JobFault.{JobFault}
+use Rattle.jobs.specs.declared.faults.JobFault.TheVariants as faults
+use Rattle.jobs.specs.declared.faults.JudgeFault.{JudgeFault}
+use Rattle.jobs.specs.declared.faults.JudgeFault.TheVariants as judges
 
 -- the word before the number
 abbrev pub verdict_word : Verdict → List ℕ

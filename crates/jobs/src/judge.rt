@@ -3,7 +3,7 @@
 ghost use Rattle.std.specs.Prelude.{◌≡◌, ◌≢◌, ◌<◌, ◌≤◌, ◌↔◌, ℕ, List, Option, OnOk, OnErr, length, take};
 ghost use Rattle.std.specs.Io.KnownBytes.{Appends};
 ghost use Rattle.object_graph.specs.declared.judge.Verdict.{Verdict};
-ghost use Rattle.g1heap.specs.Verdicts.{verdict_word, verdict_number, verdict_line, IsJudged, Judges, TellsVerdict, PerformsCheck, IsTextOfRun, IsTextBrokenAt, ToldYes, ToldNo};
+ghost use Rattle.jobs.specs.Verdicts.{verdict_word, verdict_number, verdict_line, IsJudged, Judges, TellsVerdict, PerformsCheck, IsTextOfRun, IsTextBrokenAt, ToldYes, ToldNo};
 
 use crate::faults::{JobFault, JudgeFault, tell};
 use object_graph::{Verdict, check, judged_once};

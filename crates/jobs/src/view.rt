@@ -5,8 +5,8 @@
 ghost use Rattle.std.specs.Prelude.{◌≡◌, IfOk, IfErr};
 ghost use Rattle.object_graph.specs.Actors.{EventList};
 ghost use Rattle.step_core.specs.Histories.{IsRunFault};
-ghost use Rattle.g1heap.specs.Runs.{IsRunInOrder};
-ghost use Rattle.g1heap.specs.Views.{Views};
+ghost use Rattle.jobs.specs.Runs.{IsRunInOrder};
+ghost use Rattle.jobs.specs.Views.{Views};
 
 use crate::faults::JobFault;
 use crate::script::read_plan;

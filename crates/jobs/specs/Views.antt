@@ -5,14 +5,13 @@ use Rattle.object_graph.specs.Actors.{StepList, EventList}
 use Rattle.script_text.specs.Lines.{script_of, FailsBy}
 use Rattle.script_text.specs.declared.fault.WriteFault.TheVariants as writes
 use Rattle.step_core.specs.Histories.{IsRunFault}
-use Rattle.g1heap.specs.Runs.{IsScriptRun, GivesAll, Tells}
-use Rattle.g1heap.specs.declared.faults.JobFault.{JobFault}
-use Rattle.g1heap.specs.declared.faults.JobFault.TheVariants as faults
-use Rattle.g1heap.specs.declared.job.Order.TheVariants as orders
+use Rattle.jobs.specs.Runs.{IsRunInOrder, IsScriptRun, GivesAll, Tells}
+use Rattle.jobs.specs.declared.faults.JobFault.{JobFault}
+use Rattle.jobs.specs.declared.faults.JobFault.TheVariants as faults
 
 -- the input is a script that a new heap ran to its end, in the order of the file
 abbrev pub RunsWell : List ℕ → Type 0
-RunsWell input = (r : EventList) × IsScriptRun orders.File input r
+RunsWell input = (r : EventList) × IsScriptRun IsRunInOrder input r
 
 -- a text was written, and no more. Which one, no clause says
 abbrev pub WritesText : Option (List ℕ) → Option (List ℕ) → Type 0

@@ -8,10 +8,10 @@ use Rattle.script_text.specs.declared.fault.WriteFault.{WriteFault}
 use Rattle.script_text.specs.declared.fault.WriteFault.TheVariants as writes
 use Rattle.step_core.specs.declared.runs.RunFault.{RunFault}
 use Rattle.step_core.specs.declared.runs.RunFault.TheVariants as runs
-use Rattle.g1heap.specs.declared.faults.JobFault.{JobFault}
-use Rattle.g1heap.specs.declared.faults.JobFault.TheVariants.{Read, Line, Run, Judge, Write}
-use Rattle.g1heap.specs.declared.faults.JudgeFault.{JudgeFault}
-use Rattle.g1heap.specs.declared.faults.JudgeFault.TheVariants as judges
+use Rattle.jobs.specs.declared.faults.JobFault.{JobFault}
+use Rattle.jobs.specs.declared.faults.JobFault.TheVariants.{Read, Line, Run, Judge, Write}
+use Rattle.jobs.specs.declared.faults.JudgeFault.{JudgeFault}
+use Rattle.jobs.specs.declared.faults.JudgeFault.TheVariants as judges
 
 abbrev pub sizes_words : NewFault → List ℕ
 sizes_words sizes.BadRegions = codes "heap: 1 BadRegions"

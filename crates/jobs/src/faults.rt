@@ -2,7 +2,8 @@
 
 ghost use Rattle.std.specs.Prelude.{◌≡◌, ℕ, ◌≤◌, ◌<◌, ◌+◌, ◌++◌, OnOk, OnErr, length, take};
 ghost use Rattle.std.specs.Io.KnownBytes.{Appends};
-ghost use Rattle.g1heap.specs.FaultLines.{sizes_words, run_words, judge_words, write_words, fault_words, fault_line};
+ghost use Rattle.jobs.specs.FaultLines.{sizes_words, run_words, judge_words, write_words, fault_words, fault_line};
+ghost use Rattle.jobs.specs.Runs.{Tells};
 
 use heap_words::config::NewFault;
 use script_text::{LineFault, ReadFault, WriteFault, put_fault, put_text, write_bytes};
@@ -111,4 +112,18 @@ pub fn tell<E: Write>(fault: JobFault, err: &mut E) -> Result<(), WriteFault>
     let at = put_words(&mut buffer, at, fault);
     let at = put_text(&mut buffer, at, b"\n");
     write_bytes(err, &buffer[..at])
+}
+
+/// Tells how a job ended, and answers the program's status: 0 where it is done, else 1, with the fault's line on standard error. That a
+/// write of this line fails changes nothing.
+pub fn conclude<E: Write>(outcome: Result<(), JobFault>, err: &mut E) -> u8
+    ensures { Tells (E.contents err.old) (E.contents err.new) outcome result }
+{
+    match outcome {
+        Ok(()) => 0,
+        Err(fault) => {
+            let _ = tell(fault, err);
+            1
+        }
+    }
 }

@@ -1,9 +1,10 @@
 //! A script that is read, run in the order of its file, and answered by its record.
 
-ghost use Rattle.g1heap.specs.Runs.{ReadsPlan, Answers, Ends};
+ghost use Rattle.std.specs.Prelude.{IfOk, IfErr};
+ghost use Rattle.step_core.specs.Histories.{IsRunFault};
+ghost use Rattle.jobs.specs.Runs.{IsRunInOrder, ReadsPlan, Answers, Ends};
 
 use crate::faults::JobFault;
-use crate::job::Order;
 use object_graph::{Plan, Record};
 use script_text::{parse, read_text, write_record};
 use std::alloc::Global;
@@ -42,6 +43,14 @@ pub fn answer<W: Write>(
     }
 }
 
+/// The record of a plan's steps, done in their order in a new heap.
+fn record_of(alloc: Global, plan: Plan) -> Result<Record, RunFault>
+    ensures run { IfOk result (IsRunInOrder plan) }
+    ensures fault { IfErr result (IsRunFault plan.config) }
+{
+    run(alloc, &plan.config(), plan.steps())
+}
+
 /// Reads a script to the end of input, runs it in a new heap, and writes its record. Nothing is written
 /// before the run has ended well.
 pub fn run_script<R: Read, W: Write>(
@@ -49,10 +58,9 @@ pub fn run_script<R: Read, W: Write>(
     reader: &mut R,
     writer: &mut W,
 ) -> Result<(), JobFault>
-    ensures { Ends Order.File (R.remaining reader.old) (R.remaining reader.new) (W.contents writer.old) (W.contents writer.new) result }
+    ensures { Ends IsRunInOrder IsRunFault (R.remaining reader.old) (R.remaining reader.new) (W.contents writer.old) (W.contents writer.new) result }
 {
     let plan = read_plan(alloc, reader)?;
-    let outcome = run(alloc, &plan.config(), plan.steps());
-    drop(plan);
+    let outcome = record_of(alloc, plan);
     answer(alloc, outcome, writer)
 }

@@ -1,4 +1,15 @@
-//! The command line.
+//! The command line of the program: its words, and what they ask for.
+//!
+//! ```text
+//!   g1heap run FILE                        Job { file: FILE, task: Task::Script(Order::File) }
+//!   g1heap sim FILE --schedule 7           Job { file: FILE, task: Task::Script(Order::Drawn { seed: 7, refiners: 0, markers: 0 }) }
+//!   g1heap threads FILE --workers 2        Job { file: FILE, task: Task::Script(Order::Concurrent { workers: 2, refiners: 0, markers: 0 }) }
+//!   g1heap check FILE, g1heap view FILE    Job { file: FILE, task: Task::Check }, Task::View
+//!   g1heap help, and every mistake         an `Error`, whose text is for the user
+//! ```
+//!
+//! Whether a count is in range, the run itself says.
+#![tactic(auto)]
 
 ghost use Rattle.std.specs.Prelude.{◌≡◌};
 
@@ -18,7 +29,7 @@ pub enum Order {
         markers: u32,
     },
     /// Each actor's lines in their order, the actors in turns that threads come to.
-    Threads {
+    Concurrent {
         workers: u32,
         refiners: u32,
         markers: u32,
@@ -101,67 +112,87 @@ fn count<'a>(alloc: Global, name: &'a str, help: &'a str) -> Arg<'a> {
         .action(ArgAction::Set)
 }
 
+/// Adds the counts of background actors, none unless they are given.
 fn with_background<'a>(alloc: Global, command: Command<'a>) -> Result<Command<'a>, AllocError> {
-    let refiners = count(alloc, "refiners", "Background refiners, 0 to 8").default_value("0");
-    let markers = count(alloc, "markers", "Background markers, 0 to 8").default_value("0");
-    Ok(command.arg(refiners)?.arg(markers)?)
+    let command = command.arg(count(alloc, "refiners", "Background refiners, 0 to 8").default_value(
+        "0",
+    ))?;
+    Ok(command.arg(count(alloc, "markers", "Background markers, 0 to 8").default_value("0"))?)
 }
 
-fn sim_command<'a>(alloc: Global) -> Result<Command<'a>, AllocError> {
-    let schedule = Arg::new(alloc, "schedule")
+fn schedule<'a>(alloc: Global) -> Arg<'a> {
+    Arg::new(alloc, "schedule")
         .long("schedule")
         .value_name("N")
         .value_parser(value_parser!(u64))
         .help("The seed, 0 to 18446744073709551615")
         .required(true)
-        .action(ArgAction::Set);
+        .action(ArgAction::Set)
+}
+
+fn sim_command<'a>(alloc: Global) -> Result<Command<'a>, AllocError> {
     let sim = with_script(
         alloc,
         "sim",
         "Does each actor's steps of a script, the actors in turns that a seed draws, and prints the record",
     )?;
-    with_background(alloc, sim.arg(schedule)?)
+    with_background(alloc, sim.arg(schedule(alloc))?)
 }
 
 fn threads_command<'a>(alloc: Global) -> Result<Command<'a>, AllocError> {
-    let workers = count(alloc, "workers", "Worker threads, 1 to 32").required(true);
     let threads = with_script(
         alloc,
         "threads",
         "Does each actor's steps of a script, the actors in turns of threads, and prints the record",
     )?;
+    let workers = count(alloc, "workers", "Worker threads, 1 to 32").required(true);
     with_background(alloc, threads.arg(workers)?)
 }
 
-fn command<'a>(alloc: Global) -> Result<Command<'a>, AllocError> {
-    let run = with_script(
+fn run_command<'a>(alloc: Global) -> Result<Command<'a>, AllocError> {
+    with_script(
         alloc,
         "run",
         "Does the steps of a script, and prints the record",
-    )?;
-    let check = with_file(
+    )
+}
+
+fn check_command<'a>(alloc: Global) -> Result<Command<'a>, AllocError> {
+    with_file(
         alloc,
         "check",
         "Judges a record by the graph alone",
         "A record, or - for standard input",
-    )?;
-    let view = with_script(
+    )
+}
+
+fn view_command<'a>(alloc: Global) -> Result<Command<'a>, AllocError> {
+    with_script(
         alloc,
         "view",
         "Does the steps of a script, and prints the heap as it stands then",
-    )?;
-    Ok(
-        Command::new(alloc, "g1heap")
-            .about("A Garbage-First heap by steps")
-            .version("0.1.0")
-            .after_help(FORMATS)
-            .subcommand_required(true)
-            .subcommand(run)?
-            .subcommand(sim_command(alloc)?)?
-            .subcommand(threads_command(alloc)?)?
-            .subcommand(check)?
-            .subcommand(view)?,
     )
+}
+
+/// Adds a subcommand, unless memory was refused for it.
+fn with_subcommand<'a>(
+    command: Command<'a>,
+    subcommand: Result<Command<'a>, AllocError>,
+) -> Result<Command<'a>, AllocError> {
+    Ok(command.subcommand(subcommand?)?)
+}
+
+fn command<'a>(alloc: Global) -> Result<Command<'a>, AllocError> {
+    let bare = Command::new(alloc, "g1heap")
+        .about("A Garbage-First heap by steps")
+        .version("0.1.0")
+        .after_help(FORMATS)
+        .subcommand_required(true);
+    let command = with_subcommand(bare, run_command(alloc))?;
+    let command = with_subcommand(command, sim_command(alloc))?;
+    let command = with_subcommand(command, threads_command(alloc))?;
+    let command = with_subcommand(command, check_command(alloc))?;
+    with_subcommand(command, view_command(alloc))
 }
 
 fn drawn_order(found: &ArgMatches) -> Option<Order> {
@@ -173,7 +204,7 @@ fn drawn_order(found: &ArgMatches) -> Option<Order> {
 }
 
 fn threads_order(found: &ArgMatches) -> Option<Order> {
-    Some(Order::Threads {
+    Some(Order::Concurrent {
         workers: found.get_one::<u32>("workers")?,
         refiners: found.get_one::<u32>("refiners")?,
         markers: found.get_one::<u32>("markers")?,

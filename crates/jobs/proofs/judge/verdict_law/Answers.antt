@@ -1,5 +1,5 @@
-use Rattle.g1heap.proofs.Once.{once}
-use Rattle.g1heap.proofs.judge.verdict_law.Goals as goal
+use Rattle.jobs.proofs.Once.{once}
+use Rattle.jobs.proofs.judge.verdict_law.Goals as goal
 
 pub returns-clause-once : goal.returns-clause-once
 returns-clause-once c = once c.judged_once.ensures

@@ -1,0 +1,3 @@
+pub mod Endings
+mod Once
+mod Told

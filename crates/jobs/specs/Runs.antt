@@ -1,0 +1,77 @@
+-- A script that is read, and the record that is written.
+use Rattle.std.specs.Prelude.{◌≡◌, ℕ, ◌<◌, ⊤, List, Option, Result, Ok, Err, length, take, map}
+use Rattle.std.specs.Io.KnownBytes.{Appends, Keeps, Consumes, IsAtEnd}
+use Rattle.heap_words.specs.declared.config.Config.{Config}
+use Rattle.object_graph.specs.Actors.{StepList, EventList}
+use Rattle.object_graph.specs.State.{State, first_state}
+use Rattle.object_graph.specs.Run.{IsRun}
+use Rattle.script_text.specs.Lines.{script_of, FailsBy}
+use Rattle.script_text.specs.Records.{record_text}
+use Rattle.script_text.specs.declared.fault.WriteFault.TheVariants as writes
+use Rattle.step_core.specs.Histories.{step_in, actor_in, actor_of, RunsFromNew}
+use Rattle.step_core.specs.declared.runs.RunFault.{RunFault}
+use Rattle.jobs.specs.FaultLines.{TellsLine}
+use Rattle.jobs.specs.declared.faults.JobFault.{JobFault}
+use Rattle.jobs.specs.declared.faults.JobFault.TheVariants.{Read, Line, Run, Judge, Write}
+
+-- the record has the plan's heap line and its steps, each with its actor. It is a run of the graph, and the events are those of a new
+-- heap's cores
+pub record IsRunInOrder (plan : StepList) (r : EventList) : Type 0 where
+  pub config : r.config ≡ plan.config
+  pub steps : map step_in r.events ≡ plan.steps
+  pub actors : map actor_in r.events ≡ map actor_of plan.steps
+  pub last : State
+  pub run : IsRun (first_state plan.config) r.events last
+  pub history : RunsFromNew plan.config r.events
+
+-- Scripts are run in several orders. So what follows is said for any: `Makes plan r`, the record is one that such a run of the plan makes;
+-- `Fails config fault`, such a run on a heap of these sizes may end with the fault.
+
+-- the input is a script, and the record is one that its run makes
+pub record IsScriptRun (Makes : StepList → EventList → Type 0) (input : List ℕ) (r : EventList) : Type 0 where
+  pub plan : StepList
+  pub read : script_of input ≡ Ok plan
+  pub made : Makes plan r
+
+-- the text of such a record was written, and no more
+abbrev pub WritesRecord : (StepList → EventList → Type 0) → List ℕ → Option (List ℕ) → Option (List ℕ) → Type 0
+WritesRecord Makes input old new = (r : EventList) × IsScriptRun Makes input r × Appends old new (record_text r)
+
+-- a beginning of such a text was written, and not all of it
+abbrev pub WritesBeginning : (StepList → EventList → Type 0) → List ℕ → Option (List ℕ) → Option (List ℕ) → Type 0
+WritesBeginning Makes input old new =
+    (r : EventList) × (n : ℕ) × IsScriptRun Makes input r × (n < length (record_text r)) × Appends old new (take n (record_text r))
+
+-- the reader gave these bytes, and is at its end
+abbrev pub GivesAll : Option (List ℕ) → Option (List ℕ) → List ℕ → Type 0
+GivesAll given left input = Consumes given left input × IsAtEnd left
+
+-- what the reader gave, to its end, is the script of the plan, or its first fault is told; or reading failed
+abbrev pub ReadsPlan : Option (List ℕ) → Option (List ℕ) → Result StepList JobFault → Type 0
+ReadsPlan given left (Ok plan) = (input : List ℕ) × GivesAll given left input × (script_of input ≡ Ok plan)
+ReadsPlan given left (Err (Read fault)) = (some : List ℕ) × Consumes given left some
+ReadsPlan given left (Err (Line fault)) = (input : List ℕ) × GivesAll given left input × FailsBy fault.kind fault input (script_of input)
+ReadsPlan given left (Err _) = ⊥
+
+-- what came of a run was answered: the record's text was written, or a beginning of it where that failed, or the fault is the run's
+abbrev pub Answers : Result EventList RunFault → Option (List ℕ) → Option (List ℕ) → Result ⊤ JobFault → Type 0
+Answers (Ok r) old new (Ok done) = Appends old new (record_text r)
+Answers (Ok r) old new (Err (Write fault)) =
+    ((n : ℕ) × (n < length (record_text r)) × Appends old new (take n (record_text r))) × (fault ≡ writes.NoMemory → Keeps old new)
+Answers (Err fault) old new (Err (Run told)) = (told ≡ fault) × Keeps old new
+Answers _ old new _ = ⊥
+
+-- How a script's run ended: what the reader gave, of which `given` stood before and `left` stands after, and what the writer
+-- took, from `old` to `new`. A record is written at Ok alone; a beginning of it where a write failed; otherwise nothing.
+abbrev pub Ends : (StepList → EventList → Type 0) → (Config → RunFault → Type 0) → Option (List ℕ) → Option (List ℕ) → Option (List ℕ) → Option (List ℕ) → Result ⊤ JobFault → Type 0
+Ends Makes Fails given left old new (Ok done) = (input : List ℕ) × GivesAll given left input × WritesRecord Makes input old new
+Ends Makes Fails given left old new (Err (Read fault)) = ((some : List ℕ) × Consumes given left some) × Keeps old new
+Ends Makes Fails given left old new (Err (Line fault)) = (input : List ℕ) × GivesAll given left input × FailsBy fault.kind fault input (script_of input) × Keeps old new
+Ends Makes Fails given left old new (Err (Run fault)) = (input : List ℕ) × GivesAll given left input × ((plan : StepList) × (script_of input ≡ Ok plan) × Fails plan.config fault) × Keeps old new
+Ends Makes Fails given left old new (Err (Judge fault)) = ⊥
+Ends Makes Fails given left old new (Err (Write fault)) = (input : List ℕ) × GivesAll given left input × WritesBeginning Makes input old new × (fault ≡ writes.NoMemory → Keeps old new)
+
+-- the status that tells how a run ended, and what standard error took: nothing where the job is done, else the fault's line
+abbrev pub Tells : Option (List ℕ) → Option (List ℕ) → Result ⊤ JobFault → ℕ → Type 0
+Tells old new (Ok done) status = (status ≡ 0) × Keeps old new
+Tells old new (Err fault) status = (status ≡ 1) × TellsLine fault old new
