@@ -2,6 +2,7 @@
 
 ghost use Rattle.std.specs.Prelude.{◌<◌, length};
 
+use crate::pieces::{write_number, write_text};
 use heap_words::addr::RegionNo;
 use std::io::{Result, Write};
 use step_core::Core;
@@ -15,9 +16,9 @@ fn write_cards<W: Write>(core: &Core, writer: &mut W, region: RegionNo) -> Resul
     if count == 0 {
         return Ok(false);
     }
-    write!(writer, "  remembered cards:")?;
+    write_text(writer, "  remembered cards:")?;
     for place in 0..count {
-        write!(writer, " {}", sets.card(region, place).number())?;
+        write_number(writer, sets.card(region, place).number() as u64)?;
     }
     Ok(true)
 }
@@ -46,7 +47,7 @@ pub(crate) fn write_remembered<W: Write>(
     core.remembers();
     if write_cards(core, writer, region)? {
         write_sources(core, writer, region)?;
-        writeln!(writer)?;
+        write_text(writer, "\n")?;
     }
     Ok(())
 }
@@ -54,14 +55,14 @@ pub(crate) fn write_remembered<W: Write>(
 /// Writes the queue of refinement, from its front.
 pub(crate) fn write_queue<W: Write>(core: &Core, writer: &mut W) -> Result<()> {
     let cards = core.cards();
-    write!(writer, "queue of cards:")?;
+    write_text(writer, "queue of cards:")?;
     if cards.queued() == 0 {
-        write!(writer, " none")?;
+        write_text(writer, " none")?;
     }
     for place in 0..cards.queued() {
-        write!(writer, " {}", cards.queued_card(place).number())?;
+        write_number(writer, cards.queued_card(place).number() as u64)?;
     }
-    writeln!(writer)
+    write_text(writer, "\n")
 }
 
 /// Writes a mutator's card log, if it isn't empty.
@@ -74,9 +75,9 @@ pub(crate) fn write_card_log<W: Write>(core: &Core, writer: &mut W, mutator: u32
     if count == 0 {
         return Ok(());
     }
-    write!(writer, "  card log:")?;
+    write_text(writer, "  card log:")?;
     for place in 0..count {
-        write!(writer, " {}", cards.logged_card(mutator, place).number())?;
+        write_number(writer, cards.logged_card(mutator, place).number() as u64)?;
     }
-    writeln!(writer)
+    write_text(writer, "\n")
 }

@@ -1,7 +1,7 @@
 //! A view of a heap: its regions, objects, cards and roots as they stand, as lines for a person's eyes.
 //!
 //! ```text
-//!   heap 4 16 8 1 0                                  regions, their words, a buffer's words, mutators, first name
+//!   heap 4 16 8 1 0                                  the script's first line: the sizes
 //!   next name 3
 //!   marking runs, objects scanned: 1
 //!   region 0: ordinary, current, 16 of 16 words handed out
@@ -30,33 +30,49 @@
 
 mod card_lines;
 mod names;
+mod pieces;
 mod region_lines;
 mod root_lines;
 #[cfg(test)]
 mod tests;
 
+use heap_words::config::Format;
+use pieces::{write_number, write_text};
 use std::io::{Result, Write};
 use step_core::Core;
 
-/// Writes the sizes, the next name, and whether marking runs.
-fn write_head<W: Write>(core: &Core, writer: &mut W) -> Result<()> {
+/// Writes the sizes, as the script's first line has them.
+fn write_sizes<W: Write>(core: &Core, writer: &mut W) -> Result<()> {
     let config = core.config();
-    writeln!(
+    let verb = match config.format {
+        Format::V1 => "heap",
+        Format::V2 { .. } => "heap2",
+    };
+    write!(
         writer,
-        "heap {} {} {} {} {}",
+        "{verb} {} {} {} {} {}",
         config.regions, config.words, config.buffer, config.mutators, config.first_name
     )?;
+    if let Format::V2 { card } = config.format {
+        write_number(writer, card as u64)?;
+    }
+    write_text(writer, "\n")
+}
+
+/// Writes the next name, and whether marking runs.
+fn write_state<W: Write>(core: &Core, writer: &mut W) -> Result<()> {
     writeln!(writer, "next name {}", core.next_name())?;
     if core.marking() {
         writeln!(writer, "marking runs, objects scanned: {}", core.scans())
     } else {
-        writeln!(writer, "marking doesn't run")
+        write_text(writer, "marking doesn't run\n")
     }
 }
 
 /// Writes a view of the heap, a line for each region, tile and mutator at least. Where the writer fails, a beginning of it is written.
 pub fn write_view<W: Write>(core: &Core, writer: &mut W) -> Result<()> {
-    write_head(core, writer)?;
+    write_sizes(core, writer)?;
+    write_state(core, writer)?;
     region_lines::write_regions(core, writer)?;
     card_lines::write_queue(core, writer)?;
     root_lines::write_roots(core, writer)

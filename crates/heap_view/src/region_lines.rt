@@ -7,6 +7,7 @@ ghost use Rattle.regions.specs.declared.row.Kind.TheVariants as kinds;
 
 use crate::card_lines::write_remembered;
 use crate::names::write_name;
+use crate::pieces::{write_number, write_text};
 use heap_words::addr::{Addr, RegionNo};
 use mark_bitmap::live::live_bound;
 use refinement::is_kept;
@@ -17,6 +18,15 @@ use step_core::Core;
 /// How many pointers, how many weak slots and how many data words of an object are shown.
 const SHOWN: u32 = 8;
 
+/// Writes how many of an object's fields aren't shown, if there are some.
+fn write_more<W: Write>(writer: &mut W, count: u32) -> Result<()> {
+    if SHOWN < count {
+        write!(writer, " and {} more", count - SHOWN)
+    } else {
+        Ok(())
+    }
+}
+
 /// Writes the first pointers of an object, by the names that they lead to.
 fn write_pointers<W: Write>(table: &RegionTable, writer: &mut W, object: Addr) -> Result<()>
     requires { IsSome (object_at table.now object) }
@@ -25,15 +35,12 @@ fn write_pointers<W: Write>(table: &RegionTable, writer: &mut W, object: Addr) -
     if count == 0 {
         return Ok(());
     }
-    write!(writer, ", pointers")?;
+    write_text(writer, ", pointers")?;
     for field in 0..count.min(SHOWN) {
-        write!(writer, " ")?;
+        write_text(writer, " ")?;
         write_name(table, writer, table.get_ptr(object, field))?;
     }
-    if SHOWN < count {
-        write!(writer, " and {} more", count - SHOWN)?;
-    }
-    Ok(())
+    write_more(writer, count)
 }
 
 /// Writes the first weak slots of an object, by the names that they hold.
@@ -44,15 +51,12 @@ fn write_weaks<W: Write>(table: &RegionTable, writer: &mut W, object: Addr) -> R
     if count == 0 {
         return Ok(());
     }
-    write!(writer, ", weak slots")?;
+    write_text(writer, ", weak slots")?;
     for slot in 0..count.min(SHOWN) {
-        write!(writer, " ")?;
+        write_text(writer, " ")?;
         write_name(table, writer, table.get_weak(object, slot))?;
     }
-    if SHOWN < count {
-        write!(writer, " and {} more", count - SHOWN)?;
-    }
-    Ok(())
+    write_more(writer, count)
 }
 
 /// Writes the first data words of an object.
@@ -63,14 +67,11 @@ fn write_data<W: Write>(table: &RegionTable, writer: &mut W, object: Addr) -> Re
     if count == 0 {
         return Ok(());
     }
-    write!(writer, ", data")?;
+    write_text(writer, ", data")?;
     for field in 0..count.min(SHOWN) {
-        write!(writer, " {}", table.get_value(object, field))?;
+        write_number(writer, table.get_value(object, field))?;
     }
-    if SHOWN < count {
-        write!(writer, " and {} more", count - SHOWN)?;
-    }
-    Ok(())
+    write_more(writer, count)
 }
 
 /// What the marking that runs knows of an object.
@@ -94,6 +95,18 @@ fn progress(core: &Core, object: Addr) -> &'static str
     }
 }
 
+/// Writes whether an object is kept, and what the marking that runs knows of it.
+fn write_keeping<W: Write>(core: &Core, writer: &mut W, object: Addr, kept: bool) -> Result<()>
+    requires { IsSome (object_at core.now.table object) }
+{
+    let keeping = if kept { "kept" } else { "dead" };
+    if core.marking() {
+        writeln!(writer, ", {keeping}, {}", progress(core, object))
+    } else {
+        writeln!(writer, ", {keeping}")
+    }
+}
+
 /// Writes an object.
 fn write_object<W: Write>(core: &Core, writer: &mut W, object: Addr, kept: bool) -> Result<()>
     requires { IsSome (object_at core.now.table object) }
@@ -103,12 +116,7 @@ fn write_object<W: Write>(core: &Core, writer: &mut W, object: Addr, kept: bool)
     write_pointers(table, writer, object)?;
     write_weaks(table, writer, object)?;
     write_data(table, writer, object)?;
-    let keeping = if kept { "kept" } else { "dead" };
-    if core.marking() {
-        writeln!(writer, ", {keeping}, {}", progress(core, object))
-    } else {
-        writeln!(writer, ", {keeping}")
-    }
+    write_keeping(core, writer, object, kept)
 }
 
 /// Writes a tile.
@@ -184,16 +192,28 @@ fn write_in_use<W: Write>(core: &Core, writer: &mut W, region: RegionNo) -> Resu
     requires { region < length core.now.table.regions }
 {
     if core.buffers().is_current(region) {
-        write!(writer, ", current")?;
+        write_text(writer, ", current")?;
     }
     write_used(core.table(), writer, region)?;
     write_tops(core, writer, region)?;
     if let Kind::Ordinary = core.table().kind(region) {
         write_live(core, writer, region)?;
     }
-    writeln!(writer)?;
+    write_text(writer, "\n")?;
     write_remembered(core, writer, region)?;
     write_tiles(core, writer, region)
+}
+
+/// Writes which kind a region is of.
+fn write_kind<W: Write>(table: &RegionTable, writer: &mut W, region: RegionNo) -> Result<()>
+    requires { region < length table.now.regions }
+{
+    match table.kind(region) {
+        Kind::Free => write_text(writer, "free"),
+        Kind::Ordinary => write_text(writer, "ordinary"),
+        Kind::First => write!(writer, "first of a run of {}", table.run_length(region)),
+        Kind::Rest => write_text(writer, "rest of a run"),
+    }
 }
 
 /// Writes a region.
@@ -201,15 +221,9 @@ fn write_region<W: Write>(core: &Core, writer: &mut W, region: RegionNo) -> Resu
     requires { region < length core.now.table.regions }
 {
     write!(writer, "region {}: ", region.number())?;
-    match core.table().kind(region) {
-        Kind::Free => return writeln!(writer, "free"),
-        Kind::Ordinary => write!(writer, "ordinary")?,
-        Kind::First => write!(
-            writer,
-            "first of a run of {}",
-            core.table().run_length(region)
-        )?,
-        Kind::Rest => write!(writer, "rest of a run")?,
+    write_kind(core.table(), writer, region)?;
+    if let Kind::Free = core.table().kind(region) {
+        return write_text(writer, "\n");
     }
     write_in_use(core, writer, region)
 }

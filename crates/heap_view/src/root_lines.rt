@@ -4,10 +4,18 @@ ghost use Rattle.std.specs.Prelude.{◌<◌, ◌+◌, ◌*◌, ◌≤◌, length
 
 use crate::card_lines::write_card_log;
 use crate::names::write_name;
-use heap_words::addr::Ptr;
+use crate::pieces::write_text;
+use heap_words::addr::{Addr, Ptr};
 use object_graph::{GLOBALS, REGISTERS};
+use regions::RegionTable;
 use std::io::{Result, Write};
 use step_core::Core;
+
+/// Writes the object that a root leads to, and where it stands.
+fn write_place<W: Write>(table: &RegionTable, writer: &mut W, at: Addr) -> Result<()> {
+    write_name(table, writer, Some(at))?;
+    write!(writer, " at {}", at.word())
+}
 
 /// Writes the roots of a list that aren't nil, each behind its letter and its number.
 fn write_places<W: Write>(
@@ -21,15 +29,14 @@ fn write_places<W: Write>(
         if let Some(at) = *root {
             let mark = if some { "," } else { "" };
             write!(writer, "{mark} {letter}{number} ")?;
-            write_name(core.table(), writer, Some(at))?;
-            write!(writer, " at {}", at.word())?;
+            write_place(core.table(), writer, at)?;
             some = true;
         }
     }
     if some {
-        writeln!(writer)
+        write_text(writer, "\n")
     } else {
-        writeln!(writer, " all nil")
+        write_text(writer, " all nil\n")
     }
 }
 
@@ -58,12 +65,12 @@ fn write_deletion_log<W: Write>(core: &Core, writer: &mut W, mutator: u32) -> Re
     if count == 0 {
         return Ok(());
     }
-    write!(writer, "  deletion log:")?;
+    write_text(writer, "  deletion log:")?;
     for place in 0..count {
-        write!(writer, " ")?;
+        write_text(writer, " ")?;
         write_name(core.table(), writer, Some(logs.logged(mutator, place)))?;
     }
-    writeln!(writer)
+    write_text(writer, "\n")
 }
 
 /// Writes a mutator.
@@ -82,7 +89,7 @@ fn write_mutator<W: Write>(core: &Core, writer: &mut W, mutator: u32) -> Result<
 /// Writes the globals, and each mutator.
 pub(crate) fn write_roots<W: Write>(core: &Core, writer: &mut W) -> Result<()> {
     core.remembers();
-    write!(writer, "globals:")?;
+    write_text(writer, "globals:")?;
     write_places(core, writer, "g", &core.roots()[..GLOBALS])?;
     for mutator in 0..core.config().mutators {
         write_mutator(core, writer, mutator)?;

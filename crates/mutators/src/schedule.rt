@@ -10,7 +10,7 @@ ghost use Rattle.rand_pcg.specs.Pcg.{pcg32};
 ghost use Rattle.step_core.specs.Histories.{IsRunFault};
 ghost use Rattle.mutators.specs.Scripts.{scripted, is_scripted};
 ghost use Rattle.mutators.specs.Turns.{SamePlan, IsCast};
-ghost use Rattle.mutators.specs.Draws.{open_places, lefts_of, pick, Picks, LeavesScripts, IsRound, has_background, scripted_actors, drawn_by};
+ghost use Rattle.mutators.specs.Draws.{open_places, lefts_of, pick, Picks, LeavesScripts, IsRound, has_background, scripted_actors, drawn_by, rest_of};
 ghost use Rattle.mutators.specs.Interleavings.{IsAsked, AreAsked, IsRunOf};
 
 use crate::journal::Journal;
@@ -142,6 +142,27 @@ fn one_round(
     Ok(())
 }
 
+/// Rounds till no script has a line left.
+fn all_rounds(
+    alloc: Global,
+    journal: &mut Journal,
+    mut words: Lcg64Xsh32,
+    markers: u32,
+    refiners: u32,
+) -> Result<(), AllocError>
+    requires small { (markers ≤ 8) × (refiners ≤ 8) }
+    ensures plan { SamePlan journal.old journal.new }
+    ensures drawn { OnOk result (scripted_actors journal.new.events ≡ scripted_actors journal.old.events ++ rest_of pcg32 (has_background markers refiners) words journal.old) }
+    ensures asked { OnOk result (AreAsked markers refiners journal.old.events → AreAsked markers refiners journal.new.events) }
+    ensures over { OnOk result (length (open_places (lefts_of journal.new)) ≡ 0) }
+{
+    let mut unfinished = open_places(alloc, journal)?;
+    'rounds: while !unfinished.is_empty() {
+        one_round(journal, &mut unfinished, &mut words, markers, refiners)?;
+    }
+    Ok(())
+}
+
 /// Does a plan's scripts in a new heap, in the order that the words of a seed draw, with so many refiners and markers beside.
 /// The record's events are an interleaving of the whole scripts, and the scripted actors take their turns in the order drawn.
 pub fn simulate(
@@ -163,14 +184,9 @@ pub fn simulate(
         Ok(journal) => journal,
         Err(fault) => return Err(run_fault(fault)),
     };
-    let Ok(mut unfinished) = open_places(alloc, &journal) else {
+    let words = Lcg64Xsh32::new(seed, 54);
+    let Ok(()) = all_rounds(alloc, &mut journal, words, markers, refiners) else {
         return Err(RunFault::NoMemory);
     };
-    let mut words = Lcg64Xsh32::new(seed, 54);
-    'rounds: while !unfinished.is_empty() {
-        let Ok(()) = one_round(&mut journal, &mut unfinished, &mut words, markers, refiners) else {
-            return Err(RunFault::NoMemory);
-        };
-    }
     Ok(journal.into_record())
 }

@@ -6,5 +6,7 @@ pub mod Layers
 pub mod Keeping
 pub mod Snapshots
 pub mod Following
+pub mod Acted
 pub mod Collecting
+pub mod Collected
 pub mod Beginning

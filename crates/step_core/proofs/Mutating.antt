@@ -1,6 +1,7 @@
 pub mod Small
 pub mod Fields
 pub mod Reading
+pub mod Done
 pub mod Written
 pub mod Acting
 pub mod Overwritten

@@ -1,5 +1,5 @@
 -- What each part of a step keeps: k is the core by its fields, c the same by its value.
-use Rattle.std.proofs.Common.{◌≡◌, ℕ, ◌+◌, ◌*◌, ◌<◌, Option, Some, None, List, length, get_or, refl, sym, ◌∙◌, ap, subst, arith}
+use Rattle.std.proofs.Common.{◌≡◌, ℕ, ◌+◌, ◌<◌, Option, Some, None, List, length, get_or, refl, sym, ◌∙◌, ap, subst, arith}
 use Rattle.std.specs.Prelude.{slice_get, slice_set, IsSome, IfSome}
 use Rattle.std.proofs.lemmas.List.{get_or_read, length-set}
 use Rattle.heap_model.specs.Graph.{Graph, Object, IsSound}
@@ -29,6 +29,7 @@ pub core_of : (k c : CoreState) → k ≡ c → IsCore k → IsCore c
 core_of k c e core = subst (λ (d : CoreState). IsCore d) e core
 
 pub record RootFacts (c : CoreState) (place : ℕ) (w : Option ℕ) : Type 0 where
+  pub value : w ≡ get_or c.roots place None
   pub word : IsWordOf (heap_of c) w
   pub rooted : IsRootWord (heap_of c) w
   pub leads : Leads c place w
@@ -41,6 +42,7 @@ root_facts k c place w e core k0 r =
     let within' : place < length k.roots = subst (λ (d : CoreState). place < length d.roots) (sym e) within in
     let is : w ≡ get_or c.roots place None = get_or_read k.roots place w within' r None ∙ ap (λ (d : CoreState). get_or d.roots place None) e in
     record {
+      value = is;
       word = root_word c place w core' within is;
       rooted = root_rooted c place w within is;
       leads = leads c place w within is;

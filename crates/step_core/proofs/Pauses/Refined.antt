@@ -197,3 +197,9 @@ has_refined k i c0 c p count = record {
 pub queue_ended : (k i : ℕ) (c0 c c' : CoreState) → RefinesSome i c0 c → i ≤ k → RefinesCard false c c' → HasRefined k i c0 c'
 queue_ended k i c0 c c' p le (none, same) =
     subst (λ (d : CoreState). HasRefined k i c0 d) (sym same) (has_refined k i c0 c p (let few = p.few in let past = drop_all c0.cards.queue i (sym p.queue ∙ none) in omega arith))
+
+-- so many were refined
+pub all_refined : (k i : ℕ) (c0 c : CoreState) → RefinesSome i c0 c → i ≤ k → k ≤ i → HasRefined k k c0 c
+all_refined k i c0 c p le ge =
+    let same : i ≡ k = omega (arith, le, ge) in
+    subst (λ (n : ℕ). HasRefined k n c0 c) same (has_refined k i c0 c p (let few = p.few in omega (arith, few, same)))

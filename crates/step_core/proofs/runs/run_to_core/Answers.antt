@@ -1,4 +1,7 @@
-use Rattle.std.proofs.Common.{subst}
+use Rattle.std.proofs.Common.{◌∙◌, subst, sym}
+use Rattle.std.specs.Prelude.{All}
+use Rattle.heap_words.specs.declared.config.Config.{Config}
+use Rattle.object_graph.specs.Actors.{IsStep}
 use Rattle.step_core.specs.Stands.{CoreState, Stands, IsCore}
 use Rattle.object_graph.specs.State.{first_state}
 use Rattle.step_core.specs.Histories.{Runs}
@@ -23,3 +26,15 @@ pub returns-clause-run : goal.returns-clause-run
 returns-clause-run c =
     let r = c.in-Ok-run_on.ensures.runs _ c.in-Ok.ensures.stands in
     (r.last, history_is_run _ _ _ _ _ r.history)
+
+pub run_on-requires : goal.run_on-requires
+run_on-requires c = subst (λ (config : Config). All (IsStep config) c.args.steps.now) (sym c.in-Ok.ensures.config) c.requires
+
+pub returns-in_default-clause-fault : goal.returns-in_default-clause-fault
+returns-in_default-clause-fault c = c.in-Ok.ensures.suits
+
+pub returns-clause-suits : goal.returns-clause-suits
+returns-clause-suits c = c.in-Ok.ensures.suits
+
+pub returns-clause-config : goal.returns-clause-config
+returns-clause-config c = c.in-Ok-run_on.ensures.config ∙ c.in-Ok.ensures.config

@@ -1,6 +1,7 @@
 use Rattle.std.proofs.Common.{length, ap, sym, ◌∙◌, Option, ℕ, List, arith}
 use Rattle.std.specs.Prelude.{slice_get}
 use Rattle.step_core.proofs.Mutating.Acting.{get_past, get_done}
+use Rattle.step_core.proofs.Mutating.Done.{got}
 use Rattle.step_core.proofs.Cores.Keeping.{object_led, pointers_of, field_of, field_can_be_stored}
 use Rattle.step_core.proofs.heap.Core.get.Goals as goal
 
@@ -24,3 +25,7 @@ returns-clause-acts c = let l = c.in-Some.ensures.leads in
 
 pub set_register-requires-clause-held : goal.set_register-requires-clause-held
 set_register-requires-clause-held c = let l = c.in-Some.ensures.leads in field_can_be_stored _ _ _ _ _ _ c.self.view_is c.self.invariant l c.in-Some.ensures.rooted c.get_ptr-value.ensures
+
+pub returns-clause-after : goal.returns-clause-after
+returns-clause-after c = got _ _ c.args.mutator c.args.to c.args.object c.args.field c.in-Some.at c.get_ptr-value.result (sym c.register.ensures.value ∙ c.in-Some.is)
+    (ap (λ (ps : List (Option ℕ)). slice_get ps c.args.field) (sym (pointers_of _ _ c.in-Some.at c.self.view_is)) ∙ c.get_ptr-value.ensures) c.set_register.ensures.after

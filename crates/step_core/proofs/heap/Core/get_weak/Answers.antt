@@ -2,6 +2,7 @@ use Rattle.std.proofs.Common.{length, ap, sym, ◌∙◌, Option, ℕ, List, ari
 use Rattle.std.specs.Prelude.{slice_get}
 use Rattle.step_core.proofs.Mutating.Acting.{get_weak_past, get_weak_done, slot_named}
 use Rattle.step_core.proofs.Cores.Keeping.{object_led, weaks_of, slot_of}
+use Rattle.step_core.proofs.Mutating.Done.{got_weak}
 use Rattle.step_core.proofs.heap.Core.get_weak.Goals as goal
 
 pub weak_count-requires : goal.weak_count-requires
@@ -26,3 +27,7 @@ pub returns-clause-keeps : goal.returns-clause-keeps
 returns-clause-keeps c = let l = c.in-Some.ensures.leads in
     let there = ap (λ (ps : List (Option ℕ)). slice_get ps c.args.slot) (sym (weaks_of _ _ c.in-Some.at c.self.view_is)) ∙ c.get_weak-value.ensures in
     λ s g shows u f. c.touch.ensures.keeps s g c.name_of-name.result shows u (slot_named g _ shows c.args.mutator c.args.object _ l c.args.slot c.get_weak-value.result c.name_of-name.result c.name_of-name.result there c.name_of-name.ensures refl) f
+
+pub returns-clause-after : goal.returns-clause-after
+returns-clause-after c = got_weak _ _ c.args.mutator c.args.to c.args.object c.args.slot c.in-Some.at c.get_weak-value.result (sym c.register.ensures.value ∙ c.in-Some.is)
+    (ap (λ (ps : List (Option ℕ)). slice_get ps c.args.slot) (sym (weaks_of _ _ c.in-Some.at c.self.view_is)) ∙ c.get_weak-value.ensures) c.touch.ensures.core c.touch.ensures.marker

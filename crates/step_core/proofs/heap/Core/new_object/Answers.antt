@@ -2,6 +2,7 @@ use Rattle.std.proofs.Common.{◌≡◌, ◌*◌, ℕ, arith, subst, sym, ap, �
 use Rattle.step_core.specs.Stands.{CoreState, ShowsGraph, KeepsFrom}
 use Rattle.step_core.proofs.Cores.Added.{creates}
 use Rattle.step_core.proofs.Mutating.Creating.{new_acts, new_kept, new_keeps, new_leaves}
+use Rattle.step_core.proofs.Mutating.Done.{made_in_place, has_place}
 use Rattle.step_core.proofs.heap.Core.new_object.Goals as goal
 
 pub invariant_of-self-2 : goal.invariant_of-self-2
@@ -37,3 +38,11 @@ returns-clause-leaves c =
     let layers = c.self.invariant.layers in
     let w = creates _ _ _ _ c.in-Ok.place _ c.self.inside.next c.args.counts.pointers c.args.weaks c.args.counts.values c.law.ensures c.law-2.ensures layers.unmoved layers.buffers c.in-Ok.ensures.placed (omega (arith, c.size-size.ensures)) in
     rw (c.register_place.ensures, c.make-at.ensures.at, made) (new_leaves _ c.args.mutator c.args.to _ _ _ c.args.counts.pointers c.args.weaks c.args.counts.values c.self.invariant w (omega (arith, words, c.size-size.ensures)) c.if-self.false _ c.self.view_is)
+
+pub returns-clause-after : goal.returns-clause-after
+returns-clause-after c =
+    let made = rw (c.new.ensures, c.new-2.ensures) at c.make-at.ensures.made in
+    rw (c.register_place.ensures, c.make-at.ensures.at, made) (made_in_place _ _ c.args.mutator c.args.to c.args.counts c.args.weaks c.size-size.result _ _ _ c.self.view_is c.in-Ok.ensures.place c.size-size.ensures)
+
+pub returns-clause-full : goal.returns-clause-full
+returns-clause-full c = λ none name e. has_place _ _ c.args.mutator c.size-size.result _ _ c.self.view_is c.in-Ok.ensures.place c.size-size.ensures none

@@ -1,4 +1,4 @@
-use Rattle.step_core.proofs.Pauses.Refined.{one_more, queue_ended}
+use Rattle.step_core.proofs.Pauses.Refined.{one_more, queue_ended, all_refined}
 use Rattle.step_core.proofs.heap.Core.refine.Goals as goal
 
 pub returns-then-not-refine_card-clause-refined : goal.returns-then-not-refine_card-clause-refined
@@ -11,3 +11,6 @@ loop-done-preserved c = record {
   keeps = λ s f. c.refine_card.ensures.keeps s (c.loop-done.invariant.keeps s f);
   refines = one_more c.loop-done.done c.args.self.now c.loop-done.self c.refine_card.new.self c.loop-done.invariant.refines c.if-not-refine_card.ensures.refined;
 }
+
+pub returns-clause-refined : goal.returns-clause-refined
+returns-clause-refined c = all_refined _ _ _ _ c.loop-done.invariant.refines c.loop-done.auto.done-end c.loop-done-test.false
