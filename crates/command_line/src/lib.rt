@@ -120,6 +120,7 @@ fn with_background<'a>(alloc: Global, command: Command<'a>) -> Result<Command<'a
     Ok(command.arg(count(alloc, "markers", "Background markers, 0 to 8").default_value("0"))?)
 }
 
+/// The option that takes the seed.
 fn schedule<'a>(alloc: Global) -> Arg<'a> {
     Arg::new(alloc, "schedule")
         .long("schedule")
