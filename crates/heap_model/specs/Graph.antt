@@ -1,6 +1,6 @@
 -- The object graph: objects by unchanging names, and root places that lead to them. No object is ever
 -- removed, so objects stand in a list, by name: the first one bears the first name, each later one the next.
-use Rattle.std.specs.Prelude.{◌≡◌, ℕ, ◌+◌, ◌-◌, ◌<◌, List, ◌∷◌, [], ◌++◌, length, Option, Some, None, slice_set, slice_get, nat_le, if◌then◌else◌}
+use Rattle.std.specs.Prelude.{◌≡◌, ℕ, zero, suc, ◌+◌, ◌-◌, ◌*◌, ◌<◌, List, ◌∷◌, [], ◌++◌, length, Option, Some, None, slice_set, slice_get, nat_le, if◌then◌else◌}
 
 -- pointers and weak slots are nil or names. Marking and reachability follow the pointers alone
 pub record Object : Type 0 where
@@ -11,6 +11,26 @@ pub record Object : Type 0 where
 -- every field of the object that holds a name, in the order in which the heap stores them
 abbrev pub object_fields : Object → List (Option ℕ)
 object_fields o = o.pointers ++ o.weaks
+
+-- how many globals a heap has, how many mutators, and how many registers each of them
+pub record Places : Type 0 where
+  pub globals : ℕ
+  pub mutators : ℕ
+  pub registers : ℕ
+
+-- Where roots stand: the globals first, and behind them the registers of one mutator after another.
+-- The place of a mutator's register
+abbrev pub register_place : Places → ℕ → ℕ → ℕ
+register_place p mutator register = p.globals + p.registers * mutator + register
+
+-- how many root places there are
+abbrev pub root_places : Places → ℕ
+root_places p = p.globals + p.registers * p.mutators
+
+-- words of roots, of which so many from one on hold nil
+abbrev pub with_nils : List (Option ℕ) → ℕ → ℕ → List (Option ℕ)
+with_nils words first zero = words
+with_nils words first (suc count) = slice_set (with_nils words first count) (first + count) None
 
 pub record Graph : Type 0 where
   -- how many words the heap has

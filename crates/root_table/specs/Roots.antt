@@ -1,0 +1,29 @@
+-- The table of roots, as contracts see it.
+use Rattle.std.specs.Prelude.{◌≡◌, ℕ, zero, suc, ◌≤◌, ◌<◌, List, Option, Some, None, slice_index_or}
+use Rattle.heap_model.specs.Graph.{Places, register_place}
+
+-- what each root place holds
+pub record RootTable : Type 0 where
+  pub places : Places
+  pub words : List (Option ℕ)
+
+-- where a row starts: row 0 is the globals, and the row of a mutator's registers is its number and one
+abbrev pub row_start : Places → ℕ → ℕ
+row_start p zero = 0
+row_start p (suc mutator) = register_place p mutator 0
+
+-- how many places a row has
+abbrev pub row_length : Places → ℕ → ℕ
+row_length p zero = p.globals
+row_length p (suc mutator) = p.registers
+
+-- all places from one on, below another, hold nil
+abbrev pub AreNil : List (Option ℕ) → ℕ → ℕ → Type 0
+AreNil words from to = (place : ℕ) → from ≤ place → place < to → slice_index_or words place None ≡ None
+
+-- the lowest place from one on that doesn't hold nil
+pub record IsNextNamed (words : List (Option ℕ)) (from place : ℕ) : Type 0 where
+  pub from_on : from ≤ place
+  pub nil_before : AreNil words from place
+  pub address : ℕ
+  pub holds : slice_index_or words place None ≡ Some address

@@ -1,0 +1,25 @@
+//! The roots of a heap: what its globals and its mutators' registers hold.
+//!
+//! Roots stand in places: the globals first, and behind them the registers of one mutator after another. How many there are of each is
+//! the configuration's.
+//!
+//! ```text
+//!   place     0 .. globals | ..          | ..            |
+//!             globals      | mutator 0's | mutator 1's   |
+//!                          | registers   | registers     |
+//!   used              ^       ^             ^              from here to the row's end all are nil
+//! ```
+//!
+//! The globals and each mutator's registers are a row, and for each row a bound is kept above which all its roots are nil. It goes up when
+//! a root above it is set, and down when a frame is left. So a look at all roots costs those below the bounds, and a frame that was left
+//! costs nothing any more. No call but the making takes memory or fails.
+#![tactic(auto)]
+
+pub mod places;
+pub mod table;
+
+pub use places::Places;
+pub use table::Roots;
+
+#[cfg(test)]
+mod tests;

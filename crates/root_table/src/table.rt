@@ -1,0 +1,184 @@
+//! The table of roots.
+
+ghost use Rattle.std.specs.Prelude.{◌≡◌, ◌<◌, ◌≤◌, ◌+◌, ◌-◌, ◌*◌, None, IfOk, IfSome, IsSome, length, MatchOption, replicate, slice_get, slice_index_or, slice_set};
+ghost use Rattle.heap_model.specs.Graph.{register_place, root_places, with_nils};
+ghost use Rattle.root_table.specs.Roots.{row_start, row_length, AreNil, IsNextNamed};
+
+use crate::places::Places;
+use heap_words::addr::Ptr;
+use std::alloc::{AllocError, Global};
+use std::marker::Model;
+
+/// What each root place holds: nil, or the address of an object.
+pub struct Roots {
+    places: Places,
+    words: Vec<Ptr>,
+    /// For each row a number from which on its roots are nil.
+    used: Vec<u32>,
+}
+
+impl Model for Roots {
+    ghost use Rattle.root_table.specs.Roots.{RootTable};
+    ghost use Rattle.root_table.specs.Bounds.{AreBounded};
+
+    ghost Value = { RootTable };
+
+    ghost view = { λ r. record { places = r.places; words = r.words.items } };
+
+    ghost invariant = { λ r. AreBounded r.places r.words.items r.used.items };
+}
+
+/// Where it is let go there is one call, and not a drop for each of its parts.
+impl Drop for Roots {
+    fn drop(self) {
+        let Roots {
+            places: _,
+            words: _,
+            used: _,
+        } = self;
+    }
+}
+
+/// The lowest place from `from` on, below `to`, that doesn't hold nil.
+fn first_named(words: &[Ptr], from: usize, to: usize) -> Option<usize>
+    requires { to ≤ length words.now }
+    ensures lowest { MatchOption result (AreNil words.now from to) (IsNextNamed words.now from) }
+    ensures below { IfSome result (λ place. place < to) }
+{
+    for place in from..to {
+        let Some(_) = words[place] else {
+            continue;
+        };
+        return Some(place);
+    }
+    None
+}
+
+/// So many places from `first` on hold nil.
+fn fill_nil(words: &mut [Ptr], first: usize, count: usize)
+    requires { first + count ≤ length words.old }
+    ensures { words.new ≡ with_nils words.old first count }
+{
+    for index in 0..count {
+        words[first + index] = None;
+    }
+}
+
+impl Roots {
+    /// All roots nil.
+    pub fn new(alloc: Global, places: Places) -> Result<Roots, AllocError>
+        ensures { IfOk result (λ r. r ≡ record { places = places; words = replicate (root_places places) None }) }
+    {
+        Ok(Roots {
+            places,
+            words: vec![in alloc; None; places.count()]?,
+            used: vec![in alloc; 0; places.mutators() as usize + 1]?,
+        })
+    }
+
+    /// Where the roots stand.
+    pub fn places(&self) -> Places
+        ensures { result ≡ self.now.places }
+    {
+        self.places
+    }
+
+    /// What each place holds, in order.
+    pub fn as_slice(&self) -> &[Ptr]
+        ensures words { result.now ≡ self.now.words }
+        ensures count { length result.now ≡ root_places self.now.places }
+    {
+        self.words.as_slice()
+    }
+
+    /// What a place holds.
+    #[inline(always)]
+    pub fn get(&self, place: usize) -> Ptr
+        requires { place < root_places self.now.places }
+        ensures { result ≡ slice_index_or self.now.words place None }
+    {
+        self.words[place]
+    }
+
+    /// A mutator's register takes a value.
+    #[inline(always)]
+    pub fn set_register(&mut self, mutator: u32, register: u32, value: Ptr)
+        requires mutator { mutator < self.old.places.mutators }
+        requires register { register < self.old.places.registers }
+        ensures { self.new ≡ record self.old { words = slice_set self.old.words (register_place self.old.places mutator register) value } }
+    {
+        let place = self.places.register(mutator, register);
+        self.words[place] = value;
+        let row = mutator as usize + 1;
+        if self.used[row] <= register {
+            self.used[row] = register + 1;
+        }
+    }
+
+    /// A global takes a value.
+    pub fn set_global(&mut self, global: u32, value: Ptr)
+        requires { global < self.old.places.globals }
+        ensures { self.new ≡ record self.old { words = slice_set self.old.words global value } }
+    {
+        self.words[global as usize] = value;
+        if self.used[0] <= global {
+            self.used[0] = global + 1;
+        }
+    }
+
+    /// A place that doesn't hold nil takes a value.
+    pub fn update(&mut self, place: usize, value: Ptr)
+        requires { IsSome (slice_index_or self.old.words place None) }
+        ensures { self.new ≡ record self.old { words = slice_set self.old.words place value } }
+    {
+        self.words[place] = value;
+    }
+
+    /// A mutator's registers from `register` on are nil. It costs those below their bound.
+    pub fn leave(&mut self, mutator: u32, register: u32)
+        requires mutator { mutator < self.old.places.mutators }
+        requires register { register < self.old.places.registers }
+        ensures { self.new ≡ record self.old { words = with_nils self.old.words (register_place self.old.places mutator register) (self.old.places.registers - register) } }
+    {
+        let row = mutator as usize + 1;
+        let used = self.used[row];
+        if used <= register {
+            return;
+        }
+        let first = self.places.register(mutator, register);
+        fill_nil(&mut self.words, first, (used - register) as usize);
+        self.used[row] = register;
+    }
+
+    /// The lowest place from `from` on that doesn't hold nil. It looks at no place above its row's bound.
+    pub fn next_named(&self, from: usize) -> Option<usize>
+        ensures lowest { MatchOption result (AreNil self.now.words from (root_places self.now.places)) (IsNextNamed self.now.words from) }
+        ensures within { IfSome result (λ place. place < root_places self.now.places) }
+    {
+        if self.words.len() <= from {
+            return None;
+        }
+        match self.words[from] {
+            Some(_) => Some(from),
+            None => self.next_in_rows(from, self.places.row_of(from)),
+        }
+    }
+
+    /// The same from a row on.
+    fn next_in_rows(&self, from: usize, first: usize) -> Option<usize>
+        requires row { first ≤ self.now.places.mutators }
+        requires place { row_start self.now.places first ≤ from }
+        ensures lowest { MatchOption result (AreNil self.now.words from (root_places self.now.places)) (IsNextNamed self.now.words from) }
+        ensures within { IfSome result (λ place. place < root_places self.now.places) }
+    {
+        for row in first..self.used.len() {
+            let start = self.places.start_of(row);
+            let end = start + self.used[row] as usize;
+            let Some(place) = first_named(&self.words, from.max(start), end) else {
+                continue;
+            };
+            return Some(place);
+        }
+        None
+    }
+}
