@@ -1,7 +1,8 @@
 -- A script that is run in an order, and what is told of it.
-use Rattle.std.specs.Prelude.{◌≡◌, ℕ, ◌<◌, ◌≤◌, ⊤, List, Option, Result}
+use Rattle.std.specs.Prelude.{◌≡◌, ℕ, ◌<◌, ◌≤◌, ⊤, Result}
 use Rattle.heap_words.specs.declared.config.Config.{Config}
 use Rattle.object_graph.specs.Actors.{StepList, EventList}
+use Rattle.script_text.specs.Watched.{Reader, Writer}
 use Rattle.step_core.specs.Histories.{IsRunFault}
 use Rattle.step_core.specs.declared.runs.RunFault.{RunFault}
 use Rattle.step_core.specs.declared.runs.RunFault.TheVariants as runs
@@ -48,12 +49,12 @@ MayFail File = IsRunFault
 MayFail (Drawn seed refiners markers) = IsCountedFault (AreFew refiners markers) IsRunFault
 MayFail (Concurrent workers refiners markers) = IsCountedFault (CanStart workers refiners markers) IsThreadsFault
 
--- How a script's run in such an order ended: what the reader gave, and what the writer took.
-abbrev pub EndsIn : Order → Option (List ℕ) → Option (List ℕ) → Option (List ℕ) → Option (List ℕ) → Result ⊤ JobFault → Type 0
+-- How a script's run in such an order ended, by the reader and the writer before and after.
+abbrev pub EndsIn : Order → Reader → Reader → Writer → Writer → Result ⊤ JobFault → Type 0
 EndsIn order = Ends (Makes order) (MayFail order)
 
 -- A script was run in an order, and its end was told so. The status is 0 exactly where it ended well.
-pub record Performs (order : Order) (given left old new err err' : Option (List ℕ)) (status : ℕ) : Type 0 where
+pub record Performs (order : Order) (given left : Reader) (old new err err' : Writer) (status : ℕ) : Type 0 where
   pub outcome : Result ⊤ JobFault
   pub ends : EndsIn order given left old new outcome
   pub tells : Tells err err' outcome status

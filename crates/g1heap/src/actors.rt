@@ -5,6 +5,7 @@ ghost use Rattle.g1heap.specs.Runs.{EndsIn};
 use command_line::Order;
 use jobs::{JobFault, answer, read_plan};
 use mutators::{run_threads, simulate};
+use script_text::{WatchedReader, WatchedWriter};
 use std::alloc::Global;
 use std::io::{Read, Write};
 use std::sync::Wait;
@@ -17,10 +18,10 @@ pub fn simulate_script<R: Read, W: Write>(
     seed: u64,
     refiners: u32,
     markers: u32,
-    reader: &mut R,
-    writer: &mut W,
+    reader: &mut WatchedReader<R>,
+    writer: &mut WatchedWriter<W>,
 ) -> Result<(), JobFault>
-    ensures { EndsIn (Order.Drawn seed refiners markers) (R.remaining reader.old) (R.remaining reader.new) (W.contents writer.old) (W.contents writer.new) result }
+    ensures { EndsIn (Order.Drawn seed refiners markers) reader.old reader.new writer.old writer.new result }
 {
     let plan = read_plan(alloc, reader)?;
     let outcome = simulate(alloc, &plan, seed, refiners, markers);
@@ -36,10 +37,10 @@ pub fn thread_script<H: Threads + Wait + Sync, R: Read, W: Write>(
     workers: u32,
     refiners: u32,
     markers: u32,
-    reader: &mut R,
-    writer: &mut W,
+    reader: &mut WatchedReader<R>,
+    writer: &mut WatchedWriter<W>,
 ) -> Result<(), JobFault>
-    ensures { EndsIn (Order.Concurrent workers refiners markers) (R.remaining reader.old) (R.remaining reader.new) (W.contents writer.old) (W.contents writer.new) result }
+    ensures { EndsIn (Order.Concurrent workers refiners markers) reader.old reader.new writer.old writer.new result }
 {
     let plan = read_plan(alloc, reader)?;
     let outcome = run_threads(rt, alloc, &plan, workers, refiners, markers);

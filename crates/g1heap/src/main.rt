@@ -20,8 +20,12 @@ mod program;
 mod tests;
 
 use program::program;
+use script_text::{WatchedReader, WatchedWriter};
 use std::process::ExitCode;
 
 fn main(rt: HostRuntime) -> ExitCode {
-    ExitCode::from(program(&rt, &mut rt.stdin(), &mut rt.stdout(), &mut rt.stderr()))
+    let mut input = WatchedReader::new(rt.stdin());
+    let mut out = WatchedWriter::new(rt.stdout());
+    let mut err = WatchedWriter::new(rt.stderr());
+    ExitCode::from(program(&rt, &mut input, &mut out, &mut err))
 }

@@ -6,6 +6,7 @@ ghost use Rattle.g1heap.specs.Jobs.{DoesJob};
 use crate::actors::{simulate_script, thread_script};
 use command_line::{Job, Order, Task};
 use jobs::{JobFault, conclude, perform_check, run_script, view_script};
+use script_text::{WatchedReader, WatchedWriter};
 use std::alloc::Global;
 use std::io::{Read, Write};
 use std::sync::Wait;
@@ -16,10 +17,10 @@ fn do_script<H: Threads + Wait + Sync, R: Read, W: Write>(
     rt: &H,
     alloc: Global,
     order: Order,
-    reader: &mut R,
-    out: &mut W,
+    reader: &mut WatchedReader<R>,
+    out: &mut WatchedWriter<W>,
 ) -> Result<(), JobFault>
-    ensures { EndsIn order (R.remaining reader.old) (R.remaining reader.new) (W.contents out.old) (W.contents out.new) result }
+    ensures { EndsIn order reader.old reader.new out.old out.new result }
 {
     match order {
         Order::File => run_script(alloc, reader, out),
@@ -41,11 +42,11 @@ pub fn perform<H: Threads + Wait + Sync, R: Read, W: Write, E: Write>(
     rt: &H,
     alloc: Global,
     job: &Job,
-    reader: &mut R,
-    out: &mut W,
-    err: &mut E,
+    reader: &mut WatchedReader<R>,
+    out: &mut WatchedWriter<W>,
+    err: &mut WatchedWriter<E>,
 ) -> u8
-    ensures { DoesJob job.now.task (R.remaining reader.old) (R.remaining reader.new) (W.contents out.old) (W.contents out.new) (E.contents err.old) (E.contents err.new) result }
+    ensures { DoesJob job.now.task reader.old reader.new out.old out.new err.old err.new result }
 {
     match job.task() {
         Task::Script(order) => {

@@ -1,8 +1,8 @@
 //! The whole program: its words, the file that they name, and the status.
 
-ghost use Rattle.std.specs.Prelude.{◌≡◌, ◌≢◌, ◌≤◌, ◌⊎◌, List, ℕ, Option, None};
-ghost use Rattle.std.specs.Io.KnownBytes.{Keeps};
+ghost use Rattle.std.specs.Prelude.{◌≡◌, ◌≢◌, ◌≤◌, ◌⊎◌};
 ghost use Rattle.clap.specs.Values.{kind_of};
+ghost use Rattle.script_text.specs.Watched.{Reader, Writer, FailsToGive, Stays};
 ghost use Rattle.jobs.specs.FaultLines.{TellsLine};
 ghost use Rattle.g1heap.specs.Jobs.{DoesJob};
 
@@ -11,7 +11,7 @@ use clap::Error;
 use clap::error::ErrorKind;
 use command_line::{Job, Task, misspelt, read_words};
 use jobs::{JobFault, conclude, conclude_verdict};
-use script_text::ReadFault;
+use script_text::{ReadFault, WatchedReader, WatchedWriter};
 use std::alloc::Global;
 use std::env::Env;
 use std::fs::Files;
@@ -22,8 +22,8 @@ use std::{env, fs, io};
 use step_core::RunFault;
 
 /// Tells that a job's file can't be read, and answers the program's status.
-fn conclude_unread<E: Write>(task: Task, err: &mut E) -> u8
-    ensures { (old new : Option (List ℕ)) → Keeps old new → DoesJob task None None old new (E.contents err.old) (E.contents err.new) result }
+fn conclude_unread<E: Write>(task: Task, err: &mut WatchedWriter<E>) -> u8
+    ensures { (given left : Reader) (old new : Writer) → FailsToGive ReadFault.CannotRead given left → Stays old new → DoesJob task given left old new err.old err.new result }
 {
     match task {
         Task::Script(_) => conclude(Err(JobFault::Read(ReadFault::CannotRead)), err),
@@ -32,18 +32,18 @@ fn conclude_unread<E: Write>(task: Task, err: &mut E) -> u8
     }
 }
 
-/// Opens the job's file and does the job, and answers the program's status.
+/// Opens the job's file and does the job, and answers the program's status. A file that can't be opened is told as a reader that refused.
 pub fn open_and_perform<H: Files + Threads + Wait + Sync, W: Write, E: Write>(
     rt: &H,
     alloc: Global,
     job: &Job,
-    out: &mut W,
-    err: &mut E,
+    out: &mut WatchedWriter<W>,
+    err: &mut WatchedWriter<E>,
 ) -> u8
-    ensures { (given left : Option (List ℕ)) × DoesJob job.now.task given left (W.contents out.old) (W.contents out.new) (E.contents err.old) (E.contents err.new) result }
+    ensures { (given left : Reader) × DoesJob job.now.task given left out.old out.new err.old err.new result }
 {
     match fs::open(rt, job.file()) {
-        Ok(mut file) => perform(rt, alloc, job, &mut file, out, err),
+        Ok(file) => perform(rt, alloc, job, &mut WatchedReader::new(file), out, err),
         Err(_) => conclude_unread(job.task(), err),
     }
 }
@@ -53,11 +53,11 @@ fn read_and_perform<H: Files + Threads + Wait + Sync, I: Read, W: Write, E: Writ
     rt: &H,
     alloc: Global,
     job: &Job,
-    input: &mut I,
-    out: &mut W,
-    err: &mut E,
+    input: &mut WatchedReader<I>,
+    out: &mut WatchedWriter<W>,
+    err: &mut WatchedWriter<E>,
 ) -> u8
-    ensures { (given left : Option (List ℕ)) × DoesJob job.now.task given left (W.contents out.old) (W.contents out.new) (E.contents err.old) (E.contents err.new) result }
+    ensures { (given left : Reader) × DoesJob job.now.task given left out.old out.new err.old err.new result }
 {
     if job.file() == "-" {
         return perform(rt, alloc, job, input, out, err);
@@ -67,10 +67,14 @@ fn read_and_perform<H: Files + Threads + Wait + Sync, I: Read, W: Write, E: Writ
 
 /// Answers words that ask for no job: status 0 for help, which goes to standard output, and 2 for a mistake, whose text goes to
 /// standard error; 1 where memory was refused.
-pub fn refuse<W: Write, E: Write>(error: &Error, out: &mut W, err: &mut E) -> u8
-    ensures memory { kind_of error.now ≡ ErrorKind.OutOfMemory → (result ≡ 1) × Keeps (W.contents out.old) (W.contents out.new) × TellsLine (JobFault.Run RunFault.NoMemory) (E.contents err.old) (E.contents err.new) }
-    ensures mistake { kind_of error.now ≢ ErrorKind.OutOfMemory → kind_of error.now ≢ ErrorKind.DisplayHelp → kind_of error.now ≢ ErrorKind.DisplayVersion → (result ≡ 2) × Keeps (W.contents out.old) (W.contents out.new) }
-    ensures help { (kind_of error.now ≡ ErrorKind.DisplayHelp) ⊎ (kind_of error.now ≡ ErrorKind.DisplayVersion) → (result ≡ 0) × Keeps (E.contents err.old) (E.contents err.new) }
+pub fn refuse<W: Write, E: Write>(
+    error: &Error,
+    out: &mut WatchedWriter<W>,
+    err: &mut WatchedWriter<E>,
+) -> u8
+    ensures memory { kind_of error.now ≡ ErrorKind.OutOfMemory → (result ≡ 1) × Stays out.old out.new × TellsLine (JobFault.Run RunFault.NoMemory) err.old err.new }
+    ensures mistake { kind_of error.now ≢ ErrorKind.OutOfMemory → kind_of error.now ≢ ErrorKind.DisplayHelp → kind_of error.now ≢ ErrorKind.DisplayVersion → (result ≡ 2) × Stays out.old out.new }
+    ensures help { (kind_of error.now ≡ ErrorKind.DisplayHelp) ⊎ (kind_of error.now ≡ ErrorKind.DisplayVersion) → (result ≡ 0) × Stays err.old err.new }
 {
     if error.kind() == ErrorKind::OutOfMemory {
         return conclude(Err(JobFault::Run(RunFault::NoMemory)), err);
@@ -93,9 +97,9 @@ fn words<R: Env + AllocGlobal>(rt: &R) -> io::Result<Vec<String>> {
 /// Does what the command line asks for, and answers the program's status.
 pub fn program<R: Env + Files + AllocGlobal + Threads + Wait + Sync, I: Read, W: Write, E: Write>(
     rt: &R,
-    input: &mut I,
-    out: &mut W,
-    err: &mut E,
+    input: &mut WatchedReader<I>,
+    out: &mut WatchedWriter<W>,
+    err: &mut WatchedWriter<E>,
 ) -> u8
     ensures { result ≤ 3 }
 {

@@ -1,10 +1,11 @@
 -- From what is read, what came of the run and what was written, to how it all ended.
-use Rattle.std.proofs.Common.{◌≡◌, ℕ, List, Option, Err, subst, refl, sym}
+use Rattle.std.proofs.Common.{◌≡◌, List, Err, subst, refl, sym}
 use Rattle.std.specs.Prelude.{Ok, Result, ⊤, IfOk, IfErr}
 use Rattle.heap_words.specs.declared.config.Config.{Config}
 use Rattle.heap_words.specs.Configs.{Suits}
 use Rattle.object_graph.specs.Actors.{StepList, EventList}
 use Rattle.object_graph.specs.declared.step.Step.{Step}
+use Rattle.script_text.specs.Watched.{Reader, Writer}
 use Rattle.step_core.specs.declared.runs.RunFault.{RunFault}
 use Rattle.step_core.specs.declared.runs.RunFault.TheVariants as runs
 use Rattle.step_core.specs.Histories.{IsRunFault}
@@ -17,12 +18,12 @@ abbrev pub Comes : (StepList → EventList → Type 0) → (Config → RunFault 
 Comes Makes Fails plan (Ok r) = Makes plan r
 Comes Makes Fails plan (Err fault) = Fails plan.config fault
 
-pub ends : (Makes : StepList → EventList → Type 0) (Fails : Config → RunFault → Type 0) (plan : StepList) (given left old new : Option (List ℕ)) (outcome : Result EventList RunFault) (result : Result ⊤ JobFault) →
+pub ends : (Makes : StepList → EventList → Type 0) (Fails : Config → RunFault → Type 0) (plan : StepList) (given left : Reader) (old new : Writer) (outcome : Result EventList RunFault) (result : Result ⊤ JobFault) →
     ReadsPlan given left (Ok plan) → Comes Makes Fails plan outcome → Answers outcome old new result → Ends Makes Fails given left old new result
 ends Makes Fails plan given left old new (Ok r) (Ok done) (input, gives, read) made written =
     (input, gives, (r, record { plan = plan; read = read; made = made }, written))
-ends Makes Fails plan given left old new (Ok r) (Err (Write fault)) (input, gives, read) made ((n, less, begun), memory) =
-    (input, gives, (r, n, record { plan = plan; read = read; made = made }, less, begun), memory)
+ends Makes Fails plan given left old new (Ok r) (Err (Write fault)) (input, gives, read) made fails =
+    (input, gives, (r, record { plan = plan; read = read; made = made }, fails))
 ends Makes Fails plan given left old new (Ok r) (Err (Read fault)) read made written = absurd written
 ends Makes Fails plan given left old new (Ok r) (Err (Line fault)) read made written = absurd written
 ends Makes Fails plan given left old new (Ok r) (Err (Run fault)) read made written = absurd written

@@ -1,9 +1,9 @@
 -- The lines on standard error, one for each fault.
-use Rattle.std.specs.Prelude.{ℕ, ◌≤◌, List, [], ◌∷◌, ◌++◌, Option, length, take, codes}
-use Rattle.std.specs.Io.KnownBytes.{Appends}
+use Rattle.std.specs.Prelude.{ℕ, ◌⊎◌, List, [], ◌∷◌, ◌++◌, codes}
 use Rattle.heap_words.specs.declared.config.NewFault.{NewFault}
 use Rattle.heap_words.specs.declared.config.NewFault.TheVariants as sizes
 use Rattle.script_text.specs.Faults.{fault_text}
+use Rattle.script_text.specs.Watched.{Writer, Takes, TakesPart}
 use Rattle.script_text.specs.declared.fault.WriteFault.{WriteFault}
 use Rattle.script_text.specs.declared.fault.WriteFault.TheVariants as writes
 use Rattle.step_core.specs.declared.runs.RunFault.{RunFault}
@@ -48,6 +48,6 @@ fault_words (Write fault) = write_words fault
 abbrev pub fault_line : JobFault → List ℕ
 fault_line fault = codes "g1heap: " ++ fault_words fault ++ 10 ∷ []
 
--- the fault's line was written, or, where that failed, a beginning of it
-abbrev pub TellsLine : JobFault → Option (List ℕ) → Option (List ℕ) → Type 0
-TellsLine fault old new = (n : ℕ) × (n ≤ length (fault_line fault)) × Appends old new (take n (fault_line fault))
+-- the fault's line was written whole, or a beginning of it, and then the writer refused
+abbrev pub TellsLine : JobFault → Writer → Writer → Type 0
+TellsLine fault old new = Takes old new (fault_line fault) ⊎ TakesPart old new (fault_line fault)

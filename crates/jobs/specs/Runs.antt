@@ -1,13 +1,14 @@
 -- A script that is read, and the record that is written.
-use Rattle.std.specs.Prelude.{◌≡◌, ℕ, ◌<◌, ⊤, List, Option, Result, Ok, Err, length, take, map}
-use Rattle.std.specs.Io.KnownBytes.{Appends, Keeps, Consumes, IsAtEnd}
+use Rattle.std.specs.Prelude.{◌≡◌, ℕ, ⊤, List, Result, Ok, Err, map}
+use Rattle.std.specs.Io.KnownBytes.{IsAtEnd}
 use Rattle.heap_words.specs.declared.config.Config.{Config}
 use Rattle.object_graph.specs.Actors.{StepList, EventList}
 use Rattle.object_graph.specs.State.{State, first_state}
 use Rattle.object_graph.specs.Run.{IsRun}
 use Rattle.script_text.specs.Lines.{script_of, FailsBy}
 use Rattle.script_text.specs.Records.{record_text}
-use Rattle.script_text.specs.declared.fault.WriteFault.TheVariants as writes
+use Rattle.script_text.specs.Watched.{Reader, Writer, Gives, FailsToGive, Takes, FailsToTake, Stays}
+use Rattle.script_text.specs.declared.fault.WriteFault.{WriteFault}
 use Rattle.step_core.specs.Histories.{step_in, actor_in, actor_of, RunsFromNew}
 use Rattle.step_core.specs.declared.runs.RunFault.{RunFault}
 use Rattle.jobs.specs.FaultLines.{TellsLine}
@@ -34,44 +35,42 @@ pub record IsScriptRun (Makes : StepList → EventList → Type 0) (input : List
   pub made : Makes plan r
 
 -- the text of such a record was written, and no more
-abbrev pub WritesRecord : (StepList → EventList → Type 0) → List ℕ → Option (List ℕ) → Option (List ℕ) → Type 0
-WritesRecord Makes input old new = (r : EventList) × IsScriptRun Makes input r × Appends old new (record_text r)
+abbrev pub WritesRecord : (StepList → EventList → Type 0) → List ℕ → Writer → Writer → Type 0
+WritesRecord Makes input old new = (r : EventList) × IsScriptRun Makes input r × Takes old new (record_text r)
 
--- a beginning of such a text was written, and not all of it
-abbrev pub WritesBeginning : (StepList → EventList → Type 0) → List ℕ → Option (List ℕ) → Option (List ℕ) → Type 0
-WritesBeginning Makes input old new =
-    (r : EventList) × (n : ℕ) × IsScriptRun Makes input r × (n < length (record_text r)) × Appends old new (take n (record_text r))
+-- the text of such a record could not be written
+abbrev pub FailsToWrite : (StepList → EventList → Type 0) → List ℕ → WriteFault → Writer → Writer → Type 0
+FailsToWrite Makes input fault old new = (r : EventList) × IsScriptRun Makes input r × FailsToTake fault old new (record_text r)
 
 -- the reader gave these bytes, and is at its end
-abbrev pub GivesAll : Option (List ℕ) → Option (List ℕ) → List ℕ → Type 0
-GivesAll given left input = Consumes given left input × IsAtEnd left
+abbrev pub GivesAll : Reader → Reader → List ℕ → Type 0
+GivesAll given left input = Gives given left input × IsAtEnd left.left
 
 -- what the reader gave, to its end, is the script of the plan, or its first fault is told; or reading failed
-abbrev pub ReadsPlan : Option (List ℕ) → Option (List ℕ) → Result StepList JobFault → Type 0
+abbrev pub ReadsPlan : Reader → Reader → Result StepList JobFault → Type 0
 ReadsPlan given left (Ok plan) = (input : List ℕ) × GivesAll given left input × (script_of input ≡ Ok plan)
-ReadsPlan given left (Err (Read fault)) = (some : List ℕ) × Consumes given left some
+ReadsPlan given left (Err (Read fault)) = FailsToGive fault given left
 ReadsPlan given left (Err (Line fault)) = (input : List ℕ) × GivesAll given left input × FailsBy fault.kind fault input (script_of input)
 ReadsPlan given left (Err _) = ⊥
 
--- what came of a run was answered: the record's text was written, or a beginning of it where that failed, or the fault is the run's
-abbrev pub Answers : Result EventList RunFault → Option (List ℕ) → Option (List ℕ) → Result ⊤ JobFault → Type 0
-Answers (Ok r) old new (Ok done) = Appends old new (record_text r)
-Answers (Ok r) old new (Err (Write fault)) =
-    ((n : ℕ) × (n < length (record_text r)) × Appends old new (take n (record_text r))) × (fault ≡ writes.NoMemory → Keeps old new)
-Answers (Err fault) old new (Err (Run told)) = (told ≡ fault) × Keeps old new
+-- what came of a run was answered: the record's text was written, or a beginning of it where the writer refused, or the fault is the run's
+abbrev pub Answers : Result EventList RunFault → Writer → Writer → Result ⊤ JobFault → Type 0
+Answers (Ok r) old new (Ok done) = Takes old new (record_text r)
+Answers (Ok r) old new (Err (Write fault)) = FailsToTake fault old new (record_text r)
+Answers (Err fault) old new (Err (Run told)) = (told ≡ fault) × Stays old new
 Answers _ old new _ = ⊥
 
--- How a script's run ended: what the reader gave, of which `given` stood before and `left` stands after, and what the writer
--- took, from `old` to `new`. A record is written at Ok alone; a beginning of it where a write failed; otherwise nothing.
-abbrev pub Ends : (StepList → EventList → Type 0) → (Config → RunFault → Type 0) → Option (List ℕ) → Option (List ℕ) → Option (List ℕ) → Option (List ℕ) → Result ⊤ JobFault → Type 0
+-- How a script's run ended: the reader was `given` before and is `left` after, and the writer was `old` before and is `new` after. A record
+-- is written at Ok alone; a beginning of it where the writer refused; otherwise nothing.
+abbrev pub Ends : (StepList → EventList → Type 0) → (Config → RunFault → Type 0) → Reader → Reader → Writer → Writer → Result ⊤ JobFault → Type 0
 Ends Makes Fails given left old new (Ok done) = (input : List ℕ) × GivesAll given left input × WritesRecord Makes input old new
-Ends Makes Fails given left old new (Err (Read fault)) = ((some : List ℕ) × Consumes given left some) × Keeps old new
-Ends Makes Fails given left old new (Err (Line fault)) = (input : List ℕ) × GivesAll given left input × FailsBy fault.kind fault input (script_of input) × Keeps old new
-Ends Makes Fails given left old new (Err (Run fault)) = (input : List ℕ) × GivesAll given left input × ((plan : StepList) × (script_of input ≡ Ok plan) × Fails plan.config fault) × Keeps old new
+Ends Makes Fails given left old new (Err (Read fault)) = FailsToGive fault given left × Stays old new
+Ends Makes Fails given left old new (Err (Line fault)) = (input : List ℕ) × GivesAll given left input × FailsBy fault.kind fault input (script_of input) × Stays old new
+Ends Makes Fails given left old new (Err (Run fault)) = (input : List ℕ) × GivesAll given left input × ((plan : StepList) × (script_of input ≡ Ok plan) × Fails plan.config fault) × Stays old new
 Ends Makes Fails given left old new (Err (Judge fault)) = ⊥
-Ends Makes Fails given left old new (Err (Write fault)) = (input : List ℕ) × GivesAll given left input × WritesBeginning Makes input old new × (fault ≡ writes.NoMemory → Keeps old new)
+Ends Makes Fails given left old new (Err (Write fault)) = (input : List ℕ) × GivesAll given left input × FailsToWrite Makes input fault old new
 
 -- the status that tells how a run ended, and what standard error took: nothing where the job is done, else the fault's line
-abbrev pub Tells : Option (List ℕ) → Option (List ℕ) → Result ⊤ JobFault → ℕ → Type 0
-Tells old new (Ok done) status = (status ≡ 0) × Keeps old new
+abbrev pub Tells : Writer → Writer → Result ⊤ JobFault → ℕ → Type 0
+Tells old new (Ok done) status = (status ≡ 0) × Stays old new
 Tells old new (Err fault) status = (status ≡ 1) × TellsLine fault old new

@@ -1,7 +1,6 @@
 -- A record that is read, and the verdict that is written.
-use Rattle.std.specs.Prelude.{◌≡◌, ◌≢◌, ℕ, ◌<◌, List, [], ◌∷◌, ◌++◌, Option, Result, Ok, Err, length, take, codes}
+use Rattle.std.specs.Prelude.{◌≡◌, ◌≢◌, ℕ, List, [], ◌∷◌, ◌++◌, Result, Ok, Err, length, codes}
 use Rattle.std.specs.Fmt.{decimal}
-use Rattle.std.specs.Io.KnownBytes.{Appends, Keeps, Consumes}
 use Rattle.heap_words.specs.declared.config.Config.{Config}
 use Rattle.heap_words.specs.Configs.{Suits, IsFirstFault}
 use Rattle.object_graph.specs.Actors.{EventList}
@@ -14,6 +13,7 @@ use Rattle.script_text.specs.Lines.{FailsBy}
 use Rattle.script_text.specs.Fits.{IsRecord}
 use Rattle.script_text.specs.Records.{record_text}
 use Rattle.script_text.specs.Events.{record_of}
+use Rattle.script_text.specs.Watched.{Reader, Writer, FailsToGive, Takes, TakesPart, Stays}
 use Rattle.script_text.specs.declared.fault.WriteFault.TheVariants as writes
 use Rattle.jobs.specs.FaultLines.{TellsLine}
 use Rattle.jobs.specs.Runs.{GivesAll}
@@ -53,32 +53,32 @@ abbrev pub IsUnjudged : List ℕ → JudgeFault → Type 0
 IsUnjudged input fault = (history : EventList) × (record_of input ≡ Ok history) × IsJudgeFault history.config fault
 
 -- the verdict on the input was written, and no more
-abbrev pub WritesVerdict : List ℕ → Verdict → Option (List ℕ) → Option (List ℕ) → Type 0
-WritesVerdict input verdict old new = IsJudged input verdict × Appends old new (verdict_line verdict)
+abbrev pub WritesVerdict : List ℕ → Verdict → Writer → Writer → Type 0
+WritesVerdict input verdict old new = IsJudged input verdict × Takes old new (verdict_line verdict)
 
--- a beginning of the verdict on the input was written, and not all of it
-abbrev pub WritesVerdictBeginning : List ℕ → Option (List ℕ) → Option (List ℕ) → Type 0
-WritesVerdictBeginning input old new = (verdict : Verdict) × (n : ℕ) × IsJudged input verdict × (n < length (verdict_line verdict)) × Appends old new (take n (verdict_line verdict))
+-- a beginning of the verdict on the input was written, not all of it, and then the writer refused
+abbrev pub WritesVerdictBeginning : List ℕ → Writer → Writer → Type 0
+WritesVerdictBeginning input old new = (verdict : Verdict) × IsJudged input verdict × TakesPart old new (verdict_line verdict)
 
--- How the judging of a record ended: what the reader gave, of which `given` stood before and `left` stands after, and what the writer
--- took, from `old` to `new`. A verdict is written at Ok alone; a beginning of it where a write failed; otherwise nothing. Nothing is run,
--- and a verdict takes no memory to be written.
-abbrev pub Judges : Option (List ℕ) → Option (List ℕ) → Option (List ℕ) → Option (List ℕ) → Result Verdict JobFault → Type 0
+-- How the judging of a record ended: the reader was `given` before and is `left` after, and the writer was `old` before and is `new` after.
+-- A verdict is written at Ok alone; a beginning of it where the writer refused; otherwise nothing. Nothing is run, and a verdict takes no
+-- memory to be written.
+abbrev pub Judges : Reader → Reader → Writer → Writer → Result Verdict JobFault → Type 0
 Judges given left old new (Ok verdict) = (input : List ℕ) × GivesAll given left input × WritesVerdict input verdict old new
-Judges given left old new (Err (faults.Read fault)) = ((some : List ℕ) × Consumes given left some) × Keeps old new
-Judges given left old new (Err (faults.Line fault)) = (input : List ℕ) × GivesAll given left input × FailsBy fault.kind fault input (record_of input) × Keeps old new
+Judges given left old new (Err (faults.Read fault)) = FailsToGive fault given left × Stays old new
+Judges given left old new (Err (faults.Line fault)) = (input : List ℕ) × GivesAll given left input × FailsBy fault.kind fault input (record_of input) × Stays old new
 Judges given left old new (Err (faults.Run fault)) = ⊥
-Judges given left old new (Err (faults.Judge fault)) = (input : List ℕ) × GivesAll given left input × IsUnjudged input fault × Keeps old new
+Judges given left old new (Err (faults.Judge fault)) = (input : List ℕ) × GivesAll given left input × IsUnjudged input fault × Stays old new
 Judges given left old new (Err (faults.Write fault)) = (input : List ℕ) × GivesAll given left input × WritesVerdictBeginning input old new × (fault ≢ writes.NoMemory)
 
 -- the status that tells a verdict, 0 for yes and 3 for no, or 1 for a fault, and what standard error took: nothing, or the fault's line
-abbrev pub TellsVerdict : Option (List ℕ) → Option (List ℕ) → Result Verdict JobFault → ℕ → Type 0
-TellsVerdict old new (Ok (Yes n)) status = (status ≡ 0) × Keeps old new
-TellsVerdict old new (Ok (No n)) status = (status ≡ 3) × Keeps old new
+abbrev pub TellsVerdict : Writer → Writer → Result Verdict JobFault → ℕ → Type 0
+TellsVerdict old new (Ok (Yes n)) status = (status ≡ 0) × Stays old new
+TellsVerdict old new (Ok (No n)) status = (status ≡ 3) × Stays old new
 TellsVerdict old new (Err fault) status = (status ≡ 1) × TellsLine fault old new
 
 -- A record was judged so, and it was told so.
-pub record PerformsCheck (given left old new err err' : Option (List ℕ)) (status : ℕ) : Type 0 where
+pub record PerformsCheck (given left : Reader) (old new err err' : Writer) (status : ℕ) : Type 0 where
   pub outcome : Result Verdict JobFault
   pub judges : Judges given left old new outcome
   pub tells : TellsVerdict err err' outcome status
@@ -102,9 +102,9 @@ pub record IsTextBrokenAt (input : List ℕ) (n : ℕ) : Type 0 where
   pub broken : BreaksAt (first_state history.config) history.events n
 
 -- The reader gave the text of a run, to its end, and the verdict yes was written, and no more, with nothing on standard error.
-abbrev pub ToldYes : Option (List ℕ) → Option (List ℕ) → Option (List ℕ) → Option (List ℕ) → Option (List ℕ) → Option (List ℕ) → Type 0
-ToldYes given left old new err err' = (input : List ℕ) × (n : ℕ) × GivesAll given left input × IsTextOfRun input n × Appends old new (verdict_line (Yes n)) × Keeps err err'
+abbrev pub ToldYes : Reader → Reader → Writer → Writer → Writer → Writer → Type 0
+ToldYes given left old new err err' = (input : List ℕ) × (n : ℕ) × GivesAll given left input × IsTextOfRun input n × Takes old new (verdict_line (Yes n)) × Stays err err'
 
 -- The reader gave the text of a record, to its end, and the verdict no was written with its first event that isn't allowed, and no more.
-abbrev pub ToldNo : Option (List ℕ) → Option (List ℕ) → Option (List ℕ) → Option (List ℕ) → Option (List ℕ) → Option (List ℕ) → Type 0
-ToldNo given left old new err err' = (input : List ℕ) × (n : ℕ) × GivesAll given left input × IsTextBrokenAt input n × Appends old new (verdict_line (No n)) × Keeps err err'
+abbrev pub ToldNo : Reader → Reader → Writer → Writer → Writer → Writer → Type 0
+ToldNo given left old new err err' = (input : List ℕ) × (n : ℕ) × GivesAll given left input × IsTextBrokenAt input n × Takes old new (verdict_line (No n)) × Stays err err'

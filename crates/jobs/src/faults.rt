@@ -1,12 +1,14 @@
 //! Why a job wasn't done, and the lines on standard error, one for each fault.
 
-ghost use Rattle.std.specs.Prelude.{◌≡◌, ℕ, ◌≤◌, ◌<◌, ◌+◌, ◌++◌, OnOk, OnErr, length, take};
-ghost use Rattle.std.specs.Io.KnownBytes.{Appends};
+ghost use Rattle.std.specs.Prelude.{◌≡◌, ◌≢◌, ◌≤◌, ◌+◌, ◌++◌, OnOk, OnErr, length, take};
+ghost use Rattle.script_text.specs.Watched.{Takes, TakesPart};
 ghost use Rattle.jobs.specs.FaultLines.{sizes_words, run_words, judge_words, write_words, fault_words, fault_line};
 ghost use Rattle.jobs.specs.Runs.{Tells};
 
 use heap_words::config::NewFault;
-use script_text::{LineFault, ReadFault, WriteFault, put_fault, put_text, write_bytes};
+use script_text::{
+    LineFault, ReadFault, WatchedWriter, WriteFault, put_fault, put_text, write_bytes,
+};
 use std::io::Write;
 use step_core::RunFault;
 use thiserror::Error;
@@ -102,10 +104,11 @@ fn put_words(buffer: &mut [u8], at: usize, fault: JobFault) -> usize
     }
 }
 
-/// Writes a fault's line. Where that fails, a beginning of the line is written.
-pub fn tell<E: Write>(fault: JobFault, err: &mut E) -> Result<(), WriteFault>
-    ensures ok { OnOk result (Appends (E.contents err.old) (E.contents err.new) (fault_line fault)) }
-    ensures err { OnErr result ((n : ℕ) × (n < length (fault_line fault)) × Appends (E.contents err.old) (E.contents err.new) (take n (fault_line fault))) }
+/// Writes a fault's line. Where that fails, the writer refused, and a beginning of the line is written. It takes no memory.
+pub fn tell<E: Write>(fault: JobFault, err: &mut WatchedWriter<E>) -> Result<(), WriteFault>
+    ensures ok { OnOk result (Takes err.old err.new (fault_line fault)) }
+    ensures err { OnErr result (TakesPart err.old err.new (fault_line fault)) }
+    ensures memory { result ≢ Err WriteFault.NoMemory }
 {
     let mut buffer = [0u8; ROOM];
     let at = put_text(&mut buffer, 0, b"g1heap: ");
@@ -116,8 +119,8 @@ pub fn tell<E: Write>(fault: JobFault, err: &mut E) -> Result<(), WriteFault>
 
 /// Tells how a job ended, and answers the program's status: 0 where it is done, else 1, with the fault's line on standard error. That a
 /// write of this line fails changes nothing.
-pub fn conclude<E: Write>(outcome: Result<(), JobFault>, err: &mut E) -> u8
-    ensures { Tells (E.contents err.old) (E.contents err.new) outcome result }
+pub fn conclude<E: Write>(outcome: Result<(), JobFault>, err: &mut WatchedWriter<E>) -> u8
+    ensures { Tells err.old err.new outcome result }
 {
     match outcome {
         Ok(()) => 0,

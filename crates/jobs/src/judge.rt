@@ -1,15 +1,15 @@
 //! A record that is read, judged and answered by the verdict.
 
-ghost use Rattle.std.specs.Prelude.{◌≡◌, ◌≢◌, ◌<◌, ◌≤◌, ◌↔◌, ℕ, List, Option, OnOk, OnErr, length, take};
-ghost use Rattle.std.specs.Io.KnownBytes.{Appends};
+ghost use Rattle.std.specs.Prelude.{◌≡◌, ◌≢◌, ◌≤◌, ◌↔◌, ℕ, List, OnOk, OnErr, length};
+ghost use Rattle.script_text.specs.Watched.{Reader, Writer, Takes, TakesPart};
 ghost use Rattle.object_graph.specs.declared.judge.Verdict.{Verdict};
 ghost use Rattle.jobs.specs.Verdicts.{verdict_word, verdict_number, verdict_line, IsJudged, Judges, TellsVerdict, PerformsCheck, IsTextOfRun, IsTextBrokenAt, ToldYes, ToldNo};
 
 use crate::faults::{JobFault, JudgeFault, tell};
 use object_graph::{Verdict, check, judged_once};
 use script_text::{
-    WriteFault, parse_record, put_number, put_text, read_record_is_spelled, read_text,
-    spelled_record_is_read, write_bytes,
+    WatchedReader, WatchedWriter, WriteFault, parse_record, put_number, put_text,
+    read_record_is_spelled, read_text, spelled_record_is_read, write_bytes,
 };
 use std::alloc::Global;
 use std::io::{Read, Write};
@@ -38,10 +38,13 @@ fn verdict_number(verdict: Verdict) -> u64
     }
 }
 
-/// Writes the line of a verdict. Where that fails, a beginning of the line is written. It takes no memory.
-fn write_verdict<W: Write>(verdict: Verdict, writer: &mut W) -> Result<(), WriteFault>
-    ensures ok { OnOk result (Appends (W.contents writer.old) (W.contents writer.new) (verdict_line verdict)) }
-    ensures err { OnErr result ((n : ℕ) × (n < length (verdict_line verdict)) × Appends (W.contents writer.old) (W.contents writer.new) (take n (verdict_line verdict))) }
+/// Writes the line of a verdict. Where that fails, the writer refused, and a beginning of the line is written. It takes no memory.
+fn write_verdict<W: Write>(
+    verdict: Verdict,
+    writer: &mut WatchedWriter<W>,
+) -> Result<(), WriteFault>
+    ensures ok { OnOk result (Takes writer.old writer.new (verdict_line verdict)) }
+    ensures err { OnErr result (TakesPart writer.old writer.new (verdict_line verdict)) }
     ensures memory { result ≢ Err WriteFault.NoMemory }
 {
     let mut buffer = [0u8; ROOM];
@@ -55,10 +58,10 @@ fn write_verdict<W: Write>(verdict: Verdict, writer: &mut W) -> Result<(), Write
 /// the first event that isn't allowed, counted from 1. Nothing is written before the judge has ended.
 pub fn judge_record<R: Read, W: Write>(
     alloc: Global,
-    reader: &mut R,
-    writer: &mut W,
+    reader: &mut WatchedReader<R>,
+    writer: &mut WatchedWriter<W>,
 ) -> Result<Verdict, JobFault>
-    ensures { Judges (R.remaining reader.old) (R.remaining reader.new) (W.contents writer.old) (W.contents writer.new) result }
+    ensures { Judges reader.old reader.new writer.old writer.new result }
 {
     let text = match read_text(alloc, reader) {
         Ok(text) => text,
@@ -84,8 +87,11 @@ pub fn judge_record<R: Read, W: Write>(
 
 /// Tells a verdict, and answers the program's status: 0 for yes, 3 for no, 1 for a fault, with its line on standard error. That a write of
 /// this line fails changes nothing.
-pub fn conclude_verdict<E: Write>(outcome: Result<Verdict, JobFault>, err: &mut E) -> u8
-    ensures { TellsVerdict (E.contents err.old) (E.contents err.new) outcome result }
+pub fn conclude_verdict<E: Write>(
+    outcome: Result<Verdict, JobFault>,
+    err: &mut WatchedWriter<E>,
+) -> u8
+    ensures { TellsVerdict err.old err.new outcome result }
 {
     match outcome {
         Ok(Verdict::Yes(_)) => 0,
@@ -100,11 +106,11 @@ pub fn conclude_verdict<E: Write>(outcome: Result<Verdict, JobFault>, err: &mut 
 /// Judges a record, and answers the program's status.
 pub fn perform_check<R: Read, W: Write, E: Write>(
     alloc: Global,
-    reader: &mut R,
-    out: &mut W,
-    err: &mut E,
+    reader: &mut WatchedReader<R>,
+    out: &mut WatchedWriter<W>,
+    err: &mut WatchedWriter<E>,
 ) -> u8
-    ensures { PerformsCheck (R.remaining reader.old) (R.remaining reader.new) (W.contents out.old) (W.contents out.new) (E.contents err.old) (E.contents err.new) result }
+    ensures { PerformsCheck reader.old reader.new out.old out.new err.old err.new result }
 {
     let outcome = judge_record(alloc, reader, out);
     conclude_verdict(outcome, err)
@@ -125,8 +131,8 @@ pub fn verdict_law()
 /// What the status says by itself: 0, the file was the text of a run, and the verdict says so; 3, it was the text of a record that breaks, and
 /// the verdict names the event.
 pub fn status_law()
-    ensures yes { (given left old new err told : Option (List ℕ)) → PerformsCheck given left old new err told 0 → ToldYes given left old new err told }
-    ensures no { (given left old new err told : Option (List ℕ)) → PerformsCheck given left old new err told 3 → ToldNo given left old new err told }
+    ensures yes { (given left : Reader) (old new err told : Writer) → PerformsCheck given left old new err told 0 → ToldYes given left old new err told }
+    ensures no { (given left : Reader) (old new err told : Writer) → PerformsCheck given left old new err told 3 → ToldNo given left old new err told }
 {
     verdict_law();
 }

@@ -6,14 +6,14 @@ ghost use Rattle.jobs.specs.Runs.{IsRunInOrder, ReadsPlan, Answers, Ends};
 
 use crate::faults::JobFault;
 use object_graph::{Plan, Record};
-use script_text::{parse, read_text, write_record};
+use script_text::{WatchedReader, WatchedWriter, parse, read_text, write_record};
 use std::alloc::Global;
 use std::io::{Read, Write};
 use step_core::{RunFault, run};
 
 /// Reads a script to the end of input.
-pub fn read_plan<R: Read>(alloc: Global, reader: &mut R) -> Result<Plan, JobFault>
-    ensures { ReadsPlan (R.remaining reader.old) (R.remaining reader.new) result }
+pub fn read_plan<R: Read>(alloc: Global, reader: &mut WatchedReader<R>) -> Result<Plan, JobFault>
+    ensures { ReadsPlan reader.old reader.new result }
 {
     let text = match read_text(alloc, reader) {
         Ok(text) => text,
@@ -29,9 +29,9 @@ pub fn read_plan<R: Read>(alloc: Global, reader: &mut R) -> Result<Plan, JobFaul
 pub fn answer<W: Write>(
     alloc: Global,
     outcome: Result<Record, RunFault>,
-    writer: &mut W,
+    writer: &mut WatchedWriter<W>,
 ) -> Result<(), JobFault>
-    ensures { Answers outcome (W.contents writer.old) (W.contents writer.new) result }
+    ensures { Answers outcome writer.old writer.new result }
 {
     let history = match outcome {
         Ok(history) => history,
@@ -55,10 +55,10 @@ fn record_of(alloc: Global, plan: Plan) -> Result<Record, RunFault>
 /// before the run has ended well.
 pub fn run_script<R: Read, W: Write>(
     alloc: Global,
-    reader: &mut R,
-    writer: &mut W,
+    reader: &mut WatchedReader<R>,
+    writer: &mut WatchedWriter<W>,
 ) -> Result<(), JobFault>
-    ensures { Ends IsRunInOrder IsRunFault (R.remaining reader.old) (R.remaining reader.new) (W.contents writer.old) (W.contents writer.new) result }
+    ensures { Ends IsRunInOrder IsRunFault reader.old reader.new writer.old writer.new result }
 {
     let plan = read_plan(alloc, reader)?;
     let outcome = record_of(alloc, plan);

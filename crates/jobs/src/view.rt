@@ -12,7 +12,7 @@ use crate::faults::JobFault;
 use crate::script::read_plan;
 use heap_view::write_view;
 use object_graph::Plan;
-use script_text::write_bytes;
+use script_text::{WatchedReader, WatchedWriter, write_bytes};
 use std::alloc::Global;
 use std::io::{Read, Write};
 use step_core::{Core, RunFault, run_to_core};
@@ -43,10 +43,10 @@ fn view_of(alloc: Global, plan: &Plan) -> Result<Vec<u8>, RunFault>
 /// the run has ended well.
 pub fn view_script<R: Read, W: Write>(
     alloc: Global,
-    reader: &mut R,
-    writer: &mut W,
+    reader: &mut WatchedReader<R>,
+    writer: &mut WatchedWriter<W>,
 ) -> Result<(), JobFault>
-    ensures { Views (R.remaining reader.old) (R.remaining reader.new) (W.contents writer.old) (W.contents writer.new) result }
+    ensures { Views reader.old reader.new writer.old writer.new result }
 {
     let plan = read_plan(alloc, reader)?;
     let text = match view_of(alloc, &plan) {

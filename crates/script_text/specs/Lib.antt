@@ -6,3 +6,4 @@ pub mod Records
 pub mod EventWords
 pub mod Events
 pub mod Faults
+pub mod Watched

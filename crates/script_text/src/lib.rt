@@ -9,11 +9,12 @@
 //!                        bytes --parse_record--> Record
 //! ```
 //!
-//! - `read_text` gives all bytes to the end of input, or says that a read failed.
+//! - `WatchedReader` and `WatchedWriter` hold a reader or a writer, and remember whether it refused a call.
+//! - `read_text` gives all bytes to the end of input, or says that a read was refused.
 //! - `parse` gives the plan that a text spells, or the first line with a fault and the first fault of that line.
 //!   What is read of a text is spelled so in the whole of it, and each script's text is read as that script.
 //! - `parse_record` does the same of a record's text, and so gives back the record that was written (`written_record_is_read`).
-//! - `write_record` appends the text of a record and no more, or a beginning of it and a fault. It holds one
+//! - `write_record` appends the text of a record and no more, or a beginning of it where the writer refused. It holds one
 //!   buffer, however long the record is.
 //! - `put_text`, `put_number`, `put_fault` and `write_bytes` are for other lines of a program: they put texts into a buffer, and
 //!   write bytes in their order.
@@ -31,6 +32,7 @@ mod script;
 mod steps;
 #[cfg(test)]
 mod tests;
+mod watched;
 mod words;
 mod writing;
 mod written;
@@ -44,5 +46,6 @@ pub use laws::{
 };
 pub use records::parse_record;
 pub use script::parse;
+pub use watched::{WatchedReader, WatchedWriter};
 pub use writing::{write_bytes, write_record};
 pub use written::written_record_is_read;

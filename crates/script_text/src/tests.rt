@@ -1,6 +1,9 @@
 //! What no clause says: the worked examples, the printed forms, and readers and writers that fail.
 
-use crate::{Kind, LineFault, ReadFault, WriteFault, parse, parse_record, read_text, write_record};
+use crate::{
+    Kind, LineFault, ReadFault, WatchedReader, WatchedWriter, WriteFault, parse, parse_record,
+    read_text, write_record,
+};
 use heap_words::config::{Config, Format};
 use object_graph::{
     Action, Actor, CollectorStep, Counts, Event, GlobalRoot, Op, Record, Refusal, Register, Reply,
@@ -217,10 +220,11 @@ fn records_are_read_back(rt: HostRuntime) -> Result<(), Fail> {
             return Err(Fail::from("this is a record"));
         };
         assert_eq!(rt; history.events().len(), events, "{text}");
-        let mut written = Vec::new(alloc);
-        let Ok(()) = write_record(alloc, &history, &mut written) else {
+        let mut writer = WatchedWriter::new(Vec::new(alloc));
+        let Ok(()) = write_record(alloc, &history, &mut writer) else {
             return Err(Fail::from("this can be written"));
         };
+        let written = writer.into_inner();
         assert_eq!(rt; written.as_slice(), text.as_bytes(), "{text}");
     }
     Ok(())
@@ -566,8 +570,9 @@ impl Write for Slow {
 fn printed_forms(rt: HostRuntime) -> Result<(), Fail> {
     let alloc = rt.alloc();
     let record = many_forms(alloc)?;
-    let mut written = Vec::new(alloc);
-    assert_eq!(rt; write_record(alloc, &record, &mut written), Ok(()));
+    let mut writer = WatchedWriter::new(Vec::new(alloc));
+    assert_eq!(rt; write_record(alloc, &record, &mut writer), Ok(()));
+    let written = writer.into_inner();
     assert_eq!(rt; written.as_slice(), MANY_FORMS.as_bytes());
     Ok(())
 }
@@ -579,18 +584,19 @@ fn slow_writers(rt: HostRuntime) -> Result<(), Fail> {
     let text = MANY_FORMS.as_bytes();
     for then in [Then::Fails, Then::TakesNone] {
         for room in [0, 1, 15, 16, 17, text.len() - 1, text.len()] {
-            let mut writer = Slow {
+            let slow = Slow {
                 taken: Vec::new(alloc),
                 room,
                 then,
             };
+            let mut writer = WatchedWriter::new(slow);
             let result = write_record(alloc, &record, &mut writer);
             if room < text.len() {
                 assert_eq!(rt; result, Err(WriteFault::CannotWrite), "{room}");
             } else {
                 assert_eq!(rt; result, Ok(()));
             }
-            assert_eq!(rt; writer.taken.as_slice(), &text[..room]);
+            assert_eq!(rt; writer.into_inner().taken.as_slice(), &text[..room]);
         }
     }
     Ok(())
@@ -609,8 +615,9 @@ fn long_record(rt: HostRuntime) -> Result<(), Fail> {
         push_op(&mut record, 0, action, Reply::Word(count))?;
         write!(text, "{count} 0 read r3 5 = {count}\n")?;
     }
-    let mut written = Vec::new(alloc);
-    assert_eq!(rt; write_record(alloc, &record, &mut written), Ok(()));
+    let mut writer = WatchedWriter::new(Vec::new(alloc));
+    assert_eq!(rt; write_record(alloc, &record, &mut writer), Ok(()));
+    let written = writer.into_inner();
     assert!(rt; written.as_slice() == text.as_bytes());
     Ok(())
 }
@@ -642,11 +649,11 @@ impl Read for Drip {
 #[test]
 fn readers(rt: HostRuntime) -> Result<(), Fail> {
     let alloc = rt.alloc();
-    let mut whole = Drip {
+    let whole = Drip {
         left: 5,
         then: None,
     };
-    let text = read_text(alloc, &mut whole);
+    let text = read_text(alloc, &mut WatchedReader::new(whole));
     let Ok(bytes) = text else {
         return Err(Fail::from("all bytes are read"));
     };
@@ -655,11 +662,11 @@ fn readers(rt: HostRuntime) -> Result<(), Fail> {
         (ErrorKind::Other, ReadFault::CannotRead),
         (ErrorKind::OutOfMemory, ReadFault::NoMemory),
     ] {
-        let mut broken = Drip {
+        let broken = Drip {
             left: 3,
             then: Some(kind),
         };
-        match read_text(alloc, &mut broken) {
+        match read_text(alloc, &mut WatchedReader::new(broken)) {
             Ok(_) => return Err(Fail::from("the read fails")),
             Err(got) => assert_eq!(rt; got, fault),
         }

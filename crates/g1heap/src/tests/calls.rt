@@ -6,6 +6,7 @@ use crate::program::refuse;
 use command_line::{Order, Task, misspelt, read_words};
 use jobs::{judge_record, run_script, view_script};
 use object_graph::Verdict;
+use script_text::{WatchedReader, WatchedWriter};
 use std::alloc::Global;
 use std::test::Fail;
 
@@ -15,52 +16,53 @@ const RECORD: &[u8] = b"heap 4 16 8 1 0\n1 0 new r0 1 1 = #0\n";
 
 #[test]
 fn runs_a_script(rt: HostRuntime) {
-    let mut out = Vec::new(rt.alloc());
-    let mut reader = SCRIPT;
+    let mut out = WatchedWriter::new(Vec::new(rt.alloc()));
+    let mut reader = WatchedReader::new(SCRIPT);
     assert_eq!(rt; run_script(rt.alloc(), &mut reader, &mut out), Ok(()));
-    assert_eq!(rt; out.as_slice(), RECORD);
+    assert_eq!(rt; out.into_inner().as_slice(), RECORD);
 }
 
 #[test]
 fn simulates_a_script(rt: HostRuntime) {
-    let mut out = Vec::new(rt.alloc());
-    let mut reader = SCRIPT;
+    let mut out = WatchedWriter::new(Vec::new(rt.alloc()));
+    let mut reader = WatchedReader::new(SCRIPT);
     assert_eq!(rt;
         simulate_script(rt.alloc(), 4, 0, 0, &mut reader, &mut out),
         Ok(())
     );
-    assert_eq!(rt; out.as_slice(), RECORD);
+    assert_eq!(rt; out.into_inner().as_slice(), RECORD);
 }
 
 #[test]
 fn threads_a_script(rt: HostRuntime) {
-    let mut out = Vec::new(rt.alloc());
-    let mut reader = SCRIPT;
+    let mut out = WatchedWriter::new(Vec::new(rt.alloc()));
+    let mut reader = WatchedReader::new(SCRIPT);
     assert_eq!(rt;
         thread_script(&rt, rt.alloc(), 2, 0, 0, &mut reader, &mut out),
         Ok(())
     );
-    assert_eq!(rt; out.as_slice(), RECORD);
+    assert_eq!(rt; out.into_inner().as_slice(), RECORD);
 }
 
 #[test]
 fn judges_a_record(rt: HostRuntime) {
-    let mut out = Vec::new(rt.alloc());
-    let mut reader = RECORD;
+    let mut out = WatchedWriter::new(Vec::new(rt.alloc()));
+    let mut reader = WatchedReader::new(RECORD);
     assert_eq!(rt;
         judge_record(rt.alloc(), &mut reader, &mut out),
         Ok(Verdict::Yes(1))
     );
-    assert_eq!(rt; out.as_slice(), b"yes 1\n".as_slice());
+    assert_eq!(rt; out.into_inner().as_slice(), b"yes 1\n".as_slice());
 }
 
 #[test]
 fn views_a_script(rt: HostRuntime) {
-    let mut out = Vec::new(rt.alloc());
-    let mut reader = SCRIPT;
+    let mut out = WatchedWriter::new(Vec::new(rt.alloc()));
+    let mut reader = WatchedReader::new(SCRIPT);
     assert_eq!(rt; view_script(rt.alloc(), &mut reader, &mut out), Ok(()));
     assert!(rt;
-        out.as_slice()
+        out.into_inner()
+            .as_slice()
             .starts_with(b"heap 4 16 8 1 0\nnext name 1\n")
     );
 }
@@ -68,11 +70,11 @@ fn views_a_script(rt: HostRuntime) {
 /// Words that aren't text are a mistake.
 #[test]
 fn refuses_words(rt: HostRuntime) {
-    let mut out = Vec::new(rt.alloc());
-    let mut err = Vec::new(rt.alloc());
+    let mut out = WatchedWriter::new(Vec::new(rt.alloc()));
+    let mut err = WatchedWriter::new(Vec::new(rt.alloc()));
     assert_eq!(rt; refuse(&misspelt(rt.alloc()), &mut out, &mut err), 2);
-    assert!(rt; out.is_empty());
-    assert!(rt; !err.is_empty());
+    assert!(rt; out.into_inner().is_empty());
+    assert!(rt; !err.into_inner().is_empty());
 }
 
 /// What the words ask for.

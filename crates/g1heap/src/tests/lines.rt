@@ -2,7 +2,7 @@
 
 use heap_words::config::NewFault;
 use jobs::{JobFault, JudgeFault, conclude, tell};
-use script_text::{Kind, LineFault, ReadFault, WriteFault};
+use script_text::{Kind, LineFault, ReadFault, WatchedWriter, WriteFault};
 use std::alloc::Global;
 use std::process::Abort;
 use step_core::RunFault;
@@ -80,12 +80,12 @@ static FAULTS: [(JobFault, &[u8]); 16] = [
 
 /// A fault is told by its line, and a job that ended with it has status 1.
 fn assert_line(rt: &impl Abort, alloc: Global, fault: JobFault, line: &[u8]) {
-    let mut told = Vec::new(alloc);
+    let mut told = WatchedWriter::new(Vec::new(alloc));
     assert_eq!(rt; tell(fault, &mut told), Ok(()));
-    assert_eq!(rt; told.as_slice(), line);
-    let mut err = Vec::new(alloc);
+    assert_eq!(rt; told.into_inner().as_slice(), line);
+    let mut err = WatchedWriter::new(Vec::new(alloc));
     assert_eq!(rt; conclude(Err(fault), &mut err), 1);
-    assert_eq!(rt; err.as_slice(), line);
+    assert_eq!(rt; err.into_inner().as_slice(), line);
 }
 
 #[test]

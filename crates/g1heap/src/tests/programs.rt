@@ -5,6 +5,7 @@ ghost use Rattle.std.specs.Prelude.{◌≡◌};
 use super::{Outcome, assert_outcome, words};
 use crate::program::{open_and_perform, program};
 use command_line::read_words;
+use script_text::{WatchedReader, WatchedWriter};
 use std::alloc::{Allocator, Global};
 use std::env::{Env, FillError};
 use std::fs::{Files, Metadata, OpenFile, OpenOptions};
@@ -163,16 +164,20 @@ fn system_of<'a, H>(threads: &'a H, words: &'a [&'a [u8]]) -> System<'a, H> {
 
 /// What the program answers and writes, with nothing on standard input.
 fn outcome_of<H: Threads + Wait + Sync>(threads: &H, alloc: Global, words: &[&[u8]]) -> Outcome {
-    let mut input = b"".as_slice();
-    let mut out = Vec::new(alloc);
-    let mut err = Vec::new(alloc);
+    let mut input = WatchedReader::new(b"".as_slice());
+    let mut out = WatchedWriter::new(Vec::new(alloc));
+    let mut err = WatchedWriter::new(Vec::new(alloc));
     let status = program(
         &(system_of(threads, words), alloc),
         &mut input,
         &mut out,
         &mut err,
     );
-    Outcome { status, out, err }
+    Outcome {
+        status,
+        out: out.into_inner(),
+        err: err.into_inner(),
+    }
 }
 
 #[test]
@@ -197,10 +202,14 @@ fn opens_a_file(rt: HostRuntime) -> Result<(), Fail> {
     let Ok(job) = read_words(alloc, words.as_slice()) else {
         return Err(Fail::from("the words are understood"));
     };
-    let mut out = Vec::new(alloc);
-    let mut err = Vec::new(alloc);
+    let mut out = WatchedWriter::new(Vec::new(alloc));
+    let mut err = WatchedWriter::new(Vec::new(alloc));
     let status = open_and_perform(&system_of(&rt, &[]), alloc, &job, &mut out, &mut err);
-    let outcome = Outcome { status, out, err };
+    let outcome = Outcome {
+        status,
+        out: out.into_inner(),
+        err: err.into_inner(),
+    };
     assert_outcome(&rt, &outcome, 0, RECORD, b"");
     Ok(())
 }

@@ -3,6 +3,7 @@
 use super::{Outcome, assert_outcome, words};
 use crate::perform::perform;
 use command_line::read_words;
+use script_text::{WatchedReader, WatchedWriter};
 use std::alloc::Global;
 use std::io;
 use std::io::{ErrorKind, Read, Write};
@@ -117,9 +118,9 @@ fn perform_by<H: Threads + Wait + Sync, R: Read, W: Write, E: Write>(
     rt: &H,
     alloc: Global,
     verb: &str,
-    reader: &mut R,
-    out: &mut W,
-    err: &mut E,
+    reader: &mut WatchedReader<R>,
+    out: &mut WatchedWriter<W>,
+    err: &mut WatchedWriter<E>,
 ) -> Result<u8, Fail> {
     let words = words(alloc, &["g1heap", verb, "given"])?;
     match read_words(alloc, words.as_slice()) {
@@ -155,24 +156,29 @@ static TRIALS: [Trial; 2] = [
 ];
 
 /// What comes of a trial by a reader.
-fn outcome_of_read<H: Threads + Wait + Sync, R: Read>(
+fn outcome_of_read<H: Threads + Wait + Sync, R: Read + Drop>(
     rt: &H,
     alloc: Global,
     verb: &str,
-    reader: &mut R,
+    reader: R,
 ) -> Result<Outcome, Fail> {
-    let mut out = Vec::new(alloc);
-    let mut err = Vec::new(alloc);
-    let status = perform_by(rt, alloc, verb, reader, &mut out, &mut err)?;
-    Ok(Outcome { status, out, err })
+    let mut reader = WatchedReader::new(reader);
+    let mut out = WatchedWriter::new(Vec::new(alloc));
+    let mut err = WatchedWriter::new(Vec::new(alloc));
+    let status = perform_by(rt, alloc, verb, &mut reader, &mut out, &mut err)?;
+    Ok(Outcome {
+        status,
+        out: out.into_inner(),
+        err: err.into_inner(),
+    })
 }
 
 #[test]
 fn broken_reader(rt: HostRuntime) -> Result<(), Fail> {
-    let mut reader = BrokenReader {
+    let reader = BrokenReader {
         bytes: b"heap 4 16 8 1 0\n",
     };
-    let outcome = outcome_of_read(&rt, rt.alloc(), "run", &mut reader)?;
+    let outcome = outcome_of_read(&rt, rt.alloc(), "run", reader)?;
     assert_outcome(&rt, &outcome, 1, b"", b"g1heap: cannot read\n");
     Ok(())
 }
@@ -185,13 +191,13 @@ fn try_read<H: Threads + Wait + Sync + Abort>(
     trouble: usize,
     kind: ErrorKind,
 ) -> Result<(), Fail> {
-    let mut reader = TroubledReader {
+    let reader = TroubledReader {
         rest: trial.text,
         reads: 0,
         trouble,
         kind,
     };
-    let outcome = outcome_of_read(rt, alloc, trial.verb, &mut reader)?;
+    let outcome = outcome_of_read(rt, alloc, trial.verb, reader)?;
     if kind == ErrorKind::Other && trouble <= trial.text.len() / 7 + 2 {
         assert_outcome(rt, &outcome, 1, b"", b"g1heap: cannot read\n");
     } else {
@@ -220,14 +226,14 @@ fn outcome_of_write<H: Threads + Wait + Sync>(
     trouble: usize,
     kind: ErrorKind,
 ) -> Result<Outcome, Fail> {
-    let mut reader = trial.text;
-    let mut out = troubled_writer(alloc, trouble, kind);
-    let mut err = Vec::new(alloc);
+    let mut reader = WatchedReader::new(trial.text);
+    let mut out = WatchedWriter::new(troubled_writer(alloc, trouble, kind));
+    let mut err = WatchedWriter::new(Vec::new(alloc));
     let status = perform_by(rt, alloc, trial.verb, &mut reader, &mut out, &mut err)?;
     Ok(Outcome {
         status,
-        out: out.taken,
-        err,
+        out: out.into_inner().taken,
+        err: err.into_inner(),
     })
 }
 
@@ -267,17 +273,17 @@ fn outcome_of_room<H: Threads + Wait + Sync>(
     alloc: Global,
     room: usize,
 ) -> Result<Outcome, Fail> {
-    let mut reader = b"heap 4 16 8 1 0\n0 new r0 1 1\n".as_slice();
-    let mut out = BrokenWriter {
+    let mut reader = WatchedReader::new(b"heap 4 16 8 1 0\n0 new r0 1 1\n".as_slice());
+    let mut out = WatchedWriter::new(BrokenWriter {
         taken: Vec::new(alloc),
         room,
-    };
-    let mut err = Vec::new(alloc);
+    });
+    let mut err = WatchedWriter::new(Vec::new(alloc));
     let status = perform_by(rt, alloc, "run", &mut reader, &mut out, &mut err)?;
     Ok(Outcome {
         status,
-        out: out.taken,
-        err,
+        out: out.into_inner().taken,
+        err: err.into_inner(),
     })
 }
 
@@ -300,14 +306,14 @@ fn outcome_of_line<H: Threads + Wait + Sync>(
     verb: &str,
     trouble: usize,
 ) -> Result<Outcome, Fail> {
-    let mut reader = b"".as_slice();
-    let mut out = Vec::new(alloc);
-    let mut err = troubled_writer(alloc, trouble, ErrorKind::Other);
+    let mut reader = WatchedReader::new(b"".as_slice());
+    let mut out = WatchedWriter::new(Vec::new(alloc));
+    let mut err = WatchedWriter::new(troubled_writer(alloc, trouble, ErrorKind::Other));
     let status = perform_by(rt, alloc, verb, &mut reader, &mut out, &mut err)?;
     Ok(Outcome {
         status,
-        out,
-        err: err.taken,
+        out: out.into_inner(),
+        err: err.into_inner().taken,
     })
 }
 

@@ -7,5 +7,5 @@ abbrev pub invariant-loop-index : goal.invariant-loop-index
 invariant-loop-index g l = record {
   room : length l.buffer ≡ 8192;
   within : l.at ≤ 8192;
-  so_far : IsWriting (text_so_far l.history l.index) (g.W.Write.contents l.fn.writer) (g.W.Write.contents l.writer) (take l.at l.buffer);
+  so_far : IsWriting (text_so_far l.history l.index) l.fn.writer l.writer (take l.at l.buffer);
 }
