@@ -11,8 +11,16 @@
 //! Whether a count is in range, the run itself says.
 #![tactic(auto)]
 
-ghost use Rattle.std.specs.Prelude.{◌≡◌};
+ghost use Rattle.std.specs.Prelude.{◌≡◌, ◌∷◌, [], ℕ, List, Some, IfOk, true, false, codes, map, option_and_then, option_map, string_bytes};
+ghost use Rattle.clap.specs.Words.{App, FailsBy, HasKind, first_of, found_of, kind_of, rows_of, rule_of};
+ghost use Rattle.clap.specs.Words.{subcommand_rows_of, with_rule, with_subcommand};
+ghost use Rattle.clap.specs.declared.error.kind.ErrorKind.TheVariants.{InvalidValue};
+ghost use Rattle.command_line.specs.Asked.{Asks, asked_in, asked_of, drawn_in, faults_of, is_path, number_in, task_in, threads_in};
+ghost use Rattle.command_line.specs.declared.Order.TheVariants.{Concurrent, Drawn, File};
+ghost use Rattle.command_line.specs.declared.Task.TheVariants.{Check, Script, View};
+ghost use Rattle.command_line.specs.Program.{IsReadAs, background, bare, by_actors, count, file, g1heap, number, plain, schedule, workers};
 
+use clap::builder::ValueParser;
 use clap::error::ErrorKind;
 use clap::{Arg, ArgAction, ArgMatches, Command, Error, value_parser};
 use std::alloc::{AllocError, Global};
@@ -80,86 +88,181 @@ Status: 0, done; 1, a fault, told on standard error; 2, a command line that isn'
 
 docs/TEXTS.md has the formats, the steps and their replies; docs/FAULTS.md what a fault most often means.";
 
-fn with_file<'a>(
-    alloc: Global,
-    name: &'a str,
-    about: &'a str,
-    file: &'a str,
-) -> Result<Command<'a>, AllocError> {
-    let file = Arg::new(alloc, "FILE")
+/// What help says of a script's path.
+const SCRIPT: &str = "A script, or - for standard input";
+
+/// The path of a script or record.
+fn path<'a>(alloc: Global, help: &'a str) -> Arg<'a>
+    ensures rule { rule_of result ≡ file }
+    ensures own { result.global ≡ false }
+{
+    Arg::new(alloc, "FILE")
         .required(true)
-        .help(file)
-        .action(ArgAction::Set);
-    Ok(Command::new(alloc, name).about(about).arg(file)?)
-}
-
-/// A subcommand whose file is a script.
-fn with_script<'a>(
-    alloc: Global,
-    name: &'a str,
-    about: &'a str,
-) -> Result<Command<'a>, AllocError> {
-    with_file(alloc, name, about, "A script, or - for standard input")
-}
-
-/// An option that takes a number up to 4294967295.
-fn count<'a>(alloc: Global, name: &'a str, help: &'a str) -> Arg<'a> {
-    Arg::new(alloc, name)
-        .long(name)
-        .value_name("N")
-        .value_parser(value_parser!(u32))
         .help(help)
         .action(ArgAction::Set)
 }
 
-/// Adds the counts of background actors, none unless they are given.
-fn with_background<'a>(alloc: Global, command: Command<'a>) -> Result<Command<'a>, AllocError> {
-    let command = command.arg(count(alloc, "refiners", "Background refiners, 0 to 8").default_value(
-        "0",
-    ))?;
-    Ok(command.arg(count(alloc, "markers", "Background markers, 0 to 8").default_value("0"))?)
-}
-
-/// The option that takes the seed.
-fn schedule<'a>(alloc: Global) -> Arg<'a> {
-    Arg::new(alloc, "schedule")
-        .long("schedule")
+/// An option that takes a number.
+fn number<'a>(alloc: Global, name: &'a str, help: &'a str, parser: ValueParser<'a>) -> Arg<'a>
+    ensures rule { rule_of result ≡ number name.entry.now parser.entry }
+    ensures own { result.global ≡ false }
+{
+    Arg::new(alloc, name)
+        .long(name)
         .value_name("N")
-        .value_parser(value_parser!(u64))
-        .help("The seed, 0 to 18446744073709551615")
-        .required(true)
+        .value_parser(parser)
+        .help(help)
         .action(ArgAction::Set)
 }
 
-fn sim_command<'a>(alloc: Global) -> Result<Command<'a>, AllocError> {
-    let sim = with_script(
-        alloc,
-        "sim",
-        "Does each actor's steps of a script, the actors in turns that a seed draws, and prints the record",
-    )?;
-    with_background(alloc, sim.arg(schedule(alloc))?)
+/// An option that takes a number up to 4294967295.
+fn count<'a>(alloc: Global, name: &'a str, help: &'a str) -> Arg<'a>
+    ensures rule { rule_of result ≡ count name.entry.now }
+    ensures own { result.global ≡ false }
+{
+    number(alloc, name, help, value_parser!(u32))
 }
 
-fn threads_command<'a>(alloc: Global) -> Result<Command<'a>, AllocError> {
-    let threads = with_script(
-        alloc,
-        "threads",
-        "Does each actor's steps of a script, the actors in turns of threads, and prints the record",
-    )?;
-    let workers = count(alloc, "workers", "Worker threads, 1 to 32").required(true);
-    with_background(alloc, threads.arg(workers)?)
+/// A count of background actors, none unless it is given.
+fn background<'a>(alloc: Global, name: &'a str, help: &'a str) -> Arg<'a>
+    ensures rule { rule_of result ≡ background name.entry.now }
+    ensures own { result.global ≡ false }
+{
+    count(alloc, name, help).default_value("0")
 }
 
-fn run_command<'a>(alloc: Global) -> Result<Command<'a>, AllocError> {
-    with_script(
-        alloc,
-        "run",
-        "Does the steps of a script, and prints the record",
+/// The option that takes the seed.
+fn schedule<'a>(alloc: Global) -> Arg<'a>
+    ensures rule { rule_of result ≡ schedule }
+    ensures own { result.global ≡ false }
+{
+    let help = "The seed, 0 to 18446744073709551615";
+    number(alloc, "schedule", help, value_parser!(u64)).required(true)
+}
+
+/// The option that takes the number of worker threads.
+fn workers<'a>(alloc: Global) -> Arg<'a>
+    ensures rule { rule_of result ≡ workers }
+    ensures own { result.global ≡ false }
+{
+    count(alloc, "workers", "Worker threads, 1 to 32").required(true)
+}
+
+// What holds a command is let go by `drop`, one call: where it is let go unsaid, each of its fields is written out.
+
+/// Adds an argument, unless memory was refused before.
+fn with_arg<'a>(
+    command: Result<Command<'a>, AllocError>,
+    arg: Arg<'a>,
+) -> Result<Command<'a>, AllocError>
+    requires { arg.global ≡ false }
+    ensures { (app : App) → IfOk command.entry (IsReadAs app) → IfOk result (IsReadAs (with_rule app (rule_of arg.entry))) }
+{
+    match command {
+        Ok(command) => command.arg(arg),
+        Err(error) => {
+            drop(arg);
+            Err(error)
+        }
+    }
+}
+
+/// Adds a subcommand, unless memory was refused for it or before.
+fn with_subcommand<'a>(
+    command: Result<Command<'a>, AllocError>,
+    subcommand: Result<Command<'a>, AllocError>,
+) -> Result<Command<'a>, AllocError>
+    ensures { (app sub : App) → sub.top.is_plain ≡ true → IfOk command.entry (IsReadAs app) → IfOk subcommand.entry (IsReadAs sub)
+        → IfOk result (IsReadAs (with_subcommand app sub.top)) }
+{
+    match command {
+        Ok(command) => match subcommand {
+            Ok(subcommand) => command.subcommand(subcommand),
+            Err(error) => {
+                drop(command);
+                Err(error)
+            }
+        },
+        Err(error) => {
+            drop(subcommand);
+            Err(error)
+        }
+    }
+}
+
+/// A subcommand that takes a path alone.
+fn plain<'a>(
+    alloc: Global,
+    name: &'a str,
+    about: &'a str,
+    help: &'a str,
+) -> Result<Command<'a>, AllocError>
+    ensures { IfOk result (IsReadAs (plain name.entry.now)) }
+{
+    Command::new(alloc, name)
+        .about(about)
+        .arg(path(alloc, help))
+}
+
+/// A subcommand that runs a script by actors, in an order that takes one number.
+fn by_actors<'a>(
+    alloc: Global,
+    name: &'a str,
+    about: &'a str,
+    order: Arg<'a>,
+) -> Result<Command<'a>, AllocError>
+    requires { order.global ≡ false }
+    ensures { IfOk result (IsReadAs (by_actors name.entry.now (rule_of order.entry))) }
+{
+    let command = plain(alloc, name, about, SCRIPT);
+    let command = with_arg(command, order);
+    let command = with_arg(
+        command,
+        background(alloc, "refiners", "Background refiners, 0 to 8"),
+    );
+    with_arg(
+        command,
+        background(alloc, "markers", "Background markers, 0 to 8"),
     )
 }
 
-fn check_command<'a>(alloc: Global) -> Result<Command<'a>, AllocError> {
-    with_file(
+fn run_command<'a>(alloc: Global) -> Result<Command<'a>, AllocError>
+    ensures { IfOk result (IsReadAs (plain (codes "run"))) }
+{
+    plain(
+        alloc,
+        "run",
+        "Does the steps of a script, and prints the record",
+        SCRIPT,
+    )
+}
+
+fn sim_command<'a>(alloc: Global) -> Result<Command<'a>, AllocError>
+    ensures { IfOk result (IsReadAs (by_actors (codes "sim") schedule)) }
+{
+    by_actors(
+        alloc,
+        "sim",
+        "Does each actor's steps of a script, the actors in turns that a seed draws, and prints the record",
+        schedule(alloc),
+    )
+}
+
+fn threads_command<'a>(alloc: Global) -> Result<Command<'a>, AllocError>
+    ensures { IfOk result (IsReadAs (by_actors (codes "threads") workers)) }
+{
+    by_actors(
+        alloc,
+        "threads",
+        "Does each actor's steps of a script, the actors in turns of threads, and prints the record",
+        workers(alloc),
+    )
+}
+
+fn check_command<'a>(alloc: Global) -> Result<Command<'a>, AllocError>
+    ensures { IfOk result (IsReadAs (plain (codes "check"))) }
+{
+    plain(
         alloc,
         "check",
         "Judges a record by the graph alone",
@@ -167,94 +270,163 @@ fn check_command<'a>(alloc: Global) -> Result<Command<'a>, AllocError> {
     )
 }
 
-fn view_command<'a>(alloc: Global) -> Result<Command<'a>, AllocError> {
-    with_script(
+fn view_command<'a>(alloc: Global) -> Result<Command<'a>, AllocError>
+    ensures { IfOk result (IsReadAs (plain (codes "view"))) }
+{
+    plain(
         alloc,
         "view",
         "Does the steps of a script, and prints the heap as it stands then",
+        SCRIPT,
     )
 }
 
-/// Adds a subcommand, unless memory was refused for it.
-fn with_subcommand<'a>(
-    command: Command<'a>,
-    subcommand: Result<Command<'a>, AllocError>,
-) -> Result<Command<'a>, AllocError> {
-    Ok(command.subcommand(subcommand?)?)
-}
-
-fn command<'a>(alloc: Global) -> Result<Command<'a>, AllocError> {
-    let bare = Command::new(alloc, "g1heap")
+/// The program, without its subcommands.
+fn bare<'a>(alloc: Global) -> Command<'a>
+    ensures { IsReadAs bare result }
+{
+    Command::new(alloc, "g1heap")
         .about("A Garbage-First heap by steps")
         .version("0.1.0")
         .after_help(FORMATS)
-        .subcommand_required(true);
-    let command = with_subcommand(bare, run_command(alloc))?;
-    let command = with_subcommand(command, sim_command(alloc))?;
-    let command = with_subcommand(command, threads_command(alloc))?;
-    let command = with_subcommand(command, check_command(alloc))?;
+        .subcommand_required(true)
+}
+
+fn command<'a>(alloc: Global) -> Result<Command<'a>, AllocError>
+    ensures { IfOk result (IsReadAs g1heap) }
+{
+    let command = with_subcommand(Ok(bare(alloc)), run_command(alloc));
+    let command = with_subcommand(command, sim_command(alloc));
+    let command = with_subcommand(command, threads_command(alloc));
+    let command = with_subcommand(command, check_command(alloc));
     with_subcommand(command, view_command(alloc))
 }
 
-fn drawn_order(found: &ArgMatches) -> Option<Order> {
+/// The count that was given for an option, or its default.
+fn count_in(found: &ArgMatches, name: &str) -> Option<u32>
+    ensures { result ≡ number_in 32 name.now (rows_of (found_of found.now)) }
+{
+    found.get_one::<u32>(name)
+}
+
+/// The seed that was given.
+fn seed_in(found: &ArgMatches) -> Option<u64>
+    ensures { result ≡ number_in 64 (codes "schedule") (rows_of (found_of found.now)) }
+{
+    found.get_one::<u64>("schedule")
+}
+
+fn drawn_order(found: &ArgMatches) -> Option<Order>
+    ensures { result ≡ drawn_in (rows_of (found_of found.now)) }
+{
     Some(Order::Drawn {
-        seed: found.get_one::<u64>("schedule")?,
-        refiners: found.get_one::<u32>("refiners")?,
-        markers: found.get_one::<u32>("markers")?,
+        seed: seed_in(found)?,
+        refiners: count_in(found, "refiners")?,
+        markers: count_in(found, "markers")?,
     })
 }
 
-fn threads_order(found: &ArgMatches) -> Option<Order> {
+fn threads_order(found: &ArgMatches) -> Option<Order>
+    ensures { result ≡ threads_in (rows_of (found_of found.now)) }
+{
     Some(Order::Concurrent {
-        workers: found.get_one::<u32>("workers")?,
-        refiners: found.get_one::<u32>("refiners")?,
-        markers: found.get_one::<u32>("markers")?,
+        workers: count_in(found, "workers")?,
+        refiners: count_in(found, "refiners")?,
+        markers: count_in(found, "markers")?,
     })
+}
+
+/// What a subcommand does with the file. `None`: the subcommand is unknown, or a value isn't there.
+fn task_of(name: &str, found: &ArgMatches) -> Option<Task>
+    ensures { result ≡ task_in name.now (rows_of (found_of found.now)) }
+{
+    match name {
+        "run" => Some(Task::Script(Order::File)),
+        "sim" => Some(Task::Script(drawn_order(found)?)),
+        "threads" => Some(Task::Script(threads_order(found)?)),
+        "check" => Some(Task::Check),
+        "view" => Some(Task::View),
+        _ => None,
+    }
+}
+
+/// The path that was given.
+fn path_in<'a>(found: &ArgMatches<'a>) -> Option<&'a str>
+    ensures { option_map (λ text. text.now) result ≡ first_of (codes "FILE") (rows_of (found_of found.now)) }
+{
+    found.get_str("FILE")
 }
 
 /// What a subcommand's words ask for. `None`: the subcommand is unknown, or a value isn't there.
-fn job_of<'a>(name: &str, found: &ArgMatches<'a>) -> Option<Job<'a>> {
-    let task = match name {
-        "run" => Task::Script(Order::File),
-        "sim" => Task::Script(drawn_order(found)?),
-        "threads" => Task::Script(threads_order(found)?),
-        "check" => Task::Check,
-        "view" => Task::View,
-        _ => return None,
-    };
-    Some(Job {
-        file: found.get_str("FILE")?,
-        task,
-    })
+fn job_of<'a>(name: &str, found: &ArgMatches<'a>) -> Option<Job<'a>>
+    ensures { option_map (λ job. (job.file.now, job.task)) result ≡ asked_in name.now (rows_of (found_of found.now)) }
+{
+    let task = task_of(name, found)?;
+    let file = path_in(found)?;
+    Some(Job { file, task })
+}
+
+/// What a parse's matches ask for. `None`: there is no subcommand, or it asks for nothing.
+fn job_found<'a>(matches: &ArgMatches<'a>) -> Option<Job<'a>>
+    ensures { option_map (λ job. (job.file.now, job.task)) result
+        ≡ option_and_then (λ found. asked_in found.0 found.1) (subcommand_rows_of matches.now) }
+{
+    let (name, found) = matches.subcommand()?;
+    job_of(name, found)
 }
 
 /// What a command line's words ask for, by the commands that there are.
-fn job_among<'a>(command: &mut Command<'a>, words: &'a [String]) -> Result<Job<'a>, Error> {
+fn job_among<'a>(command: &mut Command<'a>, words: &'a [String]) -> Result<Job<'a>, Error>
+    requires { IsReadAs g1heap command.old }
+    ensures job { IfOk result (λ job. asked_of (map string_bytes words.entry.now) ≡ Some (job.file.now, job.task)) }
+    ensures faults { FailsBy (faults_of (map string_bytes words.entry.now)) result }
+{
     let matches = command.try_get_matches_from_mut(words)?;
-    let Some((name, found)) = matches.subcommand() else {
-        return Err(command.error(ErrorKind::MissingSubcommand, "a subcommand is required")?);
-    };
-    let Some(job) = job_of(name, found) else {
-        return Err(command.error(ErrorKind::MissingRequiredArgument, "an argument is missing")?);
-    };
-    Ok(job)
+    let job = job_found(&matches);
+    drop(matches);
+    match job {
+        Some(job) => Ok(job),
+        None => Err(command.error(ErrorKind::MissingRequiredArgument, "an argument is missing")?),
+    }
 }
 
 /// What the words of a command line ask for, or the text for the user.
-pub fn read_words<'a>(alloc: Global, words: &'a [String]) -> Result<Job<'a>, Error> {
+pub fn read_words<'a>(alloc: Global, words: &'a [String]) -> Result<Job<'a>, Error>
+    ensures job { IfOk result (λ job. asked_of (map string_bytes words.entry.now) ≡ Some (job.file.now, job.task)) }
+    ensures faults { FailsBy (faults_of (map string_bytes words.entry.now)) result }
+{
     let mut command = command(alloc)?;
-    job_among(&mut command, words)
+    let job = job_among(&mut command, words);
+    drop(command);
+    job
 }
 
+/// What the plainest words ask for, and that only want of memory refuses them. So each line of the picture above is proved.
+pub fn words_law()
+    ensures run { (program path : List ℕ) → is_path path ≡ true → Asks (program ∷ codes "run" ∷ path ∷ []) (path, Script File) }
+    ensures sim { (program path : List ℕ) → is_path path ≡ true
+        → Asks (program ∷ codes "sim" ∷ path ∷ codes "--schedule" ∷ codes "7" ∷ []) (path, Script (Drawn 7 0 0)) }
+    ensures threads { (program path : List ℕ) → is_path path ≡ true
+        → Asks (program ∷ codes "threads" ∷ path ∷ codes "--workers" ∷ codes "2" ∷ []) (path, Script (Concurrent 2 0 0)) }
+    ensures check { (program path : List ℕ) → is_path path ≡ true → Asks (program ∷ codes "check" ∷ path ∷ []) (path, Check) }
+    ensures view { (program path : List ℕ) → is_path path ≡ true → Asks (program ∷ codes "view" ∷ path ∷ []) (path, View) }
+{}
+
 /// The text for the user where a word isn't UTF-8.
-pub fn misspelt(alloc: Global) -> Error {
+pub fn misspelt(alloc: Global) -> Error
+    ensures { HasKind (InvalidValue ∷ []) result }
+{
     match misspelt_words(alloc) {
         Ok(error) => error,
         Err(error) => Error::from(error),
     }
 }
 
-fn misspelt_words(alloc: Global) -> Result<Error, AllocError> {
+fn misspelt_words(alloc: Global) -> Result<Error, AllocError>
+    ensures { IfOk result (λ e. kind_of e ≡ InvalidValue) }
+{
     let mut command = command(alloc)?;
-    command.error(ErrorKind::InvalidValue, "a word isn't UTF-8")
+    let error = command.error(ErrorKind::InvalidValue, "a word isn't UTF-8");
+    drop(command);
+    error
 }

@@ -1,0 +1,4 @@
+mod Faults
+mod Numbers
+mod Paths
+mod Shapes

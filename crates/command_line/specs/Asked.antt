@@ -1,0 +1,72 @@
+-- What the words of a command line ask for.
+use Rattle.std.specs.Prelude.{◌≡◌, ◌==◌, ◌^◌, ◌&&◌, ℕ, Bool, List, [], ◌∷◌, Option, Some, None, not, true}
+use Rattle.std.specs.Prelude.{codes, if◌then◌else◌, nat_lt, option_and_then, option_map}
+use Rattle.std.specs.Option.{option_map_or}
+use Rattle.std.specs.Str.{bytes_eq}
+use Rattle.std.specs.Str.Parse.{digits_value, without_leading_plus}
+use Rattle.clap.specs.Faults.{fault_of}
+use Rattle.clap.specs.Kinds.{Kinds, or_else}
+use Rattle.clap.specs.ValueTests.{is_numeral}
+use Rattle.clap.specs.Words.{Row, Text, first_of, one_of, subcommand_of}
+use Rattle.clap.specs.declared.error.kind.ErrorKind.TheVariants.{MissingRequiredArgument}
+use Rattle.command_line.specs.Program.{g1heap}
+use Rattle.command_line.specs.declared.Order.{Order}
+use Rattle.command_line.specs.declared.Order.TheVariants.{File, Drawn, Concurrent}
+use Rattle.command_line.specs.declared.Task.{Task}
+use Rattle.command_line.specs.declared.Task.TheVariants.{Script, Check, View}
+
+-- the number of so many bits that a text spells
+abbrev pub number_of : ℕ → Text → Option ℕ
+number_of bits text =
+    let digits = without_leading_plus text in
+    if is_numeral digits && nat_lt (digits_value 10 digits) (2 ^ bits) then Some (digits_value 10 digits) else None
+
+-- the number that was given for an option, or its default
+abbrev pub number_in : ℕ → Text → List Row → Option ℕ
+number_in bits name rows = option_and_then (number_of bits) (one_of name rows)
+
+-- the order that a seed draws, where the seed and the counts are there
+abbrev pub drawn_in : List Row → Option Order
+drawn_in rows =
+    option_and_then (λ seed. option_and_then (λ refiners. option_map (λ markers. Drawn seed refiners markers)
+    (number_in 32 (codes "markers") rows)) (number_in 32 (codes "refiners") rows)) (number_in 64 (codes "schedule") rows)
+
+-- the order of so many threads, where the counts are there
+abbrev pub threads_in : List Row → Option Order
+threads_in rows =
+    option_and_then (λ workers. option_and_then (λ refiners. option_map (λ markers. Concurrent workers refiners markers)
+    (number_in 32 (codes "markers") rows)) (number_in 32 (codes "refiners") rows)) (number_in 32 (codes "workers") rows)
+
+-- what a subcommand does with the file
+abbrev pub task_in : Text → List Row → Option Task
+task_in name rows =
+    if bytes_eq name (codes "run") then Some (Script File)
+    else if bytes_eq name (codes "sim") then option_map Script (drawn_in rows)
+    else if bytes_eq name (codes "threads") then option_map Script (threads_in rows)
+    else if bytes_eq name (codes "check") then Some Check
+    else if bytes_eq name (codes "view") then Some View
+    else None
+
+-- a path, and what is done with the file
+abbrev pub Asked : Type 0
+Asked = Text × Task
+
+abbrev pub asked_in : Text → List Row → Option Asked
+asked_in name rows = option_and_then (λ task. option_map (λ file. (file, task)) (first_of (codes "FILE") rows)) (task_in name rows)
+
+-- what the words ask for, the program's name first
+abbrev pub asked_of : List Text → Option Asked
+asked_of words = option_and_then (λ found. asked_in found.0 found.1) (subcommand_of g1heap words)
+
+-- the kinds of error that the words may give: those of their parse, or that of a value that isn't there
+abbrev pub faults_of : List Text → Kinds
+faults_of words = or_else (fault_of g1heap words) (option_map_or (λ asked. []) (asked_of words) (MissingRequiredArgument ∷ []))
+
+-- the words ask for this, and only want of memory refuses them
+abbrev pub Asks : List Text → Asked → Type 0
+Asks words asked = (asked_of words ≡ Some asked) × (faults_of words ≡ [])
+
+-- a word that is a path: it begins with no hyphen, or has one byte
+abbrev pub is_path : Text → Bool
+is_path (c ∷ d ∷ rest) = not (c == 45)
+is_path _ = true

@@ -1,0 +1,55 @@
+-- The program's command, as a parse reads it.
+use Rattle.std.specs.Prelude.{◌≡◌, [], ◌∷◌, Some, codes, pos, true}
+use Rattle.clap.specs.Words.{App, Rule, Text, app_of, new_app, new_rule, with_rule, with_subcommand}
+use Rattle.clap.specs.declared.builder.action.ArgAction.TheVariants.{Set}
+use Rattle.clap.specs.declared.builder.command.Command.{Command}
+use Rattle.clap.specs.declared.builder.value_parser.ValueParser.{ValueParser}
+use Rattle.clap.specs.declared.builder.value_parser.ValueParser.TheVariants as parser
+
+-- what a parse reads of the command
+abbrev pub IsReadAs : App → Command → Type 0
+IsReadAs app c = app_of c ≡ app
+
+-- the path
+abbrev pub file : Rule
+file = record (new_rule (codes "FILE")) { required = true; action = Some Set }
+
+-- an option that takes a number
+abbrev pub number : Text → ValueParser → Rule
+number name values = record (new_rule name) { long = Some name; action = Some Set; value_names = 1; parser = Some values }
+
+abbrev pub count : Text → Rule
+count name = number name (parser.Signed (pos 0) (pos 4294967295))
+
+-- a count of background actors, 0 where it isn't given
+abbrev pub background : Text → Rule
+background name = record (count name) { defaults = codes "0" ∷ [] }
+
+abbrev pub workers : Rule
+workers = record (count (codes "workers")) { required = true }
+
+abbrev pub schedule : Rule
+schedule = record (number (codes "schedule") (parser.Unsigned 0 18446744073709551615)) { required = true }
+
+-- a subcommand that takes a path alone
+abbrev pub plain : Text → App
+plain name = with_rule (new_app name) file
+
+-- a subcommand that runs a script by actors: a path, what its order needs, and the counts of background actors
+abbrev pub by_actors : Text → Rule → App
+by_actors name order = with_rule (with_rule (with_rule (plain name) order) (background (codes "refiners"))) (background (codes "markers"))
+
+-- the program without its subcommands
+abbrev pub bare : App
+bare =
+    let new = new_app (codes "g1heap") in
+    record new { top = record new.top { has_version = true; subcommand_required = true } }
+
+abbrev pub g1heap : App
+g1heap =
+    with_subcommand (with_subcommand (with_subcommand (with_subcommand (with_subcommand bare
+    (plain (codes "run")).top)
+    (by_actors (codes "sim") schedule).top)
+    (by_actors (codes "threads") workers).top)
+    (plain (codes "check")).top)
+    (plain (codes "view")).top
