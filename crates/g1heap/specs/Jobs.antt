@@ -1,9 +1,12 @@
 -- What the program does with a job.
-use Rattle.std.specs.Prelude.{ℕ}
-use Rattle.script_text.specs.Watched.{Reader, Writer}
+use Rattle.std.specs.Prelude.{◌≡◌, ◌⊎◌, ℕ}
+use Rattle.script_text.specs.Watched.{Reader, Writer, Stays}
 use Rattle.g1heap.specs.Runs.{Performs}
 use Rattle.jobs.specs.Verdicts.{PerformsCheck}
 use Rattle.jobs.specs.Views.{PerformsView}
+use Rattle.jobs.specs.FaultLines.{TellsLine}
+use Rattle.jobs.specs.declared.faults.JobFault.TheVariants.{Run}
+use Rattle.step_core.specs.declared.runs.RunFault.TheVariants.{NoMemory}
 use Rattle.command_line.specs.declared.Task.{Task}
 use Rattle.command_line.specs.declared.Task.TheVariants.{Script, Check, View}
 
@@ -12,3 +15,9 @@ abbrev pub DoesJob : Task → Reader → Reader → Writer → Writer → Writer
 DoesJob (Script order) given left old new err err' status = Performs order given left old new err err' status
 DoesJob Check given left old new err err' status = PerformsCheck given left old new err err' status
 DoesJob View given left old new err err' status = PerformsView given left old new err err' status
+
+-- a task was done, on some input; or memory was refused for what the words ask, and that was told
+abbrev pub DoesTask : Task → Writer → Writer → Writer → Writer → ℕ → Type 0
+DoesTask task old new err err' status =
+    ((given : Reader) × (left : Reader) × DoesJob task given left old new err err' status)
+    ⊎ ((status ≡ 1) × Stays old new × TellsLine (Run NoMemory) err err')

@@ -1,10 +1,11 @@
 //! The whole program: its words, the file that they name, and the status.
 
-ghost use Rattle.std.specs.Prelude.{◌≡◌, ◌≢◌, ◌≤◌, ◌⊎◌};
+ghost use Rattle.std.specs.Prelude.{◌≡◌, ◌≢◌, ◌≤◌, ◌⊎◌, map, string_bytes};
 ghost use Rattle.clap.specs.Values.{kind_of};
 ghost use Rattle.script_text.specs.Watched.{Reader, Writer, FailsToGive, Stays};
 ghost use Rattle.jobs.specs.FaultLines.{TellsLine};
-ghost use Rattle.g1heap.specs.Jobs.{DoesJob};
+ghost use Rattle.command_line.specs.Asked.{Asked, Asks};
+ghost use Rattle.g1heap.specs.Jobs.{DoesJob, DoesTask};
 
 use crate::perform::perform;
 use clap::Error;
@@ -88,6 +89,24 @@ pub fn refuse<W: Write, E: Write>(
     }
 }
 
+/// Does what words ask for, the program's name first, and answers the status.
+pub fn do_words<H: Files + Threads + Wait + Sync, I: Read, W: Write, E: Write>(
+    rt: &H,
+    alloc: Global,
+    words: &[String],
+    input: &mut WatchedReader<I>,
+    out: &mut WatchedWriter<W>,
+    err: &mut WatchedWriter<E>,
+) -> u8
+    ensures asked { (asked : Asked) → Asks (map string_bytes words.now) asked → DoesTask asked.1 out.old out.new err.old err.new result }
+    ensures most { result ≤ 3 }
+{
+    match read_words(alloc, words) {
+        Ok(job) => read_and_perform(rt, alloc, &job, input, out, err),
+        Err(error) => refuse(&error, out, err),
+    }
+}
+
 /// The words of the command line, the program's name first. A fault is want of memory, or a word that isn't text.
 fn words<R: Env + AllocGlobal>(rt: &R) -> io::Result<Vec<String>> {
     let args = env::args(rt)?;
@@ -103,17 +122,13 @@ pub fn program<R: Env + Files + AllocGlobal + Threads + Wait + Sync, I: Read, W:
 ) -> u8
     ensures { result ≤ 3 }
 {
-    let words = match words(rt) {
-        Ok(words) => words,
+    match words(rt) {
+        Ok(words) => do_words(rt, rt.alloc(), words.as_slice(), input, out, err),
         Err(error) => {
             if error.kind() == io::ErrorKind::OutOfMemory {
                 return conclude(Err(JobFault::Run(RunFault::NoMemory)), err);
             }
-            return refuse(&misspelt(rt.alloc()), out, err);
+            refuse(&misspelt(rt.alloc()), out, err)
         }
-    };
-    match read_words(rt.alloc(), words.as_slice()) {
-        Ok(job) => read_and_perform(rt, rt.alloc(), &job, input, out, err),
-        Err(error) => refuse(&error, out, err),
     }
 }
