@@ -16,7 +16,6 @@ use std::alloc::{AllocError, Global};
 use std::marker::Model;
 
 /// The graph when marking began, and the names that were touched since then, last first.
-#[derive(Debug)]
 struct Snapshot {
     graph: Graph,
     touched: Vec<Pointer>,
@@ -72,7 +71,6 @@ impl Snapshot {
 }
 
 /// The graph, and while a snapshot is kept, that.
-#[derive(Debug)]
 pub(crate) struct Machine {
     alloc: Global,
     graph: Graph,

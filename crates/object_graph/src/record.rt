@@ -8,7 +8,7 @@ use std::alloc::{AllocError, Global};
 use std::marker::Model;
 
 /// A heap line and the steps to be done, in order. Each mutator's number is below the heap line's count.
-#[derive(Debug, Drop)]
+#[derive(Debug)]
 pub struct Plan {
     config: Config,
     steps: Vec<Step>,
@@ -22,6 +22,16 @@ impl Model for Plan {
     ghost view = { λ p. record { config = p.config; steps = p.steps.items } };
 
     ghost invariant = { λ p. AreSteps p.config p.steps.items };
+}
+
+/// Where it is let go there is one call, and not a drop for each of its parts.
+impl Drop for Plan {
+    fn drop(self) {
+        let Plan {
+            config: _,
+            steps: _,
+        } = self;
+    }
 }
 
 impl Plan {
@@ -65,7 +75,7 @@ impl Plan {
 
 /// A heap line and the events of its heap, in order. Each mutator's number is below the heap line's
 /// count, and each step is one of its actor's.
-#[derive(Debug, Drop)]
+#[derive(Debug)]
 pub struct Record {
     config: Config,
     events: Vec<Event>,
@@ -79,6 +89,16 @@ impl Model for Record {
     ghost view = { λ r. record { config = r.config; events = r.events.items } };
 
     ghost invariant = { λ r. AreEvents r.config r.events.items };
+}
+
+/// Where it is let go there is one call, and not a drop for each of its parts.
+impl Drop for Record {
+    fn drop(self) {
+        let Record {
+            config: _,
+            events: _,
+        } = self;
+    }
 }
 
 impl Record {

@@ -7,7 +7,6 @@ use crate::pointer::Pointer;
 use std::alloc::{AllocError, Global};
 use std::marker::Model;
 
-#[derive(Debug)]
 pub(crate) struct Search {
     first_name: u64,
     flags: Vec<bool>,

@@ -245,12 +245,21 @@ fn check_values(rt: &impl Abort, objects: &Objects, rows: &[(usize, u32, Option<
     }
 }
 
-#[test]
-fn keeps_objects_apart(rt: HostRuntime) -> Result<(), Fail> {
-    let last = u64::MAX - 1;
+/// Four objects, of which some fields are set, and then a fifth.
+fn fill(objects: &mut Objects) -> Result<(), AllocError> {
+    push_all(objects, &[(2, 1, 0), (0, 0, 0), (0, 2, 0), (1, 0, 0)])?;
+    set_pointer(objects, 0, 1, Pointer::to(u64::MAX - 1));
+    set_value(objects, 0, 0, 7);
+    set_value(objects, 2, 1, u64::MAX);
+    set_pointer(objects, 3, 0, Pointer::to(0));
+    push_all(objects, &[(1, 1, 3)])
+}
+
+/// Compares the fields of these five.
+fn check_filled(rt: &impl Abort, objects: &Objects) {
     let pointers = [
         (0, 0, Some(None)),
-        (0, 1, Some(Some(last))),
+        (0, 1, Some(Some(u64::MAX - 1))),
         (0, 2, None),
         (1, 0, None),
         (3, 0, Some(Some(0))),
@@ -264,49 +273,55 @@ fn keeps_objects_apart(rt: HostRuntime) -> Result<(), Fail> {
         (2, 1, Some(u64::MAX)),
         (4, 0, Some(0)),
     ];
-    let mut objects = Objects::new(rt.alloc());
-    push_all(&mut objects, &[(2, 1, 0), (0, 0, 0), (0, 2, 0), (1, 0, 0)])?;
-    assert_eq!(rt; objects.len(), 4);
-    set_pointer(&mut objects, 0, 1, Pointer::to(last));
-    set_value(&mut objects, 0, 0, 7);
-    set_value(&mut objects, 2, 1, u64::MAX);
-    set_pointer(&mut objects, 3, 0, Pointer::to(0));
-    objects.push(counts(1, 1), 3)?;
-    check_pointers(&rt, &objects, &pointers);
-    check_values(&rt, &objects, &values);
-    set_pointer(&mut objects, 3, 0, Pointer::nil());
-    check_pointers(
-        &rt,
-        &objects,
-        &[(3, 0, Some(None)), (0, 1, Some(Some(last)))],
-    );
-    Ok(())
+    assert_eq!(rt; objects.len(), 5);
+    check_pointers(rt, objects, &pointers);
+    check_values(rt, objects, &values);
 }
 
 #[test]
-fn keeps_weak_slots_apart(rt: HostRuntime) -> Result<(), Fail> {
-    let before = [(0, 0, None), (1, 254, Some(None)), (1, 255, None)];
-    let after = [
+fn keeps_objects_apart(rt: HostRuntime) -> Result<(), Fail> {
+    let mut objects = Objects::new(rt.alloc());
+    fill(&mut objects)?;
+    check_filled(&rt, &objects);
+    set_pointer(&mut objects, 3, 0, Pointer::nil());
+    let pointers = [(3, 0, Some(None)), (0, 1, Some(Some(u64::MAX - 1)))];
+    check_pointers(&rt, &objects, &pointers);
+    Ok(())
+}
+
+/// Sets some fields of the second object and the third.
+fn set_slots(objects: &mut Objects) {
+    set_weak(objects, 1, 254, Pointer::to(9));
+    set_weak(objects, 2, 0, Pointer::to(0));
+    set_value(objects, 1, 0, 7);
+    set_pointer(objects, 2, 0, Pointer::to(3));
+}
+
+/// Compares the fields that were set, and some beside them.
+fn check_slots(rt: &impl Abort, objects: &Objects) {
+    let weaks = [
         (1, 253, Some(None)),
         (1, 254, Some(Some(9))),
         (2, 0, Some(Some(0))),
         (2, 1, Some(None)),
     ];
+    check_weaks(rt, objects, &weaks);
+    check_values(rt, objects, &[(1, 0, Some(7)), (2, 0, Some(0))]);
+    check_pointers(rt, objects, &[(2, 0, Some(Some(3)))]);
+}
+
+#[test]
+fn keeps_weak_slots_apart(rt: HostRuntime) -> Result<(), Fail> {
     let mut objects = Objects::new(rt.alloc());
     objects.push(counts(1, 1), 0)?;
     assert_eq!(rt; objects.has_weaks(), false);
     push_all(&mut objects, &[(1, 1, 255), (1, 1, 2)])?;
     assert_eq!(rt; objects.has_weaks(), true);
-    check_weaks(&rt, &objects, &before);
-    set_weak(&mut objects, 1, 254, Pointer::to(9));
-    set_weak(&mut objects, 2, 0, Pointer::to(0));
-    set_value(&mut objects, 1, 0, 7);
-    set_pointer(&mut objects, 2, 0, Pointer::to(3));
-    check_weaks(&rt, &objects, &after);
-    check_values(&rt, &objects, &[(1, 0, Some(7)), (2, 0, Some(0))]);
-    check_pointers(&rt, &objects, &[(2, 0, Some(Some(3)))]);
-    let copy = objects.copy()?;
-    check_weaks(&rt, &copy, &[(1, 254, Some(Some(9)))]);
+    let nil = [(0, 0, None), (1, 254, Some(None)), (1, 255, None)];
+    check_weaks(&rt, &objects, &nil);
+    set_slots(&mut objects);
+    check_slots(&rt, &objects);
+    check_weaks(&rt, &objects.copy()?, &[(1, 254, Some(Some(9)))]);
     Ok(())
 }
 
@@ -370,20 +385,33 @@ fn judges_records(rt: HostRuntime) -> Result<(), Fail> {
     let alloc = rt.alloc();
     check_verdict(&rt, alloc, &may_be(alloc)?, Verdict::Yes(3))?;
     check_verdict(&rt, alloc, &too_big(alloc)?, Verdict::No(1))?;
-    let record = misread(alloc)?;
-    assert_eq!(rt; (record.events().len(), record.config().first_name), (3, 7));
-    check_verdict(&rt, alloc, &record, Verdict::No(3))?;
     Ok(())
 }
 
 #[test]
-fn keeps_plans(rt: HostRuntime) -> Result<(), Fail> {
-    let mut plan = Plan::new(rt.alloc(), config(0));
+fn judges_names_from_the_first(rt: HostRuntime) -> Result<(), Fail> {
+    let alloc = rt.alloc();
+    let record = misread(alloc)?;
+    assert_eq!(rt; record.events().len(), 3);
+    assert_eq!(rt; record.config().first_name, 7);
+    check_verdict(&rt, alloc, &record, Verdict::No(3))?;
+    Ok(())
+}
+
+/// A plan of two steps.
+fn two_steps(alloc: Global) -> Result<Plan, AllocError> {
+    let mut plan = Plan::new(alloc, config(0));
     plan.push(Step::Collector(CollectorStep::Begin))?;
     plan.push(Step::Mutator(Op {
         mutator: 0,
         action: new(0, 0, 0),
     }))?;
+    Ok(plan)
+}
+
+#[test]
+fn keeps_plans(rt: HostRuntime) -> Result<(), Fail> {
+    let plan = two_steps(rt.alloc())?;
     assert_eq!(rt; plan.steps().len(), 2);
     assert_eq!(rt; plan.config().regions, 4);
     Ok(())
@@ -505,9 +533,8 @@ fn clears_what_only_weak_slots_name(rt: HostRuntime) -> Result<(), Fail> {
     Ok(())
 }
 
-#[test]
-fn keeps_what_was_read_while_marking_ran(rt: HostRuntime) -> Result<(), Fail> {
-    let alloc = rt.alloc();
+/// #1 is read from its weak slot while marking runs, and then again; the next marking clears the slot.
+fn touched_while_marking(alloc: Global) -> Result<Record, AllocError> {
     let mut touched = held_weakly(alloc)?;
     touched.push(collected(CollectorStep::Begin, Reply::Done))?;
     look(&mut touched, 1, 1)?;
@@ -515,13 +542,18 @@ fn keeps_what_was_read_while_marking_ran(rt: HostRuntime) -> Result<(), Fail> {
     look(&mut touched, 1, 1)?;
     mark(&mut touched, 1)?;
     touched.push(done(get_weak(1, 0, 0), Reply::Named(None)))?;
-    check_verdict(&rt, alloc, &touched, Verdict::Yes(13))?;
-    Ok(())
+    Ok(touched)
 }
 
 #[test]
-fn a_pause_leaves_weak_slots(rt: HostRuntime) -> Result<(), Fail> {
-    let alloc = rt.alloc();
+fn keeps_what_was_read_while_marking_ran(rt: HostRuntime) -> Result<(), Fail> {
+    let touched = touched_while_marking(rt.alloc())?;
+    check_verdict(&rt, rt.alloc(), &touched, Verdict::Yes(13))?;
+    Ok(())
+}
+
+/// #1 is held weakly, and a pause moves it.
+fn moved(alloc: Global) -> Result<Record, AllocError> {
     let mut moved = held_weakly(alloc)?;
     let pause = Reply::Moved {
         regions: 1,
@@ -532,7 +564,13 @@ fn a_pause_leaves_weak_slots(rt: HostRuntime) -> Result<(), Fail> {
     moved.push(collected(CollectorStep::Remark, Reply::Marked(1)))?;
     moved.push(done(get_weak(1, 0, 0), Reply::Named(Some(1))))?;
     moved.push(done(read(1, 0), Reply::Word(0)))?;
-    check_verdict(&rt, alloc, &moved, Verdict::Yes(8))?;
+    Ok(moved)
+}
+
+#[test]
+fn a_pause_leaves_weak_slots(rt: HostRuntime) -> Result<(), Fail> {
+    let moved = moved(rt.alloc())?;
+    check_verdict(&rt, rt.alloc(), &moved, Verdict::Yes(8))?;
     Ok(())
 }
 

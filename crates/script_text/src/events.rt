@@ -7,7 +7,7 @@ ghost use Rattle.script_text.specs.Events.{actor_of, counted_of, event_of};
 use crate::fault::Kind;
 use crate::replies::reply;
 use crate::steps::{action, collection, mutator};
-use crate::words::number;
+use crate::words::{is_word, number};
 use heap_words::config::Config;
 use object_graph::{Actor, CollectorStep, Event, Op, Reply, Step};
 
@@ -35,7 +35,7 @@ fn background(word: &[u8]) -> Option<Actor>
 fn actor(config: &Config, word: &[u8]) -> Result<Actor, Kind>
     ensures { result ≡ actor_of config.now word.now }
 {
-    if word == b"gc".as_slice() {
+    if is_word(word, b"gc") {
         return Ok(Actor::Collector);
     }
     if let Some(actor) = background(word) {
@@ -93,7 +93,7 @@ fn equals_at(words: &[&[u8]]) -> usize
 {
     let mut at = 0;
     while at < words.len() {
-        if words[at] == b"=".as_slice() {
+        if is_word(words[at], b"=") {
             return at;
         }
         at += 1;

@@ -3,7 +3,7 @@
 ghost use Rattle.std.specs.Prelude.{◌≡◌, map};
 ghost use Rattle.script_text.specs.EventWords.{numbered, refusal_of, name_or_word, lone_reply_of, pair_reply_of, long_reply_of, reply_of};
 
-use crate::words::{number, small_number};
+use crate::words::{is_word, number, small_number};
 use object_graph::{Refusal, Reply};
 
 /// The refusal, if this is its number.
@@ -19,19 +19,19 @@ fn numbered(number: &[u8], digit: &[u8], why: Refusal) -> Option<Refusal>
 fn refusal(number: &[u8], name: &[u8]) -> Option<Refusal>
     ensures { result ≡ refusal_of number.now name.now }
 {
-    if name == b"Nil".as_slice() {
+    if is_word(name, b"Nil") {
         numbered(number, b"1", Refusal::Nil)
-    } else if name == b"NoField".as_slice() {
+    } else if is_word(name, b"NoField") {
         numbered(number, b"2", Refusal::NoField)
-    } else if name == b"Full".as_slice() {
+    } else if is_word(name, b"Full") {
         numbered(number, b"3", Refusal::Full)
-    } else if name == b"TooBig".as_slice() {
+    } else if is_word(name, b"TooBig") {
         numbered(number, b"4", Refusal::TooBig)
-    } else if name == b"NamesSpent".as_slice() {
+    } else if is_word(name, b"NamesSpent") {
         numbered(number, b"5", Refusal::NamesSpent)
-    } else if name == b"MarkRunning".as_slice() {
+    } else if is_word(name, b"MarkRunning") {
         numbered(number, b"6", Refusal::MarkRunning)
-    } else if name == b"NotMarking".as_slice() {
+    } else if is_word(name, b"NotMarking") {
         numbered(number, b"7", Refusal::NotMarking)
     } else {
         None
@@ -59,9 +59,9 @@ fn name_or_word(word: &[u8]) -> Option<Reply>
 fn lone_reply(a: &[u8]) -> Option<Reply>
     ensures { result ≡ lone_reply_of a.now }
 {
-    if a == b"ok".as_slice() {
+    if is_word(a, b"ok") {
         Some(Reply::Done)
-    } else if a == b"nil".as_slice() {
+    } else if is_word(a, b"nil") {
         Some(Reply::Named(None))
     } else {
         name_or_word(a)
@@ -73,13 +73,13 @@ fn lone_reply(a: &[u8]) -> Option<Reply>
 fn pair_reply(a: &[u8], b: &[u8]) -> Option<Reply>
     ensures { result ≡ pair_reply_of a.now b.now }
 {
-    if a == b"marked".as_slice() {
+    if is_word(a, b"marked") {
         let objects = small_number(b)?;
         Some(Reply::Marked(objects))
-    } else if a == b"reclaimed".as_slice() {
+    } else if is_word(a, b"reclaimed") {
         let regions = small_number(b)?;
         Some(Reply::Reclaimed(regions))
-    } else if a == b"refined".as_slice() {
+    } else if is_word(a, b"refined") {
         let cards = small_number(b)?;
         Some(Reply::Refined(cards))
     } else {
@@ -94,11 +94,11 @@ fn pair_reply(a: &[u8], b: &[u8]) -> Option<Reply>
 fn long_reply(a: &[u8], b: &[u8], c: &[u8]) -> Option<Reply>
     ensures { result ≡ long_reply_of a.now b.now c.now }
 {
-    if a == b"moved".as_slice() {
+    if is_word(a, b"moved") {
         let regions = small_number(b)?;
         let words = small_number(c)?;
         Some(Reply::Moved { regions, words })
-    } else if a == b"refused".as_slice() {
+    } else if is_word(a, b"refused") {
         let why = refusal(b, c)?;
         Some(Reply::Refused(why))
     } else {

@@ -1,13 +1,13 @@
 //! Scripts, read line by line.
 
-ghost use Rattle.std.specs.Prelude.{◌≡◌, map, take, IfOk};
+ghost use Rattle.std.specs.Prelude.{◌≡◌, ◌∷◌, None, ℕ, List, map, take, IfOk, IfSome, IfNone};
 ghost use Rattle.object_graph.specs.Actors.{IsStep};
 ghost use Rattle.script_text.specs.Reading.{sizes_in, sizes_of};
 ghost use Rattle.script_text.specs.Lines.{words_of, heap_line_of, step_line_of, Gives, script_of};
 
 use crate::fault::{Kind, LineFault};
 use crate::steps::step;
-use crate::words::{number, small_number, split_line};
+use crate::words::{is_word, number, small_number, split_line};
 use heap_words::config::{Config, Format};
 use object_graph::{Plan, Step};
 use std::alloc::Global;
@@ -42,28 +42,42 @@ fn sizes(
     })
 }
 
+/// The format of a heap line, by its verb and the words behind its five sizes.
+#[tactic(auto, unfolding(crate::specs::Reading::sizes_of))]
+fn format(verb: &[u8], rest: &[&[u8]]) -> Option<Format>
+    ensures some { IfSome result (λ format. (n r b m f : List ℕ) → sizes_of (verb.now ∷ n ∷ r ∷ b ∷ m ∷ f ∷ map (λ w. w.now) rest.now) ≡ sizes_in format n r b m f) }
+    ensures none { IfNone result ((n r b m f : List ℕ) → sizes_of (verb.now ∷ n ∷ r ∷ b ∷ m ∷ f ∷ map (λ w. w.now) rest.now) ≡ None) }
+{
+    match rest {
+        [] => {
+            if is_word(verb, b"heap") {
+                Some(Format::V1)
+            } else {
+                None
+            }
+        }
+        [card] => {
+            if is_word(verb, b"heap2") {
+                let card = small_number(card)?;
+                Some(Format::V2 { card })
+            } else {
+                None
+            }
+        }
+        _ => None,
+    }
+}
+
 /// The sizes that a heap line's words give.
 #[tactic(auto, unfolding(crate::specs::Reading::sizes_of))]
 fn heap(words: &[&[u8]]) -> Option<Config>
     ensures { result ≡ sizes_of (map (λ w. w.now) words.now) }
 {
-    match words {
-        [verb, regions, size, buffer, mutators, first_name] => {
-            if *verb != b"heap".as_slice() {
-                return None;
-            }
-            sizes(Format::V1, regions, size, buffer, mutators, first_name)
-        }
-        [verb, regions, size, buffer, mutators, first_name, card] => {
-            if *verb != b"heap2".as_slice() {
-                return None;
-            }
-            let card = small_number(card)?;
-            let format = Format::V2 { card };
-            sizes(format, regions, size, buffer, mutators, first_name)
-        }
-        _ => None,
-    }
+    let [verb, regions, size, buffer, mutators, first_name, rest @ ..] = words else {
+        return None;
+    };
+    let format = format(verb, rest)?;
+    sizes(format, regions, size, buffer, mutators, first_name)
 }
 
 /// The sizes that the heap line gives, whose first words these are.

@@ -1,12 +1,12 @@
 //! Steps, read from the words of their lines.
 
-ghost use Rattle.std.specs.Prelude.{◌≡◌, ◌<◌, map, IfOk};
+ghost use Rattle.std.specs.Prelude.{◌≡◌, ◌<◌, ◌∷◌, [], map, IfOk};
 ghost use Rattle.script_text.specs.Reading.{number_of, small, register_of, global_of, value_of, new_of, get_of, put_of, write_of, read_of, move_of, drop_of, load_of, save_of, shape_of, new_weak_of, get_weak_of, put_weak_of, weaks_of, longest_action_of, long_action_of, pair_action_of, lone_action_of, action_of, collection_of};
 ghost use Rattle.script_text.specs.Lines.{mutator_of, step_of};
 ghost use Rattle.object_graph.specs.Actors.{IsStep};
 
 use crate::fault::Kind;
-use crate::words::{global, number, register, small_number, value};
+use crate::words::{global, is_word, number, register, small_number, value};
 use heap_words::config::Config;
 use object_graph::{Action, CollectorStep, Counts, Op, Step};
 
@@ -164,7 +164,7 @@ fn weaks_action(word: &[u8]) -> Option<Action>
 fn longest_action(verb: &[u8], a: &[u8], b: &[u8], c: &[u8], d: &[u8]) -> Option<Action>
     ensures { result ≡ longest_action_of verb.now a.now b.now c.now d.now }
 {
-    if verb == b"newweak".as_slice() {
+    if is_word(verb, b"newweak") {
         new_weak_action(a, b, c, d)
     } else {
         None
@@ -176,17 +176,17 @@ fn longest_action(verb: &[u8], a: &[u8], b: &[u8], c: &[u8], d: &[u8]) -> Option
 fn long_action(verb: &[u8], a: &[u8], b: &[u8], c: &[u8]) -> Option<Action>
     ensures { result ≡ long_action_of verb.now a.now b.now c.now }
 {
-    if verb == b"new".as_slice() {
+    if is_word(verb, b"new") {
         new_action(a, b, c)
-    } else if verb == b"get".as_slice() {
+    } else if is_word(verb, b"get") {
         get_action(a, b, c)
-    } else if verb == b"put".as_slice() {
+    } else if is_word(verb, b"put") {
         put_action(a, b, c)
-    } else if verb == b"write".as_slice() {
+    } else if is_word(verb, b"write") {
         write_action(a, b, c)
-    } else if verb == b"getweak".as_slice() {
+    } else if is_word(verb, b"getweak") {
         get_weak_action(a, b, c)
-    } else if verb == b"putweak".as_slice() {
+    } else if is_word(verb, b"putweak") {
         put_weak_action(a, b, c)
     } else {
         None
@@ -198,13 +198,13 @@ fn long_action(verb: &[u8], a: &[u8], b: &[u8], c: &[u8]) -> Option<Action>
 fn pair_action(verb: &[u8], a: &[u8], b: &[u8]) -> Option<Action>
     ensures { result ≡ pair_action_of verb.now a.now b.now }
 {
-    if verb == b"read".as_slice() {
+    if is_word(verb, b"read") {
         read_action(a, b)
-    } else if verb == b"move".as_slice() {
+    } else if is_word(verb, b"move") {
         move_action(a, b)
-    } else if verb == b"load".as_slice() {
+    } else if is_word(verb, b"load") {
         load_action(a, b)
-    } else if verb == b"save".as_slice() {
+    } else if is_word(verb, b"save") {
         save_action(a, b)
     } else {
         None
@@ -216,11 +216,11 @@ fn pair_action(verb: &[u8], a: &[u8], b: &[u8]) -> Option<Action>
 fn lone_action(verb: &[u8], a: &[u8]) -> Option<Action>
     ensures { result ≡ lone_action_of verb.now a.now }
 {
-    if verb == b"drop".as_slice() {
+    if is_word(verb, b"drop") {
         drop_action(a)
-    } else if verb == b"shape".as_slice() {
+    } else if is_word(verb, b"shape") {
         shape_action(a)
-    } else if verb == b"weaks".as_slice() {
+    } else if is_word(verb, b"weaks") {
         weaks_action(a)
     } else {
         None
@@ -241,37 +241,49 @@ pub(crate) fn action(words: &[&[u8]]) -> Option<Action>
     }
 }
 
+/// A step of the collector that is a verb alone.
+#[tactic(auto, unfolding(crate::specs::Reading::collection_of))]
+fn lone_collection(verb: &[u8]) -> Option<CollectorStep>
+    ensures { result ≡ collection_of (verb.now ∷ []) }
+{
+    if is_word(verb, b"begin") {
+        Some(CollectorStep::Begin)
+    } else if is_word(verb, b"remark") {
+        Some(CollectorStep::Remark)
+    } else if is_word(verb, b"cleanup") {
+        Some(CollectorStep::Cleanup)
+    } else {
+        None
+    }
+}
+
+/// A step of the collector that has a number.
+#[tactic(auto, unfolding(crate::specs::Reading::collection_of))]
+fn pair_collection(verb: &[u8], a: &[u8]) -> Option<CollectorStep>
+    ensures { result ≡ collection_of (verb.now ∷ a.now ∷ []) }
+{
+    if is_word(verb, b"mark") {
+        let units = small_number(a)?;
+        Some(CollectorStep::Mark(units))
+    } else if is_word(verb, b"refine") {
+        let cards = small_number(a)?;
+        Some(CollectorStep::Refine(cards))
+    } else if is_word(verb, b"pause") {
+        let budget = small_number(a)?;
+        Some(CollectorStep::Pause(budget))
+    } else {
+        None
+    }
+}
+
 /// A step of the collector.
 #[tactic(auto, unfolding(crate::specs::Reading::collection_of))]
 pub(crate) fn collection(words: &[&[u8]]) -> Option<CollectorStep>
     ensures { result ≡ collection_of (map (λ w. w.now) words.now) }
 {
     match words {
-        [verb] => {
-            if *verb == b"begin".as_slice() {
-                Some(CollectorStep::Begin)
-            } else if *verb == b"remark".as_slice() {
-                Some(CollectorStep::Remark)
-            } else if *verb == b"cleanup".as_slice() {
-                Some(CollectorStep::Cleanup)
-            } else {
-                None
-            }
-        }
-        [verb, a] => {
-            if *verb == b"mark".as_slice() {
-                let units = small_number(a)?;
-                Some(CollectorStep::Mark(units))
-            } else if *verb == b"refine".as_slice() {
-                let cards = small_number(a)?;
-                Some(CollectorStep::Refine(cards))
-            } else if *verb == b"pause".as_slice() {
-                let budget = small_number(a)?;
-                Some(CollectorStep::Pause(budget))
-            } else {
-                None
-            }
-        }
+        [verb] => lone_collection(verb),
+        [verb, a] => pair_collection(verb, a),
         _ => None,
     }
 }
@@ -301,7 +313,7 @@ pub(crate) fn step(config: &Config, words: &[&[u8]]) -> Result<Step, Kind>
     let [actor, rest @ ..] = words else {
         return Err(Kind::BadActor);
     };
-    if *actor == b"gc".as_slice() {
+    if is_word(actor, b"gc") {
         let Some(collection) = collection(rest) else {
             return Err(Kind::BadStep);
         };

@@ -9,9 +9,10 @@ use object_graph::{
     Action, Actor, CollectorStep, Counts, Event, GlobalRoot, Op, Record, Refusal, Register, Reply,
     Step,
 };
-use std::alloc::Global;
+use std::alloc::{AllocError, Global};
 use std::io;
 use std::io::{ErrorKind, Read, Write};
+use std::process::Abort;
 use std::test::Fail;
 
 const CONFIG: Config = Config {
@@ -71,44 +72,50 @@ fn fault_of(alloc: Global, text: &[u8]) -> Option<LineFault> {
     }
 }
 
+/// Faulty texts, each with the line and the kind of its fault.
+const FAULTS: [(&str, u64, Kind); 30] = [
+    ("", 1, Kind::BadHeap),
+    ("\n", 1, Kind::BadHeap),
+    ("heap 4 16 8 1 0", 1, Kind::Cut),
+    ("heap 4 16 8 1\n", 1, Kind::BadHeap),
+    ("heap 4 16 8 1 0 0\n", 1, Kind::BadHeap),
+    ("heap 4 16 8 1 0 \n", 1, Kind::BadHeap),
+    ("heap 4294967296 16 8 1 0\n", 1, Kind::BadHeap),
+    ("heap 4 16 8 1 18446744073709551616\n", 1, Kind::BadHeap),
+    ("heap 4 16 8 1 0\n0 new r8 1 1\n", 2, Kind::BadStep),
+    ("heap 4 16 8 1 0\n0 new r0 01 1\n", 2, Kind::BadStep),
+    ("heap 4 16 8 1 0\n0 new r0 +1 1\n", 2, Kind::BadStep),
+    ("heap 4 16 8 1 0\n0 new r0 1 4294967296\n", 2, Kind::BadStep),
+    ("heap 4 16 8 1 0\n0 new r0 1 1 1 1 1 1\n", 2, Kind::BadStep),
+    ("heap 4 16 8 1 0\n0 newweak r0 1 256 1\n", 2, Kind::BadStep),
+    ("heap 4 16 8 1 0\n0 newweak r0 1 1\n", 2, Kind::BadStep),
+    ("heap 4 16 8 1 0\n0 new r0 1 1 1\n", 2, Kind::BadStep),
+    ("heap 4 16 8 1 0\n0 getweak r0 nil 0\n", 2, Kind::BadStep),
+    ("heap 4 16 8 1 0\n0 putweak r0 0 g0\n", 2, Kind::BadStep),
+    ("heap 4 16 8 1 0\n0 weaks r0 0\n", 2, Kind::BadStep),
+    ("heap 4 16 8 1 0\n0  new r0 1 1\n", 2, Kind::BadStep),
+    ("heap 4 16 8 1 0\n0 new r0 1 1 \n", 2, Kind::BadStep),
+    ("heap 4 16 8 1 0\n1 drop r0\n", 2, Kind::BadActor),
+    ("heap 4 16 8 1 0\n00 drop r0\n", 2, Kind::BadActor),
+    ("heap 4 16 8 1 0\nm0 mark 4\n", 2, Kind::BadActor),
+    ("heap 4 16 8 1 0\n0 begin\n", 2, Kind::BadStep),
+    ("heap 4 16 8 1 0\n\n", 2, Kind::BadActor),
+    ("heap 4 16 8 1 0\ngc pause\n", 2, Kind::BadStep),
+    ("heap 4 16 8 1 0\ngc pause 4294967296\n", 2, Kind::BadStep),
+    ("heap 4 16 8 1 0\n0 read r0 0\nx\ny\n", 3, Kind::BadActor),
+    ("heap 4 16 8 1 0\nx\n0 read r0 0", 2, Kind::BadActor),
+];
+
+/// Compares the fault of a text.
+fn check_fault(rt: &impl Abort, alloc: Global, text: &str, line: u64, kind: Kind) {
+    let fault = fault_of(alloc, text.as_bytes());
+    assert_eq!(rt; fault, Some(LineFault { line, kind }), "{text}");
+}
+
 #[test]
 fn faults(rt: HostRuntime) -> Result<(), Fail> {
-    let alloc = rt.alloc();
-    let rows: [(&str, u64, Kind); 30] = [
-        ("", 1, Kind::BadHeap),
-        ("\n", 1, Kind::BadHeap),
-        ("heap 4 16 8 1 0", 1, Kind::Cut),
-        ("heap 4 16 8 1\n", 1, Kind::BadHeap),
-        ("heap 4 16 8 1 0 0\n", 1, Kind::BadHeap),
-        ("heap 4 16 8 1 0 \n", 1, Kind::BadHeap),
-        ("heap 4294967296 16 8 1 0\n", 1, Kind::BadHeap),
-        ("heap 4 16 8 1 18446744073709551616\n", 1, Kind::BadHeap),
-        ("heap 4 16 8 1 0\n0 new r8 1 1\n", 2, Kind::BadStep),
-        ("heap 4 16 8 1 0\n0 new r0 01 1\n", 2, Kind::BadStep),
-        ("heap 4 16 8 1 0\n0 new r0 +1 1\n", 2, Kind::BadStep),
-        ("heap 4 16 8 1 0\n0 new r0 1 4294967296\n", 2, Kind::BadStep),
-        ("heap 4 16 8 1 0\n0 new r0 1 1 1 1 1 1\n", 2, Kind::BadStep),
-        ("heap 4 16 8 1 0\n0 newweak r0 1 256 1\n", 2, Kind::BadStep),
-        ("heap 4 16 8 1 0\n0 newweak r0 1 1\n", 2, Kind::BadStep),
-        ("heap 4 16 8 1 0\n0 new r0 1 1 1\n", 2, Kind::BadStep),
-        ("heap 4 16 8 1 0\n0 getweak r0 nil 0\n", 2, Kind::BadStep),
-        ("heap 4 16 8 1 0\n0 putweak r0 0 g0\n", 2, Kind::BadStep),
-        ("heap 4 16 8 1 0\n0 weaks r0 0\n", 2, Kind::BadStep),
-        ("heap 4 16 8 1 0\n0  new r0 1 1\n", 2, Kind::BadStep),
-        ("heap 4 16 8 1 0\n0 new r0 1 1 \n", 2, Kind::BadStep),
-        ("heap 4 16 8 1 0\n1 drop r0\n", 2, Kind::BadActor),
-        ("heap 4 16 8 1 0\n00 drop r0\n", 2, Kind::BadActor),
-        ("heap 4 16 8 1 0\nm0 mark 4\n", 2, Kind::BadActor),
-        ("heap 4 16 8 1 0\n0 begin\n", 2, Kind::BadStep),
-        ("heap 4 16 8 1 0\n\n", 2, Kind::BadActor),
-        ("heap 4 16 8 1 0\ngc pause\n", 2, Kind::BadStep),
-        ("heap 4 16 8 1 0\ngc pause 4294967296\n", 2, Kind::BadStep),
-        ("heap 4 16 8 1 0\n0 read r0 0\nx\ny\n", 3, Kind::BadActor),
-        ("heap 4 16 8 1 0\nx\n0 read r0 0", 2, Kind::BadActor),
-    ];
-    for (text, line, kind) in rows {
-        let fault = fault_of(alloc, text.as_bytes());
-        assert_eq!(rt; fault, Some(LineFault { line, kind }), "{text}");
+    for (text, line, kind) in FAULTS {
+        check_fault(&rt, rt.alloc(), text, line, kind);
     }
     Ok(())
 }
@@ -121,56 +128,89 @@ fn record_fault_of(alloc: Global, text: &[u8]) -> Option<LineFault> {
     }
 }
 
-#[test]
-fn record_faults(rt: HostRuntime) -> Result<(), Fail> {
-    let alloc = rt.alloc();
-    let rows: [(&str, Kind); 35] = [
-        ("2 0 drop r0 = ok", Kind::BadCount),
-        ("01 0 drop r0 = ok", Kind::BadCount),
-        ("0 0 drop r0 = ok", Kind::BadCount),
-        ("", Kind::BadCount),
-        ("2 x drop r0 = ok", Kind::BadCount),
-        ("1", Kind::BadActor),
-        ("1 = ok", Kind::BadActor),
-        ("1 1 drop r0 = ok", Kind::BadActor),
-        ("1 m8 mark 4 = ok", Kind::BadActor),
-        ("1 m00 mark 4 = ok", Kind::BadActor),
-        ("1 0 drop = ok", Kind::BadStep),
-        ("1 0 = ok", Kind::BadStep),
-        ("1 0 drop r0 =ok", Kind::BadStep),
-        ("1 0 drop r0 =", Kind::BadStep),
-        ("1 m0 refine 2 = refined 0", Kind::BadStep),
-        ("1 f0 mark 4 = ok", Kind::BadStep),
-        ("1 0 put r0 0 nil 1 1 1 1 1 1 = ok", Kind::BadStep),
-        ("1 0 newweak r0 1 256 1 = #0", Kind::BadStep),
-        ("1 0 newweak r0 1 1 1 = refused 4 TooBig 1", Kind::BadReply),
-        ("1 0 newweak r0 1 1 1", Kind::BadReply),
-        ("1 0 drop r0", Kind::BadReply),
-        ("1 0 drop r0 = ", Kind::BadReply),
-        ("1 0 drop r0 = ok = ok", Kind::BadReply),
-        ("1 0 drop r0 = done", Kind::BadReply),
-        ("1 0 drop r0 = refused 1 NoField", Kind::BadReply),
-        ("1 0 drop r0 = refused 8 NoMemory", Kind::BadReply),
-        ("1 0 drop r0 = refused", Kind::BadReply),
-        ("1 0 drop r0 = #", Kind::BadReply),
-        ("1 0 drop r0 = #18446744073709551616", Kind::BadReply),
-        ("1 gc remark = marked 4294967296", Kind::BadReply),
-        ("1 gc pause 1 = moved 1 4294967296", Kind::BadReply),
-        ("1 gc pause 1 = moved 1", Kind::BadReply),
-        ("1 0 shape r0 = 4294967296 0", Kind::BadReply),
-        ("1 gc remark = marked 00", Kind::BadReply),
-        ("1 0 write r0 0 0 = moved 1 1 1", Kind::BadReply),
-    ];
-    for (line, kind) in rows {
+/// Second lines of records whose count is faulty.
+const BAD_COUNTS: [&str; 5] = [
+    "2 0 drop r0 = ok",
+    "01 0 drop r0 = ok",
+    "0 0 drop r0 = ok",
+    "",
+    "2 x drop r0 = ok",
+];
+
+/// Second lines of records whose actor is faulty.
+const BAD_ACTORS: [&str; 5] = [
+    "1",
+    "1 = ok",
+    "1 1 drop r0 = ok",
+    "1 m8 mark 4 = ok",
+    "1 m00 mark 4 = ok",
+];
+
+/// Second lines of records whose step is faulty.
+const BAD_STEPS: [&str; 8] = [
+    "1 0 drop = ok",
+    "1 0 = ok",
+    "1 0 drop r0 =ok",
+    "1 0 drop r0 =",
+    "1 m0 refine 2 = refined 0",
+    "1 f0 mark 4 = ok",
+    "1 0 put r0 0 nil 1 1 1 1 1 1 = ok",
+    "1 0 newweak r0 1 256 1 = #0",
+];
+
+/// Second lines of records whose reply is faulty.
+const BAD_REPLIES: [&str; 17] = [
+    "1 0 newweak r0 1 1 1 = refused 4 TooBig 1",
+    "1 0 newweak r0 1 1 1",
+    "1 0 drop r0",
+    "1 0 drop r0 = ",
+    "1 0 drop r0 = ok = ok",
+    "1 0 drop r0 = done",
+    "1 0 drop r0 = refused 1 NoField",
+    "1 0 drop r0 = refused 8 NoMemory",
+    "1 0 drop r0 = refused",
+    "1 0 drop r0 = #",
+    "1 0 drop r0 = #18446744073709551616",
+    "1 gc remark = marked 4294967296",
+    "1 gc pause 1 = moved 1 4294967296",
+    "1 gc pause 1 = moved 1",
+    "1 0 shape r0 = 4294967296 0",
+    "1 gc remark = marked 00",
+    "1 0 write r0 0 0 = moved 1 1 1",
+];
+
+/// Compares the faults of records with these second lines.
+fn check_record_faults(
+    rt: &impl Abort,
+    alloc: Global,
+    lines: &[&str],
+    kind: Kind,
+) -> Result<(), AllocError> {
+    for line in lines {
         let text = format!(in alloc; "heap 4 16 8 1 0\n{line}\n")?;
         let fault = record_fault_of(alloc, text.as_bytes());
         assert_eq!(rt; fault, Some(LineFault { line: 2, kind }), "{line}");
     }
+    Ok(())
+}
+
+#[test]
+fn record_faults(rt: HostRuntime) -> Result<(), Fail> {
+    let alloc = rt.alloc();
+    check_record_faults(&rt, alloc, &BAD_COUNTS, Kind::BadCount)?;
+    check_record_faults(&rt, alloc, &BAD_ACTORS, Kind::BadActor)?;
+    check_record_faults(&rt, alloc, &BAD_STEPS, Kind::BadStep)?;
+    check_record_faults(&rt, alloc, &BAD_REPLIES, Kind::BadReply)?;
+    Ok(())
+}
+
+#[test]
+fn an_empty_record(rt: HostRuntime) -> Result<(), Fail> {
     let empty = LineFault {
         line: 1,
         kind: Kind::BadHeap,
     };
-    assert_eq!(rt; record_fault_of(alloc, b""), Some(empty));
+    assert_eq!(rt; record_fault_of(rt.alloc(), b""), Some(empty));
     Ok(())
 }
 
@@ -212,20 +252,33 @@ const RECORDS: [(&str, usize); 10] = [
     ),
 ];
 
+/// Reads a record of so many events, and compares what is written of it.
+fn check_read_back(
+    rt: &impl Abort,
+    alloc: Global,
+    text: &str,
+    events: usize,
+) -> Result<(), AllocError> {
+    let history = parse_record(alloc, text.as_bytes());
+    assert!(rt; history.is_ok(), "{text}");
+    let Ok(history) = history else {
+        return Ok(());
+    };
+    assert_eq!(rt; history.events().len(), events, "{text}");
+    let mut writer = WatchedWriter::new(Vec::new(alloc));
+    assert_eq!(rt;
+        write_record(alloc, &history, &mut writer),
+        Ok(()),
+        "{text}"
+    );
+    assert_eq!(rt; writer.into_inner().as_slice(), text.as_bytes(), "{text}");
+    Ok(())
+}
+
 #[test]
 fn records_are_read_back(rt: HostRuntime) -> Result<(), Fail> {
-    let alloc = rt.alloc();
     for (text, events) in RECORDS {
-        let Ok(history) = parse_record(alloc, text.as_bytes()) else {
-            return Err(Fail::from("this is a record"));
-        };
-        assert_eq!(rt; history.events().len(), events, "{text}");
-        let mut writer = WatchedWriter::new(Vec::new(alloc));
-        let Ok(()) = write_record(alloc, &history, &mut writer) else {
-            return Err(Fail::from("this can be written"));
-        };
-        let written = writer.into_inner();
-        assert_eq!(rt; written.as_slice(), text.as_bytes(), "{text}");
+        check_read_back(&rt, rt.alloc(), text, events)?;
     }
     Ok(())
 }

@@ -2,6 +2,7 @@
 
 ghost use Rattle.std.specs.Prelude.{◌≡◌, ◌≤◌, ◌<◌, ◌+◌, ◌∷◌, [], ℕ, IfSome, IfNone, length, map, take, drop};
 ghost use Rattle.std.specs.Fmt.{decimal};
+ghost use Rattle.std.specs.Str.{bytes_eq};
 ghost use Rattle.script_text.specs.Spelling.{register_word};
 ghost use Rattle.script_text.specs.Reading.{number_of, small, register_of, global_of, value_of};
 ghost use Rattle.script_text.specs.Lines.{pieces_of, words_of};
@@ -14,6 +15,14 @@ use object_graph::{GlobalRoot, Register};
 pub(crate) struct Front {
     pub(crate) length: usize,
     pub(crate) count: usize,
+}
+
+/// Whether a word is this text.
+#[inline(always)]
+pub(crate) fn is_word(word: &[u8], text: &[u8]) -> bool
+    ensures { result ≡ bytes_eq word.now text.now }
+{
+    word == text
 }
 
 /// Finds the line at the front of a text, where a line feed ends it, and puts its first twelve words into `words`. No good
@@ -147,7 +156,7 @@ pub(crate) fn global(word: &[u8]) -> Option<GlobalRoot>
 pub(crate) fn value(word: &[u8]) -> Option<Option<Register>>
     ensures { result ≡ value_of word.now }
 {
-    if word == b"nil".as_slice() {
+    if is_word(word, b"nil") {
         return Some(None);
     }
     let register = register(word)?;

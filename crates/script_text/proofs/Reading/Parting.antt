@@ -49,8 +49,8 @@ unfolding reply_part
 no_reply_behind ws le = rw (le-ltb (equals_at ws + 1) (length ws) le) refl
 
 -- a word of the code, compared
-pub at_word : (ws : List (Bor (List ℕ))) (i : ℕ) (d : Bor (List ℕ)) (word : List ℕ) (r b : Bool) → i < length ws → r ≡ bytes_eq (get_or ws i d).now word → word ≡ codes "=" → r ≡ b → is_equals (get_or (map (λ w. w.now) ws) i []) ≡ b
-at_word ws i d word r b lt e word_is is = ap is_equals (get_or-map (λ w. w.now) ws i d [] lt) ∙ ap (bytes_eq (get_or ws i d).now) (sym word_is) ∙ sym e ∙ is
+pub at_word : (ws : List (Bor (List ℕ))) (i : ℕ) (d : Bor (List ℕ)) (r b : Bool) → i < length ws → r ≡ bytes_eq (get_or ws i d).now (codes "=") → r ≡ b → is_equals (get_or (map (λ w. w.now) ws) i []) ≡ b
+at_word ws i d r b lt e is = ap is_equals (get_or-map (λ w. w.now) ws i d [] lt) ∙ sym e ∙ is
 
 abbrev texts : List (Bor (List ℕ)) → List (List ℕ)
 texts ws = map (λ w. w.now) ws
