@@ -65,7 +65,7 @@ impl Marker {
         self.scans.add();
     }
 
-    /// Scans up to `units` grey objects, the lowest first, and says how many: fewer only if none is left.
+    /// Scans up to `units` grey objects, and says how many: fewer only if none is left. Which ones, no clause says: the lowest first.
     pub fn mark(&mut self, table: &RegionTable, units: u32) -> u32
         requires stands { MarkerStands table.now self.old }
         requires running { self.old.running ≡ true }

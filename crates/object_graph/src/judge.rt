@@ -17,7 +17,7 @@ pub enum Verdict {
     No(u64),
 }
 
-/// Whether the events of a record may happen one after another, from the graph of a new heap: yes exactly if they
+/// Whether the events of a record may happen one after another, from the graph of a new heap: where memory suffices, yes exactly if they
 /// are a run, else the first event with which the ones before it cannot go on.
 pub fn check(alloc: Global, history: &Record) -> Result<Verdict, AllocError>
     ensures { IfOk result (Judged (first_state history.now.config) history.now.events) }

@@ -17,7 +17,7 @@
 //! the core stands for the state after it; or the reply is Full and nothing changed, exactly where the graph
 //! creates an object and the heap has no place for it. A `remark` clears the weak slots that hold what neither the snapshot reaches nor was
 //! made since, and no such name is reachable then. What each step does to each part of the core is
-//! said exactly (`Does`), and a refused step leaves it as it was: regions
+//! said too (`Does`), of a mutator's step exactly, and a refused step leaves it as it was: regions
 //! are reclaimed by `cleanup`, those that hold nothing live, and by `pause`, those that it evacuates. Cross-region fields are remembered at
 //! every moment: the card of each field that leads into another region is dirty, or that region's set covers it. No step takes memory. `run`
 //! does a list of steps in a new heap; after each of them every object that a root reaches stands, whole and once, in regions in use.
