@@ -1,9 +1,9 @@
 //! A reader and a writer that remember whether they refused.
 //!
 //! The contracts of the standard library's readers and writers speak of bytes alone: none says that a call failed because the system
-//! refused. So these hold one, with a flag. That it is set only behind a call of the inner reader or writer that failed, or took no byte, no
-//! contract says: it is set in two places, in `read_to_end` and in `write_some`, and this file is to be read for it. All above rests on the
-//! contracts here: a fault of reading or writing comes only where the flag is set.
+//! refused. So these hold one, with a flag. That it is set only behind a call of the inner reader or writer that failed, or took no byte,
+//! no contract says: it is set in two places, in `read_to_end` and in `write_some`, and this file is to be read for it. All above rests on
+//! the contracts here: a fault of reading or writing comes only where the flag is set.
 
 ghost use Rattle.std.specs.Prelude.{◌≡◌, ◌<◌, ◌≤◌, ◌++◌, IsTrue, OnOk, OnErr, IfOk, IfErr, IfSome, false, length, take};
 ghost use Rattle.std.specs.Io.{appended_bytes};
@@ -98,8 +98,8 @@ impl<W: Write> WatchedWriter<W> {
         self.writer
     }
 
-    /// Writes some bytes, the first ones, and answers how many: at least one, or the writer refused, which is when it fails or takes no byte.
-    /// A write that is interrupted is tried again.
+    /// Writes some bytes, the first ones, and answers how many: at least one, or the writer refused: it failed, or took no byte. A write that
+    /// is interrupted is tried again.
     pub fn write_some(&mut self, bytes: &[u8]) -> Result<usize, WriteFault>
         requires { 0 < length bytes.now }
         ensures within { IfOk result (λ count. count ≤ length bytes.now) }
