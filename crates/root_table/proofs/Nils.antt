@@ -89,7 +89,7 @@ pub left_rest : (p : Places) (words : List (Option ℕ)) (used : List ℕ) (row 
 left_rest p words used row k b known less =
     let most = b.within row known in
     let more = nils_more words (row_start p row + k) (get_or used row 0 - k) (row_length p row - get_or used row 0)
-      (λ place low high. b.nil row known place (omega (arith, low, less)) (omega (arith, high, less, most))) in
+    (λ place low high. b.nil row known place (omega (arith, low, less)) (omega (arith, high, less, most))) in
     ap (λ (n : ℕ). with_nils words (row_start p row + k) n) {x = row_length p row - k} {y = (get_or used row 0 - k) + (row_length p row - get_or used row 0)} (omega (arith, less, most)) ∙ more
 
 -- nothing is left to be done where the bound is no higher
@@ -108,10 +108,10 @@ pub left_in : (p : Places) (words words' : List (Option ℕ)) (used : List ℕ) 
     → first ≡ register_place p m k → words' ≡ with_nils words first (n - k) → n ≡ get_or used (m + 1) n → AreBounded p words' (set used (m + 1) k)
 left_in p words words' used m k n first b known less at is =
     subst (λ (row : ℕ). n ≡ get_or used row n → AreBounded p words' (set used row k)) (one_more m) (λ e.
-      let bound = bound_read used (suc m) n (omega (arith, known, b.rows)) e in
-      let all : words' ≡ with_nils words (row_start p (suc m) + k) (get_or used (suc m) 0 - k) =
-        is ∙ ap (λ (q : ℕ). with_nils words q (n - k)) {x = first} {y = row_start p (suc m) + k} (omega (arith, at)) ∙ ap (λ (q : ℕ). with_nils words (row_start p (suc m) + k) (q - k)) bound in
-      subst (λ (ws : List (Option ℕ)). AreBounded p ws (set used (suc m) k)) (sym all) (left_bounded p words used (suc m) k b (omega (arith, known)) (omega (arith, bound, less))))
+    let bound = bound_read used (suc m) n (omega (arith, known, b.rows)) e in
+    let all : words' ≡ with_nils words (row_start p (suc m) + k) (get_or used (suc m) 0 - k) =
+    is ∙ ap (λ (q : ℕ). with_nils words q (n - k)) {x = first} {y = row_start p (suc m) + k} (omega (arith, at)) ∙ ap (λ (q : ℕ). with_nils words (row_start p (suc m) + k) (q - k)) bound in
+    subst (λ (ws : List (Option ℕ)). AreBounded p ws (set used (suc m) k)) (sym all) (left_bounded p words used (suc m) k b (omega (arith, known)) (omega (arith, bound, less))))
 
 abbrev pub with_words : RootTable → List (Option ℕ) → RootTable
 with_words t ws = record { places = t.places; words = ws }
