@@ -20,7 +20,7 @@
 //! full: where twice the live bounds of the set are within the free regions' words, a free region is there whenever one is
 //! needed.
 //!
-//! A pause costs the words copied, the roots, what the remembered sets of the chosen regions hold, the tiles and fields of the
+//! A pause costs the words copied, the roots in use, what the remembered sets of the chosen regions hold, the tiles and fields of the
 //! cards that they cover, the cards that it notes, and a few looks at each region. Cards are flagged in sets of bits that are looked
 //! at between the lowest and the highest of them alone.
 #![tactic(auto)]

@@ -16,7 +16,6 @@ use crate::room::{PauseRoom, dirty_noted, flag_chosen};
 use crate::roots::update_roots;
 use crate::visited::flag_visited;
 use cards::CardTable;
-use heap_words::addr::Ptr;
 use heap_words::bounded::BoundedBits;
 use mark_bitmap::bitmaps::Bitmaps;
 use mark_bitmap::marks::Marks;
@@ -25,6 +24,7 @@ use object_copy::Destinations;
 use region_choice::LiveRow;
 use regions::RegionTable;
 use remembered_sets::RememberedSets;
+use root_table::Roots;
 
 /// How many regions were reclaimed, and how many words copied.
 #[derive(Clone, Copy, Debug, PartialEq, Eq)]
@@ -43,7 +43,7 @@ fn copy_reached(
     tams: &Tams,
     marks: &Marks,
     visited: &BoundedBits,
-    roots: &mut [Ptr],
+    roots: &mut Roots,
 )
     ghost pause: { Pause }
     requires premises { IsPause pause }
@@ -56,15 +56,16 @@ fn copy_reached(
     requires visited { EachCard pause visited.now }
     requires all { AllVisited (layout pause) (plan pause) visited.now }
     requires start { table.old ≡ pause.start }
-    requires roots { roots.old ≡ pause.roots }
+    requires roots { roots.old.words ≡ pause.roots }
     ensures turn { IsTurn pause table.new destinations.new }
     ensures each_card { EachCard pause noted.new }
     ensures len { length noted.new ≡ length noted.old }
-    ensures moved { Relocates (place_after (in_set pause) (space pause table.new).forward) (plan pause).heap (released (in_set pause) (record { kept = kept_now pause table.new; roots = roots.new })) }
+    ensures moved { Relocates (place_after (in_set pause) (space pause table.new).forward) (plan pause).heap (released (in_set pause) (record { kept = kept_now pause table.new; roots = roots.new.words })) }
     ensures reached { (a : ℕ) → IsReached (in_set pause) (plan pause).heap a → (b : ℕ) × ((space pause table.new).forward a ≡ Some b) }
     ensures words { AreReachedWords (in_set pause) (plan pause).heap destinations.new.words }
     ensures noted { AreFieldsNoted pause noted.new table.new }
     ensures clean { AreFieldsClean pause table.new }
+    ensures places { roots.new.places ≡ roots.old.places }
     ensures only { (c : ℕ) → flag noted.new c ≡ true → (flag noted.old c ≡ true) ⊎ NewCrossing (layout pause) (space pause pause.start) (space pause table.new) destinations.new c }
 {
     update_roots(table, destinations, set, roots);
@@ -88,7 +89,7 @@ fn evacuate_in(
     bitmaps: &mut Bitmaps,
     cards: &mut CardTable,
     sets: &mut RememberedSets,
-    roots: &mut [Ptr],
+    roots: &mut Roots,
     destinations: &mut Destinations,
     set: &mut [bool],
     visited: &mut BoundedBits,
@@ -96,7 +97,7 @@ fn evacuate_in(
     chosen: &[LiveRow],
     card_words: u32,
 ) -> Moved
-    requires can { CanEvacuate (record { table = table.old; tams = tams.old; previous = bitmaps.old.previous; next = bitmaps.old.next; cards = cards.old; sets = sets.old; roots = roots.old }) chosen.now card_words }
+    requires can { CanEvacuate (record { table = table.old; tams = tams.old; previous = bitmaps.old.previous; next = bitmaps.old.next; cards = cards.old; sets = sets.old; roots = roots.old.words }) chosen.now card_words }
     requires each_region { length set.old ≡ length table.old.regions }
     requires each_visited { length visited.old ≡ card_count sets.old }
     requires each_noted { length noted.old ≡ card_count sets.old }
@@ -105,10 +106,11 @@ fn evacuate_in(
     ensures visited { length visited.new ≡ length visited.old }
     ensures noted { length noted.new ≡ length noted.old }
     ensures room { length destinations.new.regions + destinations.new.room ≡ length destinations.old.regions + destinations.old.room }
+    ensures places { roots.new.places ≡ roots.old.places }
     ensures regions { result.regions ≡ length chosen.now }
     ensures evacuated { HasEvacuated chosen.now card_words result.words
-        (record { table = table.old; tams = tams.old; previous = bitmaps.old.previous; next = bitmaps.old.next; cards = cards.old; sets = sets.old; roots = roots.old })
-        (record { table = table.new; tams = tams.new; previous = bitmaps.new.previous; next = bitmaps.new.next; cards = cards.new; sets = sets.new; roots = roots.new }) }
+        (record { table = table.old; tams = tams.old; previous = bitmaps.old.previous; next = bitmaps.old.next; cards = cards.old; sets = sets.old; roots = roots.old.words })
+        (record { table = table.new; tams = tams.new; previous = bitmaps.new.previous; next = bitmaps.new.next; cards = cards.new; sets = sets.new; roots = roots.new.words }) }
 {
     table.law();
     flag_chosen(set, chosen);
@@ -143,19 +145,20 @@ pub fn evacuate(
     bitmaps: &mut Bitmaps,
     cards: &mut CardTable,
     sets: &mut RememberedSets,
-    roots: &mut [Ptr],
+    roots: &mut Roots,
     room: &mut PauseRoom,
     chosen: &[LiveRow],
     card_words: u32,
 ) -> Moved
-    requires can { CanEvacuate (record { table = table.old; tams = tams.old; previous = bitmaps.old.previous; next = bitmaps.old.next; cards = cards.old; sets = sets.old; roots = roots.old }) chosen.now card_words }
+    requires can { CanEvacuate (record { table = table.old; tams = tams.old; previous = bitmaps.old.previous; next = bitmaps.old.next; cards = cards.old; sets = sets.old; roots = roots.old.words }) chosen.now card_words }
     requires each_region { room.old.regions ≡ length table.old.regions }
     requires each_card { room.old.cards ≡ card_count sets.old }
     ensures room { room.new ≡ room.old }
+    ensures places { roots.new.places ≡ roots.old.places }
     ensures regions { result.regions ≡ length chosen.now }
     ensures evacuated { HasEvacuated chosen.now card_words result.words
-        (record { table = table.old; tams = tams.old; previous = bitmaps.old.previous; next = bitmaps.old.next; cards = cards.old; sets = sets.old; roots = roots.old })
-        (record { table = table.new; tams = tams.new; previous = bitmaps.new.previous; next = bitmaps.new.next; cards = cards.new; sets = sets.new; roots = roots.new }) }
+        (record { table = table.old; tams = tams.old; previous = bitmaps.old.previous; next = bitmaps.old.next; cards = cards.old; sets = sets.old; roots = roots.old.words })
+        (record { table = table.new; tams = tams.new; previous = bitmaps.new.previous; next = bitmaps.new.next; cards = cards.new; sets = sets.new; roots = roots.new.words }) }
 {
     evacuate_in(
         table,

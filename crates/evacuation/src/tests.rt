@@ -1,7 +1,7 @@
 //! A pause and the cards that it visits, in small heaps: four regions of sixteen words, of which region 0 alone is in use, and
 //! cards of eight.
 
-ghost use Rattle.std.specs.Prelude.{◌≡◌, ◌*◌, ◌<◌, IfOk, length};
+ghost use Rattle.std.specs.Prelude.{◌≡◌, ◌*◌, ◌<◌, ◌∷◌, [], Some, IfOk, length};
 ghost use Rattle.regions.specs.Table.{free_table};
 ghost use Rattle.refinement.specs.Samples.{IsSample};
 ghost use Rattle.evacuation.specs.Samples.{alone, by_weak_slot, itself};
@@ -18,6 +18,7 @@ use mark_bitmap::tams::Tams;
 use region_choice::LiveRow;
 use regions::{RegionTable, Shape};
 use remembered_sets::RememberedSets;
+use root_table::{Places, Roots};
 use std::alloc::Global;
 use std::test::Fail;
 
@@ -162,6 +163,15 @@ impl Drop for Paused {
     }
 }
 
+/// One global, which leads to an address.
+fn one_root(alloc: Global, word: u32) -> Result<Roots, Fail>
+    ensures { IfOk result (λ roots. roots.words ≡ Some word ∷ []) }
+{
+    let mut roots = Roots::new(alloc, Places::new(1, 0, 0))?;
+    roots.set_global(0, Some(Addr::new(word)));
+    Ok(roots)
+}
+
 /// A pause that evacuates the region of the object that names itself.
 fn pause_itself(alloc: Global) -> Result<Paused, Fail>
     ensures count { IfOk result (λ paused. length paused.table.regions ≡ 4) }
@@ -173,7 +183,7 @@ fn pause_itself(alloc: Global) -> Result<Paused, Fail>
     let mut cards = CardTable::new(alloc, 8, 1)?;
     let mut sets = RememberedSets::new(alloc, 4, 2)?;
     let mut room = PauseRoom::new(alloc, 4, 8)?;
-    let mut roots = [Some(Addr::new(0))];
+    let mut roots = one_root(alloc, 0)?;
     let rows = [LiveRow {
         region: RegionNo::new(0),
         live_bound: 4,
@@ -189,7 +199,10 @@ fn pause_itself(alloc: Global) -> Result<Paused, Fail>
         &rows,
         8,
     );
-    let root = roots[0];
+    let root = match roots.next_named(0) {
+        Some(place) => roots.get(place),
+        None => None,
+    };
     let queued = cards.queued();
     Ok(Paused {
         table,
@@ -211,7 +224,7 @@ fn pause_held(alloc: Global) -> Result<Paused, Fail>
     let mut sets = RememberedSets::new(alloc, 4, 2)?;
     sets.add(RegionNo::new(1), Card::new(0));
     let mut room = PauseRoom::new(alloc, 4, 8)?;
-    let mut roots = [Some(Addr::new(0))];
+    let mut roots = one_root(alloc, 0)?;
     let rows = [LiveRow {
         region: RegionNo::new(1),
         live_bound: 2,
@@ -227,7 +240,10 @@ fn pause_held(alloc: Global) -> Result<Paused, Fail>
         &rows,
         8,
     );
-    let root = roots[0];
+    let root = match roots.next_named(0) {
+        Some(place) => roots.get(place),
+        None => None,
+    };
     let queued = cards.queued();
     Ok(Paused {
         table,

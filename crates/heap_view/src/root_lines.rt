@@ -1,12 +1,11 @@
 //! Roots, and what each mutator has: its registers, its buffer and its logs.
 
-ghost use Rattle.std.specs.Prelude.{◌<◌, ◌+◌, ◌*◌, ◌≤◌, length};
+ghost use Rattle.std.specs.Prelude.{◌<◌, length};
 
 use crate::card_lines::write_card_log;
 use crate::names::write_name;
 use crate::pieces::write_text;
-use heap_words::addr::{Addr, Ptr};
-use object_graph::{GLOBALS, REGISTERS};
+use heap_words::addr::Addr;
 use regions::RegionTable;
 use std::io::{Result, Write};
 use step_core::Core;
@@ -17,21 +16,28 @@ fn write_place<W: Write>(table: &RegionTable, writer: &mut W, at: Addr) -> Resul
     write!(writer, " at {}", at.word())
 }
 
-/// Writes the roots of a list that aren't nil, each behind its letter and its number.
+/// Writes the roots from one place up to another that aren't nil, each behind its letter and its number.
 fn write_places<W: Write>(
     core: &Core,
     writer: &mut W,
     letter: &'static str,
-    roots: &[Ptr],
+    first: usize,
+    end: usize,
 ) -> Result<()> {
+    let roots = core.roots();
     let mut some = false;
-    for (number, root) in roots.iter().enumerate() {
-        if let Some(at) = *root {
+    let mut from = first;
+    while let Some(place) = roots.next_named(from) {
+        if end <= place {
+            break;
+        }
+        if let Some(at) = roots.get(place) {
             let mark = if some { "," } else { "" };
-            write!(writer, "{mark} {letter}{number} ")?;
+            write!(writer, "{mark} {letter}{} ", place - first)?;
             write_place(core.table(), writer, at)?;
             some = true;
         }
+        from = place + 1;
     }
     if some {
         write_text(writer, "\n")
@@ -79,8 +85,10 @@ fn write_mutator<W: Write>(core: &Core, writer: &mut W, mutator: u32) -> Result<
 {
     core.remembers();
     write!(writer, "mutator {mutator}:")?;
-    let first = GLOBALS + REGISTERS * mutator as usize;
-    write_places(core, writer, "r", &core.roots()[first..first + REGISTERS])?;
+    let places = core.roots().places();
+    let first = places.register(mutator, 0);
+    let end = places.register(mutator, places.registers());
+    write_places(core, writer, "r", first, end)?;
     write_buffer(core, writer, mutator)?;
     write_card_log(core, writer, mutator)?;
     write_deletion_log(core, writer, mutator)
@@ -90,7 +98,8 @@ fn write_mutator<W: Write>(core: &Core, writer: &mut W, mutator: u32) -> Result<
 pub(crate) fn write_roots<W: Write>(core: &Core, writer: &mut W) -> Result<()> {
     core.remembers();
     write_text(writer, "globals:")?;
-    write_places(core, writer, "g", &core.roots()[..GLOBALS])?;
+    let places = core.roots().places();
+    write_places(core, writer, "g", 0, places.globals() as usize)?;
     for mutator in 0..core.config().mutators {
         write_mutator(core, writer, mutator)?;
     }

@@ -1,7 +1,8 @@
 -- Marking has begun: what is kept lies below the next tops, and what roots name is marked.
 use Rattle.std.proofs.Common.{inl, inr, ◌≡◌, ℕ, zero, suc, ◌+◌, ◌-◌, ◌*◌, ◌/◌, ◌%◌, ◌<◌, ◌≤◌, Bool, true, false, List, [], ◌∷◌, Option, Some, length, get_or, ap, ◌∙◌, arith}
 use Rattle.std.specs.Prelude.{slice_get}
-use Rattle.std.proofs.lemmas.Bool.{lt-ltb}
+use Rattle.std.proofs.lemmas.Bool.{cases_lt, lt-ltb}
+use Rattle.root_table.specs.Roots.{AreNil}
 use Rattle.std.proofs.lemmas.Option.{slice_get_within}
 use Rattle.heap_model.specs.Heap.{Stored}
 use Rattle.heap_model.specs.Marking.{Begins}
@@ -17,7 +18,7 @@ use Rattle.marker.specs.Stands.{IsKept}
 use Rattle.marker.specs.Steps.{IsAmong}
 use Rattle.marker.specs.declared.marker.Marker.{Marker}
 use Rattle.marker.proofs.Views.{kept_object}
-use Rattle.marker.proofs.Reached.{Reached}
+use Rattle.marker.proofs.Reached.{Reached, among_past}
 
 -- an object starts below the end of its region's tiles
 object_in_total : (ts : List Tile) (o : ℕ) (s : Stored) → tile_at o ts ≡ Some (Object s) → o < total_size ts
@@ -69,3 +70,14 @@ all_begun t roots m m' n z all run tops unmarked unscanned none kept p =
       scanned = λ a. ap (λ (b : List Bool). is_marked b a) p.scanned ∙ unscanned a;
       logged = ap logged p.logs ∙ none;
     }
+
+-- the same, where only nil stands behind
+pub rest_begun : (t : Table) (roots : List (Option ℕ)) (m m' : Marker) (n : ℕ) → 0 < t.words_per_region → AreNil roots n (length roots) → m.running ≡ true
+    → ((k : ℕ) → k < length t.regions → get_or m.tams.next k 0 ≡ top_of t k)
+    → ((a : ℕ) → is_marked m.bitmaps.next a ≡ false) → ((a : ℕ) → is_marked m.grey.scanned a ≡ false) → logged m.logs ≡ []
+    → ((j a : ℕ) → slice_get roots j ≡ Some (Some a) → IsKept t m a)
+    → Reached t (IsAmong roots n) m m' → Begins (heap_of t roots m') (marking_of t m')
+rest_begun t roots m m' n z nil run tops unmarked unscanned none kept p = elim (cases_lt n (length roots)) [
+  | inl less ↦ all_begun t roots m m' (length roots) z (omega arith) run tops unmarked unscanned none kept (among_past t roots n (length roots) m m' (omega (arith, less)) nil p)
+  | inr more ↦ all_begun t roots m m' n z more run tops unmarked unscanned none kept p
+]

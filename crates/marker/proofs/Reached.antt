@@ -1,8 +1,10 @@
 -- Marks come, and marks still stand at kept objects.
-use Rattle.std.proofs.Common.{inl, inr, ◌≡◌, ◌⊎◌, ℕ, ◌+◌, ◌<◌, Bool, true, false, List, [], Option, Some, length, get_or, set, refl, sym, ap, ◌∙◌, subst, arith, get_or-set_same, get_or-set_other}
+use Rattle.std.proofs.Common.{inl, inr, ◌≡◌, ◌⊎◌, ℕ, ◌+◌, ◌<◌, ◌≤◌, Bool, true, false, List, [], Option, None, Some, length, get_or, set, refl, sym, ap, ◌∙◌, subst, arith, get_or-set_same, get_or-set_other}
 use Rattle.std.specs.Prelude.{Contains, slice_get}
 use Rattle.std.proofs.lemmas.Bool.{cases_eq, cases_lt}
 use Rattle.std.proofs.lemmas.List.{get_or_past}
+use Rattle.std.proofs.lemmas.Option.{get_or_from_slice_get, slice_get-get_or}
+use Rattle.root_table.specs.Roots.{AreNil, IsNextNamed}
 use Rattle.heap_model.specs.Heap.{IsClosed}
 use Rattle.regions.specs.Table.{Table}
 use Rattle.mark_bitmap.specs.Marks.{is_marked, marked_count}
@@ -150,3 +152,45 @@ pub among_more : (t : Table) (words : List (Option ℕ)) (n : ℕ) (w : Option �
 among_more t words n w m m' m'' e p q =
     more_reached t (IsAmong words n) (λ a. w ≡ Some a) (IsAmong words (n + 1)) m m' m''
     (λ a i. among_split words n a w e i) (λ a i. among_left words n a i) (λ a f. among_right words n a w e f) p q
+
+-- ---- roots, of which those that hold nil are passed over
+-- what is wanted may be said otherwise
+pub reached_as : (t : Table) (wanted other : ℕ → Type 0) (m m' : Marker) → ((a : ℕ) → wanted a → other a) → ((a : ℕ) → other a → wanted a) → Reached t wanted m m' → Reached t other m m'
+reached_as t wanted other m m' to from r = record {
+  stands = r.stands;
+  marks = record {
+    stays = r.marks.stays;
+    only = λ a k. elim (r.marks.only a k) [ inl was ↦ inl was | inr w ↦ inr (to a w) ];
+    each = λ a o. r.marks.each a (from a o);
+  };
+  same = r.same;
+  scanned = r.scanned;
+  scans = r.scans;
+  logs = r.logs;
+}
+
+among_wider : (words : List (Option ℕ)) (n k a : ℕ) → n ≤ k → IsAmong words n a → IsAmong words k a
+among_wider words n k a le i = record { place = i.place; front = omega (arith, le, i.front); is = i.is }
+
+among_same : (words : List (Option ℕ)) (n k a : ℕ) → AreNil words n k → IsAmong words k a → IsAmong words n a
+among_same words n k a nil i = elim (cases_lt i.place n) [
+  | inl less ↦ record { place = i.place; front = less; is = i.is }
+  | inr more ↦ absurd (let none = nil i.place more i.front in let some = get_or_from_slice_get words i.place (Some a) None i.is in cc)
+]
+
+-- up to a place further on, where only nil stands between
+pub among_past : (t : Table) (words : List (Option ℕ)) (n k : ℕ) (m m' : Marker) → n ≤ k → AreNil words n k → Reached t (IsAmong words n) m m' → Reached t (IsAmong words k) m m'
+among_past t words n k m m' le nil r = reached_as t (IsAmong words n) (IsAmong words k) m m' (λ a. among_wider words n k a le) (λ a. among_same words n k a nil) r
+
+-- the word that stands in the next place that is named
+pub named_word : (words : List (Option ℕ)) (from place : ℕ) (w : Option ℕ) → IsNextNamed words from place → w ≡ get_or words place None → slice_get words place ≡ Some w
+named_word words from place w n e = elim (cases_lt place (length words)) [
+  | inl within ↦ slice_get-get_or words place None within ∙ ap Some (sym e)
+  | inr past ↦ absurd (let none : get_or words place None ≡ None = get_or_past words place None past in let some = n.holds in cc)
+]
+
+-- all up to the next place that is named were reached, and then what it names
+pub among_next : (t : Table) (words : List (Option ℕ)) (from place : ℕ) (w : Option ℕ) (m m' m'' : Marker) → IsNextNamed words from place → w ≡ get_or words place None
+    → Reached t (IsAmong words from) m m' → Reached t (λ a. w ≡ Some a) m' m'' → Reached t (IsAmong words (place + 1)) m m''
+among_next t words from place w m m' m'' n e p q =
+    among_more t words place w m m' m'' (named_word words from place w n e) (among_past t words from place m m' n.from_on n.nil_before p) q

@@ -19,6 +19,7 @@ use crate::marker::Marker;
 use heap_words::addr::{Addr, Ptr, RegionNo};
 use mark_bitmap::tams::Tams;
 use regions::RegionTable;
+use root_table::Roots;
 use satb_log::log::DeletionLog;
 
 /// The next top of each region becomes its present top.
@@ -58,14 +59,14 @@ impl Marker {
     }
 
     /// Marking begins: what is there is old, and each object that a root names is marked and grey.
-    pub fn begin(&mut self, table: &RegionTable, roots: &[Ptr])
+    pub fn begin(&mut self, table: &RegionTable, roots: &Roots)
         requires stands { MarkerStands table.now self.old }
         requires idle { self.old.running ≡ false }
-        requires closed { IsClosed (heap_of table.now roots.now self.old) }
+        requires closed { IsClosed (heap_of table.now roots.now.words self.old) }
         ensures stands { MarkerStands table.now self.new }
         ensures running { self.new.running ≡ true }
-        ensures begins { Begins (heap_of table.now roots.now self.new) (marking_of table.now self.new) }
-        ensures snapshot { (g : Graph) → Shows g (heap_of table.now roots.now self.old) → KeepsSnapshot g (heap_of table.now roots.now self.new) (marking_of table.now self.new) }
+        ensures begins { Begins (heap_of table.now roots.now.words self.new) (marking_of table.now self.new) }
+        ensures snapshot { (g : Graph) → Shows g (heap_of table.now roots.now.words self.old) → KeepsSnapshot g (heap_of table.now roots.now.words self.new) (marking_of table.now self.new) }
         ensures tops { (k : ℕ) → k < length table.now.regions → slice_index self.new.tams.next k ≡ top_of table.now k }
         ensures previous_tops { self.new.tams.previous ≡ self.old.tams.previous }
         ensures previous_marks { self.new.bitmaps.previous ≡ self.old.bitmaps.previous }
@@ -74,8 +75,10 @@ impl Marker {
     {
         table.law();
         self.start(table);
-        for root in roots {
-            self.reach(table, *root);
+        let mut from = 0;
+        while let Some(place) = roots.next_named(from) {
+            self.reach(table, roots.get(place));
+            from = place + 1;
         }
     }
 

@@ -26,7 +26,7 @@
 //! Each object is scanned once in a cycle: a scan takes a grey object, and leaves it scanned. The scans are counted from
 //! `begin` on, only marked objects are scanned, and at the end the count is the number of marked objects.
 //!
-//! A scan costs the object's pointers, and `begin` the bitmap, the regions and the roots. `finish` walks the regions that
+//! A scan costs the object's pointers, and `begin` the bitmap, the regions and the roots in use. `finish` walks the regions that
 //! have weak slots, and no other call walks a region. No call takes memory but `Marker::new`.
 #![tactic(auto)]
 

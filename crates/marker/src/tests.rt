@@ -12,6 +12,7 @@ use heap_words::addr::{Addr, Ptr, RegionNo};
 use heap_words::config::{Config, Format};
 use heap_words::header::{Count, Counts, FillerSize};
 use regions::{Kind, RegionTable, Shape};
+use root_table::{Places, Roots};
 use std::alloc::Global;
 use std::test::Fail;
 
@@ -141,26 +142,26 @@ fn build(alloc: Global, shapes: &[(u8, u8)], links: &[(usize, u32, usize)]) -> R
     Ok(Made { table, objects })
 }
 
-/// The 32 root words of two mutators: 16 globals, then 8 registers each. A pair says which object a place holds.
-fn roots_of(alloc: Global, made: &Made, held: &[(usize, usize)]) -> Result<Vec<Ptr>, Fail>
+/// Roots of 32 globals. A pair says which object a place holds.
+fn roots_of(alloc: Global, made: &Made, held: &[(u32, usize)]) -> Result<Roots, Fail>
     requires { (i a : ℕ) → slice_get made.now.objects.items i ≡ Some a → HasObject made.now.table a }
-    ensures { IfOk result (λ roots. LeadToObjects made.now.table roots.items) }
+    ensures { IfOk result (λ roots. LeadToObjects made.now.table roots.words) }
 {
-    let mut roots = vec![in alloc; None; 32]?;
+    let mut roots = Roots::new(alloc, Places::new(32, 0, 0))?;
     for (place, object) in held {
-        if *place < roots.len() && *object < made.objects.len() {
-            roots[*place] = Some(made.objects[*object]);
+        if *place < 32 && *object < made.objects.len() {
+            roots.set_global(*place, Some(made.objects[*object]));
         }
     }
     Ok(roots)
 }
 
 /// A marker that has begun.
-fn begun(alloc: Global, table: &RegionTable, roots: &[Ptr]) -> Result<Marker, Fail>
+fn begun(alloc: Global, table: &RegionTable, roots: &Roots) -> Result<Marker, Fail>
     requires count { length table.now.regions ≡ 4 }
     requires words { table.now.words_per_region ≡ 16 }
     requires linked { IsLinked table.now }
-    requires roots { LeadToObjects table.now roots.now }
+    requires roots { LeadToObjects table.now roots.now.words }
     ensures stands { IfOk result (MarkerStands table.now) }
     ensures running { IfOk result (λ marker. marker.running ≡ true) }
     ensures kept { IfOk result (λ marker. (a : ℕ) → HasObject table.now a → IsKept table.now marker a) }
@@ -194,7 +195,7 @@ fn count_from(
     alloc: Global,
     shapes: &[(u8, u8)],
     links: &[(usize, u32, usize)],
-    held: &[(usize, usize)],
+    held: &[(u32, usize)],
 ) -> Result<u32, Fail> {
     let mut made = build(alloc, shapes, links)?;
     let roots = roots_of(alloc, &made, held)?;

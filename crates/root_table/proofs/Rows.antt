@@ -174,3 +174,7 @@ pub register_kept : (p : Places) (words : List (Option ℕ)) (used : List ℕ) (
 register_kept p words used m k place n v b known inside at =
     subst (λ (row : ℕ). n ≡ get_or used row n → k < n → AreBounded p (set words place v) used) (one_more m)
     (λ e above. kept_in p words used (suc m) k place n v b (omega (arith, known)) inside (omega (arith, at)) e above)
+
+-- a register's place is among the places
+pub register_within : (p : Places) (m k : ℕ) → m < p.mutators → k < p.registers → register_place p m k < root_places p
+register_within p m k known inside = let end = row_within p (suc m) (omega (arith, known)) in omega (arith, end, inside)

@@ -1,6 +1,6 @@
 //! The table of roots.
 
-ghost use Rattle.std.specs.Prelude.{◌≡◌, ◌<◌, ◌≤◌, ◌+◌, ◌-◌, ◌*◌, None, IfOk, IfSome, IsSome, length, MatchOption, replicate, slice_get, slice_index_or, slice_set};
+ghost use Rattle.std.specs.Prelude.{◌≡◌, ◌<◌, ◌≤◌, ◌+◌, ◌-◌, ◌*◌, ◌^◌, None, IfOk, IfSome, IsSome, length, MatchOption, replicate, slice_get, slice_index_or, slice_set};
 ghost use Rattle.heap_model.specs.Graph.{register_place, root_places, with_nils};
 ghost use Rattle.root_table.specs.Roots.{row_start, row_length, AreNil, IsNextNamed};
 
@@ -76,9 +76,10 @@ impl Roots {
         })
     }
 
-    /// Where the roots stand.
+    /// Where the roots stand: there is a place for each.
     pub fn places(&self) -> Places
-        ensures { result ≡ self.now.places }
+        ensures places { result ≡ self.now.places }
+        ensures count { length self.now.words ≡ root_places self.now.places }
     {
         self.places
     }
@@ -94,7 +95,7 @@ impl Roots {
     /// What a place holds.
     #[inline(always)]
     pub fn get(&self, place: usize) -> Ptr
-        requires { place < root_places self.now.places }
+        requires { place < length self.now.words }
         ensures { result ≡ slice_index_or self.now.words place None }
     {
         self.words[place]
@@ -152,8 +153,9 @@ impl Roots {
 
     /// The lowest place from `from` on that doesn't hold nil. It looks at no place above its row's bound.
     pub fn next_named(&self, from: usize) -> Option<usize>
-        ensures lowest { MatchOption result (AreNil self.now.words from (root_places self.now.places)) (IsNextNamed self.now.words from) }
-        ensures within { IfSome result (λ place. place < root_places self.now.places) }
+        ensures lowest { MatchOption result (AreNil self.now.words from (length self.now.words)) (IsNextNamed self.now.words from) }
+        ensures within { IfSome result (λ place. place < length self.now.words) }
+        ensures small { IfSome result (λ place. place + 1 < 2 ^ 64) }
     {
         if self.words.len() <= from {
             return None;
@@ -168,8 +170,9 @@ impl Roots {
     fn next_in_rows(&self, from: usize, first: usize) -> Option<usize>
         requires row { first ≤ self.now.places.mutators }
         requires place { row_start self.now.places first ≤ from }
-        ensures lowest { MatchOption result (AreNil self.now.words from (root_places self.now.places)) (IsNextNamed self.now.words from) }
-        ensures within { IfSome result (λ place. place < root_places self.now.places) }
+        ensures lowest { MatchOption result (AreNil self.now.words from (length self.now.words)) (IsNextNamed self.now.words from) }
+        ensures within { IfSome result (λ place. place < length self.now.words) }
+        ensures small { IfSome result (λ place. place + 1 < 2 ^ 64) }
     {
         for row in first..self.used.len() {
             let start = self.places.start_of(row);

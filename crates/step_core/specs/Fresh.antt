@@ -8,7 +8,7 @@ use Rattle.marker.specs.Views.{fresh_marker}
 use Rattle.cards.specs.Cards.{clean_cards}
 use Rattle.remembered_sets.specs.Sets.{empty_sets}
 use Rattle.object_graph.specs.State.{root_places}
-use Rattle.step_core.specs.Stands.{CoreState}
+use Rattle.step_core.specs.Stands.{CoreState, places_of}
 
 -- every region is free, no buffer open, nothing marked, each card clean, each set empty and each root nil
 abbrev pub fresh_core : Config → CoreState
@@ -21,6 +21,7 @@ fresh_core c = record {
   sets = empty_sets c.regions (c.words / card_words c);
   room = record { regions = c.regions; cards = c.regions * (c.words / card_words c) };
   row_room = c.regions;
+  places = places_of c;
   roots = replicate (root_places c.mutators) None;
   next = c.first_name;
 }

@@ -3,7 +3,7 @@ use Rattle.std.specs.Prelude.{◌≡◌, ℕ, ◌+◌, ◌-◌, ◌*◌, ◌/◌
 use Rattle.std.specs.List.{AllZip}
 use Rattle.heap_words.specs.declared.config.Config.{Config}
 use Rattle.heap_words.specs.Configs.{Suits, card_words}
-use Rattle.heap_model.specs.Graph.{Graph, Object, next_name, object_named, IsReachable, IsSound}
+use Rattle.heap_model.specs.Graph.{Graph, Object, Places, next_name, object_named, IsReachable, IsSound}
 use Rattle.heap_model.specs.Heap.{Heap, Stored, Shows, IsShown, IsRoot, StandsOnce}
 use Rattle.heap_model.specs.Marking.{Marking, KeepsSnapshot}
 use Rattle.heap_model.specs.Weak.{KeepsUnreached}
@@ -23,6 +23,7 @@ use Rattle.cards.specs.Cards.{Cards, is_dirty}
 use Rattle.remembered_sets.specs.Sets.{Sets, card_count, covers}
 use Rattle.refinement.specs.Remembering.{Remembers}
 use Rattle.evacuation.specs.Rooms.{RoomSizes}
+use Rattle.object_graph.specs.Roots.{globals, registers}
 use Rattle.object_graph.specs.State.{State, IsSoundState, root_places, root_at}
 use Rattle.object_graph.specs.Since.{IsSinceState}
 
@@ -38,7 +39,8 @@ pub record CoreState : Type 0 where
   pub room : RoomSizes
   -- for how many candidates of a pause there is room
   pub row_room : ℕ
-  -- the globals, and each mutator's registers
+  -- how many globals and registers there are, and what they hold
+  pub places : Places
   pub roots : List (Option ℕ)
   -- the name of the next object
   pub next : ℕ
@@ -138,6 +140,10 @@ pub record IsRoomFor (config : Config) (room : RoomSizes) : Type 0 where
   pub regions : room.regions ≡ config.regions
   pub cards : room.cards ≡ config.regions * (config.words / card_words config)
 
+-- the places of roots that sizes ask for
+abbrev pub places_of : Config → Places
+places_of c = record { globals = globals; mutators = c.mutators; registers = registers }
+
 -- What every core keeps. There are a graph and a snapshot on which it rests: so each root is the start of an object, and what a weak slot
 -- holds may be saved
 pub record IsCore (c : CoreState) : Type 0 where
@@ -147,6 +153,7 @@ pub record IsCore (c : CoreState) : Type 0 where
   pub remembers : RemembersFields c
   pub room : IsRoomFor c.config c.room
   pub rows : c.config.regions ≤ c.row_room
+  pub placed : c.places ≡ places_of c.config
   pub places : length c.roots ≡ root_places c.config.mutators
   pub names : c.next < 2 ^ 64
   pub footing : Footing

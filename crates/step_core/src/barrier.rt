@@ -38,7 +38,7 @@ ghost use Rattle.step_core.specs.Cycle.{LeavesRegions};
 
 use crate::heap::Core;
 use heap_words::addr::{Addr, Card, Ptr};
-use object_graph::{Register, register_place};
+use object_graph::Register;
 
 impl Core {
     /// A value is about to be stored in a pointer or a weak slot: the field's card becomes dirty if the value leads into another
@@ -150,7 +150,7 @@ impl Core {
         ensures marker { Overwrites self.old.marker.running self.old.table mutator value.now self.old.marker self.new.marker }
         ensures leaves { LeavesRegions self.old self.new }
     {
-        self.roots[register_place(mutator, to)] = *value;
+        self.roots.set_register(mutator, to.number as u32, *value);
         if !self.marker.running {
             return;
         }

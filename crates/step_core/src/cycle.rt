@@ -35,7 +35,7 @@ impl Core {
     {
         self.table.law();
         self.buffers.retire_all();
-        self.marker.begin(&self.table, self.roots.as_slice());
+        self.marker.begin(&self.table, &self.roots);
     }
 
     /// Up to so many units of marking.

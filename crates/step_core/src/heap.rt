@@ -18,10 +18,11 @@ use evacuation::PauseRoom;
 use heap_words::addr::{Addr, Ptr};
 use heap_words::config::{Config, NewFault};
 use marker::Marker;
-use object_graph::{Register, register_place, root_places};
+use object_graph::{GlobalRoot, Register, register_place};
 use region_choice::LiveRow;
 use regions::RegionTable;
 use remembered_sets::RememberedSets;
+use root_table::Roots;
 use std::alloc::Global;
 use std::marker::Model;
 
@@ -36,7 +37,7 @@ pub struct Core {
     pub(crate) sets: RememberedSets,
     pub(crate) room: PauseRoom,
     pub(crate) rows: Vec<LiveRow>,
-    pub(crate) roots: Vec<Ptr>,
+    pub(crate) roots: Roots,
     pub(crate) next: u64,
 }
 
@@ -46,9 +47,9 @@ impl Model for Core {
 
     ghost Value = { CoreState };
 
-    ghost view = { λ c. record { config = c.config; table = c.table; buffers = c.buffers; marker = c.marker; cards = c.cards; sets = c.sets; room = c.room; row_room = vec_capacity c.rows; roots = c.roots.items; next = c.next } };
+    ghost view = { λ c. record { config = c.config; table = c.table; buffers = c.buffers; marker = c.marker; cards = c.cards; sets = c.sets; room = c.room; row_room = vec_capacity c.rows; places = c.roots.places; roots = c.roots.words; next = c.next } };
 
-    ghost invariant = { λ c. IsCore (record { config = c.config; table = c.table; buffers = c.buffers; marker = c.marker; cards = c.cards; sets = c.sets; room = c.room; row_room = vec_capacity c.rows; roots = c.roots.items; next = c.next }) };
+    ghost invariant = { λ c. IsCore (record { config = c.config; table = c.table; buffers = c.buffers; marker = c.marker; cards = c.cards; sets = c.sets; room = c.room; row_room = vec_capacity c.rows; places = c.roots.places; roots = c.roots.words; next = c.next }) };
 }
 
 /// Where a core is let go there is one call, and not a drop for each part of each layer.
@@ -171,19 +172,18 @@ impl Core {
         ensures leads { Leads self.now place result }
         ensures shows { (g : Graph) → ShowsGraph g self.now → IsShown (heap_of self.now) result (root_at g place) }
     {
-        self.roots[place]
+        self.roots.get(place)
     }
 
-    pub(crate) fn set_root(&mut self, place: usize, value: Ptr)
-        requires place { place < root_places self.old.config.mutators }
+    pub(crate) fn set_global(&mut self, global: GlobalRoot, value: Ptr)
         requires word { IsWordOf (heap_of self.old) value }
         requires held { IsHeld (heap_of self.old) value }
-        ensures shows { (g : Graph) (v : Option ℕ) → ShowsGraph g self.old → IsShown (heap_of self.old) value v → ShowsGraph (with_root g place v) self.new }
+        ensures shows { (g : Graph) (v : Option ℕ) → ShowsGraph g self.old → IsShown (heap_of self.old) value v → ShowsGraph (with_root g global.number v) self.new }
         ensures keeps { (s : Graph) → KeepsFrom s self.old → KeepsFrom s self.new }
-        ensures after { self.new ≡ with_root_word self.old place value }
+        ensures after { self.new ≡ with_root_word self.old global.number value }
         ensures leaves { LeavesRegions self.old self.new }
     {
-        self.roots[place] = value;
+        self.roots.set_global(global.number as u32, value);
     }
 
     /// What a mutator's register holds.
@@ -207,8 +207,8 @@ impl Core {
         ensures after { self.new ≡ with_root_word self.old (register_place mutator register.number) value }
         ensures leaves { LeavesRegions self.old self.new }
     {
-        let place = register_place(mutator, register);
-        self.set_root(place, value);
+        self.roots
+            .set_register(mutator, register.number as u32, value);
     }
 
     /// The name of the object that a word names.

@@ -12,23 +12,24 @@ ghost use Rattle.marker.specs.Views.{fresh_marker};
 ghost use Rattle.cards.specs.Cards.{clean_cards};
 ghost use Rattle.remembered_sets.specs.Sets.{empty_sets};
 ghost use Rattle.object_graph.specs.State.{root_places};
+ghost use Rattle.step_core.specs.Stands.{places_of};
 
 use alloc_buffers::AllocBuffers;
 use cards::CardTable;
 use evacuation::PauseRoom;
-use heap_words::addr::Ptr;
 use heap_words::config::Config;
 use marker::Marker;
-use object_graph::root_places;
+use object_graph::{GLOBALS, REGISTERS};
 use region_choice::LiveRow;
 use remembered_sets::RememberedSets;
+use root_table::{Places, Roots};
 use std::alloc::{AllocError, Global};
 
 /// What the mutators' steps work on, beside the table of regions.
 #[derive(Drop)]
 pub(crate) struct Mutating {
     pub(crate) buffers: AllocBuffers,
-    pub(crate) roots: Vec<Ptr>,
+    pub(crate) roots: Roots,
     pub(crate) next: u64,
 }
 
@@ -54,12 +55,6 @@ pub(crate) struct Collecting {
     pub(crate) pausing: Pausing,
 }
 
-fn nil_roots(alloc: Global, count: usize) -> Result<Vec<Ptr>, AllocError>
-    ensures { IfOk result (λ v. v.items ≡ replicate count None) }
-{
-    vec![in alloc; None; count]
-}
-
 fn first_name(config: &Config) -> u64
     ensures { result ≡ config.now.first_name }
 {
@@ -71,12 +66,13 @@ pub(crate) fn new_mutating(alloc: Global, config: &Config) -> Result<Mutating, A
     requires { Suits config.now }
     ensures closed { IfOk result (λ m. m.buffers ≡ closed config.now.buffer config.now.mutators) }
     ensures stand { IfOk result (λ m. (t : Table) → BuffersStand t m.buffers) }
-    ensures roots { IfOk result (λ m. m.roots.items ≡ replicate (root_places config.now.mutators) None) }
+    ensures roots { IfOk result (λ m. m.roots ≡ record { places = places_of config.now; words = replicate (root_places config.now.mutators) None }) }
     ensures next { IfOk result (λ m. m.next ≡ config.now.first_name) }
     ensures names { IfOk result (λ m. m.next < 2 ^ 64) }
 {
     let buffers = AllocBuffers::new(alloc, config)?;
-    let roots = nil_roots(alloc, root_places(config.mutators))?;
+    let places = Places::new(GLOBALS as u32, config.mutators, REGISTERS as u32);
+    let roots = Roots::new(alloc, places)?;
     let next = first_name(config);
     Ok(Mutating {
         buffers,

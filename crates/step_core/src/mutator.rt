@@ -23,7 +23,7 @@ use heap_words::addr::{Addr, Ptr};
 use heap_words::config::Config;
 use heap_words::header;
 use heap_words::header::{Count, FillerSize};
-use object_graph::{Action, Counts, GlobalRoot, Op, Refusal, Register, Reply, register_place};
+use object_graph::{Action, Counts, GlobalRoot, Op, Refusal, Register, Reply};
 use regions::RegionTable;
 
 /// Makes a new object in its place, and answers its address.
@@ -187,7 +187,7 @@ impl Core {
         ensures leaves { LeavesRegions self.old self.new }
     {
         let value = self.register(mutator, from);
-        self.set_root(to.number as usize, value);
+        self.set_global(to, value);
         Reply::Done
     }
 
@@ -291,7 +291,7 @@ impl Core {
             values: Count::new(counts.values),
         };
         let at = make(&mut self.table, place, name, counts);
-        self.roots[register_place(mutator, to)] = Some(at);
+        self.roots.set_register(mutator, to.number as u32, Some(at));
         self.next += 1;
         Reply::Named(Some(name))
     }

@@ -56,7 +56,7 @@ impl Core {
             &mut self.marker.bitmaps,
             &mut self.cards,
             &mut self.sets,
-            self.roots.as_mut_slice(),
+            &mut self.roots,
             &mut self.room,
             &self.rows[..count],
             self.config.card_words(),

@@ -7,14 +7,15 @@
 //! ```
 
 ghost use Rattle.std.specs.Prelude.{◌≡◌};
+ghost use Rattle.step_core.specs.Stands.{places_of};
 
 use crate::heap::Core;
 use alloc_buffers::AllocBuffers;
 use cards::CardTable;
-use heap_words::addr::Ptr;
 use marker::Marker;
 use regions::RegionTable;
 use remembered_sets::RememberedSets;
+use root_table::Roots;
 
 impl Core {
     /// The regions with their tiles.
@@ -53,10 +54,11 @@ impl Core {
     }
 
     /// What the root places hold: the 16 globals, then the 8 registers of each mutator.
-    pub fn roots(&self) -> &[Ptr]
-        ensures { result.now ≡ self.now.roots }
+    pub fn roots(&self) -> &Roots
+        ensures places { result.now.places ≡ places_of self.now.config }
+        ensures words { result.now.words ≡ self.now.roots }
     {
-        self.roots.as_slice()
+        &self.roots
     }
 
     /// The name of the next object.

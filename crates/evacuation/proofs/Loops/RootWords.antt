@@ -1,9 +1,11 @@
 -- Roots.
-use Rattle.std.proofs.Common.{◌≡◌, ℕ, suc, ◌+◌, ◌≤◌, Bool, true, List, [], ◌∷◌, Option, Some, None, length, refl, sym, ◌∙◌, subst, inl, inr, arith}
+use Rattle.std.proofs.Common.{◌≡◌, ℕ, suc, ◌+◌, ◌<◌, ◌≤◌, Bool, true, List, [], ◌∷◌, Option, Some, None, length, get_or, refl, sym, ap, ◌∙◌, subst, inl, inr, arith}
 use Rattle.std.specs.Prelude.{slice_get, slice_set}
 use Rattle.std.specs.List.{AllZip}
-use Rattle.std.proofs.lemmas.Bool.{cases_eq, cases_Bool}
-use Rattle.std.proofs.lemmas.List.{length-set}
+use Rattle.std.proofs.lemmas.Bool.{cases_eq, cases_lt, cases_Bool}
+use Rattle.std.proofs.lemmas.Option.{get_or_from_slice_get, slice_get-get_or}
+use Rattle.root_table.specs.Roots.{AreNil, IsNextNamed}
+use Rattle.std.proofs.lemmas.List.{length-set, get_or_past}
 use Rattle.heap_model.specs.Relocation.{IsMoved}
 use Rattle.heap_model.specs.Evacuation.{ByRootWord, place_after}
 use Rattle.heap_model.proofs.Lists.{get-set_same, get-set_other}
@@ -61,3 +63,35 @@ roots_grow set f f' grows [] [] z = tt
 roots_grow set f f' grows [] (y ∷ ys) z = absurd z
 roots_grow set f f' grows (x ∷ xs) [] z = absurd z
 roots_grow set f f' grows (x ∷ xs) (y ∷ ys) z = (moved_grows set f f' grows x y z.0, roots_grow set f f' grows xs ys z.1)
+
+-- ---- roots that hold nil are passed over
+nil_moved : (place : ℕ → Option ℕ) (w w' : Option ℕ) → w ≡ None → w' ≡ None → IsMoved place w w'
+nil_moved place w w' e e' = rw (e, e') tt
+
+pub roots_past : (place : ℕ → Option ℕ) (before now : List (Option ℕ)) (from i : ℕ) → AreNil now from i → AreRootsMoved place before now from → from ≤ i → AreRootsMoved place before now i
+roots_past place before now from i nil r le = record {
+  moved = λ j w w' h e e'. elim (cases_lt j from) [
+    | inl less ↦ r.moved j w w' less e e'
+    | inr more ↦
+        let none : w' ≡ None = sym (get_or_from_slice_get now j w' None e') ∙ nil j more h in
+        let same : Some w ≡ Some w' = sym e ∙ sym (r.same j more) ∙ e' in
+        let both : w ≡ w' = cc in
+        nil_moved place w w' (both ∙ none) none
+  ];
+  same = λ j h. r.same j (omega (arith, le, h));
+  count = r.count;
+}
+
+-- the whole, where only nil stands behind
+pub roots_rest : (place : ℕ → Option ℕ) (before now : List (Option ℕ)) (from : ℕ) → AreRootsMoved place before now from → AreNil now from (length now) → AllZip (IsMoved place) before now
+roots_rest place before now from r nil = elim (cases_lt from (length now)) [
+  | inl less ↦ roots_all place before now (length now) (roots_past place before now from (length now) nil r (omega (arith, less))) (omega arith)
+  | inr more ↦ roots_all place before now from r more
+]
+
+-- the word that stands in the next place that is named
+pub named_word : (words : List (Option ℕ)) (from place : ℕ) (w : Option ℕ) → IsNextNamed words from place → w ≡ get_or words place None → slice_get words place ≡ Some w
+named_word words from place w n e = elim (cases_lt place (length words)) [
+  | inl within ↦ slice_get-get_or words place None within ∙ ap Some (sym e)
+  | inr past ↦ absurd (let none : get_or words place None ≡ None = get_or_past words place None past in let some = n.holds in cc)
+]

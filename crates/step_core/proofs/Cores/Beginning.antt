@@ -24,7 +24,7 @@ use Rattle.refinement.proofs.Remembered.{remembers_none}
 use Rattle.evacuation.specs.Rooms.{RoomSizes}
 use Rattle.heap_words.specs.Configs.{card_words}
 use Rattle.heap_words.proofs.Limits.{region_cards}
-use Rattle.step_core.specs.Stands.{IsRoomFor, CoreState, kept_of, heap_of, CardsFit, ShowsGraph, Stands, IsCore}
+use Rattle.step_core.specs.Stands.{places_of, IsRoomFor, CoreState, kept_of, heap_of, CardsFit, ShowsGraph, Stands, IsCore}
 use Rattle.step_core.proofs.Mutating.Reading.{object_kept}
 use Rattle.step_core.proofs.Mutating.Small.{words_none}
 
@@ -46,7 +46,7 @@ nil_shown h zero = tt
 nil_shown h (suc p) = (tt, nil_shown h p)
 
 abbrev pub first_core : Config → Marker → RoomSizes → ℕ → CoreState
-first_core g m d r = record { config = g; table = free_table g.regions g.words; buffers = closed g.buffer g.mutators; marker = m; cards = clean_cards (g.regions * (g.words / card_words g)) g.mutators; sets = empty_sets g.regions (g.words / card_words g); room = d; row_room = r; roots = replicate (root_places g.mutators) None; next = g.first_name }
+first_core g m d r = record { config = g; table = free_table g.regions g.words; buffers = closed g.buffer g.mutators; marker = m; cards = clean_cards (g.regions * (g.words / card_words g)) g.mutators; sets = empty_sets g.regions (g.words / card_words g); room = d; row_room = r; places = places_of g; roots = replicate (root_places g.mutators) None; next = g.first_name }
 
 none_kept : (g : Config) (m : Marker) (d : RoomSizes) (r : ℕ) (a : ℕ) (x : Stored) → kept_of (first_core g m d r) a ≡ Some x → ⊥
 none_kept g m d r a x e = let none = nothing_at g.regions g.words a in let is = object_kept (first_core g m d r) a x e in cc
@@ -129,6 +129,7 @@ first_is g m d r stand suits to rows names idle logs stands =
       remembers = remembers_none (first_core g m d r).table.words_per_region (card_words g) (kept_of (first_core g m d r)) (is_dirty (first_core g m d r).cards) (covers (first_core g m d r).sets) (first_none g m d r);
       room = to;
       rows = rows;
+      placed = refl;
       places = length-replicate (root_places g.mutators) None;
       names = names;
       footing = record { graph = first_graph g; snapshot = first_graph g };

@@ -1,7 +1,8 @@
 -- What each part of a step keeps: k is the core by its fields, c the same by its value.
 use Rattle.std.proofs.Common.{◌≡◌, ℕ, ◌+◌, ◌<◌, Option, Some, None, List, length, get_or, refl, sym, ◌∙◌, ap, subst, arith}
 use Rattle.std.specs.Prelude.{slice_get, slice_set, IsSome, IfSome}
-use Rattle.std.proofs.lemmas.List.{get_or_read, length-set}
+use Rattle.std.proofs.lemmas.List.{length-set}
+use Rattle.heap_model.specs.Graph as places
 use Rattle.heap_model.specs.Graph.{Graph, Object, IsSound}
 use Rattle.heap_model.specs.Heap.{Stored, IsShown, IsRoot, IsHeld, ObjectSet}
 use Rattle.heap_model.specs.Weak.{KeepsUnreached}
@@ -14,7 +15,7 @@ use Rattle.object_graph.specs.Machine.{Outcome, act}
 use Rattle.object_graph.specs.declared.step.Action.TheVariants as actions
 use Rattle.object_graph.specs.declared.step.Reply.TheVariants as replies
 use Rattle.object_graph.specs.declared.step.Register.{Register}
-use Rattle.step_core.specs.Stands.{CoreState, kept_of, heap_of, RemembersFields, ShowsGraph, KeepsFrom, IsCore, IsWordOf, IsRootWord, HasObject, Leads, name_in, name_of}
+use Rattle.step_core.specs.Stands.{places_of, CoreState, kept_of, heap_of, RemembersFields, ShowsGraph, KeepsFrom, IsCore, IsWordOf, IsRootWord, HasObject, Leads, name_in, name_of}
 use Rattle.step_core.specs.Cycle.{LeavesRegions}
 use Rattle.step_core.specs.Answers.{Acts}
 use Rattle.step_core.proofs.Cores.Sizes.{some_words}
@@ -35,12 +36,23 @@ pub record RootFacts (c : CoreState) (place : ℕ) (w : Option ℕ) : Type 0 whe
   pub leads : Leads c place w
   pub shows : (g : Graph) → ShowsGraph g c → IsShown (heap_of c) w (root_at g place)
 
-pub root_facts : (k c : CoreState) (place : ℕ) (w : Option ℕ) → k ≡ c → IsCore k → place < root_places c.config.mutators → w ≡ get_or k.roots place w → RootFacts c place w
-root_facts k c place w e core k0 r =
+-- the place of a register, by the places that the code has
+pub register_at : (k : CoreState) → IsCore k → (m r : ℕ) → places.register_place k.places m r ≡ register_place m r
+register_at k core m r = ap (λ (p : places.Places). places.register_place p m r) core.placed
+
+-- it has as many globals, mutators and registers as steps may name
+pub placed_in : (k c : CoreState) → k ≡ c → IsCore k → k.places ≡ places_of c.config
+placed_in k c e core = core.placed ∙ ap (λ (d : CoreState). places_of d.config) e
+
+pub root_within : (k c : CoreState) (place : ℕ) → k ≡ c → IsCore k → place < root_places c.config.mutators → place < length k.roots
+root_within k c place e core less = subst (λ (d : CoreState). place < length d.roots) (sym e) (let all = (core_of k c e core).places in omega (arith, less, all))
+
+pub root_facts : (k c : CoreState) (place : ℕ) (w : Option ℕ) → k ≡ c → IsCore k → place < root_places c.config.mutators → w ≡ get_or k.roots place None → RootFacts c place w
+root_facts k c place w e core less r =
     let core' = core_of k c e core in
-    let within : place < length c.roots = omega (arith, core'.places) in
-    let within' : place < length k.roots = subst (λ (d : CoreState). place < length d.roots) (sym e) within in
-    let is : w ≡ get_or c.roots place None = get_or_read k.roots place w within' r None ∙ ap (λ (d : CoreState). get_or d.roots place None) e in
+    let all = core'.places in
+    let within : place < length c.roots = omega (arith, less, all) in
+    let is : w ≡ get_or c.roots place None = r ∙ ap (λ (d : CoreState). get_or d.roots place None) e in
     record {
       value = is;
       word = root_word c place w core' within is;
@@ -73,6 +85,7 @@ module _ (k c : CoreState) (place : ℕ) (w : Option ℕ) (e : k ≡ c) where
         let word' : IsWordOf (heap_of k) w = subst (λ (d : CoreState). IsWordOf (heap_of d) w) (sym e) word in
         record {
           suits = core.suits;
+          placed = core.placed;
           layers = core.layers;
           cards = core.cards;
           remembers = root_remembers;
@@ -152,6 +165,7 @@ module _ (k c : CoreState) (e : k ≡ c) (core : IsCore k) (m : ℕ) (object : R
       let keeps = keeps_by core.footing.snapshot core.rests.keeps in
       record {
         suits = core.suits;
+        placed = core.placed;
         layers = layers_writes k.config k.table t k.buffers k.marker a h.stored (with_value h.stored i v) writes core.layers (follows_of (record k { table = t }) _ core.footing.snapshot shows keeps) (ap (λ (n : ℕ). 2 + length h.stored.pointers + length h.stored.weaks + n) (length-set h.stored.values i v));
         cards = core.cards;
         remembers = remembers_on k (record k { table = t }) refl writes.size refl refl
@@ -185,3 +199,7 @@ pub field_can_be_stored : (k c : CoreState) (place a i : ℕ) (w : Option ℕ) �
 field_can_be_stored k c place a i w e core l root is =
     let h = l core.footing.graph (subst (λ (d : CoreState). ShowsGraph core.footing.graph d) e core.rests.shows) in
     field_held c a i h.stored w root h.at (ap (λ (ps : List (Option ℕ)). slice_get ps i) (sym (pointers_there c a h.stored h.at) ∙ sym (pointers_of k c a e)) ∙ is)
+
+-- the core after a root word is set, by its value
+pub root_set : (k c : CoreState) → k ≡ c → (place : ℕ) (w : Option ℕ) → with_root_word k place w ≡ with_root_word c place w
+root_set k c e place w = ap (λ (d : CoreState). with_root_word d place w) e

@@ -81,6 +81,7 @@ module _ (k : CoreState) (core : IsCore k) (b : Buffers) (m : Marker) (retires :
   pub begun_kept : IsCore (with_marker k b m)
   begun_kept = record {
     suits = core.suits;
+    placed = core.placed;
     layers = record {
       region_size = core.layers.region_size;
       region_count = core.layers.region_count;
@@ -146,6 +147,7 @@ module _ (k : CoreState) (core : IsCore k) (run : k.marker.running ≡ true) (m 
   pub marked_kept : IsCore (with_marker k k.buffers m)
   marked_kept = record {
     suits = core.suits;
+    placed = core.placed;
     layers = layers_marked k.config k.table k.buffers k.marker m core.layers st same.tams (ap (λ (ls : List (List ℕ)). length ls) logs) (λ n. rw logs (core.layers.room n));
     cards = core.cards;
     remembers = remembers_same k k.buffers m heap_marked core.remembers;

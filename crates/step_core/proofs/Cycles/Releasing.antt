@@ -241,6 +241,7 @@ module _ (k : CoreState) (core : IsCore k) (shaped : IsShaped k.table) (n m : �
   pub release_kept : IsCore after
   release_kept = record {
     suits = core.suits;
+    placed = core.placed;
     layers = record {
       region_size = frees.size ∙ core.layers.region_size;
       region_count = frees.count ∙ core.layers.region_count;

@@ -205,6 +205,7 @@ module _ (k : CoreState) (core : IsCore k) (run : k.marker.running ≡ true) (t 
       let words = words_same marks k.table t clears in
       record {
         suits = core.suits;
+        placed = core.placed;
         layers = record {
           region_size = clears.size ∙ core.layers.region_size;
           region_count = clears.count ∙ core.layers.region_count;

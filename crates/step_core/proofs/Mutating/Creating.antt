@@ -133,6 +133,7 @@ module _ (k : CoreState) (m : ℕ) (to : Register) (t2 : Table) (b1 : Buffers) (
       let next = (makes.above (slice_index k.marker.tams.next) core.layers.above_next).1 in
       record {
         suits = core.suits;
+        placed = core.placed;
         layers = record {
           region_size = words ∙ core.layers.region_size;
           region_count = makes.region_count ∙ core.layers.region_count;

@@ -79,6 +79,7 @@ module _ (k : CoreState) (core : IsCore k) (m card : ℕ) (cs : Cards) (known : 
   unfolding kept_of
   dirtied_kept = record {
     suits = core.suits;
+    placed = core.placed;
     layers = core.layers;
     cards = record {
       whole_cards = core.cards.whole_cards;

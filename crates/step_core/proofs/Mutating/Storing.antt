@@ -154,6 +154,7 @@ module _ (k : CoreState) (core : IsCore k) (a i : ℕ) (w : Option ℕ) (t : Tab
   pub idle_kept : k.marker.running ≡ false → IsCore (with_store k t k.marker)
   idle_kept idle = record {
     suits = core.suits;
+    placed = core.placed;
     layers = layers_writes k.config k.table t k.buffers k.marker a x (with_pointer x i w) writes core.layers (λ run. absurd cc) (ap (λ (n : ℕ). 2 + n + length x.weaks + length x.values) (length-set x.pointers i w));
     cards = core.cards;
     remembers = store_remembers k.marker same_roles;
@@ -211,6 +212,7 @@ module _ (k : CoreState) (core : IsCore k) (a i : ℕ) (w : Option ℕ) (t : Tab
           let keeps = last_keeps run core.footing.snapshot core.rests.keeps in
           record {
             suits = core.suits;
+            placed = core.placed;
             layers = layers_changed k.config k.table t k.buffers k.marker m2 a x (with_pointer x i w) writes core.layers st2 same2.tams logs room (ap (λ (n : ℕ). 2 + n + length x.weaks + length x.values) (length-set x.pointers i w));
             cards = core.cards;
             remembers = store_remembers m2 same2;

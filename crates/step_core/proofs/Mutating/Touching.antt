@@ -55,6 +55,7 @@ module _ (k : CoreState) (core : IsCore k) (place : ℕ) (w : Option ℕ) (m : M
       → ((mutator : ℕ) → length (log_of m.logs mutator) < 8) → IsCore (with_touch k place w m)
   kept_by_touch v shown keeps st logs room = record {
     suits = core.suits;
+    placed = core.placed;
     layers = layers_marked k.config k.table k.buffers k.marker m core.layers st same.tams logs room;
     cards = core.cards;
     remembers = remembers_by;

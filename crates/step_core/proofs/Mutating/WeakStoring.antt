@@ -105,6 +105,7 @@ module _ (k : CoreState) (core : IsCore k) (a i : ℕ) (w : Option ℕ) (t : Tab
       let keeps = keeps_by core.footing.snapshot core.rests.keeps in
       record {
         suits = core.suits;
+        placed = core.placed;
         layers = layers_writes k.config k.table t k.buffers k.marker a x (with_weak x i w) writes core.layers (follows_of after graph_after core.footing.snapshot shows keeps)
             (ap (λ (n : ℕ). 2 + length x.pointers + n + length x.values) (length-set x.weaks i w));
         cards = core.cards;

@@ -258,6 +258,7 @@ module _ (k : CoreState) (core : IsCore k) (budget : ℕ) (chosen : List LiveRow
       unfolding kept_of
       paused_kept room_same rows_same places = record {
         suits = core.suits;
+        placed = core.placed;
         layers = layers_after;
         cards = record {
           whole_cards = sym core.layers.region_size ∙ sym ev.regions.size ∙ ev.fit.whole_cards;

@@ -39,6 +39,7 @@ module _ (k : CoreState) (b : Buffers) (cs : Cards) where
     pub closed_kept : IsCore (with_closed k b cs)
     closed_kept = record {
       suits = core.suits;
+      placed = core.placed;
       layers = record {
         region_size = core.layers.region_size;
         region_count = core.layers.region_count;

@@ -52,6 +52,7 @@ module _ (k : CoreState) (core : IsCore k) (result : Bool) (cs : Cards) (ss : Se
   unfolding kept_of
   refined_kept = record {
     suits = core.suits;
+    placed = core.placed;
     layers = core.layers;
     cards = record {
       whole_cards = sym core.layers.region_size ∙ scan.fit.whole_cards;

@@ -1,37 +1,44 @@
-use Rattle.std.proofs.Common.{◌∙◌, sym, ap, Some, arith, []}
-use Rattle.std.proofs.lemmas.Option.{slice_get-get_or}
+use Rattle.std.proofs.Common.{◌+◌, ◌∙◌, sym, ap, subst, Some, arith, []}
+use Rattle.root_table.specs.Roots.{RootTable}
+use Rattle.evacuation.specs.Space.{AreRootsMoved}
 use Rattle.heap_model.specs.Evacuation.{place_after}
 use Rattle.evacuation.specs.Turns.{in_set, layout, plan, space}
 use Rattle.evacuation.proofs.Turns.Following.{after_after}
-use Rattle.evacuation.proofs.Loops.RootWords.{roots_more, roots_all, root_named}
+use Rattle.evacuation.proofs.Loops.RootWords.{roots_more, roots_past, roots_rest, root_named, named_word}
 use Rattle.evacuation.proofs.roots.update_roots.Goals as goal
 
 pub new_word-new-requires : goal.new_word-new-requires
 new_word-new-requires g c =
     let (premises, (turn, (flags, start))) = c.requires in
-    let here = slice_get-get_or c.loop-i.roots c.loop-i.i c.index-roots-i.result (omega arith) ∙ ap Some (sym c.index-roots-i.is) in (
+    let next = c.in-Some.ensures.lowest in
+    let here = named_word c.loop-place.roots.words c.loop-place.from c.in-Some.place c.get-word.result next c.get-word.ensures in
+    let moved = roots_past (place_after (in_set g.pause) (space g.pause c.loop-place.table).forward) g.pause.roots c.loop-place.roots.words c.loop-place.from c.in-Some.place next.nil_before c.loop-place.invariant.roots next.from_on in (
       premises,
       (
-        c.loop-i.invariant.turn,
+        c.loop-place.invariant.turn,
         (
           flags,
           λ a e inside.
-              root_named (layout g.pause) (plan g.pause) (place_after (in_set g.pause) (space g.pause c.loop-i.table).forward) c.loop-i.roots c.loop-i.i a premises.plan_is c.loop-i.invariant.roots (here ∙ ap Some e) inside,
+              root_named (layout g.pause) (plan g.pause) (place_after (in_set g.pause) (space g.pause c.loop-place.table).forward) c.loop-place.roots.words c.in-Some.place a premises.plan_is moved (here ∙ ap Some e) inside,
         ),
       ),
     )
 
-pub loop-i-preserved : goal.loop-i-preserved
-loop-i-preserved g c =
-    let here = slice_get-get_or c.loop-i.roots c.loop-i.i c.index-roots-i.result (omega arith) ∙ ap Some (sym c.index-roots-i.is) in
+pub loop-place-preserved : goal.loop-place-preserved
+loop-place-preserved g c =
+    let next = c.in-Some.ensures.lowest in
+    let here = named_word c.loop-place.roots.words c.loop-place.from c.in-Some.place c.get-word.result next c.get-word.ensures in
+    let moved = roots_past (place_after (in_set g.pause) (space g.pause c.loop-place.table).forward) g.pause.roots c.loop-place.roots.words c.loop-place.from c.in-Some.place next.nil_before c.loop-place.invariant.roots next.from_on in
     let after = c.new_word-new.ensures.after [] in
     record {
       turn = c.new_word-new.ensures.turn;
-      after = λ noted. after_after (layout g.pause) noted noted noted _ _ _ _ _ _ (c.loop-i.invariant.after noted) (c.new_word-new.ensures.after noted);
-      roots = roots_more (in_set g.pause) (space g.pause c.loop-i.table).forward (space g.pause c.new_word-new.new.table).forward after.forward_grows
-          g.pause.roots c.loop-i.roots c.loop-i.i _ c.new_word-new.result c.loop-i.invariant.roots here c.new_word-new.ensures.word.moved;
+      after = λ noted. after_after (layout g.pause) noted noted noted _ _ _ _ _ _ (c.loop-place.invariant.after noted) (c.new_word-new.ensures.after noted);
+      roots = subst (λ (u : RootTable). AreRootsMoved (place_after (in_set g.pause) (space g.pause c.new_word-new.new.table).forward) g.pause.roots u.words (c.in-Some.place + 1)) (sym c.update.ensures)
+          (roots_more (in_set g.pause) (space g.pause c.loop-place.table).forward (space g.pause c.new_word-new.new.table).forward after.forward_grows
+          g.pause.roots c.loop-place.roots.words c.in-Some.place _ c.new_word-new.result moved here c.new_word-new.ensures.word.moved);
+      places = ap (λ (u : RootTable). u.places) c.update.ensures ∙ c.loop-place.invariant.places;
     }
 
 pub returns-clause-moved : goal.returns-clause-moved
 returns-clause-moved g c =
-    roots_all (place_after (in_set g.pause) (space g.pause c.loop-i.table).forward) g.pause.roots c.loop-i.roots c.loop-i.i c.loop-i.invariant.roots (omega (arith, c.loop-i-test.false))
+    roots_rest (place_after (in_set g.pause) (space g.pause c.loop-place.table).forward) g.pause.roots c.loop-place.roots.words c.loop-place.from c.loop-place.invariant.roots c.in_default.ensures.lowest

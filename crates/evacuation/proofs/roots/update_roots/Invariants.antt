@@ -1,4 +1,4 @@
-use Rattle.std.proofs.Common.{List, Bool}
+use Rattle.std.proofs.Common.{List, Bool, ◌≡◌, ◌-◌, length}
 use Rattle.heap_model.specs.Evacuation.{place_after}
 use Rattle.evacuation.specs.Space.{AreRootsMoved}
 use Rattle.evacuation.specs.Turns.{IsTurn, After, in_set, space}
@@ -7,9 +7,13 @@ use Rattle.evacuation.proofs.roots.update_roots.Given as goal
 abbrev pub ghost-new_word : goal.ghost-new_word
 ghost-new_word g a = g.pause
 
-abbrev pub invariant-loop-i : goal.invariant-loop-i
-invariant-loop-i g l = record {
+abbrev pub invariant-loop-place : goal.invariant-loop-place
+invariant-loop-place g l = record {
   turn : IsTurn g.pause l.table l.destinations;
   after : (noted : List Bool) → After g.pause noted noted l.initial.table l.table l.initial.destinations l.destinations;
-  roots : AreRootsMoved (place_after (in_set g.pause) (space g.pause l.table).forward) g.pause.roots l.roots l.i;
+  roots : AreRootsMoved (place_after (in_set g.pause) (space g.pause l.table).forward) g.pause.roots l.roots.words l.from;
+  places : l.roots.places ≡ l.initial.roots.places;
 }
+
+abbrev pub decreases-loop-place : goal.decreases-loop-place
+decreases-loop-place g l = length l.roots.words - l.from

@@ -4,7 +4,7 @@ use Rattle.marker.proofs.tests.begun.Goals as goal
 
 pub begin-requires-clause-closed : goal.begin-requires-clause-closed
 begin-requires-clause-closed c =
-    linked_closed c.args.table.now c.args.roots.now c.in_ok-marker.marker c.requires.linked c.requires.roots (λ a. c.in_ok-marker.ensures.all_kept c.args.table.now a (c.requires.words ∙ sym c.sizes.ensures.words))
+    linked_closed c.args.table.now c.args.roots.now.words c.in_ok-marker.marker c.requires.linked c.requires.roots (λ a. c.in_ok-marker.ensures.all_kept c.args.table.now a (c.requires.words ∙ sym c.sizes.ensures.words))
 
 pub returns-clause-kept : goal.returns-clause-kept
 returns-clause-kept c = λ a h.

@@ -146,7 +146,7 @@ fn word_seen(core: &Core, word: u32, previous: u32) -> Option<Seen> {
 
 /// The object that a root place names.
 pub(crate) fn named(core: &Core, place: usize) -> Option<Seen> {
-    match core.roots.get(place) {
+    match core.roots.as_slice().get(place) {
         Some(Some(at)) => word_seen(core, at.word(), 0),
         _ => None,
     }
@@ -186,7 +186,7 @@ pub(crate) fn look(alloc: Global, core: &Core) -> Result<Sight, AllocError> {
         }
     }
     let mut roots = Vec::new(alloc);
-    for root in &core.roots {
+    for root in core.roots.as_slice() {
         roots.push(root.map(|target| target.word()))?;
     }
     Ok(Sight {

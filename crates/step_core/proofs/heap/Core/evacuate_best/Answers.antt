@@ -1,5 +1,4 @@
 use Rattle.std.proofs.Common.{◌≡◌, ℕ, false, length, take, ◌∙◌, sym, ap}
-use Rattle.std.proofs.lemmas.List.{with_items_is}
 use Rattle.alloc_buffers.specs.Placement.{closed}
 use Rattle.cards.specs.Cards.{is_dirty}
 use Rattle.step_core.specs.Stands.{ShowsGraph, KeepsFrom}
@@ -11,7 +10,7 @@ use Rattle.step_core.proofs.heap.Core.evacuate_best.Goals as goal
 pub evacuate-requires-clause-can : goal.evacuate-requires-clause-can
 evacuate-requires-clause-can c =
     let clean = to_fields _ _ c.self.view_is (λ d. (card : ℕ) → is_dirty d.cards card ≡ false) c.requires.clean in
-    rw (c.card_words.ensures, c.as_mut_slice.ensures.value, c.deref.ensures.value) (can_evacuate _ c.self.invariant c.args.budget _ c.choose_regions-count.ensures.chosen clean)
+    rw (c.card_words.ensures, c.deref.ensures.value) (can_evacuate _ c.self.invariant c.args.budget _ c.choose_regions-count.ensures.chosen clean)
 
 pub evacuate-requires-clause-each_region : goal.evacuate-requires-clause-each_region
 evacuate-requires-clause-each_region c = c.self.invariant.room.regions ∙ sym c.self.invariant.layers.region_count
@@ -24,37 +23,33 @@ invariant_of-self c =
     let clean = to_fields _ _ c.self.view_is (λ d. (card : ℕ) → is_dirty d.cards card ≡ false) c.requires.clean in
     let closed_all = to_fields _ _ c.self.view_is (λ d. d.buffers ≡ closed d.buffers.words (length d.buffers.open_buffers)) c.requires.closed in
     let e = c.evacuate.ensures in
-    let ev = rw (c.card_words.ensures, c.as_mut_slice.ensures.value, c.deref.ensures.value) at e.evacuated in
+    let ev = rw (c.card_words.ensures, c.deref.ensures.value) at e.evacuated in
     let places = sym (AllZip-length _ _ _ ev.relocates.roots) in
-    let count = places ∙ sym (ap length c.as_mut_slice.ensures.value) ∙ c.as_mut_slice.ensures.len in
-    rw (with_items_is c.self.inside.roots c.evacuate.new.roots count) (paused_kept _ c.self.invariant c.args.budget _ c.choose_regions-count.ensures.chosen clean _ _ _ _ _ _ _ _ _ ev closed_all e.room c.choose_regions-count.ensures.room places)
+    rw e.places (paused_kept _ c.self.invariant c.args.budget _ c.choose_regions-count.ensures.chosen clean _ _ _ _ _ _ _ _ _ ev closed_all e.room c.choose_regions-count.ensures.room places)
 
 pub returns-clause-shows : goal.returns-clause-shows
 returns-clause-shows c =
     let clean = to_fields _ _ c.self.view_is (λ d. (card : ℕ) → is_dirty d.cards card ≡ false) c.requires.clean in
     let closed_all = to_fields _ _ c.self.view_is (λ d. d.buffers ≡ closed d.buffers.words (length d.buffers.open_buffers)) c.requires.closed in
     let e = c.evacuate.ensures in
-    let ev = rw (c.card_words.ensures, c.as_mut_slice.ensures.value, c.deref.ensures.value) at e.evacuated in
+    let ev = rw (c.card_words.ensures, c.deref.ensures.value) at e.evacuated in
     let places = sym (AllZip-length _ _ _ ev.relocates.roots) in
-    let count = places ∙ sym (ap length c.as_mut_slice.ensures.value) ∙ c.as_mut_slice.ensures.len in
-    λ g' s. rw (with_items_is c.self.inside.roots c.evacuate.new.roots count) (paused_shows _ c.self.invariant c.args.budget _ c.choose_regions-count.ensures.chosen clean _ _ _ _ _ _ _ _ _ ev g' (to_fields _ _ c.self.view_is (λ d. ShowsGraph g' d) s))
+    λ g' s. rw e.places (paused_shows _ c.self.invariant c.args.budget _ c.choose_regions-count.ensures.chosen clean _ _ _ _ _ _ _ _ _ ev g' (to_fields _ _ c.self.view_is (λ d. ShowsGraph g' d) s))
 
 pub returns-clause-keeps : goal.returns-clause-keeps
 returns-clause-keeps c =
     let clean = to_fields _ _ c.self.view_is (λ d. (card : ℕ) → is_dirty d.cards card ≡ false) c.requires.clean in
     let closed_all = to_fields _ _ c.self.view_is (λ d. d.buffers ≡ closed d.buffers.words (length d.buffers.open_buffers)) c.requires.closed in
     let e = c.evacuate.ensures in
-    let ev = rw (c.card_words.ensures, c.as_mut_slice.ensures.value, c.deref.ensures.value) at e.evacuated in
+    let ev = rw (c.card_words.ensures, c.deref.ensures.value) at e.evacuated in
     let places = sym (AllZip-length _ _ _ ev.relocates.roots) in
-    let count = places ∙ sym (ap length c.as_mut_slice.ensures.value) ∙ c.as_mut_slice.ensures.len in
-    λ s f. rw (with_items_is c.self.inside.roots c.evacuate.new.roots count) (paused_keeps _ c.self.invariant c.args.budget _ c.choose_regions-count.ensures.chosen clean _ _ _ _ _ _ _ _ _ ev s (to_fields _ _ c.self.view_is (λ d. KeepsFrom s d) f))
+    λ s f. rw e.places (paused_keeps _ c.self.invariant c.args.budget _ c.choose_regions-count.ensures.chosen clean _ _ _ _ _ _ _ _ _ ev s (to_fields _ _ c.self.view_is (λ d. KeepsFrom s d) f))
 
 pub returns-clause-evacuates : goal.returns-clause-evacuates
 returns-clause-evacuates c =
     let clean = to_fields _ _ c.self.view_is (λ d. (card : ℕ) → is_dirty d.cards card ≡ false) c.requires.clean in
     let closed_all = to_fields _ _ c.self.view_is (λ d. d.buffers ≡ closed d.buffers.words (length d.buffers.open_buffers)) c.requires.closed in
     let e = c.evacuate.ensures in
-    let ev = rw (c.card_words.ensures, c.as_mut_slice.ensures.value, c.deref.ensures.value) at e.evacuated in
+    let ev = rw (c.card_words.ensures, c.deref.ensures.value) at e.evacuated in
     let places = sym (AllZip-length _ _ _ ev.relocates.roots) in
-    let count = places ∙ sym (ap length c.as_mut_slice.ensures.value) ∙ c.as_mut_slice.ensures.len in
-    rw (with_items_is c.self.inside.roots c.evacuate.new.roots count) (evacuates_from _ c.self.invariant c.args.budget _ c.choose_regions-count.ensures.chosen clean _ _ _ _ _ _ _ _ _ ev closed_all e.room c.choose_regions-count.ensures.room _ c.self.view_is _ (e.regions ∙ ap (λ xs. length (take c.choose_regions-count.result xs)) c.deref.ensures.value))
+    rw e.places (evacuates_from _ c.self.invariant c.args.budget _ c.choose_regions-count.ensures.chosen clean _ _ _ _ _ _ _ _ _ ev closed_all e.room c.choose_regions-count.ensures.room _ c.self.view_is _ (e.regions ∙ ap (λ xs. length (take c.choose_regions-count.result xs)) c.deref.ensures.value))
