@@ -2,7 +2,7 @@
 """Writes the scripts whose times are wanted into a folder, all or those that are named: tools/cost_scripts.py FOLDER [SCRIPT ..].
 
 No script has an object of more than half a region. All heaps but those that a name gives 256 or 512 regions, and those of
-actors, have 1,024 regions of 1,024 words, the largest that a heap line allows.
+actors and of the third format, have 1,024 regions of 1,024 words, the largest that a heap line of the first format allows.
 
 | Script | What it is |
 |---|---|
@@ -32,6 +32,14 @@ actors, have 1,024 regions of 1,024 words, the largest that a heap line allows.
 | weak_spread | 100 times `begin` and `remark`; each of 1,000 regions has one object with one weak slot among 339 without, all of them dead |
 | weak_spread_none | the same with a data word in the place of each weak slot |
 | many_fields | 1,000,000 steps that read and write fields of 1,000 objects, taken from a table |
+| root_steps_1, _3 | 1,000,000 steps that store in roots, in the first format, and in the third with registers from r500 on |
+| frames | 1,000,000 steps: eight registers are stored in, and `scope` makes them nil |
+| third_begin_none | 100,000 times `begin` and `remark` in the third format with 1,048,576 registers of 64 mutators, all nil |
+| third_pause_none | 100,000 times `pause 0` with them |
+| third_begin_all | 200 times `begin` and `remark`, where each of these registers names an object, one for each mutator |
+| third_pause_all | 200 times `pause 0` with them; no region is taken |
+| third_moved_all | 200 pauses with them, each of which moves the 64 objects |
+| third_none_base, third_all_base | the same without these steps |
 
 A pause copies at most half of the free words, so never more than a third of the heap, here 349,525 words.
 """
@@ -49,6 +57,9 @@ CHAIN_WORDS = 102
 CHAIN_HALF = 5000
 CHAIN_CYCLES = 100
 ACTOR_STEPS = {"": 50000, "_base": 10000, "_long": 1000000}
+# The third format with as many registers as there may be, and no global.
+THIRD_MUTATORS = 64
+THIRD_REGISTERS = 16384
 
 
 def heap(buffer, mutators=1, regions=REGIONS):
@@ -312,6 +323,30 @@ def many_fields():
     return lines[:1000001]
 
 
+def root_steps(line, first):
+    """Steps on the registers from one on, each of which stores in a register or a global."""
+    two = first + 1
+    lines = [line, f"0 new r{first} 1 0", f"0 put r{first} 0 r{first}"]
+    kinds = (f"move r{two} r{first}", f"save g3 r{two}", f"drop r{two}", f"load r{two} g3", f"get r{two} r{first} 0")
+    return lines + [f"0 {kinds[step % len(kinds)]}" for step in range(1000000)]
+
+
+def frames():
+    lines = [f"heap3 4 64 8 1 0 8 0 {THIRD_REGISTERS}", "0 new r0 0 0"]
+    frame = [f"0 move r{register} r0" for register in range(100, 108)] + ["0 scope r100"]
+    return (lines + frame * (1000000 // len(frame) + 1))[:1000002]
+
+
+def third(is_used, steps):
+    """Steps where no register is used, or all name an object of their mutator. The objects take a part of a region, so that a
+    pause with room for them moves them each time."""
+    lines = [f"heap3 8 1024 8 {THIRD_MUTATORS} 0 8 0 {THIRD_REGISTERS}"]
+    for mutator in range(THIRD_MUTATORS if is_used else 0):
+        lines.append(f"{mutator} new r0 {shape(9, 0)}")
+        lines += [f"{mutator} move r{register} r0" for register in range(1, THIRD_REGISTERS)]
+    return lines + steps
+
+
 SCRIPTS = {
     "no_steps": no_steps,
     "pauses": pauses,
@@ -340,6 +375,15 @@ SCRIPTS = {
        for name, script in (("kept", weak_kept), ("none", weak_none)) for regions in (256, 1024)},
     **{f"weak_cleared_{regions}{ending}": lambda regions=regions, cycle=cycle: weak_cleared(regions, cycle)
        for regions in (256, 1024) for ending, cycle in (("", ["gc begin", "gc remark", "gc cleanup"]), ("_base", []))},
+    "root_steps_1": lambda: root_steps(heap(8), 0),
+    "root_steps_3": lambda: root_steps(f"heap3 {REGIONS} {WORDS} 8 1 0 8 16 1024", 500),
+    "frames": frames,
+    **{f"third_{name}_none": lambda steps=steps: third(False, steps * 100000)
+       for name, steps in (("begin", ["gc begin", "gc remark"]), ("pause", ["gc pause 0"]))},
+    "third_none_base": lambda: third(False, []),
+    **{f"third_{name}_all": lambda steps=steps: third(True, steps * 200)
+       for name, steps in (("begin", ["gc begin", "gc remark"]), ("pause", ["gc pause 0"]), ("moved", ["gc pause 1000"]))},
+    "third_all_base": lambda: third(True, []),
     "weak_spread": lambda: weak_spread("newweak r2 0 1 0"),
     "weak_spread_none": lambda: weak_spread("new r2 0 1"),
 }

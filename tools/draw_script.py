@@ -18,6 +18,12 @@ WEIGHTS = {
 # How often the steps on weak slots come where they are wanted.
 WEAK_WEIGHTS = {"newweak": 10, "putweak": 10, "putweak_nil": 1, "getweak": 10, "weaks": 0.5}
 MOST_WEAKS = 255
+# How often frames are entered and left in the third format.
+FRAME_WEIGHTS = {"call": 8, "scope": 8}
+# How many registers and globals a burst needs.
+BURST_ROOTS = {"many_cards": (8, 3), "many_deletions": (2, 0), "many_copies": (5, 0), "many_reuses": (3, 0), "many_slots": (4, 0),
+               "many_frames": (1, 0)}
+MOST_ROOTS = 2 ** 20
 # All registers from each of them on.
 ORDERS = [[(start + place) % 8 for place in range(8)] for start in range(8)]
 MARK_STEPS = ("begin", "mark", "remark", "cleanup")
@@ -34,11 +40,53 @@ class Object:
         self.data = data
 
 
+class Row(dict):
+    """The globals, or a mutator's registers: by number what each names, and nothing where it is nil. The last of `frames` is the
+    register at which the mutator's present frame begins."""
+
+    def __init__(self, count):
+        super().__init__()
+        self.count, self.frames = count, [0]
+
+    def __missing__(self, number):
+        return None
+
+    def __setitem__(self, number, target):
+        if target is None:
+            self.pop(number, None)
+        else:
+            super().__setitem__(number, target)
+
+    def leave(self, first):
+        """All from a register on are nil, and no frame begins there or behind it."""
+        for number in [number for number in self if number >= first]:
+            del self[number]
+        self.frames = [number for number in self.frames if number < first] or [0]
+
+
+def is_third(chosen, card, globals, registers):
+    """Whether a script is of the third format. Where roots are told it is, but for 0 registers; where a card alone is told it isn't;
+    else a third of all scripts are."""
+    if globals is not None or registers is not None:
+        return registers != 0
+    return card is None and chosen.random() < 1 / 3
+
+
+def third_roots(chosen, globals, registers, mutators):
+    """How many globals, registers and mutators a script of the third format has, where they aren't told."""
+    if registers is None:
+        registers = chosen.choice((1, 2, 3, 7, 8, 8, 9, 12, 16, 16, 40, 100, 255, 256, 300, 65536))
+    if globals is None:
+        globals = chosen.choice((0, 0, 1, 2, 5, 16, 16, 17, 100, 255, 256, 300, 65536))
+    mutators = mutators or chosen.choice((1, 1, 1, 2, 2, 3, 5, 16, 17, 33, 64))
+    return globals, registers, min(mutators, (MOST_ROOTS - globals) // registers)
+
+
 class Drawer:
     """Draws one script. Each option left as None is drawn too."""
 
     def __init__(self, seed, steps=80, regions=None, words=None, buffer=None, mutators=None, large=None,
-                 weights=None, card=None):
+                 weights=None, card=None, globals=None, registers=None):
         self.random = random.Random(seed)
         self.chance = self.random.random
         self.steps = steps
@@ -57,7 +105,7 @@ class Drawer:
             self.regions = max(self.regions, self.number(8, 16))
         self.regions = min(self.regions, 1024, 1048576 // self.words)
         self.buffer = buffer or self.number(4, self.words // 2 if self.chance() < 0.5 else min(16, self.words // 2))
-        self.mutators = mutators or self.pick((1, 1, 1, 1, 2, 2, 3, 5, 1, 1, 2, 2, 16))
+        count = mutators or self.pick((1, 1, 1, 1, 2, 2, 3, 5, 1, 1, 2, 2, 16))
         self.first_name = self.pick((0, 0, 0, 0, 0, 1, 1000000, 2 ** 63, 2 ** 64 - 3, 2 ** 64 - 20, 2 ** 64 - 60))
         # Some scripts pause often, some mark for long, some lose many objects.
         self.weights = dict(WEIGHTS)
@@ -70,16 +118,38 @@ class Drawer:
         self.weights["put_nil"] *= loss
         self.weights["new"] *= self.pick((0.7, 1, 1, 1.5))
         self.weights.update(weights or {})
-        self.roots = [[None] * 8 for _ in range(self.mutators)]
-        self.globals = [None] * 16
         self.marking = False
         self.marked_once = False
-        self.lines = [f"heap {self.regions} {self.words} {self.buffer} {self.mutators} {self.first_name}"]
+        # Drawn apart, so that a seed's steps are the same in either of the first two formats.
+        chosen = random.Random(f"roots {seed}")
+        self.third = is_third(chosen, card, globals, registers)
         if card is None:
-            # Drawn apart, so that a seed's steps are the same in either format.
             card = random.Random(f"card {seed}").choice((0, 0, 8, 16, min(self.words, 32), min(self.words, 64)))
-        if card:
-            self.lines = [f"{self.lines[0].replace('heap', 'heap2')} {card}"]
+        if self.third:
+            self.make_third(chosen, card or 8, globals, registers, mutators)
+        else:
+            self.make_roots(16, 8, count)
+            line = f"{self.regions} {self.words} {self.buffer} {self.mutators} {self.first_name}"
+            self.lines = [f"heap2 {line} {card}" if card else f"heap {line}"]
+
+    def make_roots(self, globals, registers, mutators):
+        self.mutators = mutators
+        self.globals = Row(globals)
+        self.roots = [Row(registers) for _ in range(mutators)]
+        # The mutators that take steps.
+        self.actors = range(mutators)
+
+    def make_third(self, chosen, card, globals, registers, mutators):
+        """Makes the roots and the line of a script in the third format."""
+        self.make_roots(*third_roots(chosen, globals, registers, mutators))
+        self.actors = chosen.sample(self.actors, min(self.mutators, chosen.choice((1, 2, 3, 5, 64))))
+        self.weights.update(FRAME_WEIGHTS)
+        if self.globals.count == 0:
+            self.weights.update(load=0, save=0)
+        if chosen.random() < 0.4:
+            self.burst = "many_frames"
+        self.lines = [f"heap3 {self.regions} {self.words} {self.buffer} {self.mutators} {self.first_name} {card} "
+                      f"{self.globals.count} {self.roots[0].count}"]
 
     def pick(self, choices):
         return choices[int(self.chance() * len(choices))]
@@ -87,8 +157,25 @@ class Drawer:
     def number(self, low, high):
         return low + int(self.chance() * (high - low + 1))
 
+    def any_mutator(self):
+        return self.actors[int(self.chance() * len(self.actors))]
+
+    def any_register(self, registers):
+        """Some register; in the third format mostly one of the first eight of the present frame."""
+        if not self.third:
+            return int(self.chance() * 8)
+        chance, last = self.chance(), registers.count - 1
+        if chance < 0.04:
+            return self.pick((0, last))
+        if chance < 0.08:
+            return self.number(0, last)
+        return min(self.number(0, 7) + registers.frames[-1], last)
+
     def register(self, registers, suits=lambda target: True):
         """A register that names an object that suits, where there is one."""
+        if self.third:
+            found = [number for number, target in registers.items() if suits(target)]
+            return self.pick(found) if found else self.any_register(registers)
         start = int(self.chance() * 8)
         for register in ORDERS[start]:
             if registers[register] is not None and suits(registers[register]):
@@ -113,7 +200,7 @@ class Drawer:
         names = list(self.weights)
         limit = self.steps + 1
         kinds = self.random.choices(names, [self.weights[name] for name in names], k=self.steps)
-        if self.burst:
+        if self.burst and self.has_roots_for(self.burst):
             for first in range(0, self.steps, 200):
                 kinds[self.number(first, min(first + 30, self.steps - 1))] = self.burst
         for kind in kinds:
@@ -128,6 +215,10 @@ class Drawer:
         del self.lines[limit:]
         return "\n".join(self.lines) + "\n"
 
+    def has_roots_for(self, burst):
+        registers, globals = BURST_ROOTS[burst]
+        return registers <= self.roots[0].count and globals <= self.globals.count
+
     def say(self, line):
         self.lines.append(line)
 
@@ -137,10 +228,10 @@ class Drawer:
             self.say(f"gc {step} {number}")
 
     def mutator_step(self, kind):
-        mutator = int(self.chance() * self.mutators) if self.mutators > 1 else 0
+        mutator = self.any_mutator() if self.mutators > 1 else 0
         registers = self.roots[mutator]
-        if kind not in ("new", "load") and self.chance() < 0.9 and not any(registers):
-            kind = "load" if self.chance() < 0.4 and any(self.globals) else "new"
+        if kind not in ("new", "load") and self.chance() < 0.9 and not registers:
+            kind = "load" if self.chance() < 0.4 and self.globals else "new"
         getattr(self, kind)(mutator, registers)
 
     def make(self, mutator, register, pointers, data):
@@ -154,7 +245,7 @@ class Drawer:
 
     def many_cards(self):
         """An object that is named from more cards than a remembered set holds one by one."""
-        mutator = int(self.chance() * self.mutators)
+        mutator = self.any_mutator()
         if self.words < 128 and self.large:
             sizes = [self.number(120, 220)]
         else:
@@ -176,7 +267,7 @@ class Drawer:
 
     def many_deletions(self):
         """An object that names many others, which marking can find by the deleted pointers alone."""
-        mutator = int(self.chance() * self.mutators)
+        mutator = self.any_mutator()
         count = min(self.number(8, 14), self.words - 2 if self.large else self.words // 2 - 2)
         if self.marking:
             self.mark_step("remark")
@@ -193,7 +284,7 @@ class Drawer:
 
     def many_copies(self):
         """A tree of objects of many sizes, held by its root alone."""
-        mutator = int(self.chance() * self.mutators)
+        mutator = self.any_mutator()
         registers = self.roots[mutator]
         self.make(mutator, 0, self.number(3, min(6, self.words // 2 - 2)), 0)
         for place in range(self.number(6, 14)):
@@ -215,7 +306,7 @@ class Drawer:
 
     def many_reuses(self):
         """Objects with pointers into another region that are lost and reclaimed; then others in their place."""
-        mutator = int(self.chance() * self.mutators)
+        mutator = self.any_mutator()
         registers = self.roots[mutator]
         pointers, stride = self.words // 2 - 2, self.pick((2, 3, 6))
         self.make(mutator, 1, 0, 1)
@@ -257,9 +348,9 @@ class Drawer:
 
     def new(self, mutator, registers):
         pointers, data = self.shape_to_make()
-        register = int(self.chance() * 8)
+        register = self.any_register(registers)
         if registers[register] is not None and self.chance() < 0.5:
-            register = int(self.chance() * 8)
+            register = self.any_register(registers)
         self.say(f"{mutator} new r{register} {pointers} {data}")
         if pointers + data + 2 <= self.regions * self.words:
             made = Object(pointers, data)
@@ -290,7 +381,7 @@ class Drawer:
             target.pointers[place] = None
 
     def get(self, mutator, registers):
-        holder, register = self.holder(registers), int(self.chance() * 8)
+        holder, register = self.holder(registers), self.any_register(registers)
         target = registers[holder]
         place = self.index(len(target.pointers) if target else 0)
         if target and place < len(target.pointers) and target.pointers[place] is None:
@@ -301,7 +392,7 @@ class Drawer:
 
     def move(self, mutator, registers, target=None, source=None):
         if target is None:
-            target, source = int(self.chance() * 8), self.register(registers)
+            target, source = self.any_register(registers), self.register(registers)
         self.say(f"{mutator} move r{target} r{source}")
         registers[target] = registers[source]
 
@@ -312,16 +403,60 @@ class Drawer:
         registers[register] = None
 
     def load(self, mutator, registers):
-        register, place = int(self.chance() * 8), int(self.chance() * 16)
+        register, place = self.any_register(registers), int(self.chance() * self.globals.count)
         if self.globals[place] is None:
-            place = int(self.chance() * 4)
+            held = list(self.globals) if self.third else ()
+            place = self.pick(held) if held else int(self.chance() * min(4, self.globals.count))
         self.say(f"{mutator} load r{register} g{place}")
         registers[register] = self.globals[place]
 
     def save(self, mutator, registers):
-        place, register = int(self.chance() * self.pick((4, 4, 16))), self.register(registers)
+        count = self.globals.count
+        place, register = int(self.chance() * min(count, self.pick((4, 4, count)))), self.register(registers)
         self.say(f"{mutator} save g{place} r{register}")
         self.globals[place] = registers[register]
+
+    def call(self, mutator, registers):
+        """A frame begins behind the present one, mostly with what the caller hands over in its first register."""
+        first, last = registers.frames[-1], registers.count - 1
+        if first == last:
+            self.scope(mutator, registers)
+            return
+        start = min(first + self.number(1, 8), last) if self.chance() < 0.9 else self.number(first + 1, last)
+        registers.frames.append(start)
+        if registers and self.chance() < 0.7:
+            self.move(mutator, registers, start, self.register(registers))
+
+    def scope(self, mutator, registers):
+        """Mostly the present frame is left, if it isn't the outermost, and else some registers."""
+        chance, first = self.chance(), registers.frames[-1]
+        if chance > 0.9:
+            first = self.any_register(registers)
+        elif chance > 0.75 or first == 0:
+            first = self.register(registers)
+        self.say(f"{mutator} scope r{first}")
+        registers.leave(first)
+
+    def many_frames(self):
+        """Frames with objects of their own, of which some are left, mostly while marking runs."""
+        mutator = self.any_mutator()
+        registers = self.roots[mutator]
+        for _ in range(self.number(1, 6)):
+            self.call(mutator, registers)
+            for _ in range(self.number(1, 4)):
+                self.new(mutator, registers)
+        if self.chance() < 0.7:
+            self.mark_step("begin")
+        for _ in range(self.number(1, 4)):
+            self.scope(mutator, registers)
+            if not registers:
+                break
+            if self.chance() < 0.5:
+                self.put(mutator, registers)
+        for kind in ("remark", "begin", "remark")[:self.number(0, 3)]:
+            self.mark_step(kind)
+        if self.chance() < 0.6:
+            self.pause()
 
     def read(self, mutator, registers):
         register = self.dataful(registers)
@@ -410,7 +545,7 @@ class WeakDrawer(Drawer):
         was_marking = self.marking
         super().mark_step(kind)
         if self.marking and not was_marking:
-            roots = {root for part in (self.globals, *self.roots) for root in part if root is not None}
+            roots = {root for part in (self.globals, *self.roots) for root in part.values()}
             held = {target for holder in self.holders for target in holder.weaks if target is not None}
             self.lost = held - self.reached_from(roots)
         elif was_marking and not self.marking:
@@ -436,7 +571,7 @@ class WeakDrawer(Drawer):
     def newweak(self, mutator, registers):
         pointers, data = self.shape_to_make()
         weaks = min(MOST_WEAKS, pointers if self.chance() < 0.3 else self.number(0, pointers))
-        self.make_weak(mutator, int(self.chance() * 8), pointers - weaks, weaks, data)
+        self.make_weak(mutator, self.any_register(registers), pointers - weaks, weaks, data)
         if self.chance() < 0.5:
             self.putweak(mutator, registers)
 
@@ -467,14 +602,14 @@ class WeakDrawer(Drawer):
         target = registers[holder]
         if target and place < len(target.weaks) and target.weaks[place] is None:
             place = int(self.chance() * len(target.weaks))
-        self.take_slot(mutator, registers, int(self.chance() * 8), holder, place)
+        self.take_slot(mutator, registers, self.any_register(registers), holder, place)
 
     def weaks(self, mutator, registers):
         self.say(f"{mutator} weaks r{self.register(registers)}")
 
     def many_slots(self):
         """An object with many weak slots, which alone hold what they name; some of it is taken while marking runs."""
-        mutator = int(self.chance() * self.mutators)
+        mutator = self.any_mutator()
         registers = self.roots[mutator]
         most = min(MOST_WEAKS, 2 * self.words - 2 if self.large else self.words // 2 - 2)
         count = self.number(1, min(most, 14) if self.chance() < 0.8 else most)
@@ -533,7 +668,9 @@ def add_options(parser):
     parser.add_argument("--words", type=int, help="words a region")
     parser.add_argument("--buffer", type=int, help="words a buffer")
     parser.add_argument("--mutators", type=int, help="mutators")
-    parser.add_argument("--card", type=int, help="words a card: 8 to 64; 0 for the first format")
+    parser.add_argument("--card", type=int, help="words a card: 8 to 64; 0 for the first format; alone: not the third format")
+    parser.add_argument("--globals", type=int, help="globals, in the third format")
+    parser.add_argument("--registers", type=int, help="registers of each mutator, in the third format; 0: never the third format")
     parser.add_argument("--weak", type=float, default=0, metavar="FACTOR",
                         help="how often steps on weak slots come, 1 for about a quarter of all (0: never)")
     parser.add_argument("--large", choices=("yes", "no"), help="with objects of more than half a region, or without")
@@ -548,7 +685,7 @@ def options_of(words):
     weights = {name: getattr(words, name) for name in WEIGHT_OPTIONS if getattr(words, name) is not None}
     return {"steps": words.steps, "regions": words.regions, "words": words.words, "buffer": words.buffer,
             "mutators": words.mutators, "large": None if words.large is None else words.large == "yes",
-            "weights": weights, "card": words.card, "weak": words.weak}
+            "weights": weights, "card": words.card, "globals": words.globals, "registers": words.registers, "weak": words.weak}
 
 
 def main():

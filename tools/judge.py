@@ -22,16 +22,26 @@ FORMS = {
 }
 
 
+class Roots(dict):
+    """What globals hold, or a mutator's registers, by number: a name, or None. One that was never set isn't there, so that a
+    million registers take no room."""
+
+    def __missing__(self, place):
+        return None
+
+
 class Graph:
     """Objects by name, from which nothing is taken away, and the roots of each mutator: an object is its pointers, its weak
     slots and its data words. From a `begin` that replied ok on there is a snapshot of that moment."""
 
-    def __init__(self, regions, words, mutators, first_name):
+    def __init__(self, heap):
+        """The graph of a heap line. It doesn't ask how many registers and globals there are: a text that was read names no others."""
+        regions, words, _, mutators, first_name = map(int, heap.split(" ")[1:6])
         self.limit = regions * words
         self.first = self.next = first_name
         self.objects = {}
-        self.registers = [[None] * 8 for _ in range(mutators)]
-        self.globals = [None] * 16
+        self.registers = [Roots() for _ in range(mutators)]
+        self.globals = Roots()
         # The objects that have weak slots.
         self.holders = []
         self.snapshot = None
@@ -137,6 +147,11 @@ class Graph:
         registers[place_of(register)] = None
         return reply == "ok"
 
+    def scope(self, registers, reply, first):
+        for place in [place for place in registers if place >= place_of(first)]:
+            del registers[place]
+        return reply == "ok"
+
     def load(self, registers, reply, to, place):
         registers[place_of(to)] = self.globals[place_of(place)]
         return reply == spelled(self.globals[place_of(place)])
@@ -163,7 +178,7 @@ class Snapshot:
 
     def __init__(self, graph):
         self.first, self.next = graph.first, graph.next
-        self.roots = {name for root in (graph.globals, *graph.registers) for name in root if name is not None}
+        self.roots = {name for roots in (graph.globals, *graph.registers) for name in roots.values() if name is not None}
         self.changed = {}
 
     def has(self, name):
@@ -236,8 +251,7 @@ def fault_of(script, record, markers=0, refiners=0):
     background.update({f"f{number}": "refine 2" for number in range(refiners)})
     if scripts_of((actor, step) for actor, step, _ in events if actor not in background) != wanted:
         return "not an interleaving of the scripts"
-    regions, words, _, mutators, first_name = map(int, heap.split(" ")[1:6])
-    graph = Graph(regions, words, mutators, first_name)
+    graph = Graph(heap)
     for count, (actor, step, reply) in enumerate(events, 1):
         if background.get(actor, step) != step:
             return f"event {count} isn't its actor's"

@@ -24,11 +24,11 @@ using namespace plain;
 
 constexpr Word largest_number = 4294967295;
 constexpr Word largest_word = ~Word(0);
-constexpr Word largest_weaks = 255;
+constexpr Number largest_weaks = 255;
 constexpr std::size_t longest_line = 120;
 
 enum class Verb : std::uint8_t {
-    New, Get, Put, PutNil, Read, Write, Move, Drop, Load, Save, Shape,
+    New, Get, Put, PutNil, Read, Write, Move, Drop, Load, Save, Scope, Shape,
     NewWeak, GetWeak, PutWeak, PutWeakNil, Weaks,
     Begin, Mark, Remark, Cleanup, Refine, Pause
 };
@@ -37,15 +37,16 @@ enum class Verb : std::uint8_t {
 // or the pointers of a new object, `value` a data word or the data words of a new object, whose weak slots are `second`.
 struct Step {
     Word value;
-    Number number;
+    Number number, first, second;
     Verb verb;
-    std::uint8_t mutator, first, second, length;
+    std::uint8_t mutator, length;
 };
 
-// Reads words and numbers from one line. Each call answers whether the text goes on so, and goes past it.
+// Reads words and numbers from one line, behind which a line feed stands, of a text whose heap has these sizes. Each call answers
+// whether the text goes on so, and goes past it.
 class Cursor {
 public:
-    Cursor(const char* at, const char* end) : at_(at), end_(end) {}
+    Cursor(const char* at, const char* end, const Sizes& sizes) : at_(at), end_(end), sizes_(sizes) {}
 
     bool at_end() const { return at_ == end_; }
     bool at_word_end() const { return at_ == end_ || *at_ == ' '; }
@@ -80,39 +81,36 @@ public:
         return true;
     }
 
-    bool reg(std::uint8_t& value) {
-        if (end_ - at_ < 2 || at_[0] != 'r' || at_[1] < '0' || at_[1] > '7') return false;
-        value = std::uint8_t(at_[1] - '0');
-        at_ += 2;
-        return true;
+    // Mostly a register has one digit, with a space or the line feed behind it.
+    bool reg(Number& value) {
+        if (*at_ != 'r') return false;
+        ++at_;
+        value = Number(*at_ - '0');
+        if (value <= 9 && at_[1] <= ' ') ++at_;
+        else if (!number(value)) return false;
+        return value < sizes_.registers;
     }
-
-    bool global(std::uint8_t& value) {
-        Word wide;
-        if (!text("g") || !number(globals - 1, wide)) return false;
-        value = std::uint8_t(wide);
-        return true;
-    }
+    bool global(Number& value) { return text("g") && number(value) && value < sizes_.globals; }
+    bool scope() { return sizes_.format == 3 && text("scope "); }
 
 private:
     const char *at_, *end_;
+    const Sizes& sizes_;
 };
 
 bool read_sizes(Cursor line, Sizes& sizes) {
-    sizes.second = line.text("heap2 ");
-    return (sizes.second || line.text("heap ")) && line.number(sizes.regions) && line.space() &&
+    sizes.format = line.text("heap3 ") ? 3 : line.text("heap2 ") ? 2 : 1;
+    return (sizes.format != 1 || line.text("heap ")) && line.number(sizes.regions) && line.space() &&
            line.number(sizes.words) && line.space() && line.number(sizes.buffer) && line.space() &&
            line.number(sizes.mutators) && line.space() && line.number(largest_word, sizes.first_name) &&
-           (!sizes.second || (line.space() && line.number(sizes.card))) && line.at_end();
+           (sizes.format == 1 || (line.space() && line.number(sizes.card))) &&
+           (sizes.format != 3 || (line.space() && line.number(sizes.globals) && line.space() &&
+                                  line.number(sizes.registers))) &&
+           line.at_end();
 }
 
 // How many weak slots an object is to have.
-bool read_weaks(Cursor& line, std::uint8_t& weaks) {
-    Word wide;
-    if (!line.number(largest_weaks, wide)) return false;
-    weaks = std::uint8_t(wide);
-    return true;
-}
+bool read_weaks(Cursor& line, Number& weaks) { return line.number(weaks) && weaks <= largest_weaks; }
 
 bool read_mutator_step(Cursor& line, Step& step) {
     switch (line.peek()) {
@@ -159,6 +157,10 @@ bool read_mutator_step(Cursor& line, Step& step) {
         if (line.text("save ")) {
             step.verb = Verb::Save;
             return line.global(step.first) && line.space() && line.reg(step.second);
+        }
+        if (line.scope()) {
+            step.verb = Verb::Scope;
+            return line.reg(step.first);
         }
         step.verb = Verb::Shape;
         return line.text("shape ") && line.reg(step.first);
@@ -214,7 +216,7 @@ LineFault read_script(const std::string& text, Script& script) {
         if (feed == nullptr) return {number, "1 Cut"};
         std::size_t length = std::size_t(feed - at);
         if (length > longest_line) return {number, "2 LongLine"};
-        Cursor line(at, feed);
+        Cursor line(at, feed, script.sizes);
         at = feed + 1;
         if (number == 1) {
             if (!read_sizes(line, script.sizes)) return {number, "3 BadHeap"};
@@ -243,14 +245,18 @@ LineFault read_script(const std::string& text, Script& script) {
 // The first fault of the sizes, none if they suit.
 const char* size_fault(const Sizes& sizes) {
     if (sizes.regions < 2 || sizes.regions > 1024) return "1 BadRegions";
-    Number most_words = sizes.second ? 16384 : 4096, most = sizes.second ? 16777216 : 1048576;
+    bool is_first = sizes.format == 1;
+    Number most_words = is_first ? 4096 : 16384, most = is_first ? 1048576 : 16777216;
     if (sizes.words < 16 || sizes.words > most_words || (sizes.words & (sizes.words - 1)) != 0 ||
         sizes.regions * sizes.words > most)
         return "2 BadWords";
     if (sizes.buffer < 4 || sizes.buffer > sizes.words / 2) return "3 BadBuffer";
-    if (sizes.mutators < 1 || sizes.mutators > 16) return "4 BadMutators";
+    if (sizes.mutators < 1 || sizes.mutators > (sizes.format == 3 ? 64 : 16)) return "4 BadMutators";
     if (sizes.card < 8 || sizes.card > 64 || (sizes.card & (sizes.card - 1)) != 0 || sizes.card > sizes.words)
         return "6 BadCard";
+    if (sizes.globals > 65536) return "7 BadGlobals";
+    if (sizes.registers < 1 || sizes.registers > 65536) return "8 BadRegisters";
+    if (sizes.globals + sizes.registers * sizes.mutators > 1048576) return "9 BadRoots";
     return nullptr;
 }
 
@@ -350,6 +356,7 @@ Reply do_step(Heap& heap, const Step& step) {
     case Verb::Drop: return heap.drop(step.mutator, step.first);
     case Verb::Load: return heap.load(step.mutator, step.first, step.second);
     case Verb::Save: return heap.save(step.mutator, step.first, step.second);
+    case Verb::Scope: return heap.scope(step.mutator, step.first);
     case Verb::Shape: return heap.shape(step.mutator, step.first);
     case Verb::NewWeak: return heap.make(step.mutator, step.first, step.number, step.second, step.value);
     case Verb::GetWeak: return heap.get_weak(step.mutator, step.first, step.second, step.number);

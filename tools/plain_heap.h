@@ -13,27 +13,25 @@
 #include <utility>
 #include <vector>
 
+#include "plain_roots.h"
+
 namespace plain {
 
-using Word = std::uint64_t;
 using Address = std::uint32_t;
-using Number = std::uint32_t;
 
-constexpr Number globals = 16;
-constexpr Number registers = 8;
 constexpr Number card_log_length = 4;
 constexpr Number deletion_log_length = 8;
 constexpr Number inline_cards = 16;
 constexpr Address nowhere = ~Address(0);
 constexpr Number no_region = ~Number(0);
 
-// What a heap line tells: regions, words a region, words a buffer, mutators, the first name, and words a card: 8 in the
-// first format, which also has lower limits.
+// What a heap line tells: regions, words a region, words a buffer, mutators, the first name; from the second format on words
+// a card; in the third format globals, and registers of each mutator. Each format has limits of its own.
 struct Sizes {
     Number regions, words, buffer, mutators;
     Word first_name;
-    Number card = 8;
-    bool second = false;
+    Number card = 8, globals = 16, registers = 8;
+    Number format = 1;
 };
 
 enum class Refusal : std::uint8_t { Nil = 1, NoField, Full, TooBig, NamesSpent, MarkRunning, NotMarking };
@@ -174,7 +172,7 @@ public:
           heap_words_(sizes.regions * sizes.words), half_region_(sizes.words / 2),
           card_words_(sizes.card), card_shift_(Number(__builtin_ctz(sizes.card))),
           region_cards_(sizes.words / card_words_), next_name_(sizes.first_name), words_(new Word[heap_words_]),
-          roots_(globals + registers * sizes.mutators), regions_(sizes.regions), free_regions_(sizes.regions),
+          roots_(sizes.globals, sizes.mutators, sizes.registers), regions_(sizes.regions), free_regions_(sizes.regions),
           free_count_(sizes.regions), buffers_(sizes.mutators, Buffer{0, 0}), first_tile_(heap_words_ / card_words_),
           dirty_(heap_words_ / card_words_), card_logs_(sizes.mutators * card_log_length),
           card_log_counts_(sizes.mutators), queue_(heap_words_ / card_words_), remembered_(sizes.regions),
@@ -203,7 +201,7 @@ public:
         words_[at + 1] = next_name_;
         std::fill_n(&words_[at] + 2, size - 2, 0);
         if (weaks != 0) weak_regions_.add(region_of(at));
-        root(mutator, target) = Word(at) + 1;
+        roots_.set_reg(mutator, target, Word(at) + 1);
         return reply(Form::Name, next_name_++);
     }
 
@@ -213,7 +211,7 @@ public:
         Address at = Address(object - 1);
         if (index >= pointer_count(words_[at])) return refused(Refusal::NoField);
         Word value = words_[at + 2 + index];
-        root(mutator, target) = value;
+        roots_.set_reg(mutator, target, value);
         return named(value);
     }
 
@@ -231,7 +229,7 @@ public:
         if (index >= weak_count(words_[at])) return refused(Refusal::NoField);
         Word value = words_[at + 2 + pointer_count(words_[at]) + index];
         if (marking_) log_address(mutator, value);
-        root(mutator, target) = value;
+        roots_.set_reg(mutator, target, value);
         return named(value);
     }
 
@@ -267,22 +265,29 @@ public:
     }
 
     Reply move(Number mutator, Number target, Number source) {
-        root(mutator, target) = root(mutator, source);
+        roots_.set_reg(mutator, target, root(mutator, source));
         return reply(Form::Ok);
     }
 
     Reply drop(Number mutator, Number target) {
-        root(mutator, target) = 0;
+        roots_.set_reg(mutator, target, 0);
         return reply(Form::Ok);
     }
 
     Reply load(Number mutator, Number target, Number global) {
-        root(mutator, target) = roots_[global];
-        return named(roots_[global]);
+        Word value = roots_.global(global);
+        roots_.set_reg(mutator, target, value);
+        return named(value);
     }
 
     Reply save(Number mutator, Number global, Number source) {
-        roots_[global] = root(mutator, source);
+        roots_.set_global(global, root(mutator, source));
+        return reply(Form::Ok);
+    }
+
+    // A frame is left. Nothing is logged for it: marking goes by the registers of when it began.
+    Reply scope(Number mutator, Number from) {
+        roots_.leave(mutator, from);
         return reply(Form::Ok);
     }
 
@@ -305,8 +310,7 @@ public:
         }
         marked_ = 0;
         marking_ = true;
-        for (Word pointer : roots_)
-            if (pointer != 0) mark_object(Address(pointer - 1));
+        roots_.each([&](Word pointer) { mark_object(Address(pointer - 1)); });
         return reply(Form::Ok);
     }
 
@@ -365,9 +369,7 @@ public:
     }
 
 private:
-    // Roots: the globals by number, then the registers by mutator and number.
-
-    Word& root(Number mutator, Number number) { return roots_[globals + registers * mutator + number]; }
+    Word root(Number mutator, Number number) const { return roots_.reg(mutator, number); }
 
     Reply named(Word pointer) const {
         return pointer == 0 ? reply(Form::Nil) : reply(Form::Name, words_[Address(pointer - 1) + 1]);
@@ -685,8 +687,7 @@ private:
             regions_[number].role = Role::Chosen;
             gather_covered(number);
         }
-        for (Word& pointer : roots_)
-            if (pointer != 0) pointer = moved(pointer);
+        roots_.each([&](Word& pointer) { pointer = moved(pointer); });
         covered_.drain([&](Number card) {
             // A card of a chosen region isn't outside; nor is one of a region that was free when the pause began.
             if (regions_[region_of(card << card_shift_)].role != Role::None) return;
@@ -753,7 +754,7 @@ private:
     Word next_name_;
     // Not cleared at first: a word is written before it is read.
     std::unique_ptr<Word[]> words_;
-    std::vector<Word> roots_;
+    Roots roots_;
 
     std::vector<Region> regions_;
     Bitmap free_regions_;

@@ -187,7 +187,7 @@ module _ (s : Graph) (k : ℕ) (count : IsReachableCount s k) where
   pub clears_exists : (g : Graph) → (g' : Graph) × Clears s g g'
   clears_exists g =
       let (os, z) = objects g.objects in
-      (record g { objects = os }, record { room = refl; first_name = refl; mutators = refl; roots = refl; objects = z })
+      (record g { objects = os }, record { room = refl; first_name = refl; places = refl; roots = refl; objects = z })
 
 module _ (s : Graph) where
   slot_once : (v a b : Option ℕ) → IsClearedSlot s v a → IsClearedSlot s v b → a ≡ b
@@ -223,11 +223,11 @@ module _ (s : Graph) where
 
   pub clears_once : (g a b : Graph) → Clears s g a → Clears s g b → a ≡ b
   clears_once g a b p q =
-      ap (λ u. record { room = u; first_name = a.first_name; mutators = a.mutators; objects = a.objects; roots = a.roots }) (p.room ∙ sym q.room)
-      ∙ ap (λ u. record { room = b.room; first_name = u; mutators = a.mutators; objects = a.objects; roots = a.roots }) (p.first_name ∙ sym q.first_name)
-      ∙ ap (λ u. record { room = b.room; first_name = b.first_name; mutators = u; objects = a.objects; roots = a.roots }) (p.mutators ∙ sym q.mutators)
-      ∙ ap (λ u. record { room = b.room; first_name = b.first_name; mutators = b.mutators; objects = u; roots = a.roots }) (objects_once g.objects a.objects b.objects p.objects q.objects)
-      ∙ ap (λ u. record { room = b.room; first_name = b.first_name; mutators = b.mutators; objects = b.objects; roots = u }) (p.roots ∙ sym q.roots)
+      ap (λ u. record { room = u; first_name = a.first_name; places = a.places; objects = a.objects; roots = a.roots }) (p.room ∙ sym q.room)
+      ∙ ap (λ u. record { room = b.room; first_name = u; places = a.places; objects = a.objects; roots = a.roots }) (p.first_name ∙ sym q.first_name)
+      ∙ ap (λ u. record { room = b.room; first_name = b.first_name; places = u; objects = a.objects; roots = a.roots }) (p.places ∙ sym q.places)
+      ∙ ap (λ u. record { room = b.room; first_name = b.first_name; places = b.places; objects = u; roots = a.roots }) (objects_once g.objects a.objects b.objects p.objects q.objects)
+      ∙ ap (λ u. record { room = b.room; first_name = b.first_name; places = b.places; objects = b.objects; roots = u }) (p.roots ∙ sym q.roots)
 
 -- what is kept at the end, cleared: each name that was reachable, and of those that were there nothing else
 pub cleared_all : (s : Graph) (h : Heap) (m : Marking) → KeepsSnapshot s h m → IsDone m → (n : ℕ) → IsReachable s n → (a : ℕ) × (x : Stored) × (cleared_after h m a ≡ Some x) × (x.name ≡ n)
@@ -270,4 +270,4 @@ module _ (s : Graph) (flag : ℕ → Bool) (reached : AreReached s flag) where
   objects_by (o ∷ os) = (record { pointers = refl; weaks = slots_by o.weaks; values = refl }, objects_by os)
 
   pub cleared_by : (g : Graph) → Clears s g (cleared_graph flag (next_name s) g)
-  cleared_by g = record { room = refl; first_name = refl; mutators = refl; roots = refl; objects = objects_by g.objects }
+  cleared_by g = record { room = refl; first_name = refl; places = refl; roots = refl; objects = objects_by g.objects }

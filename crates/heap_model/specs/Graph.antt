@@ -27,7 +27,7 @@ register_place p mutator register = p.globals + p.registers * mutator + register
 abbrev pub root_places : Places → ℕ
 root_places p = p.globals + p.registers * p.mutators
 
--- words of roots, of which so many from one on hold nil
+-- the same roots, of which so many from one on hold nil
 abbrev pub with_nils : List (Option ℕ) → ℕ → ℕ → List (Option ℕ)
 with_nils words first zero = words
 with_nils words first (suc count) = slice_set (with_nils words first count) (first + count) None
@@ -36,8 +36,8 @@ pub record Graph : Type 0 where
   -- how many words the heap has
   pub room : ℕ
   pub first_name : ℕ
-  -- how many mutators there are
-  pub mutators : ℕ
+  -- how many globals, mutators and registers there are
+  pub places : Places
   pub objects : List Object
   -- nil or a name in each root place: the globals, then each mutator's registers
   pub roots : List (Option ℕ)
@@ -58,6 +58,10 @@ pub data IsReachable (g : Graph) : ℕ → Type 0 where
 -- the graph with another value in a root place
 abbrev pub with_root : Graph → ℕ → Option ℕ → Graph
 with_root g j v = record g { roots = slice_set g.roots j v }
+
+-- the graph with nil in so many root places from one on
+abbrev pub with_nil_roots : Graph → ℕ → ℕ → Graph
+with_nil_roots g first count = record g { roots = with_nils g.roots first count }
 
 -- the graph with one more object, which bears the next name, and that name in a root place
 abbrev pub with_object : Graph → Object → ℕ → Graph

@@ -36,7 +36,7 @@ pub record ClearsObject (s : Graph) (o o' : Object) : Type 0 where
 pub record Clears (s g g' : Graph) : Type 0 where
   pub room : g'.room ≡ g.room
   pub first_name : g'.first_name ≡ g.first_name
-  pub mutators : g'.mutators ≡ g.mutators
+  pub places : g'.places ≡ g.places
   pub roots : g'.roots ≡ g.roots
   pub objects : AllZip (ClearsObject s) g.objects g'.objects
 

@@ -41,21 +41,37 @@ use pieces::{write_number, write_text};
 use std::io::{Result, Write};
 use step_core::Core;
 
+/// Writes what the first line has behind the first name.
+fn write_ending<W: Write>(writer: &mut W, format: Format) -> Result<()> {
+    match format {
+        Format::V1 => Ok(()),
+        Format::V2 { card } => write_number(writer, card as u64),
+        Format::V3 {
+            card,
+            globals,
+            registers,
+        } => {
+            write_number(writer, card as u64)?;
+            write_number(writer, globals as u64)?;
+            write_number(writer, registers as u64)
+        }
+    }
+}
+
 /// Writes the sizes, as the script's first line has them.
 fn write_sizes<W: Write>(core: &Core, writer: &mut W) -> Result<()> {
     let config = core.config();
     let verb = match config.format {
         Format::V1 => "heap",
         Format::V2 { .. } => "heap2",
+        Format::V3 { .. } => "heap3",
     };
     write!(
         writer,
         "{verb} {} {} {} {} {}",
         config.regions, config.words, config.buffer, config.mutators, config.first_name
     )?;
-    if let Format::V2 { card } = config.format {
-        write_number(writer, card as u64)?;
-    }
+    write_ending(writer, config.format)?;
     write_text(writer, "\n")
 }
 

@@ -9,12 +9,21 @@ use Rattle.std.proofs.lemmas.Bool.Decides.{nat_tests}
 use lib.Count.{ones_step}
 use Rattle.heap_words.specs.declared.config.Config.{Config}
 use Rattle.heap_words.specs.declared.config.Format.{Format}
-use Rattle.heap_words.specs.declared.config.Format.TheVariants.{V1, V2}
-use Rattle.heap_words.specs.Configs.{max_region_words, max_words, region_limit, heap_limit, card_words, Suits}
+use Rattle.heap_words.specs.declared.config.Format.TheVariants.{V1, V2, V3}
+use Rattle.heap_words.specs.Configs.{max_region_words, max_words, max_mutators, region_limit, heap_limit, mutator_limit, card_words, Suits}
 
 below_limits : (f : Format) → (region_limit f ≤ max_region_words) × (heap_limit f ≤ max_words)
 below_limits V1 = (omega arith, omega arith)
 below_limits (V2 card) = (omega arith, omega arith)
+below_limits (V3 card globals registers) = (omega arith, omega arith)
+
+few_in : (f : Format) → mutator_limit f ≤ max_mutators
+few_in V1 = omega arith
+few_in (V2 card) = omega arith
+few_in (V3 card globals registers) = omega arith
+
+pub few_mutators : (c : Config) → Suits c → c.mutators ≤ max_mutators
+few_mutators c suits = let limit = few_in c.format in let most = suits.mutators.at_most in omega (arith, limit, most)
 
 pub small_region : (c : Config) → Suits c → c.words ≤ max_region_words
 small_region c suits = let limit = (below_limits c.format).0 in let most = suits.words.at_most in omega arith

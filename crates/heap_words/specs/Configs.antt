@@ -1,11 +1,11 @@
 -- The sizes that a heap can have.
-use Rattle.std.specs.Prelude.{ℕ, ◌*◌, ◌^◌, ◌≤◌, [], ◌∷◌, Contains, IsTrue}
+use Rattle.std.specs.Prelude.{ℕ, ◌+◌, ◌*◌, ◌^◌, ◌≤◌, [], ◌∷◌, Contains, IsTrue}
 use Rattle.std.specs.Int.{is_power_of_two}
 use Rattle.heap_words.specs.declared.config.Config.{Config}
 use Rattle.heap_words.specs.declared.config.Format.{Format}
-use Rattle.heap_words.specs.declared.config.Format.TheVariants.{V1, V2}
+use Rattle.heap_words.specs.declared.config.Format.TheVariants.{V1, V2, V3}
 use Rattle.heap_words.specs.declared.config.NewFault.{NewFault}
-use Rattle.heap_words.specs.declared.config.NewFault.TheVariants.{BadRegions, BadWords, BadBuffer, BadMutators, NoMemory, BadCard}
+use Rattle.heap_words.specs.declared.config.NewFault.TheVariants.{BadRegions, BadWords, BadBuffer, BadMutators, NoMemory, BadCard, BadGlobals, BadRegisters, BadRoots}
 
 -- the most regions that a heap has, the most words of a region, and of a heap
 abbrev pub max_regions : ℕ
@@ -17,14 +17,35 @@ max_region_words = 2 ^ 14
 abbrev pub max_words : ℕ
 max_words = 2 ^ 24
 
--- the most words of a region, and of a heap, that a heap line of the format may ask for
+-- the most mutators of any format
+abbrev pub max_mutators : ℕ
+max_mutators = 64
+
+-- the most globals, and the most registers of a mutator; the most roots in all
+abbrev pub max_globals : ℕ
+max_globals = 2 ^ 16
+
+abbrev pub max_registers : ℕ
+max_registers = 2 ^ 16
+
+abbrev pub max_roots : ℕ
+max_roots = 2 ^ 20
+
+-- the most words of a region, and of a heap, and the most mutators that a heap line of the format may ask for
 abbrev pub region_limit : Format → ℕ
 region_limit V1 = 2 ^ 12
 region_limit (V2 card) = max_region_words
+region_limit (V3 card globals registers) = max_region_words
 
 abbrev pub heap_limit : Format → ℕ
 heap_limit V1 = 2 ^ 20
 heap_limit (V2 card) = max_words
+heap_limit (V3 card globals registers) = max_words
+
+abbrev pub mutator_limit : Format → ℕ
+mutator_limit V1 = 16
+mutator_limit (V2 card) = 16
+mutator_limit (V3 card globals registers) = max_mutators
 
 pub record HasRegions (c : Config) : Type 0 where
   pub at_least : 2 ≤ c.regions
@@ -43,12 +64,13 @@ pub record HasBuffer (c : Config) : Type 0 where
 
 pub record HasMutators (c : Config) : Type 0 where
   pub at_least : 1 ≤ c.mutators
-  pub at_most : c.mutators ≤ 16
+  pub at_most : c.mutators ≤ mutator_limit c.format
 
 -- how many words a card has
 abbrev pub card_length : Format → ℕ
 card_length V1 = 8
 card_length (V2 card) = card
+card_length (V3 card globals registers) = card
 
 abbrev pub card_words : Config → ℕ
 card_words c = card_length c.format
@@ -58,6 +80,34 @@ pub record HasCard (c : Config) : Type 0 where
   pub length : Contains (8 ∷ 16 ∷ 32 ∷ 64 ∷ []) (card_words c)
   pub at_most : card_words c ≤ c.words
 
+-- how many globals there are, and how many registers each mutator has
+abbrev pub globals_in : Format → ℕ
+globals_in V1 = 16
+globals_in (V2 card) = 16
+globals_in (V3 card globals registers) = globals
+
+abbrev pub registers_in : Format → ℕ
+registers_in V1 = 8
+registers_in (V2 card) = 8
+registers_in (V3 card globals registers) = registers
+
+abbrev pub globals_of : Config → ℕ
+globals_of c = globals_in c.format
+
+abbrev pub registers_of : Config → ℕ
+registers_of c = registers_in c.format
+
+abbrev pub HasGlobals : Config → Type 0
+HasGlobals c = globals_of c ≤ max_globals
+
+pub record HasRegisters (c : Config) : Type 0 where
+  pub at_least : 1 ≤ registers_of c
+  pub at_most : registers_of c ≤ max_registers
+
+-- globals and registers together
+abbrev pub HasRoots : Config → Type 0
+HasRoots c = globals_of c + registers_of c * c.mutators ≤ max_roots
+
 -- a heap can have these sizes
 pub record Suits (c : Config) : Type 0 where
   pub regions : HasRegions c
@@ -65,6 +115,13 @@ pub record Suits (c : Config) : Type 0 where
   pub buffer : HasBuffer c
   pub mutators : HasMutators c
   pub card : HasCard c
+  pub globals : HasGlobals c
+  pub registers : HasRegisters c
+  pub roots : HasRoots c
+
+-- all but the numbers of roots suits
+abbrev pub SuitsButRoots : Config → Type 0
+SuitsButRoots c = HasRegions c × HasWords c × HasBuffer c × HasMutators c × HasCard c
 
 -- the fault holds, and none before it
 abbrev pub IsFirstFault : Config → NewFault → Type 0
@@ -73,6 +130,9 @@ IsFirstFault c BadWords = HasRegions c × ¬ HasWords c
 IsFirstFault c BadBuffer = HasRegions c × HasWords c × ¬ HasBuffer c
 IsFirstFault c BadMutators = HasRegions c × HasWords c × HasBuffer c × ¬ HasMutators c
 IsFirstFault c BadCard = HasRegions c × HasWords c × HasBuffer c × HasMutators c × ¬ HasCard c
+IsFirstFault c BadGlobals = SuitsButRoots c × ¬ HasGlobals c
+IsFirstFault c BadRegisters = SuitsButRoots c × HasGlobals c × ¬ HasRegisters c
+IsFirstFault c BadRoots = SuitsButRoots c × HasGlobals c × HasRegisters c × ¬ HasRoots c
 IsFirstFault c NoMemory = ⊥
 
 -- why no heap of these sizes was made: its first fault, or want of memory where they suit
@@ -82,4 +142,7 @@ IsNewFault c BadWords = IsFirstFault c BadWords
 IsNewFault c BadBuffer = IsFirstFault c BadBuffer
 IsNewFault c BadMutators = IsFirstFault c BadMutators
 IsNewFault c BadCard = IsFirstFault c BadCard
+IsNewFault c BadGlobals = IsFirstFault c BadGlobals
+IsNewFault c BadRegisters = IsFirstFault c BadRegisters
+IsNewFault c BadRoots = IsFirstFault c BadRoots
 IsNewFault c NoMemory = Suits c

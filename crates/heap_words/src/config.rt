@@ -1,23 +1,42 @@
 //! The sizes of a heap, and whether they suit.
 
-ghost use Rattle.std.specs.Prelude.{◌≡◌, ◌↔◌, ◌≤◌, ◌*◌, ◌/◌, IsOk, IfErr, IsTrue};
+ghost use Rattle.std.specs.Prelude.{◌≡◌, ◌↔◌, ◌≤◌, ◌*◌, ◌/◌, IsOk, IsErr, IfErr, IsTrue};
 ghost use Rattle.std.specs.Int.{is_power_of_two};
-ghost use Rattle.heap_words.specs.Configs.{max_region_words, max_words, region_limit, heap_limit, card_length, card_words, Suits, IsFirstFault};
+ghost use Rattle.heap_words.specs.Configs.{max_region_words, max_words, max_mutators, region_limit, heap_limit, mutator_limit, card_length, globals_in, registers_in, card_words, globals_of, registers_of, Suits, HasRegions, HasWords, HasBuffer, HasMutators, HasCard, IsFirstFault};
 
 use thiserror::Error;
 
 /// The most regions that a heap has.
 const MAX_REGIONS: u32 = 1024;
 
-/// Which of the two heap lines gives the sizes. It sets their limits, and the length of a card.
+/// The most globals that a heap has.
+const MAX_GLOBALS: u32 = 1 << 16;
+
+/// The most registers that a mutator has.
+const MAX_REGISTERS: u32 = 1 << 16;
+
+/// The most roots that a heap has, globals and registers together.
+const MAX_ROOTS: u64 = 1 << 20;
+
+/// Which of the three heap lines gives the sizes. It sets their limits, the length of a card, and how many roots there are.
 #[derive(Clone, Copy, Debug, PartialEq, Eq)]
 pub enum Format {
-    /// The line `heap`: 4,096 words a region and 1,048,576 in all at most, and cards of 8 words.
+    /// The line `heap`: 4,096 words a region and 1,048,576 in all at most, and cards of 8 words; up to 16 mutators with 8
+    /// registers each, and 16 globals.
     V1,
-    /// The line `heap2`: 16,384 words a region and 16,777,216 in all at most, and cards of so many words.
+    /// The line `heap2`: 16,384 words a region and 16,777,216 in all at most, and cards of so many words; roots as with `heap`.
     V2 {
         /// How many words a card has.
         card: u32,
+    },
+    /// The line `heap3`: words and cards as with `heap2`; up to 64 mutators, and as many globals and registers as it says.
+    V3 {
+        /// How many words a card has.
+        card: u32,
+        /// How many globals there are.
+        globals: u32,
+        /// How many registers each mutator has.
+        registers: u32,
     },
 }
 
@@ -28,7 +47,7 @@ impl Format {
     {
         match self {
             Format::V1 => 1 << 12,
-            Format::V2 { .. } => 1 << 14,
+            Format::V2 { .. } | Format::V3 { .. } => 1 << 14,
         }
     }
 
@@ -38,7 +57,7 @@ impl Format {
     {
         match self {
             Format::V1 => 1 << 20,
-            Format::V2 { .. } => 1 << 24,
+            Format::V2 { .. } | Format::V3 { .. } => 1 << 24,
         }
     }
 
@@ -48,7 +67,37 @@ impl Format {
     {
         match self {
             Format::V1 => 8,
-            Format::V2 { card } => card,
+            Format::V2 { card } | Format::V3 { card, .. } => card,
+        }
+    }
+
+    /// The most mutators that a heap has.
+    fn mutator_limit(self) -> u32
+        ensures { result ≡ mutator_limit self }
+    {
+        match self {
+            Format::V1 | Format::V2 { .. } => 16,
+            Format::V3 { .. } => 64,
+        }
+    }
+
+    /// How many globals there are.
+    fn globals(self) -> u32
+        ensures { result ≡ globals_in self }
+    {
+        match self {
+            Format::V1 | Format::V2 { .. } => 16,
+            Format::V3 { globals, .. } => globals,
+        }
+    }
+
+    /// How many registers each mutator has.
+    fn registers(self) -> u32
+        ensures { result ≡ registers_in self }
+    {
+        match self {
+            Format::V1 | Format::V2 { .. } => 8,
+            Format::V3 { registers, .. } => registers,
         }
     }
 }
@@ -82,7 +131,7 @@ pub enum NewFault {
     /// A buffer has 4 words or more, and at most half a region.
     #[error("3 BadBuffer")]
     BadBuffer,
-    /// There are 1 to 16 mutators.
+    /// There are 1 to 16 mutators, or to 64 in the third format.
     #[error("4 BadMutators")]
     BadMutators,
     /// Memory was refused.
@@ -91,6 +140,15 @@ pub enum NewFault {
     /// A card has 8, 16, 32 or 64 words, and at most a region.
     #[error("6 BadCard")]
     BadCard,
+    /// There are at most 65,536 globals.
+    #[error("7 BadGlobals")]
+    BadGlobals,
+    /// A mutator has 1 to 65,536 registers.
+    #[error("8 BadRegisters")]
+    BadRegisters,
+    /// There are at most 1,048,576 roots, globals and registers together.
+    #[error("9 BadRoots")]
+    BadRoots,
 }
 
 impl Config {
@@ -99,6 +157,20 @@ impl Config {
     pub fn check(&self) -> Result<(), NewFault>
         ensures suits { IsOk result ↔ Suits self.now }
         ensures first { IfErr result (IsFirstFault self.now) }
+    {
+        self.check_words()?;
+        self.check_roots()
+    }
+
+    /// The same of regions, words, buffers, mutators and cards.
+    fn check_words(&self) -> Result<(), NewFault>
+        ensures regions { IsOk result → HasRegions self.now }
+        ensures words { IsOk result → HasWords self.now }
+        ensures buffer { IsOk result → HasBuffer self.now }
+        ensures mutators { IsOk result → HasMutators self.now }
+        ensures card { IsOk result → HasCard self.now }
+        ensures first { IfErr result (IsFirstFault self.now) }
+        ensures not { IsErr result → Suits self.now → ⊥ }
     {
         if self.regions < 2 || MAX_REGIONS < self.regions {
             return Err(NewFault::BadRegions);
@@ -115,12 +187,37 @@ impl Config {
         if self.buffer < 4 || self.words / 2 < self.buffer {
             return Err(NewFault::BadBuffer);
         }
-        if self.mutators < 1 || 16 < self.mutators {
+        if self.mutators < 1 || self.format.mutator_limit() < self.mutators {
             return Err(NewFault::BadMutators);
         }
         let card = self.card_words();
         if !matches!(card, 8 | 16 | 32 | 64) || self.words < card {
             return Err(NewFault::BadCard);
+        }
+        Ok(())
+    }
+
+    /// The same of roots, where the other sizes suit.
+    fn check_roots(&self) -> Result<(), NewFault>
+        requires regions { HasRegions self.now }
+        requires words { HasWords self.now }
+        requires buffer { HasBuffer self.now }
+        requires mutators { HasMutators self.now }
+        requires card { HasCard self.now }
+        ensures suits { IsOk result ↔ Suits self.now }
+        ensures first { IfErr result (IsFirstFault self.now) }
+    {
+        let globals = self.globals();
+        if MAX_GLOBALS < globals {
+            return Err(NewFault::BadGlobals);
+        }
+        let registers = self.registers();
+        if registers < 1 || MAX_REGISTERS < registers {
+            return Err(NewFault::BadRegisters);
+        }
+        let all = u64::from(globals) + u64::from(registers) * u64::from(self.mutators);
+        if MAX_ROOTS < all {
+            return Err(NewFault::BadRoots);
         }
         Ok(())
     }
@@ -131,6 +228,20 @@ impl Config {
     {
         self.format.card_length()
     }
+
+    /// How many globals there are.
+    pub fn globals(&self) -> u32
+        ensures { result ≡ globals_of self.now }
+    {
+        self.format.globals()
+    }
+
+    /// How many registers each mutator has.
+    pub fn registers(&self) -> u32
+        ensures { result ≡ registers_of self.now }
+    {
+        self.format.registers()
+    }
 }
 
 /// What is known of sizes that suit: the limits of all formats, that a card's length is a power of two, and that a region
@@ -138,6 +249,7 @@ impl Config {
 pub fn config_law()
     ensures region { (c : Config) → Suits c → c.words ≤ max_region_words }
     ensures heap { (c : Config) → Suits c → c.regions * c.words ≤ max_words }
+    ensures mutators { (c : Config) → Suits c → c.mutators ≤ max_mutators }
     ensures power { (c : Config) → Suits c → IsTrue (is_power_of_two (card_words c)) }
     ensures cards { (c : Config) → Suits c → c.words ≡ c.words / card_words c * card_words c }
 {}
@@ -147,9 +259,20 @@ mod tests {
     use super::*;
     use std::test::Fail;
 
+    fn third(card: u32, globals: u32, registers: u32) -> Format {
+        Format::V3 {
+            card,
+            globals,
+            registers,
+        }
+    }
+
     #[test]
     fn names_the_first_fault(rt: HostRuntime) {
-        use NewFault::{BadBuffer, BadCard, BadMutators, BadRegions, BadWords};
+        use NewFault::{
+            BadBuffer, BadCard, BadGlobals, BadMutators, BadRegions, BadRegisters, BadRoots,
+            BadWords,
+        };
         let one = Format::V1;
         for (format, sizes, answer) in [
             (one, (2, 16, 4, 1), Ok(())),
@@ -175,6 +298,16 @@ mod tests {
             (Format::V2 { card: 4 }, (4, 16, 8, 1), Err(BadCard)),
             (Format::V2 { card: 128 }, (4, 256, 8, 1), Err(BadCard)),
             (Format::V2 { card: 12 }, (4, 16, 8, 0), Err(BadMutators)),
+            (third(8, 65_536, 1), (4, 16, 8, 64), Ok(())),
+            (third(8, 0, 16_384), (4, 16, 8, 64), Ok(())),
+            (third(64, 0, 65_536), (1024, 16384, 8, 16), Ok(())),
+            (third(8, 0, 1), (4, 16, 8, 65), Err(BadMutators)),
+            (third(12, 65_537, 0), (4, 16, 8, 1), Err(BadCard)),
+            (third(8, 65_537, 0), (4, 16, 8, 1), Err(BadGlobals)),
+            (third(8, 65_536, 0), (4, 16, 8, 1), Err(BadRegisters)),
+            (third(8, 0, 65_537), (4, 16, 8, 1), Err(BadRegisters)),
+            (third(8, 1, 16_384), (4, 16, 8, 64), Err(BadRoots)),
+            (third(8, 0, 65_536), (4, 16, 8, 17), Err(BadRoots)),
         ] {
             let (regions, words, buffer, mutators) = sizes;
             let config = Config {
@@ -202,6 +335,9 @@ mod tests {
             (NewFault::BadMutators, "4 BadMutators"),
             (NewFault::NoMemory, "5 NoMemory"),
             (NewFault::BadCard, "6 BadCard"),
+            (NewFault::BadGlobals, "7 BadGlobals"),
+            (NewFault::BadRegisters, "8 BadRegisters"),
+            (NewFault::BadRoots, "9 BadRoots"),
         ] {
             assert_eq!(rt; fault.to_string(rt.alloc())?.as_str(), text);
         }

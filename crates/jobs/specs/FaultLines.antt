@@ -20,6 +20,9 @@ sizes_words sizes.BadBuffer = codes "heap: 3 BadBuffer"
 sizes_words sizes.BadMutators = codes "heap: 4 BadMutators"
 sizes_words sizes.NoMemory = codes "heap: 5 NoMemory"
 sizes_words sizes.BadCard = codes "heap: 6 BadCard"
+sizes_words sizes.BadGlobals = codes "heap: 7 BadGlobals"
+sizes_words sizes.BadRegisters = codes "heap: 8 BadRegisters"
+sizes_words sizes.BadRoots = codes "heap: 9 BadRoots"
 
 abbrev pub run_words : RunFault → List ℕ
 run_words runs.BadWorkers = codes "run: 1 BadWorkers"

@@ -53,6 +53,9 @@ fn sizes_words(fault: NewFault) -> &'static [u8]
         NewFault::BadMutators => b"heap: 4 BadMutators",
         NewFault::NoMemory => b"heap: 5 NoMemory",
         NewFault::BadCard => b"heap: 6 BadCard",
+        NewFault::BadGlobals => b"heap: 7 BadGlobals",
+        NewFault::BadRegisters => b"heap: 8 BadRegisters",
+        NewFault::BadRoots => b"heap: 9 BadRoots",
     }
 }
 

@@ -5,6 +5,7 @@ use Rattle.std.proofs.lemmas.Bool.{eqb-true}
 use Rattle.std.proofs.lemmas.List.{length-map}
 use Rattle.heap_words.specs.declared.config.Config.{Config}
 use Rattle.heap_words.specs.Configs.{Suits}
+use Rattle.heap_words.proofs.Limits.{few_mutators}
 use Rattle.object_graph.specs.Actors.{IsStep}
 use Rattle.object_graph.specs.State.{first_state}
 use Rattle.object_graph.specs.declared.step.Actor.{Actor}
@@ -67,7 +68,7 @@ keeps_none {V} f xs config steps c places same suits fresh core stands yet rows 
       each_place = spots ∙ ap (λ n. n + 1) (sym m);
       lines = subst (λ (n : Config). (k : ℕ) → k ≤ n.mutators → All (IsLine n k) (get_or (map f xs) k [])) (sym same)
           (λ k below. subst (All (IsLine config k)) (sym (each k below)) (lines_are config (scripted config.mutators k) steps yet));
-      few = let few = suits.mutators.at_most in rw m few;
+      few = let few = few_mutators config suits in rw m few;
     }
 
 pub keeps_new : {V : Type 0} (f : V → List Step) (xs : List V) (config : Config) (steps : List Step) (c : CoreState) (places : List ℕ) (events : List Event) → events ≡ []

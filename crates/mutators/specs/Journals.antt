@@ -46,4 +46,4 @@ pub record Keeps (j : JournalState) : Type 0 where
   pub each_script : length j.scripts ≡ mutators_of j + 1
   pub each_place : length j.places ≡ mutators_of j + 1
   pub lines : (k : ℕ) → k ≤ mutators_of j → All (IsLine j.core.config k) (script_at j k)
-  pub few : mutators_of j ≤ 16
+  pub few : mutators_of j ≤ 64

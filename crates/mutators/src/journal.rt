@@ -91,7 +91,7 @@ fn add_line(scripts: &mut Vec<Vec<Step>>, place: usize, step: Step) -> Result<()
 
 /// The script of each mutator, and then the collector's.
 fn scripts_of(alloc: Global, config: &Config, steps: &[Step]) -> Result<Vec<Vec<Step>>, AllocError>
-    requires few { config.now.mutators ≤ 16 }
+    requires few { config.now.mutators ≤ 64 }
     requires steps { AreSteps config.now steps.now }
     ensures len { IfOk result (λ v. length v.items ≡ config.now.mutators + 1) }
     ensures each { IfOk result (λ v. (k : ℕ) → k ≤ config.now.mutators → slice_index_or (map (λ s. s.items) v.items) k [] ≡ lines_of (scripted config.now.mutators k) steps.now) }
@@ -120,7 +120,7 @@ struct Rows {
 
 /// The scripts of a plan's steps, each at its beginning, and no events, with room for one of each step.
 fn rows_of(alloc: Global, config: &Config, steps: &[Step]) -> Result<Rows, AllocError>
-    requires few { config.now.mutators ≤ 16 }
+    requires few { config.now.mutators ≤ 64 }
     requires steps { AreSteps config.now steps.now }
     ensures len { IfOk result (λ r. length r.scripts.items ≡ config.now.mutators + 1) }
     ensures each { IfOk result (λ r. (k : ℕ) → k ≤ config.now.mutators → slice_index_or (map (λ s. s.items) r.scripts.items) k [] ≡ lines_of (scripted config.now.mutators k) steps.now) }

@@ -43,7 +43,7 @@ fn background_at(place: u32, markers: u32, refiners: u32) -> Actor
 
 fn scripted_at(mutators: usize, place: usize) -> Actor
     requires place { place ≤ mutators }
-    requires few { mutators ≤ 16 }
+    requires few { mutators ≤ 64 }
     ensures is { result ≡ scripted mutators place }
     ensures cast { IsCast mutators result }
 {

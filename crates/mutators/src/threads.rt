@@ -41,7 +41,7 @@ struct Cast {
     mutators: u32,
     markers: u32,
     refiners: u32,
-    ghost small: { (mutators ≤ 16) × (markers ≤ 8) × (refiners ≤ 8) },
+    ghost small: { (mutators ≤ 64) × (markers ≤ 8) × (refiners ≤ 8) },
 }
 
 impl Cast {

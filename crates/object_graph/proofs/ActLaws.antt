@@ -49,32 +49,32 @@ on_changed g (Some name) place i fields change at lt =
     ∙ on_place g (Some name) place (λ y. on_field g (slice_get (fields y) i) (λ old. (replies.Done, with_changed g name (change y)))) at
 
 -- Where a mutator's register names no object.
-pub no_object : (g : Graph) (m : ℕ) (r : Register) (f : ℕ → Object → Outcome) → index_of g (root_at g (register_place m r.number)) ≡ None → refused g refusals.Nil ≡ on_object g m r f
-no_object g m r f none = on_no_name g (root_at g (register_place m r.number)) f none
+pub no_object : (g : Graph) (m : ℕ) (r : Register) (f : ℕ → Object → Outcome) → index_of g (root_at g (register_place g.places m r.number)) ≡ None → refused g refusals.Nil ≡ on_object g m r f
+no_object g m r f none = on_no_name g (root_at g (register_place g.places m r.number)) f none
 
 -- Where it names the object in a place.
-pub the_object : (v g : Graph) (m : ℕ) (r : Register) (place : ℕ) (f : Object → Outcome) → v ≡ g → index_of g (root_at g (register_place m r.number)) ≡ Some place → f (object_in v.objects place) ≡ on_object g m r (λ name. f)
-the_object v g m r place f same some = ap (λ (u : Graph). f (object_in u.objects place)) same ∙ on_place g (root_at g (register_place m r.number)) place f some
+pub the_object : (v g : Graph) (m : ℕ) (r : Register) (place : ℕ) (f : Object → Outcome) → v ≡ g → index_of g (root_at g (register_place g.places m r.number)) ≡ Some place → f (object_in v.objects place) ≡ on_object g m r (λ name. f)
+the_object v g m r place f same some = ap (λ (u : Graph). f (object_in u.objects place)) same ∙ on_place g (root_at g (register_place g.places m r.number)) place f some
 
 -- That object has no such field.
-pub no_field : {X : Type 0} (v g : Graph) (m : ℕ) (r : Register) (place i : ℕ) (fields : Object → List X) (done : ℕ → Object → X → Outcome) → v ≡ g → index_of g (root_at g (register_place m r.number)) ≡ Some place → slice_get (fields (object_in v.objects place)) i ≡ None → refused g refusals.NoField ≡ on_object g m r (λ name x. on_field g (slice_get (fields x) i) (done name x))
+pub no_field : {X : Type 0} (v g : Graph) (m : ℕ) (r : Register) (place i : ℕ) (fields : Object → List X) (done : ℕ → Object → X → Outcome) → v ≡ g → index_of g (root_at g (register_place g.places m r.number)) ≡ Some place → slice_get (fields (object_in v.objects place)) i ≡ None → refused g refusals.NoField ≡ on_object g m r (λ name x. on_field g (slice_get (fields x) i) (done name x))
 no_field v g m r place i fields done same at none =
-    on_no_field g (root_at g (register_place m r.number)) place i fields done at (ap (λ (u : Graph). slice_get (fields (object_in u.objects place)) i) (sym same) ∙ none)
+    on_no_field g (root_at g (register_place g.places m r.number)) place i fields done at (ap (λ (u : Graph). slice_get (fields (object_in u.objects place)) i) (sym same) ∙ none)
 
 -- The same, by how many there are.
-pub past_fields : {X : Type 0} (v g : Graph) (m : ℕ) (r : Register) (place i n : ℕ) (fields : Object → List X) (done : ℕ → Object → X → Outcome) → v ≡ g → index_of g (root_at g (register_place m r.number)) ≡ Some place → n ≡ length (fields (object_in v.objects place)) → n ≤ i → refused g refusals.NoField ≡ on_object g m r (λ name x. on_field g (slice_get (fields x) i) (done name x))
+pub past_fields : {X : Type 0} (v g : Graph) (m : ℕ) (r : Register) (place i n : ℕ) (fields : Object → List X) (done : ℕ → Object → X → Outcome) → v ≡ g → index_of g (root_at g (register_place g.places m r.number)) ≡ Some place → n ≡ length (fields (object_in v.objects place)) → n ≤ i → refused g refusals.NoField ≡ on_object g m r (λ name x. on_field g (slice_get (fields x) i) (done name x))
 past_fields v g m r place i n fields done same at long le =
     no_field v g m r place i fields done same at (slice_get_past (fields (object_in v.objects place)) i (omega (arith, long, le)))
 
 -- The field has this value.
-pub the_field : {X : Type 0} (v g : Graph) (m : ℕ) (r : Register) (place i : ℕ) (fields : Object → List X) (done : X → Outcome) (value : X) → v ≡ g → index_of g (root_at g (register_place m r.number)) ≡ Some place → slice_get (fields (object_in v.objects place)) i ≡ Some value → done value ≡ on_object g m r (λ name x. on_field g (slice_get (fields x) i) done)
+pub the_field : {X : Type 0} (v g : Graph) (m : ℕ) (r : Register) (place i : ℕ) (fields : Object → List X) (done : X → Outcome) (value : X) → v ≡ g → index_of g (root_at g (register_place g.places m r.number)) ≡ Some place → slice_get (fields (object_in v.objects place)) i ≡ Some value → done value ≡ on_object g m r (λ name x. on_field g (slice_get (fields x) i) done)
 the_field {X = X} v g m r place i fields done value same at some =
     ap (λ (o : Option X). on_field g o done) (sym some)
     ∙ the_object v g m r place (λ x. on_field g (slice_get (fields x) i) done) same at
 
 -- The object has the field, and is changed.
-pub changed_object : {X : Type 0} (v g : Graph) (m : ℕ) (r : Register) (place i n : ℕ) (fields : Object → List X) (change : Object → Object) (objects : List Object) → v ≡ g → index_of g (root_at g (register_place m r.number)) ≡ Some place → n ≡ length (fields (object_in v.objects place)) → i < n → objects ≡ slice_set v.objects place (change (object_in v.objects place)) → (replies.Done, record v { objects = objects }) ≡ on_object g m r (λ name x. on_field g (slice_get (fields x) i) (λ old. (replies.Done, with_changed g name (change x))))
+pub changed_object : {X : Type 0} (v g : Graph) (m : ℕ) (r : Register) (place i n : ℕ) (fields : Object → List X) (change : Object → Object) (objects : List Object) → v ≡ g → index_of g (root_at g (register_place g.places m r.number)) ≡ Some place → n ≡ length (fields (object_in v.objects place)) → i < n → objects ≡ slice_set v.objects place (change (object_in v.objects place)) → (replies.Done, record v { objects = objects }) ≡ on_object g m r (λ name x. on_field g (slice_get (fields x) i) (λ old. (replies.Done, with_changed g name (change x))))
 changed_object v g m r place i n fields change objects same at long lt set =
     ap (λ (os : List Object). (replies.Done, record v { objects = os })) set
     ∙ ap (λ (u : Graph). (replies.Done, record u { objects = slice_set u.objects place (change (object_in u.objects place)) })) same
-    ∙ on_changed g (root_at g (register_place m r.number)) place i fields change at (subst (λ (u : Graph). i < length (fields (object_in u.objects place))) same (omega (arith, long, lt)))
+    ∙ on_changed g (root_at g (register_place g.places m r.number)) place i fields change at (subst (λ (u : Graph). i < length (fields (object_in u.objects place))) same (omega (arith, long, lt)))

@@ -30,38 +30,39 @@ pub cond_law : (P : Outcome → Type 0) (b : Bool) (x y : Outcome) → P x → P
 cond_law P true x y p q = p
 cond_law P false x y p q = q
 
--- A step that changes roots and objects alone keeps the number of mutators.
-abbrev KeepsMutators : Graph → Outcome → Type 0
-KeepsMutators g out = out.1.mutators ≡ g.mutators
+-- A step that changes roots and objects alone keeps the places of roots.
+abbrev KeepsPlaces : Graph → Outcome → Type 0
+KeepsPlaces g out = out.1.places ≡ g.places
 
-made_keeps : (g : Graph) (m : ℕ) (to : Register) (counts : Counts) (weaks : ℕ) → KeepsMutators g (made g m to counts weaks)
+made_keeps : (g : Graph) (m : ℕ) (to : Register) (counts : Counts) (weaks : ℕ) → KeepsPlaces g (made g m to counts weaks)
 made_keeps g m to counts weaks =
-    cond_law (KeepsMutators g) (nat_lt g.room (size_of counts.pointers weaks counts.values)) (refused g refusals.TooBig) _ refl
-    (cond_law (KeepsMutators g) (next_name g == 2 ^ 64 - 1) (refused g refusals.NamesSpent) _ refl refl)
+    cond_law (KeepsPlaces g) (nat_lt g.room (size_of counts.pointers weaks counts.values)) (refused g refusals.TooBig) _ refl
+    (cond_law (KeepsPlaces g) (next_name g == 2 ^ 64 - 1) (refused g refusals.NamesSpent) _ refl refl)
 
-act_keeps : (g : Graph) (m : ℕ) (a : Action) → KeepsMutators g (act g m a)
+act_keeps : (g : Graph) (m : ℕ) (a : Action) → KeepsPlaces g (act g m a)
 act_keeps g m (actions.New to counts) = made_keeps g m to counts 0
-act_keeps g m (actions.Get to object i) = on_name_law (KeepsMutators g) g (root_at g (register_place m object.number)) _ refl (λ n x. on_field_law (KeepsMutators g) g (slice_get x.pointers i) _ refl (λ v. refl))
-act_keeps g m (actions.Put object i value) = on_name_law (KeepsMutators g) g (root_at g (register_place m object.number)) _ refl (λ n x. on_field_law (KeepsMutators g) g (slice_get x.pointers i) _ refl (λ v. refl))
-act_keeps g m (actions.Read object i) = on_name_law (KeepsMutators g) g (root_at g (register_place m object.number)) _ refl (λ n x. on_field_law (KeepsMutators g) g (slice_get x.values i) _ refl (λ v. refl))
-act_keeps g m (actions.Write object i value) = on_name_law (KeepsMutators g) g (root_at g (register_place m object.number)) _ refl (λ n x. on_field_law (KeepsMutators g) g (slice_get x.values i) _ refl (λ v. refl))
+act_keeps g m (actions.Get to object i) = on_name_law (KeepsPlaces g) g (root_at g (register_place g.places m object.number)) _ refl (λ n x. on_field_law (KeepsPlaces g) g (slice_get x.pointers i) _ refl (λ v. refl))
+act_keeps g m (actions.Put object i value) = on_name_law (KeepsPlaces g) g (root_at g (register_place g.places m object.number)) _ refl (λ n x. on_field_law (KeepsPlaces g) g (slice_get x.pointers i) _ refl (λ v. refl))
+act_keeps g m (actions.Read object i) = on_name_law (KeepsPlaces g) g (root_at g (register_place g.places m object.number)) _ refl (λ n x. on_field_law (KeepsPlaces g) g (slice_get x.values i) _ refl (λ v. refl))
+act_keeps g m (actions.Write object i value) = on_name_law (KeepsPlaces g) g (root_at g (register_place g.places m object.number)) _ refl (λ n x. on_field_law (KeepsPlaces g) g (slice_get x.values i) _ refl (λ v. refl))
 act_keeps g m (actions.Move to from) = refl
 act_keeps g m (actions.Drop register) = refl
 act_keeps g m (actions.Load to from) = refl
 act_keeps g m (actions.Save to from) = refl
-act_keeps g m (actions.Shape object) = on_name_law (KeepsMutators g) g (root_at g (register_place m object.number)) _ refl (λ n x. refl)
+act_keeps g m (actions.Shape object) = on_name_law (KeepsPlaces g) g (root_at g (register_place g.places m object.number)) _ refl (λ n x. refl)
 act_keeps g m (actions.NewWeak to counts weaks) = made_keeps g m to counts weaks
-act_keeps g m (actions.GetWeak to object i) = on_name_law (KeepsMutators g) g (root_at g (register_place m object.number)) _ refl (λ n x. on_field_law (KeepsMutators g) g (slice_get x.weaks i) _ refl (λ v. refl))
-act_keeps g m (actions.PutWeak object i value) = on_name_law (KeepsMutators g) g (root_at g (register_place m object.number)) _ refl (λ n x. on_field_law (KeepsMutators g) g (slice_get x.weaks i) _ refl (λ v. refl))
-act_keeps g m (actions.Weaks object) = on_name_law (KeepsMutators g) g (root_at g (register_place m object.number)) _ refl (λ n x. refl)
+act_keeps g m (actions.GetWeak to object i) = on_name_law (KeepsPlaces g) g (root_at g (register_place g.places m object.number)) _ refl (λ n x. on_field_law (KeepsPlaces g) g (slice_get x.weaks i) _ refl (λ v. refl))
+act_keeps g m (actions.PutWeak object i value) = on_name_law (KeepsPlaces g) g (root_at g (register_place g.places m object.number)) _ refl (λ n x. on_field_law (KeepsPlaces g) g (slice_get x.weaks i) _ refl (λ v. refl))
+act_keeps g m (actions.Scope from) = refl
+act_keeps g m (actions.Weaks object) = on_name_law (KeepsPlaces g) g (root_at g (register_place g.places m object.number)) _ refl (λ n x. refl)
 
-pub outcome_of-mutators : (g : Graph) (o : Op) → (outcome_of g o).1.mutators ≡ g.mutators
-outcome_of-mutators g o = act_keeps g o.mutator o.action
+pub outcome_of-places : (g : Graph) (o : Op) → (outcome_of g o).1.places ≡ g.places
+outcome_of-places g o = act_keeps g o.mutator o.action
 
 -- an answer, and what it left
-pub served-mutators : {E : Type 0} (r : Result Reply E) (old new : Graph) (o : Op) → IfOk r (λ reply. (reply, new) ≡ outcome_of old o) → OnErr r (new ≡ old) → new.mutators ≡ old.mutators
-served-mutators (Ok reply) old new o ok err = ap (λ (out : Outcome). out.1.mutators) ok ∙ outcome_of-mutators old o
-served-mutators (Err e) old new o ok err = ap (λ (g : Graph). g.mutators) err
+pub served-places : {E : Type 0} (r : Result Reply E) (old new : Graph) (o : Op) → IfOk r (λ reply. (reply, new) ≡ outcome_of old o) → OnErr r (new ≡ old) → new.places ≡ old.places
+served-places (Ok reply) old new o ok err = ap (λ (out : Outcome). out.1.places) ok ∙ outcome_of-places old o
+served-places (Err e) old new o ok err = ap (λ (g : Graph). g.places) err
 
 -- the graph's own reply is never Full
 abbrev NotFull : Outcome → Type 0
@@ -74,16 +75,17 @@ made-not_full g m to counts weaks =
 
 pub act-not_full : (g : Graph) (m : ℕ) (a : Action) → (act g m a).0 ≡ replies.Refused refusals.Full → ⊥
 act-not_full g m (actions.New to counts) = made-not_full g m to counts 0
-act-not_full g m (actions.Get to object i) = on_name_law NotFull g (root_at g (register_place m object.number)) _ (λ h. cc) (λ n x. on_field_law NotFull g (slice_get x.pointers i) _ (λ h. cc) (λ v h. cc))
-act-not_full g m (actions.Put object i value) = on_name_law NotFull g (root_at g (register_place m object.number)) _ (λ h. cc) (λ n x. on_field_law NotFull g (slice_get x.pointers i) _ (λ h. cc) (λ v h. cc))
-act-not_full g m (actions.Read object i) = on_name_law NotFull g (root_at g (register_place m object.number)) _ (λ h. cc) (λ n x. on_field_law NotFull g (slice_get x.values i) _ (λ h. cc) (λ v h. cc))
-act-not_full g m (actions.Write object i value) = on_name_law NotFull g (root_at g (register_place m object.number)) _ (λ h. cc) (λ n x. on_field_law NotFull g (slice_get x.values i) _ (λ h. cc) (λ v h. cc))
+act-not_full g m (actions.Get to object i) = on_name_law NotFull g (root_at g (register_place g.places m object.number)) _ (λ h. cc) (λ n x. on_field_law NotFull g (slice_get x.pointers i) _ (λ h. cc) (λ v h. cc))
+act-not_full g m (actions.Put object i value) = on_name_law NotFull g (root_at g (register_place g.places m object.number)) _ (λ h. cc) (λ n x. on_field_law NotFull g (slice_get x.pointers i) _ (λ h. cc) (λ v h. cc))
+act-not_full g m (actions.Read object i) = on_name_law NotFull g (root_at g (register_place g.places m object.number)) _ (λ h. cc) (λ n x. on_field_law NotFull g (slice_get x.values i) _ (λ h. cc) (λ v h. cc))
+act-not_full g m (actions.Write object i value) = on_name_law NotFull g (root_at g (register_place g.places m object.number)) _ (λ h. cc) (λ n x. on_field_law NotFull g (slice_get x.values i) _ (λ h. cc) (λ v h. cc))
 act-not_full g m (actions.Move to from) = λ h. cc
 act-not_full g m (actions.Drop register) = λ h. cc
 act-not_full g m (actions.Load to from) = λ h. cc
 act-not_full g m (actions.Save to from) = λ h. cc
-act-not_full g m (actions.Shape object) = on_name_law NotFull g (root_at g (register_place m object.number)) _ (λ h. cc) (λ n x h. cc)
+act-not_full g m (actions.Shape object) = on_name_law NotFull g (root_at g (register_place g.places m object.number)) _ (λ h. cc) (λ n x h. cc)
 act-not_full g m (actions.NewWeak to counts weaks) = made-not_full g m to counts weaks
-act-not_full g m (actions.GetWeak to object i) = on_name_law NotFull g (root_at g (register_place m object.number)) _ (λ h. cc) (λ n x. on_field_law NotFull g (slice_get x.weaks i) _ (λ h. cc) (λ v h. cc))
-act-not_full g m (actions.PutWeak object i value) = on_name_law NotFull g (root_at g (register_place m object.number)) _ (λ h. cc) (λ n x. on_field_law NotFull g (slice_get x.weaks i) _ (λ h. cc) (λ v h. cc))
-act-not_full g m (actions.Weaks object) = on_name_law NotFull g (root_at g (register_place m object.number)) _ (λ h. cc) (λ n x h. cc)
+act-not_full g m (actions.GetWeak to object i) = on_name_law NotFull g (root_at g (register_place g.places m object.number)) _ (λ h. cc) (λ n x. on_field_law NotFull g (slice_get x.weaks i) _ (λ h. cc) (λ v h. cc))
+act-not_full g m (actions.PutWeak object i value) = on_name_law NotFull g (root_at g (register_place g.places m object.number)) _ (λ h. cc) (λ n x. on_field_law NotFull g (slice_get x.weaks i) _ (λ h. cc) (λ v h. cc))
+act-not_full g m (actions.Scope from) = λ h. cc
+act-not_full g m (actions.Weaks object) = on_name_law NotFull g (root_at g (register_place g.places m object.number)) _ (λ h. cc) (λ n x h. cc)

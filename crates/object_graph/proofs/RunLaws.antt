@@ -1,10 +1,14 @@
 -- How a run goes on.
-use Rattle.std.proofs.Common.{◌≡◌, ℕ, ◌+◌, ◌-◌, ◌<◌, Some, slice_get, arith, List, [], ◌∷◌, ◌++◌, length, take, get_or, refl, sym, ap, ◌∙◌, subst}
+use Rattle.std.proofs.Common.{◌≡◌, ℕ, zero, suc, ◌+◌, ◌-◌, ◌<◌, Some, slice_get, arith, List, [], ◌∷◌, ◌++◌, length, take, get_or, refl, sym, ap, ◌∙◌, subst}
 use Rattle.std.proofs.lemmas.List.{take_more}
 use Rattle.std.proofs.lemmas.Option.{slice_get-get_or}
 use Rattle.object_graph.specs.State.{State}
 use Rattle.object_graph.specs.Run.{EventHappens, IsRun, BreaksAt}
 use Rattle.object_graph.specs.declared.step.Event.{Event}
+use Rattle.object_graph.specs.declared.step.Actor.TheVariants as actors
+use Rattle.object_graph.specs.declared.step.Action.TheVariants as actions
+use Rattle.object_graph.specs.declared.step.Step.TheVariants as steps
+use Rattle.object_graph.specs.declared.step.Reply.TheVariants as replies
 
 -- a run goes on by one event
 pub IsRun-more : (first : State) (es : List Event) (mid : State) (e : Event) (last : State) → IsRun first es mid → EventHappens mid e last → IsRun first (es ++ e ∷ []) last
@@ -17,7 +21,24 @@ IsRun-step first es i e mid last lt is run next =
     let more : take (i + 1) es ≡ take i es ++ e ∷ [] = take_more es i e lt ∙ ap (λ (x : Event). take i es ++ x ∷ []) (sym is) in
     rw more (IsRun-more first (take i es) mid e last run next)
 
--- the same, where the events were read from a slice
+-- an event of a slice, as the code reads it
+abbrev pub event_in : List Event → ℕ → Event
+event_in es i = get_or es i (record {
+  actor = actors.Mutator 0;
+  step = steps.Mutator (record { mutator = 0; action = actions.New (record { number = 0 }) (record { pointers = 0; values = 0 }) });
+  reply = replies.Done;
+})
+
+-- what is read of a place that there is doesn't hang on what is read of others
+read_again : (es : List Event) (i : ℕ) (d e : Event) → i < length es → get_or es i d ≡ get_or es i e
+read_again [] i d e inside = absurd (omega (arith, inside))
+read_again (x ∷ xs) zero d e inside = refl
+read_again (x ∷ xs) (suc i) d e inside = read_again xs i d e (omega (arith, inside))
+
+pub event_there : (es : List Event) (i : ℕ) → i < length es → event_in es i ≡ get_or es i (event_in es i)
+event_there es i inside = read_again es i _ _ inside
+
+-- the same as a step, where the events were read from a slice
 pub IsRun-read : (first : State) (es seen : List Event) (i : ℕ) (e : Event) (mid last : State) → seen ≡ es → i < length seen → e ≡ get_or seen i e → IsRun first (take i es) mid → EventHappens mid e last → IsRun first (take (i + 1) es) last
 IsRun-read first es seen i e mid last same lt is run next = IsRun-step first es i e mid last (rw (← same) lt) (rw (← same) is) run next
 

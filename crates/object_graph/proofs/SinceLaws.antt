@@ -10,7 +10,7 @@ use Rattle.heap_model.proofs.Lists.{AllZip-get_right, get-set_cases, get-set_oth
 use Rattle.heap_model.proofs.Cleared.{reach_back}
 use Rattle.heap_model.proofs.Changed.{named_at, at_least}
 use Rattle.heap_model.proofs.Unreached.{touched_cases, touched_next, touched_named, touched_reaches, touched_reached}
-use Rattle.object_graph.specs.State.{State, register_place, root_at, AtRoot, AtField, HoldsNames, IsEarlier, ForSnapshot, IsSoundState}
+use Rattle.object_graph.specs.State.{State, register_place, with_nil_roots, root_at, AtRoot, AtField, HoldsNames, IsEarlier, ForSnapshot, IsSoundState}
 use Rattle.object_graph.specs.Since.{IsKnown, IsSince, IsSinceState}
 use Rattle.object_graph.specs.Sparing.{HoldsKnown}
 use Rattle.object_graph.specs.Machine.{Outcome, refused, on_contents, on_name, on_field, stored, made, act, outcome_of}
@@ -76,6 +76,10 @@ since_begins g = record {
 
 since_root : (s g : Graph) (j : ℕ) (v : Option ℕ) → IsSince s g → KnownValue s v → IsSince s (with_root g j v)
 since_root s g j v k value = record { roots = set_known s g.roots j v k.roots value; pointers = k.pointers; unreached = k.unreached }
+
+since_nils : (s g : Graph) (first count : ℕ) → IsSince s g → IsSince s (with_nil_roots g first count)
+since_nils s g first zero k = k
+since_nils s g first (suc count) k = since_root s (with_nil_roots g first count) (first + count) None (since_nils s g first count k) (λ n e. cc)
 
 since_object : (s g : Graph) (x : Object) (j : ℕ) → IsSince s g → next_name s ≤ next_name g → ((i n : ℕ) → slice_get x.pointers i ≡ Some (Some n) → ⊥) → IsSince s (with_object g x j)
 since_object s g x j k later nil = record {
@@ -158,7 +162,7 @@ module _ (s g : Graph) (k : IsSince s g) (holds : HoldsNames g) (earlier : IsEar
 
   stored_known : (m : ℕ) (v : Option Register) → KnownValue s (stored g m v)
   stored_known m None n e = cc
-  stored_known m (Some r) n e = root_known (register_place m r.number) n e
+  stored_known m (Some r) n e = root_known (register_place g.places m r.number) n e
 
   low : (j n : ℕ) → root_at g j ≡ Some n → g.first_name ≤ n
   low j n e = (holds n (AtRoot j (root_read g.roots j n e))).0
@@ -176,7 +180,7 @@ module _ (s g : Graph) (k : IsSince s g) (holds : HoldsNames g) (earlier : IsEar
   made_since m to counts weaks =
       cond_law (λ out. IsSince s out.1) (nat_lt g.room (size_of counts.pointers weaks counts.values)) (refused g refusals.TooBig) _ k
       (cond_law (λ out. IsSince s out.1) (next_name g == 2 ^ 64 - 1) (refused g refusals.NamesSpent) _ k
-      (since_object s g _ (register_place m to.number) k earlier.next_name (λ i n e. nils counts.pointers i n e)))
+      (since_object s g _ (register_place g.places m to.number) k earlier.next_name (λ i n e. nils counts.pointers i n e)))
 
   -- the outcome of an action: it is since the snapshot that the action leaves
   abbrev SinceAfter : Action → Outcome → Type 0
@@ -184,19 +188,20 @@ module _ (s g : Graph) (k : IsSince s g) (holds : HoldsNames g) (earlier : IsEar
 
   act_since : (m : ℕ) (a : Action) → SinceAfter a (act g m a)
   act_since m (actions.New to counts) = made_since m to counts 0
-  act_since m (actions.Get to object i) = root_law (SinceAfter (actions.Get to object i)) g (root_at g (register_place m object.number)) _ k (λ n x is at. field_law (SinceAfter (actions.Get to object i)) g (slice_get x.pointers i) _ k (λ v e. since_root s g (register_place m to.number) v k (λ u q. pointers_known (register_place m object.number) n x is at i u (e ∙ ap Some q))))
-  act_since m (actions.Put object i value) = root_law (SinceAfter (actions.Put object i value)) g (root_at g (register_place m object.number)) _ k (λ n x is at. field_law (SinceAfter (actions.Put object i value)) g (slice_get x.pointers i) _ k (λ v e. changed_since (register_place m object.number) n (record x { pointers = slice_set x.pointers i (stored g m value) }) is (set_known s x.pointers i (stored g m value) (pointers_known (register_place m object.number) n x is at) (stored_known m value))))
-  act_since m (actions.Read object i) = root_law (SinceAfter (actions.Read object i)) g (root_at g (register_place m object.number)) _ k (λ n x is at. field_law (SinceAfter (actions.Read object i)) g (slice_get x.values i) _ k (λ v e. k))
-  act_since m (actions.Write object i value) = root_law (SinceAfter (actions.Write object i value)) g (root_at g (register_place m object.number)) _ k (λ n x is at. field_law (SinceAfter (actions.Write object i value)) g (slice_get x.values i) _ k (λ v e. changed_since (register_place m object.number) n (record x { values = slice_set x.values i value }) is (pointers_known (register_place m object.number) n x is at)))
-  act_since m (actions.Move to from) = since_root s g (register_place m to.number) (root_at g (register_place m from.number)) k (root_known (register_place m from.number))
-  act_since m (actions.Drop register) = since_root s g (register_place m register.number) None k (λ n e. cc)
-  act_since m (actions.Load to from) = since_root s g (register_place m to.number) (root_at g from.number) k (root_known from.number)
-  act_since m (actions.Save to from) = since_root s g to.number (root_at g (register_place m from.number)) k (root_known (register_place m from.number))
-  act_since m (actions.Shape object) = root_law (SinceAfter (actions.Shape object)) g (root_at g (register_place m object.number)) _ k (λ n x is at. k)
+  act_since m (actions.Get to object i) = root_law (SinceAfter (actions.Get to object i)) g (root_at g (register_place g.places m object.number)) _ k (λ n x is at. field_law (SinceAfter (actions.Get to object i)) g (slice_get x.pointers i) _ k (λ v e. since_root s g (register_place g.places m to.number) v k (λ u q. pointers_known (register_place g.places m object.number) n x is at i u (e ∙ ap Some q))))
+  act_since m (actions.Put object i value) = root_law (SinceAfter (actions.Put object i value)) g (root_at g (register_place g.places m object.number)) _ k (λ n x is at. field_law (SinceAfter (actions.Put object i value)) g (slice_get x.pointers i) _ k (λ v e. changed_since (register_place g.places m object.number) n (record x { pointers = slice_set x.pointers i (stored g m value) }) is (set_known s x.pointers i (stored g m value) (pointers_known (register_place g.places m object.number) n x is at) (stored_known m value))))
+  act_since m (actions.Read object i) = root_law (SinceAfter (actions.Read object i)) g (root_at g (register_place g.places m object.number)) _ k (λ n x is at. field_law (SinceAfter (actions.Read object i)) g (slice_get x.values i) _ k (λ v e. k))
+  act_since m (actions.Write object i value) = root_law (SinceAfter (actions.Write object i value)) g (root_at g (register_place g.places m object.number)) _ k (λ n x is at. field_law (SinceAfter (actions.Write object i value)) g (slice_get x.values i) _ k (λ v e. changed_since (register_place g.places m object.number) n (record x { values = slice_set x.values i value }) is (pointers_known (register_place g.places m object.number) n x is at)))
+  act_since m (actions.Move to from) = since_root s g (register_place g.places m to.number) (root_at g (register_place g.places m from.number)) k (root_known (register_place g.places m from.number))
+  act_since m (actions.Drop register) = since_root s g (register_place g.places m register.number) None k (λ n e. cc)
+  act_since m (actions.Load to from) = since_root s g (register_place g.places m to.number) (root_at g from.number) k (root_known from.number)
+  act_since m (actions.Save to from) = since_root s g to.number (root_at g (register_place g.places m from.number)) k (root_known (register_place g.places m from.number))
+  act_since m (actions.Shape object) = root_law (SinceAfter (actions.Shape object)) g (root_at g (register_place g.places m object.number)) _ k (λ n x is at. k)
   act_since m (actions.NewWeak to counts weaks) = made_since m to counts weaks
-  act_since m (actions.GetWeak to object i) = root_law (SinceAfter (actions.GetWeak to object i)) g (root_at g (register_place m object.number)) _ k (λ n x is at. field_law (SinceAfter (actions.GetWeak to object i)) g (slice_get x.weaks i) _ k (λ v e. since_root (touched s v) g (register_place m to.number) v (since_touched s g v k earlier.first_name) (touched_known s v)))
-  act_since m (actions.PutWeak object i value) = root_law (SinceAfter (actions.PutWeak object i value)) g (root_at g (register_place m object.number)) _ k (λ n x is at. field_law (SinceAfter (actions.PutWeak object i value)) g (slice_get x.weaks i) _ k (λ v e. changed_since (register_place m object.number) n (record x { weaks = slice_set x.weaks i (stored g m value) }) is (pointers_known (register_place m object.number) n x is at)))
-  act_since m (actions.Weaks object) = root_law (SinceAfter (actions.Weaks object)) g (root_at g (register_place m object.number)) _ k (λ n x is at. k)
+  act_since m (actions.GetWeak to object i) = root_law (SinceAfter (actions.GetWeak to object i)) g (root_at g (register_place g.places m object.number)) _ k (λ n x is at. field_law (SinceAfter (actions.GetWeak to object i)) g (slice_get x.weaks i) _ k (λ v e. since_root (touched s v) g (register_place g.places m to.number) v (since_touched s g v k earlier.first_name) (touched_known s v)))
+  act_since m (actions.PutWeak object i value) = root_law (SinceAfter (actions.PutWeak object i value)) g (root_at g (register_place g.places m object.number)) _ k (λ n x is at. field_law (SinceAfter (actions.PutWeak object i value)) g (slice_get x.weaks i) _ k (λ v e. changed_since (register_place g.places m object.number) n (record x { weaks = slice_set x.weaks i (stored g m value) }) is (pointers_known (register_place g.places m object.number) n x is at)))
+  act_since m (actions.Scope from) = since_nils s g (register_place g.places m from.number) (g.places.registers - from.number) k
+  act_since m (actions.Weaks object) = root_law (SinceAfter (actions.Weaks object)) g (root_at g (register_place g.places m object.number)) _ k (λ n x is at. k)
 
   -- weak slots that hold known names alone still do
   module _ (slots : HoldsKnown s g) where
@@ -204,10 +209,10 @@ module _ (s g : Graph) (k : IsSince s g) (holds : HoldsNames g) (earlier : IsEar
     made_slots m to counts weaks =
         cond_law (λ out. HoldsKnown s out.1) (nat_lt g.room (size_of counts.pointers weaks counts.values)) (refused g refusals.TooBig) _ slots
         (cond_law (λ out. HoldsKnown s out.1) (next_name g == 2 ^ 64 - 1) (refused g refusals.NamesSpent) _ slots
-        (slots_object s g _ (register_place m to.number) slots (λ i n e. nils weaks i n e)))
+        (slots_object s g _ (register_place g.places m to.number) slots (λ i n e. nils weaks i n e)))
 
-    object_slots : (m : ℕ) (object : Register) (f : ℕ → Object → Outcome) → ((n : ℕ) (x : Object) → KnownFields s x.weaks → HoldsKnown s (f n x).1) → HoldsKnown s (on_name g (root_at g (register_place m object.number)) f).1
-    object_slots m object f each = root_law (λ out. HoldsKnown s out.1) g (root_at g (register_place m object.number)) f slots (λ n x is at. each n x (λ i u e. slots (n - g.first_name) i u x at e))
+    object_slots : (m : ℕ) (object : Register) (f : ℕ → Object → Outcome) → ((n : ℕ) (x : Object) → KnownFields s x.weaks → HoldsKnown s (f n x).1) → HoldsKnown s (on_name g (root_at g (register_place g.places m object.number)) f).1
+    object_slots m object f each = root_law (λ out. HoldsKnown s out.1) g (root_at g (register_place g.places m object.number)) f slots (λ n x is at. each n x (λ i u e. slots (n - g.first_name) i u x at e))
 
     field_slots : {X : Type 0} (o : Option X) (f : X → Outcome) → ((x : X) → HoldsKnown s (f x).1) → HoldsKnown s (on_field g o f).1
     field_slots o f each = field_law (λ out. HoldsKnown s out.1) g o f slots (λ x e. each x)
@@ -226,6 +231,7 @@ module _ (s g : Graph) (k : IsSince s g) (holds : HoldsNames g) (earlier : IsEar
     act_slots m (actions.NewWeak to counts weaks) = made_slots m to counts weaks
     act_slots m (actions.GetWeak to object i) = object_slots m object _ (λ n x weaks. field_slots (slice_get x.weaks i) _ (λ v. slots))
     act_slots m (actions.PutWeak object i value) = object_slots m object _ (λ n x weaks. field_slots (slice_get x.weaks i) _ (λ v. slots_changed s g n (record x { weaks = slice_set x.weaks i (stored g m value) }) slots (set_known s x.weaks i (stored g m value) weaks (stored_known m value))))
+    act_slots m (actions.Scope from) = slots
     act_slots m (actions.Weaks object) = object_slots m object _ (λ n x weaks. slots)
 
 slots_on : (s g : Graph) (v : Option ℕ) → HoldsKnown s g → HoldsKnown (touched s v) g

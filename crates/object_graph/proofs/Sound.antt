@@ -1,5 +1,5 @@
 -- Every name that stands in a state's graphs is borne by an object: at the beginning, and after each event.
-use Rattle.std.proofs.Common.{◌≡◌, ℕ, zero, suc, ◌-◌, ◌<◌, ◌≤◌, List, ◌∷◌, [], ◌++◌, length, Option, Some, None, refl, sym, ap, ◌∙◌, subst, inl, inr, arith}
+use Rattle.std.proofs.Common.{◌≡◌, ℕ, zero, suc, ◌+◌, ◌-◌, ◌<◌, ◌≤◌, List, ◌∷◌, [], ◌++◌, length, Option, Some, None, refl, sym, ap, ◌∙◌, subst, inl, inr, arith}
 use Rattle.std.specs.Prelude.{slice_get, slice_set, slice_index_or, replicate, nat_lt, ◌==◌, ◌^◌}
 use Rattle.heap_words.specs.Sizes.{size_of}
 use Rattle.heap_words.specs.declared.config.Config.{Config}
@@ -7,7 +7,7 @@ use Rattle.heap_model.specs.Graph.{Graph, Object, next_name, object_fields, with
 use Rattle.heap_model.specs.Weak.{touched, IsClearedSlot, ClearsObject, Clears}
 use Rattle.heap_model.proofs.Lists.{AllZip-get_right, AllZip_length, get-set_cases, get-append_cases, get-append_left, get-append_right, get-push_cases, length-set, length-push}
 use Rattle.heap_model.proofs.Unreached.{touched_cases}
-use Rattle.object_graph.specs.State.{State, root_places, register_place, root_at, Occurs, AtRoot, AtField, IsNameOf, HoldsNames, IsEarlier, ForSnapshot, IsSoundState, first_graph, first_state}
+use Rattle.object_graph.specs.State.{State, root_places, places_of, register_place, with_nil_roots, root_at, Occurs, AtRoot, AtField, IsNameOf, HoldsNames, IsEarlier, ForSnapshot, IsSoundState, first_graph, first_state}
 use Rattle.object_graph.specs.Machine.{Outcome, refused, on_contents, on_name, on_field, stored, made, act, outcome_of}
 use Rattle.object_graph.specs.Run.{snapshot_after, ClearsBy, Collects, Happens, IsRun}
 use Rattle.object_graph.specs.declared.step.Action.{Action}
@@ -22,7 +22,7 @@ use Rattle.object_graph.specs.declared.step.Event.{Event}
 use Rattle.object_graph.specs.declared.step.Reply.{Reply}
 use Rattle.object_graph.specs.declared.step.Reply.TheVariants as replies
 use Rattle.object_graph.specs.declared.step.Refusal.TheVariants as refusals
-use Rattle.object_graph.proofs.MachineLaws.{cond_law, outcome_of-mutators}
+use Rattle.object_graph.proofs.MachineLaws.{cond_law, outcome_of-places}
 use Rattle.object_graph.proofs.Collected.{kind}
 
 -- a graph with more objects has the names
@@ -43,11 +43,15 @@ root_value g k j n e = k n (AtRoot j (read_root g.roots j e))
 
 stored_value : (g : Graph) → HoldsNames g → (m : ℕ) (v : Option Register) → IsValue g (stored g m v)
 stored_value g k m None n e = cc
-stored_value g k m (Some r) n e = root_value g k (register_place m r.number) n e
+stored_value g k m (Some r) n e = root_value g k (register_place g.places m r.number) n e
 
 root_holds : (g : Graph) (j : ℕ) (v : Option ℕ) → HoldsNames g → IsValue g v → HoldsNames (with_root g j v)
 root_holds g j v k value n (AtRoot i e) = elim (get-set_cases g.roots j i v (Some n) e) [ inl q ↦ value n (sym q) | inr q ↦ k n (AtRoot i q) ]
 root_holds g j v k value n (AtField p i x at e) = k n (AtField p i x at e)
+
+nil_roots_hold : (g : Graph) (first count : ℕ) → HoldsNames g → HoldsNames (with_nil_roots g first count)
+nil_roots_hold g first zero k = k
+nil_roots_hold g first (suc count) k = root_holds (with_nil_roots g first count) (first + count) None (nil_roots_hold g first count k) (λ n e. cc)
 
 -- fields that hold names of the graph
 abbrev AreValues : Graph → List (Option ℕ) → Type 0
@@ -197,6 +201,9 @@ module _ (g : Graph) (k : HoldsNames g) where
   weak_value : (p : ℕ) (x : Object) (i : ℕ) (v : Option ℕ) → slice_get g.objects p ≡ Some x → slice_get x.weaks i ≡ Some v → IsValue g v
   weak_value p x i v at e n q = let t = get-append_right x.pointers x.weaks i (Some n) (e ∙ ap Some q) in values_at p x at t.0 n t.1
 
+  scoped : (first count : ℕ) → Goes g (replies.Done, with_nil_roots g first count)
+  scoped first count = record { holds = nil_roots_hold g first count k; first_name = refl; next_name = omega arith; replied = λ v q. cc }
+
   nil_stays : Goes g (refused g refusals.Nil)
   nil_stays = stays (replies.Refused refusals.Nil) (λ v e. cc)
 
@@ -207,23 +214,24 @@ module _ (g : Graph) (k : HoldsNames g) where
   made_goes m to counts weaks =
       cond_law (Goes g) (nat_lt g.room (size_of counts.pointers weaks counts.values)) (refused g refusals.TooBig) _ (stays (replies.Refused refusals.TooBig) (λ v e. cc))
       (cond_law (Goes g) (next_name g == 2 ^ 64 - 1) (refused g refusals.NamesSpent) _ (stays (replies.Refused refusals.NamesSpent) (λ v e. cc))
-      (added (record { pointers = replicate counts.pointers None; weaks = replicate weaks None; values = replicate counts.values 0 }) (register_place m to.number) (λ i n e. fresh_fields counts.pointers weaks i n e)))
+      (added (record { pointers = replicate counts.pointers None; weaks = replicate weaks None; values = replicate counts.values 0 }) (register_place g.places m to.number) (λ i n e. fresh_fields counts.pointers weaks i n e)))
 
   act_goes : (m : ℕ) (a : Action) → Goes g (act g m a)
   act_goes m (actions.New to counts) = made_goes m to counts 0
-  act_goes m (actions.Get to object i) = name_law (Goes g) g (root_at g (register_place m object.number)) _ nil_stays (λ n x at. field_law (Goes g) g (slice_get x.pointers i) _ none_stays (λ v e. rooted (replies.Named v) (register_place m to.number) v (pointer_value (n - g.first_name) x i v at e) (λ u q. cc)))
-  act_goes m (actions.Put object i value) = name_law (Goes g) g (root_at g (register_place m object.number)) _ nil_stays (λ n x at. field_law (Goes g) g (slice_get x.pointers i) _ none_stays (λ v e. changed n (record x { pointers = slice_set x.pointers i (stored g m value) }) (fields_set g x.pointers x.weaks i (stored g m value) (values_at (n - g.first_name) x at) (stored_value g k m value))))
-  act_goes m (actions.Read object i) = name_law (Goes g) g (root_at g (register_place m object.number)) _ nil_stays (λ n x at. field_law (Goes g) g (slice_get x.values i) _ none_stays (λ v e. stays (replies.Word v) (λ u q. cc)))
-  act_goes m (actions.Write object i value) = name_law (Goes g) g (root_at g (register_place m object.number)) _ nil_stays (λ n x at. field_law (Goes g) g (slice_get x.values i) _ none_stays (λ v e. changed n (record x { values = slice_set x.values i value }) (values_at (n - g.first_name) x at)))
-  act_goes m (actions.Move to from) = rooted replies.Done (register_place m to.number) (root_at g (register_place m from.number)) (root_value g k (register_place m from.number)) (λ u q. cc)
-  act_goes m (actions.Drop register) = rooted replies.Done (register_place m register.number) None (λ n e. cc) (λ u q. cc)
-  act_goes m (actions.Load to from) = rooted (replies.Named (root_at g from.number)) (register_place m to.number) (root_at g from.number) (root_value g k from.number) (λ u q. cc)
-  act_goes m (actions.Save to from) = rooted replies.Done to.number (root_at g (register_place m from.number)) (root_value g k (register_place m from.number)) (λ u q. cc)
-  act_goes m (actions.Shape object) = name_law (Goes g) g (root_at g (register_place m object.number)) _ nil_stays (λ n x at. stays (replies.Shape (length x.pointers) (length x.values)) (λ u q. cc))
+  act_goes m (actions.Get to object i) = name_law (Goes g) g (root_at g (register_place g.places m object.number)) _ nil_stays (λ n x at. field_law (Goes g) g (slice_get x.pointers i) _ none_stays (λ v e. rooted (replies.Named v) (register_place g.places m to.number) v (pointer_value (n - g.first_name) x i v at e) (λ u q. cc)))
+  act_goes m (actions.Put object i value) = name_law (Goes g) g (root_at g (register_place g.places m object.number)) _ nil_stays (λ n x at. field_law (Goes g) g (slice_get x.pointers i) _ none_stays (λ v e. changed n (record x { pointers = slice_set x.pointers i (stored g m value) }) (fields_set g x.pointers x.weaks i (stored g m value) (values_at (n - g.first_name) x at) (stored_value g k m value))))
+  act_goes m (actions.Read object i) = name_law (Goes g) g (root_at g (register_place g.places m object.number)) _ nil_stays (λ n x at. field_law (Goes g) g (slice_get x.values i) _ none_stays (λ v e. stays (replies.Word v) (λ u q. cc)))
+  act_goes m (actions.Write object i value) = name_law (Goes g) g (root_at g (register_place g.places m object.number)) _ nil_stays (λ n x at. field_law (Goes g) g (slice_get x.values i) _ none_stays (λ v e. changed n (record x { values = slice_set x.values i value }) (values_at (n - g.first_name) x at)))
+  act_goes m (actions.Move to from) = rooted replies.Done (register_place g.places m to.number) (root_at g (register_place g.places m from.number)) (root_value g k (register_place g.places m from.number)) (λ u q. cc)
+  act_goes m (actions.Drop register) = rooted replies.Done (register_place g.places m register.number) None (λ n e. cc) (λ u q. cc)
+  act_goes m (actions.Load to from) = rooted (replies.Named (root_at g from.number)) (register_place g.places m to.number) (root_at g from.number) (root_value g k from.number) (λ u q. cc)
+  act_goes m (actions.Save to from) = rooted replies.Done to.number (root_at g (register_place g.places m from.number)) (root_value g k (register_place g.places m from.number)) (λ u q. cc)
+  act_goes m (actions.Shape object) = name_law (Goes g) g (root_at g (register_place g.places m object.number)) _ nil_stays (λ n x at. stays (replies.Shape (length x.pointers) (length x.values)) (λ u q. cc))
   act_goes m (actions.NewWeak to counts weaks) = made_goes m to counts weaks
-  act_goes m (actions.GetWeak to object i) = name_law (Goes g) g (root_at g (register_place m object.number)) _ nil_stays (λ n x at. field_law (Goes g) g (slice_get x.weaks i) _ none_stays (λ v e. rooted (replies.Named v) (register_place m to.number) v (weak_value (n - g.first_name) x i v at e) (λ u q. cc)))
-  act_goes m (actions.PutWeak object i value) = name_law (Goes g) g (root_at g (register_place m object.number)) _ nil_stays (λ n x at. field_law (Goes g) g (slice_get x.weaks i) _ none_stays (λ v e. changed n (record x { weaks = slice_set x.weaks i (stored g m value) }) (weaks_set g x.pointers x.weaks i (stored g m value) (values_at (n - g.first_name) x at) (stored_value g k m value))))
-  act_goes m (actions.Weaks object) = name_law (Goes g) g (root_at g (register_place m object.number)) _ nil_stays (λ n x at. stays (replies.Word (length x.weaks)) (λ u q. cc))
+  act_goes m (actions.GetWeak to object i) = name_law (Goes g) g (root_at g (register_place g.places m object.number)) _ nil_stays (λ n x at. field_law (Goes g) g (slice_get x.weaks i) _ none_stays (λ v e. rooted (replies.Named v) (register_place g.places m to.number) v (weak_value (n - g.first_name) x i v at e) (λ u q. cc)))
+  act_goes m (actions.PutWeak object i value) = name_law (Goes g) g (root_at g (register_place g.places m object.number)) _ nil_stays (λ n x at. field_law (Goes g) g (slice_get x.weaks i) _ none_stays (λ v e. changed n (record x { weaks = slice_set x.weaks i (stored g m value) }) (weaks_set g x.pointers x.weaks i (stored g m value) (values_at (n - g.first_name) x at) (stored_value g k m value))))
+  act_goes m (actions.Scope from) = scoped (register_place g.places m from.number) (g.places.registers - from.number)
+  act_goes m (actions.Weaks object) = name_law (Goes g) g (root_at g (register_place g.places m object.number)) _ nil_stays (λ n x at. stays (replies.Word (length x.weaks)) (λ u q. cc))
 
 -- the snapshot stays earlier as the graph goes on
 earlier_on : (s : Option Graph) (g h : Graph) → h.first_name ≡ g.first_name → next_name g ≤ next_name h → ForSnapshot s (λ t. IsEarlier t g) → ForSnapshot s (λ t. IsEarlier t h)
@@ -253,6 +261,7 @@ after_law P s (actions.Save to from) r k touch = k
 after_law P s (actions.Shape object) r k touch = k
 after_law P s (actions.NewWeak to counts weaks) r k touch = k
 after_law P s (actions.PutWeak object i v) r k touch = k
+after_law P s (actions.Scope from) r k touch = k
 after_law P s (actions.Weaks object) r k touch = k
 
 touch_on : (s : Option Graph) (g : Graph) (a : Action) (r : Reply) → ForSnapshot s (λ t. IsEarlier t g) → ((v : Option ℕ) → r ≡ replies.Named v → IsValue g v) → ForSnapshot (snapshot_after s a r) (λ t. IsEarlier t g)
@@ -300,31 +309,31 @@ pub first_sound : (c : Config) → IsSoundState (first_state c)
 first_sound c = record { graph = λ n o. absurd (nowhere n o); snapshot = tt }
   where
     nowhere : (n : ℕ) → Occurs (first_graph c) n → ⊥
-    nowhere n (AtRoot j e) = nils (root_places c.mutators) j n e
+    nowhere n (AtRoot j e) = nils (root_places (places_of c)) j n e
     nowhere n (AtField p i x at e) = cc
 
--- a run keeps the number of mutators
-same_mutators : (a b : State) → a ≡ b → a.graph.mutators ≡ b.graph.mutators
-same_mutators a b e = ap (λ (t : State). t.graph.mutators) e
+-- a run keeps the places of roots
+same_places : (a b : State) → a ≡ b → a.graph.places ≡ b.graph.places
+same_places a b e = ap (λ (t : State). t.graph.places) e
 
-cleared_mutators : (s : Option Graph) (g h : Graph) → ClearsBy s g h → h.mutators ≡ g.mutators
-cleared_mutators None g h c = ap (λ (t : Graph). t.mutators) c
-cleared_mutators (Some s) g h c = c.mutators
+cleared_places : (s : Option Graph) (g h : Graph) → ClearsBy s g h → h.places ≡ g.places
+cleared_places None g h c = ap (λ (t : Graph). t.places) c
+cleared_places (Some s) g h c = c.places
 
-collects_mutators : (old new : State) (k : CollectorStep) (r : Reply) → Collects old k r new → new.graph.mutators ≡ old.graph.mutators
-collects_mutators old new k r c = elim (kind k r) [
-  | inl t ↦ ap (λ (t : State). t.graph.mutators) ((t.0 old new).0 c)
+collects_places : (old new : State) (k : CollectorStep) (r : Reply) → Collects old k r new → new.graph.places ≡ old.graph.places
+collects_places old new k r c = elim (kind k r) [
+  | inl t ↦ ap (λ (t : State). t.graph.places) ((t.0 old new).0 c)
   | inr u ↦ elim u [
-    | inl g ↦ cleared_mutators old.snapshot old.graph new.graph ((g.0 old new).0 c).1
-    | inr n ↦ same_mutators new old ((n.0 old new).0 c)
+    | inl g ↦ cleared_places old.snapshot old.graph new.graph ((g.0 old new).0 c).1
+    | inr n ↦ same_places new old ((n.0 old new).0 c)
   ]
 ]
 
-pub happens_mutators : (old new : State) (s : Step) (r : Reply) → Happens old s r new → new.graph.mutators ≡ old.graph.mutators
-happens_mutators old new (steps.Mutator o) r (inl h) = ap (λ (x : Outcome). x.1.mutators) h.0 ∙ outcome_of-mutators old.graph o
-happens_mutators old new (steps.Mutator o) r (inr h) = same_mutators new old h.2
-happens_mutators old new (steps.Collector c) r h = collects_mutators old new c r h.1
+pub happens_places : (old new : State) (s : Step) (r : Reply) → Happens old s r new → new.graph.places ≡ old.graph.places
+happens_places old new (steps.Mutator o) r (inl h) = ap (λ (x : Outcome). x.1.places) h.0 ∙ outcome_of-places old.graph o
+happens_places old new (steps.Mutator o) r (inr h) = same_places new old h.2
+happens_places old new (steps.Collector c) r h = collects_places old new c r h.1
 
-pub run_mutators : (es : List Event) (first last : State) → IsRun first es last → last.graph.mutators ≡ first.graph.mutators
-run_mutators [] first last run = same_mutators last first run
-run_mutators (e ∷ es) first last run = run_mutators es run.0 last run.2 ∙ happens_mutators first run.0 e.step e.reply run.1
+pub run_places : (es : List Event) (first last : State) → IsRun first es last → last.graph.places ≡ first.graph.places
+run_places [] first last run = same_places last first run
+run_places (e ∷ es) first last run = run_places es run.0 last run.2 ∙ happens_places first run.0 e.step e.reply run.1

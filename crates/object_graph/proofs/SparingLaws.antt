@@ -43,7 +43,7 @@ clears_none : (s g : Graph) → HoldsKnown s g → Clears s g g
 clears_none s g slots = record {
   room = refl;
   first_name = refl;
-  mutators = refl;
+  places = refl;
   roots = refl;
   objects = each g.objects (λ k i n x at e. slots k i n x at e);
 }

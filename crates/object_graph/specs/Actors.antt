@@ -1,6 +1,13 @@
 -- Plans and records, and whose a step is.
-use Rattle.std.specs.Prelude.{◌≡◌, ◌<◌, List, All}
+use Rattle.std.specs.Prelude.{◌≡◌, ◌<◌, List, All, Bool, true, false, ◌&&◌}
 use Rattle.heap_words.specs.declared.config.Config.{Config}
+use Rattle.heap_words.specs.declared.config.Format.{Format}
+use Rattle.heap_words.specs.declared.config.Format.TheVariants.{V3}
+use Rattle.root_table.specs.Roots.{places_of}
+use Rattle.object_graph.specs.Roots.{IsOpAt, names_roots}
+use Rattle.object_graph.specs.declared.step.Action.{Action}
+use Rattle.object_graph.specs.declared.step.Action.TheVariants as actions
+use Rattle.object_graph.specs.declared.step.Op.{Op}
 use Rattle.object_graph.specs.declared.step.Actor.{Actor}
 use Rattle.object_graph.specs.declared.step.Actor.TheVariants as actors
 use Rattle.object_graph.specs.declared.step.CollectorStep.TheVariants as collector
@@ -18,9 +25,37 @@ pub record EventList : Type 0 where
   pub config : Config
   pub events : List Event
 
--- a step of a plan: a mutator's, whose number is below the count, or the collector's
+-- the format has frames of registers, which a scope leaves
+abbrev pub HasFrames : Format → Type 0
+HasFrames (V3 card globals registers) = Unit {0}
+HasFrames _ = ⊥
+
+-- the format has the action
+abbrev pub HasAction : Format → Action → Type 0
+HasAction f (actions.Scope from) = HasFrames f
+HasAction f _ = Unit {0}
+
+-- the same as a test
+abbrev pub has_frames : Format → Bool
+has_frames (V3 card globals registers) = true
+has_frames _ = false
+
+abbrev pub has_action : Format → Action → Bool
+has_action f (actions.Scope from) = has_frames f
+has_action f _ = true
+
+-- whether a heap of these sizes has each root that the action names, and their format the action
+abbrev pub allows : Config → Action → Bool
+allows c a = names_roots (places_of c) a && has_action c.format a
+
+-- a mutator's step in a heap of these sizes: there are its mutator and each root that it names, and the format has it
+pub record IsOp (c : Config) (o : Op) : Type 0 where
+  pub at : IsOpAt (places_of c) o
+  pub known : HasAction c.format o.action
+
+-- a step of a plan: such a one of a mutator, or the collector's
 abbrev pub IsStep : Config → Step → Type 0
-IsStep c (steps.Mutator o) = o.mutator < c.mutators
+IsStep c (steps.Mutator o) = IsOp c o
 IsStep c (steps.Collector k) = Unit {0}
 
 -- each is a step of a plan
@@ -30,7 +65,7 @@ AreSteps c ss = All (IsStep c) ss
 -- a step of the actor: a mutator takes its own, the collector any of the collector's, a background marker marks, a
 -- background refiner refines
 abbrev pub IsStepOf : Config → Actor → Step → Type 0
-IsStepOf c (actors.Mutator m) (steps.Mutator o) = (o.mutator ≡ m) × (m < c.mutators)
+IsStepOf c (actors.Mutator m) (steps.Mutator o) = (o.mutator ≡ m) × IsOp c o
 IsStepOf c actors.Collector (steps.Collector k) = Unit {0}
 IsStepOf c (actors.Marker i) (steps.Collector (collector.Mark k)) = i < 8
 IsStepOf c (actors.Refiner i) (steps.Collector (collector.Refine k)) = i < 8

@@ -2,8 +2,9 @@
 use Rattle.std.specs.Prelude.{◌≡◌, ℕ, ◌*◌, ◌-◌, ◌<◌, ◌≤◌, ◌^◌, List, Option, Some, None, length, slice_get, slice_index_or, replicate, [], nat_lt, if◌then◌else◌}
 use Rattle.heap_words.specs.declared.config.Config.{Config}
 use Rattle.heap_model.specs.Graph.{Graph, Object, next_name, object_fields}
-pub use Rattle.object_graph.specs.Roots.{root_places, register_place}
-pub use Rattle.heap_model.specs.Graph.{with_root}
+use Rattle.root_table.specs.Bounds.{AreBounded}
+pub use Rattle.heap_model.specs.Graph.{root_places, register_place, with_root, with_nil_roots}
+pub use Rattle.root_table.specs.Roots.{places_of}
 
 -- what a root place holds
 abbrev pub root_at : Graph → ℕ → Option ℕ
@@ -12,7 +13,12 @@ root_at g place = slice_index_or g.roots place None
 -- names are words, and there is a root place for each global and each register
 pub record IsState (g : Graph) : Type 0 where
   pub names : next_name g < 2 ^ 64
-  pub roots : length g.roots ≡ root_places g.mutators
+  pub roots : length g.roots ≡ root_places g.places
+
+-- what every graph keeps: its state, and for each row of roots a bound from which on they are nil
+pub record IsGraph (g : Graph) (used : List ℕ) : Type 0 where
+  pub state : IsState g
+  pub bounds : AreBounded g.places g.roots used
 
 -- the place, if the list has it
 abbrev pub within : List Object → ℕ → Option ℕ
@@ -31,7 +37,7 @@ pub record State : Type 0 where
 
 -- the graph of a new heap: no objects, and each root nil
 abbrev pub first_graph : Config → Graph
-first_graph c = record { room = c.regions * c.words; first_name = c.first_name; mutators = c.mutators; objects = []; roots = replicate (root_places c.mutators) None }
+first_graph c = record { room = c.regions * c.words; first_name = c.first_name; places = places_of c; objects = []; roots = replicate (root_places (places_of c)) None }
 
 -- the state of a new heap
 abbrev pub first_state : Config → State

@@ -5,10 +5,11 @@ ghost use Rattle.std.specs.Prelude.{◌≡◌, ◌<◌, ◌≤◌, ◌+◌, ◌*
 use crate::clear::clear_all;
 use crate::objects::Objects;
 use crate::pointer::Pointer;
-use crate::roots::{register_place, root_places};
+use crate::roots::fill_nil;
 use crate::search::Search;
 use crate::step::{Action, Counts, GlobalRoot, Op, Refusal, Register, Reply};
 use heap_words::config::Config;
+use root_table::Places;
 use std::alloc::{AllocError, Global};
 use std::marker::Model;
 
@@ -17,20 +18,22 @@ use std::marker::Model;
 pub struct Graph {
     room: u64,
     first_name: u64,
-    mutators: u32,
+    places: Places,
     objects: Objects,
     roots: Vec<Pointer>,
+    /// For the globals and for each mutator's registers a number from which on they are nil.
+    used: Vec<u32>,
 }
 
 impl Model for Graph {
     ghost use Rattle.heap_model.specs.Graph as model;
-    ghost use Rattle.object_graph.specs.State.{IsState};
+    ghost use Rattle.object_graph.specs.State.{IsGraph};
 
     ghost Value = { model.Graph };
 
-    ghost view = { λ g. record { room = g.room; first_name = g.first_name; mutators = g.mutators; objects = g.objects; roots = g.roots.items } };
+    ghost view = { λ g. record { room = g.room; first_name = g.first_name; places = g.places; objects = g.objects; roots = g.roots.items } };
 
-    ghost invariant = { λ g. IsState (record { room = g.room; first_name = g.first_name; mutators = g.mutators; objects = g.objects; roots = g.roots.items }) };
+    ghost invariant = { λ g. IsGraph (record { room = g.room; first_name = g.first_name; places = g.places; objects = g.objects; roots = g.roots.items }) g.used.items };
 }
 
 /// Where it is let go there is one call, and not a drop for each of its parts.
@@ -39,9 +42,10 @@ impl Drop for Graph {
         let Graph {
             room: _,
             first_name: _,
-            mutators: _,
+            places: _,
             objects: _,
             roots: _,
+            used: _,
         } = self;
     }
 }
@@ -55,26 +59,45 @@ impl Graph {
     ghost use Rattle.object_graph.specs.Reached.{flag_of, started, all_found, searched};
     ghost use Rattle.object_graph.specs.Sparing.{have_weaks};
     ghost use Rattle.object_graph.specs.Machine.{made, act, outcome_of, stored};
+    ghost use Rattle.object_graph.specs.Roots.{IsRegister, IsGlobal, IsValue, IsOpAt};
 
     /// What a mutator's register holds.
     fn register(&self, mutator: u32, register: Register) -> Pointer
-        requires { mutator < self.now.mutators }
-        ensures { result ≡ root_at self.now (register_place mutator register.number) }
+        requires mutator { mutator < self.now.places.mutators }
+        requires register { IsRegister self.now.places register }
+        ensures { result ≡ root_at self.now (register_place self.now.places mutator register.number) }
     {
-        self.roots[register_place(mutator, register)]
+        self.roots[self.places.register(mutator, register.number)]
     }
 
     fn set_register(&mut self, mutator: u32, register: Register, value: Pointer)
-        requires { mutator < self.old.mutators }
-        ensures { self.new ≡ with_root self.old (register_place mutator register.number) value }
+        requires mutator { mutator < self.old.places.mutators }
+        requires register { IsRegister self.old.places register }
+        ensures { self.new ≡ with_root self.old (register_place self.old.places mutator register.number) value }
     {
-        self.roots[register_place(mutator, register)] = value;
+        let place = self.places.register(mutator, register.number);
+        self.roots[place] = value;
+        let row = mutator as usize + 1;
+        if self.used[row] <= register.number {
+            self.used[row] = register.number + 1;
+        }
+    }
+
+    fn set_global(&mut self, global: GlobalRoot, value: Pointer)
+        requires { IsGlobal self.old.places global }
+        ensures { self.new ≡ with_root self.old global.number value }
+    {
+        self.roots[global.number as usize] = value;
+        if self.used[0] <= global.number {
+            self.used[0] = global.number + 1;
+        }
     }
 
     /// Where the object stands that a register names, if it names one.
     fn place(&self, mutator: u32, register: Register) -> Option<usize>
-        requires { mutator < self.now.mutators }
-        ensures { result ≡ index_of self.now (root_at self.now (register_place mutator register.number)) }
+        requires mutator { mutator < self.now.places.mutators }
+        requires register { IsRegister self.now.places register }
+        ensures { result ≡ index_of self.now (root_at self.now (register_place self.now.places mutator register.number)) }
     {
         let name = self.register(mutator, register).name()?;
         let place = (name.saturating_sub(self.first_name)) as usize;
@@ -92,7 +115,8 @@ impl Graph {
         counts: Counts,
         weaks: u8,
     ) -> Result<Reply, AllocError>
-        requires { mutator < self.old.mutators }
+        requires mutator { mutator < self.old.places.mutators }
+        requires to { IsRegister self.old.places to }
         ensures ok { IfOk result (λ reply. (reply, self.new) ≡ made self.old mutator to counts weaks) }
         ensures err { OnErr result (self.new ≡ self.old) }
         ensures memory { ((made self.old mutator to counts weaks).0 ≢ Reply.Named (Some (next_name self.old))) → IsOk result }
@@ -110,7 +134,9 @@ impl Graph {
     }
 
     fn get(&mut self, mutator: u32, to: Register, object: Register, field: u32) -> Reply
-        requires { mutator < self.old.mutators }
+        requires mutator { mutator < self.old.places.mutators }
+        requires to { IsRegister self.old.places to }
+        requires object { IsRegister self.old.places object }
         ensures { (result, self.new) ≡ act self.old mutator (Action.Get to object field) }
     {
         let Some(place) = self.place(mutator, object) else {
@@ -124,7 +150,9 @@ impl Graph {
     }
 
     fn get_weak(&mut self, mutator: u32, to: Register, object: Register, slot: u32) -> Reply
-        requires { mutator < self.old.mutators }
+        requires mutator { mutator < self.old.places.mutators }
+        requires to { IsRegister self.old.places to }
+        requires object { IsRegister self.old.places object }
         ensures { (result, self.new) ≡ act self.old mutator (Action.GetWeak to object slot) }
     {
         let Some(place) = self.place(mutator, object) else {
@@ -138,7 +166,9 @@ impl Graph {
     }
 
     fn move_register(&mut self, mutator: u32, to: Register, from: Register) -> Reply
-        requires { mutator < self.old.mutators }
+        requires mutator { mutator < self.old.places.mutators }
+        requires to { IsRegister self.old.places to }
+        requires from { IsRegister self.old.places from }
         ensures { (result, self.new) ≡ act self.old mutator (Action.Move to from) }
     {
         let value = self.register(mutator, from);
@@ -148,7 +178,8 @@ impl Graph {
 
     /// What `put` and `put_weak` store: nil, or what a register holds.
     fn stored(&self, mutator: u32, value: Option<Register>) -> Pointer
-        requires { mutator < self.now.mutators }
+        requires mutator { mutator < self.now.places.mutators }
+        requires value { IsValue self.now.places value }
         ensures { result ≡ stored self.now mutator value }
     {
         match value {
@@ -158,7 +189,9 @@ impl Graph {
     }
 
     fn put(&mut self, mutator: u32, object: Register, field: u32, value: Option<Register>) -> Reply
-        requires { mutator < self.old.mutators }
+        requires mutator { mutator < self.old.places.mutators }
+        requires object { IsRegister self.old.places object }
+        requires value { IsValue self.old.places value }
         ensures { (result, self.new) ≡ act self.old mutator (Action.Put object field value) }
     {
         let Some(place) = self.place(mutator, object) else {
@@ -179,7 +212,9 @@ impl Graph {
         slot: u32,
         value: Option<Register>,
     ) -> Reply
-        requires { mutator < self.old.mutators }
+        requires mutator { mutator < self.old.places.mutators }
+        requires object { IsRegister self.old.places object }
+        requires value { IsValue self.old.places value }
         ensures { (result, self.new) ≡ act self.old mutator (Action.PutWeak object slot value) }
     {
         let Some(place) = self.place(mutator, object) else {
@@ -194,7 +229,8 @@ impl Graph {
     }
 
     fn read(&self, mutator: u32, object: Register, field: u32) -> Reply
-        requires { mutator < self.now.mutators }
+        requires mutator { mutator < self.now.places.mutators }
+        requires object { IsRegister self.now.places object }
         ensures { (result, self.now) ≡ act self.now mutator (Action.Read object field) }
     {
         let Some(place) = self.place(mutator, object) else {
@@ -207,7 +243,8 @@ impl Graph {
     }
 
     fn write(&mut self, mutator: u32, object: Register, field: u32, value: u64) -> Reply
-        requires { mutator < self.old.mutators }
+        requires mutator { mutator < self.old.places.mutators }
+        requires object { IsRegister self.old.places object }
         ensures { (result, self.new) ≡ act self.old mutator (Action.Write object field value) }
     {
         let Some(place) = self.place(mutator, object) else {
@@ -221,7 +258,9 @@ impl Graph {
     }
 
     fn load(&mut self, mutator: u32, to: Register, from: GlobalRoot) -> Reply
-        requires { mutator < self.old.mutators }
+        requires mutator { mutator < self.old.places.mutators }
+        requires to { IsRegister self.old.places to }
+        requires from { IsGlobal self.old.places from }
         ensures { (result, self.new) ≡ act self.old mutator (Action.Load to from) }
     {
         let value = self.roots[from.number as usize];
@@ -230,16 +269,19 @@ impl Graph {
     }
 
     fn save(&mut self, mutator: u32, to: GlobalRoot, from: Register) -> Reply
-        requires { mutator < self.old.mutators }
+        requires mutator { mutator < self.old.places.mutators }
+        requires to { IsGlobal self.old.places to }
+        requires from { IsRegister self.old.places from }
         ensures { (result, self.new) ≡ act self.old mutator (Action.Save to from) }
     {
         let value = self.register(mutator, from);
-        self.roots[to.number as usize] = value;
+        self.set_global(to, value);
         Reply::Done
     }
 
     fn shape(&self, mutator: u32, object: Register) -> Reply
-        requires { mutator < self.now.mutators }
+        requires mutator { mutator < self.now.places.mutators }
+        requires object { IsRegister self.now.places object }
         ensures { (result, self.now) ≡ act self.now mutator (Action.Shape object) }
     {
         let Some(place) = self.place(mutator, object) else {
@@ -252,7 +294,8 @@ impl Graph {
     }
 
     fn weaks(&self, mutator: u32, object: Register) -> Reply
-        requires { mutator < self.now.mutators }
+        requires mutator { mutator < self.now.places.mutators }
+        requires object { IsRegister self.now.places object }
         ensures { (result, self.now) ≡ act self.now mutator (Action.Weaks object) }
     {
         let Some(place) = self.place(mutator, object) else {
@@ -261,12 +304,29 @@ impl Graph {
         Reply::Word(u64::from(self.objects.weak_count(place)))
     }
 
+    /// A mutator's registers from one on become nil. It costs those below their bound.
+    fn scope(&mut self, mutator: u32, from: Register) -> Reply
+        requires mutator { mutator < self.old.places.mutators }
+        requires from { IsRegister self.old.places from }
+        ensures { (result, self.new) ≡ act self.old mutator (Action.Scope from) }
+    {
+        let row = mutator as usize + 1;
+        let used = self.used[row];
+        if used <= from.number {
+            return Reply::Done;
+        }
+        let first = self.places.register(mutator, from.number);
+        fill_nil(&mut self.roots, first, (used - from.number) as usize);
+        self.used[row] = from.number;
+        Reply::Done
+    }
+
     /// The reply to a mutator's step, which the graph takes. Refused for memory, the graph is unchanged.
     pub fn apply(&mut self, op: Op) -> Result<Reply, AllocError>
-        requires { op.mutator < self.old.mutators }
+        requires { IsOpAt self.old.places op }
         ensures ok { IfOk result (λ reply. (reply, self.new) ≡ outcome_of self.old op) }
         ensures err { OnErr result (self.new ≡ self.old) }
-        ensures mutators { self.new.mutators ≡ self.old.mutators }
+        ensures places { self.new.places ≡ self.old.places }
         // Only a step that would create an object takes memory.
         ensures memory { (Creates self.old op → ⊥) → IsOk result }
     {
@@ -274,7 +334,7 @@ impl Graph {
     }
 
     fn serve(&mut self, op: Op) -> Result<Reply, AllocError>
-        requires { op.mutator < self.old.mutators }
+        requires { IsOpAt self.old.places op }
         ensures ok { IfOk result (λ reply. (reply, self.new) ≡ outcome_of self.old op) }
         ensures err { OnErr result (self.new ≡ self.old) }
         ensures memory { (Creates self.old op → ⊥) → IsOk result }
@@ -310,6 +370,7 @@ impl Graph {
                 value,
             } => Ok(self.put_weak(mutator, object, slot, value)),
             Action::Weaks { object } => Ok(self.weaks(mutator, object)),
+            Action::Scope { from } => Ok(self.scope(mutator, from)),
         }
     }
 
@@ -326,6 +387,13 @@ impl Graph {
             }
             _ => false,
         }
+    }
+
+    /// How many globals, mutators and registers there are.
+    pub fn places(&self) -> Places
+        ensures { result ≡ self.now.places }
+    {
+        self.places
     }
 
     /// The name of the next object.
@@ -349,9 +417,10 @@ impl Graph {
         Ok(Graph {
             room: self.room,
             first_name: self.first_name,
-            mutators: self.mutators,
+            places: self.places,
             objects: self.objects.copy()?,
             roots: self.roots.clone()?,
+            used: self.used.clone()?,
         })
     }
 
@@ -377,12 +446,14 @@ impl Graph {
     pub fn new(alloc: Global, config: &Config) -> Result<Graph, AllocError>
         ensures { IfOk result (λ g. g ≡ first_graph config.now) }
     {
+        let places = Places::of(config);
         Ok(Graph {
             room: u64::from(config.regions) * u64::from(config.words),
             first_name: config.first_name,
-            mutators: config.mutators,
+            places,
             objects: Objects::new(alloc),
-            roots: vec![in alloc; Pointer::nil(); root_places(config.mutators)]?,
+            roots: vec![in alloc; Pointer::nil(); places.count()]?,
+            used: vec![in alloc; 0; places.mutators() as usize + 1]?,
         })
     }
 }

@@ -32,6 +32,7 @@
 //! states and runs stand in `laws`.
 #![tactic(auto)]
 
+mod allowed;
 mod clear;
 mod graph;
 mod judge;
@@ -50,7 +51,6 @@ pub use graph::Graph;
 pub use judge::{Verdict, check};
 pub use laws::{cleared_law, judged_once, run_is_sound, run_once, since_law, sound_law};
 pub use record::{Plan, Record};
-pub use roots::{GLOBALS, REGISTERS, register_place, root_places};
 pub use step::{
     Action, Actor, CollectorStep, Counts, Event, GlobalRoot, Op, Refusal, Register, Reply, Step,
 };

@@ -5,6 +5,7 @@ ghost use Rattle.heap_model.specs.Graph as model;
 ghost use Rattle.heap_model.specs.Weak.{touched, AreReached};
 ghost use Rattle.object_graph.specs.State.{State, HoldsNames, IsSoundState, first_state};
 ghost use Rattle.object_graph.specs.Reached.{flag_of};
+ghost use Rattle.object_graph.specs.Roots.{IsOpAt};
 ghost use Rattle.object_graph.specs.Run.{IsCollectorReply, Happens, ClearsBy, ForMutator, snapshot_after};
 ghost use Rattle.object_graph.specs.Sparing.{SparingCollects, SparingEvent, kept_snapshot};
 
@@ -175,7 +176,7 @@ impl Machine {
     /// Takes an event, if it may happen: then the state is the judge's after it. Once an event may not happen or memory was
     /// refused, the state is no longer that of the events.
     pub(crate) fn take(&mut self, event: &Event) -> Result<bool, AllocError>
-        requires mutator { ForMutator event.now.step (λ o. o.mutator < self.old.graph.mutators) }
+        requires op { ForMutator event.now.step (IsOpAt self.old.graph.places) }
         requires sound { IsSoundState self.old }
         ensures yes { IfOk result (λ yes. IsTrue yes → SparingEvent self.old event.now self.new) }
         ensures no { IfOk result (λ yes. (after : State) → SparingEvent self.old event.now after → IsTrue yes) }
@@ -194,7 +195,7 @@ impl Machine {
 
     /// The same of a mutator's step.
     fn serve(&mut self, op: Op, reply: Reply) -> Result<bool, AllocError>
-        requires { op.mutator < self.old.graph.mutators }
+        requires { IsOpAt self.old.graph.places op }
         ensures yes { IfOk result (λ yes. IsTrue yes → Happens self.old (Step.Mutator op) reply self.new) }
         ensures no { IfOk result (λ yes. (after : State) → Happens self.old (Step.Mutator op) reply after → IsTrue yes) }
     {

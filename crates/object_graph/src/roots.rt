@@ -1,32 +1,16 @@
-//! Where roots stand: the globals first, and behind them the registers of one mutator after another.
-//!
-//! ```text
-//!   place    0 ..   15 | 16 ..          23 | 24 ..          31 | ..
-//!            globals   | mutator 0's       | mutator 1's       |
-//!                      | registers         | registers         |
-//! ```
+//! The root places of a graph that become nil.
 
-ghost use Rattle.std.specs.Prelude.{◌≡◌};
-ghost use Rattle.object_graph.specs.Roots as roots;
+ghost use Rattle.std.specs.Prelude.{◌≡◌, ◌≤◌, ◌+◌, length};
+ghost use Rattle.heap_model.specs.Graph.{with_nils};
 
-use crate::step::Register;
+use crate::pointer::Pointer;
 
-/// How many globals a heap has.
-pub const GLOBALS: usize = 16;
-
-/// How many registers a mutator has.
-pub const REGISTERS: usize = 8;
-
-/// How many root places a heap of so many mutators has.
-pub fn root_places(mutators: u32) -> usize
-    ensures { result ≡ roots.root_places mutators }
+/// So many places from `first` on hold nil.
+pub(crate) fn fill_nil(roots: &mut [Pointer], first: usize, count: usize)
+    requires { first + count ≤ length roots.old }
+    ensures { roots.new ≡ with_nils roots.old first count }
 {
-    GLOBALS + REGISTERS * mutators as usize
-}
-
-/// The place of a mutator's register.
-pub fn register_place(mutator: u32, register: Register) -> usize
-    ensures { result ≡ roots.register_place mutator register.number }
-{
-    GLOBALS + REGISTERS * mutator as usize + register.number as usize
+    for index in 0..count {
+        roots[first + index] = Pointer::nil();
+    }
 }

@@ -1,23 +1,20 @@
 //! The steps of mutators and of the collector, their replies, and events.
 
-ghost use Rattle.std.specs.Prelude.{◌≡◌, ◌<◌};
+ghost use Rattle.std.specs.Prelude.{◌≡◌};
 ghost use Rattle.heap_words.specs.Sizes.{size_of};
-ghost use Rattle.object_graph.specs.Roots.{globals, registers};
 
-/// One of a mutator's registers, `r0` to `r7`. A register holds nil or an object's name.
+/// One of a mutator's registers, from `r0` on. A register holds nil or an object's name.
 #[derive(Clone, Copy, Debug, PartialEq, Eq)]
 pub struct Register {
-    /// 0 to 7.
-    pub number: u8,
-    pub ghost in_range: { number < registers },
+    /// 0 or more, and in a step of a heap below `Config::registers`.
+    pub number: u32,
 }
 
-/// One of the globals, `g0` to `g15`. A global holds nil or an object's name.
+/// One of the globals, from `g0` on. A global holds nil or an object's name.
 #[derive(Clone, Copy, Debug, PartialEq, Eq)]
 pub struct GlobalRoot {
-    /// 0 to 15.
-    pub number: u8,
-    pub ghost in_range: { number < globals },
+    /// 0 or more, and in a step of a heap below `Config::globals`.
+    pub number: u32,
 }
 
 /// How many pointers and data words an object has.
@@ -112,6 +109,10 @@ pub enum Action {
     /// Tells how many weak slots the object has.
     Weaks {
         object: Register,
+    },
+    /// Each of the mutator's registers from `from` on becomes nil: a frame is left.
+    Scope {
+        from: Register,
     },
 }
 

@@ -1,9 +1,5 @@
 //! Each step once, each refusal of the graph, objects in one list of words, and small records before the judge.
 
-ghost use Rattle.std.specs.Prelude.{◌≡◌, ◌<◌, IfOk};
-ghost use Rattle.object_graph.specs.declared.step.Actor.TheVariants as actors;
-ghost use Rattle.object_graph.specs.declared.step.Step.TheVariants as steps;
-
 use crate::graph::Graph;
 use crate::judge::{Verdict, check};
 use crate::objects::Objects;
@@ -18,9 +14,7 @@ use std::process::Abort;
 use std::test::Fail;
 
 /// A heap of 64 words and one mutator.
-fn config(first_name: u64) -> Config
-    ensures { result.mutators ≡ 1 }
-{
+fn config(first_name: u64) -> Config {
     Config {
         format: Format::V1,
         regions: 4,
@@ -31,25 +25,18 @@ fn config(first_name: u64) -> Config
     }
 }
 
-fn r(number: u8) -> Register
-    requires { number < 8 }
-{
+fn r(number: u32) -> Register {
     Register { number }
 }
 
-fn new(to: u8, pointers: u32, values: u32) -> Action
-    requires { to < 8 }
-{
+fn new(to: u32, pointers: u32, values: u32) -> Action {
     Action::New {
         to: r(to),
         counts: Counts { pointers, values },
     }
 }
 
-fn get(to: u8, object: u8, field: u32) -> Action
-    requires to { to < 8 }
-    requires object { object < 8 }
-{
+fn get(to: u32, object: u32, field: u32) -> Action {
     Action::Get {
         to: r(to),
         object: r(object),
@@ -57,20 +44,19 @@ fn get(to: u8, object: u8, field: u32) -> Action
     }
 }
 
-fn read(object: u8, field: u32) -> Action
-    requires { object < 8 }
-{
+fn read(object: u32, field: u32) -> Action {
     Action::Read {
         object: r(object),
         field,
     }
 }
 
-fn apply(graph: &mut Graph, action: Action) -> Result<Reply, AllocError>
-    requires { 0 < graph.old.mutators }
-    ensures { graph.new.mutators ≡ graph.old.mutators }
-{
-    graph.apply(Op { mutator: 0, action })
+/// Takes an action of the one mutator.
+fn apply(rt: &impl Abort, graph: &mut Graph, action: Action) -> Result<Reply, AllocError> {
+    let op = Op { mutator: 0, action };
+    let places = graph.places();
+    assert!(rt; op.is_at(&places));
+    graph.apply(op)
 }
 
 /// Takes actions of the one mutator, and compares each reply.
@@ -78,11 +64,9 @@ fn check_replies(
     rt: &impl Abort,
     graph: &mut Graph,
     rows: &[(Action, Reply)],
-) -> Result<(), AllocError>
-    requires { 0 < graph.old.mutators }
-{
+) -> Result<(), AllocError> {
     for (action, reply) in rows {
-        assert_eq!(rt; apply(graph, *action)?, *reply);
+        assert_eq!(rt; apply(rt, graph, *action)?, *reply);
     }
     Ok(())
 }
@@ -325,15 +309,19 @@ fn keeps_weak_slots_apart(rt: HostRuntime) -> Result<(), Fail> {
     Ok(())
 }
 
-fn done(action: Action, reply: Reply) -> Event
-    ensures actor { result.actor ≡ actors.Mutator 0 }
-    ensures step { result.step ≡ steps.Mutator (record { mutator = 0; action = action }) }
-{
+fn done(action: Action, reply: Reply) -> Event {
     Event {
         actor: Actor::Mutator(0),
         step: Step::Mutator(Op { mutator: 0, action }),
         reply,
     }
+}
+
+/// Adds an event, which the record's sizes allow.
+fn push(rt: &impl Abort, history: &mut Record, event: Event) -> Result<(), AllocError> {
+    let config = history.config();
+    assert!(rt; event.is_in(&config));
+    history.push(event)
 }
 
 /// Compares what the judge says of a record.
@@ -348,50 +336,70 @@ fn check_verdict(
 }
 
 /// Nothing forbids any of these three.
-fn may_be(alloc: Global) -> Result<Record, AllocError> {
+fn may_be(rt: &impl Abort, alloc: Global) -> Result<Record, AllocError> {
     let mut record = Record::new(alloc, config(0));
-    record.push(done(new(0, 0, 0), Reply::Refused(Refusal::Full)))?;
-    record.push(done(read(0, 0), Reply::Refused(Refusal::Nil)))?;
-    record.push(Event {
-        actor: Actor::Collector,
-        step: Step::Collector(CollectorStep::Remark),
-        reply: Reply::Marked(99),
-    })?;
+    push(
+        rt,
+        &mut record,
+        done(new(0, 0, 0), Reply::Refused(Refusal::Full)),
+    )?;
+    push(
+        rt,
+        &mut record,
+        done(read(0, 0), Reply::Refused(Refusal::Nil)),
+    )?;
+    push(
+        rt,
+        &mut record,
+        Event {
+            actor: Actor::Collector,
+            step: Step::Collector(CollectorStep::Remark),
+            reply: Reply::Marked(99),
+        },
+    )?;
     Ok(record)
 }
 
 /// An object that no heap of 64 words could hold isn't refused because the heap is full.
-fn too_big(alloc: Global) -> Result<Record, AllocError> {
+fn too_big(rt: &impl Abort, alloc: Global) -> Result<Record, AllocError> {
     let mut record = Record::new(alloc, config(0));
-    record.push(done(new(0, 63, 0), Reply::Refused(Refusal::Full)))?;
+    push(
+        rt,
+        &mut record,
+        done(new(0, 63, 0), Reply::Refused(Refusal::Full)),
+    )?;
     Ok(record)
 }
 
 /// A pointer that nothing was put into is nil.
-fn misread(alloc: Global) -> Result<Record, AllocError> {
+fn misread(rt: &impl Abort, alloc: Global) -> Result<Record, AllocError> {
     let mut record = Record::new(alloc, config(7));
-    record.push(done(new(0, 1, 0), Reply::Named(Some(7))))?;
-    record.push(Event {
-        actor: Actor::Marker(7),
-        step: Step::Collector(CollectorStep::Mark(4)),
-        reply: Reply::Done,
-    })?;
-    record.push(done(get(1, 0, 0), Reply::Named(Some(7))))?;
+    push(rt, &mut record, done(new(0, 1, 0), Reply::Named(Some(7))))?;
+    push(
+        rt,
+        &mut record,
+        Event {
+            actor: Actor::Marker(7),
+            step: Step::Collector(CollectorStep::Mark(4)),
+            reply: Reply::Done,
+        },
+    )?;
+    push(rt, &mut record, done(get(1, 0, 0), Reply::Named(Some(7))))?;
     Ok(record)
 }
 
 #[test]
 fn judges_records(rt: HostRuntime) -> Result<(), Fail> {
     let alloc = rt.alloc();
-    check_verdict(&rt, alloc, &may_be(alloc)?, Verdict::Yes(3))?;
-    check_verdict(&rt, alloc, &too_big(alloc)?, Verdict::No(1))?;
+    check_verdict(&rt, alloc, &may_be(&rt, alloc)?, Verdict::Yes(3))?;
+    check_verdict(&rt, alloc, &too_big(&rt, alloc)?, Verdict::No(1))?;
     Ok(())
 }
 
 #[test]
 fn judges_names_from_the_first(rt: HostRuntime) -> Result<(), Fail> {
     let alloc = rt.alloc();
-    let record = misread(alloc)?;
+    let record = misread(&rt, alloc)?;
     assert_eq!(rt; record.events().len(), 3);
     assert_eq!(rt; record.config().first_name, 7);
     check_verdict(&rt, alloc, &record, Verdict::No(3))?;
@@ -399,27 +407,28 @@ fn judges_names_from_the_first(rt: HostRuntime) -> Result<(), Fail> {
 }
 
 /// A plan of two steps.
-fn two_steps(alloc: Global) -> Result<Plan, AllocError> {
-    let mut plan = Plan::new(alloc, config(0));
+fn two_steps(rt: &impl Abort, alloc: Global) -> Result<Plan, AllocError> {
+    let sizes = config(0);
+    let mut plan = Plan::new(alloc, sizes);
     plan.push(Step::Collector(CollectorStep::Begin))?;
-    plan.push(Step::Mutator(Op {
+    let step = Step::Mutator(Op {
         mutator: 0,
         action: new(0, 0, 0),
-    }))?;
+    });
+    assert!(rt; step.is_in(&sizes));
+    plan.push(step)?;
     Ok(plan)
 }
 
 #[test]
 fn keeps_plans(rt: HostRuntime) -> Result<(), Fail> {
-    let plan = two_steps(rt.alloc())?;
+    let plan = two_steps(&rt, rt.alloc())?;
     assert_eq!(rt; plan.steps().len(), 2);
     assert_eq!(rt; plan.config().regions, 4);
     Ok(())
 }
 
-fn new_weak(to: u8, pointers: u32, weaks: u8, values: u32) -> Action
-    requires { to < 8 }
-{
+fn new_weak(to: u32, pointers: u32, weaks: u8, values: u32) -> Action {
     Action::NewWeak {
         to: r(to),
         counts: Counts { pointers, values },
@@ -427,10 +436,7 @@ fn new_weak(to: u8, pointers: u32, weaks: u8, values: u32) -> Action
     }
 }
 
-fn get_weak(to: u8, object: u8, slot: u32) -> Action
-    requires to { to < 8 }
-    requires object { object < 8 }
-{
+fn get_weak(to: u32, object: u32, slot: u32) -> Action {
     Action::GetWeak {
         to: r(to),
         object: r(object),
@@ -438,10 +444,7 @@ fn get_weak(to: u8, object: u8, slot: u32) -> Action
     }
 }
 
-fn put_weak(object: u8, slot: u32, value: u8) -> Action
-    requires object { object < 8 }
-    requires value { value < 8 }
-{
+fn put_weak(object: u32, slot: u32, value: u32) -> Action {
     Action::PutWeak {
         object: r(object),
         slot,
@@ -449,9 +452,7 @@ fn put_weak(object: u8, slot: u32, value: u8) -> Action
     }
 }
 
-fn collected(step: CollectorStep, reply: Reply) -> Event
-    ensures { result ≡ record { actor = actors.Collector; step = steps.Collector step; reply = reply } }
-{
+fn collected(step: CollectorStep, reply: Reply) -> Event {
     Event {
         actor: Actor::Collector,
         step: Step::Collector(step),
@@ -484,117 +485,245 @@ fn reads_and_writes_weak_slots(rt: HostRuntime) -> Result<(), Fail> {
 }
 
 /// A weak slot of #0, in r0, holds #1, which nothing else names.
-fn held_weakly(alloc: Global) -> Result<Record, AllocError>
-    ensures { IfOk result (λ held. held.config.mutators ≡ 1) }
-{
+fn held_weakly(rt: &impl Abort, alloc: Global) -> Result<Record, AllocError> {
     let mut record = Record::new(alloc, config(0));
-    record.push(done(new_weak(0, 0, 1, 0), Reply::Named(Some(0))))?;
-    record.push(done(new(1, 0, 1), Reply::Named(Some(1))))?;
-    record.push(done(put_weak(0, 0, 1), Reply::Done))?;
-    record.push(done(Action::Drop { register: r(1) }, Reply::Done))?;
+    push(
+        rt,
+        &mut record,
+        done(new_weak(0, 0, 1, 0), Reply::Named(Some(0))),
+    )?;
+    push(rt, &mut record, done(new(1, 0, 1), Reply::Named(Some(1))))?;
+    push(rt, &mut record, done(put_weak(0, 0, 1), Reply::Done))?;
+    push(
+        rt,
+        &mut record,
+        done(Action::Drop { register: r(1) }, Reply::Done),
+    )?;
     Ok(record)
 }
 
 /// Marking begins, and ends with so many objects marked.
-fn mark(history: &mut Record, marked: u32) -> Result<(), AllocError>
-    ensures { history.new.config ≡ history.old.config }
-{
-    history.push(collected(CollectorStep::Begin, Reply::Done))?;
-    history.push(collected(CollectorStep::Remark, Reply::Marked(marked)))?;
+fn mark(rt: &impl Abort, history: &mut Record, marked: u32) -> Result<(), AllocError> {
+    push(rt, history, collected(CollectorStep::Begin, Reply::Done))?;
+    push(
+        rt,
+        history,
+        collected(CollectorStep::Remark, Reply::Marked(marked)),
+    )?;
     Ok(())
 }
 
 /// What the weak slot of the object in r0 holds comes into a register, which then is nil.
-fn look(history: &mut Record, to: u8, name: u64) -> Result<(), AllocError>
-    requires mutators { history.old.config.mutators ≡ 1 }
-    requires to { to < 8 }
-    ensures { history.new.config ≡ history.old.config }
-{
-    history.push(done(get_weak(to, 0, 0), Reply::Named(Some(name))))?;
-    history.push(done(Action::Drop { register: r(to) }, Reply::Done))?;
+fn look(rt: &impl Abort, history: &mut Record, to: u32, name: u64) -> Result<(), AllocError> {
+    push(
+        rt,
+        history,
+        done(get_weak(to, 0, 0), Reply::Named(Some(name))),
+    )?;
+    push(
+        rt,
+        history,
+        done(Action::Drop { register: r(to) }, Reply::Done),
+    )?;
     Ok(())
 }
 
 /// #1 is held weakly while marking runs, and its slot's reply afterwards is this one.
-fn cleared_then(alloc: Global, reply: Reply) -> Result<Record, AllocError> {
-    let mut record = held_weakly(alloc)?;
-    mark(&mut record, 1)?;
-    record.push(done(get_weak(1, 0, 0), reply))?;
+fn cleared_then(rt: &impl Abort, alloc: Global, reply: Reply) -> Result<Record, AllocError> {
+    let mut record = held_weakly(rt, alloc)?;
+    mark(rt, &mut record, 1)?;
+    push(rt, &mut record, done(get_weak(1, 0, 0), reply))?;
     Ok(record)
 }
 
 #[test]
 fn clears_what_only_weak_slots_name(rt: HostRuntime) -> Result<(), Fail> {
     let alloc = rt.alloc();
-    let cleared = cleared_then(alloc, Reply::Named(None))?;
+    let cleared = cleared_then(&rt, alloc, Reply::Named(None))?;
     check_verdict(&rt, alloc, &cleared, Verdict::Yes(7))?;
-    let wrong = cleared_then(alloc, Reply::Named(Some(1)))?;
+    let wrong = cleared_then(&rt, alloc, Reply::Named(Some(1)))?;
     check_verdict(&rt, alloc, &wrong, Verdict::No(7))?;
     Ok(())
 }
 
 /// #1 is read from its weak slot while marking runs, and then again; the next marking clears the slot.
-fn touched_while_marking(alloc: Global) -> Result<Record, AllocError> {
-    let mut touched = held_weakly(alloc)?;
-    touched.push(collected(CollectorStep::Begin, Reply::Done))?;
-    look(&mut touched, 1, 1)?;
-    touched.push(collected(CollectorStep::Remark, Reply::Marked(2)))?;
-    look(&mut touched, 1, 1)?;
-    mark(&mut touched, 1)?;
-    touched.push(done(get_weak(1, 0, 0), Reply::Named(None)))?;
+fn touched_while_marking(rt: &impl Abort, alloc: Global) -> Result<Record, AllocError> {
+    let mut touched = held_weakly(rt, alloc)?;
+    push(
+        rt,
+        &mut touched,
+        collected(CollectorStep::Begin, Reply::Done),
+    )?;
+    look(rt, &mut touched, 1, 1)?;
+    push(
+        rt,
+        &mut touched,
+        collected(CollectorStep::Remark, Reply::Marked(2)),
+    )?;
+    look(rt, &mut touched, 1, 1)?;
+    mark(rt, &mut touched, 1)?;
+    push(
+        rt,
+        &mut touched,
+        done(get_weak(1, 0, 0), Reply::Named(None)),
+    )?;
     Ok(touched)
 }
 
 #[test]
 fn keeps_what_was_read_while_marking_ran(rt: HostRuntime) -> Result<(), Fail> {
-    let touched = touched_while_marking(rt.alloc())?;
+    let touched = touched_while_marking(&rt, rt.alloc())?;
     check_verdict(&rt, rt.alloc(), &touched, Verdict::Yes(13))?;
     Ok(())
 }
 
 /// #1 is held weakly, and a pause moves it.
-fn moved(alloc: Global) -> Result<Record, AllocError> {
-    let mut moved = held_weakly(alloc)?;
+fn moved(rt: &impl Abort, alloc: Global) -> Result<Record, AllocError> {
+    let mut moved = held_weakly(rt, alloc)?;
     let pause = Reply::Moved {
         regions: 1,
         words: 6,
     };
-    moved.push(collected(CollectorStep::Pause(100), pause))?;
+    push(rt, &mut moved, collected(CollectorStep::Pause(100), pause))?;
     // without a snapshot nothing is cleared
-    moved.push(collected(CollectorStep::Remark, Reply::Marked(1)))?;
-    moved.push(done(get_weak(1, 0, 0), Reply::Named(Some(1))))?;
-    moved.push(done(read(1, 0), Reply::Word(0)))?;
+    push(
+        rt,
+        &mut moved,
+        collected(CollectorStep::Remark, Reply::Marked(1)),
+    )?;
+    push(
+        rt,
+        &mut moved,
+        done(get_weak(1, 0, 0), Reply::Named(Some(1))),
+    )?;
+    push(rt, &mut moved, done(read(1, 0), Reply::Word(0)))?;
     Ok(moved)
 }
 
 #[test]
 fn a_pause_leaves_weak_slots(rt: HostRuntime) -> Result<(), Fail> {
-    let moved = moved(rt.alloc())?;
+    let moved = moved(&rt, rt.alloc())?;
     check_verdict(&rt, rt.alloc(), &moved, Verdict::Yes(8))?;
     Ok(())
 }
 
 /// #1 is made while marking runs, and its weak slot then alone holds #0.
-fn made_while_marking(alloc: Global) -> Result<Record, AllocError>
-    ensures { IfOk result (λ made. made.config.mutators ≡ 1) }
-{
+fn made_while_marking(rt: &impl Abort, alloc: Global) -> Result<Record, AllocError> {
     let mut record = Record::new(alloc, config(0));
-    record.push(done(new(1, 0, 1), Reply::Named(Some(0))))?;
-    record.push(collected(CollectorStep::Begin, Reply::Done))?;
-    record.push(done(new_weak(0, 0, 1, 0), Reply::Named(Some(1))))?;
-    record.push(done(put_weak(0, 0, 1), Reply::Done))?;
-    record.push(done(Action::Drop { register: r(1) }, Reply::Done))?;
+    push(rt, &mut record, done(new(1, 0, 1), Reply::Named(Some(0))))?;
+    push(
+        rt,
+        &mut record,
+        collected(CollectorStep::Begin, Reply::Done),
+    )?;
+    push(
+        rt,
+        &mut record,
+        done(new_weak(0, 0, 1, 0), Reply::Named(Some(1))),
+    )?;
+    push(rt, &mut record, done(put_weak(0, 0, 1), Reply::Done))?;
+    push(
+        rt,
+        &mut record,
+        done(Action::Drop { register: r(1) }, Reply::Done),
+    )?;
     Ok(record)
 }
 
 #[test]
 fn keeps_slots_made_while_marking_ran(rt: HostRuntime) -> Result<(), Fail> {
     let alloc = rt.alloc();
-    let mut record = made_while_marking(alloc)?;
-    record.push(collected(CollectorStep::Remark, Reply::Marked(1)))?;
-    look(&mut record, 2, 0)?;
-    mark(&mut record, 1)?;
-    record.push(done(get_weak(2, 0, 0), Reply::Named(None)))?;
+    let mut record = made_while_marking(&rt, alloc)?;
+    push(
+        &rt,
+        &mut record,
+        collected(CollectorStep::Remark, Reply::Marked(1)),
+    )?;
+    look(&rt, &mut record, 2, 0)?;
+    mark(&rt, &mut record, 1)?;
+    push(
+        &rt,
+        &mut record,
+        done(get_weak(2, 0, 0), Reply::Named(None)),
+    )?;
     check_verdict(&rt, alloc, &record, Verdict::Yes(11))?;
     Ok(())
+}
+
+/// A heap of 64 words, with two mutators, one global and four registers each.
+fn framed() -> Config {
+    Config {
+        format: Format::V3 {
+            card: 8,
+            globals: 1,
+            registers: 4,
+        },
+        mutators: 2,
+        ..config(0)
+    }
+}
+
+/// A frame that is left takes the mutator's registers from one on with it, and no others.
+#[test]
+fn leaves_frames(rt: HostRuntime) -> Result<(), Fail> {
+    let mut graph = Graph::new(rt.alloc(), &framed())?;
+    let save = Action::Save {
+        to: GlobalRoot { number: 0 },
+        from: r(3),
+    };
+    let scope = Action::Scope { from: r(2) };
+    let rows = [
+        (new(1, 0, 1), Reply::Named(Some(0))),
+        (new(3, 0, 1), Reply::Named(Some(1))),
+        (save, Reply::Done),
+        (scope, Reply::Done),
+        (read(1, 0), Reply::Word(0)),
+        (read(3, 0), Reply::Refused(Refusal::Nil)),
+        (
+            Action::Load {
+                to: r(2),
+                from: GlobalRoot { number: 0 },
+            },
+            Reply::Named(Some(1)),
+        ),
+        (Action::Scope { from: r(0) }, Reply::Done),
+        (read(1, 0), Reply::Refused(Refusal::Nil)),
+    ];
+    check_replies(&rt, &mut graph, &rows)?;
+    Ok(())
+}
+
+/// What a mutator's step may name: registers and globals below their counts, and a scope in the third format alone.
+#[test]
+fn knows_roots(rt: HostRuntime) {
+    let in_first = Step::Mutator(Op {
+        mutator: 0,
+        action: Action::Scope { from: r(0) },
+    });
+    assert!(rt; !in_first.is_in(&config(0)));
+    for (mutator, action, allowed) in [
+        (1, Action::Scope { from: r(3) }, true),
+        (2, Action::Scope { from: r(3) }, false),
+        (0, Action::Scope { from: r(4) }, false),
+        (0, put_weak(3, 0, 4), false),
+        (
+            0,
+            Action::Load {
+                to: r(3),
+                from: GlobalRoot { number: 1 },
+            },
+            false,
+        ),
+        (
+            0,
+            Action::Save {
+                to: GlobalRoot { number: 0 },
+                from: r(3),
+            },
+            true,
+        ),
+    ] {
+        let step = Step::Mutator(Op { mutator, action });
+        assert_eq!(rt; step.is_in(&framed()), allowed);
+    }
 }

@@ -1,6 +1,12 @@
 -- The table of roots, as contracts see it.
 use Rattle.std.specs.Prelude.{◌≡◌, ℕ, zero, suc, ◌≤◌, ◌<◌, List, Option, Some, None, slice_index_or}
+use Rattle.heap_words.specs.declared.config.Config.{Config}
+use Rattle.heap_words.specs.Configs.{globals_of, registers_of}
 use Rattle.heap_model.specs.Graph.{Places, register_place}
+
+-- how many globals, mutators and registers sizes ask for
+abbrev pub places_of : Config → Places
+places_of c = record { globals = globals_of c; mutators = c.mutators; registers = registers_of c }
 
 -- what each root place holds
 pub record RootTable : Type 0 where

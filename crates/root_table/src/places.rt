@@ -2,8 +2,9 @@
 
 ghost use Rattle.std.specs.Prelude.{◌≡◌, ◌<◌, ◌≤◌, ◌+◌, ◌*◌, ◌^◌};
 ghost use Rattle.heap_model.specs.Graph as model;
-ghost use Rattle.root_table.specs.Roots.{row_start};
+ghost use Rattle.root_table.specs.Roots.{places_of, row_start};
 
+use heap_words::config::Config;
 use std::marker::Model;
 
 /// How many globals a heap has, how many mutators, and how many registers each of them.
@@ -34,6 +35,13 @@ impl Places {
             mutators,
             registers,
         }
+    }
+
+    /// As many as the sizes of a heap ask for.
+    pub fn of(config: &Config) -> Places
+        ensures { result ≡ places_of config.now }
+    {
+        Places::new(config.globals(), config.mutators, config.registers())
     }
 
     /// How many globals there are.

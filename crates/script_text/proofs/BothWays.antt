@@ -1,6 +1,7 @@
 -- The laws both ways: what is read is spelled so, and what is spelled so is read, for steps, replies, events, whole
 -- scripts and whole records.
 pub mod Actions
+pub mod Allowed
 pub mod Collections
 pub mod ReplyLaws
 pub mod StepsRead

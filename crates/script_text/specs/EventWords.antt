@@ -2,6 +2,7 @@
 use Rattle.std.specs.Prelude.{ℕ, ◌+◌, List, [], ◌∷◌, Option, Some, None, length, take, drop, nat_lt, ◌==◌, if◌then◌else◌, codes}
 use Rattle.std.specs.List.{position_or_len}
 use Rattle.std.specs.Str.{bytes_eq}
+use Rattle.heap_words.specs.declared.config.Config.{Config}
 use Rattle.object_graph.specs.declared.step.Actor.{Actor}
 use Rattle.object_graph.specs.declared.step.Actor.TheVariants as actors
 use Rattle.object_graph.specs.declared.step.CollectorStep.{CollectorStep}
@@ -12,7 +13,7 @@ use Rattle.object_graph.specs.declared.step.Reply.{Reply}
 use Rattle.object_graph.specs.declared.step.Reply.TheVariants as replies
 use Rattle.object_graph.specs.declared.step.Refusal.{Refusal}
 use Rattle.object_graph.specs.declared.step.Refusal.TheVariants as refusals
-use Rattle.script_text.specs.Reading.{◌>>=◌, number_of, small, large, action_of, collection_of}
+use Rattle.script_text.specs.Reading.{◌>>=◌, number_of, small, large, allowed_of, collection_of}
 
 -- a background marker, m0 to m7, or a background refiner, f0 to f7
 unfoldable pub background_of : List ℕ → Option Actor
@@ -37,17 +38,17 @@ refiner_step (collector.Refine k) = Some (steps.Collector (collector.Refine k))
 refiner_step _ = None
 
 -- a step of its actor
-unfoldable pub taken_of : Actor → List (List ℕ) → Option Step
-taken_of (actors.Mutator m) ws = do
-  a ← action_of ws
+unfoldable pub taken_of : Config → Actor → List (List ℕ) → Option Step
+taken_of c (actors.Mutator m) ws = do
+  a ← allowed_of c ws
   Some (steps.Mutator (record { mutator = m; action = a }))
-taken_of actors.Collector ws = do
+taken_of c actors.Collector ws = do
   k ← collection_of ws
   Some (steps.Collector k)
-taken_of (actors.Marker i) ws = do
+taken_of c (actors.Marker i) ws = do
   k ← collection_of ws
   marker_step k
-taken_of (actors.Refiner i) ws = do
+taken_of c (actors.Refiner i) ws = do
   k ← collection_of ws
   refiner_step k
 

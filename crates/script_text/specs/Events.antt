@@ -28,7 +28,7 @@ unfoldable pub counted_of : Config → List (List ℕ) → Result Event Kind
 counted_of c [] = Err kinds.BadActor
 counted_of c (word ∷ rest) = do
   a ← actor_of c word
-  s ← or_fault (taken_of a (step_part rest)) kinds.BadStep
+  s ← or_fault (taken_of c a (step_part rest)) kinds.BadStep
   r ← or_fault (answer_of rest) kinds.BadReply
   Ok (record { actor = a; step = s; reply = r })
 

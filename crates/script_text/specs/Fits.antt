@@ -1,9 +1,11 @@
 -- The scripts and the records that have a text.
-use Rattle.std.specs.Prelude.{◌≤◌, All, None, Some, length}
+use Rattle.std.specs.Prelude.{◌≤◌, All, Option, None, Some, length}
 use Rattle.heap_words.specs.declared.config.Config.{Config}
 use Rattle.heap_words.specs.declared.config.Format.{Format}
-use Rattle.heap_words.specs.declared.config.Format.TheVariants.{V1, V2}
+use Rattle.heap_words.specs.declared.config.Format.TheVariants.{V1, V2, V3}
 use Rattle.object_graph.specs.Actors.{StepList, AreSteps, EventList, AreEvents}
+use Rattle.object_graph.specs.declared.step.Register.{Register}
+use Rattle.object_graph.specs.declared.step.GlobalRoot.{GlobalRoot}
 use Rattle.object_graph.specs.declared.step.Action.{Action}
 use Rattle.object_graph.specs.declared.step.Action.TheVariants as actions
 use Rattle.object_graph.specs.declared.step.CollectorStep.{CollectorStep}
@@ -15,22 +17,34 @@ use Rattle.object_graph.specs.declared.step.Reply.TheVariants as replies
 use Rattle.object_graph.specs.declared.step.Event.{Event}
 use Rattle.script_text.specs.Reading.{small, large, most_weaks}
 
+-- the numbers of roots are those of their type
+abbrev pub RegisterFits : Register → Type 0
+RegisterFits r = r.number ≤ small
+
+abbrev pub GlobalFits : GlobalRoot → Type 0
+GlobalFits g = g.number ≤ small
+
+abbrev pub ValueFits : Option Register → Type 0
+ValueFits None = Unit {0}
+ValueFits (Some r) = RegisterFits r
+
 -- the numbers of an action are those of its type
 abbrev pub Fits : Action → Type 0
-Fits (actions.New to counts) = (counts.pointers ≤ small) × (counts.values ≤ small)
-Fits (actions.Get to object i) = i ≤ small
-Fits (actions.Put object i value) = i ≤ small
-Fits (actions.Read object j) = j ≤ small
-Fits (actions.Write object j value) = (j ≤ small) × (value ≤ large)
-Fits (actions.Move to from) = Unit {0}
-Fits (actions.Drop register) = Unit {0}
-Fits (actions.Load to from) = Unit {0}
-Fits (actions.Save to from) = Unit {0}
-Fits (actions.Shape object) = Unit {0}
-Fits (actions.NewWeak to counts w) = (counts.pointers ≤ small) × (w ≤ most_weaks) × (counts.values ≤ small)
-Fits (actions.GetWeak to object i) = i ≤ small
-Fits (actions.PutWeak object i value) = i ≤ small
-Fits (actions.Weaks object) = Unit {0}
+Fits (actions.New to counts) = RegisterFits to × (counts.pointers ≤ small) × (counts.values ≤ small)
+Fits (actions.Get to object i) = RegisterFits to × RegisterFits object × (i ≤ small)
+Fits (actions.Put object i value) = RegisterFits object × (i ≤ small) × ValueFits value
+Fits (actions.Read object j) = RegisterFits object × (j ≤ small)
+Fits (actions.Write object j value) = RegisterFits object × (j ≤ small) × (value ≤ large)
+Fits (actions.Move to from) = RegisterFits to × RegisterFits from
+Fits (actions.Drop register) = RegisterFits register
+Fits (actions.Load to from) = RegisterFits to × GlobalFits from
+Fits (actions.Save to from) = GlobalFits to × RegisterFits from
+Fits (actions.Shape object) = RegisterFits object
+Fits (actions.NewWeak to counts w) = RegisterFits to × (counts.pointers ≤ small) × (w ≤ most_weaks) × (counts.values ≤ small)
+Fits (actions.GetWeak to object i) = RegisterFits to × RegisterFits object × (i ≤ small)
+Fits (actions.PutWeak object i value) = RegisterFits object × (i ≤ small) × ValueFits value
+Fits (actions.Weaks object) = RegisterFits object
+Fits (actions.Scope from) = RegisterFits from
 
 abbrev pub CollectionFits : CollectorStep → Type 0
 CollectionFits collector.Begin = Unit {0}
@@ -47,6 +61,7 @@ StepFits (steps.Collector k) = CollectionFits k
 abbrev pub FormatFits : Format → Type 0
 FormatFits V1 = Unit {0}
 FormatFits (V2 card) = card ≤ small
+FormatFits (V3 card globals registers) = (card ≤ small) × (globals ≤ small) × (registers ≤ small)
 
 pub record ConfigFits (c : Config) : Type 0 where
   pub format : FormatFits c.format

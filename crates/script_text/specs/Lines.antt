@@ -9,7 +9,7 @@ use Rattle.object_graph.specs.declared.step.Step.TheVariants as steps
 use Rattle.script_text.specs.declared.fault.Kind.{Kind}
 use Rattle.script_text.specs.declared.fault.Kind.TheVariants as kinds
 use Rattle.script_text.specs.declared.fault.LineFault.{LineFault}
-use Rattle.script_text.specs.Reading.{number_of, small, action_of, collection_of, sizes_of}
+use Rattle.script_text.specs.Reading.{number_of, small, allowed_of, collection_of, sizes_of}
 
 infixl 10 ◌>>=◌
 abbrev pub ◌>>=◌ : {A B E : Type 0} → Result A E → (A → Result B E) → Result B E
@@ -42,7 +42,7 @@ step_of c (actor ∷ rest) =
       Ok (steps.Collector k))
     else (do
       m ← mutator_of c actor
-      a ← or_fault (action_of rest) kinds.BadStep
+      a ← or_fault (allowed_of c rest) kinds.BadStep
       Ok (steps.Mutator (record { mutator = m; action = a })))
 
 -- a line of at most 120 bytes

@@ -3,11 +3,10 @@ use Rattle.std.specs.Prelude.{ℕ, ◌-◌, ◌^◌, List, [], ◌∷◌, Option
 use Rattle.std.specs.Fmt.{decimal}
 use Rattle.std.specs.Str.{bytes_eq}
 use Rattle.std.specs.Str.Parse.{digits_value}
-use Rattle.std.proofs.lemmas.Bool.{cases_lt}
-use Rattle.std.proofs.Common.{inl, inr}
 use Rattle.heap_words.specs.declared.config.Config.{Config}
 use Rattle.heap_words.specs.declared.config.Format.{Format}
-use Rattle.heap_words.specs.declared.config.Format.TheVariants.{V1, V2}
+use Rattle.heap_words.specs.declared.config.Format.TheVariants.{V1, V2, V3}
+use Rattle.object_graph.specs.Actors.{allows}
 use Rattle.object_graph.specs.declared.step.Register.{Register}
 use Rattle.object_graph.specs.declared.step.GlobalRoot.{GlobalRoot}
 use Rattle.object_graph.specs.declared.step.Action.{Action}
@@ -31,19 +30,22 @@ large = 2 ^ 64 - 1
 abbrev pub small : ℕ
 small = 2 ^ 32 - 1
 
-abbrev pub register_numbered : ℕ → Option Register
-register_numbered n = elim (cases_lt n 8) [ inl lt ↦ Some (record { number = n; in_range = lt }) | inr le ↦ None ]
+-- the number behind a letter
+unfoldable pub number_behind : ℕ → List ℕ → Option ℕ
+number_behind letter [] = None
+number_behind letter (b ∷ digits) = if b == letter then number_of small digits else None
 
+-- r and a number, of any size: the sizes of a heap say which registers it has
 unfoldable pub register_of : List ℕ → Option Register
-register_of (b ∷ d ∷ []) = if b == 114 && nat_le 48 d then register_numbered (d - 48) else None
-register_of _ = None
+register_of word = do
+  n ← number_behind 114 word
+  Some (record { number = n })
 
-abbrev pub global_numbered : ℕ → Option GlobalRoot
-global_numbered n = elim (cases_lt n 16) [ inl lt ↦ Some (record { number = n; in_range = lt }) | inr le ↦ None ]
-
+-- g and a number, likewise
 unfoldable pub global_of : List ℕ → Option GlobalRoot
-global_of (b ∷ digits) = if b == 103 then (number_of 15 digits >>= global_numbered) else None
-global_of [] = None
+global_of word = do
+  n ← number_behind 103 word
+  Some (record { number = n })
 
 -- nil or a register
 unfoldable pub value_of : List ℕ → Option (Option Register)
@@ -144,6 +146,11 @@ weaks_of a = do
   object ← register_of a
   Some (actions.Weaks object)
 
+unfoldable pub scope_of : List ℕ → Option Action
+scope_of a = do
+  from ← register_of a
+  Some (actions.Scope from)
+
 -- a verb and four words
 unfoldable pub longest_action_of : List ℕ → List ℕ → List ℕ → List ℕ → List ℕ → Option Action
 longest_action_of verb a b c d = if bytes_eq verb (codes "newweak") then new_weak_of a b c d else None
@@ -174,6 +181,7 @@ lone_action_of verb a =
     if bytes_eq verb (codes "drop") then drop_of a
     else if bytes_eq verb (codes "shape") then shape_of a
     else if bytes_eq verb (codes "weaks") then weaks_of a
+    else if bytes_eq verb (codes "scope") then scope_of a
     else None
 
 unfoldable pub action_of : List (List ℕ) → Option Action
@@ -182,6 +190,12 @@ action_of (verb ∷ a ∷ b ∷ c ∷ []) = long_action_of verb a b c
 action_of (verb ∷ a ∷ b ∷ []) = pair_action_of verb a b
 action_of (verb ∷ a ∷ []) = lone_action_of verb a
 action_of _ = None
+
+-- an action that heaps of these sizes have: each root that it names is there, and their format knows it
+unfoldable pub allowed_of : Config → List (List ℕ) → Option Action
+allowed_of c ws = do
+  a ← action_of ws
+  if allows c a then Some a else None
 
 unfoldable pub collection_of : List (List ℕ) → Option CollectorStep
 collection_of (verb ∷ []) =
@@ -212,6 +226,14 @@ sizes_in format regions size buffer mutators first_name = do
   f ← number_of large first_name
   Some (record { format = format; regions = n; words = r; buffer = b; mutators = m; first_name = f })
 
+-- the third format, by what stands behind the five
+unfoldable pub third_of : List ℕ → List ℕ → List ℕ → Option Format
+third_of card globals registers = do
+  c ← number_of small card
+  g ← number_of small globals
+  r ← number_of small registers
+  Some (V3 c g r)
+
 unfoldable pub sizes_of : List (List ℕ) → Option Config
 sizes_of (verb ∷ regions ∷ size ∷ buffer ∷ mutators ∷ first_name ∷ []) =
     if bytes_eq verb (codes "heap") then sizes_in V1 regions size buffer mutators first_name else None
@@ -219,5 +241,10 @@ sizes_of (verb ∷ regions ∷ size ∷ buffer ∷ mutators ∷ first_name ∷ c
     if bytes_eq verb (codes "heap2") then (do
       c ← number_of small card
       sizes_in (V2 c) regions size buffer mutators first_name)
+    else None
+sizes_of (verb ∷ regions ∷ size ∷ buffer ∷ mutators ∷ first_name ∷ card ∷ globals ∷ registers ∷ []) =
+    if bytes_eq verb (codes "heap3") then (do
+      format ← third_of card globals registers
+      sizes_in format regions size buffer mutators first_name)
     else None
 sizes_of _ = None

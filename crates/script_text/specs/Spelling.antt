@@ -4,7 +4,7 @@ use Rattle.std.specs.List.{join_with_byte, flat_map}
 use Rattle.std.specs.Fmt.{decimal}
 use Rattle.heap_words.specs.declared.config.Config.{Config}
 use Rattle.heap_words.specs.declared.config.Format.{Format}
-use Rattle.heap_words.specs.declared.config.Format.TheVariants.{V1, V2}
+use Rattle.heap_words.specs.declared.config.Format.TheVariants.{V1, V2, V3}
 use Rattle.object_graph.specs.Actors.{StepList}
 use Rattle.object_graph.specs.declared.step.Register.{Register}
 use Rattle.object_graph.specs.declared.step.GlobalRoot.{GlobalRoot}
@@ -40,6 +40,7 @@ action_words (actions.NewWeak to counts w) = codes "newweak" ∷ register_word t
 action_words (actions.GetWeak to object i) = codes "getweak" ∷ register_word to ∷ register_word object ∷ decimal i ∷ []
 action_words (actions.PutWeak object i value) = codes "putweak" ∷ register_word object ∷ decimal i ∷ value_word value ∷ []
 action_words (actions.Weaks object) = codes "weaks" ∷ register_word object ∷ []
+action_words (actions.Scope from) = codes "scope" ∷ register_word from ∷ []
 
 abbrev pub collection_words : CollectorStep → List (List ℕ)
 collection_words collector.Begin = codes "begin" ∷ []
@@ -56,17 +57,20 @@ step_words (steps.Collector k) = codes "gc" ∷ collection_words k
 abbrev pub size_words : Config → List (List ℕ)
 size_words c = decimal c.regions ∷ decimal c.words ∷ decimal c.buffer ∷ decimal c.mutators ∷ decimal c.first_name ∷ []
 
--- the words of a heap line: the second format's ends with the length of a card
+-- the words of a heap line: the second format's ends with the length of a card, the third's with that and how many globals
+-- and registers there are
 abbrev pub verb_of : Format → List ℕ
 verb_of V1 = codes "heap"
 verb_of (V2 card) = codes "heap2"
+verb_of (V3 card globals registers) = codes "heap3"
 
-abbrev pub words_of_card : Format → List (List ℕ)
-words_of_card V1 = []
-words_of_card (V2 card) = decimal card ∷ []
+abbrev pub format_words : Format → List (List ℕ)
+format_words V1 = []
+format_words (V2 card) = decimal card ∷ []
+format_words (V3 card globals registers) = decimal card ∷ decimal globals ∷ decimal registers ∷ []
 
 abbrev pub heap_words : Config → List (List ℕ)
-heap_words c = verb_of c.format ∷ size_words c ++ words_of_card c.format
+heap_words c = verb_of c.format ∷ size_words c ++ format_words c.format
 
 -- the words, parted by single spaces
 abbrev pub spaced : List (List ℕ) → List ℕ

@@ -6,7 +6,7 @@ ghost use Rattle.script_text.specs.Events.{actor_of, counted_of, event_of};
 
 use crate::fault::Kind;
 use crate::replies::reply;
-use crate::steps::{action, collection, mutator};
+use crate::steps::{allowed, collection, mutator};
 use crate::words::{is_word, number};
 use heap_words::config::Config;
 use object_graph::{Actor, CollectorStep, Event, Op, Reply, Step};
@@ -69,12 +69,12 @@ fn refiner_step(collection: CollectorStep) -> Option<Step>
 
 /// A step of its actor.
 #[tactic(auto, unfolding(crate::specs::EventWords::taken_of))]
-fn taken(actor: Actor, words: &[&[u8]]) -> Option<Step>
-    ensures { result ≡ taken_of actor (map (λ w. w.now) words.now) }
+fn taken(config: &Config, actor: Actor, words: &[&[u8]]) -> Option<Step>
+    ensures { result ≡ taken_of config.now actor (map (λ w. w.now) words.now) }
 {
     match actor {
         Actor::Mutator(mutator) => {
-            let action = action(words)?;
+            let action = allowed(config, words)?;
             Some(Step::Mutator(Op { mutator, action }))
         }
         Actor::Collector => {
@@ -134,7 +134,7 @@ fn counted(config: &Config, words: &[&[u8]]) -> Result<Event, Kind>
         return Err(Kind::BadActor);
     };
     let actor = actor(config, word)?;
-    let Some(step) = taken(actor, step_part(rest)) else {
+    let Some(step) = taken(config, actor, step_part(rest)) else {
         return Err(Kind::BadStep);
     };
     let Some(reply) = answer(rest) else {

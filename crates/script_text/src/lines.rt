@@ -3,7 +3,7 @@
 
 ghost use Rattle.std.specs.Prelude.{◌≡◌, ◌≤◌, ◌<◌, ◌+◌, ◌++◌, ◌∷◌, length, take, codes};
 ghost use Rattle.std.specs.Fmt.{decimal};
-ghost use Rattle.script_text.specs.Spelling.{register_word, global_word, value_word, action_words, collection_words, verb_of, words_of_card, heap_words, spaced, line};
+ghost use Rattle.script_text.specs.Spelling.{register_word, global_word, value_word, action_words, collection_words, verb_of, format_words, heap_words, spaced, line};
 ghost use Rattle.script_text.specs.Records.{actor_word, reply_words, event_line};
 
 use crate::bytes::{put_byte, put_number, put_small, put_text};
@@ -34,19 +34,29 @@ fn verb_text(format: Format) -> &'static [u8]
     match format {
         Format::V1 => b"heap ",
         Format::V2 { .. } => b"heap2 ",
+        Format::V3 { .. } => b"heap3 ",
     }
 }
 
-/// The first name, and the length of a card where the format has one.
+/// The first name, and what stands behind it in the format's line.
 fn put_ending(buffer: &mut [u8], at: usize, first_name: u64, format: Format) -> usize
-    requires { at + 31 ≤ length buffer.old }
-    ensures put { take result buffer.new ≡ take at buffer.old ++ spaced (decimal first_name ∷ words_of_card format) }
-    ensures end { result ≤ at + 31 }
+    requires { at + 53 ≤ length buffer.old }
+    ensures put { take result buffer.new ≡ take at buffer.old ++ spaced (decimal first_name ∷ format_words format) }
+    ensures end { result ≤ at + 53 }
 {
     let at = put_number(buffer, at, first_name);
     match format {
         Format::V1 => at,
         Format::V2 { card } => put_count(buffer, at, b" ", card),
+        Format::V3 {
+            card,
+            globals,
+            registers,
+        } => {
+            let at = put_count(buffer, at, b" ", card);
+            let at = put_count(buffer, at, b" ", globals);
+            put_count(buffer, at, b" ", registers)
+        }
     }
 }
 
@@ -84,13 +94,14 @@ fn put_actor(buffer: &mut [u8], at: usize, actor: Actor) -> usize
     }
 }
 
+#[inline(always)]
 fn put_register(buffer: &mut [u8], at: usize, register: Register) -> usize
-    requires { at + 2 ≤ length buffer.old }
+    requires { at + 11 ≤ length buffer.old }
     ensures put { take result buffer.new ≡ take at buffer.old ++ register_word register }
-    ensures end { result ≡ at + 2 }
+    ensures end { result ≤ at + 11 }
 {
     let at = put_byte(buffer, at, b'r');
-    put_byte(buffer, at, b'0' + register.number)
+    put_small(buffer, at, register.number)
 }
 
 fn put_global(buffer: &mut [u8], at: usize, root: GlobalRoot) -> usize
@@ -99,14 +110,15 @@ fn put_global(buffer: &mut [u8], at: usize, root: GlobalRoot) -> usize
     ensures end { result ≤ at + 11 }
 {
     let at = put_byte(buffer, at, b'g');
-    put_small(buffer, at, root.number as u32)
+    put_small(buffer, at, root.number)
 }
 
 /// A text that ends in a space, and a register.
+#[inline(always)]
 fn put_named(buffer: &mut [u8], at: usize, word: &[u8], register: Register) -> usize
-    requires { at + length word.now + 2 ≤ length buffer.old }
+    requires { at + length word.now + 11 ≤ length buffer.old }
     ensures put { take result buffer.new ≡ take at buffer.old ++ word.now ++ register_word register }
-    ensures end { result ≡ at + length word.now + 2 }
+    ensures end { result ≤ at + length word.now + 11 }
 {
     let at = put_text(buffer, at, word);
     put_register(buffer, at, register)
@@ -115,9 +127,9 @@ fn put_named(buffer: &mut [u8], at: usize, word: &[u8], register: Register) -> u
 /// A text that ends in a space, a register and a number.
 #[inline(always)]
 fn put_field(buffer: &mut [u8], at: usize, word: &[u8], object: Register, field: u32) -> usize
-    requires { at + length word.now + 13 ≤ length buffer.old }
+    requires { at + length word.now + 22 ≤ length buffer.old }
     ensures put { take result buffer.new ≡ take at buffer.old ++ word.now ++ register_word object ++ codes " " ++ decimal field }
-    ensures end { result ≤ at + length word.now + 13 }
+    ensures end { result ≤ at + length word.now + 22 }
 {
     let at = put_named(buffer, at, word, object);
     put_count(buffer, at, b" ", field)
@@ -125,9 +137,9 @@ fn put_field(buffer: &mut [u8], at: usize, word: &[u8], object: Register, field:
 
 /// A space, and nil or a register.
 fn put_value(buffer: &mut [u8], at: usize, value: Option<Register>) -> usize
-    requires { at + 4 ≤ length buffer.old }
+    requires { at + 12 ≤ length buffer.old }
     ensures put { take result buffer.new ≡ take at buffer.old ++ codes " " ++ value_word value }
-    ensures end { result ≤ at + 4 }
+    ensures end { result ≤ at + 12 }
 {
     match value {
         None => put_text(buffer, at, b" nil"),
@@ -145,9 +157,9 @@ fn put_taken(
     object: Register,
     field: u32,
 ) -> usize
-    requires { at + length word.now + 16 ≤ length buffer.old }
+    requires { at + length word.now + 34 ≤ length buffer.old }
     ensures put { take result buffer.new ≡ take at buffer.old ++ word.now ++ register_word to ++ codes " " ++ register_word object ++ codes " " ++ decimal field }
-    ensures end { result ≤ at + length word.now + 16 }
+    ensures end { result ≤ at + length word.now + 34 }
 {
     let at = put_named(buffer, at, word, to);
     put_field(buffer, at, b" ", object, field)
@@ -163,9 +175,9 @@ fn put_stored(
     field: u32,
     value: Option<Register>,
 ) -> usize
-    requires { at + length word.now + 17 ≤ length buffer.old }
+    requires { at + length word.now + 34 ≤ length buffer.old }
     ensures put { take result buffer.new ≡ take at buffer.old ++ word.now ++ register_word object ++ codes " " ++ decimal field ++ codes " " ++ value_word value }
-    ensures end { result ≤ at + length word.now + 17 }
+    ensures end { result ≤ at + length word.now + 34 }
 {
     let at = put_field(buffer, at, word, object, field);
     put_value(buffer, at, value)
@@ -173,9 +185,9 @@ fn put_stored(
 
 /// The step that makes an object with weak slots.
 fn put_new_weak(buffer: &mut [u8], at: usize, to: Register, counts: Counts, weaks: u8) -> usize
-    requires { at + 48 ≤ length buffer.old }
+    requires { at + 52 ≤ length buffer.old }
     ensures put { take result buffer.new ≡ take at buffer.old ++ spaced (action_words (Action.NewWeak to counts weaks)) }
-    ensures end { result ≤ at + 48 }
+    ensures end { result ≤ at + 52 }
 {
     let at = put_field(buffer, at, b"newweak ", to, counts.pointers);
     let at = put_count(buffer, at, b" ", weaks as u32);
@@ -183,9 +195,9 @@ fn put_new_weak(buffer: &mut [u8], at: usize, to: Register, counts: Counts, weak
 }
 
 fn put_action(buffer: &mut [u8], at: usize, action: Action) -> usize
-    requires { at + 48 ≤ length buffer.old }
+    requires { at + 52 ≤ length buffer.old }
     ensures put { take result buffer.new ≡ take at buffer.old ++ spaced (action_words action) }
-    ensures end { result ≤ at + 48 }
+    ensures end { result ≤ at + 52 }
 {
     match action {
         Action::New { to, counts } => {
@@ -234,13 +246,14 @@ fn put_action(buffer: &mut [u8], at: usize, action: Action) -> usize
             value,
         } => put_stored(buffer, at, b"putweak ", object, slot, value),
         Action::Weaks { object } => put_named(buffer, at, b"weaks ", object),
+        Action::Scope { from } => put_named(buffer, at, b"scope ", from),
     }
 }
 
 fn put_collection(buffer: &mut [u8], at: usize, collection: CollectorStep) -> usize
-    requires { at + 48 ≤ length buffer.old }
+    requires { at + 52 ≤ length buffer.old }
     ensures put { take result buffer.new ≡ take at buffer.old ++ spaced (collection_words collection) }
-    ensures end { result ≤ at + 48 }
+    ensures end { result ≤ at + 52 }
 {
     match collection {
         CollectorStep::Begin => put_text(buffer, at, b"begin"),

@@ -2,7 +2,7 @@
 
 ghost use Rattle.std.specs.Prelude.{◌≡◌, ◌∷◌, None, ℕ, List, map, take, IfOk, IfSome, IfNone};
 ghost use Rattle.object_graph.specs.Actors.{IsStep};
-ghost use Rattle.script_text.specs.Reading.{sizes_in, sizes_of};
+ghost use Rattle.script_text.specs.Reading.{sizes_in, third_of, sizes_of};
 ghost use Rattle.script_text.specs.Lines.{words_of, heap_line_of, step_line_of, Gives, script_of};
 
 use crate::fault::{Kind, LineFault};
@@ -42,6 +42,21 @@ fn sizes(
     })
 }
 
+/// The third format, by the words behind the five sizes.
+#[tactic(auto, unfolding(crate::specs::Reading::third_of))]
+fn third(card: &[u8], globals: &[u8], registers: &[u8]) -> Option<Format>
+    ensures { result ≡ third_of card.now globals.now registers.now }
+{
+    let card = small_number(card)?;
+    let globals = small_number(globals)?;
+    let registers = small_number(registers)?;
+    Some(Format::V3 {
+        card,
+        globals,
+        registers,
+    })
+}
+
 /// The format of a heap line, by its verb and the words behind its five sizes.
 #[tactic(auto, unfolding(crate::specs::Reading::sizes_of))]
 fn format(verb: &[u8], rest: &[&[u8]]) -> Option<Format>
@@ -60,6 +75,13 @@ fn format(verb: &[u8], rest: &[&[u8]]) -> Option<Format>
             if is_word(verb, b"heap2") {
                 let card = small_number(card)?;
                 Some(Format::V2 { card })
+            } else {
+                None
+            }
+        }
+        [card, globals, registers] => {
+            if is_word(verb, b"heap3") {
+                third(card, globals, registers)
             } else {
                 None
             }

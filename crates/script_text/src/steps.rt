@@ -1,7 +1,7 @@
 //! Steps, read from the words of their lines.
 
 ghost use Rattle.std.specs.Prelude.{◌≡◌, ◌<◌, ◌∷◌, [], map, IfOk};
-ghost use Rattle.script_text.specs.Reading.{number_of, small, register_of, global_of, value_of, new_of, get_of, put_of, write_of, read_of, move_of, drop_of, load_of, save_of, shape_of, new_weak_of, get_weak_of, put_weak_of, weaks_of, longest_action_of, long_action_of, pair_action_of, lone_action_of, action_of, collection_of};
+ghost use Rattle.script_text.specs.Reading.{number_of, small, register_of, global_of, value_of, new_of, get_of, put_of, write_of, read_of, move_of, drop_of, load_of, save_of, shape_of, new_weak_of, get_weak_of, put_weak_of, weaks_of, scope_of, longest_action_of, long_action_of, pair_action_of, lone_action_of, action_of, allowed_of, collection_of};
 ghost use Rattle.script_text.specs.Lines.{mutator_of, step_of};
 ghost use Rattle.object_graph.specs.Actors.{IsStep};
 
@@ -159,6 +159,14 @@ fn weaks_action(word: &[u8]) -> Option<Action>
     Some(Action::Weaks { object })
 }
 
+#[tactic(auto, unfolding(crate::specs::Reading::scope_of))]
+fn scope_action(word: &[u8]) -> Option<Action>
+    ensures { result ≡ scope_of word.now }
+{
+    let from = register(word)?;
+    Some(Action::Scope { from })
+}
+
 /// A verb and four words.
 #[tactic(auto, unfolding(crate::specs::Reading::longest_action_of))]
 fn longest_action(verb: &[u8], a: &[u8], b: &[u8], c: &[u8], d: &[u8]) -> Option<Action>
@@ -222,14 +230,16 @@ fn lone_action(verb: &[u8], a: &[u8]) -> Option<Action>
         shape_action(a)
     } else if is_word(verb, b"weaks") {
         weaks_action(a)
+    } else if is_word(verb, b"scope") {
+        scope_action(a)
     } else {
         None
     }
 }
 
-/// A mutator's step.
+/// A mutator's step, of any sizes.
 #[tactic(auto, unfolding(crate::specs::Reading::action_of))]
-pub(crate) fn action(words: &[&[u8]]) -> Option<Action>
+fn action(words: &[&[u8]]) -> Option<Action>
     ensures { result ≡ action_of (map (λ w. w.now) words.now) }
 {
     match words {
@@ -238,6 +248,19 @@ pub(crate) fn action(words: &[&[u8]]) -> Option<Action>
         [verb, a, b] => pair_action(verb, a, b),
         [verb, a] => lone_action(verb, a),
         _ => None,
+    }
+}
+
+/// A mutator's step that heaps of these sizes have: each root that it names is there, and their format knows it.
+#[tactic(auto, unfolding(crate::specs::Reading::allowed_of))]
+pub(crate) fn allowed(config: &Config, words: &[&[u8]]) -> Option<Action>
+    ensures { result ≡ allowed_of config.now (map (λ w. w.now) words.now) }
+{
+    let action = action(words)?;
+    if action.is_in(config) {
+        Some(action)
+    } else {
+        None
     }
 }
 
@@ -320,7 +343,7 @@ pub(crate) fn step(config: &Config, words: &[&[u8]]) -> Result<Step, Kind>
         return Ok(Step::Collector(collection));
     }
     let mutator = mutator(config, actor)?;
-    let Some(action) = action(rest) else {
+    let Some(action) = allowed(config, rest) else {
         return Err(Kind::BadStep);
     };
     Ok(Step::Mutator(Op { mutator, action }))

@@ -73,7 +73,7 @@ fn fault_of(alloc: Global, text: &[u8]) -> Option<LineFault> {
 }
 
 /// Faulty texts, each with the line and the kind of its fault.
-const FAULTS: [(&str, u64, Kind); 30] = [
+const FAULTS: [(&str, u64, Kind); 38] = [
     ("", 1, Kind::BadHeap),
     ("\n", 1, Kind::BadHeap),
     ("heap 4 16 8 1 0", 1, Kind::Cut),
@@ -104,6 +104,22 @@ const FAULTS: [(&str, u64, Kind); 30] = [
     ("heap 4 16 8 1 0\ngc pause 4294967296\n", 2, Kind::BadStep),
     ("heap 4 16 8 1 0\n0 read r0 0\nx\ny\n", 3, Kind::BadActor),
     ("heap 4 16 8 1 0\nx\n0 read r0 0", 2, Kind::BadActor),
+    ("heap 4 16 8 1 0\n0 load r0 g16\n", 2, Kind::BadStep),
+    ("heap2 4 16 8 1 0 8\n0 scope r0\n", 2, Kind::BadStep),
+    ("heap3 4 16 8 1 0 8 1\n", 1, Kind::BadHeap),
+    ("heap3 4 16 8 1 0 8 1 4294967296\n", 1, Kind::BadHeap),
+    ("heap3 4 16 8 1 0 8 1 9\n0 drop r08\n", 2, Kind::BadStep),
+    ("heap3 4 16 8 1 0 8 1 9\n0 save g1 r8\n", 2, Kind::BadStep),
+    (
+        "heap3 4 16 8 1 0 8 1 4294967295\n0 scope r4294967296\n",
+        2,
+        Kind::BadStep,
+    ),
+    (
+        "heap3 4 16 8 1 0 8 65536 65536\n0 save g65535 r65535\n0 scope r10\n0 drop r65536\n",
+        4,
+        Kind::BadStep,
+    ),
 ];
 
 /// Compares the fault of a text.
@@ -147,7 +163,7 @@ const BAD_ACTORS: [&str; 5] = [
 ];
 
 /// Second lines of records whose step is faulty.
-const BAD_STEPS: [&str; 8] = [
+const BAD_STEPS: [&str; 10] = [
     "1 0 drop = ok",
     "1 0 = ok",
     "1 0 drop r0 =ok",
@@ -156,6 +172,8 @@ const BAD_STEPS: [&str; 8] = [
     "1 f0 mark 4 = ok",
     "1 0 put r0 0 nil 1 1 1 1 1 1 = ok",
     "1 0 newweak r0 1 256 1 = #0",
+    "1 0 scope r0 = ok",
+    "1 0 drop r10 =",
 ];
 
 /// Second lines of records whose reply is faulty.
@@ -215,7 +233,7 @@ fn an_empty_record(rt: HostRuntime) -> Result<(), Fail> {
 }
 
 /// Records, each with its number of events.
-const RECORDS: [(&str, usize); 10] = [
+const RECORDS: [(&str, usize); 11] = [
     ("heap 4 16 8 1 0\n", 0),
     (
         "heap 4 16 8 1 0\n1 0 new r0 1 1 = #0\n2 0 read r0 0 = 0\n3 0 get r1 r0 0 = nil\n",
@@ -249,6 +267,10 @@ const RECORDS: [(&str, usize); 10] = [
     (
         "heap 6 16 4 1 0\n1 0 new r0 1 0 = #0\n2 0 new r1 0 1 = #1\n3 0 write r1 0 5 = ok\n4 0 put r0 0 r1 = ok\n5 0 drop r1 = ok\n6 gc begin = ok\n7 0 new r1 2 2 = #2\n8 0 new r2 2 2 = #3\n9 0 new r3 2 2 = #4\n10 0 new r4 2 2 = #5\n11 0 get r5 r0 0 = #1\n12 0 put r4 0 r5 = ok\n13 0 put r0 0 nil = ok\n14 0 drop r5 = ok\n15 0 drop r3 = ok\n16 gc pause 100 = moved 2 12\n17 gc refine 5 = refined 1\n18 gc mark 10 = ok\n19 gc remark = marked 2\n20 0 get r6 r4 0 = #1\n21 0 read r6 0 = 5\n",
         21,
+    ),
+    (
+        "heap3 4 16 8 1 0 8 65536 65536\n1 0 new r65535 0 1 = #0\n2 0 save g65535 r65535 = ok\n3 0 scope r9 = ok\n4 0 load r10 g65535 = #0\n5 0 write r10 0 7 = ok\n",
+        5,
     ),
 ];
 
@@ -385,15 +407,15 @@ fn printed_faults(rt: HostRuntime) -> Result<(), Fail> {
 
 /// Notes an event of a mutator.
 fn push_op(record: &mut Record, mutator: u32, action: Action, reply: Reply) -> Result<(), Fail> {
-    let config = record.config();
-    if mutator >= config.mutators {
-        return Err(Fail::from("there is no such mutator"));
-    }
-    record.push(Event {
+    let event = Event {
         actor: Actor::Mutator(mutator),
         step: Step::Mutator(Op { mutator, action }),
         reply,
-    })?;
+    };
+    if !event.is_in(&record.config()) {
+        return Err(Fail::from("the sizes don't allow it"));
+    }
+    record.push(event)?;
     Ok(())
 }
 

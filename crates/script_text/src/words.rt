@@ -3,10 +3,8 @@
 ghost use Rattle.std.specs.Prelude.{◌≡◌, ◌≤◌, ◌<◌, ◌+◌, ◌∷◌, [], ℕ, IfSome, IfNone, length, map, take, drop};
 ghost use Rattle.std.specs.Fmt.{decimal};
 ghost use Rattle.std.specs.Str.{bytes_eq};
-ghost use Rattle.script_text.specs.Spelling.{register_word};
-ghost use Rattle.script_text.specs.Reading.{number_of, small, register_of, global_of, value_of};
+ghost use Rattle.script_text.specs.Reading.{number_of, small, number_behind, register_of, global_of, value_of};
 ghost use Rattle.script_text.specs.Lines.{pieces_of, words_of};
-ghost use Rattle.object_graph.specs.declared.step.Register.{Register};
 
 use object_graph::{GlobalRoot, Register};
 
@@ -102,53 +100,63 @@ pub(crate) fn number(word: &[u8], limit: u64) -> Option<u64>
     spelled_number(word, limit)
 }
 
-/// The number that a word spells, where it fits 32 bits.
+/// The number that a word of one byte spells.
+#[inline(always)]
+fn digit(byte: u8) -> Option<u32>
+    ensures { result ≡ number_of small (byte ∷ []) }
+{
+    if byte < b'0' {
+        return None;
+    }
+    if byte > b'9' {
+        return None;
+    }
+    Some((byte - b'0') as u32)
+}
+
+/// The number that a word spells, where it fits 32 bits. Most have one digit.
+#[inline(always)]
 pub(crate) fn small_number(word: &[u8]) -> Option<u32>
     ensures { result ≡ number_of small word.now }
 {
+    if word.len() == 1 {
+        return digit(word[0]);
+    }
     let value = number(word, 0xffff_ffff)?;
     Some(value as u32)
 }
 
-/// The register that a word spells.
-fn spelled_register(word: &[u8]) -> Option<Register>
-    ensures some { IfSome result (λ r. word.now ≡ register_word r) }
-    ensures none { IfNone result ((r : Register) → word.now ≡ register_word r → ⊥) }
-{
-    if word.len() != 2 || word[0] != b'r' {
-        return None;
-    }
-    let digit = word[1];
-    if digit < b'0' || digit > b'7' {
-        return None;
-    }
-    Some(Register {
-        number: digit - b'0',
-    })
-}
-
-/// The register that a word spells, `r0` to `r7`.
-pub(crate) fn register(word: &[u8]) -> Option<Register>
-    ensures { result ≡ register_of word.now }
-{
-    spelled_register(word)
-}
-
-/// The global that a word spells, `g0` to `g15`.
-#[tactic(auto, using(crate::proofs::Parts::Numbers::global_numbered_is), unfolding(crate::specs::Reading::global_of))]
-pub(crate) fn global(word: &[u8]) -> Option<GlobalRoot>
-    ensures { result ≡ global_of word.now }
+/// The number behind a letter.
+#[tactic(auto, unfolding(crate::specs::Reading::number_behind))]
+#[inline(always)]
+fn number_behind(letter: u8, word: &[u8]) -> Option<u32>
+    ensures { result ≡ number_behind letter word.now }
 {
     let [first, digits @ ..] = word else {
         return None;
     };
-    if *first != b'g' {
+    if *first != letter {
         return None;
     }
-    let number = number(digits, 15)?;
-    Some(GlobalRoot {
-        number: number as u8,
-    })
+    small_number(digits)
+}
+
+/// The register that a word spells, `r` and its number.
+#[tactic(auto, unfolding(crate::specs::Reading::register_of))]
+pub(crate) fn register(word: &[u8]) -> Option<Register>
+    ensures { result ≡ register_of word.now }
+{
+    let number = number_behind(b'r', word)?;
+    Some(Register { number })
+}
+
+/// The global that a word spells, `g` and its number.
+#[tactic(auto, unfolding(crate::specs::Reading::global_of))]
+pub(crate) fn global(word: &[u8]) -> Option<GlobalRoot>
+    ensures { result ≡ global_of word.now }
+{
+    let number = number_behind(b'g', word)?;
+    Some(GlobalRoot { number })
 }
 
 /// Nil, or the register that a word spells.

@@ -3,51 +3,109 @@
 ghost use Rattle.std.specs.Prelude.{◌≡◌, All, Ok};
 ghost use Rattle.script_text.specs.Events.{record_of};
 ghost use Rattle.script_text.specs.Records.{record_text};
-ghost use Rattle.script_text.specs.Fits.{Fits, CollectionFits, StepFits, ReplyFits, EventFits, ConfigFits};
+ghost use Rattle.script_text.specs.Fits.{RegisterFits, GlobalFits, ValueFits, Fits, CollectionFits, StepFits, ReplyFits, EventFits, ConfigFits};
 
 use crate::laws::spelled_record_is_read;
 use heap_words::config::Config;
-use object_graph::{Action, CollectorStep, Event, Record, Reply, Step};
+use object_graph::{Action, CollectorStep, Event, GlobalRoot, Record, Register, Reply, Step};
+
+/// A register's number is one of its type.
+fn register_fits(register: Register)
+    ensures { RegisterFits register }
+{
+    let _ = register.number;
+}
+
+/// A global's number is one of its type.
+fn global_fits(root: GlobalRoot)
+    ensures { GlobalFits root }
+{
+    let _ = root.number;
+}
+
+/// The same of a register's number, where there is one.
+fn value_fits(value: Option<Register>)
+    ensures { ValueFits value }
+{
+    match value {
+        None => {}
+        Some(register) => register_fits(register),
+    }
+}
 
 /// The numbers of a mutator's action are those of its type.
 fn action_fits(action: Action)
     ensures { Fits action }
 {
     match action {
-        Action::New { counts, .. } => {
+        Action::New { to, counts } => {
+            register_fits(to);
             let _ = counts.pointers;
             let _ = counts.values;
         }
-        Action::Get { field, .. } => {
+        Action::Get { to, object, field } => {
+            register_fits(to);
+            register_fits(object);
             let _ = field;
         }
-        Action::Put { field, .. } => {
+        Action::Put {
+            object,
+            field,
+            value,
+        } => {
+            register_fits(object);
+            let _ = field;
+            value_fits(value);
+        }
+        Action::Read { object, field } => {
+            register_fits(object);
             let _ = field;
         }
-        Action::Read { field, .. } => {
-            let _ = field;
-        }
-        Action::Write { field, value, .. } => {
+        Action::Write {
+            object,
+            field,
+            value,
+        } => {
+            register_fits(object);
             let _ = field;
             let _ = value;
         }
-        Action::Move { .. } => {}
-        Action::Drop { .. } => {}
-        Action::Load { .. } => {}
-        Action::Save { .. } => {}
-        Action::Shape { .. } => {}
-        Action::NewWeak { counts, weaks, .. } => {
+        Action::Move { to, from } => {
+            register_fits(to);
+            register_fits(from);
+        }
+        Action::Drop { register } => register_fits(register),
+        Action::Load { to, from } => {
+            register_fits(to);
+            global_fits(from);
+        }
+        Action::Save { to, from } => {
+            global_fits(to);
+            register_fits(from);
+        }
+        Action::Shape { object } => register_fits(object),
+        Action::NewWeak { to, counts, weaks } => {
+            register_fits(to);
             let _ = counts.pointers;
             let _ = weaks;
             let _ = counts.values;
         }
-        Action::GetWeak { slot, .. } => {
+        Action::GetWeak { to, object, slot } => {
+            register_fits(to);
+            register_fits(object);
             let _ = slot;
         }
-        Action::PutWeak { slot, .. } => {
+        Action::PutWeak {
+            object,
+            slot,
+            value,
+        } => {
+            register_fits(object);
             let _ = slot;
+            value_fits(value);
         }
-        Action::Weaks { .. } => {}
+        Action::Weaks { object } => register_fits(object),
+        Action::Scope { from } => register_fits(from),
     }
 }
 

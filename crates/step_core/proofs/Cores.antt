@@ -4,6 +4,7 @@ pub mod Remembering
 pub mod Added
 pub mod Layers
 pub mod Keeping
+pub mod Leaving
 pub mod Snapshots
 pub mod Following
 pub mod Acted

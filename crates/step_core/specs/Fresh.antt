@@ -22,6 +22,6 @@ fresh_core c = record {
   room = record { regions = c.regions; cards = c.regions * (c.words / card_words c) };
   row_room = c.regions;
   places = places_of c;
-  roots = replicate (root_places c.mutators) None;
+  roots = replicate (root_places (places_of c)) None;
   next = c.first_name;
 }

@@ -1,5 +1,5 @@
 -- What each step of a mutator does to a core, exactly.
-use Rattle.std.specs.Prelude.{◌≡◌, ℕ, ◌+◌, ◌/◌, ◌==◌, Option, Some, None, if◌then◌else◌, length, slice_index_or, slice_set, unwrap_or}
+use Rattle.std.specs.Prelude.{◌≡◌, ℕ, ◌+◌, ◌-◌, ◌/◌, ◌==◌, Option, Some, None, if◌then◌else◌, length, slice_index_or, slice_set, unwrap_or}
 use Rattle.heap_words.specs.Sizes.{size_of}
 use Rattle.heap_words.specs.Configs.{card_words}
 use Rattle.regions.specs.Table.{pointers_at, weaks_at, set_pointer, set_weak, set_value, new_object}
@@ -8,7 +8,9 @@ use Rattle.marker.specs.Steps.{Overwrites}
 use Rattle.marker.specs.declared.marker.Marker.{Marker}
 use Rattle.cards.specs.Cards.{Cards, dirtied}
 use Rattle.refinement.specs.Remembering.{field_word}
-use Rattle.object_graph.specs.State.{register_place}
+use Rattle.heap_words.specs.Configs.{registers_of}
+use Rattle.heap_model.specs.Graph.{with_nils}
+use Rattle.object_graph.specs.State.{register_place, places_of}
 use Rattle.object_graph.specs.declared.step.Action.{Action}
 use Rattle.object_graph.specs.declared.step.Action.TheVariants as actions
 use Rattle.object_graph.specs.declared.step.Counts.{Counts}
@@ -22,7 +24,7 @@ abbrev pub root_of : CoreState → ℕ → Option ℕ
 root_of c place = slice_index_or c.roots place None
 
 abbrev pub register_of : CoreState → ℕ → Register → Option ℕ
-register_of c m r = root_of c (register_place m r.number)
+register_of c m r = root_of c (register_place (places_of c.config) m r.number)
 
 abbrev pub object_of : CoreState → ℕ → Register → ℕ
 object_of c m r = unwrap_or (register_of c m r) 0
@@ -47,6 +49,10 @@ value_of c m (Some r) = register_of c m r
 -- the core with another word in a root place
 abbrev pub with_root_word : CoreState → ℕ → Option ℕ → CoreState
 with_root_word c place w = record c { roots = slice_set c.roots place w }
+
+-- the core with nil in so many root places from one on
+abbrev pub with_nil_words : CoreState → ℕ → ℕ → CoreState
+with_nil_words c first count = record c { roots = with_nils c.roots first count }
 
 -- the cards once a value is stored in a field's word: the word's card is dirty if it leads into another region than the word's
 abbrev pub noted : CoreState → ℕ → ℕ → Option ℕ → Cards
@@ -73,7 +79,7 @@ with_made c place counts weaks (Some x) = record c {
 
 -- the core once an object is made
 abbrev pub after_new : CoreState → ℕ → Register → Counts → ℕ → CoreState
-after_new c m to counts weaks = with_made c (register_place m to.number) counts weaks (place_of c.table c.buffers m (size_of counts.pointers weaks counts.values))
+after_new c m to counts weaks = with_made c (register_place (places_of c.config) m to.number) counts weaks (place_of c.table c.buffers m (size_of counts.pointers weaks counts.values))
 
 -- how many weak slots the object that an action makes has
 abbrev pub weaks_made : Action → ℕ
@@ -83,19 +89,20 @@ weaks_made _ = 0
 -- the core after a step that isn't refused, but for its marker
 abbrev pub core_after : CoreState → ℕ → Action → CoreState
 core_after c m (actions.New to counts) = after_new c m to counts 0
-core_after c m (actions.Get to object i) = with_root_word c (register_place m to.number) (pointer_of c (object_of c m object) i)
+core_after c m (actions.Get to object i) = with_root_word c (register_place (places_of c.config) m to.number) (pointer_of c (object_of c m object) i)
 core_after c m (actions.Put object i value) = with_pointer c m (object_of c m object) i (value_of c m value)
 core_after c m (actions.Read object i) = c
 core_after c m (actions.Write object i v) = record c { table = set_value c.table (object_of c m object) i v }
-core_after c m (actions.Move to from) = with_root_word c (register_place m to.number) (register_of c m from)
-core_after c m (actions.Drop register) = with_root_word c (register_place m register.number) None
-core_after c m (actions.Load to from) = with_root_word c (register_place m to.number) (root_of c from.number)
+core_after c m (actions.Move to from) = with_root_word c (register_place (places_of c.config) m to.number) (register_of c m from)
+core_after c m (actions.Drop register) = with_root_word c (register_place (places_of c.config) m register.number) None
+core_after c m (actions.Load to from) = with_root_word c (register_place (places_of c.config) m to.number) (root_of c from.number)
 core_after c m (actions.Save to from) = with_root_word c to.number (register_of c m from)
 core_after c m (actions.Shape object) = c
 core_after c m (actions.NewWeak to counts weaks) = after_new c m to counts weaks
-core_after c m (actions.GetWeak to object i) = with_root_word c (register_place m to.number) (weak_of c (object_of c m object) i)
+core_after c m (actions.GetWeak to object i) = with_root_word c (register_place (places_of c.config) m to.number) (weak_of c (object_of c m object) i)
 core_after c m (actions.PutWeak object i value) = with_weak c m (object_of c m object) i (value_of c m value)
 core_after c m (actions.Weaks object) = c
+core_after c m (actions.Scope from) = with_nil_words c (register_place (places_of c.config) m from.number) (registers_of c.config - from.number)
 
 -- the marker after it: a put saves the pointer that it overwrites, a getweak what it reads, and no other step concerns the marker
 abbrev pub MarkerAfter : CoreState → ℕ → Action → Marker → Type 0

@@ -23,7 +23,7 @@ use Rattle.cards.specs.Cards.{Cards, is_dirty}
 use Rattle.remembered_sets.specs.Sets.{Sets, card_count, covers}
 use Rattle.refinement.specs.Remembering.{Remembers}
 use Rattle.evacuation.specs.Rooms.{RoomSizes}
-use Rattle.object_graph.specs.Roots.{globals, registers}
+pub use Rattle.root_table.specs.Roots.{places_of}
 use Rattle.object_graph.specs.State.{State, IsSoundState, root_places, root_at}
 use Rattle.object_graph.specs.Since.{IsSinceState}
 
@@ -65,7 +65,7 @@ RemembersFields c = Remembers c.table.words_per_region (kept_of c) (card_words c
 -- the heap shows the graph, whose next name is the core's
 pub record ShowsGraph (g : Graph) (c : CoreState) : Type 0 where
   pub room : g.room ≡ c.config.regions * c.config.words
-  pub mutators : g.mutators ≡ c.config.mutators
+  pub places : g.places ≡ places_of c.config
   pub next : next_name g ≡ c.next
   pub shows : Shows g (heap_of c)
 
@@ -140,10 +140,6 @@ pub record IsRoomFor (config : Config) (room : RoomSizes) : Type 0 where
   pub regions : room.regions ≡ config.regions
   pub cards : room.cards ≡ config.regions * (config.words / card_words config)
 
--- the places of roots that sizes ask for
-abbrev pub places_of : Config → Places
-places_of c = record { globals = globals; mutators = c.mutators; registers = registers }
-
 -- What every core keeps. There are a graph and a snapshot on which it rests: so each root is the start of an object, and what a weak slot
 -- holds may be saved
 pub record IsCore (c : CoreState) : Type 0 where
@@ -154,7 +150,7 @@ pub record IsCore (c : CoreState) : Type 0 where
   pub room : IsRoomFor c.config c.room
   pub rows : c.config.regions ≤ c.row_room
   pub placed : c.places ≡ places_of c.config
-  pub places : length c.roots ≡ root_places c.config.mutators
+  pub places : length c.roots ≡ root_places (places_of c.config)
   pub names : c.next < 2 ^ 64
   pub footing : Footing
   pub rests : RestsOn footing c

@@ -26,7 +26,8 @@ ghost use Rattle.std.specs.Prelude.{◌≡◌, ℕ, ◌<◌, Option, Some, lengt
 ghost use Rattle.heap_model.specs.Graph.{Graph, Object, object_named, with_changed};
 ghost use Rattle.heap_model.specs.Heap.{Stored, IsRoot, IsHeld, IsShown};
 ghost use Rattle.heap_model.specs.Weak.{touched, KeepsUnreached};
-ghost use Rattle.object_graph.specs.State.{with_root, register_place};
+ghost use Rattle.object_graph.specs.State.{with_root, register_place, places_of};
+ghost use Rattle.object_graph.specs.Roots.{IsRegister};
 ghost use Rattle.regions.specs.Table.{pointers_at, weaks_at, fields_at, set_pointer, set_weak};
 ghost use Rattle.cards.specs.Cards.{is_dirty};
 ghost use Rattle.refinement.specs.Remembering.{field_word, IsNoted};
@@ -143,14 +144,15 @@ impl Core {
     /// A register takes what was read from a weak slot. While marking runs, that is saved, and its name is touched.
     pub(crate) fn touch(&mut self, mutator: u32, to: Register, value: &Ptr)
         requires known { mutator < self.old.config.mutators }
+        requires to { IsRegister (places_of self.old.config) to }
         requires word { IsWordOf (heap_of self.old) value.now }
-        ensures shows { (g : Graph) (v : Option ℕ) → ShowsGraph g self.old → IsShown (heap_of self.old) value.now v → ShowsGraph (with_root g (register_place mutator to.number) v) self.new }
+        ensures shows { (g : Graph) (v : Option ℕ) → ShowsGraph g self.old → IsShown (heap_of self.old) value.now v → ShowsGraph (with_root g (register_place g.places mutator to.number) v) self.new }
         ensures keeps { (s g : Graph) (v : Option ℕ) → ShowsGraph g self.old → KeepsUnreached s g → IsShown (heap_of self.old) value.now v → KeepsFrom s self.old → KeepsFrom (touched s v) self.new }
-        ensures core { self.new ≡ record (with_root_word self.old (register_place mutator to.number) value.now) { marker = self.new.marker } }
+        ensures core { self.new ≡ record (with_root_word self.old (register_place (places_of self.old.config) mutator to.number) value.now) { marker = self.new.marker } }
         ensures marker { Overwrites self.old.marker.running self.old.table mutator value.now self.old.marker self.new.marker }
         ensures leaves { LeavesRegions self.old self.new }
     {
-        self.roots.set_register(mutator, to.number as u32, *value);
+        self.roots.set_register(mutator, to.number, *value);
         if !self.marker.running {
             return;
         }

@@ -1,14 +1,16 @@
 //! The core: the heap's layers in one value, and its root places.
 
-ghost use Rattle.std.specs.Prelude.{◌≡◌, ℕ, ◌<◌, ◌≤◌, ◌+◌, ◌*◌, length, Option, Some, None, slice_index_or, IfOk, IfErr, OnOk};
+ghost use Rattle.std.specs.Prelude.{◌≡◌, ℕ, ◌<◌, ◌≤◌, ◌+◌, ◌-◌, ◌*◌, length, Option, Some, None, slice_index_or, IfOk, IfErr, OnOk};
 ghost use Rattle.heap_words.specs.Configs.{Suits, IsNewFault};
 ghost use Rattle.heap_model.specs.Graph.{Graph};
 ghost use Rattle.heap_model.specs.Heap.{IsShown, IsHeld};
-ghost use Rattle.object_graph.specs.State.{State, root_places, register_place, with_root, root_at, first_state};
+ghost use Rattle.object_graph.specs.State.{State, root_places, register_place, places_of, with_root, with_nil_roots, root_at, first_state};
+ghost use Rattle.heap_words.specs.Configs.{globals_of, registers_of};
+ghost use Rattle.object_graph.specs.Roots.{IsRegister, IsGlobal};
 ghost use Rattle.step_core.specs.Stands.{ShowsGraph, KeepsFrom, Stands, IsCore, IsWhole, heap_of, IsWordOf, IsRootWord, Leads, name_in, RemembersFields};
 ghost use Rattle.cards.specs.Cards.{ListsDirtyOnce};
 ghost use Rattle.step_core.specs.Fresh.{fresh_core};
-ghost use Rattle.step_core.specs.Mutators.{register_of, with_root_word};
+ghost use Rattle.step_core.specs.Mutators.{register_of, with_root_word, with_nil_words};
 ghost use Rattle.step_core.specs.Cycle.{LeavesRegions};
 
 use crate::layers::{Collecting, Mutating, Pausing, Remembering, new_collecting, new_mutating};
@@ -18,7 +20,7 @@ use evacuation::PauseRoom;
 use heap_words::addr::{Addr, Ptr};
 use heap_words::config::{Config, NewFault};
 use marker::Marker;
-use object_graph::{GlobalRoot, Register, register_place};
+use object_graph::{GlobalRoot, Register};
 use region_choice::LiveRow;
 use regions::RegionTable;
 use remembered_sets::RememberedSets;
@@ -165,7 +167,7 @@ impl Core {
 
     /// What a root place holds.
     pub(crate) fn root(&self, place: usize) -> Ptr
-        requires { place < root_places self.now.config.mutators }
+        requires { place < root_places (places_of self.now.config) }
         ensures value { result ≡ slice_index_or self.now.roots place None }
         ensures word { IsWordOf (heap_of self.now) result }
         ensures rooted { IsRootWord (heap_of self.now) result }
@@ -176,6 +178,7 @@ impl Core {
     }
 
     pub(crate) fn set_global(&mut self, global: GlobalRoot, value: Ptr)
+        requires global { IsGlobal (places_of self.old.config) global }
         requires word { IsWordOf (heap_of self.old) value }
         requires held { IsHeld (heap_of self.old) value }
         ensures shows { (g : Graph) (v : Option ℕ) → ShowsGraph g self.old → IsShown (heap_of self.old) value v → ShowsGraph (with_root g global.number v) self.new }
@@ -183,32 +186,46 @@ impl Core {
         ensures after { self.new ≡ with_root_word self.old global.number value }
         ensures leaves { LeavesRegions self.old self.new }
     {
-        self.roots.set_global(global.number as u32, value);
+        self.roots.set_global(global.number, value);
     }
 
     /// What a mutator's register holds.
     pub(crate) fn register(&self, mutator: u32, register: Register) -> Ptr
-        requires { mutator < self.now.config.mutators }
+        requires mutator { mutator < self.now.config.mutators }
+        requires register { IsRegister (places_of self.now.config) register }
         ensures value { result ≡ register_of self.now mutator register }
         ensures word { IsWordOf (heap_of self.now) result }
         ensures rooted { IsRootWord (heap_of self.now) result }
-        ensures leads { Leads self.now (register_place mutator register.number) result }
-        ensures shows { (g : Graph) → ShowsGraph g self.now → IsShown (heap_of self.now) result (root_at g (register_place mutator register.number)) }
+        ensures leads { Leads self.now (register_place (places_of self.now.config) mutator register.number) result }
+        ensures shows { (g : Graph) → ShowsGraph g self.now → IsShown (heap_of self.now) result (root_at g (register_place g.places mutator register.number)) }
     {
-        self.root(register_place(mutator, register))
+        let place = self.roots.places().register(mutator, register.number);
+        self.root(place)
     }
 
     pub(crate) fn set_register(&mut self, mutator: u32, register: Register, value: Ptr)
         requires mutator { mutator < self.old.config.mutators }
+        requires register { IsRegister (places_of self.old.config) register }
         requires word { IsWordOf (heap_of self.old) value }
         requires held { IsHeld (heap_of self.old) value }
-        ensures shows { (g : Graph) (v : Option ℕ) → ShowsGraph g self.old → IsShown (heap_of self.old) value v → ShowsGraph (with_root g (register_place mutator register.number) v) self.new }
+        ensures shows { (g : Graph) (v : Option ℕ) → ShowsGraph g self.old → IsShown (heap_of self.old) value v → ShowsGraph (with_root g (register_place g.places mutator register.number) v) self.new }
         ensures keeps { (s : Graph) → KeepsFrom s self.old → KeepsFrom s self.new }
-        ensures after { self.new ≡ with_root_word self.old (register_place mutator register.number) value }
+        ensures after { self.new ≡ with_root_word self.old (register_place (places_of self.old.config) mutator register.number) value }
         ensures leaves { LeavesRegions self.old self.new }
     {
-        self.roots
-            .set_register(mutator, register.number as u32, value);
+        self.roots.set_register(mutator, register.number, value);
+    }
+
+    /// A mutator's registers from one on are nil.
+    pub(crate) fn leave(&mut self, mutator: u32, from: Register)
+        requires mutator { mutator < self.old.config.mutators }
+        requires from { IsRegister (places_of self.old.config) from }
+        ensures shows { (g : Graph) → ShowsGraph g self.old → ShowsGraph (with_nil_roots g (register_place g.places mutator from.number) (g.places.registers - from.number)) self.new }
+        ensures keeps { (s : Graph) → KeepsFrom s self.old → KeepsFrom s self.new }
+        ensures after { self.new ≡ with_nil_words self.old (register_place (places_of self.old.config) mutator from.number) (registers_of self.old.config - from.number) }
+        ensures leaves { LeavesRegions self.old self.new }
+    {
+        self.roots.leave(mutator, from.number);
     }
 
     /// The name of the object that a word names.

@@ -19,7 +19,6 @@ use cards::CardTable;
 use evacuation::PauseRoom;
 use heap_words::config::Config;
 use marker::Marker;
-use object_graph::{GLOBALS, REGISTERS};
 use region_choice::LiveRow;
 use remembered_sets::RememberedSets;
 use root_table::{Places, Roots};
@@ -66,12 +65,12 @@ pub(crate) fn new_mutating(alloc: Global, config: &Config) -> Result<Mutating, A
     requires { Suits config.now }
     ensures closed { IfOk result (λ m. m.buffers ≡ closed config.now.buffer config.now.mutators) }
     ensures stand { IfOk result (λ m. (t : Table) → BuffersStand t m.buffers) }
-    ensures roots { IfOk result (λ m. m.roots ≡ record { places = places_of config.now; words = replicate (root_places config.now.mutators) None }) }
+    ensures roots { IfOk result (λ m. m.roots ≡ record { places = places_of config.now; words = replicate (root_places (places_of config.now)) None }) }
     ensures next { IfOk result (λ m. m.next ≡ config.now.first_name) }
     ensures names { IfOk result (λ m. m.next < 2 ^ 64) }
 {
     let buffers = AllocBuffers::new(alloc, config)?;
-    let places = Places::new(GLOBALS as u32, config.mutators, REGISTERS as u32);
+    let places = Places::of(config);
     let roots = Roots::new(alloc, places)?;
     let next = first_name(config);
     Ok(Mutating {

@@ -5,7 +5,8 @@ ghost use Rattle.heap_words.specs.Sizes.{size_of};
 ghost use Rattle.heap_model.specs.Graph.{Graph, next_name};
 ghost use Rattle.heap_model.specs.Heap.{IsShown};
 ghost use Rattle.heap_model.specs.Weak.{KeepsUnreached};
-ghost use Rattle.object_graph.specs.State.{State, ForSnapshot};
+ghost use Rattle.object_graph.specs.State.{State, ForSnapshot, places_of};
+ghost use Rattle.object_graph.specs.Roots.{IsRegister, IsGlobal, IsValue, IsOpAt};
 ghost use Rattle.object_graph.specs.Run.{snapshot_after};
 ghost use Rattle.object_graph.specs.Machine.{stored};
 ghost use Rattle.object_graph.specs.declared.step.Reply.TheVariants as replies;
@@ -62,7 +63,9 @@ impl Core {
     ghost use Rattle.object_graph.specs.declared.step.Step.TheVariants as steps;
 
     fn get(&mut self, mutator: u32, to: Register, object: Register, field: u32) -> Reply
-        requires { mutator < self.old.config.mutators }
+        requires mutator { mutator < self.old.config.mutators }
+        requires to { IsRegister (places_of self.old.config) to }
+        requires object { IsRegister (places_of self.old.config) object }
         ensures acts { (g : Graph) → ShowsGraph g self.old → Acts g mutator (actions.Get to object field) result self.new }
         ensures keeps { (s : Graph) → KeepsFrom s self.old → KeepsFrom s self.new }
         ensures after { ActsOn mutator (actions.Get to object field) result self.old self.new }
@@ -81,7 +84,8 @@ impl Core {
     }
 
     fn read(&self, mutator: u32, object: Register, field: u32) -> Reply
-        requires { mutator < self.now.config.mutators }
+        requires mutator { mutator < self.now.config.mutators }
+        requires object { IsRegister (places_of self.now.config) object }
         ensures acts { (g : Graph) → ShowsGraph g self.now → Acts g mutator (actions.Read object field) result self.now }
         ensures after { ActsOn mutator (actions.Read object field) result self.now self.now }
     {
@@ -96,7 +100,8 @@ impl Core {
 
     /// What is stored: nil, or what a register holds.
     fn stored(&self, mutator: u32, value: Option<Register>) -> Ptr
-        requires { mutator < self.now.config.mutators }
+        requires mutator { mutator < self.now.config.mutators }
+        requires value { IsValue (places_of self.now.config) value }
         ensures value { result ≡ value_of self.now mutator value }
         ensures word { IsWordOf (heap_of self.now) result }
         ensures rooted { IsRootWord (heap_of self.now) result }
@@ -109,7 +114,9 @@ impl Core {
     }
 
     fn put(&mut self, mutator: u32, object: Register, field: u32, value: Option<Register>) -> Reply
-        requires { mutator < self.old.config.mutators }
+        requires mutator { mutator < self.old.config.mutators }
+        requires object { IsRegister (places_of self.old.config) object }
+        requires value { IsValue (places_of self.old.config) value }
         ensures acts { (g : Graph) → ShowsGraph g self.old → Acts g mutator (actions.Put object field value) result self.new }
         ensures keeps { (s : Graph) → KeepsFrom s self.old → KeepsFrom s self.new }
         ensures after { ActsOn mutator (actions.Put object field value) result self.old self.new }
@@ -127,7 +134,8 @@ impl Core {
     }
 
     fn write(&mut self, mutator: u32, object: Register, field: u32, value: u64) -> Reply
-        requires { mutator < self.old.config.mutators }
+        requires mutator { mutator < self.old.config.mutators }
+        requires object { IsRegister (places_of self.old.config) object }
         ensures acts { (g : Graph) → ShowsGraph g self.old → Acts g mutator (actions.Write object field value) result self.new }
         ensures keeps { (s : Graph) → KeepsFrom s self.old → KeepsFrom s self.new }
         ensures after { ActsOn mutator (actions.Write object field value) result self.old self.new }
@@ -144,7 +152,9 @@ impl Core {
     }
 
     fn move_register(&mut self, mutator: u32, to: Register, from: Register) -> Reply
-        requires { mutator < self.old.config.mutators }
+        requires mutator { mutator < self.old.config.mutators }
+        requires to { IsRegister (places_of self.old.config) to }
+        requires from { IsRegister (places_of self.old.config) from }
         ensures acts { (g : Graph) → ShowsGraph g self.old → Acts g mutator (actions.Move to from) result self.new }
         ensures keeps { (s : Graph) → KeepsFrom s self.old → KeepsFrom s self.new }
         ensures after { ActsOn mutator (actions.Move to from) result self.old self.new }
@@ -156,7 +166,8 @@ impl Core {
     }
 
     fn drop_register(&mut self, mutator: u32, register: Register) -> Reply
-        requires { mutator < self.old.config.mutators }
+        requires mutator { mutator < self.old.config.mutators }
+        requires register { IsRegister (places_of self.old.config) register }
         ensures acts { (g : Graph) → ShowsGraph g self.old → Acts g mutator (actions.Drop register) result self.new }
         ensures keeps { (s : Graph) → KeepsFrom s self.old → KeepsFrom s self.new }
         ensures after { ActsOn mutator (actions.Drop register) result self.old self.new }
@@ -167,7 +178,9 @@ impl Core {
     }
 
     fn load(&mut self, mutator: u32, to: Register, from: GlobalRoot) -> Reply
-        requires { mutator < self.old.config.mutators }
+        requires mutator { mutator < self.old.config.mutators }
+        requires to { IsRegister (places_of self.old.config) to }
+        requires from { IsGlobal (places_of self.old.config) from }
         ensures acts { (g : Graph) → ShowsGraph g self.old → Acts g mutator (actions.Load to from) result self.new }
         ensures keeps { (s : Graph) → KeepsFrom s self.old → KeepsFrom s self.new }
         ensures after { ActsOn mutator (actions.Load to from) result self.old self.new }
@@ -180,7 +193,9 @@ impl Core {
     }
 
     fn save(&mut self, mutator: u32, to: GlobalRoot, from: Register) -> Reply
-        requires { mutator < self.old.config.mutators }
+        requires mutator { mutator < self.old.config.mutators }
+        requires to { IsGlobal (places_of self.old.config) to }
+        requires from { IsRegister (places_of self.old.config) from }
         ensures acts { (g : Graph) → ShowsGraph g self.old → Acts g mutator (actions.Save to from) result self.new }
         ensures keeps { (s : Graph) → KeepsFrom s self.old → KeepsFrom s self.new }
         ensures after { ActsOn mutator (actions.Save to from) result self.old self.new }
@@ -192,7 +207,8 @@ impl Core {
     }
 
     fn shape(&self, mutator: u32, object: Register) -> Reply
-        requires { mutator < self.now.config.mutators }
+        requires mutator { mutator < self.now.config.mutators }
+        requires object { IsRegister (places_of self.now.config) object }
         ensures acts { (g : Graph) → ShowsGraph g self.now → Acts g mutator (actions.Shape object) result self.now }
         ensures after { ActsOn mutator (actions.Shape object) result self.now self.now }
     {
@@ -206,7 +222,9 @@ impl Core {
     }
 
     fn get_weak(&mut self, mutator: u32, to: Register, object: Register, slot: u32) -> Reply
-        requires { mutator < self.old.config.mutators }
+        requires mutator { mutator < self.old.config.mutators }
+        requires to { IsRegister (places_of self.old.config) to }
+        requires object { IsRegister (places_of self.old.config) object }
         ensures acts { (g : Graph) → ShowsGraph g self.old → Acts g mutator (actions.GetWeak to object slot) result self.new }
         // What was replied is touched.
         ensures keeps { (s g : Graph) → ShowsGraph g self.old → KeepsUnreached s g → KeepsFrom s self.old
@@ -233,7 +251,9 @@ impl Core {
         slot: u32,
         value: Option<Register>,
     ) -> Reply
-        requires { mutator < self.old.config.mutators }
+        requires mutator { mutator < self.old.config.mutators }
+        requires object { IsRegister (places_of self.old.config) object }
+        requires value { IsValue (places_of self.old.config) value }
         ensures acts { (g : Graph) → ShowsGraph g self.old → Acts g mutator (actions.PutWeak object slot value) result self.new }
         ensures keeps { (s : Graph) → KeepsFrom s self.old → KeepsFrom s self.new }
         ensures after { ActsOn mutator (actions.PutWeak object slot value) result self.old self.new }
@@ -251,7 +271,8 @@ impl Core {
     }
 
     fn weaks(&self, mutator: u32, object: Register) -> Reply
-        requires { mutator < self.now.config.mutators }
+        requires mutator { mutator < self.now.config.mutators }
+        requires object { IsRegister (places_of self.now.config) object }
         ensures acts { (g : Graph) → ShowsGraph g self.now → Acts g mutator (actions.Weaks object) result self.now }
         ensures after { ActsOn mutator (actions.Weaks object) result self.now self.now }
     {
@@ -261,9 +282,22 @@ impl Core {
         Reply::Word(u64::from(self.table.weak_count(at)))
     }
 
+    fn scope(&mut self, mutator: u32, from: Register) -> Reply
+        requires mutator { mutator < self.old.config.mutators }
+        requires from { IsRegister (places_of self.old.config) from }
+        ensures acts { (g : Graph) → ShowsGraph g self.old → Acts g mutator (actions.Scope from) result self.new }
+        ensures keeps { (s : Graph) → KeepsFrom s self.old → KeepsFrom s self.new }
+        ensures after { ActsOn mutator (actions.Scope from) result self.old self.new }
+        ensures leaves { LeavesRegions self.old self.new }
+    {
+        self.leave(mutator, from);
+        Reply::Done
+    }
+
     /// Makes an object with so many weak slots, 0 of them for a plain one.
     fn new_object(&mut self, mutator: u32, to: Register, counts: Counts, weaks: u8) -> Reply
-        requires { mutator < self.old.config.mutators }
+        requires mutator { mutator < self.old.config.mutators }
+        requires to { IsRegister (places_of self.old.config) to }
         ensures acts { (g : Graph) → ShowsGraph g self.old → Acts g mutator (actions.NewWeak to counts weaks) result self.new
             ⊎ RepliesFull g mutator (actions.NewWeak to counts weaks) self.old result self.new }
         ensures keeps { (s : Graph) → KeepsFrom s self.old → KeepsFrom s self.new }
@@ -291,14 +325,14 @@ impl Core {
             values: Count::new(counts.values),
         };
         let at = make(&mut self.table, place, name, counts);
-        self.roots.set_register(mutator, to.number as u32, Some(at));
+        self.roots.set_register(mutator, to.number, Some(at));
         self.next += 1;
         Reply::Named(Some(name))
     }
 
     /// Does a mutator's step.
     pub(crate) fn act(&mut self, op: Op) -> Reply
-        requires { op.mutator < self.old.config.mutators }
+        requires { IsOpAt (places_of self.old.config) op }
         ensures follows { (s : State) → Stands s self.old → Follows s (steps.Mutator op) result self.new }
         ensures full { (s : State) → Stands s self.old → (result ≡ replies.Refused refusals.Full) ↔ IsFull s.graph op.mutator op.action self.old }
         ensures after { ActsOn op.mutator op.action result self.old self.new }
@@ -333,6 +367,7 @@ impl Core {
                 value,
             } => self.put_weak(mutator, object, slot, value),
             Action::Weaks { object } => self.weaks(mutator, object),
+            Action::Scope { from } => self.scope(mutator, from),
         }
     }
 }

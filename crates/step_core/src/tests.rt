@@ -1,6 +1,6 @@
 //! Runs of every step.
 
-ghost use Rattle.std.specs.Prelude.{◌≡◌, ◌<◌};
+ghost use Rattle.std.specs.Prelude.{◌≡◌};
 
 mod humongous;
 mod pauses;
@@ -23,8 +23,7 @@ const CONFIG: Config = Config {
     first_name: 7,
 };
 
-fn register(number: u8) -> Register
-    requires { number < 8 }
+fn register(number: u32) -> Register
     ensures { result.number ≡ number }
 {
     Register { number }
@@ -140,8 +139,7 @@ fn every_action(rt: HostRuntime) -> Result<(), Fail> {
     };
     assert_eq!(rt; core.config(), CONFIG);
     for (mutator, action, reply) in rows {
-        assert!(rt; mutator < core.config().mutators);
-        assert_eq!(rt; core.step(Step::Mutator(Op { mutator, action })), reply);
+        assert_eq!(rt; act(&mut core, mutator, action), Some(reply));
     }
     Ok(())
 }
@@ -151,10 +149,12 @@ fn collect(core: &mut Core, step: CollectorStep) -> Reply {
     core.step(Step::Collector(step))
 }
 
-/// A mutator's action, None for a mutator that isn't there.
+/// A mutator's action, None for one that the heap's sizes don't allow.
 fn act(core: &mut Core, mutator: u32, action: Action) -> Option<Reply> {
-    if mutator < core.config().mutators {
-        Some(core.step(Step::Mutator(Op { mutator, action })))
+    let step = Step::Mutator(Op { mutator, action });
+    let config = core.config();
+    if step.is_in(&config) {
+        Some(core.step(step))
     } else {
         None
     }
@@ -271,7 +271,7 @@ fn reclaims_regions(rt: HostRuntime) -> Result<(), Fail> {
 
 /// Five objects of registers 0 to 4: two in region 0, two in region 1, and the last one in region 2.
 fn five_objects(rt: &impl Abort, core: &mut Core) {
-    for number in 0..5u8 {
+    for number in 0..5u32 {
         let action = Action::New {
             to: register(number),
             counts: Counts {
@@ -316,9 +316,9 @@ fn fill_a_log(rt: &impl Abort, core: &mut Core) {
 }
 
 /// The last object is stored into a field of another.
-fn check_stored(rt: &impl Abort, core: &mut Core, number: u8, field: u32) {
+fn check_stored(rt: &impl Abort, core: &mut Core, number: u32, field: u32) {
     let put = Action::Put {
-        object: Register { number: number % 8 },
+        object: Register { number },
         field,
         value: Some(Register { number: 4 }),
     };

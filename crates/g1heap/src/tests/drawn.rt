@@ -25,13 +25,13 @@ fn below(draw: &mut Lcg64Xsh32, limit: u32) -> u32
 /// Few registers, so that objects are shared and lost.
 fn register(draw: &mut Lcg64Xsh32) -> Register {
     Register {
-        number: below(draw, 4) as u8,
+        number: below(draw, 4),
     }
 }
 
 fn global(draw: &mut Lcg64Xsh32) -> GlobalRoot {
     GlobalRoot {
-        number: below(draw, 2) as u8,
+        number: below(draw, 2),
     }
 }
 
@@ -68,7 +68,7 @@ fn field(draw: &mut Lcg64Xsh32) -> u32 {
 }
 
 fn action(draw: &mut Lcg64Xsh32) -> Action {
-    match below(draw, 16) {
+    match below(draw, 17) {
         0..=3 => Action::New {
             to: register(draw),
             counts: counts(draw),
@@ -102,6 +102,9 @@ fn action(draw: &mut Lcg64Xsh32) -> Action {
         14 => Action::Load {
             to: register(draw),
             from: global(draw),
+        },
+        15 => Action::Scope {
+            from: register(draw),
         },
         _ => Action::Save {
             to: global(draw),
@@ -166,7 +169,6 @@ fn collection(draw: &mut Lcg64Xsh32) -> CollectorStep {
 
 fn step(config: &Config, draw: &mut Lcg64Xsh32, weak: bool) -> Step
     requires { 0 < config.now.mutators }
-    ensures { IsStep config.now result }
 {
     if below(draw, 4) == 0 {
         return Step::Collector(collection(draw));
@@ -192,22 +194,33 @@ fn script(
 {
     let mut steps = Vec::new(alloc);
     for _ in 0..count {
-        steps.push(step(config, draw, weak))?;
+        let drawn = step(config, draw, weak);
+        // The first two formats have no scope: there the collector takes a step.
+        if drawn.is_in(config) {
+            steps.push(drawn)?;
+        } else {
+            steps.push(Step::Collector(collection(draw)))?;
+        }
     }
     Ok(steps)
 }
 
-/// Either format; in the second a card of 8 words, 16, or as many as a region.
+/// Each format; in the second a card of 8 words, 16, or as many as a region, in the third two globals and four registers at least.
 fn format(words: u32, draw: &mut Lcg64Xsh32) -> Format {
-    match below(draw, 6) {
+    match below(draw, 9) {
         0 => Format::V2 { card: 8 },
         1 => Format::V2 { card: 16 },
         2 => Format::V2 { card: words },
+        3..=5 => Format::V3 {
+            card: 8,
+            globals: 2 + below(draw, 3),
+            registers: 4 + below(draw, 3),
+        },
         _ => Format::V1,
     }
 }
 
-/// Three to twelve regions of 16 or 32 words, one or two mutators, and either format.
+/// Three to twelve regions of 16 or 32 words, one or two mutators, and each format.
 fn sizes(draw: &mut Lcg64Xsh32) -> Config
     ensures { 0 < result.mutators }
 {

@@ -6,12 +6,12 @@ use Rattle.std.specs.Str.{bytes_eq}
 use Rattle.std.proofs.lemmas.Slice.Eq.{bytes_eq-Decides}
 use Rattle.heap_words.specs.declared.config.Config.{Config}
 use Rattle.heap_words.specs.declared.config.Format.{Format}
-use Rattle.heap_words.specs.declared.config.Format.TheVariants.{V1, V2}
+use Rattle.heap_words.specs.declared.config.Format.TheVariants.{V1, V2, V3}
 use Rattle.object_graph.specs.declared.step.CollectorStep.{CollectorStep}
 use Rattle.object_graph.specs.declared.step.CollectorStep.TheVariants as collector
-use Rattle.script_text.specs.Reading.{◌>>=◌, number_of, small, large, collection_of, sizes_in, sizes_of}
+use Rattle.script_text.specs.Reading.{◌>>=◌, number_of, small, large, collection_of, sizes_in, third_of, sizes_of}
 use Rattle.script_text.specs.Fits.{CollectionFits, FormatFits, ConfigFits}
-use Rattle.script_text.specs.Spelling.{collection_words, verb_of, size_words, words_of_card, heap_words}
+use Rattle.script_text.specs.Spelling.{collection_words, verb_of, size_words, format_words, heap_words}
 use Rattle.script_text.proofs.Parts.Numbers.{number_of_is}
 use Rattle.script_text.proofs.BothWays.Actions.{option_bind, chosen}
 
@@ -121,11 +121,38 @@ five fm n r b m f c e =
     let q4 = number_of_is large f p4.0 p4.1 in
     sized fm n r b m f p0.0 p1.0 p2.0 p3.0 p4.0 c q0 q1 q2 q3 q4 p4.2
 
-lined : (verb : List ℕ) (words : List (List ℕ)) (fm : Format) (c : Config) → verb ≡ verb_of fm → AreSpelled words fm c → verb ∷ words ++ words_of_card fm ≡ heap_words c
+lined : (verb : List ℕ) (words : List (List ℕ)) (fm : Format) (c : Config) → verb ≡ verb_of fm → AreSpelled words fm c → verb ∷ words ++ format_words fm ≡ heap_words c
 lined verb words fm c v a = rw (v, a.spelled, a.format) refl
 
 fitted : (words : List (List ℕ)) (fm : Format) (c : Config) → AreSpelled words fm c → FormatFits fm → ConfigFits c
 fitted words fm c a fits = record { format = subst FormatFits (sym a.format) fits; regions = a.regions; words = a.size; buffer = a.buffer; mutators = a.mutators; first_name = a.first_name }
+
+-- the third format, and the words behind the five sizes
+record IsThird (words : List (List ℕ)) (f : Format) : Type 0 where
+  spelled : words ≡ format_words f
+  verb : verb_of f ≡ codes "heap3"
+  fits : FormatFits f
+
+format_some : (f g : Format) → Some f ≡ Some g → f ≡ g
+format_some f g e = cc
+
+words3 : (a b c x y z : List ℕ) → a ≡ x → b ≡ y → c ≡ z → a ∷ b ∷ c ∷ [] ≡ x ∷ y ∷ z ∷ []
+words3 a b c x y z p q r = cc
+
+third_is : (a b c : List ℕ) (f : Format) → third_of a b c ≡ Some f → IsThird (a ∷ b ∷ c ∷ []) f
+unfolding third_of
+third_is a b c f e =
+    let p0 = option_bind (number_of small a) (λ x. number_of small b >>= λ y. number_of small c >>= λ z. Some (V3 x y z)) f e in
+    let p1 = option_bind (number_of small b) (λ y. number_of small c >>= λ z. Some (V3 p0.0 y z)) f p0.2 in
+    let p2 = option_bind (number_of small c) (λ z. Some (V3 p0.0 p1.0 z)) f p1.2 in
+    let q0 = number_of_is small a p0.0 p0.1 in
+    let q1 = number_of_is small b p1.0 p1.1 in
+    let q2 = number_of_is small c p2.0 p2.1 in
+    subst (IsThird (a ∷ b ∷ c ∷ [])) (format_some (V3 p0.0 p1.0 p2.0) f p2.2) (record {
+      spelled = words3 a b c (decimal p0.0) (decimal p1.0) (decimal p2.0) q0.0 q1.0 q2.0;
+      verb = refl;
+      fits = (q0.1, q1.1, q2.1);
+    })
 
 no_config : (c : Config) → None ≡ Some c → ⊥
 no_config c e = cc
@@ -157,4 +184,18 @@ heap_is (verb ∷ n ∷ r ∷ b ∷ m ∷ f ∷ card ∷ []) c e =
           }
       | inr h ↦ absurd (no_config c h.1)
     ]
-heap_is (verb ∷ n ∷ r ∷ b ∷ m ∷ f ∷ g ∷ h ∷ ws) c e = absurd cc
+heap_is (verb ∷ n ∷ r ∷ b ∷ m ∷ f ∷ g ∷ h ∷ []) c e = absurd cc
+heap_is (verb ∷ n ∷ r ∷ b ∷ m ∷ f ∷ card ∷ globals ∷ registers ∷ []) c e =
+    elim (chosen (bytes_eq verb (codes "heap3")) (third_of card globals registers >>= λ k. sizes_in k n r b m f) None c e) [
+      | inl h ↦
+          let p = option_bind (third_of card globals registers) (λ k. sizes_in k n r b m f) c h.1 in
+          let q = third_is card globals registers p.0 p.1 in
+          let a = five p.0 n r b m f c p.2 in
+          record {
+            spelled = ap (λ (ws : List (List ℕ)). verb ∷ n ∷ r ∷ b ∷ m ∷ f ∷ ws) q.spelled
+                ∙ lined verb (n ∷ r ∷ b ∷ m ∷ f ∷ []) p.0 c ((bytes_eq-Decides verb (codes "heap3")).0 h.0 ∙ sym q.verb) a;
+            fits = fitted (n ∷ r ∷ b ∷ m ∷ f ∷ []) p.0 c a q.fits;
+          }
+      | inr h ↦ absurd (no_config c h.1)
+    ]
+heap_is (verb ∷ n ∷ r ∷ b ∷ m ∷ f ∷ g ∷ h ∷ i ∷ j ∷ ws) c e = absurd cc

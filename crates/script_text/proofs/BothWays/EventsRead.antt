@@ -20,7 +20,7 @@ use Rattle.object_graph.specs.declared.step.Reply.TheVariants as replies
 use Rattle.object_graph.specs.declared.step.Event.{Event}
 use Rattle.script_text.specs.declared.fault.Kind.{Kind}
 use Rattle.script_text.specs.declared.fault.Kind.TheVariants as kinds
-use Rattle.script_text.specs.Reading.{number_of, large, action_of, collection_of}
+use Rattle.script_text.specs.Reading.{number_of, large, allowed_of, collection_of}
 use Rattle.script_text.specs.Fits.{StepFits, CollectionFits, EventFits}
 use Rattle.script_text.specs.Spelling.{action_words, collection_words, spaced}
 use Rattle.script_text.specs.Records.{actor_word, body_words, reply_words}
@@ -28,7 +28,8 @@ use Rattle.script_text.specs.EventWords.{background_of, marker_step, refiner_ste
 use Rattle.script_text.specs.Lines.{◌>>=◌, or_fault, words_of, mutator_of}
 use Rattle.script_text.specs.Events.{foreground_of, actor_of, counted_of, event_of, event_line_of}
 use Rattle.script_text.proofs.Parts.Numbers.{number_of_is}
-use Rattle.script_text.proofs.BothWays.Actions.{option_bind, action_is}
+use Rattle.script_text.proofs.BothWays.Actions.{option_bind}
+use Rattle.script_text.proofs.BothWays.Allowed.{allowed_is}
 use Rattle.script_text.proofs.BothWays.Collections.{collection_is}
 use Rattle.script_text.proofs.BothWays.StepsRead.{result_bind, or_fault_is, either, mutator_is, joined, too_long}
 use Rattle.script_text.proofs.BothWays.ReplyLaws.{pick, reply_is}
@@ -138,12 +139,12 @@ refined c i ws collector.Cleanup s known spelled fits e = absurd (no_step s e)
 refined c i ws (collector.Refine n) s known spelled fits e = same_step c (actors.Refiner i) ws (steps.Collector (collector.Refine n)) s spelled known fits e
 refined c i ws (collector.Pause n) s known spelled fits e = absurd (no_step s e)
 
-taken_is : (c : Config) (a : Actor) (ws : List (List ℕ)) (s : Step) → KnownActor c a → taken_of a ws ≡ Some s → IsTaken c a ws s
+taken_is : (c : Config) (a : Actor) (ws : List (List ℕ)) (s : Step) → KnownActor c a → taken_of c a ws ≡ Some s → IsTaken c a ws s
 unfolding taken_of
 taken_is c (actors.Mutator m) ws s known e =
-    let read = option_bind (action_of ws) (λ x. Some (steps.Mutator (record { mutator = m; action = x }))) s e in
-    let is = action_is ws read.0 read.1 in
-    same_step c (actors.Mutator m) ws (steps.Mutator (record { mutator = m; action = read.0 })) s is.0 (refl, known) is.1 read.2
+    let read = option_bind (allowed_of c ws) (λ x. Some (steps.Mutator (record { mutator = m; action = x }))) s e in
+    let is = allowed_is c m ws read.0 known read.1 in
+    same_step c (actors.Mutator m) ws (steps.Mutator (record { mutator = m; action = read.0 })) s is.spelled (refl, is.owned) is.fits read.2
 taken_is c actors.Collector ws s known e =
     let read = option_bind (collection_of ws) (λ k. Some (steps.Collector k)) s e in
     let is = collection_is ws read.0 read.1 in
@@ -182,11 +183,11 @@ counted_is : (c : Config) (ws : List (List ℕ)) (e : Event) → counted_of c ws
 unfolding counted_of answer_of
 counted_is c [] e h = absurd cc
 counted_is c (word ∷ rest) e h =
-    let who = result_bind (actor_of c word) (λ a. or_fault (taken_of a (step_part rest)) kinds.BadStep >>= λ s. or_fault (answer_of rest) kinds.BadReply >>= λ r. Ok (made a s r)) e h in
-    let what = result_bind (or_fault (taken_of who.0 (step_part rest)) kinds.BadStep) (λ s. or_fault (answer_of rest) kinds.BadReply >>= λ r. Ok (made who.0 s r)) e who.2 in
+    let who = result_bind (actor_of c word) (λ a. or_fault (taken_of c a (step_part rest)) kinds.BadStep >>= λ s. or_fault (answer_of rest) kinds.BadReply >>= λ r. Ok (made a s r)) e h in
+    let what = result_bind (or_fault (taken_of c who.0 (step_part rest)) kinds.BadStep) (λ s. or_fault (answer_of rest) kinds.BadReply >>= λ r. Ok (made who.0 s r)) e who.2 in
     let why = result_bind (or_fault (answer_of rest) kinds.BadReply) (λ r. Ok (made who.0 what.0 r)) e what.2 in
     let actor = actor_is c word who.0 who.1 in
-    let step = taken_is c who.0 (step_part rest) what.0 actor.known (or_fault_is (taken_of who.0 (step_part rest)) kinds.BadStep what.0 what.1) in
+    let step = taken_is c who.0 (step_part rest) what.0 actor.known (or_fault_is (taken_of c who.0 (step_part rest)) kinds.BadStep what.0 what.1) in
     let behind = option_bind (reply_part rest) reply_of why.0 (or_fault_is (answer_of rest) kinds.BadReply why.0 why.1) in
     let reply = reply_is behind.0 why.0 behind.2 in
     let words = both_parts rest (step_part rest) behind.0 (body_words what.0) (reply_words why.0) (parted rest behind.0 behind.1) step.spelled reply.spelled in
@@ -240,6 +241,7 @@ some_action (actions.NewWeak to counts w) = (_, _, refl)
 some_action (actions.GetWeak to object i) = (_, _, refl)
 some_action (actions.PutWeak object i value) = (_, _, refl)
 some_action (actions.Weaks object) = (_, _, refl)
+some_action (actions.Scope from) = (_, _, refl)
 
 pub some_body : (s : Step) → (x : List ℕ) × (xs : List (List ℕ)) × (body_words s ≡ x ∷ xs)
 some_body (steps.Mutator o) = some_action o.action

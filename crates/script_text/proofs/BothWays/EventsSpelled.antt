@@ -29,9 +29,9 @@ use Rattle.script_text.specs.EventWords.{background_of, marker_step, refiner_ste
 use Rattle.script_text.specs.Lines.{words_of}
 use Rattle.script_text.specs.Events.{foreground_of, actor_of, counted_of, event_of, event_line_of}
 use Rattle.script_text.proofs.Parts.Numbers.{number_of_some, first_is_digit}
-use Rattle.script_text.proofs.BothWays.Actions.{action_again}
+use Rattle.script_text.proofs.BothWays.Allowed.{allowed_again}
 use Rattle.script_text.proofs.BothWays.Lengths.{two_long, three_long, five_long, small_long, action_long}
-use Rattle.script_text.proofs.Parts.Spelled.{IsWord, AreWords, literal, number_short, number_word, small_word, word1, word2, word3, words_again, no_feed}
+use Rattle.script_text.proofs.Parts.Spelled.{IsWord, AreWords, literal, number_short, number_word, small_word, lettered, word1, word2, word3, words_again, no_feed}
 use Rattle.script_text.proofs.BothWays.StepsSpelled.{action_is_words, collection_is_words, collection_again, not_gc, mutator_again}
 use Rattle.script_text.proofs.BothWays.ReplyLaws.{number_not, reply_read}
 use Rattle.script_text.proofs.Reading.Parting.{is_equals, answered, step_again, reply_again}
@@ -67,20 +67,22 @@ plain_value None = refl
 plain_value (Some r) = refl
 
 action_plain : (a : Action) → Fits a → ArePlain (action_words a)
-action_plain (actions.New to counts) fits = plain4 _ _ _ _ refl refl (plain_small counts.pointers fits.0) (plain_small counts.values fits.1)
-action_plain (actions.Get to object i) fits = plain4 _ _ _ _ refl refl refl (plain_small i fits)
-action_plain (actions.Put object i value) fits = plain4 _ _ _ _ refl refl (plain_small i fits) (plain_value value)
-action_plain (actions.Read object j) fits = plain3 _ _ _ refl refl (plain_small j fits)
-action_plain (actions.Write object j value) fits = plain4 _ _ _ _ refl refl (plain_small j fits.0) (plain_number value fits.1)
+action_plain (actions.New to counts) fits = plain4 _ _ _ _ refl refl (plain_small counts.pointers fits.1) (plain_small counts.values fits.2)
+action_plain (actions.Get to object i) fits = plain4 _ _ _ _ refl refl refl (plain_small i fits.2)
+action_plain (actions.Put object i value) fits = plain4 _ _ _ _ refl refl (plain_small i fits.1) (plain_value value)
+action_plain (actions.Read object j) fits = plain3 _ _ _ refl refl (plain_small j fits.1)
+action_plain (actions.Write object j value) fits = plain4 _ _ _ _ refl refl (plain_small j fits.1) (plain_number value fits.2)
 action_plain (actions.Move to from) fits = plain3 _ _ _ refl refl refl
 action_plain (actions.Drop register) fits = plain2 _ _ refl refl
 action_plain (actions.Load to from) fits = plain3 _ _ _ refl refl refl
 action_plain (actions.Save to from) fits = plain3 _ _ _ refl refl refl
 action_plain (actions.Shape object) fits = plain2 _ _ refl refl
-action_plain (actions.NewWeak to counts w) fits = plain5 _ _ _ _ _ refl refl (plain_small counts.pointers fits.0) (plain_small w (omega (arith, fits.1))) (plain_small counts.values fits.2)
-action_plain (actions.GetWeak to object i) fits = plain4 _ _ _ _ refl refl refl (plain_small i fits)
-action_plain (actions.PutWeak object i value) fits = plain4 _ _ _ _ refl refl (plain_small i fits) (plain_value value)
+action_plain (actions.NewWeak to counts w) fits =
+    plain5 _ _ _ _ _ refl refl (plain_small counts.pointers fits.1) (plain_small w (omega (arith, fits.2))) (plain_small counts.values fits.3)
+action_plain (actions.GetWeak to object i) fits = plain4 _ _ _ _ refl refl refl (plain_small i fits.2)
+action_plain (actions.PutWeak object i value) fits = plain4 _ _ _ _ refl refl (plain_small i fits.1) (plain_value value)
 action_plain (actions.Weaks object) fits = plain2 _ _ refl refl
+action_plain (actions.Scope from) fits = plain2 _ _ refl refl
 
 body_plain : (s : Step) → StepFits s → ArePlain (body_words s)
 body_plain (steps.Mutator o) fits = action_plain o.action fits
@@ -92,7 +94,7 @@ body_plain (steps.Collector (collector.Refine k)) fits = plain2 _ _ refl (plain_
 body_plain (steps.Collector (collector.Pause b)) fits = plain2 _ _ refl (plain_small b fits)
 
 -- how long the parts of a line are
-body_long : (s : Step) → StepFits s → length (spaced (body_words s)) ≤ 48
+body_long : (s : Step) → StepFits s → length (spaced (body_words s)) ≤ 49
 body_long (steps.Mutator o) fits = action_long o.action fits
 body_long (steps.Collector collector.Begin) fits = omega arith
 body_long (steps.Collector (collector.Mark k)) fits = omega (arith, two_long (codes "mark") (decimal k), small_long k fits)
@@ -123,13 +125,10 @@ reply_long (replies.Moved n w) fits = omega (arith, three_long (codes "moved") (
 reply_long (replies.Refused why) fits = leb-true (length (spaced (codes "refused" ∷ refusal_words why))) 32 (refused_long why)
 
 -- the words of the parts
-name_word : (n : ℕ) → n ≤ large → IsWord (35 ∷ decimal n)
-name_word n fits = let short = number_short n fits in record { clear = All-cons (λ b. 32 < b) 35 (decimal n) (omega arith) (number_word n fits).clear; short = omega arith }
-
 reply_is_words : (r : Reply) → ReplyFits r → AreWords (reply_words r)
 reply_is_words replies.Done fits = word1 _ (literal (codes "ok") refl refl)
 reply_is_words (replies.Named None) fits = word1 _ (literal (codes "nil") refl refl)
-reply_is_words (replies.Named (Some n)) fits = word1 _ (name_word n fits)
+reply_is_words (replies.Named (Some n)) fits = word1 _ (lettered 35 n (omega arith) fits)
 reply_is_words (replies.Word w) fits = word1 _ (number_word w fits)
 reply_is_words (replies.Shape p d) fits = word2 _ _ (small_word p fits.0) (small_word d fits.1)
 reply_is_words (replies.Marked n) fits = word2 _ _ (literal (codes "marked") refl refl) (small_word n fits)
@@ -163,11 +162,6 @@ no_background (b ∷ digits) m fits e =
     let no_refiner : eqb b 102 ≡ false = ne_eqb b 102 (λ same. omega arith) in
     rw (no_marker, no_refiner) refl
 
-lettered : (b i : ℕ) → 32 < b → i < 8 → IsWord (b ∷ decimal i)
-lettered b i above few =
-    let short : length (decimal i) ≤ 10 = small_long i (omega arith) in
-    record { clear = All-cons (λ d. 32 < d) b (decimal i) above (small_word i (omega arith)).clear; short = omega arith }
-
 is_actor : (c : Config) (a : Actor) → c.mutators ≤ small → KnownActor c a → IsActor c a
 unfolding actor_of foreground_of background_of
 is_actor c (actors.Mutator m) few known =
@@ -177,19 +171,22 @@ is_actor c (actors.Mutator m) few known =
 is_actor c actors.Collector few known = record { word = literal (codes "gc") refl refl; short = omega arith; again = refl }
 is_actor c (actors.Marker i) few known =
     let short : length (decimal i) ≤ 10 = small_long i (omega arith) in
-    record { word = lettered 109 i (omega arith) known; short = omega arith; again = rw (number_of_some 7 (decimal i) i (omega arith) refl (omega arith)) refl }
+    record { word = lettered 109 i (omega arith) (omega arith); short = omega arith; again = rw (number_of_some 7 (decimal i) i (omega arith) refl (omega arith)) refl }
 is_actor c (actors.Refiner i) few known =
     let short : length (decimal i) ≤ 10 = small_long i (omega arith) in
-    record { word = lettered 102 i (omega arith) known; short = omega arith; again = rw (number_of_some 7 (decimal i) i (omega arith) refl (omega arith)) refl }
+    record { word = lettered 102 i (omega arith) (omega arith); short = omega arith; again = rw (number_of_some 7 (decimal i) i (omega arith) refl (omega arith)) refl }
 
 -- a step of its actor, read from its words
 record IsOwn (c : Config) (a : Actor) (s : Step) : Type 0 where
   known : KnownActor c a
-  again : taken_of a (body_words s) ≡ Some s
+  again : taken_of c a (body_words s) ≡ Some s
 
 is_own : (c : Config) (a : Actor) (s : Step) → IsStepOf c a s → StepFits s → IsOwn c a s
 unfolding taken_of marker_step refiner_step
-is_own c (actors.Mutator m) (steps.Mutator o) h fits = record { known = h.1; again = rw (action_again o.action fits) (ap (λ (k : ℕ). Some (steps.Mutator (record { mutator = k; action = o.action }))) (sym h.0)) }
+is_own c (actors.Mutator m) (steps.Mutator o) h fits = record {
+  known = subst (λ (k : ℕ). k < c.mutators) h.0 h.1.at.mutator;
+  again = rw (allowed_again c o h.1 fits) (ap (λ (k : ℕ). Some (steps.Mutator (record { mutator = k; action = o.action }))) (sym h.0));
+}
 is_own c (actors.Mutator m) (steps.Collector k) h fits = absurd h
 is_own c actors.Collector (steps.Mutator o) h fits = absurd h
 is_own c actors.Collector (steps.Collector k) h fits = record { known = tt; again = rw (collection_again k fits) refl }
@@ -257,7 +254,7 @@ event_short n c e good =
     let all = five_long (decimal n) (actor_word e.actor) (spaced (body_words e.step)) (codes "=") (spaced (reply_words e.reply)) in
     let count : length (decimal n) ≤ 20 = number_short n good.counted in
     let who : length (actor_word e.actor) ≤ 11 = actor.short in
-    let body : length (spaced (body_words e.step)) ≤ 48 = body_long e.step good.fits.0 in
+    let body : length (spaced (body_words e.step)) ≤ 49 = body_long e.step good.fits.0 in
     let reply : length (spaced (reply_words e.reply)) ≤ 32 = reply_long e.reply good.fits.1 in
     omega arith
 

@@ -13,12 +13,12 @@ use Rattle.object_graph.specs.declared.step.Step.{Step}
 use Rattle.object_graph.specs.declared.step.Step.TheVariants as steps
 use Rattle.script_text.specs.declared.fault.Kind.{Kind}
 use Rattle.script_text.specs.declared.fault.Kind.TheVariants as kinds
-use Rattle.script_text.specs.Reading.{number_of, small, action_of, collection_of, sizes_of}
+use Rattle.script_text.specs.Reading.{number_of, small, allowed_of, collection_of, sizes_of}
 use Rattle.script_text.specs.Fits.{StepFits, ConfigFits}
 use Rattle.script_text.specs.Spelling.{action_words, collection_words, step_words, heap_words, spaced}
-use Rattle.script_text.specs.Lines.{◌>>=◌, or_fault, words_of, mutator_of, step_of, step_of, step_line_of, heap_line_of}
+use Rattle.script_text.specs.Lines.{◌>>=◌, or_fault, words_of, mutator_of, step_of, step_line_of, heap_line_of}
 use Rattle.script_text.proofs.Parts.Numbers.{number_of_is}
-use Rattle.script_text.proofs.BothWays.Actions.{action_is}
+use Rattle.script_text.proofs.BothWays.Allowed.{allowed_is}
 use Rattle.script_text.proofs.BothWays.Collections.{collection_is, heap_is}
 
 -- the steps of a reading that gave something
@@ -75,23 +75,23 @@ collector_read c actor rest s gc e =
 abbrev mutator_step : ℕ → Action → Step
 mutator_step m a = steps.Mutator (record { mutator = m; action = a })
 
-mutator_read : (c : Config) (actor : List ℕ) (rest : List (List ℕ)) (s : Step) → (mutator_of c actor >>= λ m. or_fault (action_of rest) kinds.BadStep >>= λ a. Ok (mutator_step m a)) ≡ Ok s → IsRead c (actor ∷ rest) s
+mutator_read : (c : Config) (actor : List ℕ) (rest : List (List ℕ)) (s : Step) → (mutator_of c actor >>= λ m. or_fault (allowed_of c rest) kinds.BadStep >>= λ a. Ok (mutator_step m a)) ≡ Ok s → IsRead c (actor ∷ rest) s
 mutator_read c actor rest s e =
-    let who = result_bind (mutator_of c actor) (λ m. or_fault (action_of rest) kinds.BadStep >>= λ a. Ok (mutator_step m a)) s e in
-    let what = result_bind (or_fault (action_of rest) kinds.BadStep) (λ a. Ok (mutator_step who.0 a)) s who.2 in
+    let who = result_bind (mutator_of c actor) (λ m. or_fault (allowed_of c rest) kinds.BadStep >>= λ a. Ok (mutator_step m a)) s e in
+    let what = result_bind (or_fault (allowed_of c rest) kinds.BadStep) (λ a. Ok (mutator_step who.0 a)) s who.2 in
     let mutator = mutator_is c actor who.0 who.1 in
-    let action = action_is rest what.0 (or_fault_is (action_of rest) kinds.BadStep what.0 what.1) in
+    let action = allowed_is c who.0 rest what.0 mutator.1 (or_fault_is (allowed_of c rest) kinds.BadStep what.0 what.1) in
     subst (IsRead c (actor ∷ rest)) (step_ok (mutator_step who.0 what.0) s what.2) (record {
-      spelled = join_words actor (decimal who.0) rest (action_words what.0) mutator.0 action.0;
-      owned = mutator.1;
-      fits = action.1;
+      spelled = join_words actor (decimal who.0) rest (action_words what.0) mutator.0 action.spelled;
+      owned = action.owned;
+      fits = action.fits;
     })
 
 step_is : (c : Config) (ws : List (List ℕ)) (s : Step) → step_of c ws ≡ Ok s → IsRead c ws s
 unfolding step_of
 step_is c [] s e = absurd cc
 step_is c (actor ∷ rest) s e =
-    elim (either (bytes_eq actor (codes "gc")) (or_fault (collection_of rest) kinds.BadStep >>= λ k. Ok (steps.Collector k)) (mutator_of c actor >>= λ m. or_fault (action_of rest) kinds.BadStep >>= λ a. Ok (mutator_step m a)) s e) [
+    elim (either (bytes_eq actor (codes "gc")) (or_fault (collection_of rest) kinds.BadStep >>= λ k. Ok (steps.Collector k)) (mutator_of c actor >>= λ m. or_fault (allowed_of c rest) kinds.BadStep >>= λ a. Ok (mutator_step m a)) s e) [
       | inl h ↦ collector_read c actor rest s h.0 h.1
       | inr h ↦ mutator_read c actor rest s h.1
     ]

@@ -9,7 +9,7 @@ use Rattle.std.specs.List.{All}
 use Rattle.std.proofs.lemmas.List.Elements.{All-nil, All-cons, All-append}
 use Rattle.heap_words.specs.declared.config.Config.{Config}
 use Rattle.heap_words.specs.declared.config.Format.{Format}
-use Rattle.heap_words.specs.declared.config.Format.TheVariants.{V1, V2}
+use Rattle.heap_words.specs.declared.config.Format.TheVariants.{V1, V2, V3}
 use Rattle.object_graph.specs.Actors.{IsStep}
 use Rattle.object_graph.specs.declared.step.Action.{Action}
 use Rattle.object_graph.specs.declared.step.Action.TheVariants as actions
@@ -18,30 +18,53 @@ use Rattle.object_graph.specs.declared.step.CollectorStep.TheVariants as collect
 use Rattle.object_graph.specs.declared.step.Step.{Step}
 use Rattle.object_graph.specs.declared.step.Step.TheVariants as steps
 use Rattle.script_text.specs.declared.fault.Kind.TheVariants as kinds
-use Rattle.script_text.specs.Reading.{small, large, collection_of, sizes_in, sizes_of}
+use Rattle.script_text.specs.Reading.{small, large, collection_of, sizes_in, third_of, sizes_of}
 use Rattle.script_text.specs.Fits.{Fits, CollectionFits, StepFits, FormatFits, ConfigFits}
-use Rattle.script_text.specs.Spelling.{action_words, collection_words, step_words, verb_of, size_words, words_of_card, heap_words, spaced}
+use Rattle.script_text.specs.Spelling.{action_words, collection_words, step_words, verb_of, size_words, format_words, heap_words, spaced}
 use Rattle.script_text.specs.Lines.{or_fault, words_of, mutator_of, step_of, step_line_of, heap_line_of}
 use Rattle.script_text.proofs.Parts.Numbers.{number_of_some, first_is_digit}
-use Rattle.script_text.proofs.BothWays.Actions.{action_again}
-use Rattle.script_text.proofs.BothWays.Lengths.{spaced_next, spaced_behind, small_long, action_long}
+use Rattle.script_text.proofs.BothWays.Allowed.{allowed_again}
+use Rattle.script_text.proofs.BothWays.Lengths.{spaced_next, spaced_behind, four_long, small_long, action_long}
 use Rattle.script_text.proofs.Parts.Spelled.{IsWord, AreWords, literal, number_word, small_word, register_is_word, global_is_word, value_is_word, word1, word2, word3, word4, word5, words_again, spaced_short, no_feed}
 
 pub action_is_words : (a : Action) → Fits a → AreWords (action_words a)
-action_is_words (actions.New to counts) fits = word4 _ _ _ _ (literal (codes "new") refl refl) (register_is_word to) (small_word counts.pointers fits.0) (small_word counts.values fits.1)
-action_is_words (actions.Get to object i) fits = word4 _ _ _ _ (literal (codes "get") refl refl) (register_is_word to) (register_is_word object) (small_word i fits)
-action_is_words (actions.Put object i value) fits = word4 _ _ _ _ (literal (codes "put") refl refl) (register_is_word object) (small_word i fits) (value_is_word value)
-action_is_words (actions.Read object j) fits = word3 _ _ _ (literal (codes "read") refl refl) (register_is_word object) (small_word j fits)
-action_is_words (actions.Write object j value) fits = word4 _ _ _ _ (literal (codes "write") refl refl) (register_is_word object) (small_word j fits.0) (number_word value fits.1)
-action_is_words (actions.Move to from) fits = word3 _ _ _ (literal (codes "move") refl refl) (register_is_word to) (register_is_word from)
-action_is_words (actions.Drop register) fits = word2 _ _ (literal (codes "drop") refl refl) (register_is_word register)
-action_is_words (actions.Load to from) fits = word3 _ _ _ (literal (codes "load") refl refl) (register_is_word to) (global_is_word from)
-action_is_words (actions.Save to from) fits = word3 _ _ _ (literal (codes "save") refl refl) (global_is_word to) (register_is_word from)
-action_is_words (actions.Shape object) fits = word2 _ _ (literal (codes "shape") refl refl) (register_is_word object)
-action_is_words (actions.NewWeak to counts w) fits = word5 _ _ _ _ _ (literal (codes "newweak") refl refl) (register_is_word to) (small_word counts.pointers fits.0) (small_word w (omega (arith, fits.1))) (small_word counts.values fits.2)
-action_is_words (actions.GetWeak to object i) fits = word4 _ _ _ _ (literal (codes "getweak") refl refl) (register_is_word to) (register_is_word object) (small_word i fits)
-action_is_words (actions.PutWeak object i value) fits = word4 _ _ _ _ (literal (codes "putweak") refl refl) (register_is_word object) (small_word i fits) (value_is_word value)
-action_is_words (actions.Weaks object) fits = word2 _ _ (literal (codes "weaks") refl refl) (register_is_word object)
+action_is_words (actions.New to counts) fits =
+    word4 _ _ _ _ (literal (codes "new") refl refl) (register_is_word to fits.0)
+    (small_word counts.pointers fits.1) (small_word counts.values fits.2)
+action_is_words (actions.Get to object i) fits =
+    word4 _ _ _ _ (literal (codes "get") refl refl) (register_is_word to fits.0)
+    (register_is_word object fits.1) (small_word i fits.2)
+action_is_words (actions.Put object i value) fits =
+    word4 _ _ _ _ (literal (codes "put") refl refl) (register_is_word object fits.0)
+    (small_word i fits.1) (value_is_word value fits.2)
+action_is_words (actions.Read object j) fits =
+    word3 _ _ _ (literal (codes "read") refl refl) (register_is_word object fits.0)
+    (small_word j fits.1)
+action_is_words (actions.Write object j value) fits =
+    word4 _ _ _ _ (literal (codes "write") refl refl) (register_is_word object fits.0)
+    (small_word j fits.1) (number_word value fits.2)
+action_is_words (actions.Move to from) fits =
+    word3 _ _ _ (literal (codes "move") refl refl) (register_is_word to fits.0)
+    (register_is_word from fits.1)
+action_is_words (actions.Drop register) fits = word2 _ _ (literal (codes "drop") refl refl) (register_is_word register fits)
+action_is_words (actions.Load to from) fits =
+    word3 _ _ _ (literal (codes "load") refl refl) (register_is_word to fits.0)
+    (global_is_word from fits.1)
+action_is_words (actions.Save to from) fits =
+    word3 _ _ _ (literal (codes "save") refl refl) (global_is_word to fits.0)
+    (register_is_word from fits.1)
+action_is_words (actions.Shape object) fits = word2 _ _ (literal (codes "shape") refl refl) (register_is_word object fits)
+action_is_words (actions.NewWeak to counts w) fits =
+    word5 _ _ _ _ _ (literal (codes "newweak") refl refl) (register_is_word to fits.0)
+    (small_word counts.pointers fits.1) (small_word w (omega (arith, fits.2))) (small_word counts.values fits.3)
+action_is_words (actions.GetWeak to object i) fits =
+    word4 _ _ _ _ (literal (codes "getweak") refl refl) (register_is_word to fits.0)
+    (register_is_word object fits.1) (small_word i fits.2)
+action_is_words (actions.PutWeak object i value) fits =
+    word4 _ _ _ _ (literal (codes "putweak") refl refl) (register_is_word object fits.0)
+    (small_word i fits.1) (value_is_word value fits.2)
+action_is_words (actions.Weaks object) fits = word2 _ _ (literal (codes "weaks") refl refl) (register_is_word object fits)
+action_is_words (actions.Scope from) fits = word2 _ _ (literal (codes "scope") refl refl) (register_is_word from fits)
 
 pub collection_is_words : (k : CollectorStep) → CollectionFits k → AreWords (collection_words k)
 collection_is_words collector.Begin fits = word1 _ (literal (codes "begin") refl refl)
@@ -86,15 +109,20 @@ mutator_again c m known fits = rw (number_of_some small (decimal m) m (omega ari
 
 step_again : (c : Config) (s : Step) → c.mutators ≤ small → IsStep c s → StepFits s → step_of c (step_words s) ≡ Ok s
 unfolding step_of
-step_again c (steps.Mutator o) few known fits = rw (not_gc o.mutator (omega arith), mutator_again c o.mutator known few, action_again o.action fits) refl
+step_again c (steps.Mutator o) few known fits =
+    let who : o.mutator < c.mutators = known.at.mutator in
+    rw (not_gc o.mutator (omega arith), mutator_again c o.mutator who few, allowed_again c o known fits) refl
 step_again c (steps.Collector k) few known fits = rw (collection_again k fits) refl
 
 step_is_words : (c : Config) (s : Step) → c.mutators ≤ small → IsStep c s → StepFits s → AreWords (step_words s)
-step_is_words c (steps.Mutator o) few known fits = All-cons IsWord (decimal o.mutator) (action_words o.action) (small_word o.mutator (omega arith)) (action_is_words o.action fits)
+step_is_words c (steps.Mutator o) few known fits =
+    let who : o.mutator < c.mutators = known.at.mutator in
+    All-cons IsWord (decimal o.mutator) (action_words o.action) (small_word o.mutator (omega arith)) (action_is_words o.action fits)
 step_is_words c (steps.Collector k) few known fits = All-cons IsWord (codes "gc") (collection_words k) (literal (codes "gc") refl refl) (collection_is_words k fits)
 
 step_short : (c : Config) (s : Step) → c.mutators ≤ small → IsStep c s → StepFits s → length (spaced (step_words s)) ≤ 120
 step_short c (steps.Mutator o) few known fits =
+    let who : o.mutator < c.mutators = known.at.mutator in
     let first : length (decimal o.mutator) ≤ 21 = (small_word o.mutator (omega arith)).short in
     let all = spaced_behind (decimal o.mutator) (action_words o.action) in
     let rest = action_long o.action fits in
@@ -122,25 +150,29 @@ step_no_feed c (steps.Collector k) few known fits = no_feed (codes "gc") (collec
 sizes_are_words : (c : Config) → ConfigFits c → AreWords (size_words c)
 sizes_are_words c fits = All-cons IsWord (decimal c.regions) (decimal c.words ∷ decimal c.buffer ∷ decimal c.mutators ∷ decimal c.first_name ∷ []) (small_word c.regions fits.regions) (word4 _ _ _ _ (small_word c.words fits.words) (small_word c.buffer fits.buffer) (small_word c.mutators fits.mutators) (number_word c.first_name fits.first_name))
 
-card_is_words : (f : Format) → FormatFits f → AreWords (words_of_card f)
-card_is_words V1 fits = All-nil IsWord
-card_is_words (V2 card) fits = All-cons IsWord (decimal card) [] (small_word card fits) (All-nil IsWord)
+format_is_words : (f : Format) → FormatFits f → AreWords (format_words f)
+format_is_words V1 fits = All-nil IsWord
+format_is_words (V2 card) fits = word1 _ (small_word card fits)
+format_is_words (V3 card globals registers) fits =
+    word3 _ _ _ (small_word card fits.0) (small_word globals fits.1) (small_word registers fits.2)
 
 -- what stands behind the verb
 behind_verb : Config → List (List ℕ)
-behind_verb c = size_words c ++ words_of_card c.format
+behind_verb c = size_words c ++ format_words c.format
 
 rest_is_words : (c : Config) → ConfigFits c → AreWords (behind_verb c)
 unfolding behind_verb
-rest_is_words c fits = All-append IsWord (size_words c) (words_of_card c.format) (sizes_are_words c fits) (card_is_words c.format fits.format)
+rest_is_words c fits = All-append IsWord (size_words c) (format_words c.format) (sizes_are_words c fits) (format_is_words c.format fits.format)
 
 verb_is_word : (f : Format) → IsWord (verb_of f)
 verb_is_word V1 = literal (codes "heap") refl refl
 verb_is_word (V2 card) = literal (codes "heap2") refl refl
+verb_is_word (V3 card globals registers) = literal (codes "heap3") refl refl
 
 verb_short : (f : Format) → length (verb_of f) ≤ 5
 verb_short V1 = omega arith
 verb_short (V2 card) = omega arith
+verb_short (V3 card globals registers) = omega arith
 
 heap_is_words : (c : Config) → ConfigFits c → AreWords (heap_words c)
 unfolding behind_verb
@@ -150,9 +182,14 @@ pub heap_no_feed : (c : Config) → ConfigFits c → All (λ b. eqb b 10 ≡ fal
 unfolding behind_verb
 heap_no_feed c fits = no_feed (verb_of c.format) (behind_verb c) (heap_is_words c fits)
 
-ending_short : (f : Format) (name : List ℕ) → FormatFits f → length (spaced (name ∷ words_of_card f)) ≤ length name + 11
+ending_short : (f : Format) (name : List ℕ) → FormatFits f → length (spaced (name ∷ format_words f)) ≤ length name + 33
 ending_short V1 name fits = omega arith
 ending_short (V2 card) name fits = let ten = small_long card fits in omega (arith, spaced_next name (decimal card) [])
+ending_short (V3 card globals registers) name fits =
+    let first = small_long card fits.0 in
+    let second = small_long globals fits.1 in
+    let third = small_long registers fits.2 in
+    omega (arith, four_long name (decimal card) (decimal globals) (decimal registers))
 
 heap_short : (c : Config) → ConfigFits c → length (spaced (heap_words c)) ≤ 120
 unfolding behind_verb
@@ -166,11 +203,11 @@ heap_short c fits =
     let ending = ending_short c.format (decimal c.first_name) fits.format in
     omega (
       arith,
-      spaced_next (verb_of c.format) (decimal c.regions) (decimal c.words ∷ decimal c.buffer ∷ decimal c.mutators ∷ decimal c.first_name ∷ words_of_card c.format),
-      spaced_next (decimal c.regions) (decimal c.words) (decimal c.buffer ∷ decimal c.mutators ∷ decimal c.first_name ∷ words_of_card c.format),
-      spaced_next (decimal c.words) (decimal c.buffer) (decimal c.mutators ∷ decimal c.first_name ∷ words_of_card c.format),
-      spaced_next (decimal c.buffer) (decimal c.mutators) (decimal c.first_name ∷ words_of_card c.format),
-      spaced_next (decimal c.mutators) (decimal c.first_name) (words_of_card c.format),
+      spaced_next (verb_of c.format) (decimal c.regions) (decimal c.words ∷ decimal c.buffer ∷ decimal c.mutators ∷ decimal c.first_name ∷ format_words c.format),
+      spaced_next (decimal c.regions) (decimal c.words) (decimal c.buffer ∷ decimal c.mutators ∷ decimal c.first_name ∷ format_words c.format),
+      spaced_next (decimal c.words) (decimal c.buffer) (decimal c.mutators ∷ decimal c.first_name ∷ format_words c.format),
+      spaced_next (decimal c.buffer) (decimal c.mutators) (decimal c.first_name ∷ format_words c.format),
+      spaced_next (decimal c.mutators) (decimal c.first_name) (format_words c.format),
     )
 
 sizes_again : (c : Config) → ConfigFits c → sizes_in c.format (decimal c.regions) (decimal c.words) (decimal c.buffer) (decimal c.mutators) (decimal c.first_name) ≡ Some c
@@ -183,12 +220,20 @@ sizes_again c fits =
     let n = number_of_some large (decimal c.first_name) c.first_name (let f = fits.first_name in omega arith) refl fits.first_name in
     rw (r, w, b, m, n) refl
 
-lines_again : (f : Format) (c : Config) (n r b m g : List ℕ) → FormatFits f → sizes_in f n r b m g ≡ Some c → sizes_of (verb_of f ∷ n ∷ r ∷ b ∷ m ∷ g ∷ words_of_card f) ≡ Some c
-unfolding sizes_of
+lines_again : (f : Format) (c : Config) (n r b m g : List ℕ) → FormatFits f → sizes_in f n r b m g ≡ Some c → sizes_of (verb_of f ∷ n ∷ r ∷ b ∷ m ∷ g ∷ format_words f) ≡ Some c
+unfolding sizes_of third_of
 lines_again V1 c n r b m g fits again = again
 lines_again (V2 card) c n r b m g fits again =
     let k = number_of_some small (decimal card) card (omega arith) refl fits in
     rw k again
+lines_again (V3 card globals registers) c n r b m g fits again =
+    let few = fits.0 in
+    let fewer = fits.1 in
+    let fewest = fits.2 in
+    let k = number_of_some small (decimal card) card (omega arith) refl few in
+    let i = number_of_some small (decimal globals) globals (omega arith) refl fewer in
+    let j = number_of_some small (decimal registers) registers (omega arith) refl fewest in
+    rw (k, i, j) again
 
 heap_again : (c : Config) → ConfigFits c → sizes_of (heap_words c) ≡ Some c
 heap_again c fits = lines_again c.format c _ _ _ _ _ fits.format (sizes_again c fits)

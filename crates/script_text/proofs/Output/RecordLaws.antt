@@ -19,11 +19,13 @@ event_lines-append n (x ∷ es) more =
     ∙ ap (λ (k : ℕ). (event_line n x ++ event_lines (n + 1) es) ++ event_lines k more) same
 
 -- the next event's line
-pub one_more : (r : EventList) (seen : List Event) (i : ℕ) (e : Event) → seen ≡ r.events → i < length seen → e ≡ get_or seen i e → text_so_far r (i + 1) ≡ text_so_far r i ++ event_line (i + 1) e
-one_more r seen i e same lt is =
+pub one_more : (r : EventList) (seen : List Event) (i : ℕ) (none : Event) → seen ≡ r.events → i < length seen
+    → text_so_far r (i + 1) ≡ text_so_far r i ++ event_line (i + 1) (get_or seen i none)
+one_more r seen i none same lt =
+    let e = get_or seen i none in
     let below : i < length r.events = rw (← same) lt in
-    let there : e ≡ get_or r.events i e = rw (← same) is in
-    let more : take (i + 1) r.events ≡ take i r.events ++ e ∷ [] = take_more r.events i e below ∙ ap (λ (x : Event). take i r.events ++ x ∷ []) (sym there) in
+    let more : take (i + 1) r.events ≡ take i r.events ++ e ∷ [] =
+    take_more r.events i none below ∙ ap (λ (es : List Event). take i r.events ++ get_or es i none ∷ []) (sym same) in
     let count : 1 + length (take i r.events) ≡ i + 1 = omega (arith, length-take-le i r.events) in
     let last : event_lines (1 + length (take i r.events)) (e ∷ []) ≡ event_line (i + 1) e = ap (λ (k : ℕ). event_line k e ++ []) count ∙ append-nil (event_line (i + 1) e) in
     let lines : event_lines 1 (take (i + 1) r.events) ≡ event_lines 1 (take i r.events) ++ event_line (i + 1) e = ap (event_lines 1) more ∙ event_lines-append 1 (take i r.events) (e ∷ []) ∙ ap (λ (t : List ℕ). event_lines 1 (take i r.events) ++ t) last in

@@ -1,7 +1,7 @@
 -- Numbers and their words.
-use Rattle.std.proofs.Common.{◌≡◌, ℕ, zero, suc, ◌+◌, ◌-◌, ◌*◌, ◌^◌, ◌<◌, ◌≤◌, Bool, true, false, cond, eqb, List, [], ◌∷◌, length, get_or, take, drop, Option, Some, None, refl, sym, ap, ◌∙◌, arith, inl, inr}
+use Rattle.std.proofs.Common.{◌≡◌, ℕ, zero, suc, ◌+◌, ◌-◌, ◌*◌, ◌^◌, ◌<◌, ◌≤◌, Bool, true, false, cond, eqb, List, [], ◌∷◌, length, get_or, drop, Option, Some, None, refl, sym, ap, ◌∙◌, arith}
 use Rattle.std.specs.Prelude.{◌&&◌, nat_le, IfSome, IfNone}
-use Rattle.std.proofs.lemmas.Bool.{eqb-true, cases_lt, le-leb, leb-true}
+use Rattle.std.proofs.lemmas.Bool.{eqb-true, le-leb, leb-true}
 use Rattle.std.specs.Fmt.{decimal}
 use Rattle.std.specs.Str.{bytes_eq}
 use Rattle.std.specs.Str.Parse.{AllDigits, digits_value, digits_value_after}
@@ -9,14 +9,13 @@ use Rattle.std.proofs.lemmas.Fmt.{decimal_is_IsNumeral, decimal_digit, first_dec
 use Rattle.std.proofs.lemmas.Str.{digit_value_digit}
 use Rattle.std.specs.Char.{digit_value}
 use Rattle.std.proofs.Math.Seq.{drop-cons}
-use Rattle.std.proofs.lemmas.List.{drop_all, take_all}
+use Rattle.std.proofs.lemmas.List.{drop_all}
 use Rattle.std.proofs.lemmas.Str.Parse.{digit_at, IsNumeralModel, numerals_by_value, tells_digits}
 use Rattle.std.proofs.lemmas.Slice.Eq.{bytes_eq-Decides}
-use Rattle.std.proofs.Math.Bridge.{le_prop}
 use Rattle.object_graph.specs.declared.step.Register.{Register}
 use Rattle.object_graph.specs.declared.step.GlobalRoot.{GlobalRoot}
 use Rattle.script_text.specs.Spelling.{register_word, global_word}
-use Rattle.script_text.specs.Reading.{◌>>=◌, number_of, register_of, register_numbered, global_of, global_numbered}
+use Rattle.script_text.specs.Reading.{◌>>=◌, number_of, small, number_behind, register_of, global_of}
 
 pub no_empty : (word : List ℕ) (n : ℕ) → n < 2 ^ 64 → length word ≡ 0 → word ≡ decimal n → ⊥
 no_empty word n small none e = let some : 0 < length (decimal n) = decimal_nonempty n small in omega (arith, ap length e)
@@ -105,121 +104,63 @@ pub number_of_fits : (limit : ℕ) (word : List ℕ) (r : Option ℕ) → IfSome
 number_of_fits limit word (Some n) some = some.1
 number_of_fits limit word None some = tt
 
+-- a word of one byte is a number where that is a digit
+pub one_byte : (word : List ℕ) → length word ≡ 1 → word ≡ get_or word 0 0 ∷ []
+one_byte [] one = absurd (omega (arith, one))
+one_byte (b ∷ []) one = refl
+one_byte (b ∷ d ∷ word) one = absurd (omega (arith, one))
+
+pub digit_read : (b : ℕ) → 48 ≤ b → b ≤ 57 → Some (b - 48) ≡ number_of small (b ∷ [])
+digit_read b low high =
+    let back : 48 + (b - 48) ≡ b = omega arith in
+    let word : b ∷ [] ≡ decimal (b - 48) = rw (decimal_digit (b - 48) (omega arith), back) refl in
+    sym (number_of_some small (b ∷ []) (b - 48) (omega arith) word (omega arith))
+
+pub no_digit : (b : ℕ) → (48 ≤ b → b ≤ 57 → ⊥) → None ≡ number_of small (b ∷ [])
+no_digit b other =
+    sym (none_by (number_of small (b ∷ [])) (λ n e.
+    let is = number_of_is small (b ∷ []) n e in
+    let digit = first_is_digit (b ∷ []) n (omega (arith, is.1)) is.0 in
+    other digit.0 digit.1))
+
+-- a number behind a letter
+lettered : (b letter : ℕ) (digits rest : List ℕ) → b ≡ letter → digits ≡ rest → b ∷ digits ≡ letter ∷ rest
+lettered b letter digits rest e f = cc
+
+behind_by : (t : Bool) (b letter n : ℕ) (digits : List ℕ) → eqb b letter ≡ t → cond t (number_of small digits) None ≡ Some n
+    → (b ∷ digits ≡ letter ∷ decimal n) × (n ≤ small)
+behind_by true b letter n digits is e =
+    let read = number_of_is small digits n e in
+    (lettered b letter digits (decimal n) (eqb-true b letter is) read.0, read.1)
+behind_by false b letter n digits is e = absurd cc
+
+behind_is : (letter : ℕ) (word : List ℕ) (n : ℕ) → number_behind letter word ≡ Some n → (word ≡ letter ∷ decimal n) × (n ≤ small)
+unfolding number_behind
+behind_is letter [] n e = absurd cc
+behind_is letter (b ∷ digits) n e = behind_by (eqb b letter) b letter n digits refl e
+
 -- registers
-register_numbered_is : (r : Register) → register_numbered r.number ≡ Some r
-register_numbered_is r =
-    elim (cases_lt r.number 8) as (λ s. elim s [ inl lt ↦ Some (record { number = r.number; in_range = lt }) | inr le ↦ None ] ≡ Some r) [
-      | inl lt ↦ ap (λ (h : r.number < 8). Some (record { number = r.number; in_range = h })) (le_prop lt r.in_range)
-      | inr le ↦ absurd (let lt : r.number < 8 = r.in_range in omega arith)
-    ]
+register_read : (o : Option ℕ) (r : Register) → (o >>= λ n. Some (record { number = n })) ≡ Some r → o ≡ Some r.number
+register_read None r e = absurd cc
+register_read (Some n) r e = let same : record { number = n } ≡ r = cc in ap (λ (x : Register). Some x.number) same
 
-pub register_word_is : (r : Register) → register_word r ≡ 114 ∷ (48 + r.number) ∷ []
-register_word_is r = let lt : r.number < 8 = r.in_range in rw (decimal_digit r.number (omega arith)) refl
-
-pub register_of_some : (word : List ℕ) (r : Register) → word ≡ register_word r → register_of word ≡ Some r
+pub register_of_is : (word : List ℕ) (r : Register) → register_of word ≡ Some r → (word ≡ register_word r) × (r.number ≤ small)
 unfolding register_of
-register_of_some word r e =
-    let same : word ≡ 114 ∷ (48 + r.number) ∷ [] = e ∙ register_word_is r in
-    let high : nat_le 48 (48 + r.number) ≡ true = le-leb 48 (48 + r.number) (omega arith) in
-    let back : 48 + r.number - 48 ≡ r.number = omega arith in
-    rw (same, high, back) (register_numbered_is r)
+register_of_is word r e = behind_is 114 word r.number (register_read (number_behind 114 word) r e)
 
-pub register_bytes : (word : List ℕ) (r : Register) → word ≡ register_word r → (length word ≡ 2) × (get_or word 0 0 ≡ 114) × (get_or word 1 0 ≡ 48 + r.number) × (r.number < 8)
-register_bytes word r e =
-    let same : word ≡ 114 ∷ (48 + r.number) ∷ [] = e ∙ register_word_is r in
-    (ap length same, ap (λ (x : List ℕ). get_or x 0 0) same, ap (λ (x : List ℕ). get_or x 1 0) same, r.in_range)
-
-pub two_bytes : (word : List ℕ) → length word ≡ 2 → word ≡ get_or word 0 0 ∷ get_or word 1 0 ∷ []
-two_bytes [] two = absurd (omega (arith, two))
-two_bytes (a ∷ []) two = absurd (omega (arith, two))
-two_bytes (a ∷ b ∷ []) two = refl
-two_bytes (a ∷ b ∷ d ∷ word) two = absurd (omega (arith, two))
-
-pub digit_word : (word : List ℕ) → length word ≡ 2 → get_or word 0 0 ≡ 114 → 48 ≤ get_or word 1 0 → get_or word 1 0 ≤ 55 → word ≡ 114 ∷ decimal (get_or word 1 0 - 48)
-digit_word word two first low high =
-    let back : 48 + (get_or word 1 0 - 48) ≡ get_or word 1 0 = omega arith in
-    two_bytes word two ∙ rw (first, decimal_digit (get_or word 1 0 - 48) (omega arith), back) refl
-
-none_register : (o : Option Register) → ((r : Register) → o ≡ Some r → ⊥) → o ≡ None
-none_register None never = refl
-none_register (Some r) never = absurd (never r refl)
-
-some_number : (n : ℕ) (lt : n < 8) (r : Register) → Some (record { number = n; in_range = lt }) ≡ Some r → r.number ≡ n
-some_number n lt r h = let same : record { number = n; in_range = lt } ≡ r = cc in sym (ap (λ (x : Register). x.number) same)
-
-register_in : (b : Bool) (n : ℕ) (r : Register) → cond b (register_numbered n) None ≡ Some r → (b ≡ true) × (r.number ≡ n)
-register_in true n r e =
-    elim (cases_lt n 8) as (λ s. elim s [ inl lt ↦ Some (record { number = n; in_range = lt }) | inr le ↦ None ] ≡ Some r → (true ≡ true) × (r.number ≡ n)) [
-      | inl lt ↦ λ h. (refl, some_number n lt r h)
-      | inr le ↦ λ h. absurd cc
-    ] e
-register_in false n r e = absurd cc
-
-pub register_of_is : (word : List ℕ) (r : Register) → register_of word ≡ Some r → word ≡ register_word r
-unfolding register_of
-register_of_is [] r e = absurd cc
-register_of_is (a ∷ []) r e = absurd cc
-register_of_is (a ∷ b ∷ []) r e =
-    let is = register_in (eqb a 114 && nat_le 48 b) (b - 48) r e in
-    let parts = and_true (eqb a 114) (nat_le 48 b) is.0 in
-    let first : a ≡ 114 = eqb-true a 114 parts.0 in
-    let low : 48 ≤ b = leb-true 48 b parts.1 in
-    let second : b ≡ 48 + r.number = omega arith in
-    rw (first, second) (sym (register_word_is r))
-register_of_is (a ∷ b ∷ d ∷ word) r e = absurd cc
-
-pub register_of_exact : (word : List ℕ) (o : Option Register) → IfSome o (λ r. word ≡ register_word r) → IfNone o ((r : Register) → word ≡ register_word r → ⊥) → o ≡ register_of word
-register_of_exact word (Some r) some none = sym (register_of_some word r some)
-register_of_exact word None some none = sym (none_register (register_of word) (λ r e. none r (register_of_is word r e)))
+pub register_again : (r : Register) → r.number ≤ small → register_of (register_word r) ≡ Some r
+unfolding register_of number_behind
+register_again r fits = rw (number_of_some small (decimal r.number) r.number (omega arith) refl fits) refl
 
 -- globals
-abbrev pub global_at : (n : ℕ) → n < 16 → GlobalRoot
-global_at n within = record { number = n; in_range = within }
+global_read : (o : Option ℕ) (g : GlobalRoot) → (o >>= λ n. Some (record { number = n })) ≡ Some g → o ≡ Some g.number
+global_read None g e = absurd cc
+global_read (Some n) g e = let same : record { number = n } ≡ g = cc in ap (λ (x : GlobalRoot). Some x.number) same
 
-pub global_numbered_is : (n : ℕ) (within : n < 16) → global_numbered n ≡ Some (global_at n within)
-global_numbered_is n within =
-    elim (cases_lt n 16) as (λ s. elim s [ inl lt ↦ Some (record { number = n; in_range = lt }) | inr le ↦ None ] ≡ Some (global_at n within)) [
-      | inl lt ↦ ap (λ (h : n < 16). Some (global_at n h)) (le_prop lt within)
-      | inr le ↦ absurd (omega arith)
-    ]
-
-pub global_of_some : (g : GlobalRoot) → global_of (global_word g) ≡ Some g
+pub global_of_is : (word : List ℕ) (g : GlobalRoot) → global_of word ≡ Some g → (word ≡ global_word g) × (g.number ≤ small)
 unfolding global_of
-global_of_some g =
-    let lt : g.number < 16 = g.in_range in
-    rw (number_of_some 15 (decimal g.number) g.number (omega arith) refl (omega arith)) (global_numbered_is g.number g.in_range)
+global_of_is word g e = behind_is 103 word g.number (global_read (number_behind 103 word) g e)
 
-some_global : (n : ℕ) (lt : n < 16) (g : GlobalRoot) → Some (record { number = n; in_range = lt }) ≡ Some g → g.number ≡ n
-some_global n lt g h = let same : record { number = n; in_range = lt } ≡ g = cc in sym (ap (λ (x : GlobalRoot). x.number) same)
-
-global_numbered_some : (n : ℕ) (g : GlobalRoot) → global_numbered n ≡ Some g → g.number ≡ n
-global_numbered_some n g e =
-    elim (cases_lt n 16) as (λ s. elim s [ inl lt ↦ Some (record { number = n; in_range = lt }) | inr le ↦ None ] ≡ Some g → g.number ≡ n) [
-      | inl lt ↦ λ h. some_global n lt g h
-      | inr le ↦ λ h. absurd cc
-    ] e
-
--- the number of a global, read
-global_digits : (limit : ℕ) (digits : List ℕ) (o : Option ℕ) (g : GlobalRoot) → number_of limit digits ≡ o → (o >>= global_numbered) ≡ Some g → digits ≡ decimal g.number
-global_digits limit digits None g is e = absurd cc
-global_digits limit digits (Some n) g is e = (number_of_is limit digits n is).0 ∙ ap decimal (sym (global_numbered_some n g e))
-
-global_word_of : (b : Bool) (first : ℕ) (digits : List ℕ) (g : GlobalRoot) → eqb first 103 ≡ b → cond b (number_of 15 digits >>= global_numbered) None ≡ Some g → first ∷ digits ≡ global_word g
-global_word_of true first digits g is e =
-    let head : first ≡ 103 = eqb-true first 103 is in
-    let tail : digits ≡ decimal g.number = global_digits 15 digits (number_of 15 digits) g refl e in
-    rw (head, tail) refl
-global_word_of false first digits g is e = absurd cc
-
-pub global_of_is : (word : List ℕ) (g : GlobalRoot) → global_of word ≡ Some g → word ≡ global_word g
-unfolding global_of
-global_of_is [] g e = absurd cc
-global_of_is (b ∷ digits) g e = global_word_of (eqb b 103) b digits g refl e
-
-pub global_read : (word : List ℕ) (g : GlobalRoot) → 1 ≤ length word → get_or word 0 0 ≡ 103 → number_of 15 (take (length word - 1) (drop 1 word)) ≡ Some g.number → Some g ≡ global_of word
-unfolding global_of
-global_read [] g some first read = absurd (omega arith)
-global_read (b ∷ digits) g some first read =
-    let whole : take (length (b ∷ digits) - 1) digits ≡ digits = take_all (length (b ∷ digits) - 1) digits (omega arith) in
-    let all : number_of 15 digits ≡ Some g.number = ap (number_of 15) (sym whole) ∙ read in
-    rw (first, all) (sym (global_numbered_is g.number g.in_range))
+pub global_again : (g : GlobalRoot) → g.number ≤ small → global_of (global_word g) ≡ Some g
+unfolding global_of number_behind
+global_again g fits = rw (number_of_some small (decimal g.number) g.number (omega arith) refl fits) refl

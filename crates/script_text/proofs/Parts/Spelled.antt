@@ -1,5 +1,5 @@
 -- The words of a line: no space or line feed stands in them, and they are short.
-use Rattle.std.proofs.Common.{◌≡◌, ℕ, ◌+◌, ◌*◌, ◌^◌, ◌<◌, ◌≤◌, Bool, true, false, eqb, List, [], ◌∷◌, length, Option, Some, None, refl, sym, ap, subst, ◌∙◌, arith}
+use Rattle.std.proofs.Common.{◌≡◌, ℕ, ◌+◌, ◌*◌, ◌^◌, ◌<◌, ◌≤◌, Bool, true, false, eqb, List, [], ◌∷◌, length, Option, Some, None, refl, ap, ◌∙◌, arith}
 use Rattle.std.specs.Prelude.{◌&&◌, nat_lt, nat_le, codes}
 use Rattle.std.specs.List.{All}
 use Rattle.std.specs.Fmt.{decimal}
@@ -13,9 +13,9 @@ use Rattle.std.proofs.lemmas.Str.Parse.{digit_from_value}
 use Rattle.object_graph.specs.declared.step.Register.{Register}
 use Rattle.object_graph.specs.declared.step.GlobalRoot.{GlobalRoot}
 use Rattle.script_text.specs.Reading.{small, large}
+use Rattle.script_text.specs.Fits.{RegisterFits, GlobalFits, ValueFits}
 use Rattle.script_text.specs.Spelling.{register_word, global_word, value_word, spaced}
 use Rattle.script_text.specs.Lines.{words_of}
-use Rattle.script_text.proofs.Parts.Numbers.{register_word_is}
 
 -- a word has no space and no line feed, and at most 21 bytes
 pub record IsWord (w : List ℕ) : Type 0 where
@@ -57,20 +57,21 @@ number_word n fits = record { clear = decimal_clear n (omega arith); short = ome
 pub small_word : (n : ℕ) → n ≤ small → IsWord (decimal n)
 small_word n fits = number_word n (omega arith)
 
-pub register_is_word : (r : Register) → IsWord (register_word r)
-register_is_word r =
-    let within : r.number < 8 = r.in_range in
-    subst IsWord (sym (register_word_is r)) (record { clear = All-cons (λ b. 32 < b) 114 ((48 + r.number) ∷ []) (omega arith) (All-cons (λ b. 32 < b) (48 + r.number) [] (omega arith) (All-nil (λ b. 32 < b))); short = omega arith })
+-- a letter and a number
+pub lettered : (letter n : ℕ) → 32 < letter → n ≤ large → IsWord (letter ∷ decimal n)
+lettered letter n above fits =
+    let short : length (decimal n) ≤ 20 = number_short n fits in
+    record { clear = All-cons (λ b. 32 < b) letter (decimal n) above (decimal_clear n (omega arith)); short = omega arith }
 
-pub global_is_word : (g : GlobalRoot) → IsWord (global_word g)
-global_is_word g =
-    let within : g.number < 16 = g.in_range in
-    let two : length (decimal g.number) ≤ 2 = length-decimal-le 2 g.number (omega arith) (omega arith) (omega arith) in
-    record { clear = All-cons (λ b. 32 < b) 103 (decimal g.number) (omega arith) (decimal_clear g.number (omega arith)); short = omega arith }
+pub register_is_word : (r : Register) → RegisterFits r → IsWord (register_word r)
+register_is_word r fits = lettered 114 r.number (omega arith) (omega arith)
 
-pub value_is_word : (v : Option Register) → IsWord (value_word v)
-value_is_word None = literal (codes "nil") refl refl
-value_is_word (Some r) = register_is_word r
+pub global_is_word : (g : GlobalRoot) → GlobalFits g → IsWord (global_word g)
+global_is_word g fits = lettered 103 g.number (omega arith) (omega arith)
+
+pub value_is_word : (v : Option Register) → ValueFits v → IsWord (value_word v)
+value_is_word None fits = literal (codes "nil") refl refl
+value_is_word (Some r) fits = register_is_word r fits
 
 pub word1 : (a : List ℕ) → IsWord a → AreWords (a ∷ [])
 word1 a p = All-cons IsWord a [] p (All-nil IsWord)

@@ -32,7 +32,7 @@ unfolding counted_of
 counted_never c [] = never_err kinds.BadActor (λ e. cc)
 counted_never c (word ∷ rest) =
     never_bind (actor_of c word) _ (actor_never c word)
-    (λ a. never_bind (or_fault (taken_of a (step_part rest)) kinds.BadStep) _ (never_or (taken_of a (step_part rest)) kinds.BadStep (λ e. cc))
+    (λ a. never_bind (or_fault (taken_of c a (step_part rest)) kinds.BadStep) _ (never_or (taken_of c a (step_part rest)) kinds.BadStep (λ e. cc))
     (λ s. never_bind (or_fault (answer_of rest) kinds.BadReply) _ (never_or (answer_of rest) kinds.BadReply (λ e. cc)) (λ r. never_ok _)))
 
 event_never : (n : ℕ) (c : Config) (ws : List (List ℕ)) → Never (event_of n c ws)

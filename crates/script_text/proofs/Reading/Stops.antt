@@ -9,7 +9,7 @@ use Rattle.object_graph.specs.declared.step.Step.TheVariants as steps
 use Rattle.script_text.specs.declared.fault.Kind.{Kind}
 use Rattle.script_text.specs.declared.fault.Kind.TheVariants as kinds
 use Rattle.script_text.specs.declared.fault.LineFault.{LineFault}
-use Rattle.script_text.specs.Reading.{number_of, small, action_of, collection_of, sizes_of}
+use Rattle.script_text.specs.Reading.{number_of, small, allowed_of, collection_of, sizes_of}
 use Rattle.script_text.specs.Lines.{◌>>=◌, or_fault, at, words_of, pieces_of, mutator_of, step_of, heap_line_of, step_line_of, steps_of, script_of, FailsBy, StopsAt}
 use Rattle.script_text.proofs.Reading.ReadOn.{fault, with_step, read_on, pieces_some, goes_on}
 
@@ -47,8 +47,8 @@ step_never c [] = never_err kinds.BadActor (λ e. cc)
 step_never c (actor ∷ rest) =
     never_cond (bytes_eq actor (codes "gc")) _ _
     (never_bind (or_fault (collection_of rest) kinds.BadStep) (λ k. Ok (steps.Collector k)) (never_or (collection_of rest) kinds.BadStep (λ e. cc)) (λ k. never_ok (steps.Collector k)))
-    (never_bind (mutator_of c actor) (λ m. or_fault (action_of rest) kinds.BadStep >>= λ a. Ok (steps.Mutator (record { mutator = m; action = a }))) (mutator_never c actor)
-    (λ m. never_bind (or_fault (action_of rest) kinds.BadStep) (λ a. Ok (steps.Mutator (record { mutator = m; action = a }))) (never_or (action_of rest) kinds.BadStep (λ e. cc)) (λ a. never_ok (steps.Mutator (record { mutator = m; action = a })))))
+    (never_bind (mutator_of c actor) (λ m. or_fault (allowed_of c rest) kinds.BadStep >>= λ a. Ok (steps.Mutator (record { mutator = m; action = a }))) (mutator_never c actor)
+    (λ m. never_bind (or_fault (allowed_of c rest) kinds.BadStep) (λ a. Ok (steps.Mutator (record { mutator = m; action = a }))) (never_or (allowed_of c rest) kinds.BadStep (λ e. cc)) (λ a. never_ok (steps.Mutator (record { mutator = m; action = a })))))
 
 pub step_line_never : (c : Config) (line : List ℕ) (k : Kind) → step_line_of c line ≡ Err k → k ≡ kinds.NoMemory → ⊥
 unfolding step_line_of

@@ -4,11 +4,11 @@ use Rattle.std.proofs.lemmas.Bool.{le-ltb}
 use Rattle.std.specs.Prelude.{nat_lt, false}
 use Rattle.heap_words.specs.declared.config.Config.{Config}
 use Rattle.script_text.specs.declared.fault.Kind.TheVariants as kinds
-use Rattle.script_text.specs.Reading.{action_of, collection_of, sizes_of}
+use Rattle.script_text.specs.Reading.{action_of, allowed_of, collection_of, sizes_of}
 use Rattle.script_text.specs.Lines.{words_of, step_of, heap_line_of, step_line_of}
 
 step_of_twelve : (c : Config) (ws : List (List ℕ)) → step_of c (take 12 ws) ≡ step_of c ws
-unfolding step_of action_of collection_of
+unfolding step_of allowed_of action_of collection_of
 step_of_twelve c [] = refl
 step_of_twelve c (a ∷ []) = refl
 step_of_twelve c (a ∷ b ∷ []) = refl
@@ -28,7 +28,9 @@ heap_of_twelve (a ∷ b ∷ d ∷ e ∷ []) = refl
 heap_of_twelve (a ∷ b ∷ d ∷ e ∷ f ∷ []) = refl
 heap_of_twelve (a ∷ b ∷ d ∷ e ∷ f ∷ g ∷ []) = refl
 heap_of_twelve (a ∷ b ∷ d ∷ e ∷ f ∷ g ∷ h ∷ []) = refl
-heap_of_twelve (a ∷ b ∷ d ∷ e ∷ f ∷ g ∷ h ∷ i ∷ ws) = refl
+heap_of_twelve (a ∷ b ∷ d ∷ e ∷ f ∷ g ∷ h ∷ i ∷ []) = refl
+heap_of_twelve (a ∷ b ∷ d ∷ e ∷ f ∷ g ∷ h ∷ i ∷ j ∷ []) = refl
+heap_of_twelve (a ∷ b ∷ d ∷ e ∷ f ∷ g ∷ h ∷ i ∷ j ∷ k ∷ ws) = refl
 
 short : (line : List ℕ) → length line ≤ 120 → nat_lt 120 (length line) ≡ false
 short line le = le-ltb 120 (length line) le

@@ -12,25 +12,25 @@ use Rattle.object_graph.specs.declared.step.Reply.{Reply}
 use Rattle.object_graph.specs.declared.step.Event.{Event}
 use Rattle.script_text.specs.declared.fault.Kind.{Kind}
 use Rattle.script_text.specs.declared.fault.Kind.TheVariants as kinds
-use Rattle.script_text.specs.Reading.{number_of, large, action_of, collection_of}
+use Rattle.script_text.specs.Reading.{number_of, large, action_of, allowed_of, collection_of}
 use Rattle.script_text.specs.EventWords.{taken_of, equals_at, step_part, answer_of}
 use Rattle.script_text.specs.Lines.{◌>>=◌, or_fault, words_of}
 use Rattle.script_text.specs.Events.{actor_of, counted_of, event_of, event_line_of}
 use Rattle.script_text.proofs.BothWays.ReplyLaws.{no_long_reply}
 use Rattle.script_text.proofs.Reading.Parting.{is_equals, answered, step_before, step_all, reply_behind}
 
-no_long_step : (a : Actor) (ws : List (List ℕ)) → 6 ≤ length ws → taken_of a ws ≡ None
-unfolding taken_of action_of collection_of
-no_long_step a [] le = absurd (omega arith)
-no_long_step a (v ∷ []) le = absurd (omega arith)
-no_long_step a (v ∷ w ∷ []) le = absurd (omega arith)
-no_long_step a (v ∷ w ∷ x ∷ []) le = absurd (omega arith)
-no_long_step a (v ∷ w ∷ x ∷ y ∷ []) le = absurd (omega arith)
-no_long_step a (v ∷ w ∷ x ∷ y ∷ z ∷ []) le = absurd (omega arith)
-no_long_step (actors.Mutator m) (v ∷ w ∷ x ∷ y ∷ z ∷ u ∷ ws) le = refl
-no_long_step actors.Collector (v ∷ w ∷ x ∷ y ∷ z ∷ u ∷ ws) le = refl
-no_long_step (actors.Marker i) (v ∷ w ∷ x ∷ y ∷ z ∷ u ∷ ws) le = refl
-no_long_step (actors.Refiner i) (v ∷ w ∷ x ∷ y ∷ z ∷ u ∷ ws) le = refl
+no_long_step : (c : Config) (a : Actor) (ws : List (List ℕ)) → 6 ≤ length ws → taken_of c a ws ≡ None
+unfolding taken_of allowed_of action_of collection_of
+no_long_step c a [] le = absurd (omega arith)
+no_long_step c a (v ∷ []) le = absurd (omega arith)
+no_long_step c a (v ∷ w ∷ []) le = absurd (omega arith)
+no_long_step c a (v ∷ w ∷ x ∷ []) le = absurd (omega arith)
+no_long_step c a (v ∷ w ∷ x ∷ y ∷ []) le = absurd (omega arith)
+no_long_step c a (v ∷ w ∷ x ∷ y ∷ z ∷ []) le = absurd (omega arith)
+no_long_step c (actors.Mutator m) (v ∷ w ∷ x ∷ y ∷ z ∷ u ∷ ws) le = refl
+no_long_step c actors.Collector (v ∷ w ∷ x ∷ y ∷ z ∷ u ∷ ws) le = refl
+no_long_step c (actors.Marker i) (v ∷ w ∷ x ∷ y ∷ z ∷ u ∷ ws) le = refl
+no_long_step c (actors.Refiner i) (v ∷ w ∷ x ∷ y ∷ z ∷ u ∷ ws) le = refl
 
 at_most : (ws : List (List ℕ)) → equals_at ws ≤ length ws
 at_most ws = prefix_len-le-length (λ w. not (is_equals w)) ws
@@ -84,31 +84,31 @@ bind_same (Err k) f g same = refl
 abbrev rest_of : Actor → Option Step → Option Reply → Result Event Kind
 rest_of a s r = or_fault s kinds.BadStep >>= λ x. or_fault r kinds.BadReply >>= λ y. Ok (record { actor = a; step = x; reply = y })
 
-many_rest : (a : Actor) (ws : List (List ℕ)) → 11 ≤ length ws → rest_of a (taken_of a (step_part (take 10 ws))) (answer_of (take 10 ws)) ≡ rest_of a (taken_of a (step_part ws)) (answer_of ws)
-many_rest a ws many =
+many_rest : (c : Config) (a : Actor) (ws : List (List ℕ)) → 11 ≤ length ws → rest_of a (taken_of c a (step_part (take 10 ws))) (answer_of (take 10 ws)) ≡ rest_of a (taken_of c a (step_part ws)) (answer_of ws)
+many_rest c a ws many =
     let ten : length (take 10 ws) ≡ 10 = length-take-le 10 ws (omega arith) in
     elim (cases_lt (equals_at ws) 6) [
       | inl early ↦ (
           let place : equals_at (take 10 ws) ≡ equals_at ws = same_place ws (omega arith) (omega arith) in
           let none : answer_of (take 10 ws) ≡ None = no_answer (take 10 ws) (omega arith) (omega arith) in
-          ap (λ (s : List (List ℕ)). rest_of a (taken_of a s) (answer_of (take 10 ws))) (same_step ws many early)
-          ∙ ap (λ (r : Option Reply). rest_of a (taken_of a (step_part ws)) r) (none ∙ sym (no_answer ws early (omega arith))))
+          ap (λ (s : List (List ℕ)). rest_of a (taken_of c a s) (answer_of (take 10 ws))) (same_step ws many early)
+          ∙ ap (λ (r : Option Reply). rest_of a (taken_of c a (step_part ws)) r) (none ∙ sym (no_answer ws early (omega arith))))
       | inr late ↦ (
-          let first : taken_of a (step_part (take 10 ws)) ≡ None = no_long_step a (step_part (take 10 ws)) (long_step (take 10 ws) (omega arith) (still_late ws (omega arith) late)) in
-          let second : taken_of a (step_part ws) ≡ None = no_long_step a (step_part ws) (long_step ws (omega arith) late) in
+          let first : taken_of c a (step_part (take 10 ws)) ≡ None = no_long_step c a (step_part (take 10 ws)) (long_step (take 10 ws) (omega arith) (still_late ws (omega arith) late)) in
+          let second : taken_of c a (step_part ws) ≡ None = no_long_step c a (step_part ws) (long_step ws (omega arith) late) in
           ap (λ (s : Option Step). rest_of a s (answer_of (take 10 ws))) first ∙ ap (λ (s : Option Step). rest_of a s (answer_of ws)) (sym second))
     ]
 
-ten_rest : (a : Actor) (ws : List (List ℕ)) → rest_of a (taken_of a (step_part (take 10 ws))) (answer_of (take 10 ws)) ≡ rest_of a (taken_of a (step_part ws)) (answer_of ws)
-ten_rest a ws =
+ten_rest : (c : Config) (a : Actor) (ws : List (List ℕ)) → rest_of a (taken_of c a (step_part (take 10 ws))) (answer_of (take 10 ws)) ≡ rest_of a (taken_of c a (step_part ws)) (answer_of ws)
+ten_rest c a ws =
     elim (cases_lt 10 (length ws)) [
-      | inl many ↦ many_rest a ws (omega arith)
-      | inr few ↦ ap (λ (vs : List (List ℕ)). rest_of a (taken_of a (step_part vs)) (answer_of vs)) (take_all 10 ws few)
+      | inl many ↦ many_rest c a ws (omega arith)
+      | inr few ↦ ap (λ (vs : List (List ℕ)). rest_of a (taken_of c a (step_part vs)) (answer_of vs)) (take_all 10 ws few)
     ]
 
 counted_ten : (c : Config) (word : List ℕ) (ws : List (List ℕ)) → counted_of c (word ∷ take 10 ws) ≡ counted_of c (word ∷ ws)
 unfolding counted_of
-counted_ten c word ws = bind_same (actor_of c word) _ _ (λ a. ten_rest a ws)
+counted_ten c word ws = bind_same (actor_of c word) _ _ (λ a. ten_rest c a ws)
 
 event_of_twelve : (n : ℕ) (c : Config) (ws : List (List ℕ)) → event_of n c (take 12 ws) ≡ event_of n c ws
 unfolding event_of

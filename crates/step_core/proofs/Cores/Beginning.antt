@@ -46,7 +46,7 @@ nil_shown h zero = tt
 nil_shown h (suc p) = (tt, nil_shown h p)
 
 abbrev pub first_core : Config → Marker → RoomSizes → ℕ → CoreState
-first_core g m d r = record { config = g; table = free_table g.regions g.words; buffers = closed g.buffer g.mutators; marker = m; cards = clean_cards (g.regions * (g.words / card_words g)) g.mutators; sets = empty_sets g.regions (g.words / card_words g); room = d; row_room = r; places = places_of g; roots = replicate (root_places g.mutators) None; next = g.first_name }
+first_core g m d r = record { config = g; table = free_table g.regions g.words; buffers = closed g.buffer g.mutators; marker = m; cards = clean_cards (g.regions * (g.words / card_words g)) g.mutators; sets = empty_sets g.regions (g.words / card_words g); room = d; row_room = r; places = places_of g; roots = replicate (root_places (places_of g)) None; next = g.first_name }
 
 none_kept : (g : Config) (m : Marker) (d : RoomSizes) (r : ℕ) (a : ℕ) (x : Stored) → kept_of (first_core g m d r) a ≡ Some x → ⊥
 none_kept g m d r a x e = let none = nothing_at g.regions g.words a in let is = object_kept (first_core g m d r) a x e in cc
@@ -54,10 +54,10 @@ none_kept g m d r a x e = let none = nothing_at g.regions g.words a in let is = 
 pub first_shows : (g : Config) (m : Marker) (d : RoomSizes) (r : ℕ) → ShowsGraph (first_graph g) (first_core g m d r)
 first_shows g m d r = record {
   room = refl;
-  mutators = refl;
+  places = refl;
   next = omega arith;
   shows = record {
-    roots = nil_shown (heap_of (first_core g m d r)) (root_places g.mutators);
+    roots = nil_shown (heap_of (first_core g m d r)) (root_places (places_of g));
     distinct = λ a b x y h k n. absurd (none_kept g m d r a x h);
     objects = λ a x h. absurd (none_kept g m d r a x h);
   };
@@ -130,7 +130,7 @@ first_is g m d r stand suits to rows names idle logs stands =
       room = to;
       rows = rows;
       placed = refl;
-      places = length-replicate (root_places g.mutators) None;
+      places = length-replicate (root_places (places_of g)) None;
       names = names;
       footing = record { graph = first_graph g; snapshot = first_graph g };
       rests = record {

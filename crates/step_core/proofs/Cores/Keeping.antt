@@ -2,8 +2,10 @@
 use Rattle.std.proofs.Common.{◌≡◌, ℕ, ◌+◌, ◌<◌, Option, Some, None, List, length, get_or, refl, sym, ◌∙◌, ap, subst, arith}
 use Rattle.std.specs.Prelude.{slice_get, slice_set, IsSome, IfSome}
 use Rattle.std.proofs.lemmas.List.{length-set}
-use Rattle.heap_model.specs.Graph as places
-use Rattle.heap_model.specs.Graph.{Graph, Object, IsSound}
+use Rattle.heap_words.specs.declared.config.Config.{Config}
+use Rattle.heap_words.specs.Configs.{globals_of, registers_of}
+use Rattle.root_table.proofs.Rows.{register_within}
+use Rattle.heap_model.specs.Graph.{Graph, Object, Places, IsSound}
 use Rattle.heap_model.specs.Heap.{Stored, IsShown, IsRoot, IsHeld, ObjectSet}
 use Rattle.heap_model.specs.Weak.{KeepsUnreached}
 use Rattle.heap_model.proofs.Unreached.{unreached_root, unreached_written}
@@ -36,18 +38,37 @@ pub record RootFacts (c : CoreState) (place : ℕ) (w : Option ℕ) : Type 0 whe
   pub leads : Leads c place w
   pub shows : (g : Graph) → ShowsGraph g c → IsShown (heap_of c) w (root_at g place)
 
--- the place of a register, by the places that the code has
-pub register_at : (k : CoreState) → IsCore k → (m r : ℕ) → places.register_place k.places m r ≡ register_place m r
-register_at k core m r = ap (λ (p : places.Places). places.register_place p m r) core.placed
-
 -- it has as many globals, mutators and registers as steps may name
 pub placed_in : (k c : CoreState) → k ≡ c → IsCore k → k.places ≡ places_of c.config
 placed_in k c e core = core.placed ∙ ap (λ (d : CoreState). places_of d.config) e
 
-pub root_within : (k c : CoreState) (place : ℕ) → k ≡ c → IsCore k → place < root_places c.config.mutators → place < length k.roots
+-- the place of a register, by the places that the code has
+pub register_at : (k c : CoreState) → k ≡ c → IsCore k → (m r : ℕ) → register_place k.places m r ≡ register_place (places_of c.config) m r
+register_at k c e core m r = ap (λ (p : Places). register_place p m r) (placed_in k c e core)
+
+pub register_there : (k : CoreState) → IsCore k → (m r : ℕ) → register_place k.places m r ≡ register_place (places_of k.config) m r
+register_there k core m r = ap (λ (p : Places). register_place p m r) core.placed
+
+pub registers_at : (k c : CoreState) → k ≡ c → IsCore k → k.places.registers ≡ registers_of c.config
+registers_at k c e core = ap (λ (p : Places). p.registers) (placed_in k c e core)
+
+-- the graph has the register in the same place
+pub register_shows : (c d : CoreState) (m r : ℕ) (w : Option ℕ)
+    → ((g : Graph) (v : Option ℕ) → ShowsGraph g c → IsShown (heap_of c) w v → ShowsGraph (with_root g (register_place (places_of c.config) m r) v) d)
+    → (g : Graph) (v : Option ℕ) → ShowsGraph g c → IsShown (heap_of c) w v → ShowsGraph (with_root g (register_place g.places m r) v) d
+register_shows c d m r w each g v s shown = subst (λ (p : Places). ShowsGraph (with_root g (register_place p m r) v) d) (sym s.places) (each g v s shown)
+
+-- a register's place is among the places
+pub register_inside : (c : Config) (m r : ℕ) → m < c.mutators → r < registers_of c → register_place (places_of c) m r < root_places (places_of c)
+register_inside c m r known inside = register_within (places_of c) m r known inside
+
+pub global_inside : (c : Config) (n : ℕ) → n < globals_of c → n < root_places (places_of c)
+global_inside c n inside = omega (arith, inside)
+
+pub root_within : (k c : CoreState) (place : ℕ) → k ≡ c → IsCore k → place < root_places (places_of c.config) → place < length k.roots
 root_within k c place e core less = subst (λ (d : CoreState). place < length d.roots) (sym e) (let all = (core_of k c e core).places in omega (arith, less, all))
 
-pub root_facts : (k c : CoreState) (place : ℕ) (w : Option ℕ) → k ≡ c → IsCore k → place < root_places c.config.mutators → w ≡ get_or k.roots place None → RootFacts c place w
+pub root_facts : (k c : CoreState) (place : ℕ) (w : Option ℕ) → k ≡ c → IsCore k → place < root_places (places_of c.config) → w ≡ get_or k.roots place None → RootFacts c place w
 root_facts k c place w e core less r =
     let core' = core_of k c e core in
     let all = core'.places in
@@ -120,15 +141,15 @@ pub table_of : (k c : CoreState) → k ≡ c → k.table ≡ c.table
 table_of k c e = ap (λ (d : CoreState). d.table) e
 
 module _ (k c : CoreState) (e : k ≡ c) (core : IsCore k) (m : ℕ) (object : Register) (a i v : ℕ) (t : Table)
-    (l : Leads c (register_place m object.number) (Some a)) (within : i < length (values_at k.table a)) (is : t ≡ set_value k.table a i v) where
+    (l : Leads c (register_place (places_of c.config) m object.number) (Some a)) (within : i < length (values_at k.table a)) (is : t ≡ set_value k.table a i v) where
   write_by : (g : Graph) → ShowsGraph g k → Acts g m (actions.Write object i v) replies.Done (record k { table = t })
-  write_by g s = write_done g k s m object a (subst (λ (d : CoreState). Leads d (register_place m object.number) (Some a)) (sym e) l) i v t within (some_words k core) is
+  write_by g s = write_done g k s m object a (subst (λ (d : CoreState). Leads d (register_place (places_of d.config) m object.number) (Some a)) (sym e) l) i v t within (some_words k core) is
 
   pub write_after : (g : Graph) → ShowsGraph g c → Acts g m (actions.Write object i v) replies.Done (record k { table = t })
   write_after g s = write_by g (subst (λ (d : CoreState). ShowsGraph g d) (sym e) s)
 
-  h : HasObject core.footing.graph k (register_place m object.number) a
-  h = subst (λ (d : CoreState). Leads d (register_place m object.number) (Some a)) (sym e) l core.footing.graph core.rests.shows
+  h : HasObject core.footing.graph k (register_place (places_of k.config) m object.number) a
+  h = subst (λ (d : CoreState). Leads d (register_place (places_of d.config) m object.number) (Some a)) (sym e) l core.footing.graph core.rests.shows
 
   writes : WritesObject k.table t a h.stored (with_value h.stored i v)
   writes = subst (λ (u : Table). WritesObject k.table u a h.stored (with_value h.stored i v)) (sym is) (value_put k.table a i v h.stored (some_words k core) (object_kept k a h.stored h.at))
@@ -148,8 +169,8 @@ module _ (k c : CoreState) (e : k ≡ c) (core : IsCore k) (m : ℕ) (object : R
   abbrev written : Object
   written = record h.object { values = slice_set h.object.values i v }
 
-  l' : Leads k (register_place m object.number) (Some a)
-  l' = subst (λ (d : CoreState). Leads d (register_place m object.number) (Some a)) (sym e) l
+  l' : Leads k (register_place (places_of k.config) m object.number) (Some a)
+  l' = subst (λ (d : CoreState). Leads d (register_place (places_of d.config) m object.number) (Some a)) (sym e) l
 
   write_sound : IsSound (act core.footing.graph m (actions.Write object i v)).1
   write_sound = subst (λ (out : Outcome). IsSound out.1) (sym (write_is core.footing.graph k core.rests.shows m object a l' i v h within))

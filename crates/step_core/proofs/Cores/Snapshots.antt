@@ -49,6 +49,7 @@ marker_running c m (actions.NewWeak to counts weaks) m' h = ap (λ (x : Marker).
 marker_running c m (actions.GetWeak to object i) m' h = overwrites_running c.marker.running c.table m _ c.marker m' h
 marker_running c m (actions.PutWeak object i v) m' h = ap (λ (x : Marker). x.running) h
 marker_running c m (actions.Weaks object) m' h = ap (λ (x : Marker). x.running) h
+marker_running c m (actions.Scope from) m' h = ap (λ (x : Marker). x.running) h
 
 pub acts_running : (m : ℕ) (a : Action) (r : Reply) (c c' : CoreState) → ActsOn m a r c c' → c'.marker.running ≡ c.marker.running
 acts_running m a replies.Done c c' h = marker_running c m a c'.marker h.marker
@@ -87,6 +88,7 @@ same_after (Some s) (actions.NewWeak to counts weaks) r e = refl
 same_after (Some s) (actions.GetWeak to object i) r e = absurd (let apart : true ≡ false = e in cc)
 same_after (Some s) (actions.PutWeak object i v) r e = refl
 same_after (Some s) (actions.Weaks object) r e = refl
+same_after (Some s) (actions.Scope from) r e = refl
 
 -- after a step that reads no weak slot
 pub keeps_after : (sn : Option Graph) (m : ℕ) (a : Action) (r : Reply) (c c' : CoreState) → touches a ≡ false → ActsOn m a r c c' → ((s : Graph) → KeepsFrom s c → KeepsFrom s c') → KeepsFor sn c → KeepsFor (snapshot_after sn a r) c'

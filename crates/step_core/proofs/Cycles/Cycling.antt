@@ -39,7 +39,7 @@ can_begin k core = closed core.footing.graph (heap_of k) core.rests.shows.shows
 -- the same heap is shown
 shows_same : (c : CoreState) (b : Buffers) (m : Marker) → views.heap_of c.table c.roots m ≡ views.heap_of c.table c.roots c.marker → (g : Graph) → ShowsGraph g c → ShowsGraph g (with_marker c b m)
 unfolding kept_of
-shows_same c b m e g s = record { room = s.room; mutators = s.mutators; next = s.next; shows = subst (λ (h : Heap). Shows g h) (sym e) s.shows }
+shows_same c b m e g s = record { room = s.room; places = s.places; next = s.next; shows = subst (λ (h : Heap). Shows g h) (sym e) s.shows }
 
 remembers_same : (c : CoreState) (b : Buffers) (m : Marker) → views.heap_of c.table c.roots m ≡ views.heap_of c.table c.roots c.marker → RemembersFields c → RemembersFields (with_marker c b m)
 unfolding kept_of

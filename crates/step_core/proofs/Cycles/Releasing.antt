@@ -111,7 +111,7 @@ module _ (k : CoreState) (core : IsCore k) (shaped : IsShaped k.table) (n m : �
   pub release_shows : (g : Graph) → ShowsGraph g k → ShowsGraph g after
   release_shows g s = record {
     room = s.room;
-    mutators = s.mutators;
+    places = s.places;
     next = s.next;
     shows = same_shows g (heap_of k) (heap_of after) s.shows (record { kept = kept_same; roots = refl });
   }

@@ -136,7 +136,7 @@ module _ (k : CoreState) (core : IsCore k) (run : k.marker.running ≡ true) (t 
         clears = c;
         shows = record {
           room = c.room ∙ shows.room;
-          mutators = c.mutators ∙ shows.mutators;
+          places = c.places ∙ shows.places;
           next = (let next = shows.next in let first = c.first_name in omega (arith, next, first, count));
           shows = ends.shows;
         };

@@ -2,7 +2,7 @@
 use Rattle.std.proofs.Common.{◌≡◌, ℕ, ◌+◌, ◌-◌, ◌*◌, ◌<◌, ◌≤◌, Option, Some, None, List, length, get_or, refl, sym, ◌∙◌, ap, subst}
 use Rattle.std.specs.Prelude.{slice_get, slice_set}
 use Rattle.std.specs.List.{AllZip}
-use Rattle.heap_model.specs.Graph.{Graph, Object, object_named, with_changed}
+use Rattle.heap_model.specs.Graph.{Graph, Object, Places, object_named, with_changed}
 use Rattle.heap_model.specs.Heap.{Stored, IsShown, ObjectSet}
 use Rattle.heap_words.specs.declared.config.Config.{Config}
 use Rattle.std.proofs.lemmas.List.{length-set}
@@ -11,7 +11,7 @@ use Rattle.heap_model.proofs.Changed.{root_set_shows, object_set_shows}
 use Rattle.regions.specs.Table.{Table, pointers_at, weaks_at, values_at, object_values, set_value}
 use Rattle.regions.proofs.Tiles.Changes.{WritesObject, value_put}
 use Rattle.regions.proofs.Words.Values.{with_value}
-use Rattle.object_graph.specs.State.{with_root, register_place}
+use Rattle.object_graph.specs.State.{with_root, root_at, register_place, places_of}
 use Rattle.object_graph.specs.Machine.{Outcome, act, on_object, on_name, on_contents, refused, stored}
 use Rattle.object_graph.specs.declared.step.Action.{Action}
 use Rattle.object_graph.specs.declared.step.Action.TheVariants as actions
@@ -27,8 +27,8 @@ use Rattle.step_core.proofs.Mutating.Written.{SamePlaces, object_written}
 pub acts_by : (g : Graph) (m : ℕ) (a : Action) (reply : Reply) (c : CoreState) (out : Outcome) → act g m a ≡ out → reply ≡ out.0 → ShowsGraph out.1 c → Acts g m a reply c
 acts_by g m a reply c out e r s = record { reply_is = r ∙ sym (ap (λ (o : Outcome). o.0) e); shows = subst (λ (o : Outcome). ShowsGraph o.1 c) (sym e) s }
 
-on_found : (g : Graph) (c : CoreState) (m a : ℕ) (r : Register) (f : ℕ → Object → Outcome) (h : HasObject g c (register_place m r.number) a) → on_object g m r f ≡ f h.stored.name h.object
-on_found g c m a r f h = ap (λ (o : Option ℕ). on_name g o f) h.root ∙ ap (λ (o : Option Object). on_contents g o (f h.stored.name)) h.found
+on_found : (g : Graph) (c : CoreState) (s : ShowsGraph g c) (m a : ℕ) (r : Register) (f : ℕ → Object → Outcome) (h : HasObject g c (register_place (places_of c.config) m r.number) a) → on_object g m r f ≡ f h.stored.name h.object
+on_found g c s m a r f h = ap (λ (p : Places). on_name g (root_at g (register_place p m r.number)) f) s.places ∙ ap (λ (o : Option ℕ). on_name g o f) h.root ∙ ap (λ (o : Option Object). on_contents g o (f h.stored.name)) h.found
 
 -- the core with another word in a root place
 abbrev pub with_root_word : CoreState → ℕ → Option ℕ → CoreState
@@ -38,7 +38,7 @@ pub root_shows : (g : Graph) (c : CoreState) (place : ℕ) (w v : Option ℕ) �
 unfolding kept_of
 root_shows g c place w v s shown = record {
   room = s.room;
-  mutators = s.mutators;
+  places = s.places;
   next = s.next;
   shows = root_set_shows g (heap_of c) (heap_of (with_root_word c place w)) s.shows place w v shown (record { kept = λ a. refl; roots = refl });
 }
@@ -65,70 +65,70 @@ pub object_shows : (g : Graph) (c c' : CoreState) (a : ℕ) (x y : Stored) (o p 
     → ShowsGraph (with_changed g x.name p) c'
 object_shows g c c' a x y o p s same set named pointers weaks values = record {
   room = s.room ∙ sym (ap (λ (k : Config). k.regions * k.words) same.config);
-  mutators = s.mutators ∙ sym (ap (λ (k : Config). k.mutators) same.config);
+  places = s.places ∙ sym (ap places_of same.config);
   next = ap (λ n. g.first_name + n) (length-set g.objects (x.name - g.first_name) p) ∙ s.next ∙ sym same.next;
   shows = object_set_shows g (heap_of c) (heap_of c') s.shows a x y o p set named pointers weaks values;
 }
 
 module _ (g : Graph) (c : CoreState) (s : ShowsGraph g c) (m : ℕ) (object : Register) where
-  module _ (a : ℕ) (l : Leads c (register_place m object.number) (Some a)) where
+  module _ (a : ℕ) (l : Leads c (register_place (places_of c.config) m object.number) (Some a)) where
     pub get_past : (to : Register) (i : ℕ) → length (pointers_at c.table a) ≤ i → Acts g m (actions.Get to object i) (replies.Refused refusals.NoField) c
     get_past to i k =
         let h = l g s in
         let none = no_field g c _ a i h (rw (pointers_there c a h.stored h.at) at k) in
-        acts_by g m (actions.Get to object i) (replies.Refused refusals.NoField) c (refused g refusals.NoField) (on_found g c m a object _ h ∙ rw none refl) refl s
+        acts_by g m (actions.Get to object i) (replies.Refused refusals.NoField) c (refused g refusals.NoField) (on_found g c s m a object _ h ∙ rw none refl) refl s
 
     pub put_past : (i : ℕ) (value : Option Register) → length (pointers_at c.table a) ≤ i → Acts g m (actions.Put object i value) (replies.Refused refusals.NoField) c
     put_past i value k =
         let h = l g s in
         let none = no_field g c _ a i h (rw (pointers_there c a h.stored h.at) at k) in
-        acts_by g m (actions.Put object i value) (replies.Refused refusals.NoField) c (refused g refusals.NoField) (on_found g c m a object _ h ∙ rw none refl) refl s
+        acts_by g m (actions.Put object i value) (replies.Refused refusals.NoField) c (refused g refusals.NoField) (on_found g c s m a object _ h ∙ rw none refl) refl s
 
     pub get_weak_past : (to : Register) (i : ℕ) → length (weaks_at c.table a) ≤ i → Acts g m (actions.GetWeak to object i) (replies.Refused refusals.NoField) c
     get_weak_past to i k =
         let h = l g s in
         let none = no_slot g c _ a i h (rw (weaks_there c a h.stored h.at) at k) in
-        acts_by g m (actions.GetWeak to object i) (replies.Refused refusals.NoField) c (refused g refusals.NoField) (on_found g c m a object _ h ∙ rw none refl) refl s
+        acts_by g m (actions.GetWeak to object i) (replies.Refused refusals.NoField) c (refused g refusals.NoField) (on_found g c s m a object _ h ∙ rw none refl) refl s
 
     pub put_weak_past : (i : ℕ) (value : Option Register) → length (weaks_at c.table a) ≤ i → Acts g m (actions.PutWeak object i value) (replies.Refused refusals.NoField) c
     put_weak_past i value k =
         let h = l g s in
         let none = no_slot g c _ a i h (rw (weaks_there c a h.stored h.at) at k) in
-        acts_by g m (actions.PutWeak object i value) (replies.Refused refusals.NoField) c (refused g refusals.NoField) (on_found g c m a object _ h ∙ rw none refl) refl s
+        acts_by g m (actions.PutWeak object i value) (replies.Refused refusals.NoField) c (refused g refusals.NoField) (on_found g c s m a object _ h ∙ rw none refl) refl s
 
     pub read_past : (i : ℕ) → length (values_at c.table a) ≤ i → Acts g m (actions.Read object i) (replies.Refused refusals.NoField) c
     read_past i k =
         let h = l g s in
         let none = no_value g c _ a i h (rw (values_there c a h.stored h.at) at k) in
-        acts_by g m (actions.Read object i) (replies.Refused refusals.NoField) c (refused g refusals.NoField) (on_found g c m a object _ h ∙ rw none refl) refl s
+        acts_by g m (actions.Read object i) (replies.Refused refusals.NoField) c (refused g refusals.NoField) (on_found g c s m a object _ h ∙ rw none refl) refl s
 
     pub write_past : (i v : ℕ) → length (values_at c.table a) ≤ i → Acts g m (actions.Write object i v) (replies.Refused refusals.NoField) c
     write_past i v k =
         let h = l g s in
         let none = no_value g c _ a i h (rw (values_there c a h.stored h.at) at k) in
-        acts_by g m (actions.Write object i v) (replies.Refused refusals.NoField) c (refused g refusals.NoField) (on_found g c m a object _ h ∙ rw none refl) refl s
+        acts_by g m (actions.Write object i v) (replies.Refused refusals.NoField) c (refused g refusals.NoField) (on_found g c s m a object _ h ∙ rw none refl) refl s
 
     -- get: the register that the field goes to
     pub get_done : (to : Register) (i : ℕ) (w : Option ℕ) (n : Option ℕ) (c' : CoreState) → slice_get (pointers_at c.table a) i ≡ Some w → n ≡ name_in c.table w
-        → ((g : Graph) (v : Option ℕ) → ShowsGraph g c → IsShown (heap_of c) w v → ShowsGraph (with_root g (register_place m to.number) v) c')
+        → ((g : Graph) (v : Option ℕ) → ShowsGraph g c → IsShown (heap_of c) w v → ShowsGraph (with_root g (register_place g.places m to.number) v) c')
         → Acts g m (actions.Get to object i) (replies.Named n) c'
     get_done to i w n c' e name after =
         let h = l g s in
         let f = field_shown g c _ a i w h (ap (λ (ps : List (Option ℕ)). slice_get ps i) (sym (pointers_there c a h.stored h.at)) ∙ e) in
         let there = f.there in
-        acts_by g m (actions.Get to object i) (replies.Named n) c' (replies.Named f.name, with_root g (register_place m to.number) f.name)
-        (on_found g c m a object _ h ∙ rw there refl) (ap replies.Named (name ∙ shown_name c w f.name f.shown)) (after g f.name s f.shown)
+        acts_by g m (actions.Get to object i) (replies.Named n) c' (replies.Named f.name, with_root g (register_place g.places m to.number) f.name)
+        (on_found g c s m a object _ h ∙ rw there refl) (ap replies.Named (name ∙ shown_name c w f.name f.shown)) (after g f.name s f.shown)
 
     -- the same of a weak slot
     pub get_weak_done : (to : Register) (i : ℕ) (w : Option ℕ) (n : Option ℕ) (c' : CoreState) → slice_get (weaks_at c.table a) i ≡ Some w → n ≡ name_in c.table w
-        → ((g : Graph) (v : Option ℕ) → ShowsGraph g c → IsShown (heap_of c) w v → ShowsGraph (with_root g (register_place m to.number) v) c')
+        → ((g : Graph) (v : Option ℕ) → ShowsGraph g c → IsShown (heap_of c) w v → ShowsGraph (with_root g (register_place g.places m to.number) v) c')
         → Acts g m (actions.GetWeak to object i) (replies.Named n) c'
     get_weak_done to i w n c' e name after =
         let h = l g s in
         let f = slot_shown g c _ a i w h (ap (λ (ps : List (Option ℕ)). slice_get ps i) (sym (weaks_there c a h.stored h.at)) ∙ e) in
         let there = f.there in
-        acts_by g m (actions.GetWeak to object i) (replies.Named n) c' (replies.Named f.name, with_root g (register_place m to.number) f.name)
-        (on_found g c m a object _ h ∙ rw there refl) (ap replies.Named (name ∙ shown_name c w f.name f.shown)) (after g f.name s f.shown)
+        acts_by g m (actions.GetWeak to object i) (replies.Named n) c' (replies.Named f.name, with_root g (register_place g.places m to.number) f.name)
+        (on_found g c s m a object _ h ∙ rw there refl) (ap replies.Named (name ∙ shown_name c w f.name f.shown)) (after g f.name s f.shown)
 
     -- what the reply names is what the slot shows
     pub slot_named : (i : ℕ) (w n v : Option ℕ) → slice_get (weaks_at c.table a) i ≡ Some w → n ≡ name_in c.table w → replies.Named n ≡ replies.Named v → IsShown (heap_of c) w v
@@ -142,20 +142,20 @@ module _ (g : Graph) (c : CoreState) (s : ShowsGraph g c) (m : ℕ) (object : Re
     weaks_done n e =
         let h = l g s in
         let count : n ≡ length h.object.weaks = e ∙ ap (λ (ps : List (Option ℕ)). length ps) (weaks_there c a h.stored h.at) ∙ AllZip-length (IsShown (heap_of c)) h.stored.weaks h.object.weaks h.weaks in
-        acts_by g m (actions.Weaks object) (replies.Word n) c (replies.Word (length h.object.weaks), g) (on_found g c m a object _ h) (ap replies.Word count) s
+        acts_by g m (actions.Weaks object) (replies.Word n) c (replies.Word (length h.object.weaks), g) (on_found g c s m a object _ h) (ap replies.Word count) s
 
     pub read_done : (i w : ℕ) → slice_get (values_at c.table a) i ≡ Some w → Acts g m (actions.Read object i) (replies.Word w) c
     read_done i w e =
         let h = l g s in
         let there : slice_get h.object.values i ≡ Some w = ap (λ (ps : List ℕ). slice_get ps i) (sym (values_there c a h.stored h.at ∙ h.values)) ∙ e in
-        acts_by g m (actions.Read object i) (replies.Word w) c (replies.Word w, g) (on_found g c m a object _ h ∙ rw there refl) refl s
+        acts_by g m (actions.Read object i) (replies.Word w) c (replies.Word w, g) (on_found g c s m a object _ h ∙ rw there refl) refl s
 
     pub shape_done : (p d : ℕ) → p ≡ length (pointers_at c.table a) → d ≡ length (values_at c.table a) → Acts g m (actions.Shape object) (replies.Shape p d) c
     shape_done p d ep ed =
         let h = l g s in
         let np : p ≡ length h.object.pointers = ep ∙ ap (λ (ps : List (Option ℕ)). length ps) (pointers_there c a h.stored h.at) ∙ AllZip-length (IsShown (heap_of c)) h.stored.pointers h.object.pointers h.pointers in
         let nd : d ≡ length h.object.values = ed ∙ ap (λ (ps : List ℕ). length ps) (values_there c a h.stored h.at ∙ h.values) in
-        acts_by g m (actions.Shape object) (replies.Shape p d) c (replies.Shape (length h.object.pointers) (length h.object.values), g) (on_found g c m a object _ h) (ap (λ n. replies.Shape n d) np ∙ ap (λ n. replies.Shape (length h.object.pointers) n) nd) s
+        acts_by g m (actions.Shape object) (replies.Shape p d) c (replies.Shape (length h.object.pointers) (length h.object.values), g) (on_found g c s m a object _ h) (ap (λ n. replies.Shape n d) np ∙ ap (λ n. replies.Shape (length h.object.pointers) n) nd) s
 
     -- put: the store
     pub put_done : (i : ℕ) (value : Option Register) (w : Option ℕ) (c' : CoreState) → i < length (pointers_at c.table a) → IsShown (heap_of c) w (stored g m value)
@@ -170,7 +170,7 @@ module _ (g : Graph) (c : CoreState) (s : ShowsGraph g c) (m : ℕ) (object : Re
         let v : Option ℕ = stored g m value in
         let p : Object = record h.object { pointers = slice_set h.object.pointers i v } in
         acts_by g m (actions.Put object i value) replies.Done c' (replies.Done, with_changed g h.stored.name p)
-        (on_found g c m a object _ h ∙ rw there refl) refl (after g h.stored h.object v s h.at h.named shown)
+        (on_found g c s m a object _ h ∙ rw there refl) refl (after g h.stored h.object v s h.at h.named shown)
 
     pub put_weak_done : (i : ℕ) (value : Option Register) (w : Option ℕ) (c' : CoreState) → i < length (weaks_at c.table a) → IsShown (heap_of c) w (stored g m value)
         → ((g : Graph) (x : Stored) (o : Object) (v : Option ℕ) → ShowsGraph g c → kept_of c a ≡ Some x → object_named g x.name ≡ Some o → IsShown (heap_of c) w v
@@ -184,14 +184,14 @@ module _ (g : Graph) (c : CoreState) (s : ShowsGraph g c) (m : ℕ) (object : Re
         let v : Option ℕ = stored g m value in
         let p : Object = record h.object { weaks = slice_set h.object.weaks i v } in
         acts_by g m (actions.PutWeak object i value) replies.Done c' (replies.Done, with_changed g h.stored.name p)
-        (on_found g c m a object _ h ∙ rw there refl) refl (after g h.stored h.object v s h.at h.named shown)
+        (on_found g c s m a object _ h ∙ rw there refl) refl (after g h.stored h.object v s h.at h.named shown)
 
-    pub write_is : (i v : ℕ) (h : HasObject g c (register_place m object.number) a) → i < length (values_at c.table a)
+    pub write_is : (i v : ℕ) (h : HasObject g c (register_place (places_of c.config) m object.number) a) → i < length (values_at c.table a)
         → act g m (actions.Write object i v) ≡ (replies.Done, with_changed g h.stored.name (record h.object { values = slice_set h.object.values i v }))
     write_is i v h k =
         let k' : i < length h.stored.values = rw (values_there c a h.stored h.at) at k in
         let there : slice_get h.object.values i ≡ Some (get_or h.stored.values i 0) = ap (λ (ps : List ℕ). slice_get ps i) (sym h.values) ∙ slice_get-get_or h.stored.values i 0 k' in
-        on_found g c m a object _ h ∙ rw there refl
+        on_found g c s m a object _ h ∙ rw there refl
 
     pub write_done : (i v : ℕ) (t : Table) → i < length (values_at c.table a) → 0 < c.table.words_per_region → t ≡ set_value c.table a i v
         → Acts g m (actions.Write object i v) replies.Done (record c { table = t })

@@ -6,7 +6,7 @@ use Rattle.std.specs.List.{AllZip}
 use Rattle.std.proofs.lemmas.Grind.{common_steps}
 use Rattle.std.proofs.lemmas.Bool.Decides.{nat_tests}
 use Rattle.std.proofs.lemmas.List.{length-set, length-append}
-use Rattle.heap_model.specs.Graph.{Graph, Object, IsReachable, next_name, with_object}
+use Rattle.heap_model.specs.Graph.{Graph, Object, Places, IsReachable, next_name, with_object}
 use Rattle.heap_model.specs.Heap.{Heap, Stored, IsShown, ObjectAdded}
 use Rattle.heap_model.specs.Kept.{kept_by}
 use Rattle.heap_model.specs.Marking.{Marking, KeepsSnapshot}
@@ -14,7 +14,7 @@ use Rattle.heap_model.proofs.Mutate.{object_added}
 use Rattle.heap_model.proofs.Changed.{object_added_shows}
 use Rattle.heap_model.proofs.Unreached.{object_sound, unreached_object}
 use Rattle.regions.specs.Table.{Table, new_object, object_at}
-use Rattle.object_graph.specs.State.{register_place}
+use Rattle.object_graph.specs.State.{register_place, places_of}
 use Rattle.object_graph.specs.Machine.{made}
 use Rattle.object_graph.specs.declared.step.Action.TheVariants as actions
 use Rattle.object_graph.specs.declared.step.Reply.TheVariants as replies
@@ -43,7 +43,7 @@ not_below a b le = grind (arith, common_steps, nat_tests)
 not_same : (a b : ℕ) → a ≢ b → (a == b) ≡ false
 not_same a b ne = grind (arith, common_steps, nat_tests)
 
-made_is : (g : Graph) (m p weak d : ℕ) (to : Register) → 2 + p + weak + d ≤ g.room → next_name g ≢ 2 ^ 64 - 1 → made g m to (record { pointers = p; values = d }) weak ≡ (replies.Named (Some (next_name g)), with_object g (fresh p weak d) (register_place m to.number))
+made_is : (g : Graph) (m p weak d : ℕ) (to : Register) → 2 + p + weak + d ≤ g.room → next_name g ≢ 2 ^ 64 - 1 → made g m to (record { pointers = p; values = d }) weak ≡ (replies.Named (Some (next_name g)), with_object g (fresh p weak d) (register_place g.places m to.number))
 made_is g m p weak d to h n =
     let fits : nat_lt g.room (2 + p + weak + d) ≡ false = not_below g.room (2 + p + weak + d) h in
     let there : (next_name g == 2 ^ 64 - 1) ≡ false = not_same (next_name g) (2 ^ 64 - 1) n in
@@ -93,38 +93,42 @@ module _ (k : CoreState) (m : ℕ) (to : Register) (t2 : Table) (b1 : Buffers) (
       below : is_below k.table.words_per_region k.marker.tams.previous a ≡ false
       below = new_below k.marker.tams.previous core.layers.above_previous
 
-  new_shows : (g : Graph) → ShowsGraph g k → ShowsGraph (with_object g (fresh p weak d) (register_place m to.number)) (with_new k t2 b1 (register_place m to.number) a)
+  new_shows : (g : Graph) → ShowsGraph g k → ShowsGraph (with_object g (fresh p weak d) (register_place (places_of k.config) m to.number)) (with_new k t2 b1 (register_place (places_of k.config) m to.number) a)
   new_shows g s = record {
     room = s.room;
-    mutators = s.mutators;
+    places = s.places;
     next = (let next = s.next in let len = length-append g.objects (fresh p weak d ∷ []) in omega arith);
-    shows = object_added_shows g (heap_of k) (heap_of (with_new k t2 b1 (register_place m to.number) a)) s.shows a (new_object k.next p weak d) (fresh p weak d) (register_place m to.number) (added (register_place m to.number)) (sym s.next)
+    shows = object_added_shows g (heap_of k) (heap_of (with_new k t2 b1 (register_place (places_of k.config) m to.number) a)) s.shows a (new_object k.next p weak d) (fresh p weak d) (register_place (places_of k.config) m to.number) (added (register_place (places_of k.config) m to.number)) (sym s.next)
         (nil_shown (heap_of k) p) (nil_shown (heap_of k) weak) refl;
   }
 
-  pub new_acts : (g : Graph) → ShowsGraph g k → Acts g m (actions.NewWeak to (record { pointers = p; values = d }) weak) (replies.Named (Some k.next)) (with_new k t2 b1 (register_place m to.number) a)
+  -- the graph has its roots in the same places
+  new_there : (g : Graph) → ShowsGraph g k → ShowsGraph (with_object g (fresh p weak d) (register_place g.places m to.number)) (with_new k t2 b1 (register_place (places_of k.config) m to.number) a)
+  new_there g s = subst (λ (q : Places). ShowsGraph (with_object g (fresh p weak d) (register_place q m to.number)) (with_new k t2 b1 (register_place (places_of k.config) m to.number) a)) (sym s.places) (new_shows g s)
+
+  pub new_acts : (g : Graph) → ShowsGraph g k → Acts g m (actions.NewWeak to (record { pointers = p; values = d }) weak) (replies.Named (Some k.next)) (with_new k t2 b1 (register_place (places_of k.config) m to.number) a)
   new_acts g s =
       let next = s.next in
       let fits : 2 + p + weak + d ≤ g.room = rw s.room room in
       let there : next_name g ≢ 2 ^ 64 - 1 = λ h. names (sym next ∙ h) in
-      acts_by g m (actions.NewWeak to (record { pointers = p; values = d }) weak) (replies.Named (Some k.next)) (with_new k t2 b1 (register_place m to.number) a) (replies.Named (Some (next_name g)), with_object g (fresh p weak d) (register_place m to.number))
-      (made_is g m p weak d to fits there) (ap (λ (j : ℕ). replies.Named (Some j)) (sym next)) (new_shows g s)
+      acts_by g m (actions.NewWeak to (record { pointers = p; values = d }) weak) (replies.Named (Some k.next)) (with_new k t2 b1 (register_place (places_of k.config) m to.number) a) (replies.Named (Some (next_name g)), with_object g (fresh p weak d) (register_place g.places m to.number))
+      (made_is g m p weak d to fits there) (ap (λ (j : ℕ). replies.Named (Some j)) (sym next)) (new_there g s)
 
-  pub new_keeps : (s : Graph) → KeepsFrom s k → KeepsFrom s (with_new k t2 b1 (register_place m to.number) a)
+  pub new_keeps : (s : Graph) → KeepsFrom s k → KeepsFrom s (with_new k t2 b1 (register_place (places_of k.config) m to.number) a)
   new_keeps s f = record {
     earlier = (let le = f.earlier in omega arith);
-    marking = λ run. subst (λ (marks : Marking). KeepsSnapshot s (heap_of (new (register_place m to.number))) marks) (sym (marking_same k.table t2 k.marker words))
-        (object_added (IsReachable s) (next_name s) (heap_of k) (marking_of k) (f.marking run) (heap_of (new (register_place m to.number))) a (new_object k.next p weak d) (register_place m to.number)
-        (new_below k.marker.tams.next core.layers.above_next) f.earlier (added (register_place m to.number)));
+    marking = λ run. subst (λ (marks : Marking). KeepsSnapshot s (heap_of (new (register_place (places_of k.config) m to.number))) marks) (sym (marking_same k.table t2 k.marker words))
+        (object_added (IsReachable s) (next_name s) (heap_of k) (marking_of k) (f.marking run) (heap_of (new (register_place (places_of k.config) m to.number))) a (new_object k.next p weak d) (register_place (places_of k.config) m to.number)
+        (new_below k.marker.tams.next core.layers.above_next) f.earlier (added (register_place (places_of k.config) m to.number)));
   }
 
-  new_leaves_by : LeavesRegions k (with_new k t2 b1 (register_place m to.number) a)
+  new_leaves_by : LeavesRegions k (with_new k t2 b1 (register_place (places_of k.config) m to.number) a)
   new_leaves_by = record { config = refl; in_use = λ j used free. used (sym (makes.kinds_stay j used) ∙ free) }
 
-  pub new_leaves : (c : CoreState) → k ≡ c → LeavesRegions c (with_new k t2 b1 (register_place m to.number) a)
-  new_leaves c e = subst (λ (d : CoreState). LeavesRegions d (with_new k t2 b1 (register_place m to.number) a)) e new_leaves_by
+  pub new_leaves : (c : CoreState) → k ≡ c → LeavesRegions c (with_new k t2 b1 (register_place (places_of k.config) m to.number) a)
+  new_leaves c e = subst (λ (d : CoreState). LeavesRegions d (with_new k t2 b1 (register_place (places_of k.config) m to.number) a)) e new_leaves_by
 
-  pub new_kept : IsCore (with_new k t2 b1 (register_place m to.number) a)
+  pub new_kept : IsCore (with_new k t2 b1 (register_place (places_of k.config) m to.number) a)
   new_kept =
       let g = core.footing.graph in
       let shows = new_shows g core.rests.shows in
@@ -144,7 +148,7 @@ module _ (k : CoreState) (m : ℕ) (to : Register) (t2 : Table) (b1 : Buffers) (
           unmoved = makes.unmoved;
           marker = stands_over k.table t2 k.marker core.layers.marker makes.region_count words
               (λ j lt. previous.tops j (rw makes.region_count lt)) (λ j lt. next.tops j (rw makes.region_count lt)) still
-              (follows_of (new (register_place m to.number)) _ core.footing.snapshot shows keeps);
+              (follows_of (new (register_place (places_of k.config) m to.number)) _ core.footing.snapshot shows keeps);
           above_previous = previous;
           above_next = next;
           room = core.layers.room;
@@ -153,17 +157,17 @@ module _ (k : CoreState) (m : ℕ) (to : Register) (t2 : Table) (b1 : Buffers) (
           ends_next = ends_added k.table t2 a (new_object k.next p weak d) words makes.kinds_stay makes.is makes.others k.marker.tams.next (makes.above (slice_index k.marker.tams.next) core.layers.above_next).0 core.layers.ends_next;
         };
         cards = core.cards;
-        remembers = remembers_new k (new (register_place m to.number)) a (new_object k.next p weak d) (register_place m to.number) refl words refl refl (added (register_place m to.number)) (λ i b e. nil_fields k.next p weak d i b e) core.remembers;
+        remembers = remembers_new k (new (register_place (places_of k.config) m to.number)) a (new_object k.next p weak d) (register_place (places_of k.config) m to.number) refl words refl refl (added (register_place (places_of k.config) m to.number)) (λ i b e. nil_fields k.next p weak d i b e) core.remembers;
         room = core.room;
         rows = core.rows;
-        places = length-set k.roots (register_place m to.number) (Some a) ∙ core.places;
+        places = length-set k.roots (register_place (places_of k.config) m to.number) (Some a) ∙ core.places;
         names = (let old = core.names in omega arith);
-        footing = record { graph = with_object g (fresh p weak d) (register_place m to.number); snapshot = core.footing.snapshot };
+        footing = record { graph = with_object g (fresh p weak d) (register_place (places_of k.config) m to.number); snapshot = core.footing.snapshot };
         rests = record {
           shows = shows;
           keeps = keeps;
-          sound = object_sound g (fresh p weak d) (register_place m to.number) core.rests.sound (λ i n e. nil_fields k.next p weak d i n e);
-          unreached = unreached_object core.footing.snapshot g core.rests.unreached (fresh p weak d) (register_place m to.number) (let next = core.rests.shows.next in let early = core.rests.keeps.earlier in omega (arith, next, early));
+          sound = object_sound g (fresh p weak d) (register_place (places_of k.config) m to.number) core.rests.sound (λ i n e. nil_fields k.next p weak d i n e);
+          unreached = unreached_object core.footing.snapshot g core.rests.unreached (fresh p weak d) (register_place (places_of k.config) m to.number) (let next = core.rests.shows.next in let early = core.rests.keeps.earlier in omega (arith, next, early));
         };
       }
     where

@@ -98,7 +98,7 @@ module _ (k : CoreState) (core : IsCore k) (m card : ℕ) (cs : Cards) (known : 
   }
     where
       shows_too : (g : Graph) → ShowsGraph g k → ShowsGraph g (record k { cards = cs })
-      shows_too g s = record { room = s.room; mutators = s.mutators; next = s.next; shows = s.shows }
+      shows_too g s = record { room = s.room; places = s.places; next = s.next; shows = s.shows }
 
       keeps_too : (s : Graph) → KeepsFrom s k → KeepsFrom s (record k { cards = cs })
       keeps_too s f = record { earlier = f.earlier; marking = f.marking }
@@ -122,7 +122,7 @@ shown_noted c c' w v e h = subst (λ (x : Heap). IsShown x w v) (sym (heap_noted
 
 shows_with : (c : CoreState) (cs : Cards) (g : Graph) → ShowsGraph g c → ShowsGraph g (record c { cards = cs })
 unfolding kept_of
-shows_with c cs g s = record { room = s.room; mutators = s.mutators; next = s.next; shows = s.shows }
+shows_with c cs g s = record { room = s.room; places = s.places; next = s.next; shows = s.shows }
 
 keeps_with : (c : CoreState) (cs : Cards) (s : Graph) → KeepsFrom s c → KeepsFrom s (record c { cards = cs })
 unfolding kept_of

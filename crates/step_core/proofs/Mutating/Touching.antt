@@ -42,7 +42,7 @@ module _ (k : CoreState) (core : IsCore k) (place : ℕ) (w : Option ℕ) (m : M
   shows_by : (g : Graph) (v : Option ℕ) → ShowsGraph g k → IsShown (heap_of k) w v → ShowsGraph (with_root g place v) (with_touch k place w m)
   shows_by g v s shown = record {
     room = s.room;
-    mutators = s.mutators;
+    places = s.places;
     next = s.next;
     shows = root_set_shows g (heap_of k) (heap_of (with_touch k place w m)) s.shows place w v shown set_in;
   }

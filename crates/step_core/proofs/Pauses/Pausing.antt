@@ -34,7 +34,7 @@ use Rattle.evacuation.specs.Rooms.{RoomSizes}
 use Rattle.evacuation.specs.Evacuates.{CanEvacuate, HasEvacuated, IsRow, IsNewSet, IsSameBut, MarksAfter, is_chosen, set_in}
 use Rattle.heap_words.specs.Configs.{card_words}
 use Rattle.step_core.proofs.Mutating.Noting.{cards_a_region}
-use Rattle.step_core.specs.Stands.{CoreState, kept_of, heap_of, marking_of, EndsBelow, ShowsGraph, KeepsFrom, LayersFit, IsCore}
+use Rattle.step_core.specs.Stands.{places_of, CoreState, kept_of, heap_of, marking_of, EndsBelow, ShowsGraph, KeepsFrom, LayersFit, IsCore}
 use Rattle.step_core.specs.Reclaimed.{IsReclaimed}
 use Rattle.step_core.specs.Pause.{IsChosen, IsRowOf, IsCandidateRow, IsReady, EvacuatesBest, HasPaused, layers_of}
 use Rattle.heap_words.specs.declared.config.Config.{Config}
@@ -98,7 +98,7 @@ module _ (k : CoreState) (core : IsCore k) (budget : ℕ) (chosen : List LiveRow
 
     pub paused_shows : (g : Graph) → ShowsGraph g k → ShowsGraph g after
     unfolding kept_of
-    paused_shows g s = record { room = s.room; mutators = s.mutators; next = s.next; shows = relocated_shows place g (heap_of k) (heap_of after) s.shows ev.relocates }
+    paused_shows g s = record { room = s.room; places = s.places; next = s.next; shows = relocated_shows place g (heap_of k) (heap_of after) s.shows ev.relocates }
 
     -- ---- tops at mark start and marks
     top_past : (tops : List ℕ) (j : ℕ) → length tops ≡ length k.table.regions → length k.table.regions ≤ j → slice_index tops j ≡ 0
@@ -307,7 +307,7 @@ still_shows : (c k : CoreState) → IsReady c k → (g : Graph) → ShowsGraph g
 unfolding kept_of
 still_shows c k ready g s = record {
   room = s.room ∙ sym (ap (λ (x : Config). x.regions * x.words) (ready_config c k ready));
-  mutators = s.mutators ∙ sym (ap (λ (x : Config). x.mutators) (ready_config c k ready));
+  places = s.places ∙ sym (ap places_of (ready_config c k ready));
   next = s.next ∙ sym (ready_next c k ready);
   shows = rw (ready_table c k ready, ready_marker c k ready, ready_roots c k ready) s.shows;
 }

@@ -24,7 +24,7 @@ with_closed c b cs = record c { buffers = b; cards = cs }
 module _ (k : CoreState) (b : Buffers) (cs : Cards) where
   pub closed_shows : (g : Graph) → ShowsGraph g k → ShowsGraph g (with_closed k b cs)
   unfolding kept_of
-  closed_shows g s = record { room = s.room; mutators = s.mutators; next = s.next; shows = s.shows }
+  closed_shows g s = record { room = s.room; places = s.places; next = s.next; shows = s.shows }
 
   pub closed_keeps : (s : Graph) → KeepsFrom s k → KeepsFrom s (with_closed k b cs)
   unfolding kept_of

@@ -38,7 +38,7 @@ module _ (k : CoreState) (core : IsCore k) (result : Bool) (cs : Cards) (ss : Se
     → Remembers k.table.words_per_region (kept_in k.table k.marker.tams k.marker.bitmaps.previous) (card_words k.config) (is_dirty cs) (covers ss)) where
   pub cards_show : (g : Graph) → ShowsGraph g k → ShowsGraph g (with_cards k cs ss)
   unfolding kept_of
-  cards_show g s = record { room = s.room; mutators = s.mutators; next = s.next; shows = s.shows }
+  cards_show g s = record { room = s.room; places = s.places; next = s.next; shows = s.shows }
 
   pub cards_keep : (s : Graph) → KeepsFrom s k → KeepsFrom s (with_cards k cs ss)
   unfolding kept_of

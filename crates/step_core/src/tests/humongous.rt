@@ -146,7 +146,7 @@ fn seventeen_cards(rt: HostRuntime) -> Result<(), Fail> {
     let Ok(mut core) = Core::new(rt.alloc(), &config) else {
         return Err(Fail::from("a core"));
     };
-    let new = |to: u8, pointers: u32, values: u32| Action::New {
+    let new = |to: u32, pointers: u32, values: u32| Action::New {
         to: register(to),
         counts: Counts { pointers, values },
     };

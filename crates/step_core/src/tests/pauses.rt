@@ -19,19 +19,14 @@ pub(super) enum Line {
     FirstTile(u32, Option<u32>),
 }
 
-pub(super) fn make(to: u8, pointers: u32, values: u32) -> Line
-    requires { to < 8 }
-{
+pub(super) fn make(to: u32, pointers: u32, values: u32) -> Line {
     Line::Act(Action::New {
         to: register(to),
         counts: Counts { pointers, values },
     })
 }
 
-pub(super) fn get(to: u8, object: u8, field: u32) -> Line
-    requires to { to < 8 }
-    requires object { object < 8 }
-{
+pub(super) fn get(to: u32, object: u32, field: u32) -> Line {
     Line::Act(Action::Get {
         to: register(to),
         object: register(object),
@@ -39,10 +34,7 @@ pub(super) fn get(to: u8, object: u8, field: u32) -> Line
     })
 }
 
-pub(super) fn put(object: u8, field: u32, value: u8) -> Line
-    requires object { object < 8 }
-    requires value { value < 8 }
-{
+pub(super) fn put(object: u32, field: u32, value: u32) -> Line {
     Line::Act(Action::Put {
         object: register(object),
         field,
@@ -50,9 +42,7 @@ pub(super) fn put(object: u8, field: u32, value: u8) -> Line
     })
 }
 
-fn put_nil(object: u8, field: u32) -> Line
-    requires { object < 8 }
-{
+fn put_nil(object: u32, field: u32) -> Line {
     Line::Act(Action::Put {
         object: register(object),
         field,
@@ -60,9 +50,7 @@ fn put_nil(object: u8, field: u32) -> Line
     })
 }
 
-pub(super) fn forget(number: u8) -> Line
-    requires { number < 8 }
-{
+pub(super) fn forget(number: u32) -> Line {
     Line::Act(Action::Drop {
         register: register(number),
     })
@@ -105,10 +93,9 @@ fn first_tile(core: &Core, card: u32) -> Option<u32> {
 }
 
 /// Where the object starts that a register of mutator 0 names.
-fn place_of(core: &Core, number: u8) -> Option<u32>
-    requires { number < 8 }
-{
-    if core.config().mutators == 0 {
+fn place_of(core: &Core, number: u32) -> Option<u32> {
+    let config = core.config();
+    if config.mutators == 0 || config.registers() <= number {
         return None;
     }
     match core.register(0, register(number)) {
@@ -144,7 +131,7 @@ pub(super) fn check(
             Line::FirstTile(card, at) => assert_eq!(rt; first_tile(&core, *card), *at),
         }
     }
-    for number in 0..8u8 {
+    for number in 0..8u32 {
         assert_eq!(rt;
             place_of(&core, number),
             places[number as usize],

@@ -59,11 +59,10 @@ fn held_weakly(rt: &impl Abort, alloc: Global) -> Core {
 }
 
 /// The slot takes what a register holds, or nil.
-fn put(value: Option<u8>) -> Action {
+fn put(value: Option<u32>) -> Action {
     let value = match value {
         None => None,
-        Some(number) if number < 8 => Some(register(number)),
-        Some(_) => None,
+        Some(number) => Some(register(number)),
     };
     Action::PutWeak {
         object: register(0),
@@ -245,9 +244,7 @@ fn noted(rt: HostRuntime) -> Result<(), Fail> {
 }
 
 /// An object is made, and this is its name.
-fn made(to: u8, counts: Counts, weaks: u8, name: u64) -> (Action, Reply)
-    requires { to < 8 }
-{
+fn made(to: u32, counts: Counts, weaks: u8, name: u64) -> (Action, Reply) {
     let action = Action::NewWeak {
         to: register(to),
         counts,
@@ -257,10 +254,7 @@ fn made(to: u8, counts: Counts, weaks: u8, name: u64) -> (Action, Reply)
 }
 
 /// A weak slot in a register's object takes what another holds.
-fn put_in(object: u8, slot: u32, value: u8) -> (Action, Reply)
-    requires object { object < 8 }
-    requires value { value < 8 }
-{
+fn put_in(object: u32, slot: u32, value: u32) -> (Action, Reply) {
     let action = Action::PutWeak {
         object: register(object),
         slot,
@@ -270,9 +264,7 @@ fn put_in(object: u8, slot: u32, value: u8) -> (Action, Reply)
 }
 
 /// r7 takes what a weak slot in a register's object holds.
-fn get_from(object: u8, slot: u32, name: Option<u64>) -> (Action, Reply)
-    requires { object < 8 }
-{
+fn get_from(object: u32, slot: u32, name: Option<u64>) -> (Action, Reply) {
     let action = Action::GetWeak {
         to: register(7),
         object: register(object),
@@ -281,9 +273,7 @@ fn get_from(object: u8, slot: u32, name: Option<u64>) -> (Action, Reply)
     (action, Reply::Named(name))
 }
 
-fn forget(number: u8) -> (Action, Reply)
-    requires { number < 8 }
-{
+fn forget(number: u32) -> (Action, Reply) {
     let register = register(number);
     (Action::Drop { register }, Reply::Done)
 }

@@ -1,4 +1,4 @@
-use Rattle.heap_words.proofs.Limits.{small_region, small_heap, card_power, region_cards}
+use Rattle.heap_words.proofs.Limits.{small_region, small_heap, few_mutators, card_power, region_cards}
 use Rattle.heap_words.proofs.config.config_law.Goals as goal
 
 pub returns-clause-region : goal.returns-clause-region
@@ -6,6 +6,9 @@ returns-clause-region c = small_region
 
 pub returns-clause-heap : goal.returns-clause-heap
 returns-clause-heap c = small_heap
+
+pub returns-clause-mutators : goal.returns-clause-mutators
+returns-clause-mutators c = few_mutators
 
 pub returns-clause-power : goal.returns-clause-power
 returns-clause-power c = card_power

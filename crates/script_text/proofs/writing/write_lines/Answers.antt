@@ -2,7 +2,7 @@ use Rattle.std.proofs.Common.{◌+◌, length, take, drop, sym, ap, ◌∙◌, a
 use Rattle.std.proofs.lemmas.List.{append-nil}
 use Rattle.heap_words.specs.declared.config.Config.{Config}
 use Rattle.script_text.specs.Spelling.{heap_words, line}
-use Rattle.script_text.specs.Records.{event_line, event_lines, record_text}
+use Rattle.script_text.specs.Records.{event_lines, record_text}
 use Rattle.script_text.proofs.Output.RecordLaws.{text_so_far, one_more, rest_of_text}
 use Rattle.script_text.proofs.Output.WriteLaws.{nothing_written, part_written, more_held, stopped, if_stopped}
 use Rattle.script_text.proofs.writing.write_lines.Goals as goal
@@ -22,9 +22,9 @@ loop-index-preserved g c =
     record {
       room = omega arith;
       within = omega (arith, c.in-Ok.ensures.room);
-      so_far = more_held (text_so_far r i) (event_line (i + 1) c.event-item.result) (text_so_far r (i + 1)) _ _ (take c.in-Ok.left c.loop-index.buffer) _
+      so_far = more_held (text_so_far r i) _ (text_so_far r (i + 1)) _ _ (take c.in-Ok.left c.loop-index.buffer) _
           (part_written (text_so_far r i) _ _ _ (take c.loop-index.at c.loop-index.buffer) made.0 (take c.in-Ok.left c.loop-index.buffer) c.loop-index.invariant.so_far made.1 made.2)
-          (one_more r c.events-event-items.result.now i c.event-item.result c.events-event-items.ensures.events c.loop-index-test.true c.event-item.is)
+          (one_more r c.events-event-items.result.now i _ c.events-event-items.ensures.events c.loop-index-test.true)
           c.put_event-at.ensures.put;
     }
 

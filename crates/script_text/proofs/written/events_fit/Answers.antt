@@ -6,7 +6,8 @@ use Rattle.script_text.specs.Fits.{EventFits}
 use Rattle.script_text.proofs.written.events_fit.Goals as goal
 
 pub loop-event-preserved : goal.loop-event-preserved
-loop-event-preserved c = All-more EventFits c.args.events.now c.loop-event.event-index c.event-item.result c.loop-event-test.true c.loop-event.invariant (rw (← c.event-item.is) c.event_fits.ensures)
+loop-event-preserved c =
+    All-more EventFits c.args.events.now c.loop-event.event-index _ c.loop-event-test.true c.loop-event.invariant c.event_fits.ensures
 
 pub returns : goal.returns
 returns c = subst (λ (es : List Event). All EventFits es) (take_all c.loop-event.event-index c.args.events.now (omega (arith, c.loop-event-test.false))) c.loop-event.invariant

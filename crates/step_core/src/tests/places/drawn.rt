@@ -17,13 +17,13 @@ pub(crate) fn below(draw: &mut Lcg64Xsh32, limit: u32) -> u32
 /// Few registers, so that objects are shared and lost.
 fn register(draw: &mut Lcg64Xsh32) -> Register {
     Register {
-        number: below(draw, 4) as u8,
+        number: below(draw, 4),
     }
 }
 
 fn global(draw: &mut Lcg64Xsh32) -> GlobalRoot {
     GlobalRoot {
-        number: below(draw, 3) as u8,
+        number: below(draw, 3),
     }
 }
 

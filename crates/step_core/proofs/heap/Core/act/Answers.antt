@@ -158,3 +158,15 @@ returns-in-Weaks-clause-full c = (weaks c).full
 
 pub returns-in-Weaks-clause-after : goal.returns-in-Weaks-clause-after
 returns-in-Weaks-clause-after c = (weaks c).after
+
+scope : (c : goal.After-scope) → Acted c.args.op c.scope.result c.args.self.now c.scope.new.self
+scope c = acted_plain c.args.op _ _ _ _ c.in-Scope.is refl (λ g f. f) c.scope.ensures.acts c.scope.ensures.keeps c.scope.ensures.after
+
+pub returns-in-Scope-clause-follows : goal.returns-in-Scope-clause-follows
+returns-in-Scope-clause-follows c = (scope c).follows
+
+pub returns-in-Scope-clause-full : goal.returns-in-Scope-clause-full
+returns-in-Scope-clause-full c = (scope c).full
+
+pub returns-in-Scope-clause-after : goal.returns-in-Scope-clause-after
+returns-in-Scope-clause-after c = (scope c).after

@@ -1,0 +1,127 @@
+//! Which steps the sizes of a heap allow: tests of what plans, records and heaps ask for.
+
+ghost use Rattle.std.specs.Prelude.{◌≡◌, ◌↔◌, ◌<◌, ℕ, IsTrue};
+ghost use Rattle.object_graph.specs.Roots.{has_register, has_global, has_value, names_roots, NamesRoots, IsOpAt};
+ghost use Rattle.object_graph.specs.Actors.{has_action, allows, IsOp, IsStep, IsStepOf, IsEvent};
+
+use crate::step::{Action, Actor, CollectorStep, Event, GlobalRoot, Op, Register, Step};
+use heap_words::config::{Config, Format};
+use root_table::Places;
+
+impl Register {
+    /// Whether mutators have the register.
+    fn is_in(self, places: &Places) -> bool
+        ensures { result ≡ has_register places.now self }
+    {
+        self.number < places.registers()
+    }
+}
+
+impl GlobalRoot {
+    /// Whether there is the global.
+    fn is_in(self, places: &Places) -> bool
+        ensures { result ≡ has_global places.now self }
+    {
+        self.number < places.globals()
+    }
+}
+
+/// Whether a value is nil or a register that mutators have.
+fn is_value(value: Option<Register>, places: &Places) -> bool
+    ensures { result ≡ has_value places.now value }
+{
+    match value {
+        None => true,
+        Some(register) => register.is_in(places),
+    }
+}
+
+impl Action {
+    /// Whether there is each register and global that the action names.
+    fn names_roots(self, places: &Places) -> bool
+        ensures { result ≡ names_roots places.now self }
+    {
+        match self {
+            Action::New { to, .. } | Action::NewWeak { to, .. } => to.is_in(places),
+            Action::Get { to, object, .. } | Action::GetWeak { to, object, .. } => {
+                to.is_in(places) && object.is_in(places)
+            }
+            Action::Put { object, value, .. } | Action::PutWeak { object, value, .. } => {
+                object.is_in(places) && is_value(value, places)
+            }
+            Action::Read { object, .. }
+            | Action::Write { object, .. }
+            | Action::Shape { object }
+            | Action::Weaks { object } => object.is_in(places),
+            Action::Move { to, from } => to.is_in(places) && from.is_in(places),
+            Action::Drop { register } => register.is_in(places),
+            Action::Load { to, from } => to.is_in(places) && from.is_in(places),
+            Action::Save { to, from } => to.is_in(places) && from.is_in(places),
+            Action::Scope { from } => from.is_in(places),
+        }
+    }
+
+    /// Whether a heap line's format has the action.
+    fn is_known(self, format: Format) -> bool
+        ensures { result ≡ has_action format self }
+    {
+        match self {
+            Action::Scope { .. } => matches!(format, Format::V3 { .. }),
+            _ => true,
+        }
+    }
+
+    /// Whether a heap of these sizes has each root that the action names, and their format the action: so any of its mutators may do it.
+    pub fn is_in(self, config: &Config) -> bool
+        ensures allows { result ≡ allows config.now self }
+        ensures op { (mutator : ℕ) → mutator < config.now.mutators → IsTrue result ↔ IsOp config.now (record { mutator = mutator; action = self }) }
+    {
+        self.names_roots(&Places::of(config)) && self.is_known(config.format)
+    }
+}
+
+impl Op {
+    /// Whether the mutator is one of those, and each root that the step names is there.
+    pub fn is_at(self, places: &Places) -> bool
+        ensures { IsTrue result ↔ IsOpAt places.now self }
+    {
+        self.mutator < places.mutators() && self.action.names_roots(places)
+    }
+
+    /// Whether a heap of these sizes has the mutator and the roots that the step names, and their format the action.
+    fn is_in(self, config: &Config) -> bool
+        ensures { IsTrue result ↔ IsOp config.now self }
+    {
+        self.mutator < config.mutators && self.action.is_in(config)
+    }
+}
+
+impl Step {
+    /// Whether a plan of these sizes may have the step: each of the collector's, and those of mutators whose number, registers and
+    /// globals the sizes allow.
+    pub fn is_in(self, config: &Config) -> bool
+        ensures { IsTrue result ↔ IsStep config.now self }
+    {
+        match self {
+            Step::Mutator(op) => op.is_in(config),
+            Step::Collector(_) => true,
+        }
+    }
+}
+
+impl Event {
+    /// Whether a record of these sizes may have the event: its step is one of its actor's, and the sizes allow it.
+    pub fn is_in(&self, config: &Config) -> bool
+        ensures { IsTrue result ↔ IsEvent config.now self.now }
+    {
+        match (self.actor, self.step) {
+            (Actor::Mutator(mutator), Step::Mutator(op)) => {
+                op.mutator == mutator && op.is_in(config)
+            }
+            (Actor::Collector, Step::Collector(_)) => true,
+            (Actor::Marker(number), Step::Collector(CollectorStep::Mark(_))) => number < 8,
+            (Actor::Refiner(number), Step::Collector(CollectorStep::Refine(_))) => number < 8,
+            _ => false,
+        }
+    }
+}
