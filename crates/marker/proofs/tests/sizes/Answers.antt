@@ -10,4 +10,7 @@ returns-clause-suits c = record {
   buffer = record { at_least = omega arith; at_most = omega arith };
   mutators = record { at_least = omega arith; at_most = omega arith };
   card = record { length = contained (8 ∷ 16 ∷ 32 ∷ 64 ∷ []) 0 8 refl; at_most = omega arith };
+  globals = omega arith;
+  registers = record { at_least = omega arith; at_most = omega arith };
+  roots = omega arith;
 }
