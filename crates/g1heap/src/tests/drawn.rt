@@ -386,7 +386,7 @@ fn drawn_from(rt: &impl Abort, alloc: Global, first: u64) -> Result<(), Fail> {
         "{tally:?}"
     );
     assert!(rt;
-        tally.full > 25_000 && tally.refined > 400 && tally.evacuated > 21_000,
+        tally.full > 24_000 && tally.refined > 400 && tally.evacuated > 21_000,
         "{tally:?}"
     );
     assert!(rt;
