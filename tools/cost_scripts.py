@@ -389,6 +389,35 @@ SCRIPTS = {
 }
 
 
+# Steps whose instructions are counted: what makes ready, the heap line first, and the steps, which are taken again and again.
+SMALL_HEAP = ["heap 4 16 8 1 0", "0 new r0 3 3", "0 new r1 3 3", "0 new r2 3 3"]
+CARDS_HEAP = ["heap 4 64 8 1 0", "0 new r0 26 4", "0 new r1 26 4", "0 new r2 1 1"]
+STEPS = {
+    "`get` and `read` in turn": (["heap 4 16 8 1 0", "0 new r0 1 1"], ["0 get r1 r0 0", "0 read r0 0"]),
+    "`write`": (SMALL_HEAP, ["0 write r0 0 7"]),
+    "`move` and `drop` in turn": (SMALL_HEAP, ["0 move r3 r0", "0 drop r3"]),
+    "`put` of nil": (SMALL_HEAP, ["0 put r0 0 nil"]),
+    "`put` within a region": (SMALL_HEAP, ["0 put r0 0 r1"]),
+    "`put` into another region, the card dirty already": (SMALL_HEAP, ["0 put r0 0 r2"]),
+    "four `put` that make four cards dirty, and a `refine 4`, a step of these five":
+        (CARDS_HEAP, [f"0 put r0 {field} r2" for field in (0, 8, 16, 24)] + ["gc refine 4"]),
+    "the same within a region, and a `refine 4` of nothing":
+        (CARDS_HEAP, [f"0 put r0 {field} r1" for field in (0, 8, 16, 24)] + ["gc refine 4"]),
+    "`refine 1` on an empty queue": (SMALL_HEAP, ["gc refine 1"]),
+    "`new` of 4 words, from a buffer of 512": (["heap 1024 1024 512 1 0"], ["0 new r0 1 1"]),
+    "`newweak` of 5 words, from a buffer of 512": (["heap 1024 1024 512 1 0"], ["0 newweak r0 1 1 1"]),
+    "`getweak` and `weaks` in turn": (["heap 4 16 8 1 0", "0 newweak r0 1 1 1"], ["0 getweak r1 r0 0", "0 weaks r0"]),
+    "`putweak` within a region": (["heap 4 16 8 1 0", "0 newweak r0 1 1 1"], ["0 putweak r0 0 r0"]),
+    "`move` and `scope` in turn": (["heap3 4 16 8 1 0 8 16 8", "0 new r0 1 1"], ["0 move r1 r0", "0 scope r1"]),
+}
+
+
+def write_steps(path, ready, steps, count):
+    """Writes a script that takes so many steps."""
+    with open(path, "w") as file:
+        file.write("\n".join(ready + [steps[place % len(steps)] for place in range(count)]) + "\n")
+
+
 def write(folder, names=SCRIPTS):
     os.makedirs(folder, exist_ok=True)
     for name in names:

@@ -20,6 +20,29 @@ FORMS = {
     "refine": r"refined \d+",
     "pause": r"moved \d+ \d+",
 }
+# The same for a reader.
+GIVEN = {
+    "begin": "ok or refused 6 MarkRunning",
+    "mark": "ok or refused 7 NotMarking",
+    "remark": "marked N or refused 7 NotMarking",
+    "cleanup": "reclaimed N or refused 6 MarkRunning",
+    "refine": "refined N",
+    "pause": "moved N W",
+}
+
+
+class Told(str):
+    """A reply that remembers what it was last compared with."""
+
+    __hash__ = str.__hash__
+
+    def __eq__(self, other):
+        self.given = other
+        return str.__eq__(self, other)
+
+    def __ne__(self, other):
+        self.given = other
+        return str.__ne__(self, other)
 
 
 class Roots(dict):
@@ -57,6 +80,15 @@ class Graph:
         elif words[0] == "remark" and reply.startswith("marked") and self.snapshot is not None:
             self.clear()
         return True
+
+    def given(self, actor, words, reply):
+        """What may stand in place of a reply with which an event may not come now. The graph is of no use after it."""
+        if not actor.isdigit():
+            return GIVEN[words[0]]
+        told = Told(reply)
+        self.allows(actor, words, told)
+        makes = words[0] in ("new", "newweak") and told.given.startswith("#")
+        return told.given + " or refused 3 Full" * makes
 
     def clear(self):
         """The weak slots that hold what the snapshot doesn't reach become nil, and the snapshot is given up."""

@@ -316,8 +316,9 @@ public:
 
     Reply mark(Number units) {
         if (!marking_) return refused(Refusal::NotMarking);
-        while (units != 0 && scan_lowest()) --units;
-        return reply(Form::Ok);
+        Number scanned = 0;
+        while (scanned != units && scan_lowest()) ++scanned;
+        return reply(Form::Ok, scanned);
     }
 
     Reply remark() {
@@ -368,7 +369,35 @@ public:
         return evacuate();
     }
 
-private:
+    // What the words of a region are, of a run each region's own: of objects that the last finished marking marked, of objects that it didn't,
+    // of objects made since it began, of fillers.
+    struct Shares {
+        Kind kind;
+        Number used, marked, dead, fresh, filler;
+    };
+
+    Shares shares(Number number) const {
+        const Region& region = regions_[number];
+        Shares found{region.kind, region.top - bottom(number), 0, 0, 0, 0};
+        if (region.kind == Kind::First || region.kind == Kind::Rest) {
+            Number head = number;
+            while (regions_[head].kind == Kind::Rest) --head;
+            share_of(bottom(head), found) = found.used;
+        }
+        if (region.kind != Kind::Ordinary) return found;
+        for (Address at = bottom(number); at < region.top; at += tile_size(words_[at]))
+            share_of(at, found) += tile_size(words_[at]);
+        return found;
+    }
+
+protected:
+    // The share that the tile at an address counts to.
+    Number& share_of(Address at, Shares& shares) const {
+        if (!is_object(words_[at])) return shares.filler;
+        if (at >= regions_[region_of(at)].previous_start) return shares.fresh;
+        return previous_marks_.has(at) ? shares.marked : shares.dead;
+    }
+
     Word root(Number mutator, Number number) const { return roots_.reg(mutator, number); }
 
     Reply named(Word pointer) const {

@@ -14,12 +14,14 @@ def form_of(text):
 
 
 HEAPS = [form_of(text) for text in ("heap N N N N L", "heap2 N N N N L N", "heap3 N N N N L N N N")]
-MUTATOR = [form_of(text) for text in (
+MUTATOR_TEXTS = (
     "new R N N", "get R R N", "put R N (?:R|nil)", "read R N", "write R N L", "move R R", "drop R", "load R G", "save G R", "shape R",
-    "newweak R N W N", "getweak R R N", "putweak R N (?:R|nil)", "weaks R")]
+    "newweak R N W N", "getweak R R N", "putweak R N (?:R|nil)", "weaks R")
+COLLECTOR_TEXTS = ("begin", "mark N", "remark", "cleanup", "refine N", "pause N")
+MUTATOR = [form_of(text) for text in MUTATOR_TEXTS]
 THIRD_MUTATOR = MUTATOR + [form_of("scope R")]
 MARK, REFINE = form_of("mark N"), form_of("refine N")
-COLLECTOR = [form_of("begin"), MARK, form_of("remark"), form_of("cleanup"), REFINE, form_of("pause N")]
+COLLECTOR = [form_of(text) for text in COLLECTOR_TEXTS]
 WORDS = re.compile(rb"ok|nil|refused (?:1 Nil|2 NoField|3 Full|4 TooBig|5 NamesSpent|6 MarkRunning|7 NotMarking)")
 REPLIES = [(WORDS, [])] + [form_of(text) for text in ("#L", "L", "N N", "marked N", "reclaimed N", "refined N", "moved N N")]
 
@@ -130,3 +132,67 @@ def read(text):
     if fault:
         return None, f"g1heap: heap: {fault}\n"
     return [line.decode("ascii") for line in lines], None
+
+
+# What a line with a fault lacks, as `check --explain` says it.
+
+VERBS = "new, newweak, get, getweak, put, putweak, read, write, move, drop, load, save, shape or weaks"
+THIRD_VERBS = VERBS.replace("shape", "scope, shape")
+COLLECTOR_VERBS = "begin, mark, remark, cleanup, refine or pause"
+HEAP_LINES = "heap REGIONS WORDS BUFFER MUTATORS FIRST, or heap2 and CARD behind these, or heap3 and CARD GLOBALS REGISTERS"
+
+
+def places_of(texts):
+    """The forms of the words behind each verb."""
+    return {words[0].encode(): words[1:] for words in (text.split(" ") for text in texts)}
+
+
+def verbs_of(actor, sizes):
+    """The verbs of an actor with the forms of the words behind them, and what tells them to a reader."""
+    if actor == b"gc":
+        return places_of(COLLECTOR_TEXTS), COLLECTOR_VERBS
+    if actor[:1] == b"m":
+        return places_of(["mark N"]), "mark"
+    if actor[:1] == b"f":
+        return places_of(["refine N"]), "refine"
+    third = ["scope R"] if sizes.third else []
+    return places_of([*MUTATOR_TEXTS, *third]), THIRD_VERBS if sizes.third else VERBS
+
+
+def stop_of(line, count, sizes):
+    """The word at which reading an event's line stops, counted from 1, and what may stand there."""
+    words = line.split(b" ")
+    if not is_number(words[0], LARGE) or int(words[0]) != count:
+        return 1, f"the count {count}"
+    if len(words) < 2 or steps_of(words[1], sizes) is None:
+        return 2, f"gc, m0 to m7, f0 to f7, or a mutator below {sizes.mutators}"
+    verbs, told = verbs_of(words[1], sizes)
+    if len(words) < 3 or words[2] not in verbs:
+        return 3, told
+    texts = {"R": f"a register below r{sizes.limits['R'] + 1}", "G": f"a global below g{sizes.limits['G'] + 1}",
+             "(?:R|nil)": f"nil or a register below r{sizes.limits['R'] + 1}", "N": f"a number up to {SMALL}",
+             "L": f"a number up to {LARGE}", "W": "a number up to 255"}
+    place = 3
+    for form in verbs[words[2]]:
+        if len(words) <= place or numbers_of(words[place], form_of(form), sizes.limits) is None:
+            return place + 1, texts[form]
+        place += 1
+    if len(words) <= place or words[place] != b"=":
+        return place + 1, "= and a reply"
+    return place + 2, "a reply, such as ok, nil, #3, 7, 1 2 or refused 1 Nil"
+
+
+def reason_of(text, fault):
+    """The line that tells what the first line with a fault lacks; nothing where the fault is none of a line."""
+    found = re.fullmatch(r"g1heap: line (\d+): . (\w+)\n", fault)
+    if found is None:
+        return ""
+    number, kind = int(found[1]), found[2]
+    lines = text.split(b"\n")
+    line = lines[number - 1]
+    hints = {"Cut": "a line feed behind it", "LongLine": "at most 120 bytes", "BadHeap": HEAP_LINES}
+    if kind not in hints:
+        word, lack = stop_of(line, number - 1, sizes_of(lines[0]))
+        hints[kind] = f"word {word}: {lack}"
+    shown = "".join(chr(byte) if 32 <= byte <= 126 else "?" for byte in line[:120])
+    return f"line {number}: {shown}; {hints[kind]}\n"

@@ -36,9 +36,15 @@ run program path h =
     let v = is_value path h in
     (rw v.no_end (rw v.no_name (rw v.no_letters refl)), rw v.no_end (rw v.no_name (rw v.no_letters refl)))
 
-pub check : (program path : Text) → is_path path ≡ true → Asks (program ∷ codes "check" ∷ path ∷ []) (path, Check)
+pub check : (program path : Text) → is_path path ≡ true → Asks (program ∷ codes "check" ∷ path ∷ []) (path, Check false)
 unfolding clap_on_literals
 check program path h =
+    let v = is_value path h in
+    (rw v.no_end (rw v.no_name (rw v.no_letters refl)), rw v.no_end (rw v.no_name (rw v.no_letters refl)))
+
+pub explain : (program path : Text) → is_path path ≡ true → Asks (program ∷ codes "check" ∷ path ∷ codes "--explain" ∷ []) (path, Check true)
+unfolding clap_on_literals
+explain program path h =
     let v = is_value path h in
     (rw v.no_end (rw v.no_name (rw v.no_letters refl)), rw v.no_end (rw v.no_name (rw v.no_letters refl)))
 

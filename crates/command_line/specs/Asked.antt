@@ -1,5 +1,5 @@
 -- What the words of a command line ask for.
-use Rattle.std.specs.Prelude.{◌≡◌, ◌==◌, ◌^◌, ◌&&◌, ℕ, Bool, List, [], ◌∷◌, Option, Some, None, not, true}
+use Rattle.std.specs.Prelude.{◌≡◌, ◌==◌, ◌^◌, ◌&&◌, ℕ, Bool, List, [], ◌∷◌, Option, Some, None, not, true, false}
 use Rattle.std.specs.Prelude.{codes, if◌then◌else◌, nat_lt, option_and_then, option_map}
 use Rattle.std.specs.Option.{option_map_or}
 use Rattle.std.specs.Str.{bytes_eq}
@@ -37,13 +37,17 @@ threads_in rows =
     option_and_then (λ workers. option_and_then (λ refiners. option_map (λ markers. Concurrent workers refiners markers)
     (number_in 32 (codes "markers") rows)) (number_in 32 (codes "refiners") rows)) (number_in 32 (codes "workers") rows)
 
+-- whether an option that takes no value was given
+abbrev pub flag_in : Text → List Row → Bool
+flag_in name rows = option_map_or (λ text. bytes_eq text (codes "true")) (first_of name rows) false
+
 -- what a subcommand does with the file
 abbrev pub task_in : Text → List Row → Option Task
 task_in name rows =
     if bytes_eq name (codes "run") then Some (Script File)
     else if bytes_eq name (codes "sim") then option_map Script (drawn_in rows)
     else if bytes_eq name (codes "threads") then option_map Script (threads_in rows)
-    else if bytes_eq name (codes "check") then Some Check
+    else if bytes_eq name (codes "check") then Some (Check (flag_in (codes "explain") rows))
     else if bytes_eq name (codes "view") then Some View
     else None
 

@@ -1,7 +1,7 @@
 -- The program's command, as a parse reads it.
 use Rattle.std.specs.Prelude.{◌≡◌, [], ◌∷◌, Some, codes, pos, true}
 use Rattle.clap.specs.Words.{App, Rule, Text, app_of, new_app, new_rule, with_rule, with_subcommand}
-use Rattle.clap.specs.declared.builder.action.ArgAction.TheVariants.{Set}
+use Rattle.clap.specs.declared.builder.action.ArgAction.TheVariants.{Set, SetTrue}
 use Rattle.clap.specs.declared.builder.command.Command.{Command}
 use Rattle.clap.specs.declared.builder.value_parser.ValueParser.{ValueParser}
 use Rattle.clap.specs.declared.builder.value_parser.ValueParser.TheVariants as parser
@@ -39,6 +39,14 @@ plain name = with_rule (new_app name) file
 abbrev pub by_actors : Text → Rule → App
 by_actors name order = with_rule (with_rule (with_rule (plain name) order) (background (codes "refiners"))) (background (codes "markers"))
 
+-- an option that takes no value
+abbrev pub flag : Text → Rule
+flag name = record (new_rule name) { long = Some name; action = Some SetTrue }
+
+-- the subcommand that judges a record
+abbrev pub checked : App
+checked = with_rule (plain (codes "check")) (flag (codes "explain"))
+
 -- the program without its subcommands
 abbrev pub bare : App
 bare =
@@ -51,5 +59,5 @@ g1heap =
     (plain (codes "run")).top)
     (by_actors (codes "sim") schedule).top)
     (by_actors (codes "threads") workers).top)
-    (plain (codes "check")).top)
+    checked.top)
     (plain (codes "view")).top

@@ -4,7 +4,8 @@
 //!   g1heap run FILE                        Job { file: FILE, task: Task::Script(Order::File) }
 //!   g1heap sim FILE --schedule 7           Job { file: FILE, task: Task::Script(Order::Drawn { seed: 7, refiners: 0, markers: 0 }) }
 //!   g1heap threads FILE --workers 2        Job { file: FILE, task: Task::Script(Order::Concurrent { workers: 2, refiners: 0, markers: 0 }) }
-//!   g1heap check FILE, g1heap view FILE    Job { file: FILE, task: Task::Check }, Task::View
+//!   g1heap check FILE --explain            Job { file: FILE, task: Task::Check { explained: true } }
+//!   g1heap check FILE, g1heap view FILE    Job { file: FILE, task: Task::Check { explained: false } }, Task::View
 //!   g1heap help, and every mistake         an `Error`, whose text is for the user
 //! ```
 //!
@@ -15,10 +16,10 @@ ghost use Rattle.std.specs.Prelude.{◌≡◌, ◌∷◌, [], ℕ, List, Some, I
 ghost use Rattle.clap.specs.Words.{App, FailsBy, HasKind, first_of, found_of, kind_of, rows_of, rule_of};
 ghost use Rattle.clap.specs.Words.{subcommand_rows_of, with_rule, with_subcommand};
 ghost use Rattle.clap.specs.declared.error.kind.ErrorKind.TheVariants.{InvalidValue};
-ghost use Rattle.command_line.specs.Asked.{Asks, asked_in, asked_of, drawn_in, faults_of, is_path, number_in, task_in, threads_in};
+ghost use Rattle.command_line.specs.Asked.{Asks, asked_in, asked_of, drawn_in, faults_of, flag_in, is_path, number_in, task_in, threads_in};
 ghost use Rattle.command_line.specs.declared.Order.TheVariants.{Concurrent, Drawn, File};
 ghost use Rattle.command_line.specs.declared.Task.TheVariants.{Check, Script, View};
-ghost use Rattle.command_line.specs.Program.{IsReadAs, background, bare, by_actors, count, file, g1heap, number, plain, schedule, workers};
+ghost use Rattle.command_line.specs.Program.{IsReadAs, background, bare, by_actors, checked, count, file, flag, g1heap, number, plain, schedule, workers};
 
 use clap::builder::ValueParser;
 use clap::error::ErrorKind;
@@ -49,8 +50,8 @@ pub enum Order {
 pub enum Task {
     /// A script is run, and its record written.
     Script(Order),
-    /// The events of a record are judged.
-    Check,
+    /// The events of a record are judged, and a no explained where that is asked for.
+    Check { explained: bool },
     /// A script is run, and a view of its heap written.
     View,
 }
@@ -80,9 +81,11 @@ impl<'a> Job<'a> {
 
 /// What stands behind the list of subcommands.
 const FORMATS: &str = "\
-FILE is lines. A script's first is `heap REGIONS WORDS BUFFER MUTATORS FIRST`, the heap's sizes and the
-first object's name, or `heap2` with these and the words of a card, for a larger heap; each other one is
-a step of a mutator, as `0 new r0 1 1`, or of the collector, as `gc begin`. A record's lines have a count before the step and ` = REPLY` behind it.
+FILE has a line for each step. A script's first line is `heap REGIONS WORDS BUFFER MUTATORS FIRST`, the
+heap's sizes and the first object's name. `heap2` has the words of a card behind these, for a larger heap,
+and `heap3` also how many globals there are and how many registers each mutator has. Each other line is a
+step of a mutator, as `0 new r0 1 1`, or of the collector, as `gc begin`. A record's lines have a count
+before the step and ` = REPLY` behind it.
 
 Status: 0, done; 1, a fault, told on standard error; 2, a command line that isn't understood; 3, `check` says no.
 
@@ -129,6 +132,17 @@ fn background<'a>(alloc: Global, name: &'a str, help: &'a str) -> Arg<'a>
     ensures own { result.global ≡ false }
 {
     count(alloc, name, help).default_value("0")
+}
+
+/// An option that takes no value.
+fn flag<'a>(alloc: Global, name: &'a str, help: &'a str) -> Arg<'a>
+    ensures rule { rule_of result ≡ flag name.entry.now }
+    ensures own { result.global ≡ false }
+{
+    Arg::new(alloc, name)
+        .long(name)
+        .help(help)
+        .action(ArgAction::SetTrue)
 }
 
 /// The option that takes the seed.
@@ -260,14 +274,17 @@ fn threads_command<'a>(alloc: Global) -> Result<Command<'a>, AllocError>
 }
 
 fn check_command<'a>(alloc: Global) -> Result<Command<'a>, AllocError>
-    ensures { IfOk result (IsReadAs (plain (codes "check"))) }
+    ensures { IfOk result (IsReadAs checked) }
 {
-    plain(
+    let command = plain(
         alloc,
         "check",
         "Judges a record by the graph alone",
         "A record, or - for standard input",
-    )
+    );
+    let help =
+        "Says what the graph gives where the verdict is no, or what a line with a fault lacks";
+    with_arg(command, flag(alloc, "explain", help))
 }
 
 fn view_command<'a>(alloc: Global) -> Result<Command<'a>, AllocError>
@@ -336,6 +353,16 @@ fn threads_order(found: &ArgMatches) -> Option<Order>
     })
 }
 
+/// Whether an option that takes no value was given.
+fn flag_in(found: &ArgMatches, name: &str) -> bool
+    ensures { result ≡ flag_in name.now (rows_of (found_of found.now)) }
+{
+    match found.get_str(name) {
+        Some(text) => text == "true",
+        None => false,
+    }
+}
+
 /// What a subcommand does with the file. `None`: the subcommand is unknown, or a value isn't there.
 fn task_of(name: &str, found: &ArgMatches) -> Option<Task>
     ensures { result ≡ task_in name.now (rows_of (found_of found.now)) }
@@ -344,7 +371,9 @@ fn task_of(name: &str, found: &ArgMatches) -> Option<Task>
         "run" => Some(Task::Script(Order::File)),
         "sim" => Some(Task::Script(drawn_order(found)?)),
         "threads" => Some(Task::Script(threads_order(found)?)),
-        "check" => Some(Task::Check),
+        "check" => Some(Task::Check {
+            explained: flag_in(found, "explain"),
+        }),
         "view" => Some(Task::View),
         _ => None,
     }
@@ -408,7 +437,8 @@ pub fn words_law()
         → Asks (program ∷ codes "sim" ∷ path ∷ codes "--schedule" ∷ codes "7" ∷ []) (path, Script (Drawn 7 0 0)) }
     ensures threads { (program path : List ℕ) → is_path path ≡ true
         → Asks (program ∷ codes "threads" ∷ path ∷ codes "--workers" ∷ codes "2" ∷ []) (path, Script (Concurrent 2 0 0)) }
-    ensures check { (program path : List ℕ) → is_path path ≡ true → Asks (program ∷ codes "check" ∷ path ∷ []) (path, Check) }
+    ensures check { (program path : List ℕ) → is_path path ≡ true → Asks (program ∷ codes "check" ∷ path ∷ []) (path, Check false) }
+    ensures explain { (program path : List ℕ) → is_path path ≡ true → Asks (program ∷ codes "check" ∷ path ∷ codes "--explain" ∷ []) (path, Check true) }
     ensures view { (program path : List ℕ) → is_path path ≡ true → Asks (program ∷ codes "view" ∷ path ∷ []) (path, View) }
 {}
 

@@ -9,6 +9,7 @@ ghost use Rattle.evacuation.specs.Turns.{Pause, IsPause, IsTurn, After, EachCard
 
 use heap_words::addr::{Addr, Ptr};
 use heap_words::bounded::BoundedBits;
+use heap_words::powers::quotient;
 use object_copy::{Destinations, copy};
 use regions::RegionTable;
 
@@ -87,8 +88,8 @@ fn note(table: &RegionTable, noted: &mut BoundedBits, card_words: u32, word: u32
     ensures only { (c : ℕ) → flag noted.new c ≡ true → (flag noted.old c ≡ true) ⊎ ((c ≡ word / pause.card_words) × (target / pause.start.words_per_region ≢ word / pause.start.words_per_region)) }
     ensures each_card { EachCard pause noted.new }
 {
-    if table.region_of(target).number() != table.region_of(Addr::new(word)).number() {
-        noted.set(word / card_words);
+    if table.leads_out(word, target) {
+        noted.set(quotient(word, card_words));
     }
 }
 

@@ -1,6 +1,6 @@
 //! The pause.
 
-ghost use Rattle.std.specs.Prelude.{◌≡◌, ℕ, List, Bool, Option, Some, ◌+◌, length, ◌⊎◌, true};
+ghost use Rattle.std.specs.Prelude.{◌≡◌, ℕ, List, Bool, Option, Some, ◌+◌, length, ◌⊎◌, true, false};
 ghost use Rattle.remembered_sets.specs.Sets.{card_count};
 ghost use Rattle.heap_model.specs.Relocation.{Relocates};
 ghost use Rattle.heap_model.specs.Evacuation.{IsReached, place_after, released};
@@ -33,7 +33,7 @@ pub struct Moved {
     pub words: u32,
 }
 
-/// Copies what is reached of the set, and updates what names it: roots, fields outside, then the copies.
+/// Copies what is reached of the set, which has so many regions, and updates what names it: roots, fields outside, then the copies.
 fn copy_reached(
     table: &mut RegionTable,
     destinations: &mut Destinations,
@@ -44,6 +44,7 @@ fn copy_reached(
     marks: &Marks,
     visited: &BoundedBits,
     roots: &mut Roots,
+    regions: usize,
 )
     ghost pause: { Pause }
     requires premises { IsPause pause }
@@ -57,6 +58,7 @@ fn copy_reached(
     requires all { AllVisited (layout pause) (plan pause) visited.now }
     requires start { table.old ≡ pause.start }
     requires roots { roots.old.words ≡ pause.roots }
+    requires none { regions ≡ 0 → (a : ℕ) → in_set pause a ≡ false }
     ensures turn { IsTurn pause table.new destinations.new }
     ensures each_card { EachCard pause noted.new }
     ensures len { length noted.new ≡ length noted.old }
@@ -68,7 +70,7 @@ fn copy_reached(
     ensures places { roots.new.places ≡ roots.old.places }
     ensures only { (c : ℕ) → flag noted.new c ≡ true → (flag noted.old c ≡ true) ⊎ NewCrossing (layout pause) (space pause pause.start) (space pause table.new) destinations.new c }
 {
-    update_roots(table, destinations, set, roots);
+    update_roots(table, destinations, set, roots, regions);
     update_cards(
         table,
         destinations,
@@ -127,6 +129,7 @@ fn evacuate_in(
         &bitmaps.previous,
         visited,
         roots,
+        chosen.len(),
     );
     dirty_noted(cards, noted);
     release_chosen(table, tams, bitmaps, sets, chosen);

@@ -11,6 +11,7 @@ ghost use Rattle.evacuation.specs.Space.{flag};
 
 use heap_words::addr::RegionNo;
 use heap_words::bounded::BoundedBits;
+use heap_words::powers::quotient;
 use region_choice::LiveRow;
 use regions::{Kind, RegionTable};
 use remembered_sets::RememberedSets;
@@ -52,7 +53,7 @@ fn clear_free(visited: &mut BoundedBits, table: &RegionTable, cards_per_region: 
     visited.law();
     let mut start = 0;
     while let Some(card) = visited.next(start) {
-        if is_free(table, RegionNo::new(card / cards_per_region)) {
+        if is_free(table, RegionNo::new(quotient(card, cards_per_region))) {
             visited.clear_range(card, card + 1);
         }
         start = card + 1;

@@ -3,9 +3,9 @@ use Rattle.std.proofs.Common.{◌≡◌, ◌≢◌, ◌<◌, ◌≤◌, ◌⊎�
 use Rattle.std.specs.Prelude.{◌↔◌, Ok, Result, IfOk, IfErr}
 use Rattle.heap_words.specs.declared.config.Config.{Config}
 use Rattle.object_graph.specs.Actors.{StepList, EventList}
-use Rattle.step_core.specs.declared.runs.RunFault.{RunFault}
-use Rattle.step_core.specs.declared.runs.RunFault.TheVariants as runs
-use Rattle.step_core.specs.Histories.{IsRunFault}
+use Rattle.object_graph.specs.declared.fault.RunFault.{RunFault}
+use Rattle.object_graph.specs.declared.fault.RunFault.TheVariants as runs
+use Rattle.object_graph.specs.Faults.{IsRunFault}
 use Rattle.mutators.specs.Interleavings.{IsRunOf, IsThreadsFault}
 use Rattle.mutators.specs.Draws.{scripted_actors, drawn_by}
 use Rattle.jobs.proofs.Endings.{Comes}

@@ -3,15 +3,16 @@ use Rattle.std.specs.Prelude.{◌≡◌, ℕ, ◌<◌, ◌≤◌, ⊤, Result}
 use Rattle.heap_words.specs.declared.config.Config.{Config}
 use Rattle.object_graph.specs.Actors.{StepList, EventList}
 use Rattle.script_text.specs.Watched.{Reader, Writer}
-use Rattle.step_core.specs.Histories.{IsRunFault}
-use Rattle.step_core.specs.declared.runs.RunFault.{RunFault}
-use Rattle.step_core.specs.declared.runs.RunFault.TheVariants as runs
+use Rattle.object_graph.specs.Faults.{IsRunFault}
+use Rattle.object_graph.specs.declared.fault.RunFault.{RunFault}
+use Rattle.object_graph.specs.declared.fault.RunFault.TheVariants as runs
 use Rattle.mutators.specs.Interleavings.{IsRunOf, IsThreadsFault}
 use Rattle.mutators.specs.Draws.{scripted_actors, drawn_by}
 use Rattle.command_line.specs.declared.Order.{Order}
 use Rattle.command_line.specs.declared.Order.TheVariants.{File, Drawn, Concurrent}
 use Rattle.jobs.specs.declared.faults.JobFault.{JobFault}
-use Rattle.jobs.specs.Runs.{IsRunInOrder, Ends, Tells}
+use Rattle.step_core.specs.Histories.{IsRunInOrder}
+use Rattle.jobs.specs.Runs.{Ends, Tells}
 
 -- the numbers of background actors are in range
 abbrev pub AreFew : ℕ → ℕ → Type 0

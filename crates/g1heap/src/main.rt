@@ -6,14 +6,16 @@
 //!                                                            --> simulate_script  in turns that a seed draws
 //!                                                            --> thread_script    in turns of threads
 //!                                                            --> judge_record     the verdict on a record
+//!                                                            --> explain_record   the verdict with its reason
 //!                                                            --> view_script      the heap as it stands
 //! ```
 //!
-//! `program` reads the command line (crate `command_line`), opens the file and calls `perform`, which does the job (crate `jobs`) and tells
-//! its end. `simulate_script` and `thread_script` are here, since they need threads and waiting or stand beside what does.
+//! `program` reads the command line (crate `command_line`), opens the file and calls `perform`, which does the job and tells its end (crate
+//! `jobs`). The three ways to run a script stand here, since one of them needs threads and waiting.
 #![tactic(auto)]
 
 mod actors;
+mod in_order;
 mod perform;
 mod program;
 #[cfg(test)]

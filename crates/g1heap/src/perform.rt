@@ -1,11 +1,13 @@
 //! What the program does with a job.
 
 ghost use Rattle.g1heap.specs.Runs.{EndsIn};
-ghost use Rattle.g1heap.specs.Jobs.{DoesJob};
+ghost use Rattle.g1heap.specs.Jobs.{DoesCheck, DoesJob};
 
 use crate::actors::{simulate_script, thread_script};
+use crate::in_order::run_script;
 use command_line::{Job, Order, Task};
-use jobs::{JobFault, conclude, perform_check, run_script, view_script};
+use heap_view::view_script;
+use jobs::{JobFault, conclude, perform_check, perform_explain};
 use script_text::{WatchedReader, WatchedWriter};
 use std::alloc::Global;
 use std::io::{Read, Write};
@@ -37,6 +39,23 @@ fn do_script<H: Threads + Wait + Sync, R: Read, W: Write>(
     }
 }
 
+/// Judges a record, with the reason of a no where it is to be explained, and answers the program's status.
+fn do_check<R: Read, W: Write, E: Write>(
+    alloc: Global,
+    explained: bool,
+    reader: &mut WatchedReader<R>,
+    out: &mut WatchedWriter<W>,
+    err: &mut WatchedWriter<E>,
+) -> u8
+    ensures { DoesCheck explained reader.old reader.new out.old out.new err.old err.new result }
+{
+    if explained {
+        perform_explain(alloc, reader, out, err)
+    } else {
+        perform_check(alloc, reader, out, err)
+    }
+}
+
 /// Does the job, and answers the program's status.
 pub fn perform<H: Threads + Wait + Sync, R: Read, W: Write, E: Write>(
     rt: &H,
@@ -53,7 +72,7 @@ pub fn perform<H: Threads + Wait + Sync, R: Read, W: Write, E: Write>(
             let outcome = do_script(rt, alloc, order, reader, out);
             conclude(outcome, err)
         }
-        Task::Check => perform_check(alloc, reader, out, err),
+        Task::Check { explained } => do_check(alloc, explained, reader, out, err),
         Task::View => {
             let viewed = view_script(alloc, reader, out);
             conclude(viewed, err)

@@ -12,6 +12,7 @@ use clap::Error;
 use clap::error::ErrorKind;
 use command_line::{Job, Task, misspelt, read_words};
 use jobs::{JobFault, conclude, conclude_verdict};
+use object_graph::RunFault;
 use script_text::{ReadFault, WatchedReader, WatchedWriter};
 use std::alloc::Global;
 use std::env::Env;
@@ -20,7 +21,6 @@ use std::io::{Read, Write};
 use std::sync::Wait;
 use std::thread::Threads;
 use std::{env, fs, io};
-use step_core::RunFault;
 
 /// Tells that a job's file can't be read, and answers the program's status.
 fn conclude_unread<E: Write>(task: Task, err: &mut WatchedWriter<E>) -> u8
@@ -28,7 +28,7 @@ fn conclude_unread<E: Write>(task: Task, err: &mut WatchedWriter<E>) -> u8
 {
     match task {
         Task::Script(_) => conclude(Err(JobFault::Read(ReadFault::CannotRead)), err),
-        Task::Check => conclude_verdict(Err(JobFault::Read(ReadFault::CannotRead)), err),
+        Task::Check { .. } => { conclude_verdict(Err(JobFault::Read(ReadFault::CannotRead)), err) }
         Task::View => conclude(Err(JobFault::Read(ReadFault::CannotRead)), err),
     }
 }

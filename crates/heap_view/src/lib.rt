@@ -25,7 +25,7 @@
 //! that it has found and hasn't scanned, `scanned` one whose pointers it has followed.
 //!
 //! A view reads the heap and changes nothing of it. It takes no memory, and its cost grows with the heap: the writer gets many short
-//! pieces, so give it one that gathers them.
+//! pieces, so give it one that gathers them. `view_script` reads a script, does its steps in a new heap, and writes the view of that.
 #![tactic(auto)]
 
 mod card_lines;
@@ -33,13 +33,18 @@ mod names;
 mod pieces;
 mod region_lines;
 mod root_lines;
+mod view;
 #[cfg(test)]
 mod tests;
+
+pub use names::name_at;
 
 use heap_words::config::Format;
 use pieces::{write_number, write_text};
 use std::io::{Result, Write};
 use step_core::Core;
+
+pub use view::view_script;
 
 /// Writes what the first line has behind the first name.
 fn write_ending<W: Write>(writer: &mut W, format: Format) -> Result<()> {

@@ -20,7 +20,7 @@ fn tile_name(table: &RegionTable, at: Addr) -> Option<u64>
 }
 
 /// The name of the object that starts at an address, none where none does: a dead object's field can lead there.
-pub(crate) fn name_at(table: &RegionTable, at: Addr) -> Option<u64>
+pub fn name_at(table: &RegionTable, at: Addr) -> Option<u64>
     ensures { IfSome result (λ name. name_in table.now (Some at) ≡ Some name) }
 {
     table.law();

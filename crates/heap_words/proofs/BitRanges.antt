@@ -102,3 +102,61 @@ put_all value flags initial ws n from to i end view short e h k done a =
     has_past (flags_of ws n) a (omega (arith, length-flags_of ws n))
     ∙ sym (ap (λ (b : Bool). if b then value else has flags a) (between_no_above from to a (omega arith)) ∙ has_past flags a (omega (arith, length-flags_of initial n, ap length view))) in
     ⊎_elim inside past (cases_lt a n)
+
+-- ---- a range in three parts, the middle of whole words
+-- the word whose bits all have a value
+abbrev pub IsWhole : Bool → ℕ → Type 0
+IsWhole value word = (j : ℕ) → j < 64 → bit_at word j ≡ (if value then 1 else 0)
+
+value_of : (value : Bool) (n : ℕ) → n ≡ (if value then 1 else 0) → eqb n 1 ≡ value
+value_of true n e = ap (λ k. eqb k 1) e
+value_of false n e = ap (λ k. eqb k 1) e
+
+module _ (value : Bool) (flags : List Bool) (initial ws : List ℕ) (n first past word : ℕ) (view : flags_of initial n ≡ flags) (short : 64 * past ≤ n) (whole : IsWhole value word)
+    (filled : (i : ℕ) → slice_index ws i ≡ (if is_between first past i then word else slice_index initial i)) where
+  within_groups : (a : ℕ) → is_between (64 * first) (64 * past) a ≡ is_between first past (a / 64)
+  within_groups a =
+      let below : a / 64 < first → is_between (64 * first) (64 * past) a ≡ is_between first past (a / 64) = λ h.
+      between_no_below (64 * first) (64 * past) a (omega arith) ∙ sym (between_no_below first past (a / 64) h) in
+      let above : past ≤ a / 64 → is_between (64 * first) (64 * past) a ≡ is_between first past (a / 64) = λ h.
+      between_no_above (64 * first) (64 * past) a (omega arith) ∙ sym (between_no_above first past (a / 64) h) in
+      let inside : first ≤ a / 64 → a / 64 < past → is_between (64 * first) (64 * past) a ≡ is_between first past (a / 64) = λ h k.
+      between_yes (64 * first) (64 * past) a (omega arith) (omega arith) ∙ sym (between_yes first past (a / 64) h k) in
+      ⊎_elim below (λ h. ⊎_elim (λ k. inside h k) above (cases_lt (a / 64) past)) (cases_lt (a / 64) first)
+
+  bit_filled : (a : ℕ) (b : Bool) → is_between first past (a / 64) ≡ b → bit_of ws a ≡ (if b then value else bit_of initial a)
+  bit_filled a true e = ap (λ w. eqb (bit_at w (a % 64)) 1) (filled (a / 64) ∙ ap (λ (b : Bool). if b then word else slice_index initial (a / 64)) e) ∙ value_of value _ (whole (a % 64) (omega arith))
+  bit_filled a false e = ap (λ w. eqb (bit_at w (a % 64)) 1) (filled (a / 64) ∙ ap (λ (b : Bool). if b then word else slice_index initial (a / 64)) e)
+
+  pub groups_put : (a : ℕ) → has (flags_of ws n) a ≡ (if is_between (64 * first) (64 * past) a then value else has flags a)
+  groups_put a =
+      let inside : a < n → has (flags_of ws n) a ≡ (if is_between (64 * first) (64 * past) a then value else has flags a) = λ l.
+      has-flags_of ws n a l ∙ bit_filled a (is_between first past (a / 64)) refl ∙ ap (λ (b : Bool). if b then value else bit_of initial a) (sym (within_groups a))
+      ∙ ap (λ (m : Bool). if is_between (64 * first) (64 * past) a then value else m) (sym (has-flags_of initial n a l) ∙ ap (λ v. has v a) view) in
+      let outside : n ≤ a → has (flags_of ws n) a ≡ (if is_between (64 * first) (64 * past) a then value else has flags a) = λ l.
+      has_past (flags_of ws n) a (omega (arith, length-flags_of ws n))
+      ∙ sym (ap (λ (b : Bool). if b then value else has flags a) (between_no_above (64 * first) (64 * past) a (omega arith)) ∙ has_past flags a (omega (arith, length-flags_of initial n, ap length view))) in
+      ⊎_elim inside outside (cases_lt a n)
+
+-- the parts one after the other are the range
+pub three_parts : (value : Bool) (before first second after : List Bool) (from low high to : ℕ) → from ≤ low → low ≤ high → high ≤ to
+    → ((a : ℕ) → has first a ≡ (if is_between from low a then value else has before a)) → ((a : ℕ) → has second a ≡ (if is_between low high a then value else has first a))
+    → ((a : ℕ) → has after a ≡ (if is_between high to a then value else has second a)) → (a : ℕ) → has after a ≡ (if is_between from to a then value else has before a)
+three_parts value before first second after from low high to h k l e f g a =
+    let pick : (from to : ℕ) (x : Bool) → Bool = λ from to x. if is_between from to a then value else x in
+    let yes : (from to : ℕ) (x : Bool) → from ≤ a → a < to → pick from to x ≡ value = λ from to x p q. ap (λ (b : Bool). if b then value else x) (between_yes from to a p q) in
+    let below : (from to : ℕ) (x : Bool) → a < from → pick from to x ≡ x = λ from to x p. ap (λ (b : Bool). if b then value else x) (between_no_below from to a p) in
+    let above : (from to : ℕ) (x : Bool) → to ≤ a → pick from to x ≡ x = λ from to x p. ap (λ (b : Bool). if b then value else x) (between_no_above from to a p) in
+    elim (cases_lt a from) [
+      | inl p ↦ g a ∙ below high to _ (omega arith) ∙ f a ∙ below low high _ (omega arith) ∙ e a ∙ below from low _ p ∙ sym (below from to _ p)
+      | inr p ↦ elim (cases_lt a low) [
+        | inl q ↦ g a ∙ below high to _ (omega arith) ∙ f a ∙ below low high _ q ∙ e a ∙ yes from low _ p q ∙ sym (yes from to _ p (omega arith))
+        | inr q ↦ elim (cases_lt a high) [
+          | inl r ↦ g a ∙ below high to _ r ∙ f a ∙ yes low high _ q r ∙ sym (yes from to _ p (omega arith))
+          | inr r ↦ elim (cases_lt a to) [
+            | inl s ↦ g a ∙ yes high to _ r s ∙ sym (yes from to _ p s)
+            | inr s ↦ g a ∙ above high to _ s ∙ f a ∙ above low high _ r ∙ e a ∙ above from low _ q ∙ sym (above from to _ s)
+          ]
+        ]
+      ]
+    ]

@@ -4,7 +4,7 @@ use Rattle.std.proofs.lemmas.Bool.{cases_lt, cases_eq}
 use Rattle.std.specs.Prelude.{◌&&◌}
 use Rattle.std.specs.Int.{bit_at, div_ceil}
 use Rattle.std.proofs.lemmas.Nat.{and_le_r, mod_below}
-use Rattle.std.proofs.lemmas.Nat.Bits.{bit_at_set_same, bit_at_set_other, bit_at-zero, shr_and_one, bit_at-lt, bit_at_and, ones_shl, ones_shr, bit_at_mask_inside, bit_at_mask_below, bit_at_ones, bit_at_ones_above}
+use Rattle.std.proofs.lemmas.Nat.Bits.{bit_at_set_same, bit_at_set_other, bit_at_clear_same, bit_at_clear_other, bit_at-zero, shr_and_one, bit_at-lt, bit_at_and, ones_shl, ones_shr, bit_at_mask_inside, bit_at_mask_below, bit_at_ones, bit_at_ones_above}
 use Rattle.std.proofs.lemmas.List.FromFn.{fill_by_all, length-map-range_with_len, get_or-map-range_with_len}
 use Rattle.std.proofs.lemmas.List.{get_or-replicate, length-replicate, get_or_past}
 use Rattle.heap_words.specs.Bits.{has}
@@ -68,6 +68,32 @@ flags_of-set ws n w a h len e =
     (λ same. subst (λ x. has (set (flags_of ws n) a true) x ≡ bit_of (set ws (a / 64) (with_bit w a)) x) same
     (get_or-set_same (flags_of ws n) a true false long ∙ sym (bit_of-set_here ws (a / 64) (with_bit w a) a inside refl ∙ ap (λ x. eqb x 1) (bit_at_set_same w64 w (a % 64) (omega arith)))))
     (λ differs. get_or-set_other (flags_of ws n) a b true false (λ q. differs (sym q)) ∙ has-flags_of ws n b below ∙ sym (bit_of-with_bit ws w a b inside e differs))
+    (cases_eq a b))
+
+-- the word without the bit of a number
+abbrev pub without_bit : ℕ → ℕ → ℕ
+without_bit w a = bit_and w (2 ^ 64 - 1 - 1 * 2 ^ (a % 64) % 2 ^ 64)
+
+bit_of-without_bit : (ws : List ℕ) (w a b : ℕ) → a / 64 < length ws → w ≡ get_or ws (a / 64) 0 → a ≢ b → bit_of (set ws (a / 64) (without_bit w a)) b ≡ bit_of ws b
+bit_of-without_bit ws w a b h e ne =
+    ⊎_elim
+    (λ same.
+    let other : b % 64 ≢ a % 64 = λ q. ne (omega arith) in
+    bit_of-set_here ws (a / 64) (without_bit w a) b h same
+    ∙ ap (λ x. eqb x 1) (bit_at_clear_other w64 w (a % 64) (omega arith) (b % 64) (omega arith) other)
+    ∙ rw (e, same) refl)
+    (λ differs. bit_of-set_there ws (a / 64) (without_bit w a) b differs)
+    (cases_eq (b / 64) (a / 64))
+
+pub flags_of-remove : (ws : List ℕ) (n w a : ℕ) → a < n → n ≤ 64 * length ws → w ≡ get_or ws (a / 64) 0 → flags_of (set ws (a / 64) (without_bit w a)) n ≡ set (flags_of ws n) a false
+flags_of-remove ws n w a h len e =
+    let inside : a / 64 < length ws = omega arith in
+    let long : a < length (flags_of ws n) = omega (arith, length-flags_of ws n) in
+    flags_of_is (set ws (a / 64) (without_bit w a)) n (set (flags_of ws n) a false) (length-set (flags_of ws n) a false ∙ length-flags_of ws n)
+    (λ b below. ⊎_elim
+    (λ same. subst (λ x. has (set (flags_of ws n) a false) x ≡ bit_of (set ws (a / 64) (without_bit w a)) x) same
+    (get_or-set_same (flags_of ws n) a false false long ∙ sym (bit_of-set_here ws (a / 64) (without_bit w a) a inside refl ∙ ap (λ x. eqb x 1) (bit_at_clear_same w64 w (a % 64) (omega arith)))))
+    (λ differs. get_or-set_other (flags_of ws n) a b false false (λ q. differs (sym q)) ∙ has-flags_of ws n b below ∙ sym (bit_of-without_bit ws w a b inside e differs))
     (cases_eq a b))
 
 -- what a number's word says of its bit

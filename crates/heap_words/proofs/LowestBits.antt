@@ -149,3 +149,34 @@ only_agree flags others ws vs n k view other e =
 
 pub same_len : (flags others : List Bool) (ws vs : List ℕ) (n k : ℕ) → flags_of ws n ≡ flags → flags_of vs k ≡ others → length others ≡ length flags → k ≡ n
 same_len flags others ws vs n k view other e = omega (arith, length-flags_of ws n, length-flags_of vs k, ap length view, ap length other)
+
+-- ---- one word, which is all of a group
+-- nothing lies between a number and itself
+pub none_yet : (has : ℕ → Bool) (from : ℕ) → HasNoneBelow has from from
+none_yet has from a h k = absurd (omega arith)
+
+pub group_word : (ws : List ℕ) (i w : ℕ) → w ≡ slice_index ws i → w < 2 ^ 64 → IsWord (bit_of ws) (64 * i) i w
+group_word ws i w read fits = record {
+  low = 0;
+  start = omega arith;
+  near = omega arith;
+  fits = fits;
+  same = λ a h e. ap (λ q. eqb (bit_at (slice_index ws q) (a % 64)) 1) e ∙ ap (λ v. eqb (bit_at v (a % 64)) 1) (sym read);
+  below = λ j h. absurd (omega arith);
+}
+
+pub group_left : (ws vs : List ℕ) (i w v : ℕ) → w ≡ slice_index ws i → v ≡ slice_index vs i → v < 2 ^ 64 → bit_and w (2 ^ 64 - 1 - v) < 2 ^ 64 → IsWord (only ws vs) (64 * i) i (bit_and w (2 ^ 64 - 1 - v))
+group_left ws vs i w v read other fits less = record {
+  low = 0;
+  start = omega arith;
+  near = omega arith;
+  fits = less;
+  same = λ a h e.
+      let j : ℕ = a % 64 in
+      let ws_bit : bit_of ws a ≡ eqb (bit_at w j) 1 = ap (λ k. eqb (bit_at (slice_index ws k) j) 1) e ∙ ap (λ x. eqb (bit_at x j) 1) (sym read) in
+      let vs_bit : bit_of vs a ≡ eqb (bit_at v j) 1 = ap (λ k. eqb (bit_at (slice_index vs k) j) 1) e ∙ ap (λ x. eqb (bit_at x j) 1) (sym other) in
+      let part : bit_at (bit_and w (2 ^ 64 - 1 - v)) j ≡ min (bit_at w j) (1 - bit_at v j) =
+      bit_at_and w (2 ^ 64 - 1 - v) j ∙ ap (λ x. min (bit_at w j) x) (bit_at_not w64 v j fits (omega arith)) in
+      rw (ws_bit, vs_bit) (sym (and_not_bits (bit_at w j) (bit_at v j) (bit_at (bit_and w (2 ^ 64 - 1 - v)) j) (bit_at-lt w j) (bit_at-lt v j) part));
+  below = λ j h. absurd (omega arith);
+}

@@ -11,7 +11,7 @@
 //! A set takes one bit a number, all reserved when it is made. To clear it, or a range of it, touches its words and not each
 //! number, and to go over its members costs the members and the words between them.
 
-ghost use Rattle.std.specs.Prelude.{◌≡◌, ℕ, ◌+◌, ◌*◌, ◌^◌, ◌<◌, ◌≤◌, List, Bool, false, true, if◌then◌else◌, IfOk, IfSome, length, MatchOption, replicate, slice_set};
+ghost use Rattle.std.specs.Prelude.{◌≡◌, ℕ, ◌+◌, ◌*◌, ◌^◌, ◌<◌, ◌≤◌, List, Bool, false, true, if◌then◌else◌, IfOk, IfSome, length, MatchOption, replicate, slice_index, slice_set};
 ghost use Rattle.std.specs.Int.{bit_at};
 ghost use Rattle.heap_words.specs.Bits.{has, has_alone, is_between, HasNone, HasNoneBelow, IsLowest};
 
@@ -46,6 +46,32 @@ fn mask_of(index: u32, from: u32, to: u32) -> u64
     let low = from.saturating_sub(64 * index);
     let high = (to - 64 * index).min(64);
     u64::MAX << low & u64::MAX >> (64 - high)
+}
+
+/// The word of a group whose numbers all are in the set, or none of them.
+fn whole_word(value: bool) -> u64
+    ensures { (j : ℕ) → j < 64 → bit_at result j ≡ (if value then 1 else 0) }
+{
+    if value { u64::MAX } else { 0 }
+}
+
+/// All of these words hold this value.
+fn fill_all(words: &mut [u64], value: u64)
+    ensures { words.new ≡ replicate (length words.old) value }
+{
+    for word in words.iter_mut() {
+        *word = value;
+    }
+}
+
+/// The words from one up to another, which is not one of them, hold this value.
+fn fill_words(words: &mut [u64], from: usize, to: usize, value: u64)
+    requires order { from ≤ to }
+    requires within { to ≤ length words.old }
+    ensures len { length words.new ≡ length words.old }
+    ensures each { (i : ℕ) → slice_index words.new i ≡ (if is_between from to i then value else slice_index words.old i) }
+{
+    fill_all(&mut words[from..to], value);
 }
 
 impl Bits {
@@ -92,19 +118,29 @@ impl Bits {
         requires { number < length self.old }
         ensures { self.new ≡ slice_set self.old number false }
     {
-        self.law();
-        self.clear_range(number, number + 1);
+        self.words[number as usize / 64] &= !(1 << (number % 64));
     }
 
     /// The set is empty.
     pub fn clear(&mut self)
         ensures { self.new ≡ replicate (length self.old) false }
     {
-        self.words.fill(0);
+        fill_all(&mut self.words, 0);
     }
 
-    /// The numbers from `from` up to `to`, which is not one of them, are in the set.
-    pub fn set_range(&mut self, from: u32, to: u32)
+    /// The numbers of whole groups, from one up to another, which is not one of them, are in the set, or they aren't.
+    fn put_groups(&mut self, first: u32, past: u32, value: bool)
+        requires order { first ≤ past }
+        requires within { 64 * past ≤ length self.old }
+        ensures len { length self.new ≡ length self.old }
+        ensures flags { (a : ℕ) → has self.new a ≡ (if is_between (64 * first) (64 * past) a then value else has self.old a) }
+    {
+        let word = whole_word(value);
+        fill_words(&mut self.words, first as usize, past as usize, word);
+    }
+
+    /// The numbers from `from` up to `to`, which is not one of them, are in the set: word by word, by the bits of each.
+    fn set_part(&mut self, from: u32, to: u32)
         requires { to ≤ length self.old }
         ensures len { length self.new ≡ length self.old }
         ensures flags { (a : ℕ) → has self.new a ≡ (if is_between from to a then true else has self.old a) }
@@ -114,14 +150,50 @@ impl Bits {
         }
     }
 
-    /// The numbers from `from` up to `to`, which is not one of them, are not in the set.
-    pub fn clear_range(&mut self, from: u32, to: u32)
+    /// The numbers from `from` up to `to`, which is not one of them, are in the set. Words whose numbers all are in the range are
+    /// written whole.
+    pub fn set_range(&mut self, from: u32, to: u32)
+        requires { to ≤ length self.old }
+        ensures len { length self.new ≡ length self.old }
+        ensures flags { (a : ℕ) → has self.new a ≡ (if is_between from to a then true else has self.old a) }
+    {
+        let first = from.div_ceil(64);
+        let past = to / 64;
+        if first < past {
+            self.set_part(from, 64 * first);
+            self.put_groups(first, past, true);
+            self.set_part(64 * past, to);
+        } else {
+            self.set_part(from, to);
+        }
+    }
+
+    /// The numbers from `from` up to `to`, which is not one of them, are not in the set: word by word, by the bits of each.
+    fn clear_part(&mut self, from: u32, to: u32)
         requires { to ≤ length self.old }
         ensures len { length self.new ≡ length self.old }
         ensures flags { (a : ℕ) → has self.new a ≡ (if is_between from to a then false else has self.old a) }
     {
         for index in from / 64..to.div_ceil(64) {
             self.words[index as usize] &= !mask_of(index, from, to);
+        }
+    }
+
+    /// The numbers from `from` up to `to`, which is not one of them, are not in the set. Words whose numbers all are in the range
+    /// are written whole.
+    pub fn clear_range(&mut self, from: u32, to: u32)
+        requires { to ≤ length self.old }
+        ensures len { length self.new ≡ length self.old }
+        ensures flags { (a : ℕ) → has self.new a ≡ (if is_between from to a then false else has self.old a) }
+    {
+        let first = from.div_ceil(64);
+        let past = to / 64;
+        if first < past {
+            self.clear_part(from, 64 * first);
+            self.put_groups(first, past, false);
+            self.clear_part(64 * past, to);
+        } else {
+            self.clear_part(from, to);
         }
     }
 
@@ -153,6 +225,39 @@ impl Bits {
             }
         }
         None
+    }
+
+    /// The lowest number of the set in a group: group g has the 64 numbers from 64 g on. It looks at one word.
+    pub fn lowest_in(&self, group: u32) -> Option<u32>
+        requires { 64 * group < length self.now }
+        ensures lowest { MatchOption result (HasNoneBelow (has self.now) (64 * group) (64 * group + 64)) (IsLowest (has self.now) (64 * group)) }
+        ensures below { IfSome result (λ found. found < 64 * group + 64) }
+        ensures within { IfSome result (λ found. found < length self.now) }
+    {
+        self.law();
+        let word = self.words[group as usize];
+        if word == 0 {
+            return None;
+        }
+        let found = 64 * group + word.trailing_zeros();
+        if found < self.len { Some(found) } else { None }
+    }
+
+    /// The lowest number of a group that is in this set and not in `other`. It looks at one word of each.
+    pub fn lowest_without(&self, other: &Bits, group: u32) -> Option<u32>
+        requires known { 64 * group < length self.now }
+        requires even { length other.now ≡ length self.now }
+        ensures lowest { MatchOption result (HasNoneBelow (has_alone self.now other.now) (64 * group) (64 * group + 64)) (IsLowest (has_alone self.now other.now) (64 * group)) }
+        ensures below { IfSome result (λ found. found < 64 * group + 64) }
+        ensures within { IfSome result (λ found. found < length self.now) }
+    {
+        self.law();
+        let word = self.words[group as usize] & !other.words[group as usize];
+        if word == 0 {
+            return None;
+        }
+        let found = 64 * group + word.trailing_zeros();
+        if found < self.len { Some(found) } else { None }
     }
 
     /// The lowest number at or above `from` and below `to` that is in this set and not in `other`. It looks at the words
@@ -238,6 +343,29 @@ mod tests {
         }
         let none = Bits::new(rt.alloc(), 0)?;
         assert!(rt; none.len() == 0 && are(&none, &[]));
+        Ok(())
+    }
+
+    /// In a group of 64 numbers, and beside another set: the first and the last number of a group, and a last group that is cut off.
+    #[test]
+    fn finds_the_lowest_of_a_group(rt: HostRuntime) -> Result<(), Fail> {
+        let bits = set_of(rt.alloc(), &[0, 63, 191, 199])?;
+        let other = set_of(rt.alloc(), &[0, 191])?;
+        if bits.len() == 200 && other.len() == 200 {
+            for (group, found, without) in [
+                (0, Some(0), Some(63)),
+                (1, None, None),
+                (2, Some(191), None),
+                (3, Some(199), Some(199)),
+            ] {
+                assert_eq!(rt; bits.lowest_in(group), found, "group {group}");
+                assert_eq!(rt;
+                    bits.lowest_without(&other, group),
+                    without,
+                    "group {group}"
+                );
+            }
+        }
         Ok(())
     }
 

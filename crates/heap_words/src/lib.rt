@@ -13,4 +13,5 @@ pub mod bits;
 pub mod bounded;
 pub mod config;
 pub mod header;
+pub mod powers;
 pub mod words;

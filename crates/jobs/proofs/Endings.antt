@@ -6,9 +6,9 @@ use Rattle.heap_words.specs.Configs.{Suits}
 use Rattle.object_graph.specs.Actors.{StepList, EventList}
 use Rattle.object_graph.specs.declared.step.Step.{Step}
 use Rattle.script_text.specs.Watched.{Reader, Writer}
-use Rattle.step_core.specs.declared.runs.RunFault.{RunFault}
-use Rattle.step_core.specs.declared.runs.RunFault.TheVariants as runs
-use Rattle.step_core.specs.Histories.{IsRunFault}
+use Rattle.object_graph.specs.declared.fault.RunFault.{RunFault}
+use Rattle.object_graph.specs.declared.fault.RunFault.TheVariants as runs
+use Rattle.object_graph.specs.Faults.{IsRunFault}
 use Rattle.jobs.specs.declared.faults.JobFault.{JobFault}
 use Rattle.jobs.specs.declared.faults.JobFault.TheVariants.{Read, Line, Run, Judge, Write}
 use Rattle.jobs.specs.Runs.{ReadsPlan, Answers, Ends}

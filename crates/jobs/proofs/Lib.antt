@@ -1,3 +1,4 @@
 pub mod Endings
 mod Once
 mod Told
+pub mod Reasons

@@ -1,4 +1,4 @@
 pub mod FaultLines
 pub mod Runs
-pub mod Views
 pub mod Verdicts
+pub mod Explanations

@@ -1,29 +1,16 @@
 -- A script that is read, and the record that is written.
-use Rattle.std.specs.Prelude.{◌≡◌, ℕ, ⊤, List, Result, Ok, Err, map}
+use Rattle.std.specs.Prelude.{◌≡◌, ℕ, ⊤, List, Result, Ok, Err}
 use Rattle.std.specs.Io.KnownBytes.{IsAtEnd}
 use Rattle.heap_words.specs.declared.config.Config.{Config}
 use Rattle.object_graph.specs.Actors.{StepList, EventList}
-use Rattle.object_graph.specs.State.{State, first_state}
-use Rattle.object_graph.specs.Run.{IsRun}
 use Rattle.script_text.specs.Lines.{script_of, FailsBy}
 use Rattle.script_text.specs.Records.{record_text}
 use Rattle.script_text.specs.Watched.{Reader, Writer, Gives, FailsToGive, Takes, FailsToTake, Stays}
 use Rattle.script_text.specs.declared.fault.WriteFault.{WriteFault}
-use Rattle.step_core.specs.Histories.{step_in, actor_in, actor_of, RunsFromNew}
-use Rattle.step_core.specs.declared.runs.RunFault.{RunFault}
+use Rattle.object_graph.specs.declared.fault.RunFault.{RunFault}
 use Rattle.jobs.specs.FaultLines.{TellsLine}
 use Rattle.jobs.specs.declared.faults.JobFault.{JobFault}
 use Rattle.jobs.specs.declared.faults.JobFault.TheVariants.{Read, Line, Run, Judge, Write}
-
--- the record has the plan's heap line and its steps, each with its actor. It is a run of the graph, and the events are those of a new
--- heap's cores
-pub record IsRunInOrder (plan : StepList) (r : EventList) : Type 0 where
-  pub config : r.config ≡ plan.config
-  pub steps : map step_in r.events ≡ plan.steps
-  pub actors : map actor_in r.events ≡ map actor_of plan.steps
-  pub last : State
-  pub run : IsRun (first_state plan.config) r.events last
-  pub history : RunsFromNew plan.config r.events
 
 -- Scripts are run in several orders. So what follows is said for any: `Makes plan r`, the record is one that such a run of the plan makes;
 -- `Fails config fault`, such a run on a heap of these sizes may end with the fault.

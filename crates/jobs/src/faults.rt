@@ -6,11 +6,11 @@ ghost use Rattle.jobs.specs.FaultLines.{sizes_words, run_words, judge_words, wri
 ghost use Rattle.jobs.specs.Runs.{Tells};
 
 use heap_words::config::NewFault;
+use object_graph::RunFault;
 use script_text::{
     LineFault, ReadFault, WatchedWriter, WriteFault, put_fault, put_text, write_bytes,
 };
 use std::io::Write;
-use step_core::RunFault;
 use thiserror::Error;
 
 /// Why a record wasn't judged.

@@ -1,6 +1,6 @@
 //! A record that is read, judged and answered by the verdict.
 
-ghost use Rattle.std.specs.Prelude.{◌≡◌, ◌≢◌, ◌≤◌, ◌↔◌, ℕ, List, OnOk, OnErr, length};
+ghost use Rattle.std.specs.Prelude.{◌≡◌, ◌≢◌, ◌≤◌, ◌↔◌, ℕ, List, OnOk, OnErr, length, take};
 ghost use Rattle.script_text.specs.Watched.{Reader, Writer, Takes, TakesPart};
 ghost use Rattle.object_graph.specs.declared.judge.Verdict.{Verdict};
 ghost use Rattle.jobs.specs.Verdicts.{verdict_word, verdict_number, verdict_line, IsJudged, Judges, TellsVerdict, PerformsCheck, IsTextOfRun, IsTextBrokenAt, ToldYes, ToldNo};
@@ -38,6 +38,17 @@ fn verdict_number(verdict: Verdict) -> u64
     }
 }
 
+/// Puts the line of a verdict at a buffer's front, and answers where it ends.
+pub(crate) fn put_verdict(buffer: &mut [u8], verdict: Verdict) -> usize
+    requires { ROOM ≤ length buffer.old }
+    ensures put { take result buffer.new ≡ verdict_line verdict }
+    ensures end { result ≤ ROOM }
+{
+    let at = put_text(buffer, 0, verdict_word(verdict));
+    let at = put_number(buffer, at, verdict_number(verdict));
+    put_text(buffer, at, b"\n")
+}
+
 /// Writes the line of a verdict. Where that fails, the writer refused, and a beginning of the line is written. It takes no memory.
 fn write_verdict<W: Write>(
     verdict: Verdict,
@@ -48,9 +59,7 @@ fn write_verdict<W: Write>(
     ensures memory { result ≢ Err WriteFault.NoMemory }
 {
     let mut buffer = [0u8; ROOM];
-    let at = put_text(&mut buffer, 0, verdict_word(verdict));
-    let at = put_number(&mut buffer, at, verdict_number(verdict));
-    let at = put_text(&mut buffer, at, b"\n");
+    let at = put_verdict(&mut buffer, verdict);
     write_bytes(writer, &buffer[..at])
 }
 

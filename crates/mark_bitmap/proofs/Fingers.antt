@@ -1,10 +1,9 @@
 -- Where a finger falls.
-use Rattle.std.proofs.Common.{◌≡◌, ◌≢◌, min, ℕ, ◌+◌, ◌-◌, ◌/◌, ◌<◌, ◌*◌, ◌^◌, refl, Bool, true, false, List, length, set, sym, ap, ◌∙◌, arith, ⊎_elim}
+use Rattle.std.proofs.Common.{◌≡◌, ◌≢◌, ℕ, ◌+◌, ◌/◌, ◌<◌, ◌*◌, refl, Bool, true, false, List, length, set, sym, ap, ◌∙◌, arith, ⊎_elim}
 use Rattle.std.specs.Prelude.{◌&&◌, not, Option, Some, None, MatchOption}
 use Rattle.std.specs.Option.{is_some}
-use Rattle.std.proofs.lemmas.Bool.{cases_eq, cases_lt}
+use Rattle.std.proofs.lemmas.Bool.{cases_eq}
 use Rattle.heap_words.specs.Bits.{has, HasNoneBelow}
-use Rattle.heap_words.proofs.BitWords.{has_past}
 use Rattle.mark_bitmap.specs.Marks.{is_only}
 use Rattle.mark_bitmap.specs.Grey.{finger_of, HasFingers}
 use Rattle.mark_bitmap.proofs.Summaries.{has_set_here, has_set_there}
@@ -25,13 +24,12 @@ only_less marks scanned n a inside e =
     and_false false = refl
 
 -- no object of the finger is left, and the finger falls
-pub finger_fell : (marks scanned fingers scanned' fingers' : List Bool) (object finger first to : ℕ) → length marks < 2 ^ 32 → object < length scanned → finger < length fingers
-    → scanned' ≡ set scanned object true → fingers' ≡ set fingers finger false → first ≡ 64 * finger → to ≡ min (first + 64) (2 ^ 32 - 1)
-    → HasNoneBelow (is_only marks scanned') first to → HasFingers marks (record { scanned = scanned; fingers = fingers }) → HasFingers marks (record { scanned = scanned'; fingers = fingers' })
+pub finger_fell : (marks scanned fingers scanned' fingers' : List Bool) (object finger : ℕ) → object < length scanned → finger < length fingers
+    → scanned' ≡ set scanned object true → fingers' ≡ set fingers finger false
+    → HasNoneBelow (is_only marks scanned') (64 * finger) (64 * finger + 64) → HasFingers marks (record { scanned = scanned; fingers = fingers }) → HasFingers marks (record { scanned = scanned'; fingers = fingers' })
 unfolding finger_of
-finger_fell marks scanned fingers scanned' fingers' object finger first to small inside known e f start end none had a fell =
-    let here : a / 64 ≡ finger → is_only marks scanned' a ≡ false = λ at.
-    ⊎_elim (λ h. none a (omega arith) (omega arith)) (λ h. ap (λ (b : Bool). b && not (has scanned' a)) (has_past marks a h)) (cases_lt a (length marks)) in
+finger_fell marks scanned fingers scanned' fingers' object finger inside known e f none had a fell =
+    let here : a / 64 ≡ finger → is_only marks scanned' a ≡ false = λ at. none a (omega arith) (omega arith) in
     let there : a / 64 ≢ finger → is_only marks scanned' a ≡ false = λ ne.
     let was = had a (sym (has_set_there fingers finger (a / 64) false ne) ∙ ap (λ (v : List Bool). has v (a / 64)) (sym f) ∙ fell) in
     ap (λ (v : List Bool). is_only marks v a) e ∙ only_less marks scanned object a inside was in

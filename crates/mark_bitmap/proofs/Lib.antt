@@ -6,6 +6,7 @@ pub mod Listed
 pub mod Spans
 pub mod LiveWords
 pub mod Summaries
+pub mod Beside
 pub mod Fingers
 pub mod LiveBounds
 pub mod Samples

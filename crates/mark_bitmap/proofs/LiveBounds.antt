@@ -1,7 +1,7 @@
 -- How large live bounds are, and how they are summed.
 use Rattle.heap_words.specs.Configs.{max_region_words}
-use Rattle.std.proofs.Common.{◌≡◌, ℕ, zero, suc, ◌+◌, ◌-◌, ◌*◌, ◌^◌, ◌<◌, ◌≤◌, Bool, true, false, List, Option, Some, None, length, get_or, refl, sym, ap, ◌∙◌, arith}
-use Rattle.std.specs.Prelude.{if◌then◌else◌, IsSome}
+use Rattle.std.proofs.Common.{◌≡◌, ℕ, zero, suc, ◌+◌, ◌-◌, ◌*◌, ◌<◌, ◌≤◌, Bool, true, false, List, Option, Some, None, length, get_or, refl, sym, ap, ◌∙◌, arith}
+use Rattle.std.specs.Prelude.{if◌then◌else◌}
 use Rattle.std.proofs.lemmas.Bool.{lt-ltb}
 use Rattle.heap_model.specs.Heap.{Stored}
 use Rattle.regions.specs.Tiles.{Object, tile_size}
@@ -146,6 +146,12 @@ words_more t marks from at found next low l e =
     let split = marked_split t marks (found - from) 1 (next - from) from found (omega (arith, low, l.at_least, e)) (omega (arith, low, l.at_least)) in
     let here : (if is_marked marks found then object_words t found else 0) ≡ object_words t found = ap (λ b. if b then object_words t found else 0) l.is_in in
     omega (arith, split, here, words_stay t marks from at found low l.at_least l.lowest)
+
+-- they grow with the addresses
+pub words_grow : (t : Table) (marks : List Bool) (from at to : ℕ) → from ≤ at → at ≤ to → words_between t marks from at ≤ words_between t marks from to
+words_grow t marks from at to low high =
+    let split = marked_split t marks (at - from) (to - at) (to - from) from at (omega (arith, low, high)) (omega (arith, low)) in
+    omega (arith, split)
 
 -- in a region it is no more than the region's words
 pub words_small : (t : Table) (marks : List Bool) (k from to : ℕ) → IsShaped t → kind_of t k ≡ kinds.Ordinary → from ≡ k * t.words_per_region → from ≤ to → to ≤ k * t.words_per_region + t.words_per_region

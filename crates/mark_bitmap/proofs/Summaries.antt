@@ -1,9 +1,9 @@
 -- Sets with a summary above them.
-use Rattle.std.proofs.Common.{◌≡◌, ◌≢◌, min, ℕ, ◌+◌, ◌*◌, ◌/◌, ◌<◌, ◌≤◌, Bool, true, false, List, length, set, replicate, refl, sym, ap, ◌∙◌, subst, arith, ⊎_elim, Option, Some, None, get_or-set_same, get_or-set_other, length-set}
+use Rattle.std.proofs.Common.{◌≡◌, ◌≢◌, ℕ, ◌*◌, ◌/◌, ◌<◌, Bool, true, false, List, length, set, replicate, refl, sym, ap, ◌∙◌, arith, ⊎_elim, Option, Some, None, get_or-set_same, get_or-set_other, length-set}
 use Rattle.std.specs.Prelude.{MatchOption, IfSome}
 use Rattle.std.proofs.lemmas.Bool.{cases_eq, cases_lt}
 use Rattle.std.proofs.lemmas.List.{get_or-replicate, length-replicate}
-use Rattle.heap_words.specs.Bits.{has, HasNone, HasNoneBelow, IsLowest}
+use Rattle.heap_words.specs.Bits.{has, HasNone, IsLowest}
 use Rattle.heap_words.proofs.BitWords.{has_past}
 use Rattle.std.specs.Int.{div_ceil}
 use Rattle.mark_bitmap.specs.Summary.{HasMember, HasNoMember, IsMember, IsSummary, AreLevels}

@@ -2,7 +2,7 @@
 //!
 //! There is no list of them. They are the difference of two bitmaps, and fingers tell where to look: one for each 64
 //! addresses, which is set where a grey object starts at one of them. The fingers have levels above them (`summary`), so
-//! the lowest one that is set is found in a few steps, wherever it is.
+//! the lowest one that is set is found in a few steps, wherever it is, and one of them is held beside the others (`held`).
 //!
 //! ```text
 //!   address   0 ..          64 ..         128 ..        192 ..
@@ -23,8 +23,8 @@ ghost use Rattle.mark_bitmap.specs.Marks.{is_marked, HasNone, IsLowest};
 ghost use Rattle.mark_bitmap.specs.Summary.{HasMember};
 ghost use Rattle.mark_bitmap.specs.Grey.{finger_of, is_grey, nothing_scanned, HasFingers, Scans};
 
+use crate::held::Fingers;
 use crate::marks::Marks;
-use crate::summary::Summary;
 use heap_words::addr::Addr;
 use std::alloc::{AllocError, Global};
 use std::marker::Model;
@@ -32,7 +32,7 @@ use std::marker::Model;
 /// Which objects are scanned, and the fingers. Clauses see both.
 pub struct Grey {
     scanned: Marks,
-    fingers: Summary,
+    fingers: Fingers,
 }
 
 impl Model for Grey {
@@ -66,7 +66,7 @@ impl Grey {
     {
         Ok(Grey {
             scanned: Marks::new(alloc, count)?,
-            fingers: Summary::new(alloc, count.div_ceil(64))?,
+            fingers: Fingers::new(alloc, count.div_ceil(64))?,
         })
     }
 
@@ -113,13 +113,9 @@ impl Grey {
         ensures others { (i : ℕ) → i ≢ finger_of object → has self.new.fingers i ≡ has self.old.fingers i }
         ensures fingers { HasFingers marks.now self.old → HasFingers marks.now self.new }
     {
-        marks.law();
         self.scanned.set(object);
         let finger = object.word() / 64;
-        let first = 64 * finger;
-        let from = Addr::new(first);
-        let to = Addr::new(first.saturating_add(64));
-        if marks.next_without(&self.scanned, from, to).is_none() {
+        if marks.lowest_without(&self.scanned, finger).is_none() {
             self.fingers.remove(finger);
         }
     }

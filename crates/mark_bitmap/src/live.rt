@@ -8,7 +8,7 @@
 //!              | since                  |                             |         |
 //! ```
 
-ghost use Rattle.std.specs.Prelude.{◌≡◌, ◌↔◌, ℕ, ◌+◌, ◌-◌, ◌*◌, ◌<◌, ◌≤◌, Bool, true, List, None, IsTrue, length, slice_index};
+ghost use Rattle.std.specs.Prelude.{◌≡◌, ◌↔◌, ℕ, ◌+◌, ◌-◌, ◌*◌, ◌<◌, ◌≤◌, Bool, true, List, None, IfNone, IfSome, IsTrue, length, slice_index};
 ghost use Rattle.regions.specs.Table.{Table, kind_of, nth_region, top_of};
 ghost use Rattle.regions.specs.Shaped.{IsShaped};
 ghost use Rattle.regions.specs.declared.row.Kind.TheVariants as kinds;
@@ -39,13 +39,23 @@ pub fn is_dead(table: &RegionTable, tams: &Tams, marks: &Marks, region: RegionNo
     marks.next_below(Addr::new(bottom), start).is_none()
 }
 
-/// The words of a region's marked objects below its top at mark start, from one mark to the next.
-fn marked_below(table: &RegionTable, tams: &Tams, marks: &Marks, region: RegionNo) -> u32
+/// The words of a region's marked objects below its top at mark start, from one mark to the next, where they are at most `most`. It
+/// stops at the object with which they are more.
+fn marked_within(
+    table: &RegionTable,
+    tams: &Tams,
+    marks: &Marks,
+    region: RegionNo,
+    most: u32,
+) -> Option<u32>
     requires stands { MarksObjects table.now tams.now.previous marks.now }
     requires known { region < length table.now.regions }
     requires ordinary { kind_of table.now region ≡ kinds.Ordinary }
-    ensures { result ≡ marked_words table.now marks.now (region * table.now.words_per_region)
-        (slice_index tams.now.previous region - region * table.now.words_per_region) }
+    ensures value { IfSome result (λ live. live ≡ marked_words table.now marks.now (region * table.now.words_per_region)
+        (slice_index tams.now.previous region - region * table.now.words_per_region)) }
+    ensures within { IfSome result (λ live. live ≤ most) }
+    ensures more { IfNone result (most < marked_words table.now marks.now (region * table.now.words_per_region)
+        (slice_index tams.now.previous region - region * table.now.words_per_region)) }
 {
     table.law();
     let top = tams.previous(region);
@@ -53,9 +63,39 @@ fn marked_below(table: &RegionTable, tams: &Tams, marks: &Marks, region: RegionN
     let mut at = region.number() * table.words_per_region();
     while let Some(found) = marks.next_below(Addr::new(at), top) {
         live += table.object_size(found);
+        if live > most {
+            return None;
+        }
         at = found.word() + 1;
     }
-    live
+    Some(live)
+}
+
+/// A region's live bound, if it is at most `most`. It costs what `live_bound` does as far as the marked objects have so many
+/// words, and ends there: a pause of a small budget looks at few objects of a region that it can't take.
+pub fn live_bound_within(
+    table: &RegionTable,
+    tams: &Tams,
+    marks: &Marks,
+    region: RegionNo,
+    most: u32,
+) -> Option<u32>
+    requires stands { MarksObjects table.now tams.now.previous marks.now }
+    requires known { region < length table.now.regions }
+    requires ordinary { kind_of table.now region ≡ kinds.Ordinary }
+    ensures value { IfSome result (λ live. live ≡ live_bound_of table.now tams.now.previous marks.now region) }
+    ensures within { IfSome result (λ live. live ≤ most) }
+    ensures more { IfNone result (most < live_bound_of table.now tams.now.previous marks.now region) }
+{
+    table.law();
+    let above = table.top(region).word() - tams.previous(region).word();
+    if above > most {
+        return None;
+    }
+    let Some(below) = marked_within(table, tams, marks, region, most - above) else {
+        return None;
+    };
+    Some(below + above)
 }
 
 /// A region's live bound. It costs the region's part of the bitmap and its marked objects. Where no marked object
@@ -69,8 +109,10 @@ pub fn live_bound(table: &RegionTable, tams: &Tams, marks: &Marks, region: Regio
     ensures at_most_twice { result ≤ 2 * table.now.words_per_region }
 {
     table.law();
-    let above = table.top(region).word() - tams.previous(region).word();
-    marked_below(table, tams, marks, region) + above
+    match live_bound_within(table, tams, marks, region, u32::MAX) {
+        Some(live) => live,
+        None => 0,
+    }
 }
 
 /// What the live bound says of a region. The region's kept objects have no more words. At zero nothing of it is kept, and

@@ -23,14 +23,20 @@ use std::marker::Model;
 #[derive(Drop)]
 pub struct Marks {
     bits: Bits,
+    /// No address from here on is marked: so to clear the set touches the words below alone, and a heap of which little is in use
+    /// pays for that little.
+    end: u32,
 }
 
 impl Model for Marks {
     ghost use Rattle.std.specs.Prelude.{List, Bool};
+    ghost use Rattle.heap_words.specs.Bounded.{AreWithin};
 
     ghost Value = { List Bool };
 
     ghost view = { λ s. s.bits };
+
+    ghost invariant = { λ s. AreWithin s.bits 0 s.end };
 }
 
 impl Marks {
@@ -38,9 +44,8 @@ impl Marks {
     pub fn new(alloc: Global, count: u32) -> Result<Marks, AllocError>
         ensures { IfOk result (λ marks. marks ≡ replicate count false) }
     {
-        Ok(Marks {
-            bits: Bits::new(alloc, count)?,
-        })
+        let bits = Bits::new(alloc, count)?;
+        Ok(Marks { bits, end: 0 })
     }
 
     /// Tells a proof what is known of each set: its addresses are below 2 to the 32nd. It does nothing.
@@ -70,14 +75,17 @@ impl Marks {
         requires { at < length self.old }
         ensures { self.new ≡ slice_set self.old at true }
     {
+        self.bits.law();
         self.bits.set(at.word());
+        self.end = self.end.max(at.word() + 1);
     }
 
     /// Clears each address.
     pub fn clear(&mut self)
         ensures { self.new ≡ replicate (length self.old) false }
     {
-        self.bits.clear();
+        self.bits.clear_range(0, self.end);
+        self.end = 0;
     }
 
     /// Clears the addresses from `from` up to `to`, which is not one of them.
@@ -105,6 +113,17 @@ impl Marks {
         ensures within { IfSome result (λ found. found < length self.now) }
     {
         self.bits.next_below(from.word(), to.word()).map(Addr::new)
+    }
+
+    /// The lowest address of a group that is marked here and not in `other`: group g has the 64 addresses from 64 g on.
+    pub fn lowest_without(&self, other: &Marks, group: u32) -> Option<Addr>
+        requires known { 64 * group < length self.now }
+        requires even { length other.now ≡ length self.now }
+        ensures lowest { MatchOption result (HasNoneBelow (is_only self.now other.now) (64 * group) (64 * group + 64)) (IsLowest (is_only self.now other.now) (64 * group)) }
+        ensures below { IfSome result (λ found. found < 64 * group + 64) }
+        ensures within { IfSome result (λ found. found < length self.now) }
+    {
+        self.bits.lowest_without(&other.bits, group).map(Addr::new)
     }
 
     /// The lowest address at or above `from` and below `to` that is marked here and not in `other`. It looks at the bits
@@ -170,6 +189,8 @@ mod tests {
             marks.next_without(&other, Addr::new(0), Addr::new(200)),
             Some(Addr::new(64))
         );
+        assert_eq!(rt; marks.lowest_without(&other, 0), None);
+        assert_eq!(rt; marks.lowest_without(&other, 3), Some(Addr::new(199)));
         marks.clear_range(Addr::new(60), Addr::new(64));
         assert_eq!(rt; marks.next(Addr::new(0)), Some(Addr::new(64)));
         marks.clear();

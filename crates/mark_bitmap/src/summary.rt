@@ -57,9 +57,7 @@ fn lowest_of(set: &Bits, group: u32) -> Option<u32>
     requires { 64 * group < length set.now }
     ensures { MatchOption result (HasNoMember (has set.now) group) (IsMember (has set.now) group) }
 {
-    set.law();
-    let first = 64 * group;
-    set.next_below(first, first.saturating_add(64))
+    set.lowest_in(group)
 }
 
 /// A group leaves the groups if it has no member.
@@ -89,6 +87,14 @@ impl Summary {
             groups: Bits::new(alloc, groups)?,
             blocks: Bits::new(alloc, groups.div_ceil(64))?,
         })
+    }
+
+    /// Whether a number is in the set.
+    pub fn get(&self, number: u32) -> bool
+        requires { number < length self.now }
+        ensures { result ≡ has self.now number }
+    {
+        self.members.get(number)
     }
 
     /// A number is in the set.

@@ -13,6 +13,7 @@ ghost use Rattle.std.specs.Prelude.{◌≡◌, ℕ, ◌*◌, ◌<◌, ◌≤◌,
 ghost use Rattle.mark_bitmap.specs.Tops.{bottoms, exchanged, is_below, is_in_region, with_bottom, LiesBelow};
 
 use heap_words::addr::{Addr, RegionNo};
+use heap_words::powers::quotient;
 use std::alloc::{AllocError, Global};
 use std::marker::Model;
 
@@ -58,7 +59,7 @@ fn lies_below(tops: &[u32], words: u32, at: u32) -> bool
     requires { 0 < words }
     ensures { result ≡ is_below words tops.now at }
 {
-    match tops.get((at / words) as usize) {
+    match tops.get(quotient(at, words) as usize) {
         Some(top) => at < *top,
         None => false,
     }

@@ -3,9 +3,9 @@ use Rattle.std.proofs.Common.{◌≡◌, ◌≢◌, ◌<◌, ◌≤◌, ◌⊎�
 use Rattle.std.specs.Prelude.{◌↔◌, Err, IfErr, Ok, Result}
 use Rattle.heap_words.specs.Configs.{Suits}
 use Rattle.heap_words.specs.declared.config.Config.{Config}
-use Rattle.step_core.specs.declared.runs.RunFault.{RunFault}
-use Rattle.step_core.specs.declared.runs.RunFault.TheVariants as faults
-use Rattle.step_core.specs.Histories.{IsRunFault}
+use Rattle.object_graph.specs.declared.fault.RunFault.{RunFault}
+use Rattle.object_graph.specs.declared.fault.RunFault.TheVariants as faults
+use Rattle.object_graph.specs.Faults.{IsRunFault}
 use Rattle.mutators.specs.Interleavings.{IsThreadsFault}
 
 pub not_bad : (config : Config) (f : RunFault) → IsRunFault config f → f ≡ faults.BadWorkers → ⊥

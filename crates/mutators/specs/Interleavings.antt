@@ -10,8 +10,8 @@ use Rattle.object_graph.specs.declared.step.Actor.TheVariants.{Mutator, Collecto
 use Rattle.object_graph.specs.declared.step.Step.{Step}
 use Rattle.object_graph.specs.declared.step.Event.{Event}
 use Rattle.step_core.specs.Histories.{RunsFromNew}
-use Rattle.step_core.specs.declared.runs.RunFault.{RunFault}
-use Rattle.step_core.specs.declared.runs.RunFault.TheVariants as faults
+use Rattle.object_graph.specs.declared.fault.RunFault.{RunFault}
+use Rattle.object_graph.specs.declared.fault.RunFault.TheVariants as faults
 use Rattle.mutators.specs.Scripts.{scripted, steps_of, lines_of, AreOwn}
 use Rattle.mutators.specs.Journals.{JournalState, script_at}
 

@@ -175,6 +175,11 @@ impl Journal {
     ghost use Rattle.mutators.specs.Turns.{TurnIs, SamePlan, IsCast, next_step, next_at};
 
     /// A new heap of the plan, each script at its beginning, and no events.
+    ///
+    /// ```rust
+    /// let journal = Journal::new(alloc, &plan)?;
+    /// assert!(rt; !journal.is_ended());
+    /// ```
     pub fn new(alloc: Global, plan: &Plan) -> Result<Journal, NewFault>
         ensures config { IfOk result (λ j. j.core.config ≡ plan.now.config) }
         ensures scripts { IfOk result (λ j. (k : ℕ) → k ≤ plan.now.config.mutators → script_at j k ≡ lines_of (scripted plan.now.config.mutators k) plan.now.steps) }
@@ -206,6 +211,11 @@ impl Journal {
     }
 
     /// The heap's sizes.
+    ///
+    /// ```rust
+    /// let journal = Journal::new(alloc, &plan)?;
+    /// assert_eq!(rt; journal.config(), config);
+    /// ```
     pub fn config(&self) -> Config
         ensures value { result ≡ self.now.core.config }
         ensures keeps { Keeps self.now }
@@ -214,6 +224,11 @@ impl Journal {
     }
 
     /// How many events there are.
+    ///
+    /// ```rust
+    /// let journal = Journal::new(alloc, &plan)?;
+    /// assert_eq!(rt; journal.len(), 0);
+    /// ```
     pub fn len(&self) -> usize
         ensures { result ≡ length self.now.events }
     {
@@ -222,6 +237,14 @@ impl Journal {
 
     /// One turn of an actor. A mutator or the collector does the next line of its script. A marker does `mark 4` while marking
     /// runs, a refiner `refine 2` while cards are queued. Refused for memory, the whole journal is as it was.
+    ///
+    /// ```rust
+    /// let mut journal = Journal::new(alloc, &plan)?;
+    /// assert_eq!(rt; journal.turn(Actor::Marker(0))?, Turn::Idle); // marking doesn't run
+    /// assert_eq!(rt; journal.turn(Actor::Collector)?, Turn::Done);
+    /// assert_eq!(rt; journal.turn(Actor::Marker(0))?, Turn::Done);
+    /// assert_eq!(rt; journal.turn(Actor::Collector)?, Turn::End);
+    /// ```
     pub fn turn(&mut self, actor: Actor) -> Result<Turn, AllocError>
         requires { IsCast (mutators_of self.old) actor }
         ensures plan { SamePlan self.old self.new }
@@ -279,6 +302,13 @@ impl Journal {
     }
 
     /// Whether each script is at its end.
+    ///
+    /// ```rust
+    /// let mut journal = Journal::new(alloc, &plan)?;
+    /// journal.turn(Actor::Mutator(0))?;
+    /// journal.turn(Actor::Collector)?;
+    /// assert!(rt; journal.is_ended());
+    /// ```
     pub fn is_ended(&self) -> bool
         ensures { IsTrue result ↔ ((k : ℕ) → k ≤ mutators_of self.now → length (script_at self.now k) ≤ slice_index self.now.places k) }
     {
@@ -286,6 +316,13 @@ impl Journal {
     }
 
     /// Whether the scripted actor at a place has lines left.
+    ///
+    /// ```rust
+    /// let mut journal = Journal::new(alloc, &plan)?;
+    /// journal.turn(Actor::Mutator(0))?;
+    /// assert!(rt; !journal.is_left(0));
+    /// assert!(rt; journal.is_left(1)); // the collector's, behind the mutators'
+    /// ```
     pub fn is_left(&self, k: usize) -> bool
         requires { k ≤ mutators_of self.now }
         ensures left { IsTrue result → slice_index self.now.places k < length (script_at self.now k) }
@@ -295,6 +332,12 @@ impl Journal {
     }
 
     /// The record of the events. It takes no memory.
+    ///
+    /// ```rust
+    /// let mut journal = Journal::new(alloc, &plan)?;
+    /// journal.turn(Actor::Mutator(0))?;
+    /// assert_eq!(rt; journal.into_record().events().len(), 1);
+    /// ```
     pub fn into_record(self) -> Record
         ensures config { result.config ≡ self.core.config }
         ensures events { result.events ≡ self.events }

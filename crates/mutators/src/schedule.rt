@@ -7,18 +7,17 @@
 
 ghost use Rattle.std.specs.Prelude.{◌≡◌, ℕ, ◌+◌, ◌<◌, ◌≤◌, ◌↔◌, ◌≢◌, ◌⊎◌, false, OnOk, IfOk, IfErr, length, take, drop, ◌++◌, if◌then◌else◌};
 ghost use Rattle.rand_pcg.specs.Pcg.{pcg32};
-ghost use Rattle.step_core.specs.Histories.{IsRunFault};
+ghost use Rattle.object_graph.specs.Faults.{IsRunFault};
 ghost use Rattle.mutators.specs.Scripts.{scripted, is_scripted};
 ghost use Rattle.mutators.specs.Turns.{SamePlan, IsCast};
 ghost use Rattle.mutators.specs.Draws.{open_places, lefts_of, pick, Picks, LeavesScripts, IsRound, has_background, scripted_actors, drawn_by, rest_of};
 ghost use Rattle.mutators.specs.Interleavings.{IsAsked, AreAsked, IsRunOf};
 
 use crate::journal::Journal;
-use object_graph::{Actor, Plan, Record};
+use object_graph::{Actor, Plan, Record, RunFault, run_fault};
 use rand_core::utils::NextWord;
 use rand_pcg::Lcg64Xsh32;
 use std::alloc::{AllocError, Global};
-use step_core::{RunFault, run_fault};
 
 fn draw(words: &mut Lcg64Xsh32) -> u32
     ensures value { result ≡ (pcg32 words.old).0 }
@@ -164,7 +163,14 @@ fn all_rounds(
 }
 
 /// Does a plan's scripts in a new heap, in the order that the words of a seed draw, with so many refiners and markers beside.
-/// The record's events are an interleaving of the whole scripts, and the scripted actors take their turns in the order drawn.
+/// The record's events are an interleaving of the whole scripts, and the scripted actors take their turns in the order drawn. More than 8
+/// refiners or markers are `BadWorkers`; else the fault is the first of the sizes, or want of memory.
+///
+/// ```rust
+/// let record = simulate(alloc, &plan, 7, 0, 0)?;
+/// assert_eq!(rt; record.events().len(), 2);
+/// assert_eq!(rt; check(alloc, &record)?, Verdict::Yes(2));
+/// ```
 pub fn simulate(
     alloc: Global,
     plan: &Plan,

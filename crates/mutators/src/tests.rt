@@ -2,14 +2,16 @@
 
 use crate::*;
 use heap_words::config::{Config, Format};
-use object_graph::{Action, Actor, CollectorStep, Op, Plan, Register, Reply, Step, Verdict, check};
+use object_graph::{
+    Action, Actor, CollectorStep, Op, Plan, Register, Reply, RunFault, Step, Verdict, check,
+};
 use rand_core::utils::NextWord;
 use rand_pcg::Lcg64Xsh32;
 use std::alloc::{AllocError, Global};
 use std::sync::atomic::{AtomicBool, AtomicU64, Ordering};
 use std::test::Fail;
 use std::thread;
-use step_core::{RunFault, run};
+use step_core::run;
 
 /// Adds a step, which the plan's sizes allow.
 fn push_step(plan: &mut Plan, step: Step) -> Result<(), AllocError> {

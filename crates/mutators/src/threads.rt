@@ -18,7 +18,7 @@ ghost use Rattle.mutators.specs.Interleavings.{IsAsked, IsOf, IsRunOf, IsThreads
 use crate::journal::Journal;
 use crate::shared::{Below, Crew, Places, Shared};
 use crossbeam_queue::Pass;
-use object_graph::{Actor, Plan, Record};
+use object_graph::{Actor, Plan, Record, RunFault, run_fault};
 use std::alloc::{AllocError, Global};
 use std::marker::Brand;
 use std::sync::atomic::{AtomicU64, Ordering};
@@ -26,7 +26,6 @@ use std::sync::ledger::{Blank, Share};
 use std::sync::{Mutex, Wait};
 use std::thread;
 use std::thread::{JoinHandle, Threads};
-use step_core::{RunFault, run_fault};
 
 /// The record of a run in threads, and how many turns of each worker were done.
 #[derive(Debug, Drop)]
@@ -412,7 +411,18 @@ fn begin(
 
 /// Does a plan's scripts in a new heap by so many workers, with so many refiners and markers beside, and calls `seen` with a worker's
 /// number after each of its done turns. The record's events are an interleaving of the whole scripts; the counts of done
-/// turns sum to their number.
+/// turns sum to their number. Other than 1 to 32 workers, and more than 8 refiners or markers, are `BadWorkers`. It may wait.
+///
+/// ```rust
+/// use std::sync::atomic::{AtomicU64, Ordering};
+///
+/// let turns = AtomicU64::new(0);
+/// let threaded = run_threads_seen(&rt, alloc, &plan, 2, 0, 0, &|_| {
+///     turns.fetch_add(1, Ordering::SeqCst);
+/// })?;
+/// assert_eq!(rt; threaded.history.events().len(), 2);
+/// assert_eq!(rt; turns.load(Ordering::SeqCst), 2);
+/// ```
 pub fn run_threads_seen<F: Fn(u32) + Sync, R: Threads + Wait + Sync>(
     rt: &R,
     alloc: Global,
@@ -443,6 +453,11 @@ pub fn run_threads_seen<F: Fn(u32) + Sync, R: Threads + Wait + Sync>(
 }
 
 /// The same, without a look at the workers.
+///
+/// ```rust
+/// let record = run_threads(&rt, alloc, &plan, 4, 0, 0)?;
+/// assert_eq!(rt; record.events().len(), 2);
+/// ```
 pub fn run_threads<R: Threads + Wait + Sync>(
     rt: &R,
     alloc: Global,

@@ -27,6 +27,7 @@ impl GlobalRoot {
 }
 
 /// Whether a value is nil or a register that mutators have.
+#[inline(always)]
 fn is_value(value: Option<Register>, places: &Places) -> bool
     ensures { result ≡ has_value places.now value }
 {
@@ -38,6 +39,7 @@ fn is_value(value: Option<Register>, places: &Places) -> bool
 
 impl Action {
     /// Whether there is each register and global that the action names.
+    #[inline(always)]
     fn names_roots(self, places: &Places) -> bool
         ensures { result ≡ names_roots places.now self }
     {
@@ -62,6 +64,7 @@ impl Action {
     }
 
     /// Whether a heap line's format has the action.
+    #[inline(always)]
     fn is_known(self, format: Format) -> bool
         ensures { result ≡ has_action format self }
     {
@@ -72,6 +75,12 @@ impl Action {
     }
 
     /// Whether a heap of these sizes has each root that the action names, and their format the action: so any of its mutators may do it.
+    ///
+    /// ```rust
+    /// assert!(rt; op.action.is_in(&config));
+    /// assert!(rt; !Action::Scope { from: r0 }.is_in(&config)); // the third format alone has it
+    /// ```
+    #[inline(always)]
     pub fn is_in(self, config: &Config) -> bool
         ensures allows { result ≡ allows config.now self }
         ensures op { (mutator : ℕ) → mutator < config.now.mutators → IsTrue result ↔ IsOp config.now (record { mutator = mutator; action = self }) }
@@ -82,6 +91,12 @@ impl Action {
 
 impl Op {
     /// Whether the mutator is one of those, and each root that the step names is there.
+    ///
+    /// ```rust
+    /// let graph = Graph::new(alloc, &config)?;
+    /// assert!(rt; op.is_at(&graph.places()));
+    /// assert!(rt; !Op { mutator: 1, action: op.action }.is_at(&graph.places()));
+    /// ```
     pub fn is_at(self, places: &Places) -> bool
         ensures { IsTrue result ↔ IsOpAt places.now self }
     {
@@ -89,6 +104,7 @@ impl Op {
     }
 
     /// Whether a heap of these sizes has the mutator and the roots that the step names, and their format the action.
+    #[inline(always)]
     fn is_in(self, config: &Config) -> bool
         ensures { IsTrue result ↔ IsOp config.now self }
     {
@@ -99,6 +115,12 @@ impl Op {
 impl Step {
     /// Whether a plan of these sizes may have the step: each of the collector's, and those of mutators whose number, registers and
     /// globals the sizes allow.
+    ///
+    /// ```rust
+    /// assert!(rt; Step::Mutator(op).is_in(&config));
+    /// assert!(rt; !Step::Mutator(Op { mutator: 1, action: op.action }).is_in(&config));
+    /// ```
+    #[inline(always)]
     pub fn is_in(self, config: &Config) -> bool
         ensures { IsTrue result ↔ IsStep config.now self }
     {
@@ -111,6 +133,11 @@ impl Step {
 
 impl Event {
     /// Whether a record of these sizes may have the event: its step is one of its actor's, and the sizes allow it.
+    ///
+    /// ```rust
+    /// assert!(rt; event.is_in(&config));
+    /// assert!(rt; !Event { actor: Actor::Collector, ..event }.is_in(&config));
+    /// ```
     pub fn is_in(&self, config: &Config) -> bool
         ensures { IsTrue result ↔ IsEvent config.now self.now }
     {

@@ -322,6 +322,11 @@ impl Graph {
     }
 
     /// The reply to a mutator's step, which the graph takes. Refused for memory, the graph is unchanged.
+    ///
+    /// ```rust
+    /// let mut graph = Graph::new(alloc, &config)?;
+    /// assert_eq!(rt; graph.apply(op)?, Reply::Named(Some(0)));
+    /// ```
     pub fn apply(&mut self, op: Op) -> Result<Reply, AllocError>
         requires { IsOpAt self.old.places op }
         ensures ok { IfOk result (λ reply. (reply, self.new) ≡ outcome_of self.old op) }
@@ -390,6 +395,11 @@ impl Graph {
     }
 
     /// How many globals, mutators and registers there are.
+    ///
+    /// ```rust
+    /// let graph = Graph::new(alloc, &config)?;
+    /// assert_eq!(rt; graph.places().globals(), 16);
+    /// ```
     pub fn places(&self) -> Places
         ensures { result ≡ self.now.places }
     {
@@ -443,6 +453,11 @@ impl Graph {
     }
 
     /// The graph of a new heap: no objects, and each root nil.
+    ///
+    /// ```rust
+    /// let graph = Graph::new(alloc, &config)?;
+    /// assert_eq!(rt; graph.places().count(), 24);
+    /// ```
     pub fn new(alloc: Global, config: &Config) -> Result<Graph, AllocError>
         ensures { IfOk result (λ g. g ≡ first_graph config.now) }
     {

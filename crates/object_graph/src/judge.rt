@@ -1,12 +1,19 @@
 //! The judge of records, which knows names and the heap line alone.
 
-ghost use Rattle.std.specs.Prelude.{IfOk};
+ghost use Rattle.std.specs.Prelude.{◌≡◌, List, [], IfOk};
 ghost use Rattle.object_graph.specs.State.{first_state};
+ghost use Rattle.object_graph.specs.Actors.{IsEvent};
 ghost use Rattle.object_graph.specs.Judged.{Judged};
+ghost use Rattle.object_graph.specs.Reasons.{Finds};
+ghost use Rattle.object_graph.specs.declared.step.Event as events;
 
+use crate::given::Given;
 use crate::machine::Machine;
 use crate::record::Record;
+use crate::step::Event;
+use heap_words::config::Config;
 use std::alloc::{AllocError, Global};
+use std::marker::Model;
 
 /// What the judge says of a history.
 #[derive(Clone, Copy, Debug, PartialEq, Eq)]
@@ -17,18 +24,142 @@ pub enum Verdict {
     No(u64),
 }
 
+/// What the judge finds in a history.
+#[derive(Clone, Copy, Debug, PartialEq, Eq)]
+pub enum Finding {
+    /// So many events, which may happen one after another.
+    Allowed(u64),
+    /// The first event that may not happen, its number, counted from 1, and what the graph gives in its place.
+    Refused {
+        number: u64,
+        event: Event,
+        given: Given,
+    },
+}
+
+impl Finding {
+    ghost use Rattle.object_graph.specs.Reasons.{verdict_of};
+
+    /// The finding without its reason.
+    ///
+    /// ```rust
+    /// assert_eq!(rt; Finding::Allowed(3).verdict(), Verdict::Yes(3));
+    /// ```
+    pub fn verdict(self) -> Verdict
+        ensures { result ≡ verdict_of self }
+    {
+        match self {
+            Finding::Allowed(events) => Verdict::Yes(events),
+            Finding::Refused { number, .. } => Verdict::No(number),
+        }
+    }
+}
+
+/// A judge that takes one event after another, as a record is written. What it holds grows with the graph, and not with the events.
+///
+/// ```text
+///   Judge::new(config)   took nothing
+///   take(event)          None: the event may follow those before it, and the judge took it
+///                        Some(given): it may not; where it stands, the graph gives this. Then the judge is of no more use
+/// ```
+pub struct Judge {
+    config: Config,
+    machine: Machine,
+}
+
+impl Model for Judge {
+    ghost use Rattle.object_graph.specs.Reasons.{Judging};
+
+    ghost Value = { Judging };
+
+    ghost view = { λ j. record { config = j.config; state = j.machine } };
+}
+
+/// Where it is let go there is one call, and not a drop for each of its parts.
+impl Drop for Judge {
+    fn drop(self) {
+        let Judge {
+            config: _,
+            machine: _,
+        } = self;
+    }
+}
+
+impl Judge {
+    ghost use Rattle.object_graph.specs.Reasons.{HasTaken, TakesNext};
+
+    /// A judge of a new heap of these sizes, which took nothing.
+    ///
+    /// ```rust
+    /// let mut judge = Judge::new(alloc, &config)?;
+    /// assert!(rt; judge.take(&event)?.is_none());
+    /// ```
+    pub fn new(alloc: Global, config: &Config) -> Result<Judge, AllocError>
+        ensures config { IfOk result (λ j. j.config ≡ config.now) }
+        ensures taken { IfOk result (λ j. HasTaken j []) }
+    {
+        Ok(Judge {
+            config: *config,
+            machine: Machine::new(alloc, config)?,
+        })
+    }
+
+    /// Takes an event, or answers what the graph gives in its place. After that, or where memory is refused, the judge's state is no
+    /// longer that of the events, and it can take no more.
+    ///
+    /// ```rust
+    /// let mut judge = Judge::new(alloc, &config)?;
+    /// assert_eq!(rt; judge.take(&event)?, None);
+    /// assert_eq!(rt; judge.take(&event)?, Some(Given::Object(1))); // the second object's name is 1
+    /// ```
+    pub fn take(&mut self, event: &Event) -> Result<Option<Given>, AllocError>
+        requires known { IsEvent self.old.config event.now }
+        requires taken { (es : List events.Event) × HasTaken self.old es }
+        ensures config { self.new.config ≡ self.old.config }
+        ensures told { IfOk result (λ told. (es : List events.Event) → HasTaken self.old es → TakesNext self.old self.new es event.now told) }
+    {
+        self.machine.take(event)
+    }
+}
+
+/// What the judge finds in a record, from the graph of a new heap: where memory suffices, all its events exactly if they are a run, else the
+/// first one with which those before it cannot go on, and what the graph gives there.
+///
+/// ```rust
+/// let mut record = Record::new(alloc, config);
+/// record.push(event)?;
+/// assert_eq!(rt; explain(alloc, &record)?, Finding::Allowed(1));
+/// ```
+pub fn explain(alloc: Global, history: &Record) -> Result<Finding, AllocError>
+    ensures { IfOk result (Finds (first_state history.now.config) history.now.events) }
+{
+    let config = history.config();
+    let mut judge = Judge::new(alloc, &config)?;
+    let events = history.events();
+    for (index, event) in events.iter().enumerate() {
+        if let Some(given) = judge.take(event)? {
+            return Ok(Finding::Refused {
+                number: index as u64 + 1,
+                event: *event,
+                given,
+            });
+        }
+    }
+    Ok(Finding::Allowed(events.len() as u64))
+}
+
 /// Whether the events of a record may happen one after another, from the graph of a new heap: where memory suffices, yes exactly if they
 /// are a run, else the first event with which the ones before it cannot go on.
+///
+/// ```rust
+/// let mut record = Record::new(alloc, config);
+/// record.push(event)?;
+/// record.push(event)?;
+/// assert_eq!(rt; check(alloc, &record)?, Verdict::No(2)); // the second object's name is 1
+/// ```
 pub fn check(alloc: Global, history: &Record) -> Result<Verdict, AllocError>
     ensures { IfOk result (Judged (first_state history.now.config) history.now.events) }
 {
-    let config = history.config();
-    let mut machine = Machine::new(alloc, &config)?;
-    let events = history.events();
-    for (index, event) in events.iter().enumerate() {
-        if !machine.take(event)? {
-            return Ok(Verdict::No(index as u64 + 1));
-        }
-    }
-    Ok(Verdict::Yes(events.len() as u64))
+    let found = explain(alloc, history)?;
+    Ok(found.verdict())
 }

@@ -1,6 +1,6 @@
 //! Laws of states and runs. Each function has an empty body, and its contract is a law.
 
-ghost use Rattle.std.specs.Prelude.{◌≡◌, ℕ, List, Some, None, slice_get};
+ghost use Rattle.std.specs.Prelude.{◌≡◌, ◌↔◌, ℕ, List, Some, None, slice_get};
 ghost use Rattle.heap_words.specs.declared.config.Config.{Config};
 ghost use Rattle.heap_model.specs.Graph as model;
 ghost use Rattle.heap_model.specs.Graph.{IsReachable, IsSound};
@@ -8,6 +8,8 @@ ghost use Rattle.heap_model.specs.Weak.{KeepsUnreached, Clears};
 ghost use Rattle.object_graph.specs.State.{State, HoldsNames, IsSoundState, first_state};
 ghost use Rattle.object_graph.specs.Since.{IsKnown, IsSinceState};
 ghost use Rattle.object_graph.specs.Run.{Happens, IsRun, BreaksAt};
+ghost use Rattle.object_graph.specs.Reasons.{IsGiven, MayStand};
+ghost use Rattle.object_graph.specs.declared.given.Given.{Given};
 ghost use Rattle.object_graph.specs.declared.step.Step.{Step};
 ghost use Rattle.object_graph.specs.declared.step.Reply.{Reply};
 ghost use Rattle.object_graph.specs.declared.step.Event.{Event};
@@ -15,6 +17,11 @@ ghost use Rattle.object_graph.specs.declared.step.Event.{Event};
 /// No events are both a run and broken at one of them.
 pub fn judged_once()
     ensures { (first last : State) (es : List Event) (n : ℕ) → IsRun first es last → BreaksAt first es n → ⊥ }
+{}
+
+/// What the graph gives for a step says which replies may stand behind it: exactly those with which some state may follow.
+pub fn given_law()
+    ensures { (old : State) (k : Step) (given : Given) (r : Reply) → IsSoundState old → IsGiven old.graph k given → ((new : State) × Happens old k r new) ↔ MayStand given r }
 {}
 
 /// A run leads to one state.

@@ -28,12 +28,26 @@
 //! A `getweak r1 r0 0` before the `remark` would reply `#1`, and touch it: then 1 counts as a root of the snapshot, and the slot stays.
 //!
 //! `Graph` takes the steps of mutators (`apply`); a `Plan` holds the steps to be done, a `Record` the events that were;
-//! `check` says whether a record is a run, from the graph of a new heap, and if not, at which event it breaks. The laws of
-//! states and runs stand in `laws`.
+//! `check` says whether a record is a run, from the graph of a new heap, and if not, at which event it breaks; `explain` says too what the
+//! graph gives there. A `Judge` takes events one by one, as they come. The laws of states and runs stand in `laws`.
+//!
+//! Examples of calls go on from this one, in which `rt` is a test's `HostRuntime` and `alloc` its allocator:
+//!
+//! ```rust
+//! use heap_words::config::{Config, Format};
+//! use object_graph::*;
+//!
+//! let config = Config { format: Format::V1, regions: 4, words: 16, buffer: 8, mutators: 1, first_name: 0 };
+//! let r0 = Register { number: 0 };
+//! let op = Op { mutator: 0, action: Action::New { to: r0, counts: Counts { pointers: 1, values: 1 } } };
+//! let event = Event { actor: Actor::Mutator(0), step: Step::Mutator(op), reply: Reply::Named(Some(0)) };
+//! ```
 #![tactic(auto)]
 
 mod allowed;
 mod clear;
+mod fault;
+mod given;
 mod graph;
 mod judge;
 mod laws;
@@ -47,9 +61,11 @@ mod step;
 #[cfg(test)]
 mod tests;
 
+pub use fault::{RunFault, run_fault};
+pub use given::Given;
 pub use graph::Graph;
-pub use judge::{Verdict, check};
-pub use laws::{cleared_law, judged_once, run_is_sound, run_once, since_law, sound_law};
+pub use judge::{Finding, Judge, Verdict, check, explain};
+pub use laws::{cleared_law, given_law, judged_once, run_is_sound, run_once, since_law, sound_law};
 pub use record::{Plan, Record};
 pub use step::{
     Action, Actor, CollectorStep, Counts, Event, GlobalRoot, Op, Refusal, Register, Reply, Step,

@@ -6,9 +6,11 @@ ghost use Rattle.heap_model.specs.Weak.{touched, AreReached};
 ghost use Rattle.object_graph.specs.State.{State, HoldsNames, IsSoundState, first_state};
 ghost use Rattle.object_graph.specs.Reached.{flag_of};
 ghost use Rattle.object_graph.specs.Roots.{IsOpAt};
-ghost use Rattle.object_graph.specs.Run.{IsCollectorReply, Happens, ClearsBy, ForMutator, snapshot_after};
-ghost use Rattle.object_graph.specs.Sparing.{SparingCollects, SparingEvent, kept_snapshot};
+ghost use Rattle.object_graph.specs.Run.{IsCollectorReply, ClearsBy, ForMutator, snapshot_after};
+ghost use Rattle.object_graph.specs.Sparing.{SparingCollects, kept_snapshot};
+ghost use Rattle.object_graph.specs.Reasons.{SparingTakes};
 
+use crate::given::{Given, given_by};
 use crate::graph::Graph;
 use crate::pointer::Pointer;
 use crate::step::{Action, CollectorStep, Event, Op, Refusal, Reply, Step};
@@ -173,38 +175,39 @@ impl Machine {
         }
     }
 
-    /// Takes an event, if it may happen: then the state is the judge's after it. Once an event may not happen or memory was
-    /// refused, the state is no longer that of the events.
-    pub(crate) fn take(&mut self, event: &Event) -> Result<bool, AllocError>
+    /// Takes an event, if it may happen: then the state is the judge's after it. Else it answers what the graph gives in its place. Once an
+    /// event may not happen or memory was refused, the state is no longer that of the events.
+    pub(crate) fn take(&mut self, event: &Event) -> Result<Option<Given>, AllocError>
         requires op { ForMutator event.now.step (IsOpAt self.old.graph.places) }
         requires sound { IsSoundState self.old }
-        ensures yes { IfOk result (λ yes. IsTrue yes → SparingEvent self.old event.now self.new) }
-        ensures no { IfOk result (λ yes. (after : State) → SparingEvent self.old event.now after → IsTrue yes) }
+        ensures { IfOk result (SparingTakes self.old event.now.step event.now.reply self.new) }
     {
         match event.step {
             Step::Collector(step) => {
                 if !is_collector_reply(step, event.reply) {
-                    return Ok(false);
+                    return Ok(Some(Given::Form(step)));
                 }
                 self.collect(step, event.reply)?;
-                Ok(true)
+                Ok(None)
             }
             Step::Mutator(op) => self.serve(op, event.reply),
         }
     }
 
     /// The same of a mutator's step.
-    fn serve(&mut self, op: Op, reply: Reply) -> Result<bool, AllocError>
+    fn serve(&mut self, op: Op, reply: Reply) -> Result<Option<Given>, AllocError>
         requires { IsOpAt self.old.graph.places op }
-        ensures yes { IfOk result (λ yes. IsTrue yes → Happens self.old (Step.Mutator op) reply self.new) }
-        ensures no { IfOk result (λ yes. (after : State) → Happens self.old (Step.Mutator op) reply after → IsTrue yes) }
+        ensures { IfOk result (SparingTakes self.old (Step.Mutator op) reply self.new) }
     {
-        if reply == Reply::Refused(Refusal::Full) {
-            return Ok(self.graph.creates(op));
+        if reply == Reply::Refused(Refusal::Full) && self.graph.creates(op) {
+            return Ok(None);
         }
         let given = self.graph.apply(op)?;
-        self.touch(op.action, reply)?;
-        Ok(given == reply)
+        if given == reply {
+            self.touch(op.action, reply)?;
+            return Ok(None);
+        }
+        Ok(Some(given_by(op.action, given)))
     }
 }
 

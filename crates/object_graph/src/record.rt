@@ -38,6 +38,11 @@ impl Plan {
     ghost use Rattle.object_graph.specs.Actors.{IsStep, AreSteps};
 
     /// A plan of no steps.
+    ///
+    /// ```rust
+    /// let plan = Plan::new(alloc, config);
+    /// assert_eq!(rt; plan.steps().len(), 0);
+    /// ```
     pub fn new(alloc: Global, config: Config) -> Plan
         ensures { result ≡ record { config = config; steps = [] } }
     {
@@ -48,6 +53,12 @@ impl Plan {
     }
 
     /// Adds a step at the end. Refused for memory, the plan is unchanged.
+    ///
+    /// ```rust
+    /// let mut plan = Plan::new(alloc, config);
+    /// plan.push(Step::Mutator(op))?;
+    /// assert_eq!(rt; plan.steps().len(), 1);
+    /// ```
     pub fn push(&mut self, step: Step) -> Result<(), AllocError>
         requires { IsStep self.old.config step }
         ensures ok { OnOk result (self.new ≡ record self.old { steps = self.old.steps ++ step ∷ [] }) }
@@ -58,6 +69,10 @@ impl Plan {
     }
 
     /// The plan's heap line.
+    ///
+    /// ```rust
+    /// assert_eq!(rt; Plan::new(alloc, config).config(), config);
+    /// ```
     pub fn config(&self) -> Config
         ensures { result ≡ self.now.config }
     {
@@ -65,6 +80,12 @@ impl Plan {
     }
 
     /// The steps, in order.
+    ///
+    /// ```rust
+    /// let mut plan = Plan::new(alloc, config);
+    /// plan.push(Step::Mutator(op))?;
+    /// assert_eq!(rt; plan.steps()[0], Step::Mutator(op));
+    /// ```
     pub fn steps(&self) -> &[Step]
         ensures steps { result.now ≡ self.now.steps }
         ensures each { AreSteps self.now.config self.now.steps }
@@ -105,6 +126,11 @@ impl Record {
     ghost use Rattle.object_graph.specs.Actors.{IsEvent, AreEvents};
 
     /// A record of no events.
+    ///
+    /// ```rust
+    /// let record = Record::new(alloc, config);
+    /// assert_eq!(rt; record.events().len(), 0);
+    /// ```
     pub fn new(alloc: Global, config: Config) -> Record
         ensures { result ≡ record { config = config; events = [] } }
     {
@@ -115,6 +141,12 @@ impl Record {
     }
 
     /// A record of no events, with room for so many.
+    ///
+    /// ```rust
+    /// let mut record = Record::with_room(alloc, config, 100)?;
+    /// record.push(event)?;
+    /// assert_eq!(rt; record.events().len(), 1);
+    /// ```
     pub fn with_room(alloc: Global, config: Config, events: usize) -> Result<Record, AllocError>
         ensures { IfOk result (λ r. r ≡ record { config = config; events = [] }) }
     {
@@ -125,6 +157,11 @@ impl Record {
     }
 
     /// A record of these events.
+    ///
+    /// ```rust
+    /// let record = Record::of_events(config, vec![in alloc; event]?);
+    /// assert_eq!(rt; record.events().len(), 1);
+    /// ```
     pub fn of_events(config: Config, events: Vec<Event>) -> Record
         requires { AreEvents config events.items }
         ensures { result ≡ record { config = config; events = events.items } }
@@ -133,6 +170,12 @@ impl Record {
     }
 
     /// Adds an event at the end. Refused for memory, the record is unchanged.
+    ///
+    /// ```rust
+    /// let mut record = Record::new(alloc, config);
+    /// record.push(event)?;
+    /// assert_eq!(rt; check(alloc, &record)?, Verdict::Yes(1));
+    /// ```
     pub fn push(&mut self, event: Event) -> Result<(), AllocError>
         requires { IsEvent self.old.config event }
         ensures ok { OnOk result (self.new ≡ record self.old { events = self.old.events ++ event ∷ [] }) }
@@ -143,6 +186,10 @@ impl Record {
     }
 
     /// The record's heap line.
+    ///
+    /// ```rust
+    /// assert_eq!(rt; Record::new(alloc, config).config(), config);
+    /// ```
     pub fn config(&self) -> Config
         ensures { result ≡ self.now.config }
     {
@@ -150,6 +197,12 @@ impl Record {
     }
 
     /// The events, in order.
+    ///
+    /// ```rust
+    /// let mut record = Record::new(alloc, config);
+    /// record.push(event)?;
+    /// assert_eq!(rt; record.events()[0].reply, Reply::Named(Some(0)));
+    /// ```
     pub fn events(&self) -> &[Event]
         ensures events { result.now ≡ self.now.events }
         ensures each { AreEvents self.now.config self.now.events }

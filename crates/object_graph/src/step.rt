@@ -26,6 +26,10 @@ pub struct Counts {
 
 impl Counts {
     /// How many words such an object with so many weak slots has, with its header and its name.
+    ///
+    /// ```rust
+    /// assert_eq!(rt; Counts { pointers: 1, values: 1 }.size(0), 4);
+    /// ```
     pub fn size(&self, weaks: u8) -> u64
         ensures { result ≡ size_of self.now.pointers weaks self.now.values }
     {

@@ -1,5 +1,7 @@
 //! Each step once, each refusal of the graph, objects in one list of words, and small records before the judge.
 
+mod reasons;
+
 use crate::graph::Graph;
 use crate::judge::{Verdict, check};
 use crate::objects::Objects;

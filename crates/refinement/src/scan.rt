@@ -20,7 +20,7 @@ ghost use Rattle.remembered_sets.specs.Sets.{card_count, covers};
 ghost use Rattle.refinement.specs.Remembering.{field_word, Gains, IsCovered};
 ghost use Rattle.refinement.specs.Refining.{with_field, AddsCard, AreObjectsCovered, CanScan, IsScanned, FieldsInside, SetsFit};
 
-use heap_words::addr::{Addr, Card, RegionNo};
+use heap_words::addr::{Addr, Card};
 use mark_bitmap::marks::Marks;
 use mark_bitmap::tams::Tams;
 use regions::{RegionTable, Shape};
@@ -56,14 +56,12 @@ fn scan_field(table: &RegionTable, sets: &mut RememberedSets, card: Card, object
         → target / table.now.words_per_region ≢ field_word object field / table.now.words_per_region → covers sets.new (target / table.now.words_per_region) card ≡ true }
 {
     table.law();
-    let words = table.words_per_region();
-    let home = (object.word() + 2 + field) / words;
+    let home = object.word() + 2 + field;
     let Some(target) = table.get_field(object, field) else {
         return;
     };
-    let region = target.word() / words;
-    if region != home {
-        sets.add(RegionNo::new(region), card);
+    if table.leads_out(home, target) {
+        sets.add(table.region_of(target), card);
     }
 }
 

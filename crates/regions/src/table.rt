@@ -1,5 +1,5 @@
 //! The table: making it, and what is asked of its regions.
-ghost use Rattle.std.specs.Prelude.{◌≡◌, ◌+◌, ◌/◌, ◌<◌, length, nat_le, IsOk, IfOk, IfErr, IsSome, IfSome};
+ghost use Rattle.std.specs.Prelude.{◌≡◌, ◌≢◌, ◌+◌, ◌/◌, ◌<◌, true, false, length, nat_le, IsOk, IfOk, IfErr, IsSome, IfSome};
 ghost use Rattle.heap_words.specs.Configs.{Suits, IsNewFault};
 ghost use Rattle.heap_words.specs.Contents.{header_at};
 ghost use Rattle.regions.specs.Table.{free_count, free_table, is_free, nth_region, HasNoForwarded, kind_of, used_of, top_of, tile_in};
@@ -154,6 +154,15 @@ impl RegionTable {
         ensures { result ≡ at / self.now.words_per_region }
     {
         RegionNo::new(at.word() >> self.shift)
+    }
+
+    /// Whether an address lies in another region than a word does. So a field that stands in the word and names the address leads
+    /// out of its region.
+    pub fn leads_out(&self, word: u32, target: Addr) -> bool
+        ensures out { result ≡ true → target / self.now.words_per_region ≢ word / self.now.words_per_region }
+        ensures within { result ≡ false → target / self.now.words_per_region ≡ word / self.now.words_per_region }
+    {
+        target.word() >> self.shift != word >> self.shift
     }
 
     /// How many regions there are.

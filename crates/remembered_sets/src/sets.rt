@@ -13,6 +13,7 @@ ghost use Rattle.remembered_sets.specs.Sets.{added, after_all, card_count, clear
 use crate::set::RememberedSet;
 use heap_words::addr::{Card, RegionNo};
 use heap_words::bounded::BoundedBits;
+use heap_words::powers::quotient;
 use std::alloc::{AllocError, Global};
 use std::marker::Model;
 
@@ -78,7 +79,7 @@ impl RememberedSets {
         requires card { card < card_count self.now }
         ensures { result ≡ covers self.now region card }
     {
-        let source = card.number() / self.cards_per_region;
+        let source = quotient(card.number(), self.cards_per_region);
         let set = &self.sets[region.number() as usize];
         set.covers(card, source)
     }
@@ -119,7 +120,7 @@ impl RememberedSets {
         ensures after { self.new ≡ added self.old region card }
         ensures covered { covers self.new region card ≡ true }
     {
-        let source = card.number() / self.cards_per_region;
+        let source = quotient(card.number(), self.cards_per_region);
         let set = &mut self.sets[region.number() as usize];
         set.add(card, source);
     }

@@ -16,6 +16,12 @@ pub(crate) fn put_byte(buffer: &mut [u8], at: usize, byte: u8) -> usize
 }
 
 /// Puts a text behind the first `at` bytes, and answers where it ends.
+///
+/// ```rust
+/// let mut buffer = [0; 40];
+/// let end = put_text(&mut buffer, 0, b"yes ");
+/// assert_eq!(rt; end, 4);
+/// ```
 pub fn put_text(buffer: &mut [u8], at: usize, text: &[u8]) -> usize
     requires { at + length text.now ≤ length buffer.old }
     ensures put { take result buffer.new ≡ take at buffer.old ++ text.now }
@@ -56,6 +62,12 @@ fn digit_count(number: u64) -> usize
 }
 
 /// Puts a number behind the first `at` bytes, and answers where it ends. A number has at most 20 digits.
+///
+/// ```rust
+/// let mut buffer = [0; 40];
+/// let end = put_number(&mut buffer, 0, 120);
+/// assert_eq!(rt; &buffer[..end], b"120".as_slice());
+/// ```
 pub fn put_number(buffer: &mut [u8], at: usize, number: u64) -> usize
     requires { at + 20 ≤ length buffer.old }
     ensures put { take result buffer.new ≡ take at buffer.old ++ decimal number }

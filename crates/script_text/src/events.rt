@@ -32,7 +32,7 @@ fn background(word: &[u8]) -> Option<Actor>
 
 /// The actor that a word names.
 #[tactic(auto, unfolding(crate::specs::Events::actor_of, crate::specs::Events::foreground_of))]
-fn actor(config: &Config, word: &[u8]) -> Result<Actor, Kind>
+pub(crate) fn actor(config: &Config, word: &[u8]) -> Result<Actor, Kind>
     ensures { result ≡ actor_of config.now word.now }
 {
     if is_word(word, b"gc") {

@@ -77,6 +77,12 @@ impl fmt::Display for LineFault {
 impl Error for LineFault {}
 
 /// Puts a fault's text behind the first `at` bytes of a buffer, and answers where it ends.
+///
+/// ```rust
+/// let mut buffer = [0; 80];
+/// let end = put_fault(&mut buffer, 0, LineFault { line: 2, kind: Kind::BadActor });
+/// assert_eq!(rt; &buffer[..end], b"line 2: 4 BadActor".as_slice());
+/// ```
 pub fn put_fault(buffer: &mut [u8], at: usize, fault: LineFault) -> usize
     requires { at + 40 ≤ length buffer.old }
     ensures put { take result buffer.new ≡ take at buffer.old ++ fault_text fault }

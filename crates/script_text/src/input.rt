@@ -10,6 +10,12 @@ use std::alloc::Global;
 use std::io::Read;
 
 /// All bytes to the end of input. A fault leaves the reader behind some of its bytes, and is the reader's own, or want of memory.
+///
+/// ```rust
+/// let mut reader = WatchedReader::new(script.as_slice());
+/// let text = read_text(alloc, &mut reader)?;
+/// assert_eq!(rt; text.as_slice(), script.as_slice());
+/// ```
 pub fn read_text<R: Read>(
     alloc: Global,
     reader: &mut WatchedReader<R>,

@@ -16,13 +16,24 @@
 //! - `parse_record` does the same of a record's text, and so gives back the record that was written (`written_record_is_read`).
 //! - `write_record` appends the text of a record and no more, or a beginning of it where the writer refused. It holds one
 //!   buffer, however long the record is.
-//! - `put_text`, `put_number`, `put_fault` and `write_bytes` are for other lines of a program: they put texts into a buffer, and
-//!   write bytes in their order.
+//! - `put_text`, `put_number`, `put_event_text`, `put_reply`, `put_fault` and `write_bytes` are for other lines of a program: they put texts
+//!   into a buffer, and write bytes in their order.
+//!
+//! Examples of calls go on from this one, in which `rt` is a test's `HostRuntime` and `alloc` its allocator:
+//!
+//! ```rust
+//! use object_graph::{Record, Reply};
+//! use script_text::*;
+//!
+//! let script = b"heap 4 16 8 1 0\n0 new r0 1 1\n";
+//! let record = b"heap 4 16 8 1 0\n1 0 new r0 1 1 = #0\n";
+//! ```
 #![tactic(auto)]
 
 mod bytes;
 mod events;
 mod fault;
+mod hints;
 mod input;
 mod laws;
 mod lines;
@@ -39,11 +50,13 @@ mod written;
 
 pub use bytes::{put_number, put_text};
 pub use fault::{Kind, LineFault, ReadFault, WriteFault, put_fault};
+pub use hints::{REASON_ROOM, put_fault_reason};
 pub use input::read_text;
 pub use laws::{
     action_is_read, read_is_spelled, read_record_is_spelled, reply_is_read, spelled_is_read,
     spelled_record_is_read,
 };
+pub use lines::{put_event_text, put_reply};
 pub use records::parse_record;
 pub use script::parse;
 pub use watched::{WatchedReader, WatchedWriter};

@@ -4,7 +4,7 @@
 ghost use Rattle.std.specs.Prelude.{◌≡◌, ◌≤◌, ◌<◌, ◌+◌, ◌++◌, ◌∷◌, length, take, codes};
 ghost use Rattle.std.specs.Fmt.{decimal};
 ghost use Rattle.script_text.specs.Spelling.{register_word, global_word, value_word, action_words, collection_words, verb_of, format_words, heap_words, spaced, line};
-ghost use Rattle.script_text.specs.Records.{actor_word, reply_words, event_line};
+ghost use Rattle.script_text.specs.Records.{actor_word, reply_words, event_text, event_line};
 
 use crate::bytes::{put_byte, put_number, put_small, put_text};
 use heap_words::config::{Config, Format};
@@ -289,7 +289,14 @@ fn refusal_text(refusal: Refusal) -> &'static [u8]
     }
 }
 
-fn put_reply(buffer: &mut [u8], at: usize, reply: Reply) -> usize
+/// A reply as its line has it. It has at most 32 bytes.
+///
+/// ```rust
+/// let mut buffer = [0; 40];
+/// let end = put_reply(&mut buffer, 0, Reply::Named(Some(7)));
+/// assert_eq!(rt; &buffer[..end], b"#7".as_slice());
+/// ```
+pub fn put_reply(buffer: &mut [u8], at: usize, reply: Reply) -> usize
     requires { at + 32 ≤ length buffer.old }
     ensures put { take result buffer.new ≡ take at buffer.old ++ spaced (reply_words reply) }
     ensures end { result ≤ at + 32 }
@@ -317,6 +324,29 @@ fn put_reply(buffer: &mut [u8], at: usize, reply: Reply) -> usize
     }
 }
 
+/// An event as its line has it behind the count. It has at most 99 bytes.
+///
+/// ```rust
+/// let history = parse_record(alloc, record)?;
+/// let mut buffer = [0; 100];
+/// let end = put_event_text(&mut buffer, 0, &history.events()[0]);
+/// assert_eq!(rt; &buffer[..end], b"0 new r0 1 1 = #0".as_slice());
+/// ```
+pub fn put_event_text(buffer: &mut [u8], at: usize, event: &Event) -> usize
+    requires { at + 99 ≤ length buffer.old }
+    ensures put { take result buffer.new ≡ take at buffer.old ++ event_text event.now }
+    ensures end { result ≤ at + 99 }
+{
+    let at = put_actor(buffer, at, event.actor);
+    let at = put_byte(buffer, at, b' ');
+    let at = match event.step {
+        Step::Mutator(op) => put_action(buffer, at, op.action),
+        Step::Collector(collection) => put_collection(buffer, at, collection),
+    };
+    let at = put_text(buffer, at, b" = ");
+    put_reply(buffer, at, event.reply)
+}
+
 /// The line of an event.
 pub(crate) fn put_event(buffer: &mut [u8], at: usize, count: u64, event: &Event) -> usize
     requires { at + LINE_ROOM ≤ length buffer.old }
@@ -325,13 +355,6 @@ pub(crate) fn put_event(buffer: &mut [u8], at: usize, count: u64, event: &Event)
 {
     let at = put_number(buffer, at, count);
     let at = put_byte(buffer, at, b' ');
-    let at = put_actor(buffer, at, event.actor);
-    let at = put_byte(buffer, at, b' ');
-    let at = match event.step {
-        Step::Mutator(op) => put_action(buffer, at, op.action),
-        Step::Collector(collection) => put_collection(buffer, at, collection),
-    };
-    let at = put_text(buffer, at, b" = ");
-    let at = put_reply(buffer, at, event.reply);
+    let at = put_event_text(buffer, at, event);
     put_byte(buffer, at, b'\n')
 }

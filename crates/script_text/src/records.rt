@@ -28,6 +28,11 @@ fn event_line(count: u64, config: &Config, line: &[u8], words: &[&[u8]]) -> Resu
 
 /// The record that a text spells, or the first fault of the text. Where memory is refused, the line at which it was wanted: no
 /// line up to that one has a fault.
+///
+/// ```rust
+/// let history = parse_record(alloc, record)?;
+/// assert_eq!(rt; history.events().len(), 1);
+/// ```
 pub fn parse_record(alloc: Global, text: &[u8]) -> Result<Record, LineFault>
     ensures { Gives result text.now (record_of text.now) }
 {

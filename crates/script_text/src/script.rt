@@ -132,6 +132,13 @@ fn step_line(config: &Config, line: &[u8], words: &[&[u8]]) -> Result<Step, Kind
 
 /// The plan that a script's text spells, or the first fault of the text. Where memory is refused, the line at which it was wanted: no
 /// line up to that one has a fault.
+///
+/// ```rust
+/// let plan = parse(alloc, script)?;
+/// assert_eq!(rt; plan.steps().len(), 1);
+/// let fault = LineFault { line: 2, kind: Kind::BadActor };
+/// assert_eq!(rt; parse(alloc, b"heap 4 16 8 1 0\n\n").err(), Some(fault));
+/// ```
 pub fn parse(alloc: Global, text: &[u8]) -> Result<Plan, LineFault>
     ensures { Gives result text.now (script_of text.now) }
 {

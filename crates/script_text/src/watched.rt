@@ -35,6 +35,11 @@ impl<R: Read> Model for WatchedReader<R> {
 
 impl<R: Read> WatchedReader<R> {
     /// A reader that has refused nothing.
+    ///
+    /// ```rust
+    /// let mut reader = WatchedReader::new(script.as_slice());
+    /// assert_eq!(rt; read_text(alloc, &mut reader)?.len(), 29);
+    /// ```
     pub fn new(reader: R) -> Self
         ensures { result ≡ record { left = R.remaining reader; refused = false } }
     {
@@ -45,6 +50,12 @@ impl<R: Read> WatchedReader<R> {
     }
 
     /// Puts all bytes to the end of input behind a text. Where that fails for another reason than want of memory, the reader refused.
+    ///
+    /// ```rust
+    /// let mut text = Vec::new(alloc);
+    /// WatchedReader::new(script.as_slice()).read_to_end(&mut text)?;
+    /// assert_eq!(rt; text.as_slice(), script.as_slice());
+    /// ```
     pub fn read_to_end(&mut self, text: &mut Vec<u8>) -> Result<(), ReadFault>
         ensures all { OnOk result (IfSome self.old.left (λ input. text.new.items ≡ text.old.items ++ input)) }
         ensures end { OnOk result (IsAtEnd self.new.left) }
@@ -82,6 +93,11 @@ impl<W: Write> Model for WatchedWriter<W> {
 
 impl<W: Write> WatchedWriter<W> {
     /// A writer that has refused nothing.
+    ///
+    /// ```rust
+    /// let writer = WatchedWriter::new(Vec::new(alloc));
+    /// assert_eq!(rt; writer.into_inner().len(), 0);
+    /// ```
     pub fn new(writer: W) -> Self
         ensures { result ≡ record { held = W.contents writer; refused = false } }
     {
@@ -92,6 +108,12 @@ impl<W: Write> WatchedWriter<W> {
     }
 
     /// The writer within.
+    ///
+    /// ```rust
+    /// let mut writer = WatchedWriter::new(Vec::new(alloc));
+    /// write_bytes(&mut writer, b"no 2\n")?;
+    /// assert_eq!(rt; writer.into_inner().len(), 5);
+    /// ```
     pub fn into_inner(self) -> W
         ensures { self.held ≡ W.contents result }
     {
@@ -100,6 +122,11 @@ impl<W: Write> WatchedWriter<W> {
 
     /// Writes some bytes, the first ones, and answers how many: at least one, or the writer refused: it failed, or took no byte. A write that
     /// is interrupted is tried again.
+    ///
+    /// ```rust
+    /// let mut writer = WatchedWriter::new(Vec::new(alloc));
+    /// assert_eq!(rt; writer.write_some(b"no 2\n")?, 5);
+    /// ```
     pub fn write_some(&mut self, bytes: &[u8]) -> Result<usize, WriteFault>
         requires { 0 < length bytes.now }
         ensures within { IfOk result (λ count. count ≤ length bytes.now) }

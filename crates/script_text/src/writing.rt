@@ -15,6 +15,12 @@ use std::io::Write;
 const ROOM: usize = 8192;
 
 /// Writes bytes in their order. Where it fails, the writer refused, and a beginning of them is written.
+///
+/// ```rust
+/// let mut writer = WatchedWriter::new(Vec::new(alloc));
+/// write_bytes(&mut writer, b"yes 1\n")?;
+/// assert_eq!(rt; writer.into_inner().as_slice(), b"yes 1\n".as_slice());
+/// ```
 pub fn write_bytes<W: Write>(writer: &mut WatchedWriter<W>, bytes: &[u8]) -> Result<(), WriteFault>
     ensures ok { OnOk result (Takes writer.old writer.new bytes.now) }
     ensures err { OnErr result (TakesPart writer.old writer.new bytes.now) }
@@ -76,6 +82,13 @@ fn write_lines<W: Write>(
 
 /// Writes the text of a record. Where the writer refuses, a beginning of the text is written, and not all of it;
 /// where memory is refused, nothing is.
+///
+/// ```rust
+/// let history = parse_record(alloc, record)?;
+/// let mut writer = WatchedWriter::new(Vec::new(alloc));
+/// write_record(alloc, &history, &mut writer)?;
+/// assert_eq!(rt; writer.into_inner().as_slice(), record.as_slice());
+/// ```
 pub fn write_record<W: Write>(
     alloc: Global,
     history: &Record,

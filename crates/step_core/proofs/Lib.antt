@@ -2,3 +2,4 @@ pub mod Mutating
 pub mod Cycles
 pub mod Pauses
 pub mod Cores
+pub mod Measuring

@@ -1,4 +1,5 @@
 pub mod Rows
+pub mod Others
 pub mod Chosen
 pub mod Refined
 pub mod Ready

@@ -1,5 +1,5 @@
 -- The core of a new heap.
-use Rattle.std.specs.Prelude.{◌+◌, ◌*◌, ◌/◌, None, replicate}
+use Rattle.std.specs.Prelude.{◌*◌, ◌/◌, None, replicate}
 use Rattle.heap_words.specs.declared.config.Config.{Config}
 use Rattle.heap_words.specs.Configs.{card_words}
 use Rattle.regions.specs.Table.{free_table}

@@ -1,7 +1,6 @@
 -- The cores and states of a run.
-use Rattle.std.specs.Prelude.{◌≡◌, ◌↔◌, List, [], ◌∷◌}
+use Rattle.std.specs.Prelude.{◌≡◌, ◌↔◌, List, [], ◌∷◌, map}
 use Rattle.heap_words.specs.declared.config.Config.{Config}
-use Rattle.heap_words.specs.Configs.{Suits, IsFirstFault}
 use Rattle.object_graph.specs.declared.step.Actor.{Actor}
 use Rattle.object_graph.specs.declared.step.Actor.TheVariants as actors
 use Rattle.object_graph.specs.declared.step.Event.{Event}
@@ -10,8 +9,8 @@ use Rattle.object_graph.specs.declared.step.Step.TheVariants as steps
 use Rattle.object_graph.specs.declared.step.Reply.TheVariants as replies
 use Rattle.object_graph.specs.declared.step.Refusal.TheVariants as refusals
 use Rattle.cards.specs.Cards.{ListsDirtyOnce}
-use Rattle.step_core.specs.declared.runs.RunFault.{RunFault}
-use Rattle.step_core.specs.declared.runs.RunFault.TheVariants as faults
+use Rattle.object_graph.specs.Actors.{StepList, EventList}
+use Rattle.object_graph.specs.Run.{IsRun}
 use Rattle.object_graph.specs.State.{State, first_state}
 use Rattle.step_core.specs.Stands.{CoreState, Stands, IsCore, IsWhole}
 use Rattle.step_core.specs.Fresh.{fresh_core}
@@ -60,8 +59,12 @@ abbrev pub actor_of : Step → Actor
 actor_of (steps.Mutator o) = actors.Mutator o.mutator
 actor_of (steps.Collector k) = actors.Collector
 
--- the only faults of a run by itself: want of memory, where the heap's sizes suit, and their first fault
-abbrev pub IsRunFault : Config → RunFault → Type 0
-IsRunFault config faults.NoMemory = Suits config
-IsRunFault config (faults.Heap fault) = IsFirstFault config fault
-IsRunFault config _ = ⊥
+-- The record has the plan's heap line and its steps, each with its actor. It is a run of the graph, and the events are those of a new
+-- heap's cores.
+pub record IsRunInOrder (plan : StepList) (r : EventList) : Type 0 where
+  pub config : r.config ≡ plan.config
+  pub steps : map step_in r.events ≡ plan.steps
+  pub actors : map actor_in r.events ≡ map actor_of plan.steps
+  pub last : State
+  pub run : IsRun (first_state plan.config) r.events last
+  pub history : RunsFromNew plan.config r.events

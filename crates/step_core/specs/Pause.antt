@@ -1,5 +1,5 @@
 -- What a pause does to a core, exactly.
-use Rattle.std.specs.Prelude.{◌≡◌, ◌↔◌, ℕ, ◌==◌, ◌+◌, ◌*◌, ◌<◌, ◌≤◌, All, Bool, true, Option, None, List, [], ◌∷◌, IsSorted, Some, length, take, count_by, slice_get, slice_index}
+use Rattle.std.specs.Prelude.{◌≡◌, ◌↔◌, ℕ, ◌==◌, ◌+◌, ◌*◌, ◌<◌, ◌≤◌, All, Bool, true, Option, None, List, [], ◌∷◌, ◌++◌, IsSorted, Some, length, take, count_by, slice_get, slice_index}
 use Rattle.heap_words.specs.Sizes.{size_of}
 use Rattle.heap_words.specs.Configs.{card_words}
 use Rattle.heap_model.specs.Graph.{Graph, Object, object_named}
@@ -46,6 +46,15 @@ pub record AreCandidates (t : Table) (tams : Tops) (previous : List Bool) (runni
   pub are_rows : AreRowsOf t tams.previous previous rows
   pub each : All (IsCandidateRow t tams previous running n) rows
   pub all : (k : ℕ) → k < n → IsCandidate t tams previous running k → is_chosen rows k ≡ true
+
+-- the rows are those of the candidates whose live bounds are within a limit. The others have rows too, in their order, which stand
+-- nowhere
+pub record AreCandidatesWithin (t : Table) (tams : Tops) (previous : List Bool) (running : Bool) (limit n : ℕ) (rows : List LiveRow) : Type 0 where
+  pub others : List LiveRow
+  pub all : AreCandidates t tams previous running n (rows ++ others)
+  pub within : All (λ row. row.live_bound ≤ limit) rows
+  pub beyond : All (λ row. limit < row.live_bound) others
+  pub sorted : IsSorted row_cmp others
 
 -- the rows of the chosen regions: of all candidates, by live bound and then by number, as many from the front as the copy limit allows. No
 -- others within the limit free more

@@ -39,6 +39,7 @@ ghost use Rattle.step_core.specs.Cycle.{LeavesRegions};
 
 use crate::heap::Core;
 use heap_words::addr::{Addr, Card, Ptr};
+use heap_words::powers::quotient;
 use object_graph::Register;
 
 impl Core {
@@ -57,11 +58,10 @@ impl Core {
             return;
         };
         self.table.law();
-        let words = self.table.words_per_region();
         let word = object.word() + 2 + field;
-        if to.word() / words != word / words {
-            self.cards
-                .dirty(mutator, Card::new(word / self.config.card_words()));
+        if self.table.leads_out(word, *to) {
+            let card = quotient(word, self.config.card_words());
+            self.cards.dirty(mutator, Card::new(card));
         }
     }
 

@@ -70,7 +70,7 @@ impl Core {
     }
 
     /// Whether the humongous object that begins in a region isn't kept.
-    fn is_dead_run(&self, region: RegionNo) -> bool
+    pub(crate) fn is_dead_run(&self, region: RegionNo) -> bool
         requires known { region < length self.now.table.regions }
         requires first { kind_of self.now.table region ≡ kinds.First }
         ensures { IsTrue result ↔ (kept_of self.now (region * self.now.table.words_per_region) ≡ None) }

@@ -73,7 +73,13 @@ impl Drop for Core {
 }
 
 impl Core {
-    /// A heap with no objects, whose roots are nil.
+    /// A heap of these sizes with no objects, whose roots are nil. It takes all memory that its steps need. Where there is none, the fault
+    /// is the first of the sizes, or want of memory.
+    ///
+    /// ```rust
+    /// let other = Core::new(alloc, &config)?;
+    /// assert_eq!(rt; other.next_name(), 0);
+    /// ```
     pub fn new(alloc: Global, config: &Config) -> Result<Core, NewFault>
         ensures fresh { IfOk result (λ c. c ≡ fresh_core config.now) }
         ensures core { IfOk result IsCore }
@@ -119,6 +125,10 @@ impl Core {
     }
 
     /// The heap's sizes.
+    ///
+    /// ```rust
+    /// assert_eq!(rt; core.config().words, 16);
+    /// ```
     pub fn config(&self) -> Config
         ensures config { result ≡ self.now.config }
         ensures suits { Suits result }
@@ -127,6 +137,11 @@ impl Core {
     }
 
     /// Whether marking runs.
+    ///
+    /// ```rust
+    /// core.step(begin);
+    /// assert!(rt; core.marking());
+    /// ```
     pub fn marking(&self) -> bool
         ensures { result ≡ self.now.marker.running }
     {
@@ -134,6 +149,13 @@ impl Core {
     }
 
     /// How many objects were scanned since marking began.
+    ///
+    /// ```rust
+    /// core.step(new);
+    /// core.step(begin);
+    /// core.step(Step::Collector(CollectorStep::Mark(4)));
+    /// assert_eq!(rt; core.scans(), 1);
+    /// ```
     pub fn scans(&self) -> u32
         ensures { result ≡ self.now.marker.scans.since }
     {
@@ -141,6 +163,10 @@ impl Core {
     }
 
     /// How many cards wait for refinement.
+    ///
+    /// ```rust
+    /// assert_eq!(rt; core.queued(), 0);
+    /// ```
     pub fn queued(&self) -> u32
         ensures { result ≡ length self.now.cards.queue }
     {

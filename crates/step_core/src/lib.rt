@@ -24,9 +24,25 @@
 //!
 //! `mutator` has the mutator's steps, `barrier` what a store and a weak read do beside, `cycle` the steps of marking, `cleanup` the
 //! reclaiming, `refine` refinement, `candidates` the choice of what a pause evacuates, `pause` the pause, `step` any step,
-//! `runs` a list of them, `readers` what is read of a core from outside, `layers` the parts that a new core is made of.
+//! `runs` a list of them, `readers` what is read of a core from outside, `measures` what a policy of collection asks of it, `layers` the parts
+//! that a new core is made of.
 //!
 //! A field is read or written in constant time: no step tests or walks its region to see that an address is an object.
+//!
+//! Examples of calls go on from this one, in which `rt` is a test's `HostRuntime` and `alloc` its allocator:
+//!
+//! ```rust
+//! use heap_words::config::{Config, Format};
+//! use object_graph::{Action, CollectorStep, Counts, Op, Refusal, Register, Reply, Step};
+//! use step_core::{Core, run, run_to_core};
+//!
+//! let config = Config { format: Format::V1, regions: 4, words: 16, buffer: 8, mutators: 1, first_name: 0 };
+//! let r0 = Register { number: 0 };
+//! let counts = Counts { pointers: 1, values: 1 };
+//! let new = Step::Mutator(Op { mutator: 0, action: Action::New { to: r0, counts } });
+//! let begin = Step::Collector(CollectorStep::Begin);
+//! let mut core = Core::new(alloc, &config)?;
+//! ```
 #![tactic(auto)]
 
 mod barrier;
@@ -35,6 +51,7 @@ mod cleanup;
 mod cycle;
 mod heap;
 mod layers;
+mod measures;
 mod mutator;
 mod pause;
 mod readers;
@@ -43,7 +60,7 @@ mod runs;
 mod step;
 
 pub use heap::Core;
-pub use runs::{RunFault, run, run_fault, run_to_core};
+pub use runs::{run, run_to_core};
 
 #[cfg(test)]
 mod tests;

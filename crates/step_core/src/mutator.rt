@@ -330,7 +330,8 @@ impl Core {
         Reply::Named(Some(name))
     }
 
-    /// Does a mutator's step.
+    /// Does a mutator's step. Where the step is known, as in a call of the C library, its own arm alone is left of this.
+    #[inline(always)]
     pub(crate) fn act(&mut self, op: Op) -> Reply
         requires { IsOpAt (places_of self.old.config) op }
         ensures follows { (s : State) → Stands s self.old → Follows s (steps.Mutator op) result self.new }

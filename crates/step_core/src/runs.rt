@@ -1,39 +1,19 @@
 //! A list of steps, one after another, in a new heap.
 
 ghost use Rattle.std.specs.Prelude.{◌≡◌, ◌<◌, All, IfOk, IfErr, OnOk, map};
-ghost use Rattle.heap_words.specs.Configs.{Suits, IsNewFault};
+ghost use Rattle.heap_words.specs.Configs.{Suits};
 ghost use Rattle.object_graph.specs.State.{State, first_state};
 ghost use Rattle.object_graph.specs.Run.{IsRun};
 ghost use Rattle.object_graph.specs.Actors.{IsStep, IsStepOf};
 ghost use Rattle.heap_words.specs.declared.config.Config.{Config};
 ghost use Rattle.step_core.specs.Stands.{Stands};
-ghost use Rattle.step_core.specs.Histories.{Runs, RunsTo, RunsFromNew, step_in, actor_in, actor_of, IsRunFault};
+ghost use Rattle.object_graph.specs.Faults.{IsRunFault};
+ghost use Rattle.step_core.specs.Histories.{Runs, RunsTo, RunsFromNew, step_in, actor_in, actor_of};
 
 use crate::heap::Core;
-use heap_words::config::{Config, NewFault};
-use object_graph::{Actor, Event, Op, Record, Step};
+use heap_words::config::Config;
+use object_graph::{Actor, Event, Op, Record, RunFault, Step, run_fault};
 use std::alloc::{AllocError, Global};
-use thiserror::Error;
-
-/// Why a run gave no record.
-#[derive(Clone, Copy, Debug, PartialEq, Eq, Error)]
-pub enum RunFault {
-    /// A count of workers or of background actors is out of range.
-    #[error("1 BadWorkers")]
-    BadWorkers,
-    /// Memory was refused.
-    #[error("2 NoMemory")]
-    NoMemory,
-    /// No thread could be started.
-    #[error("3 NoWorker")]
-    NoWorker,
-    /// A script isn't at its end.
-    #[error("4 Unfinished")]
-    Unfinished,
-    /// The heap's sizes don't suit.
-    #[error("5 Heap")]
-    Heap(NewFault),
-}
 
 /// Who takes a step of a script: the mutator itself, or the collector.
 fn actor_of(step: &Step) -> Actor
@@ -72,6 +52,12 @@ fn run_on(alloc: Global, core: &mut Core, steps: &[Step]) -> Result<Record, Allo
 /// Does the steps in order, in a new heap, and answers the record and the core after the last step. The record's events
 /// are the steps in their order, each with its actor and its reply; between them stand cores and states, each core
 /// standing for its state, with every object that a root reaches whole and once in the heap.
+///
+/// ```rust
+/// let (record, after) = run_to_core(alloc, &config, &[new, begin])?;
+/// assert_eq!(rt; record.events().len(), 2);
+/// assert!(rt; after.marking());
+/// ```
 pub fn run_to_core(
     alloc: Global,
     config: &Config,
@@ -97,7 +83,13 @@ pub fn run_to_core(
     Ok((done, core))
 }
 
-/// Does the steps in order, in a new heap, and answers the record: that of `run_to_core`.
+/// Does the steps in order, in a new heap, and answers the record: that of `run_to_core`. Else the fault is the first of the sizes, or want
+/// of memory.
+///
+/// ```rust
+/// let record = run(alloc, &config, &[new])?;
+/// assert_eq!(rt; record.events()[0].reply, Reply::Named(Some(0)));
+/// ```
 pub fn run(alloc: Global, config: &Config, steps: &[Step]) -> Result<Record, RunFault>
     requires { All (IsStep config.now) steps.now }
     ensures config { IfOk result (λ r. r.config ≡ config.now) }
@@ -114,14 +106,4 @@ pub fn run(alloc: Global, config: &Config, steps: &[Step]) -> Result<Record, Run
         Err(fault) => return Err(fault),
     };
     Ok(done)
-}
-
-/// The run's fault where no heap was made.
-pub fn run_fault(fault: NewFault) -> RunFault
-    ensures { (config : Config) → IsNewFault config fault → IsRunFault config result }
-{
-    match fault {
-        NewFault::NoMemory => RunFault::NoMemory,
-        other => RunFault::Heap(other),
-    }
 }

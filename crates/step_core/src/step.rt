@@ -64,6 +64,12 @@ impl Core {
     /// where the graph would create an object and the heap has no place for it; a step of the collector is refused exactly
     /// where marking runs and it mustn't, or doesn't and it must. Regions are reclaimed by a cleanup, those that
     /// hold nothing live, and by a pause, those that it evacuates. No step takes memory.
+    ///
+    /// ```rust
+    /// assert_eq!(rt; core.step(new), Reply::Named(Some(0)));
+    /// assert_eq!(rt; core.step(begin), Reply::Done);
+    /// assert_eq!(rt; core.step(begin), Reply::Refused(Refusal::MarkRunning));
+    /// ```
     #[inline(always)]
     pub fn step(&mut self, step: Step) -> Reply
         requires { IsStep self.old.config step }

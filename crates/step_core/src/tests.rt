@@ -7,10 +7,12 @@ mod pauses;
 mod places;
 mod weak;
 
-use crate::{Core, RunFault, run};
+use crate::{Core, run};
 use heap_words::addr::{Card, RegionNo};
 use heap_words::config::{Config, Format, NewFault};
-use object_graph::{Action, CollectorStep, Counts, GlobalRoot, Op, Refusal, Register, Reply, Step};
+use object_graph::{
+    Action, CollectorStep, Counts, GlobalRoot, Op, Refusal, Register, Reply, RunFault, Step,
+};
 use std::process::Abort;
 use std::test::Fail;
 

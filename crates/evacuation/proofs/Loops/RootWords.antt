@@ -1,6 +1,6 @@
 -- Roots.
-use Rattle.std.proofs.Common.{◌≡◌, ℕ, suc, ◌+◌, ◌<◌, ◌≤◌, Bool, true, List, [], ◌∷◌, Option, Some, None, length, get_or, refl, sym, ap, ◌∙◌, subst, inl, inr, arith}
-use Rattle.std.specs.Prelude.{slice_get, slice_set}
+use Rattle.std.proofs.Common.{◌≡◌, ℕ, suc, ◌+◌, ◌≤◌, Bool, true, false, List, [], ◌∷◌, Option, Some, None, length, get_or, refl, sym, ap, ◌∙◌, subst, inl, inr, arith}
+use Rattle.std.specs.Prelude.{slice_get, slice_set, if◌then◌else◌}
 use Rattle.std.specs.List.{AllZip}
 use Rattle.std.proofs.lemmas.Bool.{cases_eq, cases_lt, cases_Bool}
 use Rattle.std.proofs.lemmas.Option.{get_or_from_slice_get, slice_get-get_or}
@@ -63,6 +63,12 @@ roots_grow set f f' grows [] [] z = tt
 roots_grow set f f' grows [] (y ∷ ys) z = absurd z
 roots_grow set f f' grows (x ∷ xs) [] z = absurd z
 roots_grow set f f' grows (x ∷ xs) (y ∷ ys) z = (moved_grows set f f' grows x y z.0, roots_grow set f f' grows xs ys z.1)
+
+-- where nothing is evacuated, roots are where they were
+pub roots_stay : (set : ℕ → Bool) (f : ℕ → Option ℕ) → ((a : ℕ) → set a ≡ false) → (xs : List (Option ℕ)) → AllZip (IsMoved (place_after set f)) xs xs
+roots_stay set f none [] = tt
+roots_stay set f none (None ∷ xs) = (tt, roots_stay set f none xs)
+roots_stay set f none (Some a ∷ xs) = (ap (λ (b : Bool). if b then f a else Some a) (none a), roots_stay set f none xs)
 
 -- ---- roots that hold nil are passed over
 nil_moved : (place : ℕ → Option ℕ) (w w' : Option ℕ) → w ≡ None → w' ≡ None → IsMoved place w w'

@@ -2,9 +2,11 @@
 
 use super::words;
 use crate::actors::{simulate_script, thread_script};
+use crate::in_order::run_script;
 use crate::program::refuse;
 use command_line::{Order, Task, misspelt, read_words};
-use jobs::{judge_record, run_script, view_script};
+use heap_view::view_script;
+use jobs::judge_record;
 use object_graph::Verdict;
 use script_text::{WatchedReader, WatchedWriter};
 use std::alloc::Global;

@@ -2,10 +2,10 @@
 
 use heap_words::config::NewFault;
 use jobs::{JobFault, JudgeFault, conclude, tell};
+use object_graph::RunFault;
 use script_text::{Kind, LineFault, ReadFault, WatchedWriter, WriteFault};
 use std::alloc::Global;
 use std::process::Abort;
-use step_core::RunFault;
 
 /// The line of each fault.
 static FAULTS: [(JobFault, &[u8]); 16] = [

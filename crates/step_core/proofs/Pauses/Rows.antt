@@ -1,21 +1,19 @@
 -- The candidates of a pause, region by region.
-use Rattle.std.proofs.Common.{◌≡◌, ℕ, zero, suc, ◌+◌, ◌<◌, ◌≤◌, Bool, true, false, cond, eqb, List, [], ◌∷◌, ◌++◌, length, get_or, take, refl, sym, ◌∙◌, ap, subst, arith, inl, inr}
-use Rattle.std.specs.Prelude.{All, IsPermutation, IsSorted, Some, slice_get, count_by, ◌==◌, ◌||◌}
+use Rattle.std.proofs.Common.{◌≡◌, ℕ, zero, suc, ◌+◌, ◌<◌, ◌≤◌, Bool, true, false, cond, eqb, List, [], ◌∷◌, ◌++◌, length, get_or, refl, sym, ◌∙◌, ap, subst, arith, inl, inr}
+use Rattle.std.specs.Prelude.{All, IsPermutation, count_by, ◌==◌, ◌||◌}
 use Rattle.std.specs.List.{list_any}
 use Rattle.std.proofs.lemmas.Bool.{cases_eq, cases_lt, eq-eqb, ne_eqb}
 use Rattle.std.proofs.lemmas.List.Sums.{sum_by-cons, sum_by-append}
 use Rattle.std.proofs.lemmas.List.Elements.{All-append}
 use Rattle.std.proofs.lemmas.List.Folds.{list_any-append}
-use Rattle.std.proofs.lemmas.List.{length-take-le}
-use Rattle.std.proofs.lemmas.List.Sorted.{All-permutation, sum_by-IsPermutation, list_any-IsPermutation, IsPermutation-sym, IsPermutation-trans}
-use Rattle.region_choice.specs.Choice.{copy_limit, live_sum, row_cmp, IsBestWithin}
-use Rattle.regions.specs.Table.{Table, kind_of, is_free}
+use Rattle.std.proofs.lemmas.List.Sorted.{All-permutation, sum_by-IsPermutation, list_any-IsPermutation}
+use Rattle.regions.specs.Table.{Table, kind_of}
 use Rattle.mark_bitmap.specs.Tops.{Tops}
 use Rattle.mark_bitmap.specs.Live.{live_bound_of}
 use Rattle.region_choice.specs.declared.LiveRow.{LiveRow}
 use Rattle.evacuation.specs.Evacuates.{is_chosen}
 use Rattle.step_core.specs.Pause.{IsRowOf}
-use Rattle.step_core.specs.Pause.{IsCandidate, IsCandidateRow, AreCandidates, IsChosen}
+use Rattle.step_core.specs.Pause.{IsCandidate, IsCandidateRow, AreCandidates}
 
 abbrev bit : ℕ → LiveRow → ℕ
 bit k row = cond (eqb row.region k) 1 0
@@ -23,7 +21,7 @@ bit k row = cond (eqb row.region k) 1 0
 All_map : (P Q : LiveRow → Type 0) → ((x : LiveRow) → P x → Q x) → (rows : List LiveRow) → All P rows → All Q rows
 All_map P Q f rows a = λ k d lt. f (get_or rows k d) (a k d lt)
 
-All_one : (P : LiveRow → Type 0) (x : LiveRow) → P x → All P (x ∷ [])
+pub All_one : (P : LiveRow → Type 0) (x : LiveRow) → P x → All P (x ∷ [])
 All_one P x p = go
   where
     go : (k : ℕ) (d : LiveRow) → k < 1 → P (get_or (x ∷ []) k d)
@@ -119,29 +117,6 @@ candidates_sorted t tams previous running n xs ys same c = record {
   each = All-permutation (IsCandidateRow t tams previous running n) xs ys same c.each;
   all = λ k lt is. sym (list_any-IsPermutation (λ row. row.region == k) xs ys same) ∙ c.all k lt is;
 }
-
-best_sorted : (words limit : ℕ) (xs ys best : List LiveRow) → IsPermutation xs ys → IsBestWithin words limit xs best → IsBestWithin words limit ys best
-best_sorted words limit xs ys best same b = record {
-  part = record { rest = b.part.rest; whole = IsPermutation-trans ys xs (best ++ b.part.rest) (IsPermutation-sym xs ys same) b.part.whole };
-  within = b.within;
-  most = λ other p le. b.most other (record { rest = p.rest; whole = IsPermutation-trans xs ys (other ++ p.rest) same p.whole }) le;
-}
-
--- the front of the sorted rows
-pub front_chosen : (t : Table) (tams : Tops) (previous : List Bool) (running : Bool) (budget words free n : ℕ) (xs ys : List LiveRow) → words ≡ t.words_per_region → free ≡ count_by is_free t.regions
-    → AreCandidates t tams previous running (length t.regions) xs → IsPermutation xs ys → IsSorted row_cmp ys → n ≤ length ys
-    → ((row : LiveRow) → slice_get ys n ≡ Some row → copy_limit words budget free < live_sum (take n ys) + row.live_bound)
-    → IsBestWithin words (copy_limit words budget free) xs (take n ys) → IsChosen t tams previous running budget (take n ys)
-front_chosen t tams previous running budget words free n xs ys words_is free_is c same sorted le next best =
-    let count : length (take n ys) ≡ n = length-take-le n ys le in
-    record {
-      rows = ys;
-      candidates = candidates_sorted t tams previous running (length t.regions) xs ys same c;
-      sorted = sorted;
-      front = ap (λ (m : ℕ). take m ys) (sym count);
-      next = λ row e. rw (words_is, free_is) at (next row (ap (λ (m : ℕ). slice_get ys m) (sym count) ∙ e));
-      best = rw (words_is, free_is) at (best_sorted words (copy_limit words budget free) xs ys (take n ys) same best);
-    }
 
 pub length-push : (rows : List LiveRow) (row : LiveRow) → length (rows ++ row ∷ []) ≡ length rows + 1
 length-push [] row = refl

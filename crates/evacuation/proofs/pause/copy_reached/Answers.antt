@@ -9,7 +9,7 @@ use Rattle.evacuation.proofs.pause.copy_reached.Goals as goal
 
 pub returns : goal.returns
 returns g c =
-    let (premises, (turn, (flags, (card, (each, (tams, (marks, (visited, (all, (start, roots)))))))))) = c.requires in
+    let (premises, (turn, (flags, (card, (each, (tams, (marks, (visited, (all, (start, (roots, none))))))))))) = c.requires in
     let f = c.update_cards.ensures.after.forward_grows in
     let s = c.settle_copies.ensures.after.forward_grows in
     let moved = roots_grow (in_set g.pause) (space g.pause c.update_roots.new.table).forward (space g.pause c.settle_copies.new.table).forward (λ a b e. s a b (f a b e)) g.pause.roots c.update_roots.new.roots.words c.update_roots.ensures.moved in

@@ -1,5 +1,6 @@
 use Rattle.evacuation.specs.Space.{flag}
-use Rattle.std.proofs.Common.{◌≡◌, ◌∙◌, ℕ, sym, ap, refl, subst, ◌+◌, ◌/◌, length, false, zero, suc, inl, inr, true, List, Bool, replicate}
+use Rattle.region_choice.specs.declared.LiveRow.{LiveRow}
+use Rattle.std.proofs.Common.{◌≡◌, ◌∙◌, ℕ, sym, ap, refl, subst, ◌+◌, ◌/◌, length, false, zero, suc, inl, inr, true, List, [], ◌∷◌, Bool, replicate, arith}
 use Rattle.std.proofs.lemmas.List.{length-replicate}
 use Rattle.regions.proofs.Words.Sizes.{EachForwardedIn-imp}
 use Rattle.remembered_sets.specs.Sets.{card_count}
@@ -10,6 +11,10 @@ use Rattle.evacuation.specs.Evacuates.{HasEvacuated, MarksAfter}
 use Rattle.evacuation.proofs.WholePause.Asked as asked
 use Rattle.evacuation.proofs.WholePause.HeapAfter as final
 use Rattle.evacuation.proofs.pause.evacuate_in.Goals as goal
+
+none_chosen : (rows : List LiveRow) (k : ℕ) → length rows ≡ 0 → is_chosen rows k ≡ false
+none_chosen [] k e = refl
+none_chosen (row ∷ rows) k e = absurd (omega arith)
 
 none_noted : (n k : ℕ) → flag (replicate n false) k ≡ true → ⊥
 none_noted zero k e = absurd cc
@@ -37,7 +42,7 @@ copy_reached-requires c =
                   refl,
                   (
                     asked.cards_are h c.args.chosen.now c.args.card_words c.requires.can c.law.ensures c.flag_chosen.new.set c.flag_chosen.ensures.flags (c.flag_chosen.ensures.len ∙ c.requires.each_region) (length c.flag_visited.new.visited) each,
-                    (asked.all_visited h c.args.chosen.now c.args.card_words c.requires.can c.law.ensures c.flag_chosen.new.set c.flag_chosen.ensures.flags (c.flag_chosen.ensures.len ∙ c.requires.each_region) c.flag_visited.new.visited c.flag_visited.ensures.flags, (refl, refl)),
+                    (asked.all_visited h c.args.chosen.now c.args.card_words c.requires.can c.law.ensures c.flag_chosen.new.set c.flag_chosen.ensures.flags (c.flag_chosen.ensures.len ∙ c.requires.each_region) c.flag_visited.new.visited c.flag_visited.ensures.flags, (refl, (refl, λ e a. c.flag_chosen.ensures.flags (a / c.args.table.now.words_per_region) ∙ none_chosen c.args.chosen.now (a / c.args.table.now.words_per_region) e))),
                   ),
                 ),
               ),

@@ -1,15 +1,17 @@
-use Rattle.std.proofs.Common.{◌+◌, ◌∙◌, sym, ap, subst, Some, arith, []}
+use Rattle.std.proofs.Common.{◌+◌, ◌∙◌, ℕ, List, Option, sym, ap, subst, Some, []}
+use Rattle.std.specs.List.{AllZip}
+use Rattle.heap_model.specs.Relocation.{IsMoved}
 use Rattle.root_table.specs.Roots.{RootTable}
 use Rattle.evacuation.specs.Space.{AreRootsMoved}
 use Rattle.heap_model.specs.Evacuation.{place_after}
 use Rattle.evacuation.specs.Turns.{in_set, layout, plan, space}
 use Rattle.evacuation.proofs.Turns.Following.{after_after}
-use Rattle.evacuation.proofs.Loops.RootWords.{roots_more, roots_past, roots_rest, root_named, named_word}
+use Rattle.evacuation.proofs.Loops.RootWords.{roots_more, roots_past, roots_rest, roots_stay, root_named, named_word}
 use Rattle.evacuation.proofs.roots.update_roots.Goals as goal
 
 pub new_word-new-requires : goal.new_word-new-requires
 new_word-new-requires g c =
-    let (premises, (turn, (flags, start))) = c.requires in
+    let (premises, (turn, (flags, (start, none)))) = c.requires in
     let next = c.in-Some.ensures.lowest in
     let here = named_word c.loop-place.roots.words c.loop-place.from c.in-Some.place c.get-word.result next c.get-word.ensures in
     let moved = roots_past (place_after (in_set g.pause) (space g.pause c.loop-place.table).forward) g.pause.roots c.loop-place.roots.words c.loop-place.from c.in-Some.place next.nil_before c.loop-place.invariant.roots next.from_on in (
@@ -23,6 +25,12 @@ new_word-new-requires g c =
         ),
       ),
     )
+
+pub returns-then-regions-eq0-clause-moved : goal.returns-then-regions-eq0-clause-moved
+returns-then-regions-eq0-clause-moved g c =
+    let (premises, (turn, (flags, (start, none)))) = c.requires in
+    subst (λ (ws : List (Option ℕ)). AllZip (IsMoved (place_after (in_set g.pause) (space g.pause c.args.table.now).forward)) ws c.args.roots.now.words) start
+    (roots_stay (in_set g.pause) (space g.pause c.args.table.now).forward (none c.if-regions-eq0.true) c.args.roots.now.words)
 
 pub loop-place-preserved : goal.loop-place-preserved
 loop-place-preserved g c =

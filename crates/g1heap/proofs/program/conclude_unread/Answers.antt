@@ -1,4 +1,7 @@
-use Rattle.std.proofs.Common.{Err}
+use Rattle.std.proofs.Common.{Err, ℕ, Bool, true, false}
+use Rattle.script_text.specs.Watched.{Reader, Writer, FailsToGive, Stays}
+use Rattle.jobs.specs.Verdicts.{TellsVerdict}
+use Rattle.g1heap.specs.Jobs.{DoesCheck}
 use Rattle.script_text.specs.declared.fault.ReadFault.TheVariants as reads
 use Rattle.jobs.specs.declared.faults.JobFault.TheVariants as faults
 use Rattle.g1heap.proofs.program.conclude_unread.Goals as goal
@@ -10,12 +13,15 @@ returns-in-Script g c = λ given left old new unread kept. rw c.in-Script.is (re
   tells = c.conclude.ensures;
 })
 
+-- whether it was to be explained makes no difference
+unread_check : (explained : Bool) (given left : Reader) (old new err err' : Writer) (status : ℕ) → FailsToGive reads.CannotRead given left → Stays old new
+    → TellsVerdict err err' (Err (faults.Read reads.CannotRead)) status → DoesCheck explained given left old new err err' status
+unread_check false given left old new err err' status unread kept tells = record { outcome = Err (faults.Read reads.CannotRead); judges = (unread, kept); tells = tells }
+unread_check true given left old new err err' status unread kept tells = record { outcome = Err (faults.Read reads.CannotRead); explains = (unread, kept); tells = tells }
+
 pub returns-in-Check : goal.returns-in-Check
-returns-in-Check g c = λ given left old new unread kept. rw c.in-Check.is (record {
-  outcome = Err (faults.Read reads.CannotRead);
-  judges = (unread, kept);
-  tells = c.conclude_verdict.ensures;
-})
+returns-in-Check g c = λ given left old new unread kept.
+    rw c.in-Check.is (unread_check _ given left old new c.args.err.now c.conclude_verdict.new.err c.conclude_verdict.result unread kept c.conclude_verdict.ensures)
 
 pub returns-in-View : goal.returns-in-View
 returns-in-View g c = λ given left old new unread kept. rw c.in-View.is (record {

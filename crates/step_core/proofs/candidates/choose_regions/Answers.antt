@@ -1,8 +1,18 @@
-use Rattle.step_core.proofs.Pauses.Rows.{front_chosen}
+use Rattle.std.proofs.Common.{◌≡◌, ◌∙◌, ◌+◌, ◌<◌, ◌≤◌, ℕ, sym, ap, subst, take}
+use Rattle.std.specs.Prelude.{count_by}
+use Rattle.regions.specs.Table.{is_free}
+use Rattle.region_choice.specs.Choice.{copy_limit, live_sum}
+use Rattle.step_core.proofs.Pauses.Others.{front_within}
 use Rattle.step_core.proofs.candidates.choose_regions.Goals as goal
 
 pub returns-clause-chosen : goal.returns-clause-chosen
 returns-clause-chosen c =
     let f = c.find_candidates.ensures in
     let r = c.choose_rows.ensures in
-    front_chosen _ _ _ _ c.args.budget _ _ _ _ _ c.words_per_region.ensures c.free_count.ensures f.candidates r.same r.sorted r.count r.next r.best
+    let same : copy_limit c.words_per_region-words.result c.args.budget c.free_count-free.result ≡ c.limit_of-limit.result =
+    sym (c.limit_of-limit.ensures ∙ ap (λ (b : ℕ). copy_limit c.words_per_region-words.result b c.free_count-free.result) c.from.ensures) in
+    let limit : c.limit_of-limit.result ≡ copy_limit c.args.table.now.words_per_region c.args.budget (count_by is_free c.args.table.now.regions) =
+    sym same ∙ ap (λ (w : ℕ). copy_limit w c.args.budget c.free_count-free.result) c.words_per_region-words.ensures ∙ ap (λ (f : ℕ). copy_limit c.args.table.now.words_per_region c.args.budget f) c.free_count-free.ensures in
+    front_within c.args.table.now c.args.tams.now c.args.previous.now c.args.running c.args.budget c.choose_rows.result c.limit_of-limit.result _ c.choose_rows.new.rows.items limit f.candidates r.same r.sorted r.count
+    (λ row e. subst (λ (m : ℕ). m < live_sum (take c.choose_rows.result c.choose_rows.new.rows.items) + row.live_bound) same (r.next row e))
+    (subst (λ (m : ℕ). live_sum (take c.choose_rows.result c.choose_rows.new.rows.items) ≤ m) same r.best.within)

@@ -1,4 +1,4 @@
-use Rattle.std.proofs.Common.{◌≡◌, ℕ, ◌<◌, ◌-◌, ap, subst, sym}
+use Rattle.std.proofs.Common.{ℕ, ◌<◌, ◌-◌, ap, subst, sym}
 use Rattle.heap_model.specs.Graph.{Places, register_place}
 use Rattle.step_core.proofs.Cores.Keeping.{placed_in, register_at, registers_at}
 use Rattle.step_core.proofs.Cores.Leaving.{left_kept, left_keeps, left_leaves, left_set, left_shows}

@@ -12,7 +12,7 @@ dirty-requires-clause-card c =
     let root = to_fields _ _ c.self.view_is (λ d. IsRoot (heap_of d) c.args.object) c.requires.rooted in
     let within = to_fields _ _ c.self.view_is (λ d. c.args.field < length (fields_at d.table c.args.object)) c.requires.field in
     let inside = field_inside _ c.args.object c.args.field c.self.invariant c.law.ensures root within in
-    let card = c.new.ensures ∙ ap (λ (n : ℕ). (c.word.result + 2 + c.args.field) / n) c.card_words.ensures in
+    let card = c.new.ensures ∙ c.quotient-card.ensures ∙ ap (λ (n : ℕ). (c.word.result + 2 + c.args.field) / n) c.card_words.ensures in
     let known = subst (λ (n : ℕ). n < length c.self.inside.cards.dirty) (sym card)
     (card_inside _ (c.word.result + 2 + c.args.field) c.self.invariant (omega (arith, inside, c.word.ensures))) in
     known
@@ -22,7 +22,7 @@ invariant_of-self c =
     let root = to_fields _ _ c.self.view_is (λ d. IsRoot (heap_of d) c.args.object) c.requires.rooted in
     let within = to_fields _ _ c.self.view_is (λ d. c.args.field < length (fields_at d.table c.args.object)) c.requires.field in
     let inside = field_inside _ c.args.object c.args.field c.self.invariant c.law.ensures root within in
-    let card = c.new.ensures ∙ ap (λ (n : ℕ). (c.word.result + 2 + c.args.field) / n) c.card_words.ensures in
+    let card = c.new.ensures ∙ c.quotient-card.ensures ∙ ap (λ (n : ℕ). (c.word.result + 2 + c.args.field) / n) c.card_words.ensures in
     let known = subst (λ (n : ℕ). n < length c.self.inside.cards.dirty) (sym card)
     (card_inside _ (c.word.result + 2 + c.args.field) c.self.invariant (omega (arith, inside, c.word.ensures))) in
     let d = c.dirty.ensures in
@@ -42,12 +42,12 @@ overflow_add-word-2 c =
     let inside = field_inside _ c.args.object c.args.field c.self.invariant c.law.ensures root within in
     omega (arith, inside, c.law.ensures.in_all, c.word.ensures)
 
-pub returns-then-word-words-clause-noted : goal.returns-then-word-words-clause-noted
-returns-then-word-words-clause-noted c =
+pub returns-then-leads_out-clause-noted : goal.returns-then-leads_out-clause-noted
+returns-then-leads_out-clause-noted c =
     let root = to_fields _ _ c.self.view_is (λ d. IsRoot (heap_of d) c.args.object) c.requires.rooted in
     let within = to_fields _ _ c.self.view_is (λ d. c.args.field < length (fields_at d.table c.args.object)) c.requires.field in
     let inside = field_inside _ c.args.object c.args.field c.self.invariant c.law.ensures root within in
-    let card = c.new.ensures ∙ ap (λ (n : ℕ). (c.word.result + 2 + c.args.field) / n) c.card_words.ensures in
+    let card = c.new.ensures ∙ c.quotient-card.ensures ∙ ap (λ (n : ℕ). (c.word.result + 2 + c.args.field) / n) c.card_words.ensures in
     let known = subst (λ (n : ℕ). n < length c.self.inside.cards.dirty) (sym card)
     (card_inside _ (c.word.result + 2 + c.args.field) c.self.invariant (omega (arith, inside, c.word.ensures))) in
     let d = c.dirty.ensures in

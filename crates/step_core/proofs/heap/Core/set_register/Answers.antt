@@ -1,4 +1,4 @@
-use Rattle.std.proofs.Common.{◌≡◌, ◌<◌, subst, sym}
+use Rattle.std.proofs.Common.{◌<◌, subst, sym}
 use Rattle.heap_model.specs.Graph.{Places}
 use Rattle.step_core.proofs.Cores.Keeping.{placed_in, register_at, register_shows, root_kept, root_kept_from, root_leaves, root_after, root_set}
 use Rattle.step_core.proofs.heap.Core.set_register.Goals as goal

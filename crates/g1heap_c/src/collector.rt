@@ -1,0 +1,59 @@
+//! The collector's steps, a call for each. Any numbers will do.
+
+ghost use Rattle.std.specs.Prelude.{◌≡◌};
+ghost use Rattle.object_graph.specs.declared.step.Step.TheVariants as steps;
+ghost use Rattle.object_graph.specs.declared.step.CollectorStep.TheVariants as collector;
+ghost use Rattle.g1heap_c.specs.Steps.{Takes, plain, scanned};
+
+use crate::answer::Answer;
+use crate::heap::{Heap, mark, take};
+use object_graph::{CollectorStep, Step};
+use std::alloc::Global;
+
+/// Marking begins.
+#[unsafe(no_mangle)]
+pub extern "C" fn g1_begin(alloc: Global, heap: &mut Heap) -> Answer
+    ensures { Takes plain heap.old.handle.core (steps.Collector collector.Begin) result heap.new.handle.core }
+{
+    take(alloc, heap, Step::Collector(CollectorStep::Begin))
+}
+
+/// At most so many objects are scanned; the answer tells how many.
+#[unsafe(no_mangle)]
+pub extern "C" fn g1_mark(alloc: Global, heap: &mut Heap, objects: u32) -> Answer
+    ensures { Takes scanned heap.old.handle.core (steps.Collector (collector.Mark objects)) result heap.new.handle.core }
+{
+    mark(alloc, heap, objects)
+}
+
+/// Marking is brought to its end.
+#[unsafe(no_mangle)]
+pub extern "C" fn g1_remark(alloc: Global, heap: &mut Heap) -> Answer
+    ensures { Takes plain heap.old.handle.core (steps.Collector collector.Remark) result heap.new.handle.core }
+{
+    take(alloc, heap, Step::Collector(CollectorStep::Remark))
+}
+
+/// Regions with nothing live are free again.
+#[unsafe(no_mangle)]
+pub extern "C" fn g1_cleanup(alloc: Global, heap: &mut Heap) -> Answer
+    ensures { Takes plain heap.old.handle.core (steps.Collector collector.Cleanup) result heap.new.handle.core }
+{
+    take(alloc, heap, Step::Collector(CollectorStep::Cleanup))
+}
+
+/// At most so many queued cards are refined.
+#[unsafe(no_mangle)]
+pub extern "C" fn g1_refine(alloc: Global, heap: &mut Heap, cards: u32) -> Answer
+    ensures { Takes plain heap.old.handle.core (steps.Collector (collector.Refine cards)) result heap.new.handle.core }
+{
+    take(alloc, heap, Step::Collector(CollectorStep::Refine(cards)))
+}
+
+/// Live objects are copied out of some regions, at most so many words, and these regions are free again.
+#[unsafe(no_mangle)]
+pub extern "C" fn g1_pause(alloc: Global, heap: &mut Heap, words: u32) -> Answer
+    ensures { Takes plain heap.old.handle.core (steps.Collector (collector.Pause words)) result heap.new.handle.core }
+{
+    take(alloc, heap, Step::Collector(CollectorStep::Pause(words)))
+}

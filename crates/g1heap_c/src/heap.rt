@@ -1,0 +1,121 @@
+//! A heap as C keeps it, and what each call does with it.
+
+ghost use Rattle.std.specs.Prelude.{◌≡◌, ◌↔◌, Some, None, IsTrue, true};
+ghost use Rattle.object_graph.specs.Actors.{IsStep};
+ghost use Rattle.object_graph.specs.declared.step.Step.TheVariants as steps;
+ghost use Rattle.object_graph.specs.declared.step.CollectorStep.TheVariants as collector;
+ghost use Rattle.g1heap_c.specs.Held.{is_held};
+ghost use Rattle.g1heap_c.specs.Steps.{Steps, Takes, TakesNone, plain, scanned};
+
+use crate::answer::{Answer, answer_of, counted, no_heap, no_step};
+use crate::handle::Handle;
+use crate::loose::Loose;
+use object_graph::{Action, CollectorStep, Op, Step};
+use std::alloc::Global;
+use std::mem::replace;
+use step_core::Core;
+
+/// A heap, or none.
+#[repr(C)]
+#[derive(Drop)]
+pub struct Heap {
+    pub live: bool,
+    pub handle: Handle,
+    ghost says: { live ≡ is_held handle.core },
+}
+
+/// A handle of this core.
+#[inline(always)]
+pub(crate) fn handle_of(core: Box<Core>) -> Handle
+    ensures { result.core ≡ Some core.value }
+{
+    Handle::of(Loose::of(core))
+}
+
+/// Takes the core out of its handle.
+#[inline(always)]
+pub(crate) fn take_out(alloc: Global, handle: &mut Handle) -> Box<Core>
+    requires { is_held handle.old.core ≡ true }
+    ensures core { handle.old.core ≡ Some result.value }
+    ensures none { handle.new.core ≡ None }
+{
+    replace(handle, Handle::empty(alloc))
+        .into_loose()
+        .into_box()
+}
+
+/// Whether the heap's sizes have a mutator's step.
+#[inline(always)]
+fn has_op(core: &Core, op: Op) -> bool
+    ensures { IsTrue result ↔ IsStep core.now.config (steps.Mutator op) }
+{
+    match op.action {
+        Action::Scope { .. } => Step::Mutator(op).is_in(&core.config()),
+        _ => op.is_at(&core.roots().places()),
+    }
+}
+
+/// Whether the heap's sizes have a step.
+#[inline(always)]
+fn has(core: &Core, step: Step) -> bool
+    ensures { IsTrue result ↔ IsStep core.now.config step }
+{
+    match step {
+        Step::Mutator(op) => has_op(core, op),
+        Step::Collector(_) => true,
+    }
+}
+
+#[inline(always)]
+fn perform(core: &mut Core, step: Step) -> Answer
+    requires { IsStep core.old.config step }
+    ensures { Steps plain core.old step result (Some core.new) }
+{
+    answer_of(core.step(step))
+}
+
+/// Does a step, if the heap's sizes have it.
+#[inline(always)]
+pub(crate) fn take(alloc: Global, heap: &mut Heap, step: Step) -> Answer
+    ensures { Takes plain heap.old.handle.core step result heap.new.handle.core }
+{
+    if !heap.live {
+        return no_heap();
+    }
+    let mut core = take_out(alloc, &mut heap.handle);
+    if !has(&core, step) {
+        heap.handle = handle_of(core);
+        return no_step();
+    }
+    let answer = perform(&mut core, step);
+    heap.handle = handle_of(core);
+    answer
+}
+
+/// The numbers name no step.
+pub(crate) fn take_none(heap: &mut Heap) -> Answer
+    ensures { TakesNone heap.old.handle.core result heap.new.handle.core }
+{
+    if heap.live { no_step() } else { no_heap() }
+}
+
+fn scan(core: &mut Core, objects: u32) -> Answer
+    ensures { Steps scanned core.old (steps.Collector (collector.Mark objects)) result (Some core.new) }
+{
+    let before = core.scans();
+    let reply = core.step(Step::Collector(CollectorStep::Mark(objects)));
+    counted(core.scans() - before, reply)
+}
+
+/// Marks, and counts the objects that were scanned.
+pub(crate) fn mark(alloc: Global, heap: &mut Heap, objects: u32) -> Answer
+    ensures { Takes scanned heap.old.handle.core (steps.Collector (collector.Mark objects)) result heap.new.handle.core }
+{
+    if !heap.live {
+        return no_heap();
+    }
+    let mut core = take_out(alloc, &mut heap.handle);
+    let answer = scan(&mut core, objects);
+    heap.handle = handle_of(core);
+    answer
+}

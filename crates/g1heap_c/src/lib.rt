@@ -1,0 +1,24 @@
+//! The heap as a C library: a heap is made, stepped and freed by calls from C, as `include/g1heap.h` declares them.
+//!
+//! ```text
+//!   C                                    Rattle
+//!   struct g1_heap { live, at }    --->  Heap: nothing, or a core in a box
+//!   g1_get(&heap, m, to, obj, i)   --->  Step -> Core::step -> Reply -> Answer
+//! ```
+//!
+//! A call takes numbers, and any numbers will do: they name a step, and if the heap's sizes have it the core takes it. So each call's
+//! clause says of the numbers what `Core::step` says of the step. Where they name none, or there is no heap, nothing changes.
+#![tactic(auto)]
+
+mod answer;
+pub mod collector;
+mod handle;
+mod heap;
+mod loose;
+pub mod making;
+pub mod mutator;
+pub mod readers;
+
+pub use answer::Answer;
+pub use handle::Handle;
+pub use heap::Heap;

@@ -1,0 +1,411 @@
+//! The mutators' steps, a call for each. Any numbers will do.
+
+ghost use Rattle.std.specs.Prelude.{◌≡◌, ◌<◌, ◌≤◌};
+ghost use Rattle.object_graph.specs.declared.step.Action.TheVariants as actions;
+ghost use Rattle.g1heap_c.specs.Numbers as spec;
+ghost use Rattle.g1heap_c.specs.Numbers.{by};
+ghost use Rattle.g1heap_c.specs.Steps.{Takes, TakesNone, plain};
+
+use crate::answer::Answer;
+use crate::heap::{Heap, take, take_none};
+use object_graph::{Action, Counts, GlobalRoot, Op, Register, Step};
+use std::alloc::Global;
+
+#[inline(always)]
+fn register(number: u32) -> Register
+    ensures { result ≡ spec.register number }
+{
+    Register { number }
+}
+
+#[inline(always)]
+fn global(number: u32) -> GlobalRoot
+    ensures { result ≡ spec.global number }
+{
+    GlobalRoot { number }
+}
+
+#[inline(always)]
+fn counts(pointers: u32, values: u32) -> Counts
+    ensures { result ≡ spec.counts pointers values }
+{
+    Counts { pointers, values }
+}
+
+/// What is stored: nil, or what a register holds.
+#[inline(always)]
+fn value(number: u32) -> Option<Register>
+    ensures { result ≡ spec.value number }
+{
+    if number == u32::MAX {
+        None
+    } else {
+        Some(register(number))
+    }
+}
+
+#[inline(always)]
+fn by(mutator: u32, action: Action) -> Step
+    ensures { result ≡ by mutator action }
+{
+    Step::Mutator(Op { mutator, action })
+}
+
+/// `to` takes a new object of so many pointers and data words.
+#[unsafe(no_mangle)]
+pub extern "C" fn g1_new_object(
+    alloc: Global,
+    heap: &mut Heap,
+    mutator: u32,
+    to: u32,
+    pointers: u32,
+    values: u32,
+) -> Answer
+    ensures { Takes plain heap.old.handle.core
+        (by mutator (actions.New (spec.register to) (spec.counts pointers values))) result heap.new.handle.core }
+{
+    take(
+        alloc,
+        heap,
+        by(
+            mutator,
+            Action::New {
+                to: register(to),
+                counts: counts(pointers, values),
+            },
+        ),
+    )
+}
+
+/// The same with weak slots, of which an object has at most 255.
+#[unsafe(no_mangle)]
+pub extern "C" fn g1_new_weak(
+    alloc: Global,
+    heap: &mut Heap,
+    mutator: u32,
+    to: u32,
+    pointers: u32,
+    weaks: u32,
+    values: u32,
+) -> Answer
+    ensures few { weaks ≤ 255 → Takes plain heap.old.handle.core
+        (by mutator (actions.NewWeak (spec.register to) (spec.counts pointers values) weaks)) result heap.new.handle.core }
+    ensures many { 255 < weaks → TakesNone heap.old.handle.core result heap.new.handle.core }
+{
+    if 255 < weaks {
+        return take_none(heap);
+    }
+    take(
+        alloc,
+        heap,
+        by(
+            mutator,
+            Action::NewWeak {
+                to: register(to),
+                counts: counts(pointers, values),
+                weaks: weaks as u8,
+            },
+        ),
+    )
+}
+
+/// `to` takes a pointer of the object that `object` names.
+#[unsafe(no_mangle)]
+pub extern "C" fn g1_get(
+    alloc: Global,
+    heap: &mut Heap,
+    mutator: u32,
+    to: u32,
+    object: u32,
+    field: u32,
+) -> Answer
+    ensures { Takes plain heap.old.handle.core
+        (by mutator (actions.Get (spec.register to) (spec.register object) field)) result heap.new.handle.core }
+{
+    take(
+        alloc,
+        heap,
+        by(
+            mutator,
+            Action::Get {
+                to: register(to),
+                object: register(object),
+                field,
+            },
+        ),
+    )
+}
+
+/// A pointer of the object that `object` names takes what `from` holds, or nil.
+#[unsafe(no_mangle)]
+pub extern "C" fn g1_put(
+    alloc: Global,
+    heap: &mut Heap,
+    mutator: u32,
+    object: u32,
+    field: u32,
+    from: u32,
+) -> Answer
+    ensures { Takes plain heap.old.handle.core
+        (by mutator (actions.Put (spec.register object) field (spec.value from))) result heap.new.handle.core }
+{
+    take(
+        alloc,
+        heap,
+        by(
+            mutator,
+            Action::Put {
+                object: register(object),
+                field,
+                value: value(from),
+            },
+        ),
+    )
+}
+
+/// Tells a data word of the object that `object` names.
+#[unsafe(no_mangle)]
+pub extern "C" fn g1_read(
+    alloc: Global,
+    heap: &mut Heap,
+    mutator: u32,
+    object: u32,
+    field: u32,
+) -> Answer
+    ensures { Takes plain heap.old.handle.core (by mutator (actions.Read (spec.register object) field)) result heap.new.handle.core }
+{
+    take(
+        alloc,
+        heap,
+        by(
+            mutator,
+            Action::Read {
+                object: register(object),
+                field,
+            },
+        ),
+    )
+}
+
+/// A data word of the object that `object` names takes a value.
+#[unsafe(no_mangle)]
+pub extern "C" fn g1_write(
+    alloc: Global,
+    heap: &mut Heap,
+    mutator: u32,
+    object: u32,
+    field: u32,
+    value: u64,
+) -> Answer
+    ensures { Takes plain heap.old.handle.core (by mutator (actions.Write (spec.register object) field value)) result heap.new.handle.core }
+{
+    take(
+        alloc,
+        heap,
+        by(
+            mutator,
+            Action::Write {
+                object: register(object),
+                field,
+                value,
+            },
+        ),
+    )
+}
+
+/// `to` takes what `from` holds.
+#[unsafe(no_mangle)]
+pub extern "C" fn g1_move(
+    alloc: Global,
+    heap: &mut Heap,
+    mutator: u32,
+    to: u32,
+    from: u32,
+) -> Answer
+    ensures { Takes plain heap.old.handle.core
+        (by mutator (actions.Move (spec.register to) (spec.register from))) result heap.new.handle.core }
+{
+    take(
+        alloc,
+        heap,
+        by(
+            mutator,
+            Action::Move {
+                to: register(to),
+                from: register(from),
+            },
+        ),
+    )
+}
+
+/// `to` becomes nil.
+#[unsafe(no_mangle)]
+pub extern "C" fn g1_drop(alloc: Global, heap: &mut Heap, mutator: u32, to: u32) -> Answer
+    ensures { Takes plain heap.old.handle.core (by mutator (actions.Drop (spec.register to))) result heap.new.handle.core }
+{
+    take(
+        alloc,
+        heap,
+        by(
+            mutator,
+            Action::Drop {
+                register: register(to),
+            },
+        ),
+    )
+}
+
+/// `to` takes what a global holds.
+#[unsafe(no_mangle)]
+pub extern "C" fn g1_load(
+    alloc: Global,
+    heap: &mut Heap,
+    mutator: u32,
+    to: u32,
+    from: u32,
+) -> Answer
+    ensures { Takes plain heap.old.handle.core
+        (by mutator (actions.Load (spec.register to) (spec.global from))) result heap.new.handle.core }
+{
+    take(
+        alloc,
+        heap,
+        by(
+            mutator,
+            Action::Load {
+                to: register(to),
+                from: global(from),
+            },
+        ),
+    )
+}
+
+/// A global takes what `from` holds.
+#[unsafe(no_mangle)]
+pub extern "C" fn g1_save(
+    alloc: Global,
+    heap: &mut Heap,
+    mutator: u32,
+    to: u32,
+    from: u32,
+) -> Answer
+    ensures { Takes plain heap.old.handle.core
+        (by mutator (actions.Save (spec.global to) (spec.register from))) result heap.new.handle.core }
+{
+    take(
+        alloc,
+        heap,
+        by(
+            mutator,
+            Action::Save {
+                to: global(to),
+                from: register(from),
+            },
+        ),
+    )
+}
+
+/// Tells how many pointers and data words the object has that `object` names.
+#[unsafe(no_mangle)]
+pub extern "C" fn g1_shape(alloc: Global, heap: &mut Heap, mutator: u32, object: u32) -> Answer
+    ensures { Takes plain heap.old.handle.core (by mutator (actions.Shape (spec.register object))) result heap.new.handle.core }
+{
+    take(
+        alloc,
+        heap,
+        by(
+            mutator,
+            Action::Shape {
+                object: register(object),
+            },
+        ),
+    )
+}
+
+/// `to` takes what a weak slot of the object holds that `object` names.
+#[unsafe(no_mangle)]
+pub extern "C" fn g1_get_weak(
+    alloc: Global,
+    heap: &mut Heap,
+    mutator: u32,
+    to: u32,
+    object: u32,
+    slot: u32,
+) -> Answer
+    ensures { Takes plain heap.old.handle.core
+        (by mutator (actions.GetWeak (spec.register to) (spec.register object) slot)) result heap.new.handle.core }
+{
+    take(
+        alloc,
+        heap,
+        by(
+            mutator,
+            Action::GetWeak {
+                to: register(to),
+                object: register(object),
+                slot,
+            },
+        ),
+    )
+}
+
+/// A weak slot of the object that `object` names takes what `from` holds, or nil.
+#[unsafe(no_mangle)]
+pub extern "C" fn g1_put_weak(
+    alloc: Global,
+    heap: &mut Heap,
+    mutator: u32,
+    object: u32,
+    slot: u32,
+    from: u32,
+) -> Answer
+    ensures { Takes plain heap.old.handle.core
+        (by mutator (actions.PutWeak (spec.register object) slot (spec.value from))) result heap.new.handle.core }
+{
+    take(
+        alloc,
+        heap,
+        by(
+            mutator,
+            Action::PutWeak {
+                object: register(object),
+                slot,
+                value: value(from),
+            },
+        ),
+    )
+}
+
+/// Tells how many weak slots the object has that `object` names.
+#[unsafe(no_mangle)]
+pub extern "C" fn g1_weaks(alloc: Global, heap: &mut Heap, mutator: u32, object: u32) -> Answer
+    ensures { Takes plain heap.old.handle.core (by mutator (actions.Weaks (spec.register object))) result heap.new.handle.core }
+{
+    take(
+        alloc,
+        heap,
+        by(
+            mutator,
+            Action::Weaks {
+                object: register(object),
+            },
+        ),
+    )
+}
+
+/// A frame is left: each register from one on becomes nil.
+#[unsafe(no_mangle)]
+pub extern "C" fn g1_scope(alloc: Global, heap: &mut Heap, mutator: u32, first: u32) -> Answer
+    ensures { Takes plain heap.old.handle.core (by mutator (actions.Scope (spec.register first))) result heap.new.handle.core }
+{
+    take(
+        alloc,
+        heap,
+        by(
+            mutator,
+            Action::Scope {
+                from: register(first),
+            },
+        ),
+    )
+}

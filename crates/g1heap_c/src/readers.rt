@@ -1,0 +1,149 @@
+//! What a policy of collection steers by, a call for each. C declares these with a heap that doesn't change: what it points to is the same
+//! after the call as before.
+
+ghost use Rattle.std.specs.Prelude.{◌≡◌, length};
+ghost use Rattle.heap_words.specs.Configs.{globals_of, registers_of};
+ghost use Rattle.regions.specs.Table.{free_count};
+ghost use Rattle.step_core.specs.Measures.{used_words, live_words, HasGrey};
+ghost use Rattle.g1heap_c.specs.Steps.{Tells, IsNumber, IsSign, IsMarking, IsName};
+
+use crate::answer::{Answer, answer_of, no_heap, no_step, number};
+use crate::heap::{Heap, handle_of, take_out};
+use object_graph::{Register, Reply};
+use std::alloc::Global;
+use step_core::Core;
+
+/// How many regions are free.
+#[unsafe(no_mangle)]
+pub extern "C" fn g1_free_regions(alloc: Global, heap: &mut Heap) -> Answer
+    ensures { Tells (IsNumber (λ c. free_count c.table)) heap.old.handle.core result heap.new.handle.core }
+{
+    if !heap.live {
+        return no_heap();
+    }
+    let core = take_out(alloc, &mut heap.handle);
+    let answer = number(u64::from(core.free_regions()));
+    heap.handle = handle_of(core);
+    answer
+}
+
+/// How many words are handed out.
+#[unsafe(no_mangle)]
+pub extern "C" fn g1_used_words(alloc: Global, heap: &mut Heap) -> Answer
+    ensures { Tells (IsNumber used_words) heap.old.handle.core result heap.new.handle.core }
+{
+    if !heap.live {
+        return no_heap();
+    }
+    let core = take_out(alloc, &mut heap.handle);
+    let answer = number(core.used_words());
+    heap.handle = handle_of(core);
+    answer
+}
+
+/// How many words are live.
+#[unsafe(no_mangle)]
+pub extern "C" fn g1_live_words(alloc: Global, heap: &mut Heap) -> Answer
+    ensures { Tells (IsNumber live_words) heap.old.handle.core result heap.new.handle.core }
+{
+    if !heap.live {
+        return no_heap();
+    }
+    let core = take_out(alloc, &mut heap.handle);
+    let answer = number(core.live_words());
+    heap.handle = handle_of(core);
+    answer
+}
+
+/// 1 while marking runs, else 0.
+#[unsafe(no_mangle)]
+pub extern "C" fn g1_marking(alloc: Global, heap: &mut Heap) -> Answer
+    ensures { Tells (IsSign IsMarking) heap.old.handle.core result heap.new.handle.core }
+{
+    if !heap.live {
+        return no_heap();
+    }
+    let core = take_out(alloc, &mut heap.handle);
+    let answer = number(u64::from(core.marking()));
+    heap.handle = handle_of(core);
+    answer
+}
+
+/// 1 while marking runs and some marked object isn't scanned yet, else 0.
+#[unsafe(no_mangle)]
+pub extern "C" fn g1_grey(alloc: Global, heap: &mut Heap) -> Answer
+    ensures { Tells (IsSign HasGrey) heap.old.handle.core result heap.new.handle.core }
+{
+    if !heap.live {
+        return no_heap();
+    }
+    let core = take_out(alloc, &mut heap.handle);
+    let answer = number(u64::from(core.grey()));
+    heap.handle = handle_of(core);
+    answer
+}
+
+/// How many cards wait for refinement.
+#[unsafe(no_mangle)]
+pub extern "C" fn g1_queued(alloc: Global, heap: &mut Heap) -> Answer
+    ensures { Tells (IsNumber (λ c. length c.cards.queue)) heap.old.handle.core result heap.new.handle.core }
+{
+    if !heap.live {
+        return no_heap();
+    }
+    let core = take_out(alloc, &mut heap.handle);
+    let answer = number(u64::from(core.queued()));
+    heap.handle = handle_of(core);
+    answer
+}
+
+/// How many globals there are.
+#[unsafe(no_mangle)]
+pub extern "C" fn g1_globals(alloc: Global, heap: &mut Heap) -> Answer
+    ensures { Tells (IsNumber (λ c. globals_of c.config)) heap.old.handle.core result heap.new.handle.core }
+{
+    if !heap.live {
+        return no_heap();
+    }
+    let core = take_out(alloc, &mut heap.handle);
+    let answer = number(u64::from(core.globals()));
+    heap.handle = handle_of(core);
+    answer
+}
+
+/// How many registers each mutator has.
+#[unsafe(no_mangle)]
+pub extern "C" fn g1_registers(alloc: Global, heap: &mut Heap) -> Answer
+    ensures { Tells (IsNumber (λ c. registers_of c.config)) heap.old.handle.core result heap.new.handle.core }
+{
+    if !heap.live {
+        return no_heap();
+    }
+    let core = take_out(alloc, &mut heap.handle);
+    let answer = number(u64::from(core.registers()));
+    heap.handle = handle_of(core);
+    answer
+}
+
+fn name_at(core: &Core, mutator: u32, which: u32) -> Answer
+    ensures { IsName mutator which core.now result }
+{
+    if core.config().mutators <= mutator || core.registers() <= which {
+        return no_step();
+    }
+    answer_of(Reply::Named(core.name_at(mutator, Register { number: which })))
+}
+
+/// The name that a register holds.
+#[unsafe(no_mangle)]
+pub extern "C" fn g1_name(alloc: Global, heap: &mut Heap, mutator: u32, which: u32) -> Answer
+    ensures { Tells (IsName mutator which) heap.old.handle.core result heap.new.handle.core }
+{
+    if !heap.live {
+        return no_heap();
+    }
+    let core = take_out(alloc, &mut heap.handle);
+    let answer = name_at(&core, mutator, which);
+    heap.handle = handle_of(core);
+    answer
+}

@@ -1,0 +1,250 @@
+"use strict";
+// The regions as lanes in a grid. A lane is drawn anew only where its region has changed.
+
+const PARTS = ["marked", "dead", "new", "filler"];
+const PART_WORDS = { marked: "live by the last marking", dead: "dead", new: "new since marking began", filler: "filler", free: "free" };
+
+// Where lanes lie, by the width that there is: how many columns, and how large a lane is.
+function layoutOf(life, width) {
+  const { regions, words } = life.sizes;
+  const sizes = [
+    { most: 2, wide: 5000, tall: 54, head: 22, gapX: 26, gapY: 26 },
+    { most: 12, wide: Math.max(360, Math.min(620, words * 18)), tall: 50, head: 22, gapX: 26, gapY: 22 },
+    { most: 48, wide: 250, tall: 34, head: 20, gapX: 18, gapY: 16 },
+    { most: 128, wide: 150, tall: 22, head: 17, gapX: 14, gapY: 10 },
+    { most: 320, wide: 92, tall: 14, head: 0, gapX: 8, gapY: 7 },
+    { most: 1024, wide: 44, tall: 10, head: 0, gapX: 5, gapY: 5 },
+  ];
+  const size = sizes.find((each) => regions <= each.most);
+  const side = size.head ? 0 : 48;
+  const columns = Math.max(1, Math.min(regions, Math.floor((width - side + size.gapX) / (size.wide + size.gapX)) || 1));
+  const wide = (width - side - (columns - 1) * size.gapX) / columns;
+  const step = size.head + size.tall + size.gapY;
+  const rows = Math.ceil(regions / columns);
+  const place = (region) => ({
+    x: side + (region % columns) * (wide + size.gapX),
+    y: size.head + Math.floor(region / columns) * step,
+  });
+  return { ...size, columns, wide, step, rows, place, side, height: rows * step + 8, perWord: wide / words };
+}
+
+// The patterns that tell parts apart without colours, and the heads of arrows.
+function drawDefinitions(svg) {
+  const definitions = shape("defs", {}, svg);
+  const pattern = (id, size, paths) => {
+    const each = shape("pattern", { id, width: size, height: size, patternUnits: "userSpaceOnUse" }, definitions);
+    for (const path of paths) shape("path", { d: path, stroke: "rgba(0,0,0,.42)", "stroke-width": 1.3, fill: "none" }, each);
+  };
+  pattern("hatch", 7, ["M-1 1L1 -1M0 7L7 0M6 8L8 6"]);
+  pattern("dots", 6, ["M2.2 3h1.4"]);
+  pattern("bars", 6, ["M3 0v6"]);
+  for (const [id, colour] of [["head", "var(--ink)"], ["head-copy", "var(--pause)"], ["head-card", "var(--deep)"]]) {
+    const marker = shape("marker", { id, viewBox: "0 0 10 10", refX: 9, refY: 5, markerWidth: 7, markerHeight: 7, orient: "auto-start-reverse" }, definitions);
+    shape("path", { d: "M0 0L10 5L0 10z", fill: colour }, marker);
+  }
+}
+
+const PATTERN = { dead: "url(#hatch)", new: "url(#dots)", filler: "url(#bars)" };
+
+// A stretch of a lane that is one part: its colour, and its pattern over it.
+function drawPart(group, part, x, width, height, extra = "") {
+  shape("rect", { class: `part ${part} ${extra}`, x, y: 0, width: Math.max(0, width), height }, group);
+  if (PATTERN[part] && height > 12) {
+    shape("rect", { class: `part ${extra}`, x, y: 0, width: Math.max(0, width), height, style: `fill:${PATTERN[part]}` }, group);
+  }
+}
+
+class Lanes {
+  constructor(life, holder, open) {
+    this.life = life;
+    this.holder = holder;
+    this.open = open;
+    this.lanes = [];
+    this.drawn = [];
+    this.focused = 0;
+    this.build();
+  }
+
+  // Makes a group for each lane, with nothing in it yet.
+  build() {
+    const { life } = this;
+    const width = Math.max(320, this.holder.clientWidth - 8);
+    this.layout = layoutOf(life, width);
+    this.svg = shape("svg", { viewBox: `0 0 ${width} ${this.layout.height}`, height: this.layout.height, role: "group", "aria-label": "Regions" });
+    drawDefinitions(this.svg);
+    this.rowLabels();
+    this.lanes = [];
+    for (let region = 0; region < life.sizes.regions; region += 1) {
+      const { x, y } = this.layout.place(region);
+      const lane = shape("g", { class: "lane", transform: `translate(${x} ${y})`, "data-region": region, role: "button", tabindex: region === this.focused ? 0 : -1 }, this.svg);
+      lane.addEventListener("click", () => this.open(region));
+      lane.addEventListener("focus", () => this.focus(region, false));
+      this.lanes.push(lane);
+    }
+    this.over = shape("g", { class: "over" }, this.svg);
+    this.drawn = [];
+    this.holder.replaceChildren(this.svg);
+  }
+
+  // Where lanes have no labels of their own, each row has its first region's number.
+  rowLabels() {
+    if (this.layout.head) return;
+    for (let row = 0; row < this.layout.rows; row += 1) {
+      const region = row * this.layout.columns;
+      const { y } = this.layout.place(region);
+      shape("text", { class: "soft small", x: this.layout.side - 8, y: y + this.layout.tall - 1, "text-anchor": "end", text: region }, this.svg);
+    }
+  }
+
+  focus(region, move) {
+    this.lanes[this.focused].setAttribute("tabindex", -1);
+    this.focused = region;
+    this.lanes[region].setAttribute("tabindex", 0);
+    if (move) this.lanes[region].focus();
+  }
+
+  // Moves the focus by a key, and answers whether the key did that.
+  key(name) {
+    const by = { ArrowLeft: -1, ArrowRight: 1, ArrowUp: -this.layout.columns, ArrowDown: this.layout.columns }[name];
+    if (by === undefined) return false;
+    const region = this.focused + by;
+    if (region >= 0 && region < this.lanes.length) this.focus(region, true);
+    return true;
+  }
+
+  // A point of the drawing: of a word of a region, at the lane's top, its middle or its bottom.
+  point(region, word, where) {
+    const { x, y } = this.layout.place(region);
+    const down = { top: 0, middle: this.layout.tall / 2, bottom: this.layout.tall }[where];
+    return { x: x + word * this.layout.perWord, y: y + down };
+  }
+
+  pointOfCard(card) {
+    const address = card * this.life.sizes.card;
+    const region = Math.floor(address / this.life.sizes.words);
+    return this.point(region, address - region * this.life.sizes.words + this.life.sizes.card / 2, "bottom");
+  }
+
+  // Draws a moment.
+  draw(view) {
+    for (let region = 0; region < this.lanes.length; region += 1) {
+      const key = this.laneKey(region, view);
+      if (this.drawn[region] === key) continue;
+      this.drawn[region] = key;
+      this.drawLane(region, view);
+    }
+    this.over.replaceChildren();
+    drawOver(this, view);
+  }
+
+  // What a lane's drawing depends on.
+  laneKey(region, view) {
+    const { life } = this;
+    const row = rowAt(life, region, view.moment);
+    const shares = sharesAt(life, region, view.moment);
+    const moment = life.moments[view.moment];
+    const own = view.tiles && row.tiles ? rowNumber(row) : "";
+    return [row.kind, ...Object.values(shares), row.top, row.next, row.grey, row.live, moment.current === region, view.region === region, own].join(" ");
+  }
+
+  drawLane(region, view) {
+    const { life, layout } = this;
+    const lane = this.lanes[region];
+    const row = rowAt(life, region, view.moment);
+    const shares = sharesAt(life, region, view.moment);
+    const current = life.moments[view.moment].current === region;
+    lane.replaceChildren();
+    lane.setAttribute("class", ["lane", row.kind === "f" ? "" : "used", current ? "current" : "", view.region === region ? "chosen" : ""].join(" "));
+    lane.setAttribute("data-kind", row.kind);
+    for (const [part, words] of Object.entries(shares)) lane.setAttribute(`data-${part}`, words);
+    lane.setAttribute("data-live", row.live);
+    lane.setAttribute("aria-label", describeRegion(life, region, view.moment));
+    shape("title", { text: describeRegion(life, region, view.moment) }, lane);
+    if (layout.head) this.drawLabel(lane, region, row, current);
+    shape("rect", { class: "bed", x: 0, y: 0, width: layout.wide, height: layout.tall, rx: layout.head ? 3 : 1 }, lane);
+    if (view.tiles && row.tiles && row.kind === "o") this.drawTiles(lane, row);
+    else this.drawShares(lane, region, row, shares, view);
+    this.drawTops(lane, row);
+    shape("rect", { class: "halo", x: -4, y: -4, width: layout.wide + 8, height: layout.tall + 8, rx: 5 }, lane);
+  }
+
+  drawLabel(lane, region, row, current) {
+    const kinds = { f: "free", o: "", h: "humongous", t: "… of the run" };
+    const wide = this.layout.wide > 140;
+    const parts = [String(region)];
+    if (wide && kinds[row.kind]) parts.push(kinds[row.kind]);
+    if (current) parts.push(wide ? "current" : "◆");
+    shape("text", { class: row.kind === "f" ? "soft tag" : "tag", x: 0, y: -6, text: parts.join(" · "), style: current ? "font-weight:700" : "" }, lane);
+    if (row.kind === "o" && this.layout.wide > 220) {
+      shape("text", { class: "soft tag", x: this.layout.wide, y: -6, "text-anchor": "end", text: `${grouped(row.live)} live of ${grouped(row.used)}` }, lane);
+    }
+  }
+
+  drawShares(lane, region, row, shares, view) {
+    let x = 0;
+    for (const part of PARTS) {
+      const width = shares[part] * this.layout.perWord;
+      if (width > 0) drawPart(lane, part, x, width, this.layout.tall);
+      x += width;
+    }
+    if (row.kind === "h") this.nameOf(lane, row, view);
+  }
+
+  // The name of a humongous object, where it is told.
+  nameOf(lane, row, view) {
+    if (!view.tiles || !row.tiles || this.layout.tall < 22) return;
+    shape("text", { class: "tile-name", x: this.layout.wide / 2, y: this.layout.tall / 2 + 4, text: `#${row.tiles[0].name}` }, lane);
+  }
+
+  // The tiles of a region in the order of their addresses.
+  drawTiles(lane, row) {
+    const { perWord, tall } = this.layout;
+    for (const tile of row.tiles) {
+      const x = tile.offset * perWord;
+      const width = tile.size * perWord;
+      drawPart(lane, tile.part, x, width, tall);
+      const grey = tile.progress === "grey" ? "grey" : tile.progress === "scanned" ? "scanned" : "";
+      const inner = grey ? 2 : 0;
+      shape("rect", { class: `tile ${grey}`, fill: "none", x: x + inner, y: inner, width: Math.max(0, width - 2 * inner), height: tall - 2 * inner }, lane);
+      if (tile.name === undefined || tall < 22) continue;
+      const label = `#${tile.name}`;
+      if (width > label.length * 8 + 4) shape("text", { class: "tile-name", x: x + width / 2, y: tall / 2 + 4, text: label }, lane);
+    }
+  }
+
+  // Ticks at the region's tops at mark start, and how many objects are grey.
+  drawTops(lane, row) {
+    const { perWord, tall, wide } = this.layout;
+    const tick = (words, next) => {
+      const x = Math.min(wide - 1, Math.max(1, words * perWord));
+      shape("line", { class: `top ${next}`, x1: x, x2: x, y1: -3, y2: tall + 3 }, lane);
+      if (tall > 12) shape("path", { class: `top-head ${next}`, d: next ? `M${x - 5} ${tall + 8}h10l-5 -7z` : `M${x - 5} -7h10l-5 7z` }, lane);
+    };
+    if (row.kind === "f" || row.kind === "t") return;
+    if (row.top > 0) tick(row.top, "");
+    if (row.next !== null && row.next > 0) tick(row.next, "next");
+    if (row.grey > 0) {
+      shape("circle", { class: "greys", cx: wide - tall / 4 - 2, cy: tall / 2, r: Math.min(9, tall / 3) }, lane);
+      if (tall > 20) shape("text", { class: "tile-name", x: wide - tall / 4 - 2, y: tall / 2 + 4, text: row.grey }, lane);
+    }
+  }
+}
+
+// A number of its own for each row that was read, so that a lane sees whether its tiles changed.
+const ROW_NUMBERS = new WeakMap();
+let nextRowNumber = 1;
+function rowNumber(row) {
+  if (!ROW_NUMBERS.has(row)) ROW_NUMBERS.set(row, nextRowNumber++);
+  return ROW_NUMBERS.get(row);
+}
+
+// What a region is, in a sentence.
+function describeRegion(life, region, moment) {
+  const row = rowAt(life, region, moment);
+  const shares = sharesAt(life, region, moment);
+  if (row.kind === "f") return `Region ${region}: free`;
+  const parts = [...PARTS, "free"].filter((part) => shares[part]).map((part) => `${grouped(shares[part])} ${PART_WORDS[part]}`);
+  const kind = { o: "ordinary", h: "first of a run", t: "later region of a run" }[row.kind];
+  const current = life.moments[moment].current === region ? ", current" : "";
+  return `Region ${region}: ${kind}${current}; words: ${parts.join(", ")}`;
+}

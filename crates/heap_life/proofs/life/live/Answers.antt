@@ -1,0 +1,45 @@
+use Rattle.std.proofs.Common.{◌∙◌, ◌≤◌, ℕ, List, length, map, ap, subst, sym}
+use Rattle.std.specs.Prelude.{All}
+use Rattle.heap_words.specs.declared.config.Config.{Config}
+use Rattle.object_graph.specs.Actors.{AreEvents}
+use Rattle.object_graph.specs.declared.step.Event.{Event}
+use Rattle.object_graph.specs.Run.{IsRun}
+use Rattle.object_graph.specs.State.{first_state}
+use Rattle.step_core.specs.Histories.{IsRunFault, RunsTo, step_in, actor_in}
+use Rattle.step_core.proofs.Cores.Following.{history_is_run}
+use Rattle.heap_life.specs.Paces.{IsDue}
+use Rattle.heap_life.specs.Lives.{IsMomentOf, HasMoment}
+use Rattle.heap_life.proofs.Moments.{runs_to, all_of_new}
+use Rattle.heap_life.proofs.life.live.Goals as goal
+
+pub returns-in-Err-clause-fault : goal.returns-in-Err-clause-fault
+returns-in-Err-clause-fault c =
+    subst (λ (config : Config). IsRunFault config c.run_fault.result) c.config-config.ensures (c.run_fault.ensures c.config-config.result c.in-Err.ensures.fault)
+
+pub life_of-requires : goal.life_of-requires
+life_of-requires c =
+    let same = c.in-Ok.ensures.config ∙ c.config-config.ensures in
+    subst (λ (events : List Event). AreEvents c.in-Ok.core.config events) (sym c.events-2.ensures.events)
+    (subst (λ (config : Config). AreEvents config c.args.events.now.events) (sym same) c.events-2.ensures.each)
+
+pub returns-in-Ok-life_of-clause-life : goal.returns-in-Ok-life_of-clause-life
+returns-in-Ok-life_of-clause-life c =
+    let life = c.in-Ok-life_of.life in
+    let es = life.history.events in
+    let ms = life.moments.items in
+    let made = c.in-Ok.ensures in
+    let lived = c.in-Ok-life_of.ensures in
+    let config = c.config-config.result in
+    let is = c.config-config.ensures in
+    let runs = lived.runs (first_state config) made.stands in
+    record {
+      config = lived.config ∙ made.config ∙ is;
+      steps = lived.steps ∙ ap (λ (events : List Event). map step_in events) c.events-2.ensures.events;
+      actors = lived.actors ∙ ap (λ (events : List Event). map actor_in events) c.events-2.ensures.events;
+      last = runs.last;
+      run = subst (λ (k : Config). IsRun (first_state k) es runs.last) is (history_is_run _ _ _ _ _ runs.history);
+      end = c.life_of.new.core;
+      ends = subst (λ (k : Config). RunsTo k es c.life_of.new.core) is (runs_to config c.in-Ok.core c.life_of.new.core es made.fresh made.core made.stands runs);
+      each = subst (λ (k : Config). All (IsMomentOf k es) ms) is (all_of_new config c.in-Ok.core es ms made.fresh made.core made.stands lived.each);
+      due = subst (λ (events : List Event). (n : ℕ) → n ≤ length events → IsDue life.pace events n → HasMoment ms n) c.events-2.ensures.events lived.due;
+    }

@@ -1,0 +1,4 @@
+pub mod Shares
+pub mod Numbers
+pub mod Paces
+pub mod Lives

@@ -1,0 +1,65 @@
+-- The moments of a run.
+use Rattle.std.specs.Prelude.{◌≡◌, ℕ, ◌+◌, ◌≤◌, ◌⊎◌, Bool, true, false, min, All, List, [], ◌∷◌, ◌++◌, length, map, take}
+use Rattle.heap_words.specs.declared.config.Config.{Config}
+use Rattle.object_graph.specs.declared.step.Event.{Event}
+use Rattle.object_graph.specs.declared.step.Reply.{Reply}
+use Rattle.object_graph.specs.declared.step.Reply.TheVariants.{Moved}
+use Rattle.object_graph.specs.Actors.{EventList}
+use Rattle.object_graph.specs.State.{State, first_state}
+use Rattle.object_graph.specs.Run.{IsRun}
+use Rattle.step_core.specs.Stands.{CoreState, Stands}
+use Rattle.step_core.specs.Histories.{Runs, RunsTo, step_in, actor_in}
+use Rattle.heap_life.specs.Numbers.{IsNumbersOf}
+use Rattle.heap_life.specs.Paces.{IsDue}
+use Rattle.heap_life.specs.declared.life.Moment.{Moment}
+use Rattle.heap_life.specs.declared.life.Life.{Life}
+
+-- how many words a reply says were copied
+abbrev pub moved_by : Reply → ℕ
+moved_by (Moved regions words) = words
+moved_by _ = 0
+
+-- how many words the pauses among some events copied
+abbrev pub moved_in : List Event → ℕ
+moved_in [] = 0
+moved_in (e ∷ es) = moved_by e.reply + moved_in es
+
+-- The core behind the moment's events, from a first core on: a run leads to it, and the moment's numbers are its own. What was copied is what
+-- the replies say, as far as it fits 64 bits
+pub record IsMomentFrom (first : CoreState) (es : List Event) (m : Moment) : Type 0 where
+  pub within : m.event ≤ length es
+  pub core : CoreState
+  pub runs : (s : State) → Stands s first → Runs s first (take m.event es) core
+  pub numbers : IsNumbersOf core m.numbers
+  pub copied : m.copied ≡ min (moved_in (take m.event es)) 18446744073709551615
+
+-- the same in a new heap
+pub record IsMomentOf (config : Config) (es : List Event) (m : Moment) : Type 0 where
+  pub within : m.event ≤ length es
+  pub core : CoreState
+  pub runs : RunsTo config (take m.event es) core
+  pub numbers : IsNumbersOf core m.numbers
+  pub copied : m.copied ≡ min (moved_in (take m.event es)) 18446744073709551615
+
+-- a moment with so many events and copied words, and with the core's numbers, was added at the end where one is due, and otherwise none
+abbrev pub NotesIf : Bool → CoreState → ℕ → ℕ → List Moment → List Moment → Type 0
+NotesIf true c event copied old new = (m : Moment) × (new ≡ old ++ m ∷ []) × (m.event ≡ event) × (m.copied ≡ copied) × IsNumbersOf c m.numbers
+NotesIf false c event copied old new = new ≡ old
+
+-- there is a moment behind so many events
+abbrev pub HasMoment : List Moment → ℕ → Type 0
+HasMoment [] n = ⊥
+HasMoment (m ∷ ms) n = (m.event ≡ n) ⊎ HasMoment ms n
+
+-- A life of a new heap over the steps of some events: its record is a run of the graph with these steps and actors, each of its moments is one
+-- of the run, and there is one wherever the pace wants one
+pub record IsLifeOf (events : EventList) (life : Life) : Type 0 where
+  pub config : life.history.config ≡ events.config
+  pub steps : map step_in life.history.events ≡ map step_in events.events
+  pub actors : map actor_in life.history.events ≡ map actor_in events.events
+  pub last : State
+  pub run : IsRun (first_state events.config) life.history.events last
+  pub end : CoreState
+  pub ends : RunsTo events.config life.history.events end
+  pub each : All (IsMomentOf events.config life.history.events) life.moments.items
+  pub due : (n : ℕ) → n ≤ length events.events → IsDue life.pace events.events n → HasMoment life.moments.items n

@@ -1,0 +1,32 @@
+//! The life of a heap over a list of steps, moment by moment, as a page for a person's eyes.
+//!
+//! ```text
+//!   events -- live --> Life: the record, the moments, and the moments as lines -- write_page --> one file of HTML
+//! ```
+//!
+//! `live` does the steps of events again in a new heap. The record that comes of it is a run; each moment has the numbers of a core of that
+//! run, behind as many events as it says; and there is a moment wherever the life's pace wants one, before and behind each step of the
+//! collector that it shows among them. `shares_of` and `live_words` say what the words of a region are. So much is proved. The lines, which
+//! `docs/DRAWING.md` describes, and the page are shown by tests: what writes them reads the heap, changes nothing, and ends.
+//!
+//! The page's files are in `page/`; `tools/embed_page` makes the sources `page_parts` of them.
+#![tactic(auto)]
+
+mod life;
+mod moment_text;
+mod numbers;
+mod pace;
+mod page;
+mod page_parts;
+mod pieces;
+mod region_text;
+mod shares;
+#[cfg(test)]
+mod tests;
+mod tile_text;
+
+pub use life::{Life, Moment, live, planned};
+pub use numbers::{Numbers, numbers_of};
+pub use pace::{Pace, pace_of};
+pub use page::write_page;
+pub use shares::{Part, Shares, live_words, shares_of};

@@ -1,0 +1,96 @@
+//! The lines of a small life, written by hand, and its page.
+
+use crate::{live, planned, write_page};
+use script_text::parse;
+use std::alloc::Global;
+use std::process::Abort;
+use std::test::Fail;
+
+/// The page of a script.
+fn page_of(alloc: Global, script: &str) -> Result<Vec<u8>, Fail> {
+    let Ok(plan) = parse(alloc, script.as_bytes()) else {
+        return Err(Fail::from("this is a script"));
+    };
+    let Ok(events) = planned(alloc, &plan) else {
+        return Err(Fail::from("events"));
+    };
+    let Ok(life) = live(alloc, &events, 1) else {
+        return Err(Fail::from("a life"));
+    };
+    let mut page = Vec::new(alloc);
+    write_page(alloc, &life, &mut page)?;
+    Ok(page)
+}
+
+/// How often a text stands in another one.
+fn count_in(text: &[u8], part: &[u8]) -> usize {
+    text.windows(part.len().max(1))
+        .filter(|window| *window == part)
+        .count()
+}
+
+/// Two objects, of which one is dead when marking ends; a pause copies the other. A moment is told once, where a region changed alone.
+#[test]
+fn a_small_life(rt: HostRuntime) -> Result<(), Fail> {
+    let script = "\
+heap 2 16 8 1 0
+0 new r0 1 1
+0 new r1 0 1
+0 drop r1
+gc begin
+gc remark
+gc pause 8
+";
+    let lines = "\
+card 8
+roots 16 8
+pace 1 1 1
+events 6
+m 0 0 0 2 0 0 0 0 0 0 -
+n
+r 0 f
+r 1 f
+m 1 8 8 1 0 0 0 0 0 1 0
+b 0 4 4
+n 16 0
+r 0 o 8 0 0 4 4 8 0
+o 0 0 n - ; ; 0
+x 4 4
+m 2 8 8 1 0 0 0 0 0 2 0
+b 0 7 1
+n 16 0 17 4
+r 0 o 8 0 0 7 1 8 0
+o 0 0 n - ; ; 0
+o 4 1 n ; ; 0
+x 7 1
+m 3 8 8 1 0 0 0 0 0 2 0
+b 0 7 1
+n 16 0
+m 4 8 8 1 0 0 0 1 0 2 0
+n 16 0
+r 0 o 8 0 0 7 1 8 0 8 1
+o 0 0 ng - ; ; 0
+o 4 1 nu ; ; 0
+x 7 1
+m 5 8 4 1 0 0 0 0 1 2 0
+n 16 0
+r 0 o 8 4 3 0 1 4 8
+o 0 0 m - ; ; 0
+o 4 1 d ; ; 0
+x 7 1
+m 6 4 4 1 0 0 4 0 1 2 -
+n 16 16
+r 0 f
+r 1 o 4 0 0 4 0 4 0
+o 0 0 n - ; ; 0
+</script>";
+    let page = page_of(rt.alloc(), script)?;
+    assert_eq!(rt; count_in(page.as_slice(), lines.as_bytes()), 1);
+    assert_eq!(rt;
+        count_in(page.as_slice(), b"6 gc pause 8 = moved 1 4\n</script>"),
+        1
+    );
+    assert!(rt; page.as_slice().starts_with(b"<!doctype html>"));
+    assert!(rt; page.as_slice().ends_with(b"</html>\n"));
+    Ok(())
+}

@@ -1,0 +1,103 @@
+-- A record that is read and judged, and the verdict that is written with its reason.
+use Rattle.std.specs.Prelude.{◌≡◌, ◌≢◌, ◌⊎◌, ℕ, ◌+◌, ◌-◌, List, [], ◌∷◌, ◌++◌, Result, Ok, Err, Some, codes, slice_get}
+use Rattle.std.specs.Fmt.{decimal}
+use Rattle.heap_words.specs.Configs.{Suits}
+use Rattle.object_graph.specs.Actors.{EventList}
+use Rattle.object_graph.specs.State.{first_state}
+use Rattle.object_graph.specs.Reasons.{Finds, verdict_of}
+use Rattle.object_graph.specs.declared.given.Given.{Given}
+use Rattle.object_graph.specs.declared.given.Given.TheVariants as givens
+use Rattle.object_graph.specs.declared.judge.Finding.{Finding}
+use Rattle.object_graph.specs.declared.judge.Finding.TheVariants.{Allowed, Refused}
+use Rattle.object_graph.specs.declared.judge.Verdict.{Verdict}
+use Rattle.object_graph.specs.declared.judge.Verdict.TheVariants.{Yes, No}
+use Rattle.object_graph.specs.declared.step.CollectorStep.{CollectorStep}
+use Rattle.object_graph.specs.declared.step.CollectorStep.TheVariants as collector
+use Rattle.object_graph.specs.declared.step.Event.{Event}
+use Rattle.script_text.specs.Events.{record_of}
+use Rattle.script_text.specs.Faults.{fault_reason}
+use Rattle.script_text.specs.Lines.{FailsBy, pieces_of}
+use Rattle.script_text.specs.Records.{reply_words, event_text}
+use Rattle.script_text.specs.Spelling.{spaced}
+use Rattle.script_text.specs.Watched.{Reader, Writer, FailsToGive, Takes, TakesPart, Stays}
+use Rattle.script_text.specs.declared.fault.Kind.{Kind}
+use Rattle.script_text.specs.declared.fault.Kind.TheVariants as kinds
+use Rattle.script_text.specs.declared.fault.LineFault.{LineFault}
+use Rattle.script_text.specs.declared.fault.WriteFault.TheVariants as writes
+use Rattle.jobs.specs.Runs.{GivesAll}
+use Rattle.jobs.specs.Verdicts.{verdict_line, IsUnjudged, TellsVerdict}
+use Rattle.jobs.specs.declared.faults.JobFault.{JobFault}
+use Rattle.jobs.specs.declared.faults.JobFault.TheVariants as faults
+
+-- the replies that a step of the collector may have; a capital stands for any number
+abbrev pub form_text : CollectorStep → List ℕ
+form_text collector.Begin = codes "ok or refused 6 MarkRunning"
+form_text (collector.Mark k) = codes "ok or refused 7 NotMarking"
+form_text collector.Remark = codes "marked N or refused 7 NotMarking"
+form_text collector.Cleanup = codes "reclaimed N or refused 6 MarkRunning"
+form_text (collector.Refine k) = codes "refined N"
+form_text (collector.Pause b) = codes "moved N W"
+
+-- what the graph gives for a step
+abbrev pub given_text : Given → List ℕ
+given_text (givens.Reply r) = spaced (reply_words r)
+given_text (givens.Object n) = codes "#" ++ decimal n ++ codes " or refused 3 Full"
+given_text (givens.Form k) = form_text k
+
+-- the line that tells why the n-th event may not happen, which stands in the record's line n + 1
+abbrev pub reason_line : ℕ → Event → Given → List ℕ
+reason_line n e given = codes "event " ++ decimal n ++ codes ", line " ++ decimal (n + 1) ++ codes ": " ++ event_text e ++ codes "; the graph gives " ++ given_text given ++ 10 ∷ []
+
+-- the verdict's line, and behind a no its reason
+abbrev pub finding_text : Finding → List ℕ
+finding_text (Allowed n) = verdict_line (Yes n)
+finding_text (Refused n e given) = verdict_line (No n) ++ reason_line n e given
+
+-- the input is a record with sizes that suit, of which the graph alone says so
+pub record IsExplained (input : List ℕ) (finding : Finding) : Type 0 where
+  pub history : EventList
+  pub read : record_of input ≡ Ok history
+  pub suits : Suits history.config
+  pub finds : Finds (first_state history.config) history.events finding
+
+-- what was found of the input was written, and no more
+abbrev pub WritesFinding : List ℕ → Finding → Writer → Writer → Type 0
+WritesFinding input finding old new = IsExplained input finding × Takes old new (finding_text finding)
+
+-- a beginning of that was written, not all of it, and then the writer refused
+abbrev pub WritesFindingBeginning : List ℕ → Writer → Writer → Type 0
+WritesFindingBeginning input old new = (finding : Finding) × IsExplained input finding × TakesPart old new (finding_text finding)
+
+-- a line tells of a line of the input that has a fault: it shows that one, if it is there, and then says something
+abbrev pub IsFaultReason : LineFault → List ℕ → List ℕ → Type 0
+IsFaultReason fault input told = (line : List ℕ) → slice_get (pieces_of input) (fault.line - 1) ≡ Some line → (hint : List ℕ) × (told ≡ fault_reason fault line hint)
+
+-- such a line was written whole, or a beginning of it, and then the writer refused
+abbrev pub TellsHint : LineFault → List ℕ → Writer → Writer → Type 0
+TellsHint fault input old new = (told : List ℕ) × IsFaultReason fault input told × (Takes old new told ⊎ TakesPart old new told)
+
+-- so, and nothing where memory was refused
+abbrev pub TellsReason : Kind → LineFault → List ℕ → Writer → Writer → Type 0
+TellsReason kinds.NoMemory fault input old new = Stays old new
+TellsReason _ fault input old new = TellsHint fault input old new
+
+-- How the judging of a record ended that is to be explained, as `Judges` has it of one that isn't; but of a line with a fault standard
+-- output is told too.
+abbrev pub Explains : Reader → Reader → Writer → Writer → Result Finding JobFault → Type 0
+Explains given left old new (Ok finding) = (input : List ℕ) × GivesAll given left input × WritesFinding input finding old new
+Explains given left old new (Err (faults.Read fault)) = FailsToGive fault given left × Stays old new
+Explains given left old new (Err (faults.Line fault)) = (input : List ℕ) × GivesAll given left input × FailsBy fault.kind fault input (record_of input) × TellsReason fault.kind fault input old new
+Explains given left old new (Err (faults.Run fault)) = ⊥
+Explains given left old new (Err (faults.Judge fault)) = (input : List ℕ) × GivesAll given left input × IsUnjudged input fault × Stays old new
+Explains given left old new (Err (faults.Write fault)) = (input : List ℕ) × GivesAll given left input × WritesFindingBeginning input old new × (fault ≢ writes.NoMemory)
+
+-- the outcome of a judging without its reason
+abbrev pub judged_by : Result Finding JobFault → Result Verdict JobFault
+judged_by (Ok finding) = Ok (verdict_of finding)
+judged_by (Err fault) = Err fault
+
+-- A record was judged and explained so, and it was told so.
+pub record PerformsExplain (given left : Reader) (old new err err' : Writer) (status : ℕ) : Type 0 where
+  pub outcome : Result Finding JobFault
+  pub explains : Explains given left old new outcome
+  pub tells : TellsVerdict err err' (judged_by outcome) status

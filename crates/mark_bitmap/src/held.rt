@@ -1,0 +1,149 @@
+//! The fingers that are set, of which one is held beside the others.
+//!
+//! ```text
+//!   a chain     set 5: held 5     lowest = 5     remove 5: none held    set 9: held 9 ..      the summary stays empty
+//!   a tree      set 5: held 5     set 9: the summary has 9     lowest = 5     remove 5: none held, and 9 is left
+//! ```
+//!
+//! While marking goes down a list, one object is grey at a time: its finger is set, found, and falls again. Held beside the
+//! others it costs no way down the levels of their summary and up again.
+
+ghost use Rattle.std.specs.Prelude.{◌≡◌, ℕ, ◌<◌, false, true, IfOk, IfSome, length, MatchOption, Option, replicate, slice_set};
+ghost use Rattle.heap_words.specs.Bits.{has, HasNone, IsLowest};
+ghost use Rattle.mark_bitmap.specs.Held.{held_without};
+
+use crate::summary::Summary;
+use std::alloc::{AllocError, Global};
+use std::marker::Model;
+
+/// A set of fingers below a length that is given when it is made. Clauses see a flag for each finger.
+pub struct Fingers {
+    others: Summary,
+    held: Option<u32>,
+}
+
+impl Model for Fingers {
+    ghost use Rattle.std.specs.Prelude.{List, Bool, IfSome, length, ◌<◌};
+    ghost use Rattle.mark_bitmap.specs.Held.{with_held};
+
+    ghost Value = { List Bool };
+
+    ghost view = { λ f. with_held f.others f.held };
+
+    ghost invariant = { λ f. IfSome f.held (λ held. held < length f.others) };
+}
+
+/// Where it is let go there is one call, and not a drop for each of its parts.
+impl Drop for Fingers {
+    fn drop(self) {
+        let Fingers { others: _, held: _ } = self;
+    }
+}
+
+/// A finger isn't one of the others, if it was.
+fn leave(others: &mut Summary, finger: u32)
+    requires { finger < length others.old }
+    ensures { others.new ≡ slice_set others.old finger false }
+{
+    if !others.get(finger) {
+        return;
+    }
+    others.remove(finger);
+}
+
+/// What is held without a finger.
+fn without(held: Option<u32>, finger: u32) -> Option<u32>
+    ensures { result ≡ held_without held finger }
+{
+    match held {
+        Some(number) => { if number == finger { None } else { Some(number) } }
+        None => None,
+    }
+}
+
+impl Fingers {
+    /// No finger is set of those below `count`. No call takes memory afterwards.
+    pub fn new(alloc: Global, count: u32) -> Result<Fingers, AllocError>
+        ensures { IfOk result (λ fingers. fingers ≡ replicate count false) }
+    {
+        let others = Summary::new(alloc, count)?;
+        Ok(Fingers { others, held: None })
+    }
+
+    /// A finger is set: it is held, if none is.
+    pub fn set(&mut self, finger: u32)
+        requires { finger < length self.old }
+        ensures { self.new ≡ slice_set self.old finger true }
+    {
+        let Some(held) = self.held else {
+            self.held = Some(finger);
+            return;
+        };
+        if held == finger {
+            return;
+        }
+        self.others.set(finger);
+    }
+
+    /// A finger falls.
+    pub fn remove(&mut self, finger: u32)
+        requires { finger < length self.old }
+        ensures { self.new ≡ slice_set self.old finger false }
+    {
+        leave(&mut self.others, finger);
+        self.held = without(self.held, finger);
+    }
+
+    /// No finger is set.
+    pub fn clear(&mut self)
+        ensures { self.new ≡ replicate (length self.old) false }
+    {
+        self.others.clear();
+        self.held = None;
+    }
+
+    /// The lowest finger that is set.
+    pub fn lowest(&self) -> Option<u32>
+        ensures lowest { MatchOption result (HasNone (has self.now) 0) (IsLowest (has self.now) 0) }
+        ensures within { IfSome result (λ found. found < length self.now) }
+    {
+        let Some(held) = self.held else {
+            return self.others.lowest();
+        };
+        match self.others.lowest() {
+            Some(found) => Some(found.min(held)),
+            None => Some(held),
+        }
+    }
+}
+
+#[cfg(test)]
+mod tests {
+    use super::*;
+    use std::test::Fail;
+
+    /// One finger at a time, then a lower and a higher one beside the one that is held, which falls first, last, and twice set.
+    #[test]
+    fn finds_the_lowest(rt: HostRuntime) -> Result<(), Fail> {
+        let mut fingers = Fingers::new(rt.alloc(), 10_000)?;
+        assert_eq!(rt; fingers.lowest(), None);
+        for finger in [9_999, 0, 64] {
+            fingers.set(finger);
+            assert_eq!(rt; fingers.lowest(), Some(finger));
+            fingers.remove(finger);
+            assert_eq!(rt; fingers.lowest(), None);
+        }
+        fingers.set(70);
+        fingers.set(9_000);
+        fingers.set(3);
+        fingers.set(70);
+        assert_eq!(rt; fingers.lowest(), Some(3));
+        fingers.remove(70);
+        fingers.set(3);
+        fingers.remove(3);
+        assert_eq!(rt; fingers.lowest(), Some(9_000));
+        fingers.clear();
+        assert_eq!(rt; fingers.lowest(), None);
+        Ok(())
+    }
+}

@@ -1,0 +1,211 @@
+-- What the graph gives for a step, and what a judge tells of an event.
+use Rattle.std.proofs.Common.{◌≡◌, ◌↔◌, ◌⊎◌, ℕ, ◌+◌, ◌-◌, ◌<◌, ◌++◌, Option, Some, None, List, [], ◌∷◌, take, length, get_or, slice_get, Result, Ok, Err, refl, sym, ap, ◌∙◌, subst, inl, inr, arith}
+use Rattle.std.specs.Prelude.{nat_lt, ◌==◌, ◌^◌, IfOk}
+use Rattle.std.proofs.lemmas.List.{take_more}
+use Rattle.std.proofs.lemmas.Option.{slice_get-get_or}
+use Rattle.heap_words.specs.Sizes.{size_of}
+use Rattle.heap_words.specs.declared.config.Config.{Config}
+use Rattle.heap_model.specs.Graph.{Graph, Places, next_name}
+use Rattle.heap_model.specs.Weak.{cleared_graph}
+use Rattle.object_graph.specs.Actors.{IsStepOf, IsEvent}
+use Rattle.object_graph.specs.Roots.{IsOpAt}
+use Rattle.object_graph.specs.State.{State, IsSoundState, ForSnapshot, IsEarlier, first_state, places_of}
+use Rattle.object_graph.specs.Reached.{started, all_found, searched, flag_of}
+use Rattle.object_graph.specs.Machine.{Outcome, refused, made, act, outcome_of, reply_of}
+use Rattle.object_graph.specs.Run.{ForMutator, IsNew, Creates, ClearsBy, Collects, Happens, EventHappens, IsRun, snapshot_after}
+use Rattle.object_graph.specs.Judged.{Judged}
+use Rattle.object_graph.specs.Reasons.{IsGiven, MayStand, Refuses, Finds, verdict_of, Judging, HasTaken, TakesNext, SparingTakes}
+use Rattle.object_graph.specs.declared.step.Actor.{Actor}
+use Rattle.object_graph.specs.declared.step.Actor.TheVariants as actors
+use Rattle.object_graph.specs.declared.step.Action.{Action}
+use Rattle.object_graph.specs.declared.step.Action.TheVariants as actions
+use Rattle.object_graph.specs.declared.step.CollectorStep.{CollectorStep}
+use Rattle.object_graph.specs.declared.step.Counts.{Counts}
+use Rattle.object_graph.specs.declared.step.Op.{Op}
+use Rattle.object_graph.specs.declared.step.Register.{Register}
+use Rattle.object_graph.specs.declared.step.Event.{Event}
+use Rattle.object_graph.specs.declared.step.Step.{Step}
+use Rattle.object_graph.specs.declared.step.Step.TheVariants as steps
+use Rattle.object_graph.specs.declared.step.Reply.{Reply}
+use Rattle.object_graph.specs.declared.step.Reply.TheVariants as replies
+use Rattle.object_graph.specs.declared.step.Refusal.TheVariants as refusals
+use Rattle.object_graph.specs.declared.given.Given.{Given}
+use Rattle.object_graph.specs.declared.given.Given.TheVariants as givens
+use Rattle.object_graph.specs.declared.judge.Finding.{Finding}
+use Rattle.object_graph.specs.declared.judge.Finding.TheVariants as findings
+use Rattle.object_graph.proofs.Collected.{kind}
+use Rattle.object_graph.proofs.MachineLaws.{cond_law}
+use Rattle.object_graph.proofs.Reaching.{view_reached, cleared_by_flags}
+use Rattle.object_graph.proofs.RunLaws.{IsRun-more}
+use Rattle.object_graph.proofs.Sound.{get_in, first_sound, run_sound, run_places}
+use Rattle.object_graph.proofs.SinceLaws.{run_since}
+use Rattle.object_graph.proofs.SparingLaws.{follows, allowed, stands_sound}
+
+-- an object that the graph makes has the next name
+abbrev NamesNext : Graph → Outcome → Type 0
+NamesNext g out = (n : ℕ) → replies.Named (Some n) ≡ out.0 → n ≡ next_name g
+
+made_next : (g : Graph) (m : ℕ) (to : Register) (counts : Counts) (weaks : ℕ) → NamesNext g (made g m to counts weaks)
+made_next g m to counts weaks =
+    cond_law (NamesNext g) (nat_lt g.room (size_of counts.pointers weaks counts.values)) (refused g refusals.TooBig) _ (λ n h. cc)
+    (cond_law (NamesNext g) (next_name g == 2 ^ 64 - 1) (refused g refusals.NamesSpent) _ (λ n h. cc) (λ n h. cc))
+
+next_named : (g : Graph) (m : ℕ) (a : Action) (n : ℕ) → IsNew a → replies.Named (Some n) ≡ (act g m a).0 → n ≡ next_name g
+next_named g m (actions.New to counts) n new h = made_next g m to counts 0 n h
+next_named g m (actions.NewWeak to counts weaks) n new h = made_next g m to counts weaks n h
+next_named g m (actions.Get to object i) n new h = absurd new
+next_named g m (actions.Put object i value) n new h = absurd new
+next_named g m (actions.Read object j) n new h = absurd new
+next_named g m (actions.Write object j value) n new h = absurd new
+next_named g m (actions.Move to from) n new h = absurd new
+next_named g m (actions.Drop register) n new h = absurd new
+next_named g m (actions.Load to from) n new h = absurd new
+next_named g m (actions.Save to from) n new h = absurd new
+next_named g m (actions.Shape object) n new h = absurd new
+next_named g m (actions.GetWeak to object i) n new h = absurd new
+next_named g m (actions.PutWeak object i value) n new h = absurd new
+next_named g m (actions.Weaks object) n new h = absurd new
+next_named g m (actions.Scope from) n new h = absurd new
+
+-- the name of the object that is made is given
+pub object_given : (g : Graph) (m : ℕ) (a : Action) (n : ℕ) → IsNew a → replies.Named (Some n) ≡ (act g m a).0 → IsGiven g (steps.Mutator (record { mutator = m; action = a })) (givens.Object n)
+object_given g m a n new h =
+    let e = next_named g m a n new h in
+    (e, (new, sym h ∙ ap (λ (k : ℕ). replies.Named (Some k)) e))
+
+-- a reply that is no new object's name is given
+pub reply_given : (g : Graph) (m : ℕ) (a : Action) (r : Reply) → r ≡ (act g m a).0 → (IsNew a → (n : ℕ) → r ≡ replies.Named (Some n) → ⊥)
+    → IsGiven g (steps.Mutator (record { mutator = m; action = a })) (givens.Reply r)
+reply_given g m a r h other = (h, λ creates. other creates.0 (next_name g) (h ∙ creates.1))
+
+-- a mutator's step may not have another reply than the graph's, unless the heap may be full
+pub not_served : (old after : State) (o : Op) (r given : Reply) → given ≡ reply_of old.graph o → (given ≡ r → ⊥) → (r ≡ replies.Refused refusals.Full → Creates old.graph o → ⊥) → Happens old (steps.Mutator o) r after → ⊥
+not_served old after o r given is other full (inl h) = other (is ∙ sym (ap (λ (out : Outcome). out.0) h.0))
+not_served old after o r given is other full (inr h) = full h.1 h.0
+
+-- what is given for a step does not hang on the snapshot
+pub given_same : (g h : Graph) (k : Step) (given : Given) → g ≡ h → IsGiven g k given → IsGiven h k given
+given_same g h k given e is = subst (λ (x : Graph). IsGiven x k given) e is
+
+-- the judge's state took the event, or tells why not: so of the machine that it stands for
+pub takes_next : (old new : Judging) (es : List Event) (e : Event) (told : Option Given) → new.config ≡ old.config → HasTaken old es → SparingTakes old.state e.step e.reply new.state told → TakesNext old new es e told
+takes_next old new es e None same taken h =
+    let st = taken.0 in
+    let first = first_state old.config in
+    let sound = run_sound es first st (first_sound old.config) taken.1 in
+    let since = run_since es first st (first_sound old.config) tt taken.1 in
+    let next = follows old.state st new.state e.step e.reply sound since taken.2 h in
+    let run : IsRun first (es ++ e ∷ []) next.new = IsRun-more first es st e next.new taken.1 next.happens in
+    (next.new, subst (λ c. IsRun (first_state c) (es ++ e ∷ []) next.new) (sym same) run, next.stands)
+takes_next old new es e (Some given) same taken h =
+    let st = taken.0 in
+    record {
+      before = st;
+      run = taken.1;
+      stops = λ after happens. (let next = allowed old.state st after e.step e.reply taken.2 happens in h.0 next.0 next.1);
+      gives = given_same old.state.graph st.graph e.step given taken.2.graph h.1;
+    }
+
+-- the state of a judge that took some events is sound
+pub taken_sound : (j : Judging) (es : List Event) → HasTaken j es → IsSoundState j.state
+taken_sound j es taken = stands_sound j.state taken.0 (run_sound es (first_state j.config) taken.0 (first_sound j.config) taken.1) taken.2
+
+-- a finding holds its verdict
+pub found_judged : (first : State) (es : List Event) (found : Finding) → Finds first es found → Judged first es (verdict_of found)
+found_judged first es (findings.Allowed n) h = h
+found_judged first es (findings.Refused n e given) h =
+    let inside = get_in es (n - 1) e h.1 in
+    let positive = h.0 in
+    record {
+      positive = positive;
+      within = omega arith;
+      before = h.2.before;
+      run = h.2.run;
+      stops = λ f at after happens. (let there = h.1 in let q : f ≡ e = cc in h.2.stops after (subst (λ (x : Event). EventHappens h.2.before x after) q happens));
+    }
+
+-- weak slots can be cleared by any snapshot
+cleared_there : (st : State) (o : Option Graph) → st.snapshot ≡ o → IsSoundState st → (h : Graph) × ClearsBy st.snapshot st.graph h
+cleared_there st None is sound = (st.graph, subst (λ (o : Option Graph). ClearsBy o st.graph st.graph) (sym is) refl)
+cleared_there st (Some s) is sound =
+    let earlier : ForSnapshot (Some s) (λ t. IsEarlier t st.graph) = subst (λ (o : Option Graph). ForSnapshot o (λ t. IsEarlier t st.graph)) is sound.snapshot in
+    let flags = (searched (all_found (all_found (started s) []) s.roots) s.objects (length s.objects)).flags in
+    let reached = view_reached s s [] flags refl earlier.holds refl in
+    (cleared_graph (flag_of st.graph.first_name flags) (next_name s) st.graph, cleared_by_flags st s st.graph _ flags (next_name s) sound is refl reached refl refl)
+
+-- some state follows a step of the collector
+collected : (old : State) (k : CollectorStep) (r : Reply) → IsSoundState old → (new : State) × Collects old k r new
+collected old k r sound = elim (kind k r) [
+  | inl t ↦ (record { graph = old.graph; snapshot = Some old.graph }, (t.0 old (record { graph = old.graph; snapshot = Some old.graph })).1 refl)
+  | inr u ↦ elim u [
+    | inl g ↦ (let h = cleared_there old old.snapshot refl sound in
+        let next : State = record { graph = h.0; snapshot = None } in
+        (next, (g.0 old next).1 (refl, h.1)))
+    | inr n ↦ (old, (n.0 old old).1 refl)
+  ]
+]
+
+-- some state follows a mutator's step with the graph's reply
+served : (old : State) (o : Op) (r : Reply) → r ≡ reply_of old.graph o → (new : State) × Happens old (steps.Mutator o) r new
+served old o r is =
+    (record { graph = (outcome_of old.graph o).1; snapshot = snapshot_after old.snapshot o.action r }, inl (ap (λ (x : Reply). (x, (outcome_of old.graph o).1)) is, refl))
+
+-- the replies that may stand are those with which some state may follow
+pub may_stand : (old : State) (k : Step) (given : Given) (r : Reply) → IsSoundState old → IsGiven old.graph k given → ((new : State) × Happens old k r new) ↔ MayStand given r
+may_stand old (steps.Mutator o) (givens.Reply g) r sound is = (λ n. here n.0 n.1, λ e. served old o r (e ∙ is.0))
+  where
+    here : (new : State) → Happens old (steps.Mutator o) r new → r ≡ g
+    here new (inl h) = ap (λ (out : Outcome). out.0) h.0 ∙ sym is.0
+    here new (inr h) = absurd (is.1 h.0)
+may_stand old (steps.Mutator o) (givens.Object n) r sound is = (λ m. here m.0 m.1, there)
+  where
+    here : (new : State) → Happens old (steps.Mutator o) r new → (r ≡ replies.Named (Some n)) ⊎ (r ≡ replies.Refused refusals.Full)
+    here new (inl h) = inl (ap (λ (out : Outcome). out.0) h.0 ∙ is.1.1 ∙ ap (λ (k : ℕ). replies.Named (Some k)) (sym is.0))
+    here new (inr h) = inr h.1
+
+    there : (r ≡ replies.Named (Some n)) ⊎ (r ≡ replies.Refused refusals.Full) → (new : State) × Happens old (steps.Mutator o) r new
+    there (inl e) = served old o r (e ∙ ap (λ (k : ℕ). replies.Named (Some k)) is.0 ∙ sym is.1.1)
+    there (inr e) = (old, inr (is.1, e, refl))
+may_stand old (steps.Mutator o) (givens.Form k) r sound is = absurd is
+may_stand old (steps.Collector k) (givens.Form j) r sound is = (
+  λ n. subst (λ (c : CollectorStep). MayStand (givens.Form c) r) (sym is) n.1.0,
+  λ form. (let next = collected old k r sound in (next.0, (subst (λ (c : CollectorStep). MayStand (givens.Form c) r) is form, next.1))),
+)
+may_stand old (steps.Collector k) (givens.Reply g) r sound is = absurd is
+may_stand old (steps.Collector k) (givens.Object n) r sound is = absurd is
+
+-- a step of an actor, where it is a mutator's, names roots that there are
+op_of : (c : Config) (a : Actor) (s : Step) → IsStepOf c a s → ForMutator s (IsOpAt (places_of c))
+op_of c (actors.Mutator m) (steps.Mutator o) h = h.1.at
+op_of c actors.Collector (steps.Mutator o) h = absurd h
+op_of c (actors.Marker i) (steps.Mutator o) h = absurd h
+op_of c (actors.Refiner i) (steps.Mutator o) h = absurd h
+op_of c a (steps.Collector k) h = tt
+
+-- so in a judge's state
+pub op_taken : (j : Judging) (es : List Event) (e : Event) → HasTaken j es → IsEvent j.config e → ForMutator e.step (IsOpAt j.state.graph.places)
+op_taken j es e taken known =
+    let same : j.state.graph.places ≡ places_of j.config = ap (λ (g : Graph). g.places) taken.2.graph ∙ run_places es (first_state j.config) taken.0 taken.1 in
+    subst (λ (p : Places). ForMutator e.step (IsOpAt p)) (sym same) (op_of j.config e.actor e.step known)
+
+-- a judge that took the first i events and one more took the first i + 1
+pub taken_more : (j : Judging) (es seen : List Event) (i : ℕ) (e : Event) → seen ≡ es → i < length seen → e ≡ get_or seen i e → HasTaken j (take i es ++ e ∷ []) → HasTaken j (take (i + 1) es)
+taken_more j es seen i e same lt is taken =
+    let inside : i < length es = rw (← same) lt in
+    let there : e ≡ get_or es i e = rw (← same) is in
+    let more : take (i + 1) es ≡ take i es ++ e ∷ [] = take_more es i e inside ∙ ap (λ (x : Event). take i es ++ x ∷ []) (sym there) in
+    subst (λ (xs : List Event). HasTaken j xs) (sym more) taken
+
+-- what is found where the judge tells of the event behind the first i
+pub found_there : (first : State) (es seen : List Event) (i : ℕ) (e : Event) (given : Given) → seen ≡ es → i < length seen → e ≡ get_or seen i e → Refuses first (take i es) e given
+    → Finds first es (findings.Refused (i + 1) e given)
+found_there first es seen i e given same lt is refuses =
+    let back : i + 1 - 1 ≡ i = omega arith in
+    let there : slice_get es i ≡ Some e = slice_get-get_or es i e (rw (← same) lt) ∙ ap Some (sym (rw (← same) is)) in
+    (omega arith, ap (slice_get es) back ∙ there, subst (λ (k : ℕ). Refuses first (take k es) e given) (sym back) refuses)
+
+-- so of what a call answered
+pub takes_told : {E : Type 0} (r : Result (Option Given) E) (old new : Judging) (e : Event) (before : State) → new.config ≡ old.config → before ≡ old.state
+    → IfOk r (SparingTakes before e.step e.reply new.state) → IfOk r (λ told. (es : List Event) → HasTaken old es → TakesNext old new es e told)
+takes_told (Ok told) old new e before same is h = λ es taken. takes_next old new es e told same taken (subst (λ (st : State). SparingTakes st e.step e.reply new.state told) is h)
+takes_told (Err f) old new e before same is h = tt

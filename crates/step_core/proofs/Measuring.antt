@@ -1,0 +1,29 @@
+-- What a policy asks: what is live of a run, and whether anything is grey.
+use Rattle.std.proofs.Common.{◌≡◌, ℕ, ◌≤◌, Bool, true, false, Option, Some, None, refl, sym, ◌∙◌, ap, arith}
+use Rattle.std.specs.Prelude.{◌↔◌, IsTrue, IsSome, is_some, MatchOption}
+use Rattle.heap_model.specs.Heap.{Stored}
+use Rattle.heap_words.specs.Bits.{HasNone, IsLowest}
+use Rattle.regions.specs.Table.{object_at, object_words, stored_size}
+use Rattle.mark_bitmap.specs.Grey.{is_grey}
+use Rattle.step_core.specs.Stands.{CoreState, kept_of}
+use Rattle.step_core.specs.Measures.{HasGrey}
+use Rattle.step_core.proofs.Mutating.Reading.{object_kept}
+
+something : (o : Option Stored) → (o ≡ None → ⊥) → (s : Stored) × (o ≡ Some s)
+something None live = absurd (live refl)
+something (Some s) live = (s, refl)
+
+-- what is kept of a run is its object, with all its words
+pub live_object : (c : CoreState) (a : ℕ) → (kept_of c a ≡ None → ⊥) → IsSome (object_at c.table a)
+live_object c a live = let (s, is) = something (kept_of c a) live in let e = object_kept c a s is in rw e refl
+
+pub live_size : (c : CoreState) (a : ℕ) → (kept_of c a ≡ None → ⊥) → object_words c.table a ≡ stored_size (kept_of c a)
+unfolding object_words
+live_size c a live = let (s, is) = something (kept_of c a) live in ap stored_size (object_kept c a s is) ∙ sym (ap stored_size is)
+
+-- a search finds a grey object where there is one
+pub grey_found : (c : CoreState) (o : Option ℕ) → c.marker.running ≡ true
+    → MatchOption o (HasNone (is_grey c.marker.bitmaps.next c.marker.grey) 0) (IsLowest (is_grey c.marker.bitmaps.next c.marker.grey) 0)
+    → IsTrue (is_some o) ↔ HasGrey c
+grey_found c None run none = (λ found. absurd (let e : false ≡ true = found in cc), λ grey. absurd (let yes = grey.grey in let never = none grey.address (omega arith) in cc))
+grey_found c (Some a) run low = (λ yes. record { running = run; address = a; grey = low.is_in }, λ grey. refl)

@@ -1,0 +1,199 @@
+/* g1heap.h: a Garbage-First heap whose correctness is proved, as a C library. C11 and C++17.
+
+   A heap holds objects of pointers, weak slots and 64-bit data words. A program names objects by roots alone: the globals of the heap, and
+   the registers of each of its mutators. A root holds nil or an object; the collector moves objects and updates the roots. No address of an
+   object leaves the heap, so there is nothing to pin and nothing to forget. A thread's stack is a mutator's registers: a frame takes the
+   next few, and g1_scope leaves it.
+
+       g1_heap heap = G1_HEAP_NONE;
+       g1_sizes sizes = {256, 1024, 128, 1, 0, 64, 16, 64};
+       if (g1_new(&heap, &sizes) != G1_DONE) return 1;
+       g1_new_object(&heap, 0, 0, 1, 1);        // register 0 of mutator 0 holds a new object of one pointer and one data word
+       g1_write(&heap, 0, 0, 0, 42);            // its data word 0 is 42
+       g1_put(&heap, 0, 0, 0, 0);               // its pointer 0 names the object itself
+       g1_get(&heap, 0, 1, 0, 0);               // register 1 holds what pointer 0 names
+       g1_free(&heap);
+
+   OWNERSHIP. A g1_heap is the caller's, and begins as G1_HEAP_NONE, all zeros. g1_new puts a heap into it, whose memory comes from malloc,
+   all of it then; no other call takes memory. g1_free takes the heap out again and frees it. Don't write to its fields, nor use a copy of
+   them: two copies are two owners.
+
+   ARGUMENTS. Any numbers will do. Those that name no step of this heap are answered G1_NO_STEP, and nothing changes. What names a step goes
+   to the heap, which does it or refuses it; a refusal changes nothing either. Only the pointers are the caller's duty: `heap` points to a
+   g1_heap that is G1_HEAP_NONE or as a call left it, `sizes` to a g1_sizes.
+
+   THREADS. The library has no lock and no thread. A heap takes one call at a time, those that only tell something too; heaps don't know of
+   each other. A heap may pass from one thread to another, which is proved of it, and threads may share one under a lock of the caller's. No
+   call waits, or calls back. None is for a signal handler.
+
+   WHAT IS PROVED of each call, and what isn't, stands in docs/EMBEDDING.md. In short: whatever numbers a program gives in whatever order,
+   each answer is the one that a graph of objects gives from which nothing is ever freed or moved, or G1_FULL where there is no place, and
+   no memory but the heap's is touched. Nothing is proved of C code.
+
+   SPEED. A call is a function call with a few checks, where a pointer in C is one load; docs/EMBEDDING.md has figures. */
+#ifndef G1HEAP_H
+#define G1HEAP_H
+
+#include <stdbool.h>
+#include <stdint.h>
+
+#ifdef __cplusplus
+extern "C" {
+#endif
+
+/* A heap, or none. */
+typedef struct g1_heap {
+    bool live;
+    void *at;
+} g1_heap;
+
+#define G1_HEAP_NONE {false, 0}
+
+/* The sizes of a heap. A word is 64 bits. */
+typedef struct g1_sizes {
+    uint32_t regions;    /* 2 to 1,024 */
+    uint32_t words;      /* of a region: a power of two, 16 to 16,384; regions * words is at most 16,777,216 */
+    uint32_t buffer;     /* words of a mutator's allocation buffer: 4 to words / 2 */
+    uint32_t mutators;   /* 1 to 64 */
+    uint64_t first_name; /* the first object's name; each later one's is one higher */
+    uint32_t card;       /* words of a card: 8, 16, 32 or 64, and at most words */
+    uint32_t globals;    /* 0 to 65,536 */
+    uint32_t registers;  /* of each mutator: 1 to 65,536; globals and all registers are at most 1,048,576 */
+} g1_sizes;
+
+/* What came of a call. Below 16 it was done; from 16 on nothing changed. */
+enum {
+    G1_DONE = 0,       /* there is nothing to tell */
+    G1_NIL_VALUE = 1,  /* g1_get, g1_load, g1_get_weak, g1_name: nil */
+    G1_NAME = 2,       /* the same and g1_new_object, g1_new_weak: `first` is the object's name */
+    G1_WORD = 3,       /* g1_read, g1_weaks: `first` is the word, or the count of weak slots */
+    G1_SHAPE = 4,      /* g1_shape: `first` pointers, `second` data words */
+    G1_MARKED = 5,     /* g1_remark: `first` objects were marked in this cycle */
+    G1_RECLAIMED = 6,  /* g1_cleanup: `first` regions are free again */
+    G1_REFINED = 7,    /* g1_refine: `first` cards were refined */
+    G1_MOVED = 8,      /* g1_pause: `first` words were copied, `second` regions are free again */
+    G1_SCANNED = 9,    /* g1_mark: `first` objects were scanned */
+    G1_NUMBER = 10,    /* what a reader tells: `first` */
+
+    G1_NIL = 16,          /* the register that should name an object is nil */
+    G1_NO_FIELD = 17,     /* the object has no such field */
+    G1_FULL = 18,         /* there is no place for the new object now: collect, and try again */
+    G1_TOO_BIG = 19,      /* the new object is larger than the heap */
+    G1_NAMES_SPENT = 20,  /* no names are left */
+    G1_MARK_RUNNING = 21, /* marking is running */
+    G1_NOT_MARKING = 22,  /* marking is not running */
+
+    G1_NO_STEP = 32,   /* there is no such mutator, register or global, or a count is above 255 weak slots */
+    G1_NO_HEAP = 33,   /* there is no heap */
+    G1_HEAP_LIVE = 34, /* g1_new: there is a heap already */
+
+    G1_BAD_REGIONS = 41, /* g1_new: what of the sizes doesn't suit, the first in this order */
+    G1_BAD_WORDS = 42,
+    G1_BAD_BUFFER = 43,
+    G1_BAD_MUTATORS = 44,
+    G1_NO_MEMORY = 45, /* g1_new: malloc refused */
+    G1_BAD_CARD = 46,
+    G1_BAD_GLOBALS = 47,
+    G1_BAD_REGISTERS = 48,
+    G1_BAD_ROOTS = 49
+};
+
+/* What a call answers. It is returned in two registers on x86-64 and AArch64. */
+typedef struct g1_answer {
+    uint32_t code;
+    uint32_t second;
+    uint64_t first;
+} g1_answer;
+
+/* In place of the register whose object a field takes: the field becomes nil. */
+#define G1_NIL_REGISTER UINT32_MAX
+
+/* Makes a heap: G1_DONE, or why there is none, and `heap` is then as it was. */
+uint32_t g1_new(g1_heap *heap, const g1_sizes *sizes);
+
+/* Frees a heap, and leaves none. Where there is none it does nothing. */
+void g1_free(g1_heap *heap);
+
+/* The steps of mutators. `mutator` counts from 0; `to`, `object`, `from` are registers of it, `global` is a global; fields count from 0:
+   pointers, weak slots and data words apart. Each may answer G1_NO_STEP or G1_NO_HEAP too.
+
+   Call            Step       What it does                                        Done              Refused
+   g1_new_object   new        an object, its pointers nil and its data words 0    NAME              FULL TOO_BIG NAMES_SPENT
+   g1_new_weak     newweak    the same with weak slots, nil                       NAME              FULL TOO_BIG NAMES_SPENT
+   g1_get          get        `to` takes the object's pointer                     NAME, NIL_VALUE   NIL NO_FIELD
+   g1_put          put        the object's pointer takes what `from` holds        DONE              NIL NO_FIELD
+   g1_read         read       tells a data word                                   WORD              NIL NO_FIELD
+   g1_write        write      a data word takes a value                           DONE              NIL NO_FIELD
+   g1_move         move       `to` takes what `from` holds                        DONE
+   g1_drop         drop       the register becomes nil                            DONE
+   g1_load         load       `to` takes what the global holds                    NAME, NIL_VALUE
+   g1_save         save       the global takes what `from` holds                  DONE
+   g1_shape        shape      tells how many pointers and data words there are    SHAPE             NIL
+   g1_get_weak     getweak    `to` takes what the weak slot holds                 NAME, NIL_VALUE   NIL NO_FIELD
+   g1_put_weak     putweak    the weak slot takes what `from` holds               DONE              NIL NO_FIELD
+   g1_weaks        weaks      tells how many weak slots there are                 WORD              NIL
+   g1_scope        scope      a frame is left: each register from `first` on      DONE
+                              becomes nil */
+g1_answer g1_new_object(g1_heap *heap, uint32_t mutator, uint32_t to, uint32_t pointers, uint32_t values);
+g1_answer g1_new_weak(g1_heap *heap, uint32_t mutator, uint32_t to, uint32_t pointers, uint32_t weaks, uint32_t values);
+g1_answer g1_get(g1_heap *heap, uint32_t mutator, uint32_t to, uint32_t object, uint32_t field);
+g1_answer g1_put(g1_heap *heap, uint32_t mutator, uint32_t object, uint32_t field, uint32_t from);
+g1_answer g1_read(g1_heap *heap, uint32_t mutator, uint32_t object, uint32_t field);
+g1_answer g1_write(g1_heap *heap, uint32_t mutator, uint32_t object, uint32_t field, uint64_t value);
+g1_answer g1_move(g1_heap *heap, uint32_t mutator, uint32_t to, uint32_t from);
+g1_answer g1_drop(g1_heap *heap, uint32_t mutator, uint32_t to);
+g1_answer g1_load(g1_heap *heap, uint32_t mutator, uint32_t to, uint32_t global);
+g1_answer g1_save(g1_heap *heap, uint32_t mutator, uint32_t global, uint32_t from);
+g1_answer g1_shape(g1_heap *heap, uint32_t mutator, uint32_t object);
+g1_answer g1_get_weak(g1_heap *heap, uint32_t mutator, uint32_t to, uint32_t object, uint32_t slot);
+g1_answer g1_put_weak(g1_heap *heap, uint32_t mutator, uint32_t object, uint32_t slot, uint32_t from);
+g1_answer g1_weaks(g1_heap *heap, uint32_t mutator, uint32_t object);
+g1_answer g1_scope(g1_heap *heap, uint32_t mutator, uint32_t first);
+
+/* The steps of the collector, taken whenever the program likes.
+
+   Call         Step of a script   What it does                                                             Done         Refused
+   g1_begin     gc begin           marking begins, with the present graph as its snapshot                   DONE         MARK_RUNNING
+   g1_mark      gc mark            at most so many objects are scanned                                      SCANNED      NOT_MARKING
+   g1_remark    gc remark          marking is brought to its end, and weak slots are cleared                MARKED       NOT_MARKING
+   g1_cleanup   gc cleanup         regions with nothing live are free again                                 RECLAIMED    MARK_RUNNING
+   g1_refine    gc refine          at most so many queued cards are refined                                 REFINED
+   g1_pause     gc pause           live objects are copied out of some regions, at most so many words,      MOVED
+                                   and at most half the words of the free regions; these regions are
+                                   free again */
+g1_answer g1_begin(g1_heap *heap);
+g1_answer g1_mark(g1_heap *heap, uint32_t objects);
+g1_answer g1_remark(g1_heap *heap);
+g1_answer g1_cleanup(g1_heap *heap);
+g1_answer g1_refine(g1_heap *heap, uint32_t cards);
+g1_answer g1_pause(g1_heap *heap, uint32_t words);
+
+/* What a policy of collection steers by. Nothing changes. Each answers NUMBER, g1_name alone NAME or NIL_VALUE; or NO_HEAP, and g1_name
+   also NO_STEP.
+
+   g1_free_regions   how many regions are free
+   g1_used_words     how many words of the other regions are handed out, to objects and to allocation buffers
+   g1_live_words     how many words are live: those of the objects that the last complete marking marked, and all handed out since it began
+   g1_marking        1 while marking runs, else 0
+   g1_grey           1 while marking runs and some marked object isn't scanned yet, else 0
+   g1_queued         how many cards wait for refinement
+   g1_globals        how many globals there are
+   g1_registers      how many registers each mutator has
+   g1_name           the name that a register holds: two registers hold the same object where these are the same
+
+   g1_free_regions and g1_used_words look at each region, g1_live_words at each marked object too; the others cost less than a step. */
+g1_answer g1_free_regions(const g1_heap *heap);
+g1_answer g1_used_words(const g1_heap *heap);
+g1_answer g1_live_words(const g1_heap *heap);
+g1_answer g1_marking(const g1_heap *heap);
+g1_answer g1_grey(const g1_heap *heap);
+g1_answer g1_queued(const g1_heap *heap);
+g1_answer g1_globals(const g1_heap *heap);
+g1_answer g1_registers(const g1_heap *heap);
+g1_answer g1_name(const g1_heap *heap, uint32_t mutator, uint32_t of);
+
+#ifdef __cplusplus
+}
+#endif
+
+#endif

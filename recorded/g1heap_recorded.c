@@ -1,0 +1,341 @@
+/* The calls of g1heap.h, each of which also writes its line of a record. tools/recorded_library links them with the heap's own calls, which
+   are named g1raw_.. there. A g1_heap leads to a box here, with the heap's own g1_heap in it; so heaps don't know of each other. */
+#include <stdatomic.h>
+#include <stdio.h>
+#include <stdlib.h>
+#include <string.h>
+
+#include "g1heap_record.h"
+
+uint32_t g1raw_new(g1_heap *heap, const g1_sizes *sizes);
+void g1raw_free(g1_heap *heap);
+g1_answer g1raw_new_object(g1_heap *heap, uint32_t mutator, uint32_t to, uint32_t pointers, uint32_t values);
+g1_answer g1raw_new_weak(g1_heap *heap, uint32_t mutator, uint32_t to, uint32_t pointers, uint32_t weaks, uint32_t values);
+g1_answer g1raw_get(g1_heap *heap, uint32_t mutator, uint32_t to, uint32_t object, uint32_t field);
+g1_answer g1raw_put(g1_heap *heap, uint32_t mutator, uint32_t object, uint32_t field, uint32_t from);
+g1_answer g1raw_read(g1_heap *heap, uint32_t mutator, uint32_t object, uint32_t field);
+g1_answer g1raw_write(g1_heap *heap, uint32_t mutator, uint32_t object, uint32_t field, uint64_t value);
+g1_answer g1raw_move(g1_heap *heap, uint32_t mutator, uint32_t to, uint32_t from);
+g1_answer g1raw_drop(g1_heap *heap, uint32_t mutator, uint32_t to);
+g1_answer g1raw_load(g1_heap *heap, uint32_t mutator, uint32_t to, uint32_t global);
+g1_answer g1raw_save(g1_heap *heap, uint32_t mutator, uint32_t global, uint32_t from);
+g1_answer g1raw_shape(g1_heap *heap, uint32_t mutator, uint32_t object);
+g1_answer g1raw_get_weak(g1_heap *heap, uint32_t mutator, uint32_t to, uint32_t object, uint32_t slot);
+g1_answer g1raw_put_weak(g1_heap *heap, uint32_t mutator, uint32_t object, uint32_t slot, uint32_t from);
+g1_answer g1raw_weaks(g1_heap *heap, uint32_t mutator, uint32_t object);
+g1_answer g1raw_scope(g1_heap *heap, uint32_t mutator, uint32_t first);
+g1_answer g1raw_begin(g1_heap *heap);
+g1_answer g1raw_mark(g1_heap *heap, uint32_t objects);
+g1_answer g1raw_remark(g1_heap *heap);
+g1_answer g1raw_cleanup(g1_heap *heap);
+g1_answer g1raw_refine(g1_heap *heap, uint32_t cards);
+g1_answer g1raw_pause(g1_heap *heap, uint32_t words);
+g1_answer g1raw_free_regions(const g1_heap *heap);
+g1_answer g1raw_used_words(const g1_heap *heap);
+g1_answer g1raw_live_words(const g1_heap *heap);
+g1_answer g1raw_marking(const g1_heap *heap);
+g1_answer g1raw_grey(const g1_heap *heap);
+g1_answer g1raw_queued(const g1_heap *heap);
+g1_answer g1raw_globals(const g1_heap *heap);
+g1_answer g1raw_registers(const g1_heap *heap);
+g1_answer g1raw_name(const g1_heap *heap, uint32_t mutator, uint32_t of);
+
+typedef struct box {
+    g1_heap heap;
+    g1_sizes sizes;
+    g1_line_writer write;
+    void *context;
+    FILE *file;      /* of the variable, or NULL */
+    uint64_t events; /* steps taken */
+} box;
+
+enum { LONGEST = 160 };
+typedef struct line {
+    char bytes[LONGEST];
+    size_t length;
+} line;
+
+static void put_text(line *to, const char *text)
+{
+    size_t length = strlen(text);
+    memcpy(to->bytes + to->length, text, length);
+    to->length += length;
+}
+
+static void put_number(line *to, uint64_t number)
+{
+    char digits[20];
+    size_t count = 0;
+    do digits[count++] = (char)('0' + number % 10), number /= 10;
+    while (number != 0);
+    while (count != 0) to->bytes[to->length++] = digits[--count];
+}
+
+/* Puts a text, and for each % in it the next of the numbers. */
+static void put_form(line *to, const char *form, const uint64_t *numbers)
+{
+    for (; *form != 0; form++)
+        if (*form == '%') put_number(to, *numbers++);
+        else to->bytes[to->length++] = *form;
+}
+
+/* The reply that an answer stands for. */
+static void put_reply(line *to, g1_answer answer)
+{
+    static const char *const refusals[] = {"1 Nil", "2 NoField", "3 Full", "4 TooBig", "5 NamesSpent", "6 MarkRunning", "7 NotMarking"};
+    static const char *const forms[] = {"ok", "nil", "#%", "%", "% %", "marked %", "reclaimed %", "refined %", "moved % %", "ok"};
+    uint64_t as_told[] = {answer.first, answer.second}, turned[] = {answer.second, answer.first};
+    if (answer.code >= G1_NIL) put_text(to, "refused "), put_text(to, refusals[answer.code - G1_NIL]);
+    else put_form(to, forms[answer.code], answer.code == G1_MOVED ? turned : as_told);
+}
+
+/* Hands a line over. Where it isn't taken, it is the last. */
+static void hand_over(box *in, line *from)
+{
+    from->bytes[from->length++] = '\n';
+    if (in->write(in->context, from->bytes, from->length) != 0) in->write = NULL;
+}
+
+static void write_sizes(box *in)
+{
+    const g1_sizes *of = &in->sizes;
+    line sizes = {.length = 0};
+    put_form(&sizes, "heap3 % % % % % % % %", (uint64_t[]){of->regions, of->words, of->buffer, of->mutators, of->first_name, of->card,
+                                                            of->globals, of->registers});
+    hand_over(in, &sizes);
+}
+
+static void write_step(box *in, g1_answer answer, const char *form, const uint64_t *numbers)
+{
+    line step = {.length = 0};
+    put_number(&step, in->events);
+    put_text(&step, " ");
+    put_form(&step, form, numbers);
+    put_text(&step, " = ");
+    put_reply(&step, answer);
+    hand_over(in, &step);
+}
+/* Counts a step, and writes it with its answer where it is asked for. What named no step is none. */
+static inline g1_answer note(box *in, g1_answer answer, const char *form, const uint64_t *numbers)
+{
+    if (answer.code >= G1_NO_STEP) return answer;
+    in->events++;
+    if (in->write != NULL) write_step(in, answer, form, numbers);
+    return answer;
+}
+
+static int write_file(void *context, const char *bytes, size_t length)
+{
+    if (fwrite(bytes, 1, length, ((box *)context)->file) == length) return 0;
+    fprintf(stderr, "g1heap: a record can't be written\n");
+    return 1;
+}
+
+/* Opens the file that the variable names, if it names one. */
+static void open_file(box *in)
+{
+    static atomic_uint heaps;
+    const char *name = getenv("G1HEAP_RECORD");
+    char numbered[4096];
+    unsigned number;
+    if (name == NULL || *name == 0) return;
+    number = atomic_fetch_add(&heaps, 1) + 1;
+    snprintf(numbered, sizeof numbered, number == 1 ? "%s" : "%s.%u", name, number);
+    in->file = fopen(numbered, "wb");
+    if (in->file == NULL) {
+        fprintf(stderr, "g1heap: a record can't be written: %s\n", numbered);
+        return;
+    }
+    in->write = write_file, in->context = in;
+    write_sizes(in);
+}
+
+static void close_file(box *in)
+{
+    if (in->file != NULL && fclose(in->file) != 0) fprintf(stderr, "g1heap: a record can't be written\n");
+    in->file = NULL;
+}
+
+uint32_t g1_new(g1_heap *heap, const g1_sizes *sizes)
+{
+    box *in;
+    uint32_t code;
+    if (heap->live) return G1_HEAP_LIVE;
+    in = (box *)calloc(1, sizeof *in);
+    if (in == NULL) return G1_NO_MEMORY;
+    code = g1raw_new(&in->heap, sizes);
+    if (code != G1_DONE) {
+        free(in);
+        return code;
+    }
+    in->sizes = *sizes;
+    heap->live = true, heap->at = in;
+    open_file(in);
+    return G1_DONE;
+}
+
+void g1_free(g1_heap *heap)
+{
+    box *in = (box *)heap->at;
+    if (!heap->live) return;
+    close_file(in);
+    g1raw_free(&in->heap);
+    free(in);
+    heap->live = false, heap->at = NULL;
+}
+
+uint32_t g1_record(g1_heap *heap, g1_line_writer write, void *context)
+{
+    box *in = (box *)heap->at;
+    if (!heap->live) return G1_NO_HEAP;
+    if (in->events != 0 && write != NULL) return G1_NO_STEP;
+    close_file(in);
+    in->write = write, in->context = context;
+    if (write != NULL) write_sizes(in);
+    return G1_DONE;
+}
+
+/* Where there is no heap, the heap's own call answers that: it is handed this one. */
+static box none;
+static box *box_of(const g1_heap *heap) { return heap->live ? (box *)heap->at : &none; }
+
+g1_answer g1_new_object(g1_heap *heap, uint32_t mutator, uint32_t to, uint32_t pointers, uint32_t values)
+{
+    box *in = box_of(heap);
+    return note(in, g1raw_new_object(&in->heap, mutator, to, pointers, values), "% new r% % %",
+                (uint64_t[]){mutator, to, pointers, values});
+}
+
+g1_answer g1_new_weak(g1_heap *heap, uint32_t mutator, uint32_t to, uint32_t pointers, uint32_t weaks, uint32_t values)
+{
+    box *in = box_of(heap);
+    return note(in, g1raw_new_weak(&in->heap, mutator, to, pointers, weaks, values), "% newweak r% % % %",
+                (uint64_t[]){mutator, to, pointers, weaks, values});
+}
+
+g1_answer g1_get(g1_heap *heap, uint32_t mutator, uint32_t to, uint32_t object, uint32_t field)
+{
+    box *in = box_of(heap);
+    return note(in, g1raw_get(&in->heap, mutator, to, object, field), "% get r% r% %", (uint64_t[]){mutator, to, object, field});
+}
+
+g1_answer g1_put(g1_heap *heap, uint32_t mutator, uint32_t object, uint32_t field, uint32_t from)
+{
+    box *in = box_of(heap);
+    return note(in, g1raw_put(&in->heap, mutator, object, field, from), from == G1_NIL_REGISTER ? "% put r% % nil" : "% put r% % r%",
+                (uint64_t[]){mutator, object, field, from});
+}
+
+g1_answer g1_read(g1_heap *heap, uint32_t mutator, uint32_t object, uint32_t field)
+{
+    box *in = box_of(heap);
+    return note(in, g1raw_read(&in->heap, mutator, object, field), "% read r% %", (uint64_t[]){mutator, object, field});
+}
+
+g1_answer g1_write(g1_heap *heap, uint32_t mutator, uint32_t object, uint32_t field, uint64_t value)
+{
+    box *in = box_of(heap);
+    return note(in, g1raw_write(&in->heap, mutator, object, field, value), "% write r% % %", (uint64_t[]){mutator, object, field, value});
+}
+
+g1_answer g1_move(g1_heap *heap, uint32_t mutator, uint32_t to, uint32_t from)
+{
+    box *in = box_of(heap);
+    return note(in, g1raw_move(&in->heap, mutator, to, from), "% move r% r%", (uint64_t[]){mutator, to, from});
+}
+
+g1_answer g1_drop(g1_heap *heap, uint32_t mutator, uint32_t to)
+{
+    box *in = box_of(heap);
+    return note(in, g1raw_drop(&in->heap, mutator, to), "% drop r%", (uint64_t[]){mutator, to});
+}
+
+g1_answer g1_load(g1_heap *heap, uint32_t mutator, uint32_t to, uint32_t global)
+{
+    box *in = box_of(heap);
+    return note(in, g1raw_load(&in->heap, mutator, to, global), "% load r% g%", (uint64_t[]){mutator, to, global});
+}
+
+g1_answer g1_save(g1_heap *heap, uint32_t mutator, uint32_t global, uint32_t from)
+{
+    box *in = box_of(heap);
+    return note(in, g1raw_save(&in->heap, mutator, global, from), "% save g% r%", (uint64_t[]){mutator, global, from});
+}
+
+g1_answer g1_shape(g1_heap *heap, uint32_t mutator, uint32_t object)
+{
+    box *in = box_of(heap);
+    return note(in, g1raw_shape(&in->heap, mutator, object), "% shape r%", (uint64_t[]){mutator, object});
+}
+
+g1_answer g1_get_weak(g1_heap *heap, uint32_t mutator, uint32_t to, uint32_t object, uint32_t slot)
+{
+    box *in = box_of(heap);
+    return note(in, g1raw_get_weak(&in->heap, mutator, to, object, slot), "% getweak r% r% %", (uint64_t[]){mutator, to, object, slot});
+}
+
+g1_answer g1_put_weak(g1_heap *heap, uint32_t mutator, uint32_t object, uint32_t slot, uint32_t from)
+{
+    box *in = box_of(heap);
+    return note(in, g1raw_put_weak(&in->heap, mutator, object, slot, from),
+                from == G1_NIL_REGISTER ? "% putweak r% % nil" : "% putweak r% % r%", (uint64_t[]){mutator, object, slot, from});
+}
+
+g1_answer g1_weaks(g1_heap *heap, uint32_t mutator, uint32_t object)
+{
+    box *in = box_of(heap);
+    return note(in, g1raw_weaks(&in->heap, mutator, object), "% weaks r%", (uint64_t[]){mutator, object});
+}
+
+g1_answer g1_scope(g1_heap *heap, uint32_t mutator, uint32_t first)
+{
+    box *in = box_of(heap);
+    return note(in, g1raw_scope(&in->heap, mutator, first), "% scope r%", (uint64_t[]){mutator, first});
+}
+
+g1_answer g1_begin(g1_heap *heap)
+{
+    box *in = box_of(heap);
+    return note(in, g1raw_begin(&in->heap), "gc begin", NULL);
+}
+
+g1_answer g1_mark(g1_heap *heap, uint32_t objects)
+{
+    box *in = box_of(heap);
+    return note(in, g1raw_mark(&in->heap, objects), "gc mark %", (uint64_t[]){objects});
+}
+
+g1_answer g1_remark(g1_heap *heap)
+{
+    box *in = box_of(heap);
+    return note(in, g1raw_remark(&in->heap), "gc remark", NULL);
+}
+
+g1_answer g1_cleanup(g1_heap *heap)
+{
+    box *in = box_of(heap);
+    return note(in, g1raw_cleanup(&in->heap), "gc cleanup", NULL);
+}
+
+g1_answer g1_refine(g1_heap *heap, uint32_t cards)
+{
+    box *in = box_of(heap);
+    return note(in, g1raw_refine(&in->heap, cards), "gc refine %", (uint64_t[]){cards});
+}
+
+g1_answer g1_pause(g1_heap *heap, uint32_t words)
+{
+    box *in = box_of(heap);
+    return note(in, g1raw_pause(&in->heap, words), "gc pause %", (uint64_t[]){words});
+}
+
+/* Readers are no steps. */
+g1_answer g1_free_regions(const g1_heap *heap) { return g1raw_free_regions(&box_of(heap)->heap); }
+g1_answer g1_used_words(const g1_heap *heap) { return g1raw_used_words(&box_of(heap)->heap); }
+g1_answer g1_live_words(const g1_heap *heap) { return g1raw_live_words(&box_of(heap)->heap); }
+g1_answer g1_marking(const g1_heap *heap) { return g1raw_marking(&box_of(heap)->heap); }
+g1_answer g1_grey(const g1_heap *heap) { return g1raw_grey(&box_of(heap)->heap); }
+g1_answer g1_queued(const g1_heap *heap) { return g1raw_queued(&box_of(heap)->heap); }
+g1_answer g1_globals(const g1_heap *heap) { return g1raw_globals(&box_of(heap)->heap); }
+g1_answer g1_registers(const g1_heap *heap) { return g1raw_registers(&box_of(heap)->heap); }
+g1_answer g1_name(const g1_heap *heap, uint32_t mutator, uint32_t of) { return g1raw_name(&box_of(heap)->heap, mutator, of); }

@@ -1,0 +1,143 @@
+/* Each call of g1heap.h once or more, by answers that include/g1heap.h promises. Two heaps stand side by side. */
+#include <g1heap.h>
+#include <stdio.h>
+
+static int failed;
+
+/* Whether an answer has this code and these numbers. */
+static void is(const char *call, g1_answer got, uint32_t code, uint64_t first, uint32_t second)
+{
+    if (got.code == code && got.first == first && got.second == second) return;
+    printf("%s: code %u, first %llu, second %u\n", call, got.code, (unsigned long long)got.first, got.second);
+    failed++;
+}
+static void is_code(const char *call, uint32_t got, uint32_t code)
+{
+    if (got == code) return;
+    printf("%s: code %u, not %u\n", call, got, code);
+    failed++;
+}
+
+static void refuse_sizes(void)
+{
+    static const struct { g1_sizes sizes; uint32_t code; } cases[] = {
+        {{1, 16, 4, 1, 0, 8, 0, 1}, G1_BAD_REGIONS}, {{1025, 15, 3, 0, 0, 7, 0, 0}, G1_BAD_REGIONS},
+        {{2, 15, 4, 1, 0, 8, 0, 1}, G1_BAD_WORDS}, {{2, 48, 4, 1, 0, 8, 0, 1}, G1_BAD_WORDS},
+        {{2, 32768, 4, 1, 0, 8, 0, 1}, G1_BAD_WORDS}, {{2, 16, 3, 1, 0, 8, 0, 1}, G1_BAD_BUFFER},
+        {{2, 16, 9, 1, 0, 8, 0, 1}, G1_BAD_BUFFER}, {{2, 16, 4, 0, 0, 8, 0, 1}, G1_BAD_MUTATORS},
+        {{2, 16, 4, 65, 0, 8, 0, 1}, G1_BAD_MUTATORS}, {{2, 16, 4, 1, 0, 12, 0, 1}, G1_BAD_CARD},
+        {{2, 16, 4, 1, 0, 32, 0, 1}, G1_BAD_CARD}, {{2, 16, 4, 1, 0, 8, 65537, 1}, G1_BAD_GLOBALS},
+        {{2, 16, 4, 1, 0, 8, 0, 0}, G1_BAD_REGISTERS}, {{2, 16, 4, 64, 0, 8, 0, 65536}, G1_BAD_ROOTS},
+    };
+    g1_heap heap = G1_HEAP_NONE;
+    for (size_t i = 0; i < sizeof cases / sizeof *cases; i++) is_code("g1_new", g1_new(&heap, &cases[i].sizes), cases[i].code);
+    is("no heap", g1_get(&heap, 0, 0, 0, 0), G1_NO_HEAP, 0, 0);
+    is("no heap", g1_pause(&heap, 0), G1_NO_HEAP, 0, 0);
+    is("no heap", g1_free_regions(&heap), G1_NO_HEAP, 0, 0);
+    is("no heap", g1_name(&heap, 0, 0), G1_NO_HEAP, 0, 0);
+    g1_free(&heap);
+}
+
+static void refuse_numbers(g1_heap *h)
+{
+    is("mutator", g1_new_object(h, 2, 0, 1, 1), G1_NO_STEP, 0, 0);
+    is("register", g1_new_object(h, 0, 4, 1, 1), G1_NO_STEP, 0, 0);
+    is("weaks", g1_new_weak(h, 0, 0, 1, 256, 1), G1_NO_STEP, 0, 0);
+    is("register", g1_get(h, 0, 4, 0, 0), G1_NO_STEP, 0, 0);
+    is("register", g1_get(h, 0, 0, UINT32_MAX, 0), G1_NO_STEP, 0, 0);
+    is("register", g1_put(h, 0, 0, 0, 4), G1_NO_STEP, 0, 0);
+    is("register", g1_put(h, 0, G1_NIL_REGISTER, 0, 0), G1_NO_STEP, 0, 0);
+    is("register", g1_move(h, 0, 0, G1_NIL_REGISTER), G1_NO_STEP, 0, 0);
+    is("global", g1_load(h, 0, 0, 3), G1_NO_STEP, 0, 0);
+    is("global", g1_save(h, 0, 3, 0), G1_NO_STEP, 0, 0);
+    is("register", g1_save(h, 0, 0, G1_NIL_REGISTER), G1_NO_STEP, 0, 0);
+    is("register", g1_scope(h, 0, 4), G1_NO_STEP, 0, 0);
+    is("register", g1_name(h, 0, 4), G1_NO_STEP, 0, 0);
+    is("mutator", g1_name(h, 2, 0), G1_NO_STEP, 0, 0);
+    is("too big", g1_new_object(h, 0, 0, UINT32_MAX, UINT32_MAX), G1_TOO_BIG, 0, 0);
+    is("too big", g1_new_object(h, 0, 0, 63, 0), G1_TOO_BIG, 0, 0);
+}
+
+static void steps(g1_heap *h, uint64_t name)
+{
+    is("new", g1_new_object(h, 0, 0, 1, 1), G1_NAME, name, 0);
+    is("newweak", g1_new_weak(h, 0, 1, 1, 2, 0), G1_NAME, name + 1, 0);
+    is("read", g1_read(h, 0, 0, 0), G1_WORD, 0, 0);
+    is("write", g1_write(h, 0, 0, 0, UINT64_MAX), G1_DONE, 0, 0);
+    is("read", g1_read(h, 0, 0, 0), G1_WORD, UINT64_MAX, 0);
+    is("read", g1_read(h, 0, 0, 1), G1_NO_FIELD, 0, 0);
+    is("read", g1_read(h, 0, 2, 0), G1_NIL, 0, 0);
+    is("get", g1_get(h, 0, 2, 0, 0), G1_NIL_VALUE, 0, 0);
+    is("put", g1_put(h, 0, 0, 0, 1), G1_DONE, 0, 0);
+    is("get", g1_get(h, 0, 2, 0, 0), G1_NAME, name + 1, 0);
+    is("name", g1_name(h, 0, 2), G1_NAME, name + 1, 0);
+    is("name", g1_name(h, 0, 3), G1_NIL_VALUE, 0, 0);
+    is("putweak", g1_put_weak(h, 0, 1, 1, 0), G1_DONE, 0, 0);
+    is("getweak", g1_get_weak(h, 0, 3, 2, 1), G1_NAME, name, 0);
+    is("getweak", g1_get_weak(h, 0, 3, 2, 0), G1_NIL_VALUE, 0, 0);
+    is("weaks", g1_weaks(h, 0, 1), G1_WORD, 2, 0);
+    is("shape", g1_shape(h, 0, 0), G1_SHAPE, 1, 1);
+    is("save", g1_save(h, 0, 2, 0), G1_DONE, 0, 0);
+    is("load", g1_load(h, 1, 3, 2), G1_NAME, name, 0);
+    is("load", g1_load(h, 1, 3, 1), G1_NIL_VALUE, 0, 0);
+    is("move", g1_move(h, 0, 3, 1), G1_DONE, 0, 0);
+    is("drop", g1_drop(h, 0, 1), G1_DONE, 0, 0);
+    is("scope", g1_scope(h, 0, 1), G1_DONE, 0, 0);
+    is("name", g1_name(h, 0, 3), G1_NIL_VALUE, 0, 0);
+    is("name", g1_name(h, 0, 0), G1_NAME, name, 0);
+}
+
+/* The heap has 4 regions of 16 words and buffers of 8. Two objects stand in it, of 4 and of 5 words: each has a buffer, in one region. */
+static void collect(g1_heap *h, uint64_t name)
+{
+    is("free regions", g1_free_regions(h), G1_NUMBER, 3, 0);
+    is("used words", g1_used_words(h), G1_NUMBER, 16, 0);
+    is("live words", g1_live_words(h), G1_NUMBER, 16, 0);
+    is("mark", g1_mark(h, 1), G1_NOT_MARKING, 0, 0);
+    is("remark", g1_remark(h), G1_NOT_MARKING, 0, 0);
+    is("begin", g1_begin(h), G1_DONE, 0, 0);
+    is("begin", g1_begin(h), G1_MARK_RUNNING, 0, 0);
+    is("cleanup", g1_cleanup(h), G1_MARK_RUNNING, 0, 0);
+    is("marking", g1_marking(h), G1_NUMBER, 1, 0);
+    is("grey", g1_grey(h), G1_NUMBER, 1, 0);
+    is("mark", g1_mark(h, 1), G1_SCANNED, 1, 0);
+    is("mark", g1_mark(h, 9), G1_SCANNED, 1, 0);
+    is("grey", g1_grey(h), G1_NUMBER, 0, 0);
+    is("remark", g1_remark(h), G1_MARKED, 2, 0);
+    is("marking", g1_marking(h), G1_NUMBER, 0, 0);
+    is("live words", g1_live_words(h), G1_NUMBER, 9, 0);
+    is("cleanup", g1_cleanup(h), G1_RECLAIMED, 0, 0);
+    is("queued", g1_queued(h), G1_NUMBER, 0, 0);
+    is("refine", g1_refine(h, 5), G1_REFINED, 0, 0);
+    is("pause", g1_pause(h, 16), G1_MOVED, 9, 1);
+    is("free regions", g1_free_regions(h), G1_NUMBER, 3, 0);
+    is("used words", g1_used_words(h), G1_NUMBER, 9, 0);
+    is("read", g1_read(h, 0, 0, 0), G1_WORD, UINT64_MAX, 0);
+    is("new", g1_new_object(h, 0, 1, 24, 6), G1_NAME, name + 2, 0);
+    is("new", g1_new_object(h, 0, 2, 16, 0), G1_FULL, 0, 0);
+    is("globals", g1_globals(h), G1_NUMBER, 3, 0);
+    is("registers", g1_registers(h), G1_NUMBER, 4, 0);
+}
+
+int main(void)
+{
+    g1_sizes sizes = {4, 16, 8, 2, 0, 8, 3, 4};
+    g1_heap one = G1_HEAP_NONE, other = G1_HEAP_NONE;
+    refuse_sizes();
+    is_code("g1_new", g1_new(&one, &sizes), G1_DONE);
+    is_code("g1_new", g1_new(&one, &sizes), G1_HEAP_LIVE);
+    sizes.first_name = UINT64_MAX - 4;
+    is_code("g1_new", g1_new(&other, &sizes), G1_DONE);
+    refuse_numbers(&one);
+    steps(&one, 0), steps(&other, UINT64_MAX - 4);
+    collect(&other, UINT64_MAX - 4), collect(&one, 0);
+    is("new", g1_new_object(&other, 1, 0, 0, 0), G1_NAME, UINT64_MAX - 1, 0);
+    is("names spent", g1_new_object(&other, 1, 1, 0, 0), G1_NAMES_SPENT, 0, 0);
+    g1_free(&one);
+    is("no heap", g1_read(&one, 0, 0, 0), G1_NO_HEAP, 0, 0);
+    is("the other heap", g1_read(&other, 0, 0, 0), G1_WORD, UINT64_MAX, 0);
+    is_code("g1_new", g1_new(&one, &sizes), G1_DONE);
+    g1_free(&one), g1_free(&one), g1_free(&other);
+    if (failed == 0) puts("all calls answered as the header has it");
+    return failed != 0;
+}

@@ -1,0 +1,86 @@
+/* Random calls on heaps of random sizes, one number in sixteen out of any range. Prints a hash of all answers, and how many of each code
+   there were: behind the same header two libraries print the same.
+
+     random_calls [HEAPS [CALLS]]      400 heaps and 5,000 calls on each where they are left out */
+#include <g1heap.h>
+#include <stdio.h>
+#include <stdlib.h>
+
+static uint64_t seed = 88172645463325252u, hash = 14695981039346656037u, codes[64];
+
+static uint32_t draw(void)
+{
+    seed ^= seed << 13, seed ^= seed >> 7, seed ^= seed << 17;
+    return (uint32_t)(seed >> 16);
+}
+/* A number below a bound, or sometimes any. */
+static uint32_t below(uint32_t bound) { return draw() % 16 == 0 ? draw() >> draw() % 32 : bound == 0 ? 0 : draw() % bound; }
+static uint32_t within(uint32_t bound) { return draw() % bound; }
+
+static void note(uint64_t number) { hash = (hash ^ number) * 1099511628211u; }
+static void note_answer(g1_answer answer)
+{
+    note(answer.code), note(answer.first), note(answer.second);
+    codes[answer.code < 64 ? answer.code : 63]++;
+}
+
+static g1_answer step_of_mutator(g1_heap *h, const g1_sizes *s)
+{
+    uint32_t m = below(s->mutators), a = below(s->registers), b = below(s->registers), i = below(4), g = below(s->globals);
+    switch (draw() % 24) {
+    case 0: case 1: case 2: case 3: case 4: return g1_new_object(h, m, a, below(5), below(4));
+    case 5: return g1_new_object(h, m, a, below(2 * s->words), below(9));
+    case 6: return g1_new_weak(h, m, a, below(3), below(4), below(3));
+    case 7: case 8: case 9: return g1_get(h, m, a, b, i);
+    case 10: case 11: case 12: case 13: return g1_put(h, m, a, i, draw() % 8 == 0 ? G1_NIL_REGISTER : b);
+    case 14: return g1_read(h, m, a, i);
+    case 15: return g1_write(h, m, a, i, seed);
+    case 16: return g1_move(h, m, a, b);
+    case 17: return draw() % 4 == 0 ? g1_scope(h, m, a) : g1_drop(h, m, a);
+    case 18: return g1_load(h, m, a, g);
+    case 19: return g1_save(h, m, g, a);
+    case 20: return draw() % 2 == 0 ? g1_shape(h, m, a) : g1_weaks(h, m, a);
+    case 21: return g1_get_weak(h, m, a, b, i);
+    case 22: return g1_put_weak(h, m, a, i, draw() % 8 == 0 ? G1_NIL_REGISTER : b);
+    default: return g1_name(h, m, a);
+    }
+}
+
+static g1_answer step_of_collector(g1_heap *h)
+{
+    switch (draw() % 12) {
+    case 0: return g1_begin(h);
+    case 1: return g1_mark(h, below(20));
+    case 2: return g1_remark(h);
+    case 3: return g1_cleanup(h);
+    case 4: return g1_refine(h, below(20));
+    case 5: return g1_pause(h, below(200));
+    case 6: return g1_free_regions(h);
+    case 7: return g1_used_words(h);
+    case 8: return g1_live_words(h);
+    case 9: return draw() % 2 == 0 ? g1_marking(h) : g1_grey(h);
+    case 10: return g1_queued(h);
+    default: return draw() % 2 == 0 ? g1_globals(h) : g1_registers(h);
+    }
+}
+
+int main(int count, char **words)
+{
+    int heaps = count > 1 ? atoi(words[1]) : 400, calls = count > 2 ? atoi(words[2]) : 5000;
+    for (int k = 0; k < heaps; k++) {
+        g1_heap heap = G1_HEAP_NONE;
+        g1_sizes sizes;
+        sizes.regions = 2 + within(30), sizes.words = 16u << within(5), sizes.buffer = 4 + within(sizes.words / 2 - 3);
+        sizes.mutators = 1 + within(4), sizes.first_name = draw() % 4 == 0 ? UINT64_MAX - within(500) : 0, sizes.card = 8u << within(2);
+        sizes.globals = within(6), sizes.registers = 1 + within(9);
+        if (draw() % 8 == 0) sizes.regions = below(1100), sizes.card = below(70), sizes.mutators = below(70);
+        note(g1_new(&heap, &sizes));
+        for (int i = 0; i < calls; i++) note_answer(draw() % 6 == 0 ? step_of_collector(&heap) : step_of_mutator(&heap, &sizes));
+        g1_free(&heap);
+    }
+    printf("hash %016llx", (unsigned long long)hash);
+    for (int i = 0; i < 64; i++)
+        if (codes[i] != 0) printf(", %d: %llu", i, (unsigned long long)codes[i]);
+    printf("\n");
+    return 0;
+}

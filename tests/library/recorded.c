@@ -1,0 +1,86 @@
+/* g1_record: the lines that a function of the program gets, where they begin and where they end. */
+#include <g1heap_record.h>
+#include <stdio.h>
+#include <string.h>
+
+static char got[4096];
+static size_t left_lines;
+
+static int take(void *context, const char *line, size_t bytes)
+{
+    size_t *length = (size_t *)context;
+    if (left_lines-- == 0) return 1;
+    memcpy(got + *length, line, bytes);
+    *length += bytes;
+    got[*length] = 0;
+    return 0;
+}
+
+static const char wanted[] =
+    "heap3 4 16 8 1 7 8 1 2\n"
+    "1 0 new r0 1 1 = #7\n"
+    "2 0 newweak r1 0 2 0 = #8\n"
+    "3 0 put r0 0 r1 = ok\n"
+    "4 0 put r0 0 nil = ok\n"
+    "5 0 putweak r1 1 r0 = ok\n"
+    "6 0 putweak r1 0 nil = ok\n"
+    "7 0 getweak r0 r1 1 = #7\n"
+    "8 0 weaks r1 = 2\n"
+    "9 0 write r0 0 18446744073709551615 = ok\n"
+    "10 0 read r0 0 = 18446744073709551615\n"
+    "11 0 read r0 1 = refused 2 NoField\n"
+    "12 0 shape r0 = 1 1\n"
+    "13 0 save g0 r0 = ok\n"
+    "14 0 move r1 r0 = ok\n"
+    "15 0 drop r0 = ok\n"
+    "16 0 get r0 r0 0 = refused 1 Nil\n"
+    "17 0 scope r0 = ok\n"
+    "18 0 load r1 g0 = #7\n"
+    "19 0 get r0 r1 0 = nil\n"
+    "20 0 new r0 60 3 = refused 4 TooBig\n"
+    "21 0 new r0 40 8 = refused 3 Full\n"
+    "22 gc mark 3 = refused 7 NotMarking\n"
+    "23 gc begin = ok\n"
+    "24 gc begin = refused 6 MarkRunning\n"
+    "25 gc mark 1 = ok\n"
+    "26 gc remark = marked 1\n"
+    "27 gc cleanup = reclaimed 0\n"
+    "28 gc refine 2 = refined 0\n"
+    "29 gc pause 9 = moved 1 4\n";
+
+static void steps(g1_heap *h)
+{
+    g1_new_object(h, 0, 0, 1, 1), g1_new_weak(h, 0, 1, 0, 2, 0);
+    g1_put(h, 0, 0, 0, 1), g1_put(h, 0, 0, 0, G1_NIL_REGISTER);
+    g1_put_weak(h, 0, 1, 1, 0), g1_put_weak(h, 0, 1, 0, G1_NIL_REGISTER), g1_get_weak(h, 0, 0, 1, 1), g1_weaks(h, 0, 1);
+    g1_write(h, 0, 0, 0, UINT64_MAX), g1_read(h, 0, 0, 0), g1_read(h, 0, 0, 1), g1_shape(h, 0, 0);
+    g1_read(h, 0, 9, 0), g1_name(h, 0, 0), g1_free_regions(h);      /* no step has these numbers; readers are no steps */
+    g1_save(h, 0, 0, 0), g1_move(h, 0, 1, 0), g1_drop(h, 0, 0), g1_get(h, 0, 0, 0, 0), g1_scope(h, 0, 0);
+    g1_load(h, 0, 1, 0), g1_get(h, 0, 0, 1, 0), g1_new_object(h, 0, 0, 60, 3), g1_new_object(h, 0, 0, 40, 8);
+    g1_mark(h, 3), g1_begin(h), g1_begin(h), g1_mark(h, 1), g1_remark(h), g1_cleanup(h), g1_refine(h, 2), g1_pause(h, 9);
+}
+
+int main(void)
+{
+    g1_sizes sizes = {4, 16, 8, 1, 7, 8, 1, 2};
+    g1_heap heap = G1_HEAP_NONE, other = G1_HEAP_NONE;
+    size_t length = 0, before;
+    if (g1_record(&heap, take, &length) != G1_NO_HEAP) return 1;
+    if (g1_new(&heap, &sizes) != G1_DONE || g1_new(&other, &sizes) != G1_DONE) return 1;
+    left_lines = 30;
+    if (g1_record(&heap, take, &length) != G1_DONE) return 1;
+    steps(&heap), steps(&other);
+    if (strcmp(got, wanted) != 0) {
+        fprintf(stderr, "the record is\n%s", got);
+        return 1;
+    }
+    before = length;
+    g1_drop(&heap, 0, 0);                                           /* isn't taken, and is the last that is offered */
+    left_lines = 9;
+    g1_drop(&heap, 0, 0);
+    if (length != before || g1_record(&heap, take, &length) != G1_NO_STEP || g1_record(&heap, NULL, NULL) != G1_DONE) return 1;
+    if (g1_record(&other, take, &length) != G1_NO_STEP) return 1;
+    g1_free(&heap), g1_free(&other);
+    puts("each line is as it should be");
+    return 0;
+}

@@ -1,0 +1,250 @@
+// Every call of include/g1heap.h over the plain heap. It stands in for lib/libg1heap.a where the two are compared, and where the proved one
+// isn't built yet.
+//
+//   g++ -O2 -std=c++17 -Iinclude -c tools/plain_library.cpp -o plain_library.o
+//   cc -Iinclude clients/hello.c plain_library.o -lstdc++
+
+#include <cstdint>
+#include <new>
+
+#include "../include/g1heap.h"
+#include "plain_heap.h"
+
+namespace {
+
+using plain::Number;
+using plain::Word;
+
+constexpr Number largest_weaks = 255;
+
+// The plain heap with what a policy of collection reads.
+class Heap : public plain::Heap {
+public:
+    using plain::Heap::Heap;
+
+    bool has_mutator(Number mutator) const { return mutator < sizes_.mutators; }
+    bool has_register(Number number) const { return number < sizes_.registers; }
+    bool has_global(Number number) const { return number < sizes_.globals; }
+    Number globals() const { return sizes_.globals; }
+    Number registers() const { return sizes_.registers; }
+    Number free_regions() const { return free_count_; }
+    bool is_marking() const { return marking_; }
+    bool has_grey() const { return marking_ && grey_.next(finger_) != plain::nowhere; }
+    Number queued() const { return queue_count_; }
+    plain::Reply name(Number mutator, Number number) const { return named(root(mutator, number)); }
+
+    Word used_words() const {
+        Word sum = 0;
+        for (Number region = 0; region < sizes_.regions; ++region) sum += regions_[region].top - bottom(region);
+        return sum;
+    }
+
+    Word live_words() const {
+        Word sum = 0;
+        for (const plain::Region& region : regions_) sum += live_bound(region);
+        return sum;
+    }
+};
+
+Heap& in(const g1_heap* heap) { return *static_cast<Heap*>(heap->at); }
+
+g1_answer answer(std::uint32_t code, Word first = 0) { return {code, 0, first}; }
+
+// The forms of replies are numbered as the codes of answers are, and refusals in their order from G1_NIL on.
+g1_answer told(const plain::Reply& reply) {
+    if (reply.form == plain::Form::Refused) return answer(G1_NIL - 1 + std::uint32_t(reply.refusal));
+    if (reply.form == plain::Form::Moved) return {G1_MOVED, std::uint32_t(reply.first), reply.second};
+    return {std::uint32_t(reply.form), std::uint32_t(reply.second), reply.first};
+}
+
+// Does a step of a mutator, where there is a heap that has the mutator and both registers.
+template <class Step>
+g1_answer mutate(g1_heap* heap, Number mutator, Number one, Number other, Step step) {
+    if (!heap->live) return answer(G1_NO_HEAP);
+    Heap& plain = in(heap);
+    if (!plain.has_mutator(mutator) || !plain.has_register(one) || !plain.has_register(other)) return answer(G1_NO_STEP);
+    return told(step(plain));
+}
+
+// Does a step of the collector, where there is a heap.
+template <class Step>
+g1_answer collect(g1_heap* heap, Step step) {
+    return heap->live ? told(step(in(heap))) : answer(G1_NO_HEAP);
+}
+
+// Tells a number of a heap, where there is one.
+template <class Reader>
+g1_answer number(const g1_heap* heap, Reader reader) {
+    return heap->live ? answer(G1_NUMBER, reader(in(heap))) : answer(G1_NO_HEAP);
+}
+
+// The first size that doesn't suit, G1_DONE where all do.
+std::uint32_t size_fault(const g1_sizes& sizes) {
+    if (sizes.regions < 2 || sizes.regions > 1024) return G1_BAD_REGIONS;
+    if (sizes.words < 16 || sizes.words > 16384 || (sizes.words & (sizes.words - 1)) != 0) return G1_BAD_WORDS;
+    if (sizes.regions * sizes.words > 16777216) return G1_BAD_WORDS;
+    if (sizes.buffer < 4 || sizes.buffer > sizes.words / 2) return G1_BAD_BUFFER;
+    if (sizes.mutators < 1 || sizes.mutators > 64) return G1_BAD_MUTATORS;
+    if (sizes.card < 8 || sizes.card > 64 || (sizes.card & (sizes.card - 1)) != 0 || sizes.card > sizes.words) return G1_BAD_CARD;
+    if (sizes.globals > 65536) return G1_BAD_GLOBALS;
+    if (sizes.registers < 1 || sizes.registers > 65536) return G1_BAD_REGISTERS;
+    if (sizes.globals + sizes.registers * sizes.mutators > 1048576) return G1_BAD_ROOTS;
+    return G1_DONE;
+}
+
+}  // namespace
+
+extern "C" {
+
+std::uint32_t g1_new(g1_heap* heap, const g1_sizes* sizes) {
+    if (heap->live) return G1_HEAP_LIVE;
+    if (std::uint32_t fault = size_fault(*sizes)) return fault;
+    plain::Sizes plain{sizes->regions, sizes->words, sizes->buffer, sizes->mutators, sizes->first_name, sizes->card, sizes->globals,
+                       sizes->registers, 3};
+    try {
+        heap->at = new Heap(plain);
+    } catch (const std::bad_alloc&) {
+        return G1_NO_MEMORY;
+    }
+    heap->live = true;
+    return G1_DONE;
+}
+
+void g1_free(g1_heap* heap) {
+    if (heap->live) delete &in(heap);
+    *heap = G1_HEAP_NONE;
+}
+
+g1_answer g1_new_object(g1_heap* heap, std::uint32_t mutator, std::uint32_t to, std::uint32_t pointers, std::uint32_t values) {
+    return mutate(heap, mutator, to, to, [=](Heap& plain) { return plain.make(mutator, to, pointers, 0, values); });
+}
+
+g1_answer g1_new_weak(g1_heap* heap, std::uint32_t mutator, std::uint32_t to, std::uint32_t pointers, std::uint32_t weaks,
+                      std::uint32_t values) {
+    if (heap->live && weaks > largest_weaks) return answer(G1_NO_STEP);
+    return mutate(heap, mutator, to, to, [=](Heap& plain) { return plain.make(mutator, to, pointers, weaks, values); });
+}
+
+g1_answer g1_get(g1_heap* heap, std::uint32_t mutator, std::uint32_t to, std::uint32_t object, std::uint32_t field) {
+    return mutate(heap, mutator, to, object, [=](Heap& plain) { return plain.get(mutator, to, object, field); });
+}
+
+g1_answer g1_put(g1_heap* heap, std::uint32_t mutator, std::uint32_t object, std::uint32_t field, std::uint32_t from) {
+    if (from == G1_NIL_REGISTER)
+        return mutate(heap, mutator, object, object, [=](Heap& plain) { return plain.put_nil(mutator, object, field); });
+    return mutate(heap, mutator, object, from, [=](Heap& plain) { return plain.put(mutator, object, field, from); });
+}
+
+g1_answer g1_read(g1_heap* heap, std::uint32_t mutator, std::uint32_t object, std::uint32_t field) {
+    return mutate(heap, mutator, object, object, [=](Heap& plain) { return plain.read(mutator, object, field); });
+}
+
+g1_answer g1_write(g1_heap* heap, std::uint32_t mutator, std::uint32_t object, std::uint32_t field, std::uint64_t value) {
+    return mutate(heap, mutator, object, object, [=](Heap& plain) { return plain.write(mutator, object, field, value); });
+}
+
+g1_answer g1_move(g1_heap* heap, std::uint32_t mutator, std::uint32_t to, std::uint32_t from) {
+    return mutate(heap, mutator, to, from, [=](Heap& plain) { return plain.move(mutator, to, from); });
+}
+
+g1_answer g1_drop(g1_heap* heap, std::uint32_t mutator, std::uint32_t to) {
+    return mutate(heap, mutator, to, to, [=](Heap& plain) { return plain.drop(mutator, to); });
+}
+
+g1_answer g1_load(g1_heap* heap, std::uint32_t mutator, std::uint32_t to, std::uint32_t global) {
+    if (heap->live && !in(heap).has_global(global)) return answer(G1_NO_STEP);
+    return mutate(heap, mutator, to, to, [=](Heap& plain) { return plain.load(mutator, to, global); });
+}
+
+g1_answer g1_save(g1_heap* heap, std::uint32_t mutator, std::uint32_t global, std::uint32_t from) {
+    if (heap->live && !in(heap).has_global(global)) return answer(G1_NO_STEP);
+    return mutate(heap, mutator, from, from, [=](Heap& plain) { return plain.save(mutator, global, from); });
+}
+
+g1_answer g1_shape(g1_heap* heap, std::uint32_t mutator, std::uint32_t object) {
+    return mutate(heap, mutator, object, object, [=](Heap& plain) { return plain.shape(mutator, object); });
+}
+
+g1_answer g1_get_weak(g1_heap* heap, std::uint32_t mutator, std::uint32_t to, std::uint32_t object, std::uint32_t slot) {
+    return mutate(heap, mutator, to, object, [=](Heap& plain) { return plain.get_weak(mutator, to, object, slot); });
+}
+
+g1_answer g1_put_weak(g1_heap* heap, std::uint32_t mutator, std::uint32_t object, std::uint32_t slot, std::uint32_t from) {
+    if (from == G1_NIL_REGISTER)
+        return mutate(heap, mutator, object, object, [=](Heap& plain) { return plain.put_weak_nil(mutator, object, slot); });
+    return mutate(heap, mutator, object, from, [=](Heap& plain) { return plain.put_weak(mutator, object, slot, from); });
+}
+
+g1_answer g1_weaks(g1_heap* heap, std::uint32_t mutator, std::uint32_t object) {
+    return mutate(heap, mutator, object, object, [=](Heap& plain) { return plain.weaks(mutator, object); });
+}
+
+g1_answer g1_scope(g1_heap* heap, std::uint32_t mutator, std::uint32_t first) {
+    return mutate(heap, mutator, first, first, [=](Heap& plain) { return plain.scope(mutator, first); });
+}
+
+g1_answer g1_begin(g1_heap* heap) {
+    return collect(heap, [](Heap& plain) { return plain.begin(); });
+}
+
+g1_answer g1_mark(g1_heap* heap, std::uint32_t objects) {
+    g1_answer marked = collect(heap, [=](Heap& plain) { return plain.mark(objects); });
+    if (marked.code == G1_DONE) marked.code = G1_SCANNED;
+    return marked;
+}
+
+g1_answer g1_remark(g1_heap* heap) {
+    return collect(heap, [](Heap& plain) { return plain.remark(); });
+}
+
+g1_answer g1_cleanup(g1_heap* heap) {
+    return collect(heap, [](Heap& plain) { return plain.cleanup(); });
+}
+
+g1_answer g1_refine(g1_heap* heap, std::uint32_t cards) {
+    return collect(heap, [=](Heap& plain) { return plain.refine(cards); });
+}
+
+g1_answer g1_pause(g1_heap* heap, std::uint32_t words) {
+    return collect(heap, [=](Heap& plain) { return plain.pause(words); });
+}
+
+g1_answer g1_free_regions(const g1_heap* heap) {
+    return number(heap, [](const Heap& plain) { return plain.free_regions(); });
+}
+
+g1_answer g1_used_words(const g1_heap* heap) {
+    return number(heap, [](const Heap& plain) { return plain.used_words(); });
+}
+
+g1_answer g1_live_words(const g1_heap* heap) {
+    return number(heap, [](const Heap& plain) { return plain.live_words(); });
+}
+
+g1_answer g1_marking(const g1_heap* heap) {
+    return number(heap, [](const Heap& plain) { return plain.is_marking(); });
+}
+
+g1_answer g1_grey(const g1_heap* heap) {
+    return number(heap, [](const Heap& plain) { return plain.has_grey(); });
+}
+
+g1_answer g1_queued(const g1_heap* heap) {
+    return number(heap, [](const Heap& plain) { return plain.queued(); });
+}
+
+g1_answer g1_globals(const g1_heap* heap) {
+    return number(heap, [](const Heap& plain) { return plain.globals(); });
+}
+
+g1_answer g1_registers(const g1_heap* heap) {
+    return number(heap, [](const Heap& plain) { return plain.registers(); });
+}
+
+g1_answer g1_name(const g1_heap* heap, std::uint32_t mutator, std::uint32_t of) {
+    if (!heap->live) return answer(G1_NO_HEAP);
+    if (!in(heap).has_mutator(mutator) || !in(heap).has_register(of)) return answer(G1_NO_STEP);
+    return told(in(heap).name(mutator, of));
+}
+
+}  // extern "C"
