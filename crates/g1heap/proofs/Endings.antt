@@ -2,10 +2,10 @@
 use Rattle.std.proofs.Common.{◌≡◌, ◌≢◌, ◌<◌, ◌≤◌, ◌⊎◌, ℕ, Err, arith, refl, inl, inr}
 use Rattle.std.specs.Prelude.{◌↔◌, Ok, Result, IfOk, IfErr}
 use Rattle.heap_words.specs.declared.config.Config.{Config}
-use Rattle.object_graph.specs.Actors.{StepList, EventList}
-use Rattle.object_graph.specs.declared.fault.RunFault.{RunFault}
-use Rattle.object_graph.specs.declared.fault.RunFault.TheVariants as runs
-use Rattle.object_graph.specs.Faults.{IsRunFault}
+use Rattle.heap_steps.specs.Actors.{StepList, EventList}
+use Rattle.heap_steps.specs.declared.fault.RunFault.{RunFault}
+use Rattle.heap_steps.specs.declared.fault.RunFault.TheVariants as runs
+use Rattle.heap_steps.specs.Faults.{IsRunFault}
 use Rattle.mutators.specs.Interleavings.{IsRunOf, IsThreadsFault}
 use Rattle.mutators.specs.Draws.{scripted_actors, drawn_by}
 use Rattle.jobs.proofs.Endings.{Comes}

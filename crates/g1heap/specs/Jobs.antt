@@ -7,7 +7,7 @@ use Rattle.jobs.specs.Explanations.{PerformsExplain}
 use Rattle.heap_view.specs.Views.{PerformsView}
 use Rattle.jobs.specs.FaultLines.{TellsLine}
 use Rattle.jobs.specs.declared.faults.JobFault.TheVariants.{Run}
-use Rattle.object_graph.specs.declared.fault.RunFault.TheVariants.{NoMemory}
+use Rattle.heap_steps.specs.declared.fault.RunFault.TheVariants.{NoMemory}
 use Rattle.command_line.specs.declared.Task.{Task}
 use Rattle.command_line.specs.declared.Task.TheVariants.{Script, Check, View}
 

@@ -1,11 +1,11 @@
 -- A script that is run in an order, and what is told of it.
 use Rattle.std.specs.Prelude.{◌≡◌, ℕ, ◌<◌, ◌≤◌, ⊤, Result}
 use Rattle.heap_words.specs.declared.config.Config.{Config}
-use Rattle.object_graph.specs.Actors.{StepList, EventList}
+use Rattle.heap_steps.specs.Actors.{StepList, EventList}
 use Rattle.script_text.specs.Watched.{Reader, Writer}
-use Rattle.object_graph.specs.Faults.{IsRunFault}
-use Rattle.object_graph.specs.declared.fault.RunFault.{RunFault}
-use Rattle.object_graph.specs.declared.fault.RunFault.TheVariants as runs
+use Rattle.heap_steps.specs.Faults.{IsRunFault}
+use Rattle.heap_steps.specs.declared.fault.RunFault.{RunFault}
+use Rattle.heap_steps.specs.declared.fault.RunFault.TheVariants as runs
 use Rattle.mutators.specs.Interleavings.{IsRunOf, IsThreadsFault}
 use Rattle.mutators.specs.Draws.{scripted_actors, drawn_by}
 use Rattle.command_line.specs.declared.Order.{Order}

@@ -1,13 +1,13 @@
 //! A script whose lines are done in their order, answered by its record.
 
 ghost use Rattle.std.specs.Prelude.{IfOk, IfErr};
-ghost use Rattle.object_graph.specs.Faults.{IsRunFault};
+ghost use Rattle.heap_steps.specs.Faults.{IsRunFault};
 ghost use Rattle.step_core.specs.Histories.{IsRunInOrder};
 ghost use Rattle.g1heap.specs.Runs.{EndsIn};
 
 use command_line::Order;
+use heap_steps::{Plan, Record, RunFault};
 use jobs::{JobFault, answer, read_plan};
-use object_graph::{Plan, Record, RunFault};
 use script_text::{WatchedReader, WatchedWriter};
 use std::alloc::Global;
 use std::io::{Read, Write};

@@ -4,12 +4,12 @@ use Rattle.heap_words.specs.declared.config.Config.{Config}
 use Rattle.heap_words.specs.declared.config.NewFault.{NewFault}
 use Rattle.heap_words.specs.Configs.{Suits, IsNewFault, registers_of}
 use Rattle.heap_model.specs.Graph.{Graph, register_place}
-use Rattle.object_graph.specs.Actors.{IsStep}
+use Rattle.heap_steps.specs.Actors.{IsStep}
 use Rattle.object_graph.specs.State.{State, root_at, first_state}
-use Rattle.object_graph.specs.declared.step.Step.{Step}
-use Rattle.object_graph.specs.declared.step.Reply.{Reply}
-use Rattle.object_graph.specs.declared.step.Reply.TheVariants as replies
-use Rattle.object_graph.specs.declared.step.Refusal.TheVariants as refusals
+use Rattle.heap_steps.specs.declared.step.Step.{Step}
+use Rattle.heap_steps.specs.declared.step.Reply.{Reply}
+use Rattle.heap_steps.specs.declared.step.Reply.TheVariants as replies
+use Rattle.heap_steps.specs.declared.step.Refusal.TheVariants as refusals
 use Rattle.step_core.specs.Stands.{CoreState, Stands, ShowsGraph, name_in}
 use Rattle.step_core.specs.Answers.{Follows, IsFullStep}
 use Rattle.step_core.specs.Reclaimed.{IsReclaimed}

@@ -3,8 +3,8 @@
 ghost use Rattle.std.specs.Prelude.{◌≡◌};
 ghost use Rattle.g1heap_c.specs.Numbers as spec;
 
+use heap_steps::{Refusal, Reply};
 use heap_words::config::NewFault;
-use object_graph::{Refusal, Reply};
 
 /// What came of a call: its code, and up to two numbers with it.
 #[repr(C)]

@@ -1,13 +1,13 @@
 //! The collector's steps, a call for each. Any numbers will do.
 
 ghost use Rattle.std.specs.Prelude.{◌≡◌};
-ghost use Rattle.object_graph.specs.declared.step.Step.TheVariants as steps;
-ghost use Rattle.object_graph.specs.declared.step.CollectorStep.TheVariants as collector;
+ghost use Rattle.heap_steps.specs.declared.step.Step.TheVariants as steps;
+ghost use Rattle.heap_steps.specs.declared.step.CollectorStep.TheVariants as collector;
 ghost use Rattle.g1heap_c.specs.Steps.{Takes, plain, scanned};
 
 use crate::answer::Answer;
 use crate::heap::{Heap, mark, take};
-use object_graph::{CollectorStep, Step};
+use heap_steps::{CollectorStep, Step};
 use std::alloc::Global;
 
 /// Marking begins.

@@ -1,16 +1,16 @@
 //! A heap as C keeps it, and what each call does with it.
 
 ghost use Rattle.std.specs.Prelude.{◌≡◌, ◌↔◌, Some, None, IsTrue, true};
-ghost use Rattle.object_graph.specs.Actors.{IsStep};
-ghost use Rattle.object_graph.specs.declared.step.Step.TheVariants as steps;
-ghost use Rattle.object_graph.specs.declared.step.CollectorStep.TheVariants as collector;
+ghost use Rattle.heap_steps.specs.Actors.{IsStep};
+ghost use Rattle.heap_steps.specs.declared.step.Step.TheVariants as steps;
+ghost use Rattle.heap_steps.specs.declared.step.CollectorStep.TheVariants as collector;
 ghost use Rattle.g1heap_c.specs.Held.{is_held};
 ghost use Rattle.g1heap_c.specs.Steps.{Steps, Takes, TakesNone, plain, scanned};
 
 use crate::answer::{Answer, answer_of, counted, no_heap, no_step};
 use crate::handle::Handle;
 use crate::loose::Loose;
-use object_graph::{Action, CollectorStep, Op, Step};
+use heap_steps::{Action, CollectorStep, Op, Step};
 use std::alloc::Global;
 use std::mem::replace;
 use step_core::Core;

@@ -1,14 +1,14 @@
 //! The mutators' steps, a call for each. Any numbers will do.
 
 ghost use Rattle.std.specs.Prelude.{◌≡◌, ◌<◌, ◌≤◌};
-ghost use Rattle.object_graph.specs.declared.step.Action.TheVariants as actions;
+ghost use Rattle.heap_steps.specs.declared.step.Action.TheVariants as actions;
 ghost use Rattle.g1heap_c.specs.Numbers as spec;
 ghost use Rattle.g1heap_c.specs.Numbers.{by};
 ghost use Rattle.g1heap_c.specs.Steps.{Takes, TakesNone, plain};
 
 use crate::answer::Answer;
 use crate::heap::{Heap, take, take_none};
-use object_graph::{Action, Counts, GlobalRoot, Op, Register, Step};
+use heap_steps::{Action, Counts, GlobalRoot, Op, Register, Step};
 use std::alloc::Global;
 
 #[inline(always)]

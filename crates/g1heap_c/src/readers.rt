@@ -9,7 +9,7 @@ ghost use Rattle.g1heap_c.specs.Steps.{Tells, IsNumber, IsSign, IsMarking, IsNam
 
 use crate::answer::{Answer, answer_of, no_heap, no_step, number};
 use crate::heap::{Heap, handle_of, take_out};
-use object_graph::{Register, Reply};
+use heap_steps::{Register, Reply};
 use std::alloc::Global;
 use step_core::Core;
 

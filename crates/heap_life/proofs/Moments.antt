@@ -8,13 +8,13 @@ use Rattle.std.proofs.lemmas.Option.{get_or_from_slice_get}
 use Rattle.step_core.specs.Fresh.{fresh_core}
 use Rattle.object_graph.specs.State.{first_state}
 use Rattle.heap_words.specs.declared.config.Config.{Config}
-use Rattle.object_graph.specs.Actors.{IsStep, IsStepOf}
-use Rattle.object_graph.specs.declared.step.Actor.{Actor}
-use Rattle.object_graph.specs.declared.step.Actor.TheVariants as actors
-use Rattle.object_graph.specs.declared.step.Step.{Step}
-use Rattle.object_graph.specs.declared.step.Step.TheVariants as steps
+use Rattle.heap_steps.specs.Actors.{IsStep, IsStepOf}
+use Rattle.heap_steps.specs.declared.step.Actor.{Actor}
+use Rattle.heap_steps.specs.declared.step.Actor.TheVariants as actors
+use Rattle.heap_steps.specs.declared.step.Step.{Step}
+use Rattle.heap_steps.specs.declared.step.Step.TheVariants as steps
 use Rattle.step_core.proofs.Cores.Following.{grown}
-use Rattle.object_graph.specs.declared.step.Event.{Event}
+use Rattle.heap_steps.specs.declared.step.Event.{Event}
 use Rattle.object_graph.specs.State.{State}
 use Rattle.step_core.specs.Stands.{CoreState, Stands, IsCore}
 use Rattle.step_core.specs.Histories.{Runs, RunsTo}

@@ -1,10 +1,10 @@
 -- The moments of a run.
 use Rattle.std.specs.Prelude.{◌≡◌, ℕ, ◌+◌, ◌≤◌, ◌⊎◌, Bool, true, false, min, All, List, [], ◌∷◌, ◌++◌, length, map, take}
 use Rattle.heap_words.specs.declared.config.Config.{Config}
-use Rattle.object_graph.specs.declared.step.Event.{Event}
-use Rattle.object_graph.specs.declared.step.Reply.{Reply}
-use Rattle.object_graph.specs.declared.step.Reply.TheVariants.{Moved}
-use Rattle.object_graph.specs.Actors.{EventList}
+use Rattle.heap_steps.specs.declared.step.Event.{Event}
+use Rattle.heap_steps.specs.declared.step.Reply.{Reply}
+use Rattle.heap_steps.specs.declared.step.Reply.TheVariants.{Moved}
+use Rattle.heap_steps.specs.Actors.{EventList}
 use Rattle.object_graph.specs.State.{State, first_state}
 use Rattle.object_graph.specs.Run.{IsRun}
 use Rattle.step_core.specs.Stands.{CoreState, Stands}

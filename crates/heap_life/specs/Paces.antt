@@ -1,9 +1,9 @@
 -- Which moments of a run are shown.
 use Rattle.std.specs.Prelude.{◌≡◌, ℕ, suc, ◌+◌, ◌%◌, ◌⊎◌, Bool, true, false, List, [], ◌∷◌, Some, length, take, slice_get}
-use Rattle.object_graph.specs.declared.step.Step.{Step}
-use Rattle.object_graph.specs.declared.step.Step.TheVariants as steps
-use Rattle.object_graph.specs.declared.step.CollectorStep.TheVariants as collector
-use Rattle.object_graph.specs.declared.step.Event.{Event}
+use Rattle.heap_steps.specs.declared.step.Step.{Step}
+use Rattle.heap_steps.specs.declared.step.Step.TheVariants as steps
+use Rattle.heap_steps.specs.declared.step.CollectorStep.TheVariants as collector
+use Rattle.heap_steps.specs.declared.step.Event.{Event}
 use Rattle.heap_life.specs.declared.pace.Pace.{Pace}
 
 -- whether a step counts: a collector's, and `mark` and `refine` only where the pace says so

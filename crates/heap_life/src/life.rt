@@ -9,7 +9,7 @@
 ghost use Rattle.std.specs.Prelude.{◌≡◌, ◌≤◌, ◌<◌, ◌+◌, ◌%◌, ◌==◌, ◌||◌, All, IfOk, IfErr, ℕ, [], OnOk, Some, length, map, slice_get};
 ghost use Rattle.heap_words.specs.Configs.{Suits};
 ghost use Rattle.heap_words.specs.declared.config.Config.{Config};
-ghost use Rattle.object_graph.specs.Actors.{AreEvents, IsStep, IsStepOf};
+ghost use Rattle.heap_steps.specs.Actors.{AreEvents, IsStep, IsStepOf};
 ghost use Rattle.object_graph.specs.State.{State};
 ghost use Rattle.step_core.specs.Stands.{Stands};
 ghost use Rattle.step_core.specs.Histories.{Runs, step_in, actor_in, actor_of, IsRunFault};
@@ -19,8 +19,8 @@ ghost use Rattle.heap_life.specs.Lives.{moved_by, IsMomentFrom, HasMoment, Notes
 use crate::moment_text::Teller;
 use crate::numbers::{Numbers, numbers_of};
 use crate::pace::{Pace, pace_of};
+use heap_steps::{Actor, Event, Plan, Record, Reply, Step};
 use heap_words::config::Config;
-use object_graph::{Actor, Event, Plan, Record, Reply, Step};
 use std::alloc::{AllocError, Global};
 use step_core::{Core, RunFault, run_fault};
 

@@ -2,7 +2,7 @@
 
 ghost use Rattle.std.specs.Prelude.{◌≡◌, ◌<◌, ◌%◌, ◌==◌, ◌&&◌, ◌≤◌, length};
 
-use object_graph::{CollectorStep, Event, Step};
+use heap_steps::{CollectorStep, Event, Step};
 
 /// Which moments of a run are shown: the first and the last; each that so many events are a multiple of; and those before and behind each
 /// step of the collector that counts, one of so many.

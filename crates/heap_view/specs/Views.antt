@@ -1,10 +1,10 @@
 -- A script that is read, and the view of its heap that is written.
 use Rattle.std.specs.Prelude.{◌≡◌, ◌≢◌, ℕ, ⊤, List, Result, Ok, Err}
-use Rattle.object_graph.specs.Actors.{StepList, EventList}
+use Rattle.heap_steps.specs.Actors.{StepList, EventList}
 use Rattle.script_text.specs.Lines.{script_of, FailsBy}
 use Rattle.script_text.specs.Watched.{Reader, Writer, FailsToGive, Takes, TakesPart, Stays}
 use Rattle.script_text.specs.declared.fault.WriteFault.TheVariants as writes
-use Rattle.object_graph.specs.Faults.{IsRunFault}
+use Rattle.heap_steps.specs.Faults.{IsRunFault}
 use Rattle.step_core.specs.Histories.{IsRunInOrder}
 use Rattle.jobs.specs.Runs.{IsScriptRun, GivesAll, Tells}
 use Rattle.jobs.specs.declared.faults.JobFault.{JobFault}

@@ -33,17 +33,15 @@ mod names;
 mod pieces;
 mod region_lines;
 mod root_lines;
-mod view;
 #[cfg(test)]
 mod tests;
-
-pub use names::name_at;
+mod view;
 
 use heap_words::config::Format;
+pub use names::name_at;
 use pieces::{write_number, write_text};
 use std::io::{Result, Write};
 use step_core::Core;
-
 pub use view::view_script;
 
 /// Writes what the first line has behind the first name.

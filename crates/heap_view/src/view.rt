@@ -3,14 +3,14 @@
 //! The view is gathered in memory, so that nothing is written before it is whole.
 
 ghost use Rattle.std.specs.Prelude.{◌≡◌, IfOk, IfErr};
-ghost use Rattle.object_graph.specs.Actors.{EventList};
-ghost use Rattle.object_graph.specs.Faults.{IsRunFault};
+ghost use Rattle.heap_steps.specs.Actors.{EventList};
+ghost use Rattle.heap_steps.specs.Faults.{IsRunFault};
 ghost use Rattle.step_core.specs.Histories.{IsRunInOrder};
 ghost use Rattle.heap_view.specs.Views.{Views};
 
 use crate::write_view;
+use heap_steps::{Plan, RunFault};
 use jobs::{JobFault, read_plan};
-use object_graph::{Plan, RunFault};
 use script_text::{WatchedReader, WatchedWriter, write_bytes};
 use std::alloc::Global;
 use std::io::{Read, Write};

@@ -3,12 +3,12 @@ use Rattle.std.proofs.Common.{◌≡◌, List, Err, subst, refl, sym}
 use Rattle.std.specs.Prelude.{Ok, Result, ⊤, IfOk, IfErr}
 use Rattle.heap_words.specs.declared.config.Config.{Config}
 use Rattle.heap_words.specs.Configs.{Suits}
-use Rattle.object_graph.specs.Actors.{StepList, EventList}
-use Rattle.object_graph.specs.declared.step.Step.{Step}
+use Rattle.heap_steps.specs.Actors.{StepList, EventList}
+use Rattle.heap_steps.specs.declared.step.Step.{Step}
 use Rattle.script_text.specs.Watched.{Reader, Writer}
-use Rattle.object_graph.specs.declared.fault.RunFault.{RunFault}
-use Rattle.object_graph.specs.declared.fault.RunFault.TheVariants as runs
-use Rattle.object_graph.specs.Faults.{IsRunFault}
+use Rattle.heap_steps.specs.declared.fault.RunFault.{RunFault}
+use Rattle.heap_steps.specs.declared.fault.RunFault.TheVariants as runs
+use Rattle.heap_steps.specs.Faults.{IsRunFault}
 use Rattle.jobs.specs.declared.faults.JobFault.{JobFault}
 use Rattle.jobs.specs.declared.faults.JobFault.TheVariants.{Read, Line, Run, Judge, Write}
 use Rattle.jobs.specs.Runs.{ReadsPlan, Answers, Ends}

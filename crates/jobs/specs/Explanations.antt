@@ -2,7 +2,7 @@
 use Rattle.std.specs.Prelude.{◌≡◌, ◌≢◌, ◌⊎◌, ℕ, ◌+◌, ◌-◌, List, [], ◌∷◌, ◌++◌, Result, Ok, Err, Some, codes, slice_get}
 use Rattle.std.specs.Fmt.{decimal}
 use Rattle.heap_words.specs.Configs.{Suits}
-use Rattle.object_graph.specs.Actors.{EventList}
+use Rattle.heap_steps.specs.Actors.{EventList}
 use Rattle.object_graph.specs.State.{first_state}
 use Rattle.object_graph.specs.Reasons.{Finds, verdict_of}
 use Rattle.object_graph.specs.declared.given.Given.{Given}
@@ -11,9 +11,9 @@ use Rattle.object_graph.specs.declared.judge.Finding.{Finding}
 use Rattle.object_graph.specs.declared.judge.Finding.TheVariants.{Allowed, Refused}
 use Rattle.object_graph.specs.declared.judge.Verdict.{Verdict}
 use Rattle.object_graph.specs.declared.judge.Verdict.TheVariants.{Yes, No}
-use Rattle.object_graph.specs.declared.step.CollectorStep.{CollectorStep}
-use Rattle.object_graph.specs.declared.step.CollectorStep.TheVariants as collector
-use Rattle.object_graph.specs.declared.step.Event.{Event}
+use Rattle.heap_steps.specs.declared.step.CollectorStep.{CollectorStep}
+use Rattle.heap_steps.specs.declared.step.CollectorStep.TheVariants as collector
+use Rattle.heap_steps.specs.declared.step.Event.{Event}
 use Rattle.script_text.specs.Events.{record_of}
 use Rattle.script_text.specs.Faults.{fault_reason}
 use Rattle.script_text.specs.Lines.{FailsBy, pieces_of}

@@ -6,8 +6,8 @@ use Rattle.script_text.specs.Faults.{fault_text}
 use Rattle.script_text.specs.Watched.{Writer, Takes, TakesPart}
 use Rattle.script_text.specs.declared.fault.WriteFault.{WriteFault}
 use Rattle.script_text.specs.declared.fault.WriteFault.TheVariants as writes
-use Rattle.object_graph.specs.declared.fault.RunFault.{RunFault}
-use Rattle.object_graph.specs.declared.fault.RunFault.TheVariants as runs
+use Rattle.heap_steps.specs.declared.fault.RunFault.{RunFault}
+use Rattle.heap_steps.specs.declared.fault.RunFault.TheVariants as runs
 use Rattle.jobs.specs.declared.faults.JobFault.{JobFault}
 use Rattle.jobs.specs.declared.faults.JobFault.TheVariants.{Read, Line, Run, Judge, Write}
 use Rattle.jobs.specs.declared.faults.JudgeFault.{JudgeFault}

@@ -2,12 +2,12 @@
 use Rattle.std.specs.Prelude.{◌≡◌, ℕ, ⊤, List, Result, Ok, Err}
 use Rattle.std.specs.Io.KnownBytes.{IsAtEnd}
 use Rattle.heap_words.specs.declared.config.Config.{Config}
-use Rattle.object_graph.specs.Actors.{StepList, EventList}
+use Rattle.heap_steps.specs.Actors.{StepList, EventList}
 use Rattle.script_text.specs.Lines.{script_of, FailsBy}
 use Rattle.script_text.specs.Records.{record_text}
 use Rattle.script_text.specs.Watched.{Reader, Writer, Gives, FailsToGive, Takes, FailsToTake, Stays}
 use Rattle.script_text.specs.declared.fault.WriteFault.{WriteFault}
-use Rattle.object_graph.specs.declared.fault.RunFault.{RunFault}
+use Rattle.heap_steps.specs.declared.fault.RunFault.{RunFault}
 use Rattle.jobs.specs.FaultLines.{TellsLine}
 use Rattle.jobs.specs.declared.faults.JobFault.{JobFault}
 use Rattle.jobs.specs.declared.faults.JobFault.TheVariants.{Read, Line, Run, Judge, Write}

@@ -3,7 +3,7 @@ use Rattle.std.specs.Prelude.{◌≡◌, ◌≢◌, ℕ, List, [], ◌∷◌, �
 use Rattle.std.specs.Fmt.{decimal}
 use Rattle.heap_words.specs.declared.config.Config.{Config}
 use Rattle.heap_words.specs.Configs.{Suits, IsFirstFault}
-use Rattle.object_graph.specs.Actors.{EventList}
+use Rattle.heap_steps.specs.Actors.{EventList}
 use Rattle.object_graph.specs.State.{State, first_state}
 use Rattle.object_graph.specs.Run.{IsRun, BreaksAt}
 use Rattle.object_graph.specs.Judged.{Judged}

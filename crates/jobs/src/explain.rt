@@ -10,7 +10,8 @@ ghost use Rattle.jobs.specs.Explanations.{form_text, given_text, reason_line, fi
 
 use crate::faults::{JobFault, JudgeFault};
 use crate::judge::{conclude_verdict, put_verdict};
-use object_graph::{CollectorStep, Event, Finding, Given, Verdict, explain};
+use heap_steps::{CollectorStep, Event};
+use object_graph::{Finding, Given, Verdict, explain};
 use script_text::{
     Kind, LineFault, REASON_ROOM, WatchedReader, WatchedWriter, WriteFault, parse_record,
     put_event_text, put_fault_reason, put_number, put_reply, put_text, read_text, write_bytes,

@@ -5,8 +5,8 @@ ghost use Rattle.script_text.specs.Watched.{Takes, TakesPart};
 ghost use Rattle.jobs.specs.FaultLines.{sizes_words, run_words, judge_words, write_words, fault_words, fault_line};
 ghost use Rattle.jobs.specs.Runs.{Tells};
 
+use heap_steps::RunFault;
 use heap_words::config::NewFault;
-use object_graph::RunFault;
 use script_text::{
     LineFault, ReadFault, WatchedWriter, WriteFault, put_fault, put_text, write_bytes,
 };

@@ -3,7 +3,7 @@
 ghost use Rattle.jobs.specs.Runs.{ReadsPlan, Answers};
 
 use crate::faults::JobFault;
-use object_graph::{Plan, Record, RunFault};
+use heap_steps::{Plan, Record, RunFault};
 use script_text::{WatchedReader, WatchedWriter, parse, read_text, write_record};
 use std::alloc::Global;
 use std::io::{Read, Write};

@@ -3,9 +3,9 @@ use Rattle.std.proofs.Common.{◌≡◌, ◌≢◌, ◌<◌, ◌≤◌, ◌⊎�
 use Rattle.std.specs.Prelude.{◌↔◌, Err, IfErr, Ok, Result}
 use Rattle.heap_words.specs.Configs.{Suits}
 use Rattle.heap_words.specs.declared.config.Config.{Config}
-use Rattle.object_graph.specs.declared.fault.RunFault.{RunFault}
-use Rattle.object_graph.specs.declared.fault.RunFault.TheVariants as faults
-use Rattle.object_graph.specs.Faults.{IsRunFault}
+use Rattle.heap_steps.specs.declared.fault.RunFault.{RunFault}
+use Rattle.heap_steps.specs.declared.fault.RunFault.TheVariants as faults
+use Rattle.heap_steps.specs.Faults.{IsRunFault}
 use Rattle.mutators.specs.Interleavings.{IsThreadsFault}
 
 pub not_bad : (config : Config) (f : RunFault) → IsRunFault config f → f ≡ faults.BadWorkers → ⊥

@@ -3,7 +3,7 @@ use Rattle.std.proofs.Common.{◌≡◌, ◌≢◌, ℕ, ◌+◌, ◌<◌, ◌�
 use Rattle.std.specs.Prelude.{slice_set}
 use Rattle.std.proofs.lemmas.Bool.{cases_eq}
 use Rattle.std.proofs.lemmas.List.{length-map, get_or-map, map-set}
-use Rattle.object_graph.specs.declared.step.Step.{Step}
+use Rattle.heap_steps.specs.declared.step.Step.{Step}
 use Rattle.step_core.specs.Histories.{actor_of}
 use Rattle.mutators.specs.Scripts.{same_actor, scripted, lines_of}
 use Rattle.mutators.proofs.Lines.{lines_same, lines_other}

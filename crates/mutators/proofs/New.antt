@@ -6,12 +6,12 @@ use Rattle.std.proofs.lemmas.List.{length-map}
 use Rattle.heap_words.specs.declared.config.Config.{Config}
 use Rattle.heap_words.specs.Configs.{Suits}
 use Rattle.heap_words.proofs.Limits.{few_mutators}
-use Rattle.object_graph.specs.Actors.{IsStep}
+use Rattle.heap_steps.specs.Actors.{IsStep}
 use Rattle.object_graph.specs.State.{first_state}
-use Rattle.object_graph.specs.declared.step.Actor.{Actor}
-use Rattle.object_graph.specs.declared.step.Actor.TheVariants.{Mutator, Collector, Marker, Refiner}
-use Rattle.object_graph.specs.declared.step.Step.{Step}
-use Rattle.object_graph.specs.declared.step.Event.{Event}
+use Rattle.heap_steps.specs.declared.step.Actor.{Actor}
+use Rattle.heap_steps.specs.declared.step.Actor.TheVariants.{Mutator, Collector, Marker, Refiner}
+use Rattle.heap_steps.specs.declared.step.Step.{Step}
+use Rattle.heap_steps.specs.declared.step.Event.{Event}
 use Rattle.step_core.specs.Stands.{CoreState, Stands, IsCore}
 use Rattle.step_core.specs.Fresh.{fresh_core}
 use Rattle.step_core.specs.Histories.{actor_of, RunsTo}

@@ -2,18 +2,18 @@
 use Rattle.std.proofs.Common.{◌≡◌, List, [], ◌∷◌, ◌++◌}
 use Rattle.std.specs.Prelude.{◌↔◌}
 use Rattle.heap_words.specs.declared.config.Config.{Config}
-use Rattle.object_graph.specs.Actors.{AreEvents, IsStepOf}
-use Rattle.object_graph.specs.declared.step.Actor.{Actor}
-use Rattle.object_graph.specs.declared.step.Actor.TheVariants.{Mutator, Collector, Marker, Refiner}
-use Rattle.object_graph.specs.declared.step.Step.{Step}
-use Rattle.object_graph.specs.declared.step.Event.{Event}
+use Rattle.heap_steps.specs.Actors.{AreEvents, IsStepOf}
+use Rattle.heap_steps.specs.declared.step.Actor.{Actor}
+use Rattle.heap_steps.specs.declared.step.Actor.TheVariants.{Mutator, Collector, Marker, Refiner}
+use Rattle.heap_steps.specs.declared.step.Step.{Step}
+use Rattle.heap_steps.specs.declared.step.Event.{Event}
 use Rattle.object_graph.specs.State.{State, first_state}
 use Rattle.step_core.specs.Stands.{CoreState, Stands, IsCore, IsWhole}
 use Rattle.step_core.specs.Fresh.{fresh_core}
 use Rattle.step_core.specs.Histories.{RunsTo, Runs}
 use Rattle.cards.specs.Cards.{ListsDirtyOnce}
-use Rattle.object_graph.specs.declared.step.Reply.TheVariants as replies
-use Rattle.object_graph.specs.declared.step.Refusal.TheVariants as refusals
+use Rattle.heap_steps.specs.declared.step.Reply.TheVariants as replies
+use Rattle.heap_steps.specs.declared.step.Refusal.TheVariants as refusals
 use Rattle.step_core.specs.Answers.{Follows, IsFullStep}
 use Rattle.step_core.specs.Cycle.{Does}
 use Rattle.step_core.proofs.Cores.Following.{goes_on, none_yet}

@@ -2,9 +2,9 @@
 use Rattle.std.proofs.Common.{◌≡◌, ℕ, ◌<◌, ◌≤◌, List, [], ◌∷◌, ap, sym, ◌∙◌, subst, arith, get_or, zero, suc, take, length, refl}
 use Rattle.std.specs.Prelude.{slice_index}
 use Rattle.heap_words.specs.declared.config.Config.{Config}
-use Rattle.object_graph.specs.Actors.{StepList, EventList}
-use Rattle.object_graph.specs.declared.step.Step.{Step}
-use Rattle.object_graph.specs.declared.step.Event.{Event}
+use Rattle.heap_steps.specs.Actors.{StepList, EventList}
+use Rattle.heap_steps.specs.declared.step.Step.{Step}
+use Rattle.heap_steps.specs.declared.step.Event.{Event}
 use Rattle.step_core.specs.Histories.{RunsTo}
 use Rattle.step_core.proofs.Cores.Following.{history_is_run}
 use Rattle.mutators.specs.Scripts.{scripted, steps_of, lines_of, AreOwn}

@@ -5,10 +5,10 @@ use Rattle.std.proofs.lemmas.List.{map-append}
 use Rattle.std.proofs.lemmas.List.Elements.{filter-append, All-append}
 use Rattle.std.proofs.lemmas.List.FromFn.{length-map-range_with_len, get_or-map-range_with_len}
 use Rattle.std.proofs.lemmas.Option.{slice_get-get_or}
-use Rattle.object_graph.specs.declared.step.Actor.{Actor}
-use Rattle.object_graph.specs.declared.step.Actor.TheVariants.{Mutator, Collector}
-use Rattle.object_graph.specs.declared.step.Step.{Step}
-use Rattle.object_graph.specs.declared.step.Event.{Event}
+use Rattle.heap_steps.specs.declared.step.Actor.{Actor}
+use Rattle.heap_steps.specs.declared.step.Actor.TheVariants.{Mutator, Collector}
+use Rattle.heap_steps.specs.declared.step.Step.{Step}
+use Rattle.heap_steps.specs.declared.step.Event.{Event}
 use Rattle.rand_pcg.specs.Lcg.{Lcg}
 use Rattle.mutators.specs.declared.journal.Turn.{Turn}
 use Rattle.mutators.specs.declared.journal.Turn.TheVariants.{Done, Idle, End}

@@ -1,10 +1,10 @@
 -- The schedule that a generator draws.
 use Rattle.std.specs.Prelude.{◌≡◌, ℕ, zero, suc, ◌+◌, ◌-◌, ◌%◌, Bool, List, [], ◌∷◌, length, map, filter, slice_set, slice_index, if◌then◌else◌, nat_lt, ◌++◌, ◌<◌}
 use Rattle.std.specs.List.{range_with_len}
-use Rattle.object_graph.specs.declared.step.Actor.{Actor}
-use Rattle.object_graph.specs.declared.step.Step.{Step}
-use Rattle.object_graph.specs.declared.step.Event.{Event}
-use Rattle.object_graph.specs.Actors.{StepList}
+use Rattle.heap_steps.specs.declared.step.Actor.{Actor}
+use Rattle.heap_steps.specs.declared.step.Step.{Step}
+use Rattle.heap_steps.specs.declared.step.Event.{Event}
+use Rattle.heap_steps.specs.Actors.{StepList}
 use Rattle.rand_pcg.specs.Lcg.{Lcg, started, increment_of}
 use Rattle.rand_pcg.specs.Pcg.{multiplier_64, pcg32}
 use Rattle.mutators.specs.Scripts.{scripted, lines_of, is_scripted}

@@ -2,16 +2,16 @@
 use Rattle.std.specs.Prelude.{◌≡◌, ℕ, ◌≤◌, Bool, true, List, All, IsTrue, nat_lt}
 use Rattle.heap_words.specs.declared.config.Config.{Config}
 use Rattle.heap_words.specs.Configs.{Suits, IsFirstFault}
-use Rattle.object_graph.specs.Actors.{StepList, EventList}
+use Rattle.heap_steps.specs.Actors.{StepList, EventList}
 use Rattle.object_graph.specs.State.{State, first_state}
 use Rattle.object_graph.specs.Run.{IsRun}
-use Rattle.object_graph.specs.declared.step.Actor.{Actor}
-use Rattle.object_graph.specs.declared.step.Actor.TheVariants.{Mutator, Collector, Marker, Refiner}
-use Rattle.object_graph.specs.declared.step.Step.{Step}
-use Rattle.object_graph.specs.declared.step.Event.{Event}
+use Rattle.heap_steps.specs.declared.step.Actor.{Actor}
+use Rattle.heap_steps.specs.declared.step.Actor.TheVariants.{Mutator, Collector, Marker, Refiner}
+use Rattle.heap_steps.specs.declared.step.Step.{Step}
+use Rattle.heap_steps.specs.declared.step.Event.{Event}
 use Rattle.step_core.specs.Histories.{RunsFromNew}
-use Rattle.object_graph.specs.declared.fault.RunFault.{RunFault}
-use Rattle.object_graph.specs.declared.fault.RunFault.TheVariants as faults
+use Rattle.heap_steps.specs.declared.fault.RunFault.{RunFault}
+use Rattle.heap_steps.specs.declared.fault.RunFault.TheVariants as faults
 use Rattle.mutators.specs.Scripts.{scripted, steps_of, lines_of, AreOwn}
 use Rattle.mutators.specs.Journals.{JournalState, script_at}
 

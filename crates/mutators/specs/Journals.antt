@@ -1,11 +1,11 @@
 -- What a journal shows, and what every journal keeps.
 use Rattle.std.specs.Prelude.{◌≡◌, ℕ, ◌+◌, ◌≤◌, List, [], length, take, slice_index, slice_index_or, All}
 use Rattle.heap_words.specs.declared.config.Config.{Config}
-use Rattle.object_graph.specs.Actors.{IsStep}
-use Rattle.object_graph.specs.declared.step.Actor.{Actor}
-use Rattle.object_graph.specs.declared.step.Step.{Step}
-use Rattle.object_graph.specs.declared.step.Reply.{Reply}
-use Rattle.object_graph.specs.declared.step.Event.{Event}
+use Rattle.heap_steps.specs.Actors.{IsStep}
+use Rattle.heap_steps.specs.declared.step.Actor.{Actor}
+use Rattle.heap_steps.specs.declared.step.Step.{Step}
+use Rattle.heap_steps.specs.declared.step.Reply.{Reply}
+use Rattle.heap_steps.specs.declared.step.Event.{Event}
 use Rattle.step_core.specs.Stands.{CoreState}
 use Rattle.step_core.specs.Histories.{RunsTo, actor_of}
 use Rattle.mutators.specs.Scripts.{scripted, steps_of, AreOwn}

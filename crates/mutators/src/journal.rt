@@ -4,13 +4,13 @@ ghost use Rattle.std.specs.Prelude.{◌≡◌, false, Some, ℕ, ◌+◌, ◌<�
 ghost use Rattle.heap_words.specs.Configs.{Suits, IsNewFault};
 ghost use Rattle.heap_words.specs.declared.config.Config.{Config};
 ghost use Rattle.step_core.specs.Cycle.{Does};
-ghost use Rattle.object_graph.specs.Actors.{IsStep, AreSteps};
+ghost use Rattle.heap_steps.specs.Actors.{IsStep, AreSteps};
 ghost use Rattle.step_core.specs.Histories.{actor_of, RunsTo};
 ghost use Rattle.mutators.specs.Scripts.{scripted, lines_of, is_scripted};
 ghost use Rattle.mutators.specs.Journals.{event_of};
 
+use heap_steps::{Actor, CollectorStep, Event, Plan, Record, Reply, Step};
 use heap_words::config::{Config, NewFault};
-use object_graph::{Actor, CollectorStep, Event, Plan, Record, Reply, Step};
 use std::alloc::{AllocError, Global};
 use std::marker::Model;
 use step_core::Core;

@@ -5,7 +5,8 @@
 //! ```rust
 //! use heap_words::config::{Config, Format};
 //! use mutators::{Journal, Turn, run_threads, run_threads_seen, simulate};
-//! use object_graph::{Action, Actor, CollectorStep, Op, Plan, Register, Step, Verdict, check};
+//! use heap_steps::{Action, Actor, CollectorStep, Op, Plan, Register, Step};
+//! use object_graph::{Verdict, check};
 //!
 //! let config = Config { format: Format::V1, regions: 4, words: 16, buffer: 8, mutators: 1, first_name: 0 };
 //! let drop = Op { mutator: 0, action: Action::Drop { register: Register { number: 0 } } };

@@ -7,14 +7,14 @@
 
 ghost use Rattle.std.specs.Prelude.{◌≡◌, ℕ, ◌+◌, ◌<◌, ◌≤◌, ◌↔◌, ◌≢◌, ◌⊎◌, false, OnOk, IfOk, IfErr, length, take, drop, ◌++◌, if◌then◌else◌};
 ghost use Rattle.rand_pcg.specs.Pcg.{pcg32};
-ghost use Rattle.object_graph.specs.Faults.{IsRunFault};
+ghost use Rattle.heap_steps.specs.Faults.{IsRunFault};
 ghost use Rattle.mutators.specs.Scripts.{scripted, is_scripted};
 ghost use Rattle.mutators.specs.Turns.{SamePlan, IsCast};
 ghost use Rattle.mutators.specs.Draws.{open_places, lefts_of, pick, Picks, LeavesScripts, IsRound, has_background, scripted_actors, drawn_by, rest_of};
 ghost use Rattle.mutators.specs.Interleavings.{IsAsked, AreAsked, IsRunOf};
 
 use crate::journal::Journal;
-use object_graph::{Actor, Plan, Record, RunFault, run_fault};
+use heap_steps::{Actor, Plan, Record, RunFault, run_fault};
 use rand_core::utils::NextWord;
 use rand_pcg::Lcg64Xsh32;
 use std::alloc::{AllocError, Global};

@@ -2,14 +2,14 @@
 
 ghost use Rattle.std.specs.Prelude.{◌≡◌, ℕ, ◌+◌, ◌^◌, ◌<◌, All, ⊤, [], length, if◌then◌else◌, IfSome, None};
 ghost use Rattle.heap_words.specs.declared.config.Format.TheVariants.{V1};
-ghost use Rattle.object_graph.specs.Actors.{StepList};
+ghost use Rattle.heap_steps.specs.Actors.{StepList};
 ghost use Rattle.mutators.specs.Turns.{IsCast};
 ghost use Rattle.mutators.specs.Interleavings.{IsAsked, IsOf};
 
 use crate::journal::{Journal, Turn};
 use crossbeam_queue::RuledArrayQueue;
 use crossbeam_queue::protocol::{Lesson, Outcome, Protocol, Split};
-use object_graph::Actor;
+use heap_steps::Actor;
 use std::marker::{Brand, PhantomData};
 use std::sync::ledger::{Book, Ledger, Share};
 

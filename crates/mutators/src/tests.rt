@@ -1,10 +1,9 @@
 //! Runs in threads and by drawn schedules.
 
 use crate::*;
+use heap_steps::{Action, Actor, CollectorStep, Op, Plan, Register, Reply, RunFault, Step};
 use heap_words::config::{Config, Format};
-use object_graph::{
-    Action, Actor, CollectorStep, Op, Plan, Register, Reply, RunFault, Step, Verdict, check,
-};
+use object_graph::{Verdict, check};
 use rand_core::utils::NextWord;
 use rand_pcg::Lcg64Xsh32;
 use std::alloc::{AllocError, Global};

@@ -18,7 +18,7 @@ ghost use Rattle.mutators.specs.Interleavings.{IsAsked, IsOf, IsRunOf, IsThreads
 use crate::journal::Journal;
 use crate::shared::{Below, Crew, Places, Shared};
 use crossbeam_queue::Pass;
-use object_graph::{Actor, Plan, Record, RunFault, run_fault};
+use heap_steps::{Actor, Plan, Record, RunFault, run_fault};
 use std::alloc::{AllocError, Global};
 use std::marker::Brand;
 use std::sync::atomic::{AtomicU64, Ordering};

@@ -4,10 +4,10 @@ use Rattle.std.proofs.Common.{◌≡◌, ◌⊎◌, Some, None, inl, inr}
 use Rattle.object_graph.specs.State.{State}
 use Rattle.object_graph.specs.Run.{ClearsBy, Collects}
 use Rattle.object_graph.specs.Sparing.{SparingCollects, kept_snapshot}
-use Rattle.object_graph.specs.declared.step.CollectorStep.{CollectorStep}
-use Rattle.object_graph.specs.declared.step.CollectorStep.TheVariants as collector
-use Rattle.object_graph.specs.declared.step.Reply.{Reply}
-use Rattle.object_graph.specs.declared.step.Reply.TheVariants as replies
+use Rattle.heap_steps.specs.declared.step.CollectorStep.{CollectorStep}
+use Rattle.heap_steps.specs.declared.step.CollectorStep.TheVariants as collector
+use Rattle.heap_steps.specs.declared.step.Reply.{Reply}
+use Rattle.heap_steps.specs.declared.step.Reply.TheVariants as replies
 
 -- two relations of states that are the same
 abbrev pub Both : (State → State → Type 0) → (State → State → Type 0) → Type 0

@@ -2,17 +2,17 @@
 use Rattle.std.proofs.Common.{◌≡◌, ℕ, ◌-◌, ◌^◌, Option, Some, None, Bool, true, false, cond, slice_get, Result, Ok, Err, refl, ap, ◌∙◌}
 use Rattle.heap_words.specs.Sizes.{size_of}
 use Rattle.std.specs.Prelude.{◌==◌, nat_lt, IfOk, OnErr}
-use Rattle.object_graph.specs.declared.step.Reply.{Reply}
-use Rattle.object_graph.specs.declared.step.Reply.TheVariants as replies
+use Rattle.heap_steps.specs.declared.step.Reply.{Reply}
+use Rattle.heap_steps.specs.declared.step.Reply.TheVariants as replies
 use Rattle.heap_model.specs.Graph.{Object, Graph, next_name}
 use Rattle.object_graph.specs.State.{root_at, register_place}
 use Rattle.object_graph.specs.Machine.{Outcome, refused, on_contents, on_name, on_field, made, act, outcome_of}
-use Rattle.object_graph.specs.declared.step.Action.{Action}
-use Rattle.object_graph.specs.declared.step.Action.TheVariants as actions
-use Rattle.object_graph.specs.declared.step.Counts.{Counts}
-use Rattle.object_graph.specs.declared.step.Op.{Op}
-use Rattle.object_graph.specs.declared.step.Register.{Register}
-use Rattle.object_graph.specs.declared.step.Refusal.TheVariants as refusals
+use Rattle.heap_steps.specs.declared.step.Action.{Action}
+use Rattle.heap_steps.specs.declared.step.Action.TheVariants as actions
+use Rattle.heap_steps.specs.declared.step.Counts.{Counts}
+use Rattle.heap_steps.specs.declared.step.Op.{Op}
+use Rattle.heap_steps.specs.declared.step.Register.{Register}
+use Rattle.heap_steps.specs.declared.step.Refusal.TheVariants as refusals
 
 on_contents_law : (P : Outcome → Type 0) (g : Graph) (o : Option Object) (f : Object → Outcome) → P (refused g refusals.Nil) → ((x : Object) → P (f x)) → P (on_contents g o f)
 on_contents_law P g None f nil each = nil

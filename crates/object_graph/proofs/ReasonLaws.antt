@@ -7,28 +7,28 @@ use Rattle.heap_words.specs.Sizes.{size_of}
 use Rattle.heap_words.specs.declared.config.Config.{Config}
 use Rattle.heap_model.specs.Graph.{Graph, Places, next_name}
 use Rattle.heap_model.specs.Weak.{cleared_graph}
-use Rattle.object_graph.specs.Actors.{IsStepOf, IsEvent}
-use Rattle.object_graph.specs.Roots.{IsOpAt}
+use Rattle.heap_steps.specs.Actors.{IsStepOf, IsEvent}
+use Rattle.heap_steps.specs.Roots.{IsOpAt}
 use Rattle.object_graph.specs.State.{State, IsSoundState, ForSnapshot, IsEarlier, first_state, places_of}
 use Rattle.object_graph.specs.Reached.{started, all_found, searched, flag_of}
 use Rattle.object_graph.specs.Machine.{Outcome, refused, made, act, outcome_of, reply_of}
 use Rattle.object_graph.specs.Run.{ForMutator, IsNew, Creates, ClearsBy, Collects, Happens, EventHappens, IsRun, snapshot_after}
 use Rattle.object_graph.specs.Judged.{Judged}
 use Rattle.object_graph.specs.Reasons.{IsGiven, MayStand, Refuses, Finds, verdict_of, Judging, HasTaken, TakesNext, SparingTakes}
-use Rattle.object_graph.specs.declared.step.Actor.{Actor}
-use Rattle.object_graph.specs.declared.step.Actor.TheVariants as actors
-use Rattle.object_graph.specs.declared.step.Action.{Action}
-use Rattle.object_graph.specs.declared.step.Action.TheVariants as actions
-use Rattle.object_graph.specs.declared.step.CollectorStep.{CollectorStep}
-use Rattle.object_graph.specs.declared.step.Counts.{Counts}
-use Rattle.object_graph.specs.declared.step.Op.{Op}
-use Rattle.object_graph.specs.declared.step.Register.{Register}
-use Rattle.object_graph.specs.declared.step.Event.{Event}
-use Rattle.object_graph.specs.declared.step.Step.{Step}
-use Rattle.object_graph.specs.declared.step.Step.TheVariants as steps
-use Rattle.object_graph.specs.declared.step.Reply.{Reply}
-use Rattle.object_graph.specs.declared.step.Reply.TheVariants as replies
-use Rattle.object_graph.specs.declared.step.Refusal.TheVariants as refusals
+use Rattle.heap_steps.specs.declared.step.Actor.{Actor}
+use Rattle.heap_steps.specs.declared.step.Actor.TheVariants as actors
+use Rattle.heap_steps.specs.declared.step.Action.{Action}
+use Rattle.heap_steps.specs.declared.step.Action.TheVariants as actions
+use Rattle.heap_steps.specs.declared.step.CollectorStep.{CollectorStep}
+use Rattle.heap_steps.specs.declared.step.Counts.{Counts}
+use Rattle.heap_steps.specs.declared.step.Op.{Op}
+use Rattle.heap_steps.specs.declared.step.Register.{Register}
+use Rattle.heap_steps.specs.declared.step.Event.{Event}
+use Rattle.heap_steps.specs.declared.step.Step.{Step}
+use Rattle.heap_steps.specs.declared.step.Step.TheVariants as steps
+use Rattle.heap_steps.specs.declared.step.Reply.{Reply}
+use Rattle.heap_steps.specs.declared.step.Reply.TheVariants as replies
+use Rattle.heap_steps.specs.declared.step.Refusal.TheVariants as refusals
 use Rattle.object_graph.specs.declared.given.Given.{Given}
 use Rattle.object_graph.specs.declared.given.Given.TheVariants as givens
 use Rattle.object_graph.specs.declared.judge.Finding.{Finding}

@@ -4,11 +4,11 @@ use Rattle.std.proofs.lemmas.List.{take_more}
 use Rattle.std.proofs.lemmas.Option.{slice_get-get_or}
 use Rattle.object_graph.specs.State.{State}
 use Rattle.object_graph.specs.Run.{EventHappens, IsRun, BreaksAt}
-use Rattle.object_graph.specs.declared.step.Event.{Event}
-use Rattle.object_graph.specs.declared.step.Actor.TheVariants as actors
-use Rattle.object_graph.specs.declared.step.Action.TheVariants as actions
-use Rattle.object_graph.specs.declared.step.Step.TheVariants as steps
-use Rattle.object_graph.specs.declared.step.Reply.TheVariants as replies
+use Rattle.heap_steps.specs.declared.step.Event.{Event}
+use Rattle.heap_steps.specs.declared.step.Actor.TheVariants as actors
+use Rattle.heap_steps.specs.declared.step.Action.TheVariants as actions
+use Rattle.heap_steps.specs.declared.step.Step.TheVariants as steps
+use Rattle.heap_steps.specs.declared.step.Reply.TheVariants as replies
 
 -- a run goes on by one event
 pub IsRun-more : (first : State) (es : List Event) (mid : State) (e : Event) (last : State) → IsRun first es mid → EventHappens mid e last → IsRun first (es ++ e ∷ []) last

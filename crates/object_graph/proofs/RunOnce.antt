@@ -5,15 +5,15 @@ use Rattle.heap_model.proofs.Cleared.{clears_once}
 use Rattle.object_graph.specs.State.{State}
 use Rattle.object_graph.specs.Machine.{Outcome, outcome_of}
 use Rattle.object_graph.specs.Run.{Collects, ClearsBy, Happens, EventHappens, IsRun, BreaksAt, Creates}
-use Rattle.object_graph.specs.declared.step.Op.{Op}
-use Rattle.object_graph.specs.declared.step.CollectorStep.{CollectorStep}
-use Rattle.object_graph.specs.declared.step.Step.{Step}
-use Rattle.object_graph.specs.declared.step.Step.TheVariants as steps
-use Rattle.object_graph.specs.declared.step.Event.{Event}
-use Rattle.object_graph.specs.declared.step.Reply.{Reply}
-use Rattle.object_graph.specs.declared.step.Reply.TheVariants as replies
+use Rattle.heap_steps.specs.declared.step.Op.{Op}
+use Rattle.heap_steps.specs.declared.step.CollectorStep.{CollectorStep}
+use Rattle.heap_steps.specs.declared.step.Step.{Step}
+use Rattle.heap_steps.specs.declared.step.Step.TheVariants as steps
+use Rattle.heap_steps.specs.declared.step.Event.{Event}
+use Rattle.heap_steps.specs.declared.step.Reply.{Reply}
+use Rattle.heap_steps.specs.declared.step.Reply.TheVariants as replies
 use Rattle.object_graph.proofs.Collected.{kind}
-use Rattle.object_graph.specs.declared.step.Refusal.TheVariants as refusals
+use Rattle.heap_steps.specs.declared.step.Refusal.TheVariants as refusals
 
 not_both : (old : State) (g : Graph) (o : Op) (reply : Reply) → (reply, g) ≡ outcome_of old.graph o → Creates old.graph o → reply ≡ replies.Refused refusals.Full → ⊥
 not_both old g o reply given creates full =

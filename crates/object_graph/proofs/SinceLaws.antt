@@ -15,16 +15,16 @@ use Rattle.object_graph.specs.Since.{IsKnown, IsSince, IsSinceState}
 use Rattle.object_graph.specs.Sparing.{HoldsKnown}
 use Rattle.object_graph.specs.Machine.{Outcome, refused, on_contents, on_name, on_field, stored, made, act, outcome_of}
 use Rattle.object_graph.specs.Run.{snapshot_after, Happens, IsRun}
-use Rattle.object_graph.specs.declared.step.Action.{Action}
-use Rattle.object_graph.specs.declared.step.Action.TheVariants as actions
-use Rattle.object_graph.specs.declared.step.Op.{Op}
-use Rattle.object_graph.specs.declared.step.Counts.{Counts}
-use Rattle.object_graph.specs.declared.step.Register.{Register}
-use Rattle.object_graph.specs.declared.step.Step.{Step}
-use Rattle.object_graph.specs.declared.step.Step.TheVariants as steps
-use Rattle.object_graph.specs.declared.step.Event.{Event}
-use Rattle.object_graph.specs.declared.step.Reply.{Reply}
-use Rattle.object_graph.specs.declared.step.Refusal.TheVariants as refusals
+use Rattle.heap_steps.specs.declared.step.Action.{Action}
+use Rattle.heap_steps.specs.declared.step.Action.TheVariants as actions
+use Rattle.heap_steps.specs.declared.step.Op.{Op}
+use Rattle.heap_steps.specs.declared.step.Counts.{Counts}
+use Rattle.heap_steps.specs.declared.step.Register.{Register}
+use Rattle.heap_steps.specs.declared.step.Step.{Step}
+use Rattle.heap_steps.specs.declared.step.Step.TheVariants as steps
+use Rattle.heap_steps.specs.declared.step.Event.{Event}
+use Rattle.heap_steps.specs.declared.step.Reply.{Reply}
+use Rattle.heap_steps.specs.declared.step.Refusal.TheVariants as refusals
 use Rattle.object_graph.proofs.MachineLaws.{cond_law}
 use Rattle.object_graph.proofs.Sound.{field_law, nils, get_in, after_law, happens_sound}
 use Rattle.object_graph.proofs.Collected.{kind}

@@ -11,11 +11,11 @@ use Rattle.object_graph.specs.Since.{IsKnown, IsSince, IsSinceState}
 use Rattle.object_graph.specs.Sparing.{have_weaks, kept_snapshot, SparingCollects, SparingHappens, HoldsKnown, Spares, StandsFor}
 use Rattle.object_graph.specs.Machine.{outcome_of}
 use Rattle.object_graph.specs.Run.{IsCollectorReply, snapshot_after, ClearsBy, Creates, Happens}
-use Rattle.object_graph.specs.declared.step.Op.{Op}
-use Rattle.object_graph.specs.declared.step.CollectorStep.{CollectorStep}
-use Rattle.object_graph.specs.declared.step.Step.{Step}
-use Rattle.object_graph.specs.declared.step.Step.TheVariants as steps
-use Rattle.object_graph.specs.declared.step.Reply.{Reply}
+use Rattle.heap_steps.specs.declared.step.Op.{Op}
+use Rattle.heap_steps.specs.declared.step.CollectorStep.{CollectorStep}
+use Rattle.heap_steps.specs.declared.step.Step.{Step}
+use Rattle.heap_steps.specs.declared.step.Step.TheVariants as steps
+use Rattle.heap_steps.specs.declared.step.Reply.{Reply}
 use Rattle.object_graph.proofs.Collected.{kind}
 use Rattle.object_graph.proofs.Sound.{get_in}
 use Rattle.object_graph.proofs.SinceLaws.{op_slots}

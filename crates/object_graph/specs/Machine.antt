@@ -4,15 +4,15 @@ use Rattle.std.specs.Prelude.{ℕ, ◌-◌, ◌^◌, Option, Some, None, length,
 use Rattle.heap_words.specs.Sizes.{size_of}
 use Rattle.heap_model.specs.Graph.{Object, Graph, next_name, with_root, with_object, with_changed}
 use Rattle.object_graph.specs.State.{register_place, root_at, with_nil_roots}
-use Rattle.object_graph.specs.declared.step.Action.{Action}
-use Rattle.object_graph.specs.declared.step.Action.TheVariants as actions
-use Rattle.object_graph.specs.declared.step.Counts.{Counts}
-use Rattle.object_graph.specs.declared.step.Op.{Op}
-use Rattle.object_graph.specs.declared.step.Register.{Register}
-use Rattle.object_graph.specs.declared.step.Reply.{Reply}
-use Rattle.object_graph.specs.declared.step.Reply.TheVariants as replies
-use Rattle.object_graph.specs.declared.step.Refusal.{Refusal}
-use Rattle.object_graph.specs.declared.step.Refusal.TheVariants as refusals
+use Rattle.heap_steps.specs.declared.step.Action.{Action}
+use Rattle.heap_steps.specs.declared.step.Action.TheVariants as actions
+use Rattle.heap_steps.specs.declared.step.Counts.{Counts}
+use Rattle.heap_steps.specs.declared.step.Op.{Op}
+use Rattle.heap_steps.specs.declared.step.Register.{Register}
+use Rattle.heap_steps.specs.declared.step.Reply.{Reply}
+use Rattle.heap_steps.specs.declared.step.Reply.TheVariants as replies
+use Rattle.heap_steps.specs.declared.step.Refusal.{Refusal}
+use Rattle.heap_steps.specs.declared.step.Refusal.TheVariants as refusals
 
 -- a reply, and the graph after the step
 abbrev pub Outcome : Type 0

@@ -6,12 +6,12 @@ use Rattle.object_graph.specs.State.{State, first_state}
 use Rattle.object_graph.specs.Machine.{reply_of}
 use Rattle.object_graph.specs.Run.{IsCollectorReply, Creates, EventHappens, IsRun}
 use Rattle.object_graph.specs.Sparing.{SparingHappens, StandsFor}
-use Rattle.object_graph.specs.declared.step.Step.{Step}
-use Rattle.object_graph.specs.declared.step.Step.TheVariants as steps
-use Rattle.object_graph.specs.declared.step.Event.{Event}
-use Rattle.object_graph.specs.declared.step.Reply.{Reply}
-use Rattle.object_graph.specs.declared.step.Reply.TheVariants as replies
-use Rattle.object_graph.specs.declared.step.Refusal.TheVariants as refusals
+use Rattle.heap_steps.specs.declared.step.Step.{Step}
+use Rattle.heap_steps.specs.declared.step.Step.TheVariants as steps
+use Rattle.heap_steps.specs.declared.step.Event.{Event}
+use Rattle.heap_steps.specs.declared.step.Reply.{Reply}
+use Rattle.heap_steps.specs.declared.step.Reply.TheVariants as replies
+use Rattle.heap_steps.specs.declared.step.Refusal.TheVariants as refusals
 use Rattle.object_graph.specs.declared.given.Given.{Given}
 use Rattle.object_graph.specs.declared.given.Given.TheVariants as givens
 use Rattle.object_graph.specs.declared.judge.Finding.{Finding}

@@ -5,9 +5,9 @@ ghost use Rattle.heap_model.specs.Graph as model;
 ghost use Rattle.object_graph.specs.Machine.{act};
 ghost use Rattle.object_graph.specs.Run.{IsNew};
 ghost use Rattle.object_graph.specs.Reasons.{IsGiven};
-ghost use Rattle.object_graph.specs.declared.step.Step.{Step};
+ghost use Rattle.heap_steps.specs.declared.step.Step.{Step};
 
-use crate::step::{Action, CollectorStep, Reply};
+use heap_steps::{Action, CollectorStep, Reply};
 
 /// What may stand behind a step, where it stands.
 #[derive(Clone, Copy, Debug, PartialEq, Eq)]

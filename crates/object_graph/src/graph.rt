@@ -7,7 +7,7 @@ use crate::objects::Objects;
 use crate::pointer::Pointer;
 use crate::roots::fill_nil;
 use crate::search::Search;
-use crate::step::{Action, Counts, GlobalRoot, Op, Refusal, Register, Reply};
+use heap_steps::{Action, Counts, GlobalRoot, Op, Refusal, Register, Reply};
 use heap_words::config::Config;
 use root_table::Places;
 use std::alloc::{AllocError, Global};
@@ -59,7 +59,7 @@ impl Graph {
     ghost use Rattle.object_graph.specs.Reached.{flag_of, started, all_found, searched};
     ghost use Rattle.object_graph.specs.Sparing.{have_weaks};
     ghost use Rattle.object_graph.specs.Machine.{made, act, outcome_of, stored};
-    ghost use Rattle.object_graph.specs.Roots.{IsRegister, IsGlobal, IsValue, IsOpAt};
+    ghost use Rattle.heap_steps.specs.Roots.{IsRegister, IsGlobal, IsValue, IsOpAt};
 
     /// What a mutator's register holds.
     fn register(&self, mutator: u32, register: Register) -> Pointer

@@ -2,15 +2,14 @@
 
 ghost use Rattle.std.specs.Prelude.{◌≡◌, List, [], IfOk};
 ghost use Rattle.object_graph.specs.State.{first_state};
-ghost use Rattle.object_graph.specs.Actors.{IsEvent};
+ghost use Rattle.heap_steps.specs.Actors.{IsEvent};
 ghost use Rattle.object_graph.specs.Judged.{Judged};
 ghost use Rattle.object_graph.specs.Reasons.{Finds};
-ghost use Rattle.object_graph.specs.declared.step.Event as events;
+ghost use Rattle.heap_steps.specs.declared.step.Event as events;
 
 use crate::given::Given;
 use crate::machine::Machine;
-use crate::record::Record;
-use crate::step::Event;
+use heap_steps::{Event, Record};
 use heap_words::config::Config;
 use std::alloc::{AllocError, Global};
 use std::marker::Model;

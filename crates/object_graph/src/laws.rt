@@ -10,9 +10,9 @@ ghost use Rattle.object_graph.specs.Since.{IsKnown, IsSinceState};
 ghost use Rattle.object_graph.specs.Run.{Happens, IsRun, BreaksAt};
 ghost use Rattle.object_graph.specs.Reasons.{IsGiven, MayStand};
 ghost use Rattle.object_graph.specs.declared.given.Given.{Given};
-ghost use Rattle.object_graph.specs.declared.step.Step.{Step};
-ghost use Rattle.object_graph.specs.declared.step.Reply.{Reply};
-ghost use Rattle.object_graph.specs.declared.step.Event.{Event};
+ghost use Rattle.heap_steps.specs.declared.step.Step.{Step};
+ghost use Rattle.heap_steps.specs.declared.step.Reply.{Reply};
+ghost use Rattle.heap_steps.specs.declared.step.Event.{Event};
 
 /// No events are both a run and broken at one of them.
 pub fn judged_once()

@@ -27,13 +27,14 @@
 //!
 //! A `getweak r1 r0 0` before the `remark` would reply `#1`, and touch it: then 1 counts as a root of the snapshot, and the slot stays.
 //!
-//! `Graph` takes the steps of mutators (`apply`); a `Plan` holds the steps to be done, a `Record` the events that were;
-//! `check` says whether a record is a run, from the graph of a new heap, and if not, at which event it breaks; `explain` says too what the
-//! graph gives there. A `Judge` takes events one by one, as they come. The laws of states and runs stand in `laws`.
+//! `Graph` takes the steps of mutators (`apply`); `check` says whether a record is a run, from the graph of a new heap, and if not, at which
+//! event it breaks; `explain` says too what the graph gives there. A `Judge` takes events one by one, as they come. The laws of states and
+//! runs stand in `laws`. Steps, replies and records are those of `heap_steps`, which the heap has too.
 //!
 //! Examples of calls go on from this one, in which `rt` is a test's `HostRuntime` and `alloc` its allocator:
 //!
 //! ```rust
+//! use heap_steps::*;
 //! use heap_words::config::{Config, Format};
 //! use object_graph::*;
 //!
@@ -44,9 +45,7 @@
 //! ```
 #![tactic(auto)]
 
-mod allowed;
 mod clear;
-mod fault;
 mod given;
 mod graph;
 mod judge;
@@ -54,19 +53,12 @@ mod laws;
 mod machine;
 mod objects;
 mod pointer;
-mod record;
 mod roots;
 mod search;
-mod step;
 #[cfg(test)]
 mod tests;
 
-pub use fault::{RunFault, run_fault};
 pub use given::Given;
 pub use graph::Graph;
 pub use judge::{Finding, Judge, Verdict, check, explain};
 pub use laws::{cleared_law, given_law, judged_once, run_is_sound, run_once, since_law, sound_law};
-pub use record::{Plan, Record};
-pub use step::{
-    Action, Actor, CollectorStep, Counts, Event, GlobalRoot, Op, Refusal, Register, Reply, Step,
-};

@@ -12,7 +12,7 @@ ghost use Rattle.object_graph.specs.InWords.{start_of, weaks_of};
 ghost use Rattle.object_graph.specs.Sparing.{have_weaks};
 
 use crate::pointer::Pointer;
-use crate::step::Counts;
+use heap_steps::Counts;
 use std::alloc::{AllocError, Global};
 use std::marker::Model;
 

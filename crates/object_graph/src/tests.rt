@@ -6,9 +6,9 @@ use crate::graph::Graph;
 use crate::judge::{Verdict, check};
 use crate::objects::Objects;
 use crate::pointer::Pointer;
-use crate::record::{Plan, Record};
-use crate::step::{
-    Action, Actor, CollectorStep, Counts, Event, GlobalRoot, Op, Refusal, Register, Reply, Step,
+use heap_steps::{
+    Action, Actor, CollectorStep, Counts, Event, GlobalRoot, Op, Plan, Record, Refusal, Register,
+    Reply, Step,
 };
 use heap_words::config::{Config, Format};
 use std::alloc::{AllocError, Global};
@@ -408,28 +408,6 @@ fn judges_names_from_the_first(rt: HostRuntime) -> Result<(), Fail> {
     Ok(())
 }
 
-/// A plan of two steps.
-fn two_steps(rt: &impl Abort, alloc: Global) -> Result<Plan, AllocError> {
-    let sizes = config(0);
-    let mut plan = Plan::new(alloc, sizes);
-    plan.push(Step::Collector(CollectorStep::Begin))?;
-    let step = Step::Mutator(Op {
-        mutator: 0,
-        action: new(0, 0, 0),
-    });
-    assert!(rt; step.is_in(&sizes));
-    plan.push(step)?;
-    Ok(plan)
-}
-
-#[test]
-fn keeps_plans(rt: HostRuntime) -> Result<(), Fail> {
-    let plan = two_steps(&rt, rt.alloc())?;
-    assert_eq!(rt; plan.steps().len(), 2);
-    assert_eq!(rt; plan.config().regions, 4);
-    Ok(())
-}
-
 fn new_weak(to: u32, pointers: u32, weaks: u8, values: u32) -> Action {
     Action::NewWeak {
         to: r(to),
@@ -693,39 +671,4 @@ fn leaves_frames(rt: HostRuntime) -> Result<(), Fail> {
     ];
     check_replies(&rt, &mut graph, &rows)?;
     Ok(())
-}
-
-/// What a mutator's step may name: registers and globals below their counts, and a scope in the third format alone.
-#[test]
-fn knows_roots(rt: HostRuntime) {
-    let in_first = Step::Mutator(Op {
-        mutator: 0,
-        action: Action::Scope { from: r(0) },
-    });
-    assert!(rt; !in_first.is_in(&config(0)));
-    for (mutator, action, allowed) in [
-        (1, Action::Scope { from: r(3) }, true),
-        (2, Action::Scope { from: r(3) }, false),
-        (0, Action::Scope { from: r(4) }, false),
-        (0, put_weak(3, 0, 4), false),
-        (
-            0,
-            Action::Load {
-                to: r(3),
-                from: GlobalRoot { number: 1 },
-            },
-            false,
-        ),
-        (
-            0,
-            Action::Save {
-                to: GlobalRoot { number: 0 },
-                from: r(3),
-            },
-            true,
-        ),
-    ] {
-        let step = Step::Mutator(Op { mutator, action });
-        assert_eq!(rt; step.is_in(&framed()), allowed);
-    }
 }

@@ -8,8 +8,8 @@ use crate::fault::Kind;
 use crate::replies::reply;
 use crate::steps::{allowed, collection, mutator};
 use crate::words::{is_word, number};
+use heap_steps::{Actor, CollectorStep, Event, Op, Reply, Step};
 use heap_words::config::Config;
-use object_graph::{Actor, CollectorStep, Event, Op, Reply, Step};
 
 /// The background actor that a word names, `m0` to `m7` or `f0` to `f7`.
 #[tactic(auto, unfolding(crate::specs::EventWords::background_of))]

@@ -13,8 +13,8 @@ use crate::events::actor;
 use crate::fault::{Kind, LineFault};
 use crate::script::heap_line;
 use crate::words::{global, is_word, number, register, small_number, split_line};
+use heap_steps::Actor;
 use heap_words::config::{Config, Format};
-use object_graph::Actor;
 
 /// The room that a fault's reason needs.
 pub const REASON_ROOM: usize = 320;

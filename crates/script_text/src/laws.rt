@@ -1,9 +1,9 @@
 //! Laws of the texts of scripts and records.
 
 ghost use Rattle.std.specs.Prelude.{◌≡◌, ℕ, List, Some, Ok};
-ghost use Rattle.object_graph.specs.Actors.{StepList, EventList};
-ghost use Rattle.object_graph.specs.declared.step.Action.{Action};
-ghost use Rattle.object_graph.specs.declared.step.Reply.{Reply};
+ghost use Rattle.heap_steps.specs.Actors.{StepList, EventList};
+ghost use Rattle.heap_steps.specs.declared.step.Action.{Action};
+ghost use Rattle.heap_steps.specs.declared.step.Reply.{Reply};
 ghost use Rattle.script_text.specs.EventWords.{reply_of};
 ghost use Rattle.script_text.specs.Events.{record_of};
 ghost use Rattle.script_text.specs.Records.{reply_words, record_text};

@@ -22,7 +22,7 @@
 //! Examples of calls go on from this one, in which `rt` is a test's `HostRuntime` and `alloc` its allocator:
 //!
 //! ```rust
-//! use object_graph::{Record, Reply};
+//! use heap_steps::{Record, Reply};
 //! use script_text::*;
 //!
 //! let script = b"heap 4 16 8 1 0\n0 new r0 1 1\n";

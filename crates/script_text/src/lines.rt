@@ -7,10 +7,10 @@ ghost use Rattle.script_text.specs.Spelling.{register_word, global_word, value_w
 ghost use Rattle.script_text.specs.Records.{actor_word, reply_words, event_text, event_line};
 
 use crate::bytes::{put_byte, put_number, put_small, put_text};
-use heap_words::config::{Config, Format};
-use object_graph::{
+use heap_steps::{
     Action, Actor, CollectorStep, Counts, Event, GlobalRoot, Refusal, Register, Reply, Step,
 };
+use heap_words::config::{Config, Format};
 
 /// The room that a line needs: no line of a record is longer.
 pub(crate) const LINE_ROOM: usize = 128;

@@ -1,7 +1,7 @@
 //! Records, read line by line.
 
 ghost use Rattle.std.specs.Prelude.{◌≡◌, map, take, IfOk};
-ghost use Rattle.object_graph.specs.Actors.{IsEvent};
+ghost use Rattle.heap_steps.specs.Actors.{IsEvent};
 ghost use Rattle.script_text.specs.Lines.{words_of, Gives};
 ghost use Rattle.script_text.specs.Events.{event_line_of, record_of};
 
@@ -9,8 +9,8 @@ use crate::events::event;
 use crate::fault::{Kind, LineFault};
 use crate::script::{LONGEST_LINE, heap_line};
 use crate::words::split_line;
+use heap_steps::{Event, Record};
 use heap_words::config::Config;
-use object_graph::{Event, Record};
 use std::alloc::Global;
 
 /// The event of this count that a line gives, whose first words these are.

@@ -4,7 +4,7 @@ ghost use Rattle.std.specs.Prelude.{◌≡◌, map};
 ghost use Rattle.script_text.specs.EventWords.{numbered, refusal_of, name_or_word, lone_reply_of, pair_reply_of, long_reply_of, reply_of};
 
 use crate::words::{is_word, number, small_number};
-use object_graph::{Refusal, Reply};
+use heap_steps::{Refusal, Reply};
 
 /// The refusal, if this is its number.
 #[tactic(auto, unfolding(crate::specs::EventWords::numbered))]

@@ -1,15 +1,15 @@
 //! Scripts, read line by line.
 
 ghost use Rattle.std.specs.Prelude.{◌≡◌, ◌∷◌, None, ℕ, List, map, take, IfOk, IfSome, IfNone};
-ghost use Rattle.object_graph.specs.Actors.{IsStep};
+ghost use Rattle.heap_steps.specs.Actors.{IsStep};
 ghost use Rattle.script_text.specs.Reading.{sizes_in, third_of, sizes_of};
 ghost use Rattle.script_text.specs.Lines.{words_of, heap_line_of, step_line_of, Gives, script_of};
 
 use crate::fault::{Kind, LineFault};
 use crate::steps::step;
 use crate::words::{is_word, number, small_number, split_line};
+use heap_steps::{Plan, Step};
 use heap_words::config::{Config, Format};
-use object_graph::{Plan, Step};
 use std::alloc::Global;
 
 /// The most bytes of a line before its line feed.

@@ -3,12 +3,12 @@
 ghost use Rattle.std.specs.Prelude.{◌≡◌, ◌<◌, ◌∷◌, [], map, IfOk};
 ghost use Rattle.script_text.specs.Reading.{number_of, small, register_of, global_of, value_of, new_of, get_of, put_of, write_of, read_of, move_of, drop_of, load_of, save_of, shape_of, new_weak_of, get_weak_of, put_weak_of, weaks_of, scope_of, longest_action_of, long_action_of, pair_action_of, lone_action_of, action_of, allowed_of, collection_of};
 ghost use Rattle.script_text.specs.Lines.{mutator_of, step_of};
-ghost use Rattle.object_graph.specs.Actors.{IsStep};
+ghost use Rattle.heap_steps.specs.Actors.{IsStep};
 
 use crate::fault::Kind;
 use crate::words::{global, is_word, number, register, small_number, value};
+use heap_steps::{Action, CollectorStep, Counts, Op, Step};
 use heap_words::config::Config;
-use object_graph::{Action, CollectorStep, Counts, Op, Step};
 
 #[tactic(auto, unfolding(crate::specs::Reading::new_of))]
 fn new_action(to: &[u8], pointers: &[u8], values: &[u8]) -> Option<Action>

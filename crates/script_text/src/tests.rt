@@ -4,11 +4,11 @@ use crate::{
     Kind, LineFault, ReadFault, WatchedReader, WatchedWriter, WriteFault, parse, parse_record,
     read_text, write_record,
 };
-use heap_words::config::{Config, Format};
-use object_graph::{
+use heap_steps::{
     Action, Actor, CollectorStep, Counts, Event, GlobalRoot, Op, Record, Refusal, Register, Reply,
     Step,
 };
+use heap_words::config::{Config, Format};
 use std::alloc::{AllocError, Global};
 use std::io;
 use std::io::{ErrorKind, Read, Write};

@@ -6,7 +6,7 @@ ghost use Rattle.std.specs.Str.{bytes_eq};
 ghost use Rattle.script_text.specs.Reading.{number_of, small, number_behind, register_of, global_of, value_of};
 ghost use Rattle.script_text.specs.Lines.{pieces_of, words_of};
 
-use object_graph::{GlobalRoot, Register};
+use heap_steps::{GlobalRoot, Register};
 
 /// The line at the front of a text, without its line feed: how many bytes it has, and how many of its words are kept.
 #[derive(Clone, Copy)]

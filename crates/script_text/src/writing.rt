@@ -7,7 +7,7 @@ ghost use Rattle.script_text.specs.Watched.{Takes, TakesPart, FailsToTake};
 use crate::fault::WriteFault;
 use crate::lines::{LINE_ROOM, put_event, put_heap};
 use crate::watched::WatchedWriter;
-use object_graph::Record;
+use heap_steps::Record;
 use std::alloc::Global;
 use std::io::Write;
 

@@ -6,8 +6,8 @@ ghost use Rattle.script_text.specs.Records.{record_text};
 ghost use Rattle.script_text.specs.Fits.{RegisterFits, GlobalFits, ValueFits, Fits, CollectionFits, StepFits, ReplyFits, EventFits, ConfigFits};
 
 use crate::laws::spelled_record_is_read;
+use heap_steps::{Action, CollectorStep, Event, GlobalRoot, Record, Register, Reply, Step};
 use heap_words::config::Config;
-use object_graph::{Action, CollectorStep, Event, GlobalRoot, Record, Register, Reply, Step};
 
 /// A register's number is one of its type.
 fn register_fits(register: Register)

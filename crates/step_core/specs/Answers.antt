@@ -5,13 +5,13 @@ use Rattle.heap_model.specs.Graph.{Graph, next_name}
 use Rattle.object_graph.specs.Machine.{Outcome, act}
 use Rattle.object_graph.specs.State.{State}
 use Rattle.object_graph.specs.Run.{Happens}
-use Rattle.object_graph.specs.declared.step.Action.{Action}
-use Rattle.object_graph.specs.declared.step.Action.TheVariants as actions
-use Rattle.object_graph.specs.declared.step.Step.{Step}
-use Rattle.object_graph.specs.declared.step.Step.TheVariants as steps
-use Rattle.object_graph.specs.declared.step.Reply.{Reply}
-use Rattle.object_graph.specs.declared.step.Reply.TheVariants as replies
-use Rattle.object_graph.specs.declared.step.Refusal.TheVariants as refusals
+use Rattle.heap_steps.specs.declared.step.Action.{Action}
+use Rattle.heap_steps.specs.declared.step.Action.TheVariants as actions
+use Rattle.heap_steps.specs.declared.step.Step.{Step}
+use Rattle.heap_steps.specs.declared.step.Step.TheVariants as steps
+use Rattle.heap_steps.specs.declared.step.Reply.{Reply}
+use Rattle.heap_steps.specs.declared.step.Reply.TheVariants as replies
+use Rattle.heap_steps.specs.declared.step.Refusal.TheVariants as refusals
 use Rattle.alloc_buffers.specs.Placement.{place_of}
 use Rattle.step_core.specs.Stands.{CoreState, ShowsGraph, Stands}
 

@@ -18,13 +18,13 @@ use Rattle.marker.specs.Views as views
 use Rattle.marker.specs.Counts.{IsMore, restarted}
 use Rattle.marker.specs.Steps.{Grows, SameRoles, ScansMore}
 use Rattle.remembered_sets.specs.Sets.{empty_set, set_of}
-use Rattle.object_graph.specs.declared.step.CollectorStep.{CollectorStep}
-use Rattle.object_graph.specs.declared.step.CollectorStep.TheVariants as collector
-use Rattle.object_graph.specs.declared.step.Step.{Step}
-use Rattle.object_graph.specs.declared.step.Step.TheVariants as steps
-use Rattle.object_graph.specs.declared.step.Reply.{Reply}
-use Rattle.object_graph.specs.declared.step.Reply.TheVariants as replies
-use Rattle.object_graph.specs.declared.step.Refusal.TheVariants as refusals
+use Rattle.heap_steps.specs.declared.step.CollectorStep.{CollectorStep}
+use Rattle.heap_steps.specs.declared.step.CollectorStep.TheVariants as collector
+use Rattle.heap_steps.specs.declared.step.Step.{Step}
+use Rattle.heap_steps.specs.declared.step.Step.TheVariants as steps
+use Rattle.heap_steps.specs.declared.step.Reply.{Reply}
+use Rattle.heap_steps.specs.declared.step.Reply.TheVariants as replies
+use Rattle.heap_steps.specs.declared.step.Refusal.TheVariants as refusals
 use Rattle.object_graph.specs.State.{State, ForSnapshot}
 use Rattle.step_core.specs.Stands.{CoreState, kept_of, heap_of, marking_of, ShowsGraph, Stands}
 use Rattle.step_core.specs.Mutators.{ActsOn}

@@ -11,12 +11,12 @@ use Rattle.refinement.specs.Remembering.{field_word}
 use Rattle.heap_words.specs.Configs.{registers_of}
 use Rattle.heap_model.specs.Graph.{with_nils}
 use Rattle.object_graph.specs.State.{register_place, places_of}
-use Rattle.object_graph.specs.declared.step.Action.{Action}
-use Rattle.object_graph.specs.declared.step.Action.TheVariants as actions
-use Rattle.object_graph.specs.declared.step.Counts.{Counts}
-use Rattle.object_graph.specs.declared.step.Register.{Register}
-use Rattle.object_graph.specs.declared.step.Reply.{Reply}
-use Rattle.object_graph.specs.declared.step.Reply.TheVariants as replies
+use Rattle.heap_steps.specs.declared.step.Action.{Action}
+use Rattle.heap_steps.specs.declared.step.Action.TheVariants as actions
+use Rattle.heap_steps.specs.declared.step.Counts.{Counts}
+use Rattle.heap_steps.specs.declared.step.Register.{Register}
+use Rattle.heap_steps.specs.declared.step.Reply.{Reply}
+use Rattle.heap_steps.specs.declared.step.Reply.TheVariants as replies
 use Rattle.step_core.specs.Stands.{CoreState}
 
 -- what a root place holds, what a mutator's register holds, and where the object starts that it names

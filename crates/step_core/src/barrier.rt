@@ -27,7 +27,7 @@ ghost use Rattle.heap_model.specs.Graph.{Graph, Object, object_named, with_chang
 ghost use Rattle.heap_model.specs.Heap.{Stored, IsRoot, IsHeld, IsShown};
 ghost use Rattle.heap_model.specs.Weak.{touched, KeepsUnreached};
 ghost use Rattle.object_graph.specs.State.{with_root, register_place, places_of};
-ghost use Rattle.object_graph.specs.Roots.{IsRegister};
+ghost use Rattle.heap_steps.specs.Roots.{IsRegister};
 ghost use Rattle.regions.specs.Table.{pointers_at, weaks_at, fields_at, set_pointer, set_weak};
 ghost use Rattle.cards.specs.Cards.{is_dirty};
 ghost use Rattle.refinement.specs.Remembering.{field_word, IsNoted};
@@ -38,9 +38,9 @@ ghost use Rattle.step_core.specs.Mutators.{noted, pointer_of, with_pointer, weak
 ghost use Rattle.step_core.specs.Cycle.{LeavesRegions};
 
 use crate::heap::Core;
+use heap_steps::Register;
 use heap_words::addr::{Addr, Card, Ptr};
 use heap_words::powers::quotient;
-use object_graph::Register;
 
 impl Core {
     /// A value is about to be stored in a pointer or a weak slot: the field's card becomes dirty if the value leads into another

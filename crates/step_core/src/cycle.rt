@@ -18,12 +18,12 @@
 ghost use Rattle.std.specs.Prelude.{◌≡◌, ◌↔◌, ◌<◌, ◌≤◌, ◌+◌, ℕ, true, false, Some, IsTrue, length, count_by};
 ghost use Rattle.heap_model.specs.Graph.{Graph};
 ghost use Rattle.regions.specs.Table.{is_free};
-ghost use Rattle.object_graph.specs.declared.step.Reply.TheVariants as replies;
+ghost use Rattle.heap_steps.specs.declared.step.Reply.TheVariants as replies;
 ghost use Rattle.step_core.specs.Stands.{ShowsGraph, KeepsFrom, Stands};
 ghost use Rattle.step_core.specs.Cycle.{HasBegun, HasMarked, HasRemarked, HasCleaned, ShowsCleared};
 
 use crate::heap::Core;
-use object_graph::{Refusal, Reply};
+use heap_steps::{Refusal, Reply};
 
 impl Core {
     /// Marking begins, with the present graph as its snapshot. It doesn't run yet.

@@ -33,7 +33,7 @@
 //!
 //! ```rust
 //! use heap_words::config::{Config, Format};
-//! use object_graph::{Action, CollectorStep, Counts, Op, Refusal, Register, Reply, Step};
+//! use heap_steps::{Action, CollectorStep, Counts, Op, Refusal, Register, Reply, Step};
 //! use step_core::{Core, run, run_to_core};
 //!
 //! let config = Config { format: Format::V1, regions: 4, words: 16, buffer: 8, mutators: 1, first_name: 0 };

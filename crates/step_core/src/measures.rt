@@ -16,15 +16,15 @@ ghost use Rattle.heap_model.specs.Graph.{Graph};
 ghost use Rattle.regions.specs.Table.{free_count, kind_of, stored_size, used_of};
 ghost use Rattle.regions.specs.declared.row.Kind.TheVariants as kinds;
 ghost use Rattle.object_graph.specs.State.{register_place, root_at};
-ghost use Rattle.object_graph.specs.Roots.{IsRegister};
+ghost use Rattle.heap_steps.specs.Roots.{IsRegister};
 ghost use Rattle.step_core.specs.Stands.{places_of, kept_of, name_in, ShowsGraph};
 ghost use Rattle.step_core.specs.Mutators.{register_of};
 ghost use Rattle.step_core.specs.Measures.{used_words, live_in, live_words, HasGrey};
 
 use crate::heap::Core;
+use heap_steps::Register;
 use heap_words::addr::{Addr, RegionNo};
 use mark_bitmap::live;
-use object_graph::Register;
 use regions::Kind;
 
 impl Core {

@@ -6,11 +6,11 @@ ghost use Rattle.heap_model.specs.Graph.{Graph, next_name};
 ghost use Rattle.heap_model.specs.Heap.{IsShown};
 ghost use Rattle.heap_model.specs.Weak.{KeepsUnreached};
 ghost use Rattle.object_graph.specs.State.{State, ForSnapshot, places_of};
-ghost use Rattle.object_graph.specs.Roots.{IsRegister, IsGlobal, IsValue, IsOpAt};
+ghost use Rattle.heap_steps.specs.Roots.{IsRegister, IsGlobal, IsValue, IsOpAt};
 ghost use Rattle.object_graph.specs.Run.{snapshot_after};
 ghost use Rattle.object_graph.specs.Machine.{stored};
-ghost use Rattle.object_graph.specs.declared.step.Reply.TheVariants as replies;
-ghost use Rattle.object_graph.specs.declared.step.Refusal.TheVariants as refusals;
+ghost use Rattle.heap_steps.specs.declared.step.Reply.TheVariants as replies;
+ghost use Rattle.heap_steps.specs.declared.step.Refusal.TheVariants as refusals;
 ghost use Rattle.regions.specs.Table.{new_object};
 ghost use Rattle.alloc_buffers.specs.Placement.{address_of, CanHold, made_at};
 ghost use Rattle.step_core.specs.Stands.{ShowsGraph, KeepsFrom, Stands, heap_of, IsWordOf, IsRootWord};
@@ -20,11 +20,11 @@ ghost use Rattle.step_core.specs.Cycle.{LeavesRegions};
 
 use crate::heap::Core;
 use alloc_buffers::Place;
+use heap_steps::{Action, Counts, GlobalRoot, Op, Refusal, Register, Reply};
 use heap_words::addr::{Addr, Ptr};
 use heap_words::config::Config;
 use heap_words::header;
 use heap_words::header::{Count, FillerSize};
-use object_graph::{Action, Counts, GlobalRoot, Op, Refusal, Register, Reply};
 use regions::RegionTable;
 
 /// Makes a new object in its place, and answers its address.
@@ -59,8 +59,8 @@ fn weaks_of(action: Action) -> u8
 }
 
 impl Core {
-    ghost use Rattle.object_graph.specs.declared.step.Action.TheVariants as actions;
-    ghost use Rattle.object_graph.specs.declared.step.Step.TheVariants as steps;
+    ghost use Rattle.heap_steps.specs.declared.step.Action.TheVariants as actions;
+    ghost use Rattle.heap_steps.specs.declared.step.Step.TheVariants as steps;
 
     fn get(&mut self, mutator: u32, to: Register, object: Register, field: u32) -> Reply
         requires mutator { mutator < self.old.config.mutators }

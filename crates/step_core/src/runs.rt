@@ -4,15 +4,15 @@ ghost use Rattle.std.specs.Prelude.{◌≡◌, ◌<◌, All, IfOk, IfErr, OnOk, 
 ghost use Rattle.heap_words.specs.Configs.{Suits};
 ghost use Rattle.object_graph.specs.State.{State, first_state};
 ghost use Rattle.object_graph.specs.Run.{IsRun};
-ghost use Rattle.object_graph.specs.Actors.{IsStep, IsStepOf};
+ghost use Rattle.heap_steps.specs.Actors.{IsStep, IsStepOf};
 ghost use Rattle.heap_words.specs.declared.config.Config.{Config};
 ghost use Rattle.step_core.specs.Stands.{Stands};
-ghost use Rattle.object_graph.specs.Faults.{IsRunFault};
+ghost use Rattle.heap_steps.specs.Faults.{IsRunFault};
 ghost use Rattle.step_core.specs.Histories.{Runs, RunsTo, RunsFromNew, step_in, actor_in, actor_of};
 
 use crate::heap::Core;
+use heap_steps::{Actor, Event, Op, Record, RunFault, Step, run_fault};
 use heap_words::config::Config;
-use object_graph::{Actor, Event, Op, Record, RunFault, Step, run_fault};
 use std::alloc::{AllocError, Global};
 
 /// Who takes a step of a script: the mutator itself, or the collector.

@@ -1,10 +1,10 @@
 //! A step: a mutator's, or the collector's.
 
 ghost use Rattle.std.specs.Prelude.{◌≡◌, ◌↔◌, ℕ, ◌<◌};
-ghost use Rattle.object_graph.specs.Actors.{IsStep};
-ghost use Rattle.object_graph.specs.declared.step.Step.TheVariants as steps;
-ghost use Rattle.object_graph.specs.declared.step.Reply.TheVariants as replies;
-ghost use Rattle.object_graph.specs.declared.step.Refusal.TheVariants as refusals;
+ghost use Rattle.heap_steps.specs.Actors.{IsStep};
+ghost use Rattle.heap_steps.specs.declared.step.Step.TheVariants as steps;
+ghost use Rattle.heap_steps.specs.declared.step.Reply.TheVariants as replies;
+ghost use Rattle.heap_steps.specs.declared.step.Refusal.TheVariants as refusals;
 ghost use Rattle.object_graph.specs.State.{State};
 ghost use Rattle.step_core.specs.Stands.{Stands};
 ghost use Rattle.step_core.specs.Answers.{Follows, IsFullStep};
@@ -12,7 +12,7 @@ ghost use Rattle.step_core.specs.Reclaimed.{IsReclaimed};
 ghost use Rattle.step_core.specs.Cycle.{Collects, Does, MayReclaim};
 
 use crate::heap::Core;
-use object_graph::{CollectorStep, Refusal, Reply, Step};
+use heap_steps::{CollectorStep, Refusal, Reply, Step};
 
 impl Core {
     /// Does a step of the collector, or refuses it.

@@ -8,11 +8,11 @@ mod places;
 mod weak;
 
 use crate::{Core, run};
-use heap_words::addr::{Card, RegionNo};
-use heap_words::config::{Config, Format, NewFault};
-use object_graph::{
+use heap_steps::{
     Action, CollectorStep, Counts, GlobalRoot, Op, Refusal, Register, Reply, RunFault, Step,
 };
+use heap_words::addr::{Card, RegionNo};
+use heap_words::config::{Config, Format, NewFault};
 use std::process::Abort;
 use std::test::Fail;
 

@@ -1,13 +1,13 @@
 //! 50,000 scripts drawn at random, and 10,000 with steps on weak slots: each runs without a fault, and its record is a run of the graph.
 
 ghost use Rattle.std.specs.Prelude.{◌≡◌, ◌<◌, All, IfOk};
-ghost use Rattle.object_graph.specs.Actors.{IsStep};
+ghost use Rattle.heap_steps.specs.Actors.{IsStep};
 
-use heap_words::config::{Config, Format};
-use object_graph::{
-    Action, CollectorStep, Counts, Event, GlobalRoot, Op, Refusal, Register, Reply, Step, Verdict,
-    check,
+use heap_steps::{
+    Action, CollectorStep, Counts, Event, GlobalRoot, Op, Refusal, Register, Reply, Step,
 };
+use heap_words::config::{Config, Format};
+use object_graph::{Verdict, check};
 use rand_core::utils::NextWord;
 use rand_pcg::Lcg64Xsh32;
 use std::alloc::{AllocError, Global};

@@ -1,8 +1,8 @@
 //! The line of each fault, also of those that no run brings about at will.
 
+use heap_steps::RunFault;
 use heap_words::config::NewFault;
 use jobs::{JobFault, JudgeFault, conclude, tell};
-use object_graph::RunFault;
 use script_text::{Kind, LineFault, ReadFault, WatchedWriter, WriteFault};
 use std::alloc::Global;
 use std::process::Abort;

@@ -3,8 +3,7 @@
 use super::{collected, config, done, get, may_be, misread, new, push};
 use crate::given::Given;
 use crate::judge::{Finding, explain};
-use crate::record::Record;
-use crate::step::{CollectorStep, Event, Refusal, Reply};
+use heap_steps::{CollectorStep, Event, Record, Refusal, Reply};
 use std::alloc::{AllocError, Global};
 use std::process::Abort;
 use std::test::Fail;

@@ -6,10 +6,10 @@ use Rattle.heap_words.specs.Configs.{globals_of, registers_of}
 use Rattle.heap_words.specs.declared.config.Config.{Config}
 use Rattle.heap_words.specs.declared.config.Format.{Format}
 use Rattle.heap_words.specs.declared.config.Format.TheVariants.{V1, V2, V3}
-use Rattle.object_graph.specs.Actors.{HasFrames, has_frames, allows, IsOp}
-use Rattle.object_graph.specs.declared.step.Action.{Action}
-use Rattle.object_graph.specs.declared.step.Action.TheVariants as actions
-use Rattle.object_graph.specs.declared.step.Op.{Op}
+use Rattle.heap_steps.specs.Actors.{HasFrames, has_frames, allows, IsOp}
+use Rattle.heap_steps.specs.declared.step.Action.{Action}
+use Rattle.heap_steps.specs.declared.step.Action.TheVariants as actions
+use Rattle.heap_steps.specs.declared.step.Op.{Op}
 use Rattle.script_text.specs.Fits.{Fits}
 use Rattle.script_text.specs.Reading.{action_of, allowed_of}
 use Rattle.script_text.specs.Spelling.{action_words}

@@ -7,8 +7,8 @@ use Rattle.std.proofs.lemmas.Slice.Eq.{bytes_eq-Decides}
 use Rattle.heap_words.specs.declared.config.Config.{Config}
 use Rattle.heap_words.specs.declared.config.Format.{Format}
 use Rattle.heap_words.specs.declared.config.Format.TheVariants.{V1, V2, V3}
-use Rattle.object_graph.specs.declared.step.CollectorStep.{CollectorStep}
-use Rattle.object_graph.specs.declared.step.CollectorStep.TheVariants as collector
+use Rattle.heap_steps.specs.declared.step.CollectorStep.{CollectorStep}
+use Rattle.heap_steps.specs.declared.step.CollectorStep.TheVariants as collector
 use Rattle.script_text.specs.Reading.{◌>>=◌, number_of, small, large, collection_of, sizes_in, third_of, sizes_of}
 use Rattle.script_text.specs.Fits.{CollectionFits, FormatFits, ConfigFits}
 use Rattle.script_text.specs.Spelling.{collection_words, verb_of, size_words, format_words, heap_words}

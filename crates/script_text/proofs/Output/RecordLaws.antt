@@ -1,8 +1,8 @@
 -- The lines of a record, one after another.
 use Rattle.std.proofs.Common.{◌≡◌, ℕ, suc, ◌+◌, ◌<◌, List, [], ◌∷◌, ◌++◌, length, take, drop, get_or, sym, ap, ◌∙◌, append_assoc, arith}
 use Rattle.std.proofs.lemmas.List.{append-nil, take_more, length-take-le, take-append-drop}
-use Rattle.object_graph.specs.Actors.{EventList}
-use Rattle.object_graph.specs.declared.step.Event.{Event}
+use Rattle.heap_steps.specs.Actors.{EventList}
+use Rattle.heap_steps.specs.declared.step.Event.{Event}
 use Rattle.script_text.specs.Spelling.{heap_words, line}
 use Rattle.script_text.specs.Records.{event_line, event_lines, record_text}
 

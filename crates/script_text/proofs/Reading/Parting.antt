@@ -8,7 +8,7 @@ use Rattle.std.proofs.lemmas.Bool.{cases_lt, lt-ltb, le-ltb}
 use Rattle.std.proofs.lemmas.List.{take-append-drop, length-append, get_or-map, get_or_append_left, drop-drop, take-map, drop-map, length-map}
 use Rattle.std.proofs.lemmas.List.Sums.{passes_at_first, position_or_len_is}
 use Rattle.std.proofs.lemmas.Slice.Eq.{bytes_eq-Decides}
-use Rattle.object_graph.specs.declared.step.Reply.{Reply}
+use Rattle.heap_steps.specs.declared.step.Reply.{Reply}
 use Rattle.script_text.specs.Reading.{◌>>=◌}
 use Rattle.script_text.specs.EventWords.{equals_at, step_part, reply_part, reply_of, answer_of}
 

@@ -4,11 +4,11 @@ use Rattle.heap_model.specs.Graph.{Graph}
 use Rattle.object_graph.specs.State.{State}
 use Rattle.object_graph.specs.Run.{IsCollectorReply}
 use Rattle.object_graph.specs.Run as run
-use Rattle.object_graph.specs.declared.step.CollectorStep.{CollectorStep}
-use Rattle.object_graph.specs.declared.step.CollectorStep.TheVariants as collector
-use Rattle.object_graph.specs.declared.step.Step.TheVariants as steps
-use Rattle.object_graph.specs.declared.step.Reply.{Reply}
-use Rattle.object_graph.specs.declared.step.Reply.TheVariants as replies
+use Rattle.heap_steps.specs.declared.step.CollectorStep.{CollectorStep}
+use Rattle.heap_steps.specs.declared.step.CollectorStep.TheVariants as collector
+use Rattle.heap_steps.specs.declared.step.Step.TheVariants as steps
+use Rattle.heap_steps.specs.declared.step.Reply.{Reply}
+use Rattle.heap_steps.specs.declared.step.Reply.TheVariants as replies
 use Rattle.regions.specs.Table.{Table, kind_of}
 use Rattle.step_core.specs.Stands.{CoreState, ShowsGraph, KeepsFrom, Stands}
 use Rattle.step_core.specs.Answers.{Follows}

@@ -3,11 +3,11 @@ use Rattle.std.proofs.Common.{◌≡◌, ℕ, true, false, Option, Some, None, r
 use Rattle.heap_model.specs.Graph.{Graph}
 use Rattle.object_graph.specs.State.{State}
 use Rattle.object_graph.specs.Run.{IsCollectorReply, Collects, ClearsBy}
-use Rattle.object_graph.specs.declared.step.CollectorStep.{CollectorStep}
-use Rattle.object_graph.specs.declared.step.CollectorStep.TheVariants as collector
-use Rattle.object_graph.specs.declared.step.Step.TheVariants as steps
-use Rattle.object_graph.specs.declared.step.Reply.{Reply}
-use Rattle.object_graph.specs.declared.step.Reply.TheVariants as replies
+use Rattle.heap_steps.specs.declared.step.CollectorStep.{CollectorStep}
+use Rattle.heap_steps.specs.declared.step.CollectorStep.TheVariants as collector
+use Rattle.heap_steps.specs.declared.step.Step.TheVariants as steps
+use Rattle.heap_steps.specs.declared.step.Reply.{Reply}
+use Rattle.heap_steps.specs.declared.step.Reply.TheVariants as replies
 use Rattle.marker.specs.declared.marker.Marker.{Marker}
 use Rattle.step_core.specs.Stands.{CoreState, ShowsGraph, KeepsFrom, KeepsFor, Stands}
 use Rattle.step_core.specs.Cycle.{HasCleaned, HasMarked, ShowsCleared}

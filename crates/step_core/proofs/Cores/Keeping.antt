@@ -14,9 +14,9 @@ use Rattle.regions.proofs.Tiles.Changes.{WritesObject, value_put}
 use Rattle.regions.proofs.Words.Values.{with_value}
 use Rattle.object_graph.specs.State.{root_at, with_root, root_places, register_place}
 use Rattle.object_graph.specs.Machine.{Outcome, act}
-use Rattle.object_graph.specs.declared.step.Action.TheVariants as actions
-use Rattle.object_graph.specs.declared.step.Reply.TheVariants as replies
-use Rattle.object_graph.specs.declared.step.Register.{Register}
+use Rattle.heap_steps.specs.declared.step.Action.TheVariants as actions
+use Rattle.heap_steps.specs.declared.step.Reply.TheVariants as replies
+use Rattle.heap_steps.specs.declared.step.Register.{Register}
 use Rattle.step_core.specs.Stands.{places_of, CoreState, kept_of, heap_of, RemembersFields, ShowsGraph, KeepsFrom, IsCore, IsWordOf, IsRootWord, HasObject, Leads, name_in, name_of}
 use Rattle.step_core.specs.Cycle.{LeavesRegions}
 use Rattle.step_core.specs.Answers.{Acts}

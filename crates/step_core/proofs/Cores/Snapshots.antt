@@ -9,11 +9,11 @@ use Rattle.marker.specs.Steps.{TakesFull, Overwrites, saved}
 use Rattle.marker.specs.declared.marker.Marker.{Marker}
 use Rattle.object_graph.specs.State.{ForSnapshot}
 use Rattle.object_graph.specs.Run.{snapshot_after}
-use Rattle.object_graph.specs.declared.step.Action.{Action}
-use Rattle.object_graph.specs.declared.step.Action.TheVariants as actions
-use Rattle.object_graph.specs.declared.step.Register.{Register}
-use Rattle.object_graph.specs.declared.step.Reply.{Reply}
-use Rattle.object_graph.specs.declared.step.Reply.TheVariants as replies
+use Rattle.heap_steps.specs.declared.step.Action.{Action}
+use Rattle.heap_steps.specs.declared.step.Action.TheVariants as actions
+use Rattle.heap_steps.specs.declared.step.Register.{Register}
+use Rattle.heap_steps.specs.declared.step.Reply.{Reply}
+use Rattle.heap_steps.specs.declared.step.Reply.TheVariants as replies
 use Rattle.step_core.specs.Stands.{CoreState, KeepsFrom, KeepsFor}
 use Rattle.step_core.specs.Mutators.{ActsOn, MarkerAfter}
 

@@ -13,12 +13,12 @@ use Rattle.regions.proofs.Tiles.Changes.{WritesObject, value_put}
 use Rattle.regions.proofs.Words.Values.{with_value}
 use Rattle.object_graph.specs.State.{with_root, root_at, register_place, places_of}
 use Rattle.object_graph.specs.Machine.{Outcome, act, on_object, on_name, on_contents, refused, stored}
-use Rattle.object_graph.specs.declared.step.Action.{Action}
-use Rattle.object_graph.specs.declared.step.Action.TheVariants as actions
-use Rattle.object_graph.specs.declared.step.Reply.{Reply}
-use Rattle.object_graph.specs.declared.step.Reply.TheVariants as replies
-use Rattle.object_graph.specs.declared.step.Refusal.TheVariants as refusals
-use Rattle.object_graph.specs.declared.step.Register.{Register}
+use Rattle.heap_steps.specs.declared.step.Action.{Action}
+use Rattle.heap_steps.specs.declared.step.Action.TheVariants as actions
+use Rattle.heap_steps.specs.declared.step.Reply.{Reply}
+use Rattle.heap_steps.specs.declared.step.Reply.TheVariants as replies
+use Rattle.heap_steps.specs.declared.step.Refusal.TheVariants as refusals
+use Rattle.heap_steps.specs.declared.step.Register.{Register}
 use Rattle.step_core.specs.Stands.{CoreState, kept_of, heap_of, ShowsGraph, IsCore, IsWordOf, HasObject, Leads, name_in}
 use Rattle.step_core.specs.Answers.{Acts}
 use Rattle.step_core.proofs.Mutating.Reading.{field_shown, slot_shown, no_field, no_slot, no_value, shown_name, object_kept, pointers_there, weaks_there, AllZip-length}

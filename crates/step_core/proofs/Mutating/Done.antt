@@ -8,9 +8,9 @@ use Rattle.alloc_buffers.specs.declared.placement.Place.{Place}
 use Rattle.marker.specs.Steps.{Overwrites}
 use Rattle.marker.specs.declared.marker.Marker.{Marker}
 use Rattle.object_graph.specs.State.{register_place, places_of}
-use Rattle.object_graph.specs.declared.step.Action.TheVariants as actions
-use Rattle.object_graph.specs.declared.step.Counts.{Counts}
-use Rattle.object_graph.specs.declared.step.Register.{Register}
+use Rattle.heap_steps.specs.declared.step.Action.TheVariants as actions
+use Rattle.heap_steps.specs.declared.step.Counts.{Counts}
+use Rattle.heap_steps.specs.declared.step.Register.{Register}
 use Rattle.step_core.specs.Stands.{CoreState}
 use Rattle.step_core.specs.Mutators.{register_of, object_of, pointer_of, weak_of, with_root_word, with_made, after_new, HasActed}
 use Rattle.step_core.specs.Answers.{HasNoPlace}

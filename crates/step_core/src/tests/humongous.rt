@@ -3,8 +3,8 @@
 use super::pauses::{begin, check, cleanup, forget, get, make, pause, put, refine, remark};
 use super::{act, collect, register, remembers};
 use crate::Core;
+use heap_steps::{Action, CollectorStep, Counts, Reply};
 use heap_words::config::{Config, Format};
-use object_graph::{Action, CollectorStep, Counts, Reply};
 use std::process::Abort;
 use std::test::Fail;
 

@@ -4,9 +4,9 @@ ghost use Rattle.std.specs.Prelude.{◌≡◌, ◌<◌};
 
 use super::{act, collect, register};
 use crate::Core;
+use heap_steps::{Action, CollectorStep, Counts, Reply};
 use heap_words::addr::Addr;
 use heap_words::config::{Config, Format};
-use object_graph::{Action, CollectorStep, Counts, Reply};
 use std::alloc::Global;
 use std::process::Abort;
 use std::test::Fail;

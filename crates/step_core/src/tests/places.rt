@@ -17,7 +17,7 @@ mod weak;
 use super::{act, collect, remembers};
 use crate::Core;
 use drawn::{action, below, collection, growth, sizes, weak_growth, weak_readings};
-use object_graph::{Action, CollectorStep, Counts, Register, Reply};
+use heap_steps::{Action, CollectorStep, Counts, Register, Reply};
 use plain::{PlainPause, part_of, plain_pause};
 use rand_pcg::Lcg64Xsh32;
 use sight::{FIELDS, Sight, look, named};

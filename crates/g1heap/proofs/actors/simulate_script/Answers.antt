@@ -1,6 +1,6 @@
 use Rattle.jobs.proofs.Endings.{ends}
 use Rattle.g1heap.proofs.Endings.{comes_drawn}
-use Rattle.object_graph.specs.Faults.{IsRunFault}
+use Rattle.heap_steps.specs.Faults.{IsRunFault}
 use Rattle.g1heap.specs.Runs.{AreFew, IsDrawnRun, IsCountedFault}
 use Rattle.g1heap.proofs.actors.simulate_script.Goals as goal
 

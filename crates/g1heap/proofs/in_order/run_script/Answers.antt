@@ -1,4 +1,4 @@
-use Rattle.object_graph.specs.Faults.{IsRunFault}
+use Rattle.heap_steps.specs.Faults.{IsRunFault}
 use Rattle.step_core.specs.Histories.{IsRunInOrder}
 use Rattle.jobs.proofs.Endings.{ends, comes}
 use Rattle.g1heap.proofs.in_order.run_script.Goals as goal

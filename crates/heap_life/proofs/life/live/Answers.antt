@@ -1,8 +1,8 @@
 use Rattle.std.proofs.Common.{◌∙◌, ◌≤◌, ℕ, List, length, map, ap, subst, sym}
 use Rattle.std.specs.Prelude.{All}
 use Rattle.heap_words.specs.declared.config.Config.{Config}
-use Rattle.object_graph.specs.Actors.{AreEvents}
-use Rattle.object_graph.specs.declared.step.Event.{Event}
+use Rattle.heap_steps.specs.Actors.{AreEvents}
+use Rattle.heap_steps.specs.declared.step.Event.{Event}
 use Rattle.object_graph.specs.Run.{IsRun}
 use Rattle.object_graph.specs.State.{first_state}
 use Rattle.step_core.specs.Histories.{IsRunFault, RunsTo, step_in, actor_in}

@@ -1,8 +1,8 @@
 use Rattle.std.proofs.Common.{◌≡◌, ◌∙◌, ℕ, ◌+◌, List, map, ap, refl, sym, subst, true, arith, length}
 use Rattle.std.specs.Prelude.{All, min}
 use Rattle.heap_words.specs.declared.config.Config.{Config}
-use Rattle.object_graph.specs.Actors.{EventList, IsStep}
-use Rattle.object_graph.specs.declared.step.Event.{Event}
+use Rattle.heap_steps.specs.Actors.{EventList, IsStep}
+use Rattle.heap_steps.specs.declared.step.Event.{Event}
 use Rattle.step_core.specs.Histories.{Runs, step_in, actor_in}
 use Rattle.step_core.proofs.Cores.Following.{goes_on}
 use Rattle.heap_life.specs.Paces.{counts, one_if, IsShown}

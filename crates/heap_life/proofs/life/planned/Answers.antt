@@ -1,6 +1,6 @@
 use Rattle.std.proofs.Common.{◌∙◌, List, map, ap, refl}
-use Rattle.object_graph.specs.Actors.{EventList}
-use Rattle.object_graph.specs.declared.step.Event.{Event}
+use Rattle.heap_steps.specs.Actors.{EventList}
+use Rattle.heap_steps.specs.declared.step.Event.{Event}
 use Rattle.step_core.specs.Histories.{step_in, actor_in, actor_of}
 use Rattle.step_core.proofs.Cores.Following.{grown, grown_by}
 use Rattle.heap_life.proofs.life.planned.Goals as goal

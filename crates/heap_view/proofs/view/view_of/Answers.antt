@@ -1,6 +1,6 @@
 use Rattle.std.proofs.Common.{subst}
 use Rattle.heap_words.specs.Configs.{Suits}
-use Rattle.object_graph.specs.Actors.{StepList}
+use Rattle.heap_steps.specs.Actors.{StepList}
 use Rattle.step_core.specs.Histories.{IsRunInOrder}
 use Rattle.jobs.proofs.Endings.{same_plan, if_ok, memory_alone}
 use Rattle.heap_view.proofs.view.view_of.Goals as goal

@@ -1,6 +1,6 @@
 use Rattle.std.proofs.Common.{◌≡◌, ◌∙◌, ◌++◌, ap, sym, refl, List, ℕ, length, append-nil, rules}
 use Rattle.rand_pcg.specs.Pcg.{pcg32}
-use Rattle.object_graph.specs.declared.step.Actor.{Actor}
+use Rattle.heap_steps.specs.declared.step.Actor.{Actor}
 use Rattle.mutators.specs.Draws.{lefts_of, open_places, has_background, scripted_actors}
 use Rattle.mutators.proofs.Rounds.{round_keeps, round_less, rest_none}
 use Rattle.mutators.proofs.schedule.all_rounds.Goals as goal

@@ -1,5 +1,5 @@
 use Rattle.std.proofs.Common.{◌≡◌, ◌<◌, ◌∙◌, ap, sym, subst, refl, arith, rules, ℕ, ◌%◌, length, List, get_or}
-use Rattle.object_graph.specs.declared.step.Step.{Step}
+use Rattle.heap_steps.specs.declared.step.Step.{Step}
 use Rattle.mutators.specs.Scripts.{scripted}
 use Rattle.mutators.specs.Draws.{lefts_of, pick, one_less}
 use Rattle.mutators.specs.Journals.{mutators_of}

@@ -1,6 +1,6 @@
 use Rattle.std.proofs.Common.{◌≡◌, refl, ap, ◌∙◌, List, length, arith}
 use Rattle.heap_words.specs.declared.config.Config.{Config}
-use Rattle.object_graph.specs.declared.step.Event.{Event}
+use Rattle.heap_steps.specs.declared.step.Event.{Event}
 use Rattle.mutators.proofs.Rounds.{none_asked}
 use Rattle.mutators.proofs.Faults.{bad_exactly, threads_fault}
 use Rattle.mutators.proofs.threads.begin.Goals as goal

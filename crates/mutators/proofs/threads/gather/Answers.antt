@@ -1,5 +1,5 @@
 use Rattle.std.proofs.Common.{ℕ, sym, subst}
-use Rattle.object_graph.specs.Actors.{StepList}
+use Rattle.heap_steps.specs.Actors.{StepList}
 use Rattle.mutators.specs.Interleavings.{IsOf}
 use Rattle.mutators.proofs.threads.gather.Goals as goal
 

@@ -5,7 +5,7 @@ use Rattle.script_text.proofs.Reading.RecordOn.{begins, begins_wrong, no_line, g
 use Rattle.script_text.proofs.Reading.Stops.{fault_is, heap_line_never, one_less}
 use Rattle.script_text.proofs.Reading.RecordStops.{event_line_never, stops}
 use Rattle.script_text.proofs.Parts.Pieces.{behind, behind_is, pieces_behind}
-use Rattle.object_graph.specs.Actors.{EventList}
+use Rattle.heap_steps.specs.Actors.{EventList}
 use Rattle.script_text.proofs.records.parse_record.Goals as goal
 
 pub returns-then-is_empty : goal.returns-then-is_empty

@@ -4,7 +4,7 @@ use Rattle.script_text.specs.declared.fault.Kind.TheVariants as kinds
 use Rattle.script_text.proofs.Reading.ReadOn.{begins, begins_wrong, no_line, goes_on, goes_wrong, is_done, is_cut, read_from, read_with}
 use Rattle.script_text.proofs.Reading.Stops.{fault_is, step_line_never, heap_line_never, one_less, stops}
 use Rattle.script_text.proofs.Parts.Pieces.{behind, behind_is, pieces_behind}
-use Rattle.object_graph.specs.Actors.{StepList}
+use Rattle.heap_steps.specs.Actors.{StepList}
 use Rattle.script_text.proofs.script.parse.Goals as goal
 
 pub returns-then-is_empty : goal.returns-then-is_empty

@@ -1,7 +1,7 @@
 use Rattle.std.proofs.Common.{All, List, arith, subst}
 use Rattle.std.proofs.lemmas.List.{take_all}
 use Rattle.std.proofs.lemmas.List.Elements.{All-more}
-use Rattle.object_graph.specs.declared.step.Event.{Event}
+use Rattle.heap_steps.specs.declared.step.Event.{Event}
 use Rattle.script_text.specs.Fits.{EventFits}
 use Rattle.script_text.proofs.written.events_fit.Goals as goal
 

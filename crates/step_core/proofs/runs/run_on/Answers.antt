@@ -1,6 +1,6 @@
 use Rattle.std.proofs.Common.{◌∙◌, List, map, ap, refl, sym, subst}
-use Rattle.object_graph.specs.Actors.{EventList}
-use Rattle.object_graph.specs.declared.step.Event.{Event}
+use Rattle.heap_steps.specs.Actors.{EventList}
+use Rattle.heap_steps.specs.declared.step.Event.{Event}
 use Rattle.step_core.specs.Histories.{Runs, step_in, actor_in, actor_of}
 use Rattle.step_core.proofs.Cores.Following.{goes_on, grown, grown_by}
 use Rattle.step_core.proofs.runs.run_on.Goals as goal

@@ -1,7 +1,7 @@
 use Rattle.std.proofs.Common.{◌∙◌, subst, sym}
 use Rattle.std.specs.Prelude.{All}
 use Rattle.heap_words.specs.declared.config.Config.{Config}
-use Rattle.object_graph.specs.Actors.{IsStep}
+use Rattle.heap_steps.specs.Actors.{IsStep}
 use Rattle.step_core.specs.Stands.{CoreState, Stands, IsCore}
 use Rattle.object_graph.specs.State.{first_state}
 use Rattle.step_core.specs.Histories.{Runs}

@@ -2,8 +2,8 @@
 
 ghost use Rattle.std.specs.Prelude.{◌<◌};
 
+use heap_steps::{Action, CollectorStep, Counts, GlobalRoot, Register};
 use heap_words::config::{Config, Format};
-use object_graph::{Action, CollectorStep, Counts, GlobalRoot, Register};
 use rand_core::utils::NextWord;
 use rand_pcg::Lcg64Xsh32;
 

@@ -2,7 +2,7 @@
 //! what the pointers reached when marking began, from the roots or from what was read from a weak slot since.
 
 use super::sight::{Seen, Sight, Space};
-use object_graph::{Action, Refusal, Register, Reply};
+use heap_steps::{Action, Refusal, Register, Reply};
 use std::alloc::{AllocError, Global};
 
 /// Where a mutator's register stands among the roots.

@@ -1,5 +1,5 @@
 use Rattle.std.specs.Prelude.{All}
-use Rattle.object_graph.specs.Actors.{IsStep}
+use Rattle.heap_steps.specs.Actors.{IsStep}
 use Rattle.g1heap.proofs.tests.drawn.script.Given as goal
 
 abbrev pub invariant-loop : goal.invariant-loop

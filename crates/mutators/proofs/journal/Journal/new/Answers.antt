@@ -2,8 +2,8 @@ use Rattle.std.proofs.Common.{arith, length, ◌≡◌, ◌+◌, ◌∙◌, ap, 
 use Rattle.std.proofs.lemmas.List.{length-replicate}
 use Rattle.std.specs.Prelude.{slice_index}
 use Rattle.heap_words.specs.declared.config.Config.{Config}
-use Rattle.object_graph.specs.declared.step.Step.{Step}
-use Rattle.object_graph.specs.Actors.{AreSteps}
+use Rattle.heap_steps.specs.declared.step.Step.{Step}
+use Rattle.heap_steps.specs.Actors.{AreSteps}
 use Rattle.step_core.specs.Fresh.{fresh_core}
 use Rattle.mutators.specs.Scripts.{scripted, lines_of}
 use Rattle.mutators.proofs.Counts.{zeros}

@@ -3,7 +3,7 @@ use Rattle.std.proofs.lemmas.List.{with_items_is}
 use Rattle.heap_model.specs.Graph.{Graph, with_nils, with_nil_roots, register_place}
 use Rattle.root_table.specs.Roots.{RootTable}
 use Rattle.root_table.proofs.Nils.{left_in, left_whole, left_nothing, length-nils}
-use Rattle.object_graph.specs.declared.step.Reply.TheVariants as replies
+use Rattle.heap_steps.specs.declared.step.Reply.TheVariants as replies
 use Rattle.object_graph.proofs.graph.Graph.scope.Goals as goal
 
 pub returns-then-used-from : goal.returns-then-used-from

@@ -1,5 +1,5 @@
 use Rattle.std.proofs.Common.{ap, sym, subst}
-use Rattle.object_graph.specs.Actors.{IsEvent}
+use Rattle.heap_steps.specs.Actors.{IsEvent}
 use Rattle.object_graph.specs.Reasons.{Judging, HasTaken}
 use Rattle.object_graph.proofs.ReasonLaws.{op_taken, taken_sound, takes_told}
 use Rattle.object_graph.proofs.judge.Judge.take.Goals as goal

@@ -1,5 +1,5 @@
 use Rattle.std.proofs.Common.{◌∙◌, ap}
-use Rattle.object_graph.specs.declared.step.Reply.TheVariants as replies
+use Rattle.heap_steps.specs.declared.step.Reply.TheVariants as replies
 use Rattle.step_core.proofs.Mutating.Reading.{shown_name}
 use Rattle.step_core.proofs.heap.Core.load.Goals as goal
 

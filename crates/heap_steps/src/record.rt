@@ -15,7 +15,7 @@ pub struct Plan {
 }
 
 impl Model for Plan {
-    ghost use Rattle.object_graph.specs.Actors.{StepList, AreSteps};
+    ghost use Rattle.heap_steps.specs.Actors.{StepList, AreSteps};
 
     ghost Value = { StepList };
 
@@ -35,7 +35,7 @@ impl Drop for Plan {
 }
 
 impl Plan {
-    ghost use Rattle.object_graph.specs.Actors.{IsStep, AreSteps};
+    ghost use Rattle.heap_steps.specs.Actors.{IsStep, AreSteps};
 
     /// A plan of no steps.
     ///
@@ -103,7 +103,7 @@ pub struct Record {
 }
 
 impl Model for Record {
-    ghost use Rattle.object_graph.specs.Actors.{EventList, AreEvents};
+    ghost use Rattle.heap_steps.specs.Actors.{EventList, AreEvents};
 
     ghost Value = { EventList };
 
@@ -123,7 +123,7 @@ impl Drop for Record {
 }
 
 impl Record {
-    ghost use Rattle.object_graph.specs.Actors.{IsEvent, AreEvents};
+    ghost use Rattle.heap_steps.specs.Actors.{IsEvent, AreEvents};
 
     /// A record of no events.
     ///

@@ -1,8 +1,8 @@
 //! Which steps the sizes of a heap allow: tests of what plans, records and heaps ask for.
 
 ghost use Rattle.std.specs.Prelude.{◌≡◌, ◌↔◌, ◌<◌, ℕ, IsTrue};
-ghost use Rattle.object_graph.specs.Roots.{has_register, has_global, has_value, names_roots, NamesRoots, IsOpAt};
-ghost use Rattle.object_graph.specs.Actors.{has_action, allows, IsOp, IsStep, IsStepOf, IsEvent};
+ghost use Rattle.heap_steps.specs.Roots.{has_register, has_global, has_value, names_roots, NamesRoots, IsOpAt};
+ghost use Rattle.heap_steps.specs.Actors.{has_action, allows, IsOp, IsStep, IsStepOf, IsEvent};
 
 use crate::step::{Action, Actor, CollectorStep, Event, GlobalRoot, Op, Register, Step};
 use heap_words::config::{Config, Format};
@@ -93,9 +93,8 @@ impl Op {
     /// Whether the mutator is one of those, and each root that the step names is there.
     ///
     /// ```rust
-    /// let graph = Graph::new(alloc, &config)?;
-    /// assert!(rt; op.is_at(&graph.places()));
-    /// assert!(rt; !Op { mutator: 1, action: op.action }.is_at(&graph.places()));
+    /// assert!(rt; op.is_at(&Places::of(&config)));
+    /// assert!(rt; !Op { mutator: 1, action: op.action }.is_at(&Places::of(&config)));
     /// ```
     pub fn is_at(self, places: &Places) -> bool
         ensures { IsTrue result ↔ IsOpAt places.now self }

@@ -1,11 +1,11 @@
 -- Which roots a step may name.
 use Rattle.std.specs.Prelude.{◌<◌, Option, Some, None, Bool, true, nat_lt, ◌&&◌}
 use Rattle.heap_model.specs.Graph.{Places}
-use Rattle.object_graph.specs.declared.step.Register.{Register}
-use Rattle.object_graph.specs.declared.step.GlobalRoot.{GlobalRoot}
-use Rattle.object_graph.specs.declared.step.Action.{Action}
-use Rattle.object_graph.specs.declared.step.Action.TheVariants as actions
-use Rattle.object_graph.specs.declared.step.Op.{Op}
+use Rattle.heap_steps.specs.declared.step.Register.{Register}
+use Rattle.heap_steps.specs.declared.step.GlobalRoot.{GlobalRoot}
+use Rattle.heap_steps.specs.declared.step.Action.{Action}
+use Rattle.heap_steps.specs.declared.step.Action.TheVariants as actions
+use Rattle.heap_steps.specs.declared.step.Op.{Op}
 
 -- a register that mutators have, and a global that there is
 abbrev pub IsRegister : Places → Register → Type 0

@@ -2,7 +2,7 @@
 
 ghost use Rattle.heap_words.specs.Configs.{IsNewFault};
 ghost use Rattle.heap_words.specs.declared.config.Config.{Config};
-ghost use Rattle.object_graph.specs.Faults.{IsRunFault};
+ghost use Rattle.heap_steps.specs.Faults.{IsRunFault};
 
 use heap_words::config::NewFault;
 use thiserror::Error;
@@ -31,7 +31,7 @@ pub enum RunFault {
 ///
 /// ```rust
 /// use heap_words::config::NewFault;
-/// use object_graph::{RunFault, run_fault};
+/// use heap_steps::{RunFault, run_fault};
 ///
 /// assert_eq!(rt; run_fault(NewFault::NoMemory), RunFault::NoMemory);
 /// assert_eq!(rt; run_fault(NewFault::BadWords), RunFault::Heap(NewFault::BadWords));

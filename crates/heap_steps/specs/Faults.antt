@@ -1,8 +1,8 @@
 -- Why a run gave no record.
 use Rattle.heap_words.specs.declared.config.Config.{Config}
 use Rattle.heap_words.specs.Configs.{Suits, IsFirstFault}
-use Rattle.object_graph.specs.declared.fault.RunFault.{RunFault}
-use Rattle.object_graph.specs.declared.fault.RunFault.TheVariants as faults
+use Rattle.heap_steps.specs.declared.fault.RunFault.{RunFault}
+use Rattle.heap_steps.specs.declared.fault.RunFault.TheVariants as faults
 
 -- the only faults of a run by itself: want of memory, where the heap's sizes suit, and their first fault
 abbrev pub IsRunFault : Config → RunFault → Type 0

@@ -1,0 +1,3 @@
+pub mod Roots
+pub mod Actors
+pub mod Faults
