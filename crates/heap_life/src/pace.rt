@@ -1,6 +1,7 @@
 //! Which moments of a run are shown.
 
-ghost use Rattle.std.specs.Prelude.{◌≡◌, ◌<◌, ◌%◌, ◌==◌, ◌&&◌, ◌≤◌, length};
+ghost use Rattle.std.specs.Prelude.{◌≡◌, ◌<◌, ◌%◌, ◌==◌, ◌&&◌, ◌≤◌, ◌/◌, max, length};
+ghost use Rattle.heap_life.specs.Paces.{IsPaceFor};
 
 use object_graph::{CollectorStep, Event, Step};
 
@@ -74,17 +75,26 @@ fn part(whole: u64, most: u64) -> u64
     if size < u64::MAX { size + 1 } else { size }
 }
 
-/// The pace of a run of these events, by the wish for a moment each `every` events: where there would be more than about `most` moments,
-/// fewer are shown, and where `mark` and `refine` would make too many, those don't count.
-pub fn pace_of(events: &[Event], every: u64, most: u64) -> Pace {
-    let half = most / 2;
-    let whole = events.len() as u64;
-    let wished = every.max(1);
-    let every = if whole / wished > half {
-        part(whole, half)
+/// Each how many of a whole there is a moment, by a wish: more where these would be more than so many.
+fn every_for(whole: u64, wish: u64, most: u64) -> u64
+    ensures asked { whole / max wish 1 ≤ most → result ≡ max wish 1 }
+    ensures some { 0 < result }
+{
+    let wished = wish.max(1);
+    if whole / wished > most {
+        part(whole, most)
     } else {
         wished
-    };
+    }
+}
+
+/// The pace of a run of these events, by the wish for a moment each `every` events: where there would be more than about `most` moments,
+/// fewer are shown, and where `mark` and `refine` would make too many, those don't count.
+pub fn pace_of(events: &[Event], every: u64, most: u64) -> Pace
+    ensures { IsPaceFor every most events.now result }
+{
+    let half = most / 2;
+    let every = every_for(events.len() as u64, every, half);
     if count(events, true) <= half / 2 {
         return Pace {
             every,
