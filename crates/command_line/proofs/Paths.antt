@@ -7,7 +7,7 @@ use Rattle.clap.specs.Lexer.{long_of, short_of}
 use Rattle.clap.specs.Words.{Text}
 use Rattle.command_line.specs.Asked.{Asks, is_path}
 use Rattle.command_line.specs.declared.Order.TheVariants.{Concurrent, Drawn, File}
-use Rattle.command_line.specs.declared.Task.TheVariants.{Check, Script, View}
+use Rattle.command_line.specs.declared.Task.TheVariants.{Check, Draw, Script, View}
 
 -- a word that a parse takes for a value: not `--`, and no option
 record IsValue (word : Text) : Type 0 where
@@ -65,5 +65,18 @@ pub threads : (program path : Text) → is_path path ≡ true
     → Asks (program ∷ codes "threads" ∷ path ∷ codes "--workers" ∷ codes "2" ∷ []) (path, Script (Concurrent 2 0 0))
 unfolding clap_on_literals
 threads program path h =
+    let v = is_value path h in
+    (rw v.no_end (rw v.no_name (rw v.no_letters refl)), rw v.no_end (rw v.no_name (rw v.no_letters refl)))
+
+pub draw : (program path : Text) → is_path path ≡ true → Asks (program ∷ codes "draw" ∷ path ∷ []) (path, Draw 1)
+unfolding clap_on_literals
+draw program path h =
+    let v = is_value path h in
+    (rw v.no_end (rw v.no_name (rw v.no_letters refl)), rw v.no_end (rw v.no_name (rw v.no_letters refl)))
+
+pub every : (program path : Text) → is_path path ≡ true
+    → Asks (program ∷ codes "draw" ∷ path ∷ codes "--every" ∷ codes "10" ∷ []) (path, Draw 10)
+unfolding clap_on_literals
+every program path h =
     let v = is_value path h in
     (rw v.no_end (rw v.no_name (rw v.no_letters refl)), rw v.no_end (rw v.no_name (rw v.no_letters refl)))

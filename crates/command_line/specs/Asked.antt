@@ -13,7 +13,7 @@ use Rattle.command_line.specs.Program.{g1heap}
 use Rattle.command_line.specs.declared.Order.{Order}
 use Rattle.command_line.specs.declared.Order.TheVariants.{File, Drawn, Concurrent}
 use Rattle.command_line.specs.declared.Task.{Task}
-use Rattle.command_line.specs.declared.Task.TheVariants.{Script, Check, View}
+use Rattle.command_line.specs.declared.Task.TheVariants.{Script, Check, View, Draw}
 
 -- the number of so many bits that a text spells
 abbrev pub number_of : ℕ → Text → Option ℕ
@@ -49,6 +49,7 @@ task_in name rows =
     else if bytes_eq name (codes "threads") then option_map Script (threads_in rows)
     else if bytes_eq name (codes "check") then Some (Check (flag_in (codes "explain") rows))
     else if bytes_eq name (codes "view") then Some View
+    else if bytes_eq name (codes "draw") then option_map Draw (number_in 32 (codes "every") rows)
     else None
 
 -- a path, and what is done with the file

@@ -47,6 +47,14 @@ flag name = record (new_rule name) { long = Some name; action = Some SetTrue }
 abbrev pub checked : App
 checked = with_rule (plain (codes "check")) (flag (codes "explain"))
 
+-- how many events there are to a moment, 1 where it isn't given
+abbrev pub every : Rule
+every = record (number (codes "every") (parser.Signed (pos 1) (pos 1000000))) { defaults = codes "1" ∷ [] }
+
+-- the subcommand that draws the life of a script's heap
+abbrev pub drawn : App
+drawn = with_rule (plain (codes "draw")) every
+
 -- the program without its subcommands
 abbrev pub bare : App
 bare =
@@ -55,9 +63,10 @@ bare =
 
 abbrev pub g1heap : App
 g1heap =
-    with_subcommand (with_subcommand (with_subcommand (with_subcommand (with_subcommand bare
+    with_subcommand (with_subcommand (with_subcommand (with_subcommand (with_subcommand (with_subcommand bare
     (plain (codes "run")).top)
     (by_actors (codes "sim") schedule).top)
     (by_actors (codes "threads") workers).top)
     checked.top)
-    (plain (codes "view")).top
+    (plain (codes "view")).top)
+    drawn.top

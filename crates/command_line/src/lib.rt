@@ -6,6 +6,7 @@
 //!   g1heap threads FILE --workers 2        Job { file: FILE, task: Task::Script(Order::Concurrent { workers: 2, refiners: 0, markers: 0 }) }
 //!   g1heap check FILE --explain            Job { file: FILE, task: Task::Check { explained: true } }
 //!   g1heap check FILE, g1heap view FILE    Job { file: FILE, task: Task::Check { explained: false } }, Task::View
+//!   g1heap draw FILE --every 10            Job { file: FILE, task: Task::Draw { every: 10 } }
 //!   g1heap help, and every mistake         an `Error`, whose text is for the user
 //! ```
 //!
@@ -18,8 +19,8 @@ ghost use Rattle.clap.specs.Words.{subcommand_rows_of, with_rule, with_subcomman
 ghost use Rattle.clap.specs.declared.error.kind.ErrorKind.TheVariants.{InvalidValue};
 ghost use Rattle.command_line.specs.Asked.{Asks, asked_in, asked_of, drawn_in, faults_of, flag_in, is_path, number_in, task_in, threads_in};
 ghost use Rattle.command_line.specs.declared.Order.TheVariants.{Concurrent, Drawn, File};
-ghost use Rattle.command_line.specs.declared.Task.TheVariants.{Check, Script, View};
-ghost use Rattle.command_line.specs.Program.{IsReadAs, background, bare, by_actors, checked, count, file, flag, g1heap, number, plain, schedule, workers};
+ghost use Rattle.command_line.specs.declared.Task.TheVariants.{Check, Draw, Script, View};
+ghost use Rattle.command_line.specs.Program.{IsReadAs, background, bare, by_actors, checked, count, drawn, every, file, flag, g1heap, number, plain, schedule, workers};
 
 use clap::builder::ValueParser;
 use clap::error::ErrorKind;
@@ -54,6 +55,8 @@ pub enum Task {
     Check { explained: bool },
     /// A script is run, and a view of its heap written.
     View,
+    /// A script is run, and the page of its heap's life written, with a moment each so many events.
+    Draw { every: u32 },
 }
 
 /// What a command line asks for.
@@ -160,6 +163,15 @@ fn workers<'a>(alloc: Global) -> Arg<'a>
     ensures own { result.global ≡ false }
 {
     count(alloc, "workers", "Worker threads, 1 to 32").required(true)
+}
+
+/// The option that takes how many events there are to a moment of a page, one unless it is given.
+fn every<'a>(alloc: Global) -> Arg<'a>
+    ensures rule { rule_of result ≡ every }
+    ensures own { result.global ≡ false }
+{
+    let help = "Shows a moment each N events, 1 to 1000000";
+    number(alloc, "every", help, ValueParser::signed(1, 1_000_000)).default_value("1")
 }
 
 // What holds a command is let go by `drop`, one call: where it is let go unsaid, each of its fields is written out.
@@ -298,6 +310,18 @@ fn view_command<'a>(alloc: Global) -> Result<Command<'a>, AllocError>
     )
 }
 
+fn draw_command<'a>(alloc: Global) -> Result<Command<'a>, AllocError>
+    ensures { IfOk result (IsReadAs drawn) }
+{
+    let command = plain(
+        alloc,
+        "draw",
+        "Does the steps of a script, and prints the life of its heap as a page of HTML",
+        SCRIPT,
+    );
+    with_arg(command, every(alloc))
+}
+
 /// The program, without its subcommands.
 fn bare<'a>(alloc: Global) -> Command<'a>
     ensures { IsReadAs bare result }
@@ -316,7 +340,8 @@ fn command<'a>(alloc: Global) -> Result<Command<'a>, AllocError>
     let command = with_subcommand(command, sim_command(alloc));
     let command = with_subcommand(command, threads_command(alloc));
     let command = with_subcommand(command, check_command(alloc));
-    with_subcommand(command, view_command(alloc))
+    let command = with_subcommand(command, view_command(alloc));
+    with_subcommand(command, draw_command(alloc))
 }
 
 /// The count that was given for an option, or its default.
@@ -375,6 +400,9 @@ fn task_of(name: &str, found: &ArgMatches) -> Option<Task>
             explained: flag_in(found, "explain"),
         }),
         "view" => Some(Task::View),
+        "draw" => Some(Task::Draw {
+            every: count_in(found, "every")?,
+        }),
         _ => None,
     }
 }
@@ -440,6 +468,9 @@ pub fn words_law()
     ensures check { (program path : List ℕ) → is_path path ≡ true → Asks (program ∷ codes "check" ∷ path ∷ []) (path, Check false) }
     ensures explain { (program path : List ℕ) → is_path path ≡ true → Asks (program ∷ codes "check" ∷ path ∷ codes "--explain" ∷ []) (path, Check true) }
     ensures view { (program path : List ℕ) → is_path path ≡ true → Asks (program ∷ codes "view" ∷ path ∷ []) (path, View) }
+    ensures draw { (program path : List ℕ) → is_path path ≡ true → Asks (program ∷ codes "draw" ∷ path ∷ []) (path, Draw 1) }
+    ensures every { (program path : List ℕ) → is_path path ≡ true
+        → Asks (program ∷ codes "draw" ∷ path ∷ codes "--every" ∷ codes "10" ∷ []) (path, Draw 10) }
 {}
 
 /// The text for the user where a word isn't UTF-8.

@@ -8,6 +8,7 @@
 //!                                                            --> judge_record     the verdict on a record
 //!                                                            --> explain_record   the verdict with its reason
 //!                                                            --> view_script      the heap as it stands
+//!                                                            --> draw_script      the life of the heap, as a page
 //! ```
 //!
 //! `program` reads the command line (crate `command_line`), opens the file and calls `perform`, which does the job and tells its end (crate

@@ -6,6 +6,7 @@ ghost use Rattle.g1heap.specs.Jobs.{DoesCheck, DoesJob};
 use crate::actors::{simulate_script, thread_script};
 use crate::in_order::run_script;
 use command_line::{Job, Order, Task};
+use heap_life::draw_script;
 use heap_view::view_script;
 use jobs::{JobFault, conclude, perform_check, perform_explain};
 use script_text::{WatchedReader, WatchedWriter};
@@ -76,6 +77,10 @@ pub fn perform<H: Threads + Wait + Sync, R: Read, W: Write, E: Write>(
         Task::View => {
             let viewed = view_script(alloc, reader, out);
             conclude(viewed, err)
+        }
+        Task::Draw { every } => {
+            let drawn = draw_script(alloc, every, reader, out);
+            conclude(drawn, err)
         }
     }
 }

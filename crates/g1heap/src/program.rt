@@ -30,6 +30,7 @@ fn conclude_unread<E: Write>(task: Task, err: &mut WatchedWriter<E>) -> u8
         Task::Script(_) => conclude(Err(JobFault::Read(ReadFault::CannotRead)), err),
         Task::Check { .. } => { conclude_verdict(Err(JobFault::Read(ReadFault::CannotRead)), err) }
         Task::View => conclude(Err(JobFault::Read(ReadFault::CannotRead)), err),
+        Task::Draw { .. } => conclude(Err(JobFault::Read(ReadFault::CannotRead)), err),
     }
 }
 

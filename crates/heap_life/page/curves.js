@@ -14,9 +14,9 @@ function shape(tag, attributes, parent) {
   return element;
 }
 
-// A number with thin gaps between thousands.
+// A number with commas between thousands.
 function grouped(number) {
-  return String(number).replace(/\B(?=(\d{3})+$)/g, "\u2009");
+  return String(number).replace(/\B(?=(\d{3})+$)/g, ",");
 }
 
 const CURVES = [

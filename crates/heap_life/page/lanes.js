@@ -169,12 +169,11 @@ class Lanes {
   }
 
   drawLabel(lane, region, row, current) {
-    const kinds = { f: "free", o: "", h: "humongous", t: "… of the run" };
-    const wide = this.layout.wide > 140;
+    const kinds = { f: "free", o: "", h: "humongous", t: "of the run" };
     const parts = [String(region)];
-    if (wide && kinds[row.kind]) parts.push(kinds[row.kind]);
-    if (current) parts.push(wide ? "current" : "◆");
-    shape("text", { class: row.kind === "f" ? "soft tag" : "tag", x: 0, y: -6, text: parts.join(" · "), style: current ? "font-weight:700" : "" }, lane);
+    if (this.layout.wide > 140 && kinds[row.kind]) parts.push(kinds[row.kind]);
+    if (current) parts.push("current");
+    shape("text", { class: row.kind === "f" ? "soft tag" : "tag", x: 0, y: -6, text: parts.join(", "), style: current ? "font-weight:700" : "" }, lane);
     if (row.kind === "o" && this.layout.wide > 220) {
       shape("text", { class: "soft tag", x: this.layout.wide, y: -6, "text-anchor": "end", text: `${grouped(row.live)} live of ${grouped(row.used)}` }, lane);
     }

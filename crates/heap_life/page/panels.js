@@ -119,7 +119,7 @@ function aboutPause(life, moment) {
     set.length ? `Its set: ${set.length === 1 ? "region" : "regions"} ${listOf(set)}, now free.` : "Its set is empty: nothing was reclaimed.",
     into.length ? `Copied: ${plural(words, "word")} into ${into.length === 1 ? "region" : "regions"} ${listOf(into)}.` : "Nothing was copied.",
   ];
-  if (copies.length) items.push(`Objects: ${copies.slice(0, 12).map((copy) => `#${copy.name} ${copy.from.address} → ${copy.to.address}`).join(", ")}${copies.length > 12 ? ` and ${copies.length - 12} more` : ""}.`);
+  if (copies.length) items.push(`Objects: ${copies.slice(0, 12).map((copy) => `#${copy.name} from ${copy.from.address} to ${copy.to.address}`).join(", ")}${copies.length > 12 ? ` and ${copies.length - 12} more` : ""}.`);
   else if (words) items.push("Which object went where isn't in this file: arrows are drawn for small heaps alone.");
   items.push(dirty.length ? `Dirty cards that it refined first: ${listOf(dirty)}.` : "No card was dirty before.");
   if (covered.size) items.push(`Cards that the sets of these regions covered: ${listOf([...covered])}${whole.size ? `, and all of ${listOf([...whole])}` : ""}.`);

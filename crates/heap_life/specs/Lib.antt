@@ -2,3 +2,5 @@ pub mod Shares
 pub mod Numbers
 pub mod Paces
 pub mod Lives
+pub mod Pages
+pub mod Drawings

@@ -10,7 +10,7 @@ use Rattle.object_graph.specs.Run.{IsRun}
 use Rattle.step_core.specs.Stands.{CoreState, Stands}
 use Rattle.step_core.specs.Histories.{Runs, RunsTo, step_in, actor_in}
 use Rattle.heap_life.specs.Numbers.{IsNumbersOf}
-use Rattle.heap_life.specs.Paces.{IsDue}
+use Rattle.heap_life.specs.Paces.{IsDue, IsPaceFor, most_moments}
 use Rattle.heap_life.specs.declared.life.Moment.{Moment}
 use Rattle.heap_life.specs.declared.life.Life.{Life}
 
@@ -52,8 +52,8 @@ HasMoment [] n = ⊥
 HasMoment (m ∷ ms) n = (m.event ≡ n) ⊎ HasMoment ms n
 
 -- A life of a new heap over the steps of some events: its record is a run of the graph with these steps and actors, each of its moments is one
--- of the run, and there is one wherever the pace wants one
-pub record IsLifeOf (events : EventList) (life : Life) : Type 0 where
+-- of the run, and there is one wherever the pace wants one, which is the one that was asked for where it makes few enough
+pub record IsLifeOf (every : ℕ) (events : EventList) (life : Life) : Type 0 where
   pub config : life.history.config ≡ events.config
   pub steps : map step_in life.history.events ≡ map step_in events.events
   pub actors : map actor_in life.history.events ≡ map actor_in events.events
@@ -62,4 +62,5 @@ pub record IsLifeOf (events : EventList) (life : Life) : Type 0 where
   pub end : CoreState
   pub ends : RunsTo events.config life.history.events end
   pub each : All (IsMomentOf events.config life.history.events) life.moments.items
+  pub pace : IsPaceFor every (most_moments events.config) events.events life.pace
   pub due : (n : ℕ) → n ≤ length events.events → IsDue life.pace events.events n → HasMoment life.moments.items n

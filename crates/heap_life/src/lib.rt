@@ -1,7 +1,7 @@
 //! The life of a heap over a list of steps, moment by moment, as a page for a person's eyes.
 //!
 //! ```text
-//!   events -- live --> Life: the record, the moments, and the moments as lines -- write_page --> one file of HTML
+//!   events -- live --> Life: the record, the moments, and the moments as lines -- page_of --> one file of HTML
 //! ```
 //!
 //! `live` does the steps of events again in a new heap. The record that comes of it is a run; each moment has the numbers of a core of that
@@ -12,10 +12,12 @@
 //! The page's files are in `page/`; `tools/embed_page` makes the sources `page_parts` of them.
 #![tactic(auto)]
 
+mod draw;
 mod life;
 mod moment_text;
 mod numbers;
 mod pace;
+mod pacing;
 mod page;
 mod page_parts;
 mod pieces;
@@ -25,8 +27,10 @@ mod shares;
 mod tests;
 mod tile_text;
 
+pub use draw::draw_script;
 pub use life::{Life, Moment, live, planned};
 pub use numbers::{Numbers, numbers_of};
-pub use pace::{Pace, pace_of};
-pub use page::write_page;
+pub use pace::Pace;
+pub use pacing::pace_of;
+pub use page::page_of;
 pub use shares::{Part, Shares, live_words, shares_of};

@@ -12,17 +12,19 @@ ghost use Rattle.heap_words.specs.declared.config.Config.{Config};
 ghost use Rattle.heap_steps.specs.Actors.{AreEvents, IsStep, IsStepOf};
 ghost use Rattle.object_graph.specs.State.{State};
 ghost use Rattle.step_core.specs.Stands.{Stands};
-ghost use Rattle.step_core.specs.Histories.{Runs, step_in, actor_in, actor_of, IsRunFault};
-ghost use Rattle.heap_life.specs.Paces.{counts, one_if, IsDue};
+ghost use Rattle.heap_steps.specs.Faults.{IsRunFault};
+ghost use Rattle.step_core.specs.Histories.{Runs, step_in, actor_in, actor_of};
+ghost use Rattle.heap_life.specs.Paces.{counts, one_if, IsDue, IsPaceFor, most_moments};
 ghost use Rattle.heap_life.specs.Lives.{moved_by, IsMomentFrom, HasMoment, NotesIf, IsLifeOf};
 
 use crate::moment_text::Teller;
 use crate::numbers::{Numbers, numbers_of};
-use crate::pace::{Pace, pace_of};
-use heap_steps::{Actor, Event, Plan, Record, Reply, Step};
+use crate::pace::Pace;
+use crate::pacing::pace_of;
+use heap_steps::{Actor, Event, Plan, Record, Reply, RunFault, Step, run_fault};
 use heap_words::config::Config;
 use std::alloc::{AllocError, Global};
-use step_core::{Core, RunFault, run_fault};
+use step_core::Core;
 
 /// Up to how many words a heap has its tiles told.
 const TOLD_WORDS: u32 = 1 << 16;
@@ -170,8 +172,8 @@ pub struct Life {
     pub pace: Pace,
     /// The moments, in their order.
     pub moments: Vec<Moment>,
-    /// The moments as lines.
-    pub teller: Teller,
+    /// The moments as lines, which `docs/DRAWING.md` describes.
+    pub told: Vec<u8>,
 }
 
 /// Where it is let go there is one call, and not a drop for each of its parts.
@@ -181,13 +183,15 @@ impl Drop for Life {
             history: _,
             pace: _,
             moments: _,
-            teller: _,
+            told: _,
         } = self;
     }
 }
 
-/// How many moments a heap has at most.
-fn most_moments(config: &Config) -> u64 {
+/// About how many moments a heap has at most.
+fn most_moments(config: &Config) -> u64
+    ensures { result ≡ most_moments config.now }
+{
     let by_lines = MOST_LINES / config.regions.max(1);
     let words = u64::from(config.regions) * u64::from(config.words);
     let by_words = u64::from(MOST_WORDS) / words.max(1);
@@ -232,6 +236,7 @@ pub fn planned(alloc: Global, plan: &Plan) -> Result<Record, AllocError>
 fn life_of(alloc: Global, core: &mut Core, events: &[Event], pace: Pace) -> Result<Life, AllocError>
     requires { AreEvents core.old.config events.now }
     ensures config { IfOk result (λ l. l.history.config ≡ core.old.config) }
+    ensures pace { IfOk result (λ l. l.pace ≡ pace) }
     ensures steps { IfOk result (λ l. map step_in l.history.events ≡ map step_in events.now) }
     ensures actors { IfOk result (λ l. map actor_in l.history.events ≡ map actor_in events.now) }
     ensures runs { IfOk result (λ l. (s : State) → Stands s core.old → Runs s core.old l.history.events core.new) }
@@ -246,14 +251,14 @@ fn life_of(alloc: Global, core: &mut Core, events: &[Event], pace: Pace) -> Resu
         history,
         pace,
         moments,
-        teller,
+        told: teller.into_text(),
     })
 }
 
 /// The life of a new heap over the steps of events, done again in their order; their replies don't matter. A moment is shown each `every`
 /// events, and before and behind each step of the collector, or fewer where they would be too many, as the life's pace says.
 pub fn live(alloc: Global, events: &Record, every: u32) -> Result<Life, RunFault>
-    ensures life { IfOk result (IsLifeOf events.now) }
+    ensures life { IfOk result (IsLifeOf every events.now) }
     ensures suits { OnOk result (Suits events.now.config) }
     ensures fault { IfErr result (IsRunFault events.now.config) }
 {

@@ -168,8 +168,8 @@ impl Teller {
     }
 
     /// What was told.
-    pub fn text(&self) -> &[u8] {
-        self.text.as_slice()
+    pub fn into_text(self) -> Vec<u8> {
+        self.text
     }
 
     /// Tells a region, unless it is as it was told last.

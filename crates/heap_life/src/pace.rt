@@ -1,8 +1,8 @@
 //! Which moments of a run are shown.
 
-ghost use Rattle.std.specs.Prelude.{◌≡◌, ◌<◌, ◌%◌, ◌==◌, ◌&&◌, ◌≤◌, length};
+ghost use Rattle.std.specs.Prelude.{◌≡◌, ◌<◌, ◌%◌, ◌==◌, ◌&&◌};
 
-use heap_steps::{CollectorStep, Event, Step};
+use heap_steps::{CollectorStep, Step};
 
 /// Which moments of a run are shown: the first and the last; each that so many events are a multiple of; and those before and behind each
 /// step of the collector that counts, one of so many.
@@ -48,59 +48,5 @@ impl Pace {
         ensures { result ≡ (done % self.now.every == 0) }
     {
         done % self.every == 0
-    }
-}
-
-/// How many steps of the collector count.
-fn count(events: &[Event], small: bool) -> u64
-    ensures { result ≤ length events.now }
-{
-    let pace = Pace {
-        every: 1,
-        stride: 1,
-        small,
-    };
-    events
-        .iter()
-        .filter(|event| pace.counts(event.step))
-        .count() as u64
-}
-
-/// A whole in at most so many parts, as many more as divide it: how large a part is, at least 1.
-fn part(whole: u64, most: u64) -> u64
-    ensures { 0 < result }
-{
-    let size = whole / most.max(1);
-    if size < u64::MAX { size + 1 } else { size }
-}
-
-/// The pace of a run of these events, by the wish for a moment each `every` events: where there would be more than about `most` moments,
-/// fewer are shown, and where `mark` and `refine` would make too many, those don't count.
-pub fn pace_of(events: &[Event], every: u64, most: u64) -> Pace {
-    let half = most / 2;
-    let whole = events.len() as u64;
-    let wished = every.max(1);
-    let every = if whole / wished > half {
-        part(whole, half)
-    } else {
-        wished
-    };
-    if count(events, true) <= half / 2 {
-        return Pace {
-            every,
-            stride: 1,
-            small: true,
-        };
-    }
-    let turns = count(events, false);
-    let stride = if turns <= half / 2 {
-        1
-    } else {
-        part(turns, half / 2)
-    };
-    Pace {
-        every,
-        stride,
-        small: false,
     }
 }

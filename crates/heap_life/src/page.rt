@@ -1,11 +1,16 @@
 //! The page: one file of HTML, with the record, the moments and what draws them.
 
+ghost use Rattle.std.specs.Prelude.{◌≡◌, ◌≤◌, ◌++◌, ℕ, List, IfOk, length};
+ghost use Rattle.script_text.specs.Records.{record_text};
+ghost use Rattle.heap_life.specs.Pages.{IsPageOf};
+
 use crate::life::{Life, Moment};
 use crate::page_parts::{
     BEFORE, BEHIND, BETWEEN, END, SCRIPT_CURVES, SCRIPT_LANES, SCRIPT_LIFE, SCRIPT_OVER,
     SCRIPT_PAGE, SCRIPT_PANELS,
 };
 use crate::pieces::write_text;
+use heap_steps::Record;
 use script_text::{WatchedWriter, write_record};
 use std::alloc::{AllocError, Global};
 use std::io;
@@ -14,10 +19,12 @@ use std::io::Write;
 /// Up to how many events all lines of the record stand in the page.
 const MOST_EVENTS: usize = 100_000;
 
-/// The text of the life's record.
-fn record_text(alloc: Global, life: &Life) -> Result<Vec<u8>, AllocError> {
+/// The text of a record.
+fn record_text(alloc: Global, history: &Record) -> Result<Vec<u8>, AllocError>
+    ensures { IfOk result (λ text. text.items ≡ record_text history.now) }
+{
     let mut writer = WatchedWriter::new(Vec::new(alloc));
-    match write_record(alloc, &life.history, &mut writer) {
+    match write_record(alloc, history, &mut writer) {
         Ok(()) => Ok(writer.into_inner()),
         Err(_) => Err(AllocError),
     }
@@ -41,23 +48,30 @@ fn skip(moments: &[Moment], from: usize, event: u64) -> usize {
     moments.len()
 }
 
-/// Writes the lines of a record's text: all of them, or where they are too many the first, and those of the events next to a moment.
-fn write_lines<W: Write>(
-    writer: &mut W,
-    text: &[u8],
-    moments: &[Moment],
-    all: bool,
-) -> io::Result<()> {
+/// Of the lines of a record's text the first, and those of the events next to a moment.
+fn near_lines(alloc: Global, text: &[u8], moments: &[Moment]) -> Result<Vec<u8>, AllocError> {
+    let mut lines = Vec::new(alloc);
     let mut event = 0u64;
     let mut place = 0;
     for line in text.split_inclusive(|byte| *byte == b'\n') {
         place = skip(moments, place, event);
-        if all || event == 0 || is_near(moments, place, event) {
-            writer.write_all(line)?;
+        if event == 0 || is_near(moments, place, event) {
+            lines.extend_from_slice(line)?;
         }
         event = event.saturating_add(1);
     }
-    Ok(())
+    Ok(lines)
+}
+
+/// The lines of the record that stand in the page: all of them, or where they are too many some.
+fn lines_of(alloc: Global, life: &Life) -> Result<Vec<u8>, AllocError>
+    ensures { IfOk result (λ lines. length life.now.history.events ≤ 100000 → lines.items ≡ record_text life.now.history) }
+{
+    let text = record_text(alloc, &life.history)?;
+    if life.history.events().len() <= MOST_EVENTS {
+        return Ok(text);
+    }
+    near_lines(alloc, text.as_slice(), life.moments.as_slice())
 }
 
 /// Writes what the page says of itself first: the words of a card, the pace, how many events there are.
@@ -76,26 +90,78 @@ fn write_facts<W: Write>(writer: &mut W, life: &Life) -> io::Result<()> {
     writeln!(writer, "events {}", life.history.events().len())
 }
 
+/// Writes what stands between the record's lines and the moments'.
+fn write_between<W: Write>(writer: &mut W, life: &Life) -> io::Result<()> {
+    write_text(writer, BETWEEN)?;
+    write_facts(writer, life)
+}
+
+/// What stands between the record's lines and the moments'.
+fn text_between(alloc: Global, life: &Life) -> Result<Vec<u8>, AllocError> {
+    let mut text = Vec::new(alloc);
+    match write_between(&mut text, life) {
+        Ok(()) => Ok(text),
+        Err(_) => Err(AllocError),
+    }
+}
+
 /// Writes what draws a life.
 fn write_scripts<W: Write>(writer: &mut W) -> io::Result<()> {
+    write_text(writer, BEHIND)?;
     write_text(writer, SCRIPT_LIFE)?;
     write_text(writer, SCRIPT_CURVES)?;
     write_text(writer, SCRIPT_LANES)?;
     write_text(writer, SCRIPT_OVER)?;
     write_text(writer, SCRIPT_PANELS)?;
-    write_text(writer, SCRIPT_PAGE)
+    write_text(writer, SCRIPT_PAGE)?;
+    write_text(writer, END)
 }
 
-/// Writes the page of a life.
-pub fn write_page<W: Write>(alloc: Global, life: &Life, writer: &mut W) -> io::Result<()> {
-    write_text(writer, BEFORE)?;
-    let text = record_text(alloc, life)?;
-    let all = life.history.events().len() <= MOST_EVENTS;
-    write_lines(writer, text.as_slice(), life.moments.as_slice(), all)?;
-    write_text(writer, BETWEEN)?;
-    write_facts(writer, life)?;
-    writer.write_all(life.teller.text())?;
-    write_text(writer, BEHIND)?;
-    write_scripts(writer)?;
-    write_text(writer, END)
+/// What stands behind the moments' lines.
+fn text_behind(alloc: Global) -> Result<Vec<u8>, AllocError> {
+    let mut text = Vec::new(alloc);
+    match write_scripts(&mut text) {
+        Ok(()) => Ok(text),
+        Err(_) => Err(AllocError),
+    }
+}
+
+/// What stands before the record's lines.
+fn text_before() -> &'static [u8] {
+    BEFORE.as_bytes()
+}
+
+/// Puts the parts of a page in their order behind one another.
+fn joined(
+    alloc: Global,
+    lines: &[u8],
+    between: &[u8],
+    told: &[u8],
+    behind: &[u8],
+) -> Result<Vec<u8>, AllocError>
+    ensures { IfOk result (λ page. (before : List ℕ) × (page.items ≡ before ++ lines.now ++ between.now ++ told.now ++ behind.now)) }
+{
+    let mut page = Vec::new(alloc);
+    page.extend_from_slice(text_before())?;
+    page.extend_from_slice(lines)?;
+    page.extend_from_slice(between)?;
+    page.extend_from_slice(told)?;
+    page.extend_from_slice(behind)?;
+    Ok(page)
+}
+
+/// The page of a life.
+pub fn page_of(alloc: Global, life: &Life) -> Result<Vec<u8>, AllocError>
+    ensures { IfOk result (λ page. IsPageOf life.now page.items) }
+{
+    let lines = lines_of(alloc, life)?;
+    let between = text_between(alloc, life)?;
+    let behind = text_behind(alloc)?;
+    joined(
+        alloc,
+        lines.as_slice(),
+        between.as_slice(),
+        life.told.as_slice(),
+        behind.as_slice(),
+    )
 }

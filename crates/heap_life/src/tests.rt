@@ -1,13 +1,13 @@
 //! The lines of a small life, written by hand, and its page.
 
-use crate::{live, planned, write_page};
+use crate::{live, page_of, planned};
 use script_text::parse;
 use std::alloc::Global;
 use std::process::Abort;
 use std::test::Fail;
 
 /// The page of a script.
-fn page_of(alloc: Global, script: &str) -> Result<Vec<u8>, Fail> {
+fn page_of_script(alloc: Global, script: &str) -> Result<Vec<u8>, Fail> {
     let Ok(plan) = parse(alloc, script.as_bytes()) else {
         return Err(Fail::from("this is a script"));
     };
@@ -17,9 +17,7 @@ fn page_of(alloc: Global, script: &str) -> Result<Vec<u8>, Fail> {
     let Ok(life) = live(alloc, &events, 1) else {
         return Err(Fail::from("a life"));
     };
-    let mut page = Vec::new(alloc);
-    write_page(alloc, &life, &mut page)?;
-    Ok(page)
+    Ok(page_of(alloc, &life)?)
 }
 
 /// How often a text stands in another one.
@@ -84,7 +82,7 @@ r 0 f
 r 1 o 4 0 0 4 0 4 0
 o 0 0 n - ; ; 0
 </script>";
-    let page = page_of(rt.alloc(), script)?;
+    let page = page_of_script(rt.alloc(), script)?;
     assert_eq!(rt; count_in(page.as_slice(), lines.as_bytes()), 1);
     assert_eq!(rt;
         count_in(page.as_slice(), b"6 gc pause 8 = moved 1 4\n</script>"),

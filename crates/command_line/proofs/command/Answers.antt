@@ -7,4 +7,5 @@ returns c =
     let sim = c.with_subcommand-command-2.ensures _ _ refl run c.sim_command.ensures in
     let threads = c.with_subcommand-command-3.ensures _ _ refl sim c.threads_command.ensures in
     let check = c.with_subcommand-command-4.ensures _ _ refl threads c.check_command.ensures in
-    c.with_subcommand.ensures _ _ refl check c.view_command.ensures
+    let view = c.with_subcommand-command-5.ensures _ _ refl check c.view_command.ensures in
+    c.with_subcommand.ensures _ _ refl view c.draw_command.ensures

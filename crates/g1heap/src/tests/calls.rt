@@ -5,6 +5,7 @@ use crate::actors::{simulate_script, thread_script};
 use crate::in_order::run_script;
 use crate::program::refuse;
 use command_line::{Order, Task, misspelt, read_words};
+use heap_life::draw_script;
 use heap_view::view_script;
 use jobs::judge_record;
 use object_graph::Verdict;
@@ -67,6 +68,14 @@ fn views_a_script(rt: HostRuntime) {
             .as_slice()
             .starts_with(b"heap 4 16 8 1 0\nnext name 1\n")
     );
+}
+
+#[test]
+fn draws_a_script(rt: HostRuntime) {
+    let mut out = WatchedWriter::new(Vec::new(rt.alloc()));
+    let mut reader = WatchedReader::new(SCRIPT);
+    assert_eq!(rt; draw_script(rt.alloc(), 1, &mut reader, &mut out), Ok(()));
+    assert!(rt; out.into_inner().as_slice().starts_with(b"<!doctype html>"));
 }
 
 /// Words that aren't text are a mistake.

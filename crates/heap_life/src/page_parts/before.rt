@@ -187,8 +187,8 @@ tr.chosen td { background: color-mix(in srgb, var(--deep) 18%, transparent); }\n
 </p>\n\
 </header>\n\
 <dl id=\"keys\" hidden>\n\
-<div><dt><kbd>←</kbd> <kbd>→</kbd></dt><dd>one moment back or on</dd></div>\n\
-<div><dt><kbd>Shift</kbd> <kbd>←</kbd> <kbd>→</kbd></dt><dd>to the collector's step before or behind</dd></div>\n\
+<div><dt><kbd>Left</kbd> <kbd>Right</kbd></dt><dd>one moment back or on</dd></div>\n\
+<div><dt><kbd>Shift</kbd> <kbd>Left</kbd> <kbd>Right</kbd></dt><dd>to the collector's step before or behind</dd></div>\n\
 <div><dt><kbd>Home</kbd> <kbd>End</kbd></dt><dd>the first moment, the last one</dd></div>\n\
 <div><dt><kbd>Space</kbd></dt><dd>play, pause</dd></div>\n\
 <div><dt><kbd>+</kbd> <kbd>-</kbd></dt><dd>play faster, slower</dd></div>\n\
@@ -199,12 +199,12 @@ tr.chosen td { background: color-mix(in srgb, var(--deep) 18%, transparent); }\n
 <section id=\"time\" aria-label=\"Moments\">\n\
 <button id=\"first\" type=\"button\" title=\"The first moment (Home)\" aria-label=\"The first moment\"><svg viewBox=\"0 0 24 24\
 \" aria-hidden=\"true\"><path d=\"M5 4v16M19 5L9 12l10 7z\"/></svg></button>\n\
-<button id=\"back\" type=\"button\" title=\"The collector's step before (Shift ←)\" aria-label=\"The collector's step before\"><\
-svg viewBox=\"0 0 24 24\" aria-hidden=\"true\"><path d=\"M12 5L3 12l9 7zM21 5l-9 7 9 7z\"/></svg></button>\n\
+<button id=\"back\" type=\"button\" title=\"The collector's step before (Shift Left)\" aria-label=\"The collector's step before\
+\"><svg viewBox=\"0 0 24 24\" aria-hidden=\"true\"><path d=\"M12 5L3 12l9 7zM21 5l-9 7 9 7z\"/></svg></button>\n\
 <button id=\"play\" type=\"button\" title=\"Play (Space)\" aria-label=\"Play\"><svg viewBox=\"0 0 24 24\" aria-hidden=\"true\"><\
 path d=\"M6 4l14 8-14 8z\"/></svg></button>\n\
-<button id=\"on\" type=\"button\" title=\"The collector's step behind (Shift →)\" aria-label=\"The collector's step behind\"><sv\
-g viewBox=\"0 0 24 24\" aria-hidden=\"true\"><path d=\"M12 5l9 7-9 7zM3 5l9 7-9 7z\"/></svg></button>\n\
+<button id=\"on\" type=\"button\" title=\"The collector's step behind (Shift Right)\" aria-label=\"The collector's step behind\"\
+><svg viewBox=\"0 0 24 24\" aria-hidden=\"true\"><path d=\"M12 5l9 7-9 7zM3 5l9 7-9 7z\"/></svg></button>\n\
 <button id=\"last\" type=\"button\" title=\"The last moment (End)\" aria-label=\"The last moment\"><svg viewBox=\"0 0 24 24\" ar\
 ia-hidden=\"true\"><path d=\"M19 4v16M5 5l10 7-10 7z\"/></svg></button>\n\
 <input id=\"slider\" type=\"range\" min=\"0\" value=\"0\" aria-label=\"Moment\">\n\

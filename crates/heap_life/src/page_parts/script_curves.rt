@@ -20,9 +20,9 @@ function shape(tag, attributes, parent) {\n\
 \x20 return element;\n\
 }\n\
 \n\
-// A number with thin gaps between thousands.\n\
+// A number with commas between thousands.\n\
 function grouped(number) {\n\
-\x20 return String(number).replace(/\\B(?=(\\d{3})+$)/g, \"\\u2009\");\n\
+\x20 return String(number).replace(/\\B(?=(\\d{3})+$)/g, \",\");\n\
 }\n\
 \n\
 const CURVES = [\n\

@@ -185,13 +185,12 @@ region ? \"chosen\" : \"\"].join(\" \"));\n\
 \x20 }\n\
 \n\
 \x20 drawLabel(lane, region, row, current) {\n\
-\x20   const kinds = { f: \"free\", o: \"\", h: \"humongous\", t: \"… of the run\" };\n\
-\x20   const wide = this.layout.wide > 140;\n\
+\x20   const kinds = { f: \"free\", o: \"\", h: \"humongous\", t: \"of the run\" };\n\
 \x20   const parts = [String(region)];\n\
-\x20   if (wide && kinds[row.kind]) parts.push(kinds[row.kind]);\n\
-\x20   if (current) parts.push(wide ? \"current\" : \"◆\");\n\
-\x20   shape(\"text\", { class: row.kind === \"f\" ? \"soft tag\" : \"tag\", x: 0, y: -6, text: parts.join(\" · \"), style: curren\
-t ? \"font-weight:700\" : \"\" }, lane);\n\
+\x20   if (this.layout.wide > 140 && kinds[row.kind]) parts.push(kinds[row.kind]);\n\
+\x20   if (current) parts.push(\"current\");\n\
+\x20   shape(\"text\", { class: row.kind === \"f\" ? \"soft tag\" : \"tag\", x: 0, y: -6, text: parts.join(\", \"), style: current \
+? \"font-weight:700\" : \"\" }, lane);\n\
 \x20   if (row.kind === \"o\" && this.layout.wide > 220) {\n\
 \x20     shape(\"text\", { class: \"soft tag\", x: this.layout.wide, y: -6, \"text-anchor\": \"end\", text: `${grouped(row.live)} l\
 ive of ${grouped(row.used)}` }, lane);\n\

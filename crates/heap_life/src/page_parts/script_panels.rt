@@ -128,8 +128,8 @@ ng was reclaimed.\",\n\
 \x20   into.length ? `Copied: ${plural(words, \"word\")} into ${into.length === 1 ? \"region\" : \"regions\"} ${listOf(into)}.` : \
 \"Nothing was copied.\",\n\
 \x20 ];\n\
-\x20 if (copies.length) items.push(`Objects: ${copies.slice(0, 12).map((copy) => `#${copy.name} ${copy.from.address} → ${copy.to.ad\
-dress}`).join(\", \")}${copies.length > 12 ? ` and ${copies.length - 12} more` : \"\"}.`);\n\
+\x20 if (copies.length) items.push(`Objects: ${copies.slice(0, 12).map((copy) => `#${copy.name} from ${copy.from.address} to ${copy\
+.to.address}`).join(\", \")}${copies.length > 12 ? ` and ${copies.length - 12} more` : \"\"}.`);\n\
 \x20 else if (words) items.push(\"Which object went where isn't in this file: arrows are drawn for small heaps alone.\");\n\
 \x20 items.push(dirty.length ? `Dirty cards that it refined first: ${listOf(dirty)}.` : \"No card was dirty before.\");\n\
 \x20 if (covered.size) items.push(`Cards that the sets of these regions covered: ${listOf([...covered])}${whole.size ? `, and all o\

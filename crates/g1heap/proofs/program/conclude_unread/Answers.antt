@@ -29,3 +29,10 @@ returns-in-View g c = λ given left old new unread kept. rw c.in-View.is (record
   views = (unread, kept);
   tells = c.conclude-in-View.ensures;
 })
+
+pub returns-in-Draw : goal.returns-in-Draw
+returns-in-Draw g c = λ given left old new unread kept. rw c.in-Draw.is (record {
+  outcome = Err (faults.Read reads.CannotRead);
+  draws = (unread, kept);
+  tells = c.conclude-in-Draw.ensures;
+})
