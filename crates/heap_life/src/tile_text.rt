@@ -14,11 +14,10 @@ ghost use Rattle.regions.specs.Walks.{IsPlacedTile};
 
 use crate::pieces::{write_number, write_text};
 use crate::shares::{Part, is_grey, part_of};
-use heap_view::name_at;
 use heap_words::addr::{Addr, Ptr, RegionNo};
 use regions::{RegionTable, Shape};
 use std::io::{Result, Write};
-use step_core::Core;
+use step_core::{Core, object_name};
 
 /// How many fields of a kind are told.
 const SHOWN: u32 = 16;
@@ -28,7 +27,7 @@ fn write_field<W: Write>(table: &RegionTable, writer: &mut W, pointer: Ptr) -> R
     let Some(at) = pointer else {
         return write_text(writer, " -");
     };
-    match name_at(table, at) {
+    match object_name(table, at) {
         Some(name) => write_number(writer, name),
         None => write_text(writer, " ?"),
     }

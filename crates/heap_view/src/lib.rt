@@ -38,7 +38,6 @@ mod tests;
 mod view;
 
 use heap_words::config::Format;
-pub use names::name_at;
 use pieces::{write_number, write_text};
 use std::io::{Result, Write};
 use step_core::Core;

@@ -1,38 +1,9 @@
-//! Names of objects, found by their addresses.
+//! What a field leads to, by the object's name.
 
-ghost use Rattle.std.specs.Prelude.{◌≡◌, IfSome, IsSome, Some};
-ghost use Rattle.regions.specs.Table.{tile_in};
-ghost use Rattle.step_core.specs.Stands.{name_in};
-
-use heap_words::addr::{Addr, Ptr};
-use regions::{RegionTable, Shape};
+use heap_words::addr::Ptr;
+use regions::RegionTable;
 use std::io::{Result, Write};
-
-/// The name of the object that a tile is.
-fn tile_name(table: &RegionTable, at: Addr) -> Option<u64>
-    requires { IsSome (tile_in table.now at) }
-    ensures { IfSome result (λ name. name_in table.now (Some at) ≡ Some name) }
-{
-    match table.tile(at) {
-        Shape::Object { .. } => Some(table.name(at)),
-        Shape::Filler { .. } | Shape::Forwarded { .. } => None,
-    }
-}
-
-/// The name of the object that starts at an address, none where none does: a dead object's field can lead there.
-pub fn name_at(table: &RegionTable, at: Addr) -> Option<u64>
-    ensures { IfSome result (λ name. name_in table.now (Some at) ≡ Some name) }
-{
-    table.law();
-    if at.word() >= table.region_count() * table.words_per_region() {
-        return None;
-    }
-    let first = table.first_tile(at)?;
-    if first.word() != at.word() {
-        return None;
-    }
-    tile_name(table, at)
-}
+use step_core::object_name;
 
 /// Writes a pointer or a weak slot by the name that it leads to, or `nil`.
 pub(crate) fn write_name<W: Write>(
@@ -43,7 +14,7 @@ pub(crate) fn write_name<W: Write>(
     let Some(at) = pointer else {
         return write!(writer, "nil");
     };
-    match name_at(table, at) {
+    match object_name(table, at) {
         Some(name) => write!(writer, "#{name}"),
         None => write!(writer, "no object at {}", at.word()),
     }

@@ -3,3 +3,4 @@ pub mod Cycles
 pub mod Pauses
 pub mod Cores
 pub mod Measuring
+pub mod Objects

@@ -24,17 +24,18 @@
 //!
 //! `mutator` has the mutator's steps, `barrier` what a store and a weak read do beside, `cycle` the steps of marking, `cleanup` the
 //! reclaiming, `refine` refinement, `candidates` the choice of what a pause evacuates, `pause` the pause, `step` any step,
-//! `runs` a list of them, `readers` what is read of a core from outside, `measures` what a policy of collection asks of it, `layers` the parts
-//! that a new core is made of.
+//! `runs` a list of them, `readers` what is read of a core from outside, `names` which object starts at an address, `measures` what a policy of
+//! collection asks of it, `layers` the parts that a new core is made of.
 //!
 //! A field is read or written in constant time: no step tests or walks its region to see that an address is an object.
 //!
 //! Examples of calls go on from this one, in which `rt` is a test's `HostRuntime` and `alloc` its allocator:
 //!
 //! ```rust
+//! use heap_words::addr::Addr;
 //! use heap_words::config::{Config, Format};
 //! use heap_steps::{Action, CollectorStep, Counts, Op, Refusal, Register, Reply, Step};
-//! use step_core::{Core, run, run_to_core};
+//! use step_core::{Core, object_name, run, run_to_core};
 //!
 //! let config = Config { format: Format::V1, regions: 4, words: 16, buffer: 8, mutators: 1, first_name: 0 };
 //! let r0 = Register { number: 0 };
@@ -53,6 +54,7 @@ mod heap;
 mod layers;
 mod measures;
 mod mutator;
+mod names;
 mod pause;
 mod readers;
 mod refine;
@@ -60,6 +62,7 @@ mod runs;
 mod step;
 
 pub use heap::Core;
+pub use names::object_name;
 pub use runs::{run, run_to_core};
 
 #[cfg(test)]

@@ -1,7 +1,7 @@
 use Rattle.std.proofs.Common.{◌<◌, ℕ, sym, subst, length}
 use Rattle.regions.specs.Shaped.{IsShaped}
 use Rattle.marker.specs.declared.marker.Marker.{Marker}
-use Rattle.heap_view.proofs.Objects.{object_word}
+use Rattle.step_core.proofs.Objects.{object_word}
 use Rattle.heap_life.proofs.tile_text.progress.Goals as goal
 
 pub get-requires : goal.get-requires

@@ -1,6 +1,6 @@
 use Rattle.regions.specs.Table.{object_at}
-use Rattle.heap_view.proofs.Objects.{is_object, has_name}
-use Rattle.heap_view.proofs.names.tile_name.Goals as goal
+use Rattle.step_core.proofs.Objects.{is_object, has_name}
+use Rattle.step_core.proofs.names.tile_name.Goals as goal
 
 pub name-requires : goal.name-requires
 unfolding object_at
