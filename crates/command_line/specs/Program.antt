@@ -45,7 +45,7 @@ flag name = record (new_rule name) { long = Some name; action = Some SetTrue }
 
 -- the subcommand that judges a record
 abbrev pub checked : App
-checked = with_rule (plain (codes "check")) (flag (codes "explain"))
+checked = with_rule (with_rule (plain (codes "check")) (flag (codes "explain"))) (flag (codes "follow"))
 
 -- the program without its subcommands
 abbrev pub bare : App

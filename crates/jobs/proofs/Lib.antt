@@ -1,4 +1,5 @@
 pub mod Endings
 mod Once
 mod Told
+mod Following
 pub mod Reasons
