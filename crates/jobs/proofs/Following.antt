@@ -1,5 +1,5 @@
 -- A record that is judged as it is written, event by event.
-use Rattle.std.proofs.Common.{◌≡◌, ℕ, ◌+◌, ◌-◌, ◌<◌, List, [], ◌∷◌, ◌++◌, length, take, slice_get, Option, Some, None, Result, Ok, Err, refl, sym, ap, ◌∙◌, append_assoc, arith, inl, inr, subst}
+use Rattle.std.proofs.Common.{◌≡◌, ℕ, ◌+◌, ◌-◌, List, [], ◌∷◌, ◌++◌, length, take, slice_get, Option, Some, None, Ok, Err, refl, sym, ap, ◌∙◌, append_assoc, arith, inl, inr, subst}
 use Rattle.std.specs.Prelude.{IsTrue}
 use Rattle.std.specs.Io.KnownBytes.{Consumes}
 use Rattle.std.proofs.KnownBytes.{Consumes-nil, Consumes-trans}
@@ -20,10 +20,10 @@ use Rattle.script_text.specs.Watched.{Reader, Gives, FailsToGive}
 use Rattle.script_text.specs.declared.awaited.NextFault.TheVariants as nexts
 use Rattle.script_text.specs.declared.fault.Kind.{Kind}
 use Rattle.script_text.specs.declared.fault.Kind.TheVariants as kinds
-use Rattle.script_text.specs.declared.fault.LineFault.{LineFault}
 use Rattle.script_text.specs.declared.fault.ReadFault.{ReadFault}
 use Rattle.script_text.specs.declared.fault.ReadFault.TheVariants as reads
 use Rattle.script_text.proofs.BothWays.Extended.{head_taken, head_wrong, event_taken, event_wrong, whole_of_record, whole_of_none}
+use Rattle.jobs.specs.Explanations.{IsExplained}
 use Rattle.jobs.specs.Followed.{IsWrongAlready, FindsBy}
 use Rattle.jobs.specs.declared.faults.JobFault.TheVariants as faults
 use Rattle.jobs.specs.declared.faults.JudgeFault.TheVariants as judges
@@ -81,13 +81,19 @@ found_yes c j start first now next waits left n suits f ended given head gives r
     let all : (so_far.0 ++ waits) ++ ended.0 ≡ text = append_assoc so_far.0 waits ended.0 in
     let whole : whole_lines text ≡ so_far.0 = whole_of_record so_far.0 (waits ++ ended.0) (made c f.es) so_far.2 ended.3 in
     let count = f.count in
-    let run = f.judged.1 in
-    (text, subst (λ (t : List ℕ). Gives given next t) all (gives_more given now next (so_far.0 ++ waits) ended.0 so_far.1 ended.1), (ended.2, record {
-      history = made c f.es;
-      read = ap record_of whole ∙ so_far.2;
-      suits = suits;
-      finds = (omega arith, f.judged.0, subst (λ (d : Config). IsRun (first_state d) f.es f.judged.0) f.config run);
-    }))
+    let run = f.judged.1 in (
+      text,
+      subst (λ (t : List ℕ). Gives given next t) all (gives_more given now next (so_far.0 ++ waits) ended.0 so_far.1 ended.1),
+      (
+        ended.2,
+        record {
+          history = made c f.es;
+          read = ap record_of whole ∙ so_far.2;
+          suits = suits;
+          finds = (omega arith, f.judged.0, subst (λ (d : Config). IsRun (first_state d) f.es f.judged.0) f.config run);
+        },
+      ),
+    )
 
 -- the last of some events
 last_there : (es : List Event) (e : Event) → slice_get (es ++ e ∷ []) (length es) ≡ Some e
@@ -104,12 +110,13 @@ found_no c j k start first now next waits left n e told suits f taken refused gi
     let last : n - 1 ≡ length f.es = omega arith in
     let before : take (n - 1) (f.es ++ e ∷ []) ≡ f.es = take_at f.es (e ∷ []) (n - 1) (sym last) in
     let why : Refuses (first_state c) f.es e told = subst (λ (d : Config). Refuses (first_state d) f.es e told) f.config (refused f.es f.judged) in
-    (so_far.0 ++ left, so_far.1, (so_far.0, ((left, refl), (record {
+    let found : IsExplained so_far.0 (Refused n e told) = record {
       history = made c (f.es ++ e ∷ []);
       read = so_far.2;
       suits = suits;
       finds = (omega arith, ap (slice_get (f.es ++ e ∷ [])) last ∙ last_there f.es e, subst (λ (xs : List Event). Refuses (first_state c) xs e told) (sym before) why);
-    }, length_push f.es e ∙ sym count))))
+    } in
+    (so_far.0 ++ left, so_far.1, (so_far.0, (left, refl), (found, length_push f.es e ∙ sym count)))
 
 -- the line has a fault
 pub found_wrong : (c : Config) (j : Judging) (start : Reader) (first : List ℕ) (now next : Reader) (waits left : List ℕ) (n : ℕ) (kind : Kind) → IsFollowing c j start first now waits n → IsNext {A = Event} (event_line_of n c) waits left now next (Err (nexts.Line kind)) →
@@ -117,9 +124,12 @@ pub found_wrong : (c : Config) (j : Judging) (start : Reader) (first : List ℕ)
 found_wrong c j start first now next waits left n kind f wrong given head gives read =
     let so_far = f.read given head gives read in
     let text = so_far.0 ++ left in
-    let all : (so_far.0 ++ waits) ++ wrong.0 ≡ text = append_assoc so_far.0 waits wrong.0 ∙ ap (λ (t : List ℕ). so_far.0 ++ t) (sym wrong.2) in
-    (text, subst (λ (t : List ℕ). Gives given next t) all (gives_more given now next (so_far.0 ++ waits) wrong.0 so_far.1 wrong.1), inl (subst (λ (m : ℕ). IsWrongAlready (record { line = m + 1; kind = kind }) text) (sym f.count)
-    (λ more. event_wrong so_far.0 left more (made c f.es) kind so_far.2 (subst (λ (m : ℕ). IsWrong (event_line_of m c) left kind) f.count wrong.3))))
+    let all : (so_far.0 ++ waits) ++ wrong.0 ≡ text = append_assoc so_far.0 waits wrong.0 ∙ ap (λ (t : List ℕ). so_far.0 ++ t) (sym wrong.2) in (
+      text,
+      subst (λ (t : List ℕ). Gives given next t) all (gives_more given now next (so_far.0 ++ waits) wrong.0 so_far.1 wrong.1),
+      inl (subst (λ (m : ℕ). IsWrongAlready (record { line = m + 1; kind = kind }) text) (sym f.count)
+          (λ more. event_wrong so_far.0 left more (made c f.es) kind so_far.2 (subst (λ (m : ℕ). IsWrong (event_line_of m c) left kind) f.count wrong.3))),
+    )
 
 -- reading failed
 pub found_unread : (c : Config) (j : Judging) (start : Reader) (first : List ℕ) (now next : Reader) (waits : List ℕ) (n : ℕ) (fault : ReadFault) → IsFollowing c j start first now waits n → FailsToGive fault now next →
@@ -133,7 +143,7 @@ pub found_short : (c : Config) (j : Judging) (start : Reader) (first : List ℕ)
     (given : Reader) (head : List ℕ) → Gives given start (head ++ first) → record_of head ≡ Ok (made c []) → FindsBy given next (Err (faults.Judge judges.NoMemory))
 found_short c j start first now next waits left n e suits f taken given head gives read =
     let so_far = read_next c f.es given now next waits left n e f.count (f.read given head gives read) taken in
-    (so_far.0 ++ left, so_far.1, (so_far.0, ((left, refl), (made c (f.es ++ e ∷ []), so_far.2, suits))))
+    (so_far.0 ++ left, so_far.1, (so_far.0, (left, refl), (made c (f.es ++ e ∷ []), so_far.2, suits)))
 
 -- nothing more is asked of a reader
 pub given_up : (now next : Reader) → next.left ≡ now.left → IsTrue next.refused → FailsToGive reads.CannotRead now next

@@ -15,7 +15,6 @@ use Rattle.jobs.specs.Verdicts.{verdict_line, IsUnjudged, TellsVerdict, IsTextOf
 use Rattle.jobs.specs.Explanations.{IsExplained, finding_text, judged_by}
 use Rattle.jobs.specs.declared.faults.JobFault.{JobFault}
 use Rattle.jobs.specs.declared.faults.JobFault.TheVariants as faults
-use Rattle.jobs.specs.declared.faults.JudgeFault.{JudgeFault}
 
 -- the text begins with these lines
 abbrev pub GoesOnBehind : List ℕ → List ℕ → Type 0

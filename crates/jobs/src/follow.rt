@@ -13,7 +13,7 @@ ghost use Rattle.heap_words.specs.Configs.{Suits};
 ghost use Rattle.jobs.specs.Verdicts.{IsJudged, IsTextOfRun};
 ghost use Rattle.jobs.specs.Followed.{IsFound, FindsBy, told_text, Follows, PerformsFollow, FollowedYes, FollowedNo};
 
-use crate::explain::{explained_law, judged_by, write_finding};
+use crate::explain::{judged_by, write_finding};
 use crate::faults::{JobFault, JudgeFault};
 use crate::judge::{conclude_verdict, verdict_law, write_verdict};
 use heap_words::config::Config;
@@ -182,5 +182,4 @@ pub fn follow_status_law()
     ensures no { (explained : Bool) (given left : Reader) (old new err told : Writer) → PerformsFollow explained given left old new err told 3 → FollowedNo explained given left old new err told }
 {
     verdict_law();
-    explained_law();
 }

@@ -7,13 +7,14 @@ use Rattle.object_graph.specs.Actors.{EventList}
 use Rattle.object_graph.specs.declared.step.Event.{Event}
 use Rattle.script_text.specs.declared.fault.Kind.{Kind}
 use Rattle.script_text.specs.declared.fault.Kind.TheVariants as kinds
+use Rattle.script_text.specs.declared.fault.LineFault.{LineFault}
 use Rattle.script_text.specs.Awaited.{whole_lines, Begins, IsUnended, IsWrong}
 use Rattle.script_text.specs.Spelling.{heap_words, spaced}
 use Rattle.script_text.specs.Records.{event_lines}
 use Rattle.script_text.specs.Lines.{pieces_of, heap_line_of}
 use Rattle.script_text.specs.Events.{event_line_of, events_of, record_of}
 use Rattle.script_text.proofs.Parts.FirstLines.{first_clear, begins_is, pieces_at, ends_longer}
-use Rattle.script_text.proofs.Parts.WholeLines.{no_whole, whole_at}
+use Rattle.script_text.proofs.Parts.WholeLines.{no_whole, whole_at, whole_front}
 use Rattle.script_text.proofs.Reading.ReadOn.{fault}
 use Rattle.script_text.proofs.Reading.RecordOn.{begun, with_event, read_on, begins, begins_wrong, no_line, goes_on, goes_wrong, is_done}
 use Rattle.script_text.proofs.BothWays.StepsSpelled.{heap_line_again, heap_no_feed}
@@ -129,3 +130,19 @@ whole_of_record lines part r read unended =
 -- where no line came there is no heap line
 pub whole_of_none : (text : List ℕ) → IsUnended text → record_of (whole_lines text) ≡ Err (fault 1 kinds.BadHeap)
 whole_of_none text unended = ap record_of (no_whole text (first_clear text text [] unended)) ∙ no_line [] kinds.BadHeap refl refl
+
+-- a record's lines stay, whatever comes behind them
+pub whole_behind : (lines x : List ℕ) (r : EventList) → record_of lines ≡ Ok r → whole_lines (lines ++ x) ≡ lines ++ whole_lines x
+whole_behind lines x r read =
+    let ends = ends_feed r.events 1 (spaced (heap_words r.config)) in
+    let feed : lines ≡ ends.0 ++ 10 ∷ [] = (record_read lines r read).0 ∙ ends.1 in
+    let cut : (t : List ℕ) → lines ++ t ≡ ends.0 ++ 10 ∷ t = λ t. ap (λ (l : List ℕ). l ++ t) feed ∙ append_assoc ends.0 (10 ∷ []) t in
+    ap whole_lines (cut x) ∙ whole_front ends.0 x ∙ sym (cut (whole_lines x))
+
+read_ok : (p q : EventList) (r : Result (List Event) LineFault) → read_on p r ≡ Ok q → (es : List Event) × (q ≡ record p { events = p.events ++ es })
+read_ok p q (Ok es) e = (es, cc)
+read_ok p q (Err f) e = absurd (cc)
+
+-- a record whose text goes on has more events
+pub reads_behind : (lines t : List ℕ) (r q : EventList) → record_of lines ≡ Ok r → record_of (lines ++ t) ≡ Ok q → (es : List Event) × (q ≡ record r { events = r.events ++ es })
+reads_behind lines t r q read more = read_ok r q (events_of (length r.events + 1) r.config (pieces_of t)) (sym (extends lines r t read) ∙ more)

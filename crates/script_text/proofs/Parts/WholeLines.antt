@@ -25,3 +25,8 @@ no_whole (b ∷ part) clear = rw (no_feed (b ∷ part) clear) refl
 pub whole_at : (front part : List ℕ) → IsClear part → whole_lines (front ++ 10 ∷ part) ≡ front ++ 10 ∷ []
 whole_at [] part clear = ap (λ (t : List ℕ). 10 ∷ t) (no_whole part clear)
 whole_at (b ∷ front) part clear = rw (feed_there (b ∷ front) part) (ap (λ (t : List ℕ). b ∷ t) (whole_at front part clear))
+
+-- whole lines at the front stay
+pub whole_front : (front x : List ℕ) → whole_lines (front ++ 10 ∷ x) ≡ front ++ 10 ∷ whole_lines x
+whole_front [] x = refl
+whole_front (b ∷ front) x = rw (feed_there (b ∷ front) x) (ap (λ (t : List ℕ). b ∷ t) (whole_front front x))
