@@ -47,7 +47,7 @@ task_in name rows =
     if bytes_eq name (codes "run") then Some (Script File)
     else if bytes_eq name (codes "sim") then option_map Script (drawn_in rows)
     else if bytes_eq name (codes "threads") then option_map Script (threads_in rows)
-    else if bytes_eq name (codes "check") then Some (Check (flag_in (codes "explain") rows))
+    else if bytes_eq name (codes "check") then Some (Check (flag_in (codes "explain") rows) (flag_in (codes "follow") rows))
     else if bytes_eq name (codes "view") then Some View
     else if bytes_eq name (codes "draw") then option_map Draw (number_in 32 (codes "every") rows)
     else None

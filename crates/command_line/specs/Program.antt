@@ -45,7 +45,7 @@ flag name = record (new_rule name) { long = Some name; action = Some SetTrue }
 
 -- the subcommand that judges a record
 abbrev pub checked : App
-checked = with_rule (plain (codes "check")) (flag (codes "explain"))
+checked = with_rule (with_rule (plain (codes "check")) (flag (codes "explain"))) (flag (codes "follow"))
 
 -- how many events there are to a moment, 1 where it isn't given
 abbrev pub every : Rule

@@ -4,8 +4,10 @@
 //!   g1heap run FILE                        Job { file: FILE, task: Task::Script(Order::File) }
 //!   g1heap sim FILE --schedule 7           Job { file: FILE, task: Task::Script(Order::Drawn { seed: 7, refiners: 0, markers: 0 }) }
 //!   g1heap threads FILE --workers 2        Job { file: FILE, task: Task::Script(Order::Concurrent { workers: 2, refiners: 0, markers: 0 }) }
-//!   g1heap check FILE --explain            Job { file: FILE, task: Task::Check { explained: true } }
-//!   g1heap check FILE, g1heap view FILE    Job { file: FILE, task: Task::Check { explained: false } }, Task::View
+//!   g1heap check FILE                      Job { file: FILE, task: Task::Check { explained: false, followed: false } }
+//!   g1heap check FILE --explain            Job { file: FILE, task: Task::Check { explained: true, followed: false } }
+//!   g1heap check FILE --follow             Job { file: FILE, task: Task::Check { explained: false, followed: true } }
+//!   g1heap view FILE                       Job { file: FILE, task: Task::View }
 //!   g1heap draw FILE --every 10            Job { file: FILE, task: Task::Draw { every: 10 } }
 //!   g1heap help, and every mistake         an `Error`, whose text is for the user
 //! ```
@@ -51,8 +53,8 @@ pub enum Order {
 pub enum Task {
     /// A script is run, and its record written.
     Script(Order),
-    /// The events of a record are judged, and a no explained where that is asked for.
-    Check { explained: bool },
+    /// The events of a record are judged, and a no explained, or the record read as it is written, where that is asked for.
+    Check { explained: bool, followed: bool },
     /// A script is run, and a view of its heap written.
     View,
     /// A script is run, and the page of its heap's life written, with a moment each so many events.
@@ -296,7 +298,9 @@ fn check_command<'a>(alloc: Global) -> Result<Command<'a>, AllocError>
     );
     let help =
         "Says what the graph gives where the verdict is no, or what a line with a fault lacks";
-    with_arg(command, flag(alloc, "explain", help))
+    let command = with_arg(command, flag(alloc, "explain", help));
+    let help = "Judges each event as soon as its line is written, and says no at once";
+    with_arg(command, flag(alloc, "follow", help))
 }
 
 fn view_command<'a>(alloc: Global) -> Result<Command<'a>, AllocError>
@@ -398,6 +402,7 @@ fn task_of(name: &str, found: &ArgMatches) -> Option<Task>
         "threads" => Some(Task::Script(threads_order(found)?)),
         "check" => Some(Task::Check {
             explained: flag_in(found, "explain"),
+            followed: flag_in(found, "follow"),
         }),
         "view" => Some(Task::View),
         "draw" => Some(Task::Draw {
@@ -465,8 +470,9 @@ pub fn words_law()
         → Asks (program ∷ codes "sim" ∷ path ∷ codes "--schedule" ∷ codes "7" ∷ []) (path, Script (Drawn 7 0 0)) }
     ensures threads { (program path : List ℕ) → is_path path ≡ true
         → Asks (program ∷ codes "threads" ∷ path ∷ codes "--workers" ∷ codes "2" ∷ []) (path, Script (Concurrent 2 0 0)) }
-    ensures check { (program path : List ℕ) → is_path path ≡ true → Asks (program ∷ codes "check" ∷ path ∷ []) (path, Check false) }
-    ensures explain { (program path : List ℕ) → is_path path ≡ true → Asks (program ∷ codes "check" ∷ path ∷ codes "--explain" ∷ []) (path, Check true) }
+    ensures check { (program path : List ℕ) → is_path path ≡ true → Asks (program ∷ codes "check" ∷ path ∷ []) (path, Check false false) }
+    ensures explain { (program path : List ℕ) → is_path path ≡ true → Asks (program ∷ codes "check" ∷ path ∷ codes "--explain" ∷ []) (path, Check true false) }
+    ensures follow { (program path : List ℕ) → is_path path ≡ true → Asks (program ∷ codes "check" ∷ path ∷ codes "--follow" ∷ []) (path, Check false true) }
     ensures view { (program path : List ℕ) → is_path path ≡ true → Asks (program ∷ codes "view" ∷ path ∷ []) (path, View) }
     ensures draw { (program path : List ℕ) → is_path path ≡ true → Asks (program ∷ codes "draw" ∷ path ∷ []) (path, Draw 1) }
     ensures every { (program path : List ℕ) → is_path path ≡ true

@@ -4,6 +4,7 @@ use Rattle.script_text.specs.Watched.{Reader, Writer, Stays}
 use Rattle.g1heap.specs.Runs.{Performs}
 use Rattle.jobs.specs.Verdicts.{PerformsCheck}
 use Rattle.jobs.specs.Explanations.{PerformsExplain}
+use Rattle.jobs.specs.Followed.{PerformsFollow}
 use Rattle.heap_view.specs.Views.{PerformsView}
 use Rattle.heap_life.specs.Drawings.{PerformsDraw}
 use Rattle.jobs.specs.FaultLines.{TellsLine}
@@ -12,15 +13,16 @@ use Rattle.heap_steps.specs.declared.fault.RunFault.TheVariants.{NoMemory}
 use Rattle.command_line.specs.declared.Task.{Task}
 use Rattle.command_line.specs.declared.Task.TheVariants.{Script, Check, View, Draw}
 
--- a record was judged, and the verdict explained where that was asked for
-abbrev pub DoesCheck : Bool → Reader → Reader → Writer → Writer → Writer → Writer → ℕ → Type 0
-DoesCheck false given left old new err err' status = PerformsCheck given left old new err err' status
-DoesCheck true given left old new err err' status = PerformsExplain given left old new err err' status
+-- a record was judged, and the verdict explained, or the record read as it is written, where that was asked for
+abbrev pub DoesCheck : Bool → Bool → Reader → Reader → Writer → Writer → Writer → Writer → ℕ → Type 0
+DoesCheck false false given left old new err err' status = PerformsCheck given left old new err err' status
+DoesCheck true false given left old new err err' status = PerformsExplain given left old new err err' status
+DoesCheck explained true given left old new err err' status = PerformsFollow explained given left old new err err' status
 
 -- a script was run, a record judged, a heap viewed, or its life drawn, and its end was told: what was read, what was written, what standard error took, and the status
 abbrev pub DoesJob : Task → Reader → Reader → Writer → Writer → Writer → Writer → ℕ → Type 0
 DoesJob (Script order) given left old new err err' status = Performs order given left old new err err' status
-DoesJob (Check explained) given left old new err err' status = DoesCheck explained given left old new err err' status
+DoesJob (Check explained followed) given left old new err err' status = DoesCheck explained followed given left old new err err' status
 DoesJob View given left old new err err' status = PerformsView given left old new err err' status
 DoesJob (Draw every) given left old new err err' status = PerformsDraw every given left old new err err' status
 

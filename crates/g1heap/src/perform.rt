@@ -8,7 +8,7 @@ use crate::in_order::run_script;
 use command_line::{Job, Order, Task};
 use heap_life::draw_script;
 use heap_view::view_script;
-use jobs::{JobFault, conclude, perform_check, perform_explain};
+use jobs::{JobFault, conclude, perform_check, perform_explain, perform_follow};
 use script_text::{WatchedReader, WatchedWriter};
 use std::alloc::Global;
 use std::io::{Read, Write};
@@ -40,17 +40,20 @@ fn do_script<H: Threads + Wait + Sync, R: Read, W: Write>(
     }
 }
 
-/// Judges a record, with the reason of a no where it is to be explained, and answers the program's status.
+/// Judges a record, with the reason of a no where it is to be explained, or as it is written, and answers the program's status.
 fn do_check<R: Read, W: Write, E: Write>(
     alloc: Global,
     explained: bool,
+    followed: bool,
     reader: &mut WatchedReader<R>,
     out: &mut WatchedWriter<W>,
     err: &mut WatchedWriter<E>,
 ) -> u8
-    ensures { DoesCheck explained reader.old reader.new out.old out.new err.old err.new result }
+    ensures { DoesCheck explained followed reader.old reader.new out.old out.new err.old err.new result }
 {
-    if explained {
+    if followed {
+        perform_follow(alloc, explained, reader, out, err)
+    } else if explained {
         perform_explain(alloc, reader, out, err)
     } else {
         perform_check(alloc, reader, out, err)
@@ -73,7 +76,10 @@ pub fn perform<H: Threads + Wait + Sync, R: Read, W: Write, E: Write>(
             let outcome = do_script(rt, alloc, order, reader, out);
             conclude(outcome, err)
         }
-        Task::Check { explained } => do_check(alloc, explained, reader, out, err),
+        Task::Check {
+            explained,
+            followed,
+        } => do_check(alloc, explained, followed, reader, out, err),
         Task::View => {
             let viewed = view_script(alloc, reader, out);
             conclude(viewed, err)

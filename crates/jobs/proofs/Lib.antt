@@ -1,4 +1,6 @@
 pub mod Endings
 mod Once
 mod Told
+mod Following
+mod FollowLaws
 pub mod Reasons

@@ -2,3 +2,4 @@ pub mod FaultLines
 pub mod Runs
 pub mod Verdicts
 pub mod Explanations
+pub mod Followed

@@ -178,7 +178,7 @@ pub fn explain_record<R: Read, W: Write>(
 }
 
 /// The outcome of a judging without its reason.
-fn judged_by(outcome: Result<Finding, JobFault>) -> Result<Verdict, JobFault>
+pub(crate) fn judged_by(outcome: Result<Finding, JobFault>) -> Result<Verdict, JobFault>
     ensures { result ≡ judged_by outcome }
 {
     match outcome {

@@ -50,7 +50,7 @@ pub(crate) fn put_verdict(buffer: &mut [u8], verdict: Verdict) -> usize
 }
 
 /// Writes the line of a verdict. Where that fails, the writer refused, and a beginning of the line is written. It takes no memory.
-fn write_verdict<W: Write>(
+pub(crate) fn write_verdict<W: Write>(
     verdict: Verdict,
     writer: &mut WatchedWriter<W>,
 ) -> Result<(), WriteFault>

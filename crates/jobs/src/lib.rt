@@ -15,10 +15,12 @@
 
 mod explain;
 mod faults;
+mod follow;
 mod judge;
 mod script;
 
 pub use explain::{explain_record, explained_law, perform_explain};
 pub use faults::{JobFault, JudgeFault, conclude, tell};
+pub use follow::{follow_law, follow_record, follow_status_law, perform_follow};
 pub use judge::{conclude_verdict, judge_record, perform_check, status_law, verdict_law};
 pub use script::{answer, read_plan};

@@ -11,3 +11,4 @@ pub mod StepsSpelled
 pub mod EventsSpelled
 pub mod Texts
 pub mod RecordTexts
+pub mod Extended

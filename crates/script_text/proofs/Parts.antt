@@ -4,3 +4,7 @@ pub mod Numbers
 pub mod Spelled
 pub mod Splitting
 pub mod Pieces
+pub mod FirstLines
+pub mod WholeLines
+pub mod Waiting
+pub mod Refused

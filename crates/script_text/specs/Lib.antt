@@ -7,3 +7,4 @@ pub mod EventWords
 pub mod Events
 pub mod Faults
 pub mod Watched
+pub mod Awaited

@@ -30,6 +30,7 @@
 //! ```
 #![tactic(auto)]
 
+mod awaited;
 mod bytes;
 mod events;
 mod fault;
@@ -48,6 +49,7 @@ mod words;
 mod writing;
 mod written;
 
+pub use awaited::{LineBuffer, NextFault};
 pub use bytes::{put_number, put_text};
 pub use fault::{Kind, LineFault, ReadFault, WriteFault, put_fault};
 pub use hints::{REASON_ROOM, put_fault_reason};

@@ -15,7 +15,12 @@ use std::alloc::Global;
 
 /// The event of this count that a line gives, whose first words these are.
 #[tactic(auto, unfolding(crate::specs::Events::event_line_of))]
-fn event_line(count: u64, config: &Config, line: &[u8], words: &[&[u8]]) -> Result<Event, Kind>
+pub(crate) fn event_line(
+    count: u64,
+    config: &Config,
+    line: &[u8],
+    words: &[&[u8]],
+) -> Result<Event, Kind>
     requires { map (λ w. w.now) words.now ≡ take 12 (words_of line.now) }
     ensures exact { result ≡ event_line_of count config.now line.now }
     ensures known { IfOk result (IsEvent config.now) }

@@ -1,8 +1,8 @@
 //! What no clause says: the worked examples, the printed forms, and readers and writers that fail.
 
 use crate::{
-    Kind, LineFault, ReadFault, WatchedReader, WatchedWriter, WriteFault, parse, parse_record,
-    read_text, write_record,
+    Kind, LineBuffer, LineFault, NextFault, ReadFault, WatchedReader, WatchedWriter, WriteFault,
+    parse, parse_record, read_text, write_record,
 };
 use heap_steps::{
     Action, Actor, CollectorStep, Counts, Event, GlobalRoot, Op, Record, Refusal, Register, Reply,
@@ -745,6 +745,48 @@ fn readers(rt: HostRuntime) -> Result<(), Fail> {
             Ok(_) => return Err(Fail::from("the read fails")),
             Err(got) => assert_eq!(rt; got, fault),
         }
+    }
+    Ok(())
+}
+
+/// A reader that gives a byte of a text at a time.
+#[derive(Drop)]
+struct Bytes<'a> {
+    rest: &'a [u8],
+}
+
+impl Read for Bytes<'_> {
+    fn read(&mut self, buf: &mut [u8]) -> io::Result<usize> {
+        let most = buf.len().min(1);
+        self.rest.read(&mut buf[..most])
+    }
+}
+
+/// Each line is taken once it is whole, and a cut last line isn't.
+#[test]
+fn lines_as_they_come(rt: HostRuntime) -> Result<(), Fail> {
+    let rest = b"heap 4 16 8 2 0\n1 0 drop r0 = ok\n2 0 drop r0 = o".as_slice();
+    let mut reader = WatchedReader::new(Bytes { rest });
+    let mut lines = LineBuffer::new(rt.alloc())?;
+    assert_eq!(rt; lines.next_heap(&mut reader), Ok(Some(CONFIG)));
+    assert!(rt; matches!(lines.next_event(&mut reader, 1, &CONFIG), Ok(Some(_))));
+    assert_eq!(rt; lines.next_event(&mut reader, 2, &CONFIG), Ok(None));
+    Ok(())
+}
+
+/// A line of more than 120 bytes has no line feed to wait for, and a read that fails is told.
+#[test]
+fn lines_that_do_not_come(rt: HostRuntime) -> Result<(), Fail> {
+    for (left, fault) in [
+        (121, NextFault::Line(Kind::LongLine)),
+        (120, NextFault::Read(ReadFault::CannotRead)),
+    ] {
+        let mut reader = WatchedReader::new(Drip {
+            left,
+            then: Some(ErrorKind::Other),
+        });
+        let mut lines = LineBuffer::new(rt.alloc())?;
+        assert_eq!(rt; lines.next_heap(&mut reader), Err(fault));
     }
     Ok(())
 }

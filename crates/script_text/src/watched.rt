@@ -2,10 +2,10 @@
 //!
 //! The contracts of the standard library's readers and writers speak of bytes alone: none says that a call failed because the system
 //! refused. So these hold one, with a flag. That it is set only behind a call of the inner reader or writer that failed, or took no byte,
-//! no contract says: it is set in two places, in `read_to_end` and in `write_some`, and this file is to be read for it. All above rests on
-//! the contracts here: a fault of reading or writing comes only where the flag is set.
+//! no contract says: it is set in `read_to_end`, `read_some` and `write_some`, and by `give_up`, and this file is to be read for it. All above
+//! rests on the contracts here: a fault of reading or writing comes only where the flag is set.
 
-ghost use Rattle.std.specs.Prelude.{◌≡◌, ◌<◌, ◌≤◌, ◌++◌, IsTrue, OnOk, OnErr, IfOk, IfErr, IfSome, false, length, take};
+ghost use Rattle.std.specs.Prelude.{◌≡◌, ◌≢◌, ◌<◌, ◌≤◌, ◌++◌, IsTrue, OnOk, OnErr, IfOk, IfErr, IfSome, false, length, take};
 ghost use Rattle.std.specs.Io.{appended_bytes};
 ghost use Rattle.std.specs.Io.KnownBytes.{IsAtEnd, Keeps};
 ghost use Rattle.script_text.specs.Watched.{Gives, FailsToGive, Takes};
@@ -15,8 +15,8 @@ use std::io;
 use std::io::{ErrorKind, Read, Write};
 use std::marker::Model;
 
-/// How often a writer is asked: one that is interrupted each time counts as refusing then.
-const MOST_WRITES: u64 = u64::MAX;
+/// How often a reader or a writer is asked: one that is interrupted each time counts as refusing then.
+const MOST_TRIES: u64 = u64::MAX;
 
 /// A reader, and whether it refused a read.
 #[derive(Drop)]
@@ -73,6 +73,49 @@ impl<R: Read> WatchedReader<R> {
                 }
             }
         }
+    }
+
+    /// Reads some bytes to a buffer's front, and answers how many: none at the end of input alone. A read that is interrupted is tried again.
+    ///
+    /// ```rust
+    /// let mut buffer = [0; 4];
+    /// let mut reader = WatchedReader::new(script.as_slice());
+    /// assert_eq!(rt; reader.read_some(&mut buffer)?, 4);
+    /// assert_eq!(rt; buffer, *b"heap");
+    /// ```
+    pub fn read_some(&mut self, buffer: &mut [u8]) -> Result<usize, ReadFault>
+        requires { 0 < length buffer.old }
+        ensures within { IfOk result (λ count. count ≤ length buffer.old) }
+        ensures gives { IfOk result (λ count. Gives self.old self.new (take count buffer.new)) }
+        ensures end { IfOk result (λ count. count ≡ 0 → IsAtEnd self.new.left) }
+        ensures fails { IfErr result (λ fault. FailsToGive fault self.old self.new) }
+        ensures memory { result ≢ Err ReadFault.NoMemory }
+    {
+        for _ in 0..MOST_TRIES {
+            match self.reader.read(buffer) {
+                Ok(count) => return Ok(count),
+                Err(error) => {
+                    if error.kind() != ErrorKind::Interrupted {
+                        break;
+                    }
+                }
+            }
+        }
+        self.refused = true;
+        Err(ReadFault::CannotRead)
+    }
+
+    /// Counts the reader as one that refused: nothing more is asked of it.
+    ///
+    /// ```rust
+    /// let mut reader = WatchedReader::new(script.as_slice());
+    /// reader.give_up();
+    /// ```
+    pub fn give_up(&mut self)
+        ensures left { self.new.left ≡ self.old.left }
+        ensures refused { IsTrue self.new.refused }
+    {
+        self.refused = true;
     }
 }
 
@@ -135,7 +178,7 @@ impl<W: Write> WatchedWriter<W> {
         ensures keeps { OnErr result (Keeps self.old.held self.new.held) }
         ensures refused { OnErr result (IsTrue self.new.refused) }
     {
-        for _ in 0..MOST_WRITES {
+        for _ in 0..MOST_TRIES {
             match self.writer.write(bytes) {
                 Ok(0) => break,
                 Ok(count) => return Ok(count),

@@ -1,5 +1,15 @@
-use Rattle.command_line.proofs.Paths.{check, draw, every, explain, run, sim, threads, view}
+use Rattle.command_line.proofs.Paths.{check, draw, every, explain, follow, run, sim, threads, view}
 use Rattle.command_line.proofs.words_law.Goals as goal
 
 pub returns : goal.returns
-returns c = record { run = run; sim = sim; threads = threads; check = check; explain = explain; view = view; draw = draw; every = every }
+returns c = record {
+  run = run;
+  sim = sim;
+  threads = threads;
+  check = check;
+  explain = explain;
+  follow = follow;
+  view = view;
+  draw = draw;
+  every = every;
+}

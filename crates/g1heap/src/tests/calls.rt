@@ -7,8 +7,8 @@ use crate::program::refuse;
 use command_line::{Order, Task, misspelt, read_words};
 use heap_life::draw_script;
 use heap_view::view_script;
-use jobs::judge_record;
-use object_graph::Verdict;
+use jobs::{follow_record, judge_record};
+use object_graph::{Finding, Verdict};
 use script_text::{WatchedReader, WatchedWriter};
 use std::alloc::Global;
 use std::test::Fail;
@@ -54,6 +54,17 @@ fn judges_a_record(rt: HostRuntime) {
     assert_eq!(rt;
         judge_record(rt.alloc(), &mut reader, &mut out),
         Ok(Verdict::Yes(1))
+    );
+    assert_eq!(rt; out.into_inner().as_slice(), b"yes 1\n".as_slice());
+}
+
+#[test]
+fn follows_a_record(rt: HostRuntime) {
+    let mut out = WatchedWriter::new(Vec::new(rt.alloc()));
+    let mut reader = WatchedReader::new(RECORD);
+    assert_eq!(rt;
+        follow_record(rt.alloc(), false, &mut reader, &mut out),
+        Ok(Finding::Allowed(1))
     );
     assert_eq!(rt; out.into_inner().as_slice(), b"yes 1\n".as_slice());
 }

@@ -113,16 +113,16 @@ fn beginning(text: &[u8], count: usize) -> &[u8] {
     }
 }
 
-/// Does what a subcommand asks for, and answers the status.
+/// Does what a command line asks for, and answers the status.
 fn perform_by<H: Threads + Wait + Sync, R: Read, W: Write, E: Write>(
     rt: &H,
     alloc: Global,
-    verb: &str,
+    line: &[&str],
     reader: &mut WatchedReader<R>,
     out: &mut WatchedWriter<W>,
     err: &mut WatchedWriter<E>,
 ) -> Result<u8, Fail> {
-    let words = words(alloc, &["g1heap", verb, "given"])?;
+    let words = words(alloc, line)?;
     match read_words(alloc, words.as_slice()) {
         Ok(job) => Ok(perform(rt, alloc, &job, reader, out, err)),
         Err(_) => Err(Fail::from("the words are understood")),
@@ -134,22 +134,27 @@ const SCRIPT: &[u8] = b"heap 4 16 8 1 0\n0 new r0 1 1\n0 read r0 0\n0 get r1 r0 
 const RECORD: &[u8] =
     b"heap 4 16 8 1 0\n1 0 new r0 1 1 = #0\n2 0 read r0 0 = 0\n3 0 get r1 r0 0 = nil\n";
 
-/// A job that is tried: the subcommand, the text, and what is written.
+/// A job that is tried: the command line, the text, and what is written.
 #[derive(Clone, Copy)]
 struct Trial {
-    verb: &'static str,
+    line: &'static [&'static str],
     text: &'static [u8],
     answer: &'static [u8],
 }
 
-static TRIALS: [Trial; 2] = [
+static TRIALS: [Trial; 3] = [
     Trial {
-        verb: "run",
+        line: &["g1heap", "run", "given"],
         text: SCRIPT,
         answer: RECORD,
     },
     Trial {
-        verb: "check",
+        line: &["g1heap", "check", "given"],
+        text: RECORD,
+        answer: b"yes 3\n",
+    },
+    Trial {
+        line: &["g1heap", "check", "given", "--follow"],
         text: RECORD,
         answer: b"yes 3\n",
     },
@@ -159,13 +164,13 @@ static TRIALS: [Trial; 2] = [
 fn outcome_of_read<H: Threads + Wait + Sync, R: Read + Drop>(
     rt: &H,
     alloc: Global,
-    verb: &str,
+    line: &[&str],
     reader: R,
 ) -> Result<Outcome, Fail> {
     let mut reader = WatchedReader::new(reader);
     let mut out = WatchedWriter::new(Vec::new(alloc));
     let mut err = WatchedWriter::new(Vec::new(alloc));
-    let status = perform_by(rt, alloc, verb, &mut reader, &mut out, &mut err)?;
+    let status = perform_by(rt, alloc, line, &mut reader, &mut out, &mut err)?;
     Ok(Outcome {
         status,
         out: out.into_inner(),
@@ -178,7 +183,7 @@ fn broken_reader(rt: HostRuntime) -> Result<(), Fail> {
     let reader = BrokenReader {
         bytes: b"heap 4 16 8 1 0\n",
     };
-    let outcome = outcome_of_read(&rt, rt.alloc(), "run", reader)?;
+    let outcome = outcome_of_read(&rt, rt.alloc(), &["g1heap", "run", "given"], reader)?;
     assert_outcome(&rt, &outcome, 1, b"", b"g1heap: cannot read\n");
     Ok(())
 }
@@ -197,7 +202,7 @@ fn try_read<H: Threads + Wait + Sync + Abort>(
         trouble,
         kind,
     };
-    let outcome = outcome_of_read(rt, alloc, trial.verb, reader)?;
+    let outcome = outcome_of_read(rt, alloc, trial.line, reader)?;
     if kind == ErrorKind::Other && trouble <= trial.text.len() / 7 + 2 {
         assert_outcome(rt, &outcome, 1, b"", b"g1heap: cannot read\n");
     } else {
@@ -229,7 +234,7 @@ fn outcome_of_write<H: Threads + Wait + Sync>(
     let mut reader = WatchedReader::new(trial.text);
     let mut out = WatchedWriter::new(troubled_writer(alloc, trouble, kind));
     let mut err = WatchedWriter::new(Vec::new(alloc));
-    let status = perform_by(rt, alloc, trial.verb, &mut reader, &mut out, &mut err)?;
+    let status = perform_by(rt, alloc, trial.line, &mut reader, &mut out, &mut err)?;
     Ok(Outcome {
         status,
         out: out.into_inner().taken,
@@ -279,7 +284,14 @@ fn outcome_of_room<H: Threads + Wait + Sync>(
         room,
     });
     let mut err = WatchedWriter::new(Vec::new(alloc));
-    let status = perform_by(rt, alloc, "run", &mut reader, &mut out, &mut err)?;
+    let status = perform_by(
+        rt,
+        alloc,
+        &["g1heap", "run", "given"],
+        &mut reader,
+        &mut out,
+        &mut err,
+    )?;
     Ok(Outcome {
         status,
         out: out.into_inner().taken,
@@ -303,13 +315,13 @@ fn broken_writer(rt: HostRuntime) -> Result<(), Fail> {
 fn outcome_of_line<H: Threads + Wait + Sync>(
     rt: &H,
     alloc: Global,
-    verb: &str,
+    line: &[&str],
     trouble: usize,
 ) -> Result<Outcome, Fail> {
     let mut reader = WatchedReader::new(b"".as_slice());
     let mut out = WatchedWriter::new(Vec::new(alloc));
     let mut err = WatchedWriter::new(troubled_writer(alloc, trouble, ErrorKind::Other));
-    let status = perform_by(rt, alloc, verb, &mut reader, &mut out, &mut err)?;
+    let status = perform_by(rt, alloc, line, &mut reader, &mut out, &mut err)?;
     Ok(Outcome {
         status,
         out: out.into_inner(),
@@ -323,7 +335,7 @@ fn each_write_of_a_fault(rt: HostRuntime) -> Result<(), Fail> {
     let line = b"g1heap: line 1: 3 BadHeap\n";
     for trial in TRIALS {
         for trouble in 1..9usize {
-            let outcome = outcome_of_line(&rt, rt.alloc(), trial.verb, trouble)?;
+            let outcome = outcome_of_line(&rt, rt.alloc(), trial.line, trouble)?;
             let written = beginning(line, trouble.saturating_mul(3).saturating_sub(3));
             assert_outcome(&rt, &outcome, 1, b"", written);
         }

@@ -112,16 +112,16 @@ some_piece n [] = ([], [], refl)
 some_piece n (e ∷ es) = (event_text n e, pieces (n + 1) es, refl)
 
 -- what makes the events of lines from event n on a record's
-record AreGood (n : ℕ) (c : Config) (es : List Event) : Type 0 where
-  counted : n + length es ≤ large + 1
-  few : c.mutators ≤ small
-  owned : All (IsEvent c) es
-  fits : All EventFits es
+pub record AreGood (n : ℕ) (c : Config) (es : List Event) : Type 0 where
+  pub counted : n + length es ≤ large + 1
+  pub few : c.mutators ≤ small
+  pub owned : All (IsEvent c) es
+  pub fits : All EventFits es
 
-good_first : (n : ℕ) (c : Config) (e : Event) (es : List Event) → AreGood n c (e ∷ es) → IsGood n c e
+pub good_first : (n : ℕ) (c : Config) (e : Event) (es : List Event) → AreGood n c (e ∷ es) → IsGood n c e
 good_first n c e es good = record { counted = (let count = good.counted in omega arith); few = good.few; owned = All-head (IsEvent c) e es good.owned; fits = All-head EventFits e es good.fits }
 
-good_rest : (n : ℕ) (c : Config) (e : Event) (es : List Event) → AreGood n c (e ∷ es) → AreGood (n + 1) c es
+pub good_rest : (n : ℕ) (c : Config) (e : Event) (es : List Event) → AreGood n c (e ∷ es) → AreGood (n + 1) c es
 good_rest n c e es good = record { counted = (let count = good.counted in omega arith); few = good.few; owned = All-tail (IsEvent c) e es good.owned; fits = All-tail EventFits e es good.fits }
 
 events_again : (es : List Event) (n : ℕ) (c : Config) → AreGood n c es → events_of n c (pieces n es) ≡ Ok es

@@ -13,15 +13,16 @@ returns-in-Script g c = λ given left old new unread kept. rw c.in-Script.is (re
   tells = c.conclude.ensures;
 })
 
--- whether it was to be explained makes no difference
-unread_check : (explained : Bool) (given left : Reader) (old new err err' : Writer) (status : ℕ) → FailsToGive reads.CannotRead given left → Stays old new
-    → TellsVerdict err err' (Err (faults.Read reads.CannotRead)) status → DoesCheck explained given left old new err err' status
-unread_check false given left old new err err' status unread kept tells = record { outcome = Err (faults.Read reads.CannotRead); judges = (unread, kept); tells = tells }
-unread_check true given left old new err err' status unread kept tells = record { outcome = Err (faults.Read reads.CannotRead); explains = (unread, kept); tells = tells }
+-- how it was to be judged makes no difference
+unread_check : (explained followed : Bool) (given left : Reader) (old new err err' : Writer) (status : ℕ) → FailsToGive reads.CannotRead given left → Stays old new
+    → TellsVerdict err err' (Err (faults.Read reads.CannotRead)) status → DoesCheck explained followed given left old new err err' status
+unread_check false false given left old new err err' status unread kept tells = record { outcome = Err (faults.Read reads.CannotRead); judges = (unread, kept); tells = tells }
+unread_check true false given left old new err err' status unread kept tells = record { outcome = Err (faults.Read reads.CannotRead); explains = (unread, kept); tells = tells }
+unread_check explained true given left old new err err' status unread kept tells = record { outcome = Err (faults.Read reads.CannotRead); follows = (unread, kept); tells = tells }
 
 pub returns-in-Check : goal.returns-in-Check
 returns-in-Check g c = λ given left old new unread kept.
-    rw c.in-Check.is (unread_check _ given left old new c.args.err.now c.conclude_verdict.new.err c.conclude_verdict.result unread kept c.conclude_verdict.ensures)
+    rw c.in-Check.is (unread_check _ _ given left old new c.args.err.now c.conclude_verdict.new.err c.conclude_verdict.result unread kept c.conclude_verdict.ensures)
 
 pub returns-in-View : goal.returns-in-View
 returns-in-View g c = λ given left old new unread kept. rw c.in-View.is (record {

@@ -1,4 +1,4 @@
-use Rattle.std.proofs.Common.{◌≡◌, ◌+◌, ◌-◌, ◌<◌, ◌≤◌, ◌∙◌, ◌∷◌, [], ℕ, zero, suc, List, None, Some, ap, arith, length, slice_get, sym, take}
+use Rattle.std.proofs.Common.{◌≡◌, ◌+◌, ◌-◌, ◌<◌, ◌∙◌, ◌∷◌, [], ℕ, zero, suc, List, Some, ap, arith, length, slice_get, sym, take}
 use Rattle.std.proofs.lemmas.List.{length-drop}
 use Rattle.script_text.specs.Lines.{pieces_of}
 use Rattle.script_text.proofs.Parts.Pieces.{behind, behind_is, pieces_behind}
