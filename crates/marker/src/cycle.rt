@@ -122,7 +122,7 @@ impl Marker {
             return false;
         };
         table.law();
-        if !self.tams.is_below_next(table.words_per_region(), at) {
+        if !self.tams.lies_below_next(table, at) {
             return false;
         }
         self.logs.log(mutator, at)

@@ -15,10 +15,7 @@ fn pointers_in(words: &Words, at: Addr) -> u32
     requires object { IsSome (counts_of (header_at words.now at)) }
     ensures { result ≡ pointer_count_at words.now at }
 {
-    match words.object_at(at) {
-        Some(counts) => counts.pointers.get(),
-        None => unreachable!(),
-    }
+    words.pointer_count(at)
 }
 
 /// How many fields the object at an address has.
