@@ -59,6 +59,7 @@ fn push_filler(table: &mut RegionTable, region: RegionNo, size: u32) -> Addr
 }
 
 /// Splits a filler, and answers where its second part starts.
+#[inline(always)]
 fn split_filler(table: &mut RegionTable, at: Addr, rest: u32, size: u32) -> Addr
     requires filler { tile_in table.old at ≡ Some (Filler rest) }
     requires positive { 0 < size }
@@ -83,6 +84,7 @@ impl AllocBuffers {
     /// The place of an object of so many words for a mutator. A small one's is a filler of that size, which belongs to no
     /// buffer, and no object changed. A humongous one's is the lowest run of free regions that it needs, and nothing
     /// changed: buffers stay open.
+    #[inline(always)]
     pub fn place(&mut self, table: &mut RegionTable, mutator: u32, size: u32) -> Result<Place, Full>
         requires mutator { mutator < length self.old.open_buffers }
         requires within { size ≤ length table.old.regions * table.old.words_per_region }
@@ -109,6 +111,7 @@ impl AllocBuffers {
     }
 
     /// The place of an object of at most half a region.
+    #[inline(always)]
     fn find(&mut self, table: &mut RegionTable, mutator: u32, size: u32) -> Option<Addr>
         requires mutator { mutator < length self.old.open_buffers }
         requires small { size ≤ table.old.words_per_region }
@@ -132,6 +135,7 @@ impl AllocBuffers {
     }
 
     /// At the start of the mutator's buffer.
+    #[inline(always)]
     fn place_inside(
         &mut self,
         table: &mut RegionTable,
@@ -153,6 +157,7 @@ impl AllocBuffers {
     }
 
     /// Words of its own.
+    #[inline(never)]
     fn place_alone(&mut self, table: &mut RegionTable, size: u32) -> Option<Addr>
         requires small { size ≤ table.old.words_per_region }
         requires ready { CanPlace table.old self.old size }
@@ -170,6 +175,7 @@ impl AllocBuffers {
     }
 
     /// At the start of a new buffer.
+    #[inline(never)]
     fn place_in_new(&mut self, table: &mut RegionTable, mutator: u32, size: u32) -> Option<Addr>
         requires mutator { mutator < length self.old.open_buffers }
         requires ready { CanPlace table.old self.old size }

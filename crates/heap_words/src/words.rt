@@ -7,10 +7,10 @@
 //!   | header: p, w, d   | name | p pointers | w weak slots | d data words |
 //! ```
 
-ghost use Rattle.std.specs.Prelude.{◌≡◌, ◌+◌, ◌<◌, ◌≤◌, ◌∷◌, length, replicate, slice_index, slice_set, take, drop, IfOk};
+ghost use Rattle.std.specs.Prelude.{◌≡◌, ◌+◌, ◌<◌, ◌≤◌, ◌∷◌, length, replicate, slice_index, slice_set, take, drop, IfOk, IsSome};
 ghost use Rattle.heap_words.specs.Sizes.{size_of};
 ghost use Rattle.heap_words.specs.Headers.{header_of, header_word, pointer_of, pointer_word};
-ghost use Rattle.heap_words.specs.Contents.{put, header_at, counts_of, field_count_at};
+ghost use Rattle.heap_words.specs.Contents.{put, header_at, counts_of, pointer_count, pointer_count_at, field_count_at};
 ghost use Rattle.heap_words.specs.declared.header.Header.TheVariants as headers;
 
 use crate::addr::{Addr, Ptr};
@@ -76,6 +76,15 @@ fn counts_in(word: u64) -> Option<Counts>
     }
 }
 
+/// How many pointers an object's header counts.
+#[tactic(auto, unfolding(crate::specs::Headers::header_of))]
+fn pointers_in(word: u64) -> u32
+    requires { IsSome (counts_of (header_of word)) }
+    ensures { result ≡ pointer_count (header_of word) }
+{
+    ((word >> 8) & 0xff_ffff) as u32
+}
+
 impl Words {
     /// So many words, each 0.
     pub fn new(alloc: Global, count: usize) -> Result<Words, AllocError>
@@ -107,6 +116,15 @@ impl Words {
         ensures { result ≡ counts_of (header_at self.now at) }
     {
         counts_in(self.items[at.word() as usize])
+    }
+
+    /// How many pointers the object at an address has. One is there, so its header isn't looked at for that.
+    pub fn pointer_count(&self, object: Addr) -> u32
+        requires within { object < length self.now }
+        requires object { IsSome (counts_of (header_at self.now object)) }
+        ensures { result ≡ pointer_count_at self.now object }
+    {
+        pointers_in(self.items[object.word() as usize])
     }
 
     /// The name of the object at an address, which stands behind its header.

@@ -10,10 +10,11 @@
 //! region's top; `remark` exchanges the two; a region that is taken or released has both at its bottom.
 
 ghost use Rattle.std.specs.Prelude.{◌≡◌, ℕ, ◌*◌, ◌<◌, ◌≤◌, ◌^◌, true, false, List, IfOk, length, nat_lt, slice_index, slice_set};
-ghost use Rattle.mark_bitmap.specs.Tops.{bottoms, exchanged, is_below, is_in_region, with_bottom, LiesBelow};
+ghost use Rattle.mark_bitmap.specs.Tops.{below_next, below_previous, bottoms, exchanged, is_below, is_in_region, with_bottom, LiesBelow};
 
 use heap_words::addr::{Addr, RegionNo};
 use heap_words::powers::quotient;
+use regions::RegionTable;
 use std::alloc::{AllocError, Global};
 use std::marker::Model;
 
@@ -65,6 +66,16 @@ fn lies_below(tops: &[u32], words: u32, at: u32) -> bool
     }
 }
 
+/// Whether an address lies below the top of a region.
+fn is_under(tops: &[u32], region: RegionNo, at: Addr) -> bool
+    ensures { result ≡ nat_lt at (slice_index tops.now region) }
+{
+    match tops.get(region.number() as usize) {
+        Some(top) => at.word() < *top,
+        None => false,
+    }
+}
+
 impl Tams {
     /// Both tops of each region at its bottom. No call takes memory afterwards.
     pub fn new(alloc: Global, regions: u32, words: u32) -> Result<Tams, AllocError>
@@ -108,6 +119,24 @@ impl Tams {
         ensures { result ≡ is_below words self.now.next at }
     {
         lies_below(&self.next, words, at.word())
+    }
+
+    /// Whether an address lies below its region's previous top, regions being those of a table: it finds the region by a shift.
+    #[inline(always)]
+    #[tactic(auto, unfolding(crate::specs::Tops::is_below))]
+    pub fn lies_below_previous(&self, table: &RegionTable, at: Addr) -> bool
+        ensures { result ≡ below_previous table.now self.now at }
+    {
+        is_under(&self.previous, table.region_of(at), at)
+    }
+
+    /// The same of its region's next top.
+    #[inline(always)]
+    #[tactic(auto, unfolding(crate::specs::Tops::is_below))]
+    pub fn lies_below_next(&self, table: &RegionTable, at: Addr) -> bool
+        ensures { result ≡ below_next table.now self.now at }
+    {
+        is_under(&self.next, table.region_of(at), at)
     }
 
     /// Marking begins: the region's next top.

@@ -37,7 +37,7 @@ impl Marker {
             return None;
         };
         table.law();
-        if self.tams.is_below_next(table.words_per_region(), at) && !self.bitmaps.next.get(at) {
+        if self.tams.lies_below_next(table, at) && !self.bitmaps.next.get(at) {
             return None;
         }
         Some(at)
@@ -49,7 +49,7 @@ impl Marker {
         ensures { IsTrue result ↔ IsStaying (marking_of table.now self.now) at }
     {
         table.law();
-        if !self.tams.is_below_next(table.words_per_region(), at) {
+        if !self.tams.lies_below_next(table, at) {
             return true;
         }
         self.bitmaps.next.get(at)

@@ -101,6 +101,7 @@ impl Marker {
 
     /// Saves what a pointer held before it is overwritten, or what was read from a weak slot: its address enters the mutator's
     /// log, if it was there when marking began. Whether the log is full now, so that it has to be taken before the next one is saved.
+    #[inline(always)]
     pub fn save(&mut self, table: &RegionTable, mutator: u32, overwritten: Ptr) -> bool
         requires stands { MarkerStands table.now self.old }
         requires running { self.old.running ≡ true }
@@ -121,13 +122,14 @@ impl Marker {
             return false;
         };
         table.law();
-        if !self.tams.is_below_next(table.words_per_region(), at) {
+        if !self.tams.lies_below_next(table, at) {
             return false;
         }
         self.logs.log(mutator, at)
     }
 
     /// Takes a mutator's log, which is empty afterwards: what was logged is marked.
+    #[inline(never)]
     pub fn take_log(&mut self, table: &RegionTable, mutator: u32)
         requires stands { MarkerStands table.now self.old }
         requires running { self.old.running ≡ true }

@@ -35,7 +35,7 @@ impl Marker {
             return;
         };
         table.law();
-        if !self.tams.is_below_next(table.words_per_region(), at) || self.bitmaps.next.get(at) {
+        if !self.tams.lies_below_next(table, at) || self.bitmaps.next.get(at) {
             return;
         }
         self.bitmaps.next.set(at);

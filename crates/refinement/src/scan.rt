@@ -35,7 +35,7 @@ pub fn is_kept(table: &RegionTable, tams: &Tams, marks: &Marks, at: Addr, shape:
     table.law();
     match shape {
         Shape::Object { .. } => {
-            if !tams.is_below_previous(table.words_per_region(), at) {
+            if !tams.lies_below_previous(table, at) {
                 return true;
             }
             marks.get(at)

@@ -44,6 +44,7 @@ impl Model for FirstTiles {
 }
 
 /// The first card that begins at a word or behind it, where a card has 2 to the `shift`th words.
+#[inline(always)]
 fn card_from(shift: u32, word: u32) -> u32
     requires narrow { shift < 12 }
     requires small { word ≤ max_words }
@@ -64,6 +65,7 @@ fn fill_cards(entries: &mut [u32], from: u32, to: u32, entry: u32)
 }
 
 /// Each card that begins in the words from `at` up to `end` has this entry.
+#[inline(always)]
 fn write_entries(entries: &mut [u32], shift: u32, at: u32, end: u32, entry: u32)
     requires narrow { shift < 12 }
     requires order { at ≤ end }
@@ -76,6 +78,7 @@ fn write_entries(entries: &mut [u32], shift: u32, at: u32, end: u32, entry: u32)
 }
 
 /// The last card that begins in the words from `at` up to `end`, if one does, has `at` as its entry.
+#[inline(always)]
 fn write_start(entries: &mut [u32], shift: u32, at: u32, end: u32)
     requires narrow { shift < 12 }
     requires order { at ≤ end }
@@ -91,6 +94,7 @@ fn write_start(entries: &mut [u32], shift: u32, at: u32, end: u32)
 }
 
 /// The entries of a filler's cards: the last one's is its start, and the others' is that card.
+#[inline(always)]
 fn write_filler(entries: &mut [u32], shift: u32, at: u32, size: u32)
     requires narrow { shift < 12 }
     requires positive { 0 < size }
@@ -164,6 +168,7 @@ impl FirstTiles {
 
     /// An object takes the front of a filler, whose entries stand. Where it fills the filler, and this is no longer than a card,
     /// they are the object's own.
+    #[inline(always)]
     pub(crate) fn put_front(&mut self, at: u32, size: u32, filler: u32)
         requires room { size ≤ filler }
         requires within { at + filler ≤ length self.old.starts * self.old.card_words }
@@ -182,6 +187,7 @@ impl FirstTiles {
     }
 
     /// A filler stands at an address.
+    #[inline(always)]
     pub(crate) fn put_filler(&mut self, at: u32, size: u32)
         requires positive { 0 < size }
         requires within { at + size ≤ length self.old.starts * self.old.card_words }
@@ -194,6 +200,7 @@ impl FirstTiles {
     }
 
     /// A filler that ended at `end` starts at `at` now, or is gone where that is its end.
+    #[inline(always)]
     pub(crate) fn move_filler(&mut self, at: u32, end: u32)
         requires order { at ≤ end }
         requires within { end ≤ length self.old.starts * self.old.card_words }

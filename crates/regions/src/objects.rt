@@ -1,6 +1,6 @@
 //! Reads and writes of objects: each is one access to a word or two, and no walk.
 ghost use Rattle.std.specs.Prelude.{◌≡◌, ◌<◌, length, slice_get, Some, IsSome, IfSome};
-ghost use Rattle.heap_words.specs.Contents.{header_at, pointer_count_at, field_count_at};
+ghost use Rattle.heap_words.specs.Contents.{header_at, counts_of, pointer_count_at, field_count_at};
 ghost use Rattle.regions.specs.Table.{object_at, object_words, pointers_at, weaks_at, fields_at, values_at, set_pointer, set_weak, set_field, set_value, tile_in, moved_to};
 ghost use Rattle.regions.specs.Rows.{header_target, weak_count, value_count};
 
@@ -9,47 +9,48 @@ use heap_words::addr::{Addr, Ptr};
 use heap_words::header::Header;
 use heap_words::words::Words;
 
-/// How many pointers the object at an address has, 0 where there is none.
+/// How many pointers the object at an address has.
 fn pointers_in(words: &Words, at: Addr) -> u32
-    requires { at < length words.now }
+    requires within { at < length words.now }
+    requires object { IsSome (counts_of (header_at words.now at)) }
     ensures { result ≡ pointer_count_at words.now at }
 {
-    match words.object_at(at) {
-        Some(counts) => counts.pointers.get(),
-        None => 0,
-    }
+    words.pointer_count(at)
 }
 
-/// How many fields the object at an address has, 0 where there is none.
+/// How many fields the object at an address has.
 fn fields_in(words: &Words, at: Addr) -> u32
-    requires { at < length words.now }
+    requires within { at < length words.now }
+    requires object { IsSome (counts_of (header_at words.now at)) }
     ensures { result ≡ field_count_at words.now at }
 {
     match words.object_at(at) {
         Some(counts) => counts.pointers.get() + u32::from(counts.weaks),
-        None => 0,
+        None => unreachable!(),
     }
 }
 
-/// How many weak slots the object at an address has, 0 where there is none.
+/// How many weak slots the object at an address has.
 fn weaks_in(words: &Words, at: Addr) -> u32
-    requires { at < length words.now }
+    requires within { at < length words.now }
+    requires object { IsSome (counts_of (header_at words.now at)) }
     ensures { result ≡ weak_count (header_at words.now at) }
 {
     match words.object_at(at) {
         Some(counts) => u32::from(counts.weaks),
-        None => 0,
+        None => unreachable!(),
     }
 }
 
-/// How many data words the object at an address has, 0 where there is none.
+/// How many data words the object at an address has.
 fn values_in(words: &Words, at: Addr) -> u32
-    requires { at < length words.now }
+    requires within { at < length words.now }
+    requires object { IsSome (counts_of (header_at words.now at)) }
     ensures { result ≡ value_count (header_at words.now at) }
 {
     match words.object_at(at) {
         Some(counts) => counts.values.get(),
-        None => 0,
+        None => unreachable!(),
     }
 }
 

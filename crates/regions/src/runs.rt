@@ -49,6 +49,7 @@ fn write_run(rows: &mut [Row], at: usize, count: u32, size: u32, words: u32)
 
 impl RegionTable {
     /// The lowest run of `count` free regions, by its first region.
+    #[inline(never)]
     pub fn free_run(&self, count: u32) -> Option<RegionNo>
         requires { 0 < count }
         ensures { result ≡ first_run region_is_free count self.now.regions }
@@ -67,6 +68,7 @@ impl RegionTable {
 
     /// Makes a humongous object at the bottom of the run of `count` free regions that `free_run` found.
     /// Its pointers and weak slots are nil and its data words 0, and it ends in the last of the regions.
+    #[inline(never)]
     pub fn make_run(&mut self, first: RegionNo, count: u32, name: u64, counts: Counts)
         requires positive { 0 < count }
         requires lowest { first_run region_is_free count self.old.regions ≡ Some first }

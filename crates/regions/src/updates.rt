@@ -54,6 +54,7 @@ fn write_free(rows: &mut [Row], at: usize, count: usize)
 }
 
 /// Writes a filler's header, unless the filler has no words.
+#[inline(always)]
 fn write_remainder(words: &mut Words, at: u32, size: u32)
     requires within { at + size ≤ length words.old }
     requires small { size < 2 ^ 24 }
@@ -66,6 +67,7 @@ fn write_remainder(words: &mut Words, at: u32, size: u32)
 
 impl RegionTable {
     /// Takes the lowest free region, which is ordinary then and has no tiles.
+    #[inline(never)]
     pub fn take_free(&mut self) -> Option<RegionNo>
         ensures lowest { result ≡ first_free self.old }
         ensures taken { self.new ≡ taken self.old (first_free self.old) }
@@ -116,6 +118,7 @@ impl RegionTable {
 
     /// Splits a filler of `filler` words: `size` of them stay at its start, and the rest is a filler of its own
     /// or nothing. The result is the address of the rest.
+    #[inline(always)]
     pub fn split_filler(&mut self, at: Addr, filler: FillerSize, size: FillerSize) -> Addr
         requires there { tile_in self.old at ≡ Some (Filler filler) }
         requires room { size ≤ filler }
@@ -134,6 +137,7 @@ impl RegionTable {
 
     /// Makes an object at the start of a filler of `filler` words: its pointers and weak slots are nil and its data words 0.
     /// The rest is a filler again or nothing.
+    #[inline(always)]
     pub fn make_object(&mut self, at: Addr, filler: FillerSize, name: u64, counts: Counts)
         requires there { tile_in self.old at ≡ Some (Filler filler) }
         requires room { size_of counts.pointers counts.weaks counts.values ≤ filler }

@@ -65,6 +65,7 @@ impl WeakStarts {
     }
 
     /// An object with so many weak slots starts at an address.
+    #[inline(always)]
     pub(crate) fn note(&mut self, at: u32, weaks: u32)
         requires { at < length self.old.flags }
         ensures { self.new ≡ noted self.old at weaks }

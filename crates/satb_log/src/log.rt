@@ -64,6 +64,7 @@ impl DeletionLog {
     }
 
     /// An address enters at the end.
+    #[inline(always)]
     pub(crate) fn push(&mut self, address: Addr)
         requires { length self.old < 8 }
         ensures { self.new ≡ self.old ++ address ∷ [] }

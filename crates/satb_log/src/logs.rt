@@ -83,6 +83,7 @@ impl DeletionLogs {
     }
 
     /// An address enters the mutator's log at its end. Whether the log is full now.
+    #[inline(always)]
     pub fn log(&mut self, mutator: u32, address: Addr) -> bool
         requires known { mutator < length self.old }
         requires room { length (log_of self.old mutator) < 8 }

@@ -66,6 +66,7 @@ impl Core {
     }
 
     /// Stores a pointer into an object that a root names, and keeps marking and remembering right.
+    #[inline(always)]
     pub(crate) fn store(&mut self, mutator: u32, object: Addr, field: u32, target: Ptr)
         requires known { mutator < self.old.config.mutators }
         requires rooted { IsRoot (heap_of self.old) object }
@@ -83,6 +84,7 @@ impl Core {
     }
 
     /// Stores a pointer whose card is noted, and saves the one that is overwritten.
+    #[inline(always)]
     fn store_noted(&mut self, mutator: u32, object: Addr, field: u32, target: Ptr)
         requires known { mutator < self.old.config.mutators }
         requires rooted { IsRoot (heap_of self.old) object }

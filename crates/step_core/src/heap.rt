@@ -264,4 +264,30 @@ impl Core {
             Some(at) => Some(self.table.name(*at)),
         }
     }
+
+    /// A register takes a value, and its name is answered. What follows a test of the value stands in both arms, so that each knows it.
+    #[inline(always)]
+    pub(crate) fn take_named(&mut self, mutator: u32, register: Register, value: Ptr) -> Option<u64>
+        requires mutator { mutator < self.old.config.mutators }
+        requires register { IsRegister (places_of self.old.config) register }
+        requires word { IsWordOf (heap_of self.old) value }
+        requires held { IsHeld (heap_of self.old) value }
+        ensures name { result ≡ name_in self.old.table value }
+        ensures shows { (g : Graph) (v : Option ℕ) → ShowsGraph g self.old → IsShown (heap_of self.old) value v → ShowsGraph (with_root g (register_place g.places mutator register.number) v) self.new }
+        ensures keeps { (s : Graph) → KeepsFrom s self.old → KeepsFrom s self.new }
+        ensures after { self.new ≡ with_root_word self.old (register_place (places_of self.old.config) mutator register.number) value }
+        ensures leaves { LeavesRegions self.old self.new }
+    {
+        match value {
+            None => {
+                self.set_register(mutator, register, value);
+                None
+            }
+            Some(_) => {
+                let name = self.name_of(&value);
+                self.set_register(mutator, register, value);
+                name
+            }
+        }
+    }
 }

@@ -28,6 +28,7 @@ use heap_words::header::{Count, FillerSize};
 use regions::RegionTable;
 
 /// Makes a new object in its place, and answers its address.
+#[inline(always)]
 fn make(table: &mut RegionTable, place: Place, name: u64, counts: header::Counts) -> Addr
     requires { CanHold table.old place (size_of counts.pointers counts.weaks counts.values) }
     ensures at { result ≡ address_of table.old place }
@@ -78,8 +79,7 @@ impl Core {
             return Reply::Refused(Refusal::NoField);
         }
         let value = self.table.get_ptr(at, field);
-        let name = self.name_of(&value);
-        self.set_register(mutator, to, value);
+        let name = self.take_named(mutator, to, value);
         Reply::Named(name)
     }
 
@@ -113,6 +113,7 @@ impl Core {
         }
     }
 
+    #[inline(always)]
     fn put(&mut self, mutator: u32, object: Register, field: u32, value: Option<Register>) -> Reply
         requires mutator { mutator < self.old.config.mutators }
         requires object { IsRegister (places_of self.old.config) object }
@@ -295,6 +296,7 @@ impl Core {
     }
 
     /// Makes an object with so many weak slots, 0 of them for a plain one.
+    #[inline(always)]
     fn new_object(&mut self, mutator: u32, to: Register, counts: Counts, weaks: u8) -> Reply
         requires mutator { mutator < self.old.config.mutators }
         requires to { IsRegister (places_of self.old.config) to }

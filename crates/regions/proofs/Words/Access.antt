@@ -3,7 +3,8 @@
 use Rattle.std.proofs.Common.{◌≡◌, ℕ, suc, ◌+◌, ◌-◌, ◌*◌, ◌/◌, ◌<◌, Option, Some, None, List, length, take, drop, map, get_or, set, refl, sym, ◌∙◌, ap, arith, inl, inr}
 use Rattle.std.proofs.lemmas.List.{length-take, length-drop, length-map, length-set, drop-drop, get_or-drop, get_or-take, get_or-map}
 use Rattle.heap_words.specs.Headers.{header_of, pointer_of}
-use Rattle.heap_words.specs.Contents.{pointer_count}
+use Rattle.std.specs.Prelude.{IsSome}
+use Rattle.heap_words.specs.Contents.{pointer_count, counts_of}
 use Rattle.heap_model.specs.Heap.{Stored}
 use Rattle.regions.specs.Tiles.{Tile, Object, tile_size}
 use Rattle.regions.specs.Table.{First, Table, region_at, object_at, object_pointers, object_weaks, pointers_at, weaks_at, put_object, set_pointer, set_weak, IsOrdinary}
@@ -119,6 +120,7 @@ weak_word_at words x i s g h =
 
 pub record IsWeakRead (words : List ℕ) (t : Table) (x i : ℕ) : Type 0 where
   pub at : x < length words
+  pub object : IsSome (counts_of (header_of (get_or words x 0)))
   pub in_words : x + 2 + (pointer_count (header_of (get_or words x 0)) + i) < length words
   pub value : slice_get (weaks_at t x) i ≡ Some (pointer_of (get_or words (x + 2 + (pointer_count (header_of (get_or words x 0)) + i)) 0))
 
@@ -130,6 +132,7 @@ weak_read size words rows t x i g e h =
     let count : pointer_count (header_of (get_or words x 0)) ≡ length p.object.pointers = ap pointer_count is_in.header_is in
     record {
       at = omega (arith, is_in.fits);
+      object = rw is_in.header_is refl;
       in_words = omega (arith, is_in.fits, p.within);
       value = rw (p.object_is, count) (weak_word_at words x i p.object is_in p.within);
     }

@@ -6,7 +6,7 @@ use Rattle.regions.specs.Tiles.{Object, tile_size, stored_of}
 use Rattle.regions.specs.Table.{Table, object_at, object_words, stored_size, object_pointers, object_weaks, object_values, pointers_at, weaks_at, values_at}
 use Rattle.std.specs.Prelude.{IsSome}
 use Rattle.heap_words.specs.Headers.{header_of}
-use Rattle.heap_words.specs.Contents.{pointer_count}
+use Rattle.heap_words.specs.Contents.{pointer_count, counts_of}
 use Rattle.regions.specs.Rows.{weak_count, value_count, object_size, sizes_in, table_of, IsTable}
 use Rattle.regions.specs.declared.row.Row.{Row}
 use Rattle.regions.proofs.Words.Parse.{stored_of-append}
@@ -51,6 +51,10 @@ name_read words t x s i =
     let a : s.name ≡ get_or (drop (x + 1) words) 0 0 = ap (λ (r : Stored). r.name) i.is_in.stored_is in
     let b : get_or (drop (x + 1) words) 0 0 ≡ get_or words (x + 1) 0 = get_or-drop (x + 1) words 0 0 ∙ ap (λ k. get_or words k 0) (let z : x + 1 + 0 ≡ x + 1 = omega arith in z) in
     sym b ∙ sym a
+
+-- the object's header is an object's
+pub is_counted : (words : List ℕ) (t : Table) (x : ℕ) (s : Stored) → IsThere words t x s → IsSome (counts_of (header_of (get_or words x 0)))
+is_counted words t x s i = rw i.is_in.header_is refl
 
 -- what the object's header counts
 pub pointers_counted : (words : List ℕ) (t : Table) (x : ℕ) (s : Stored) → IsThere words t x s → pointer_count (header_of (get_or words x 0)) ≡ length (pointers_at t x)

@@ -5,8 +5,8 @@ use Rattle.mark_bitmap.specs.Tops.{below_previous}
 use Rattle.refinement.proofs.Holders.{shape_object, shape_filler, shape_forwarded, shape_within, kept_above, kept_marked, kept_nothing}
 use Rattle.refinement.proofs.scan.is_kept.Goals as goal
 
-pub returns-then-not-is_below_previous : goal.returns-then-not-is_below_previous
-returns-then-not-is_below_previous c =
+pub returns-then-not-lies_below_previous : goal.returns-then-not-lies_below_previous
+returns-then-not-lies_below_previous c =
     let tile = subst (λ (s : Shape). IsPlacedTile c.args.table.now c.args.at s) c.in-Object.is c.requires.tile in
     let above : below_previous c.args.table.now c.args.tams.now c.args.at ≡ false = cc in
     kept_above c.args.table.now c.args.tams.now c.args.marks.now c.args.at above (shape_object c.args.table.now c.args.at _ _ _ tile)
@@ -16,8 +16,8 @@ get-requires c =
     let tile = subst (λ (s : Shape). IsPlacedTile c.args.table.now c.args.at s) c.in-Object.is c.requires.tile in
     shape_within c.args.table.now c.args.at _ _ _ _ c.law.ensures c.requires.marks tile
 
-pub returns-else-not-is_below_previous : goal.returns-else-not-is_below_previous
-returns-else-not-is_below_previous c =
+pub returns-else-not-lies_below_previous : goal.returns-else-not-lies_below_previous
+returns-else-not-lies_below_previous c =
     let tile = subst (λ (s : Shape). IsPlacedTile c.args.table.now c.args.at s) c.in-Object.is c.requires.tile in
     let below : below_previous c.args.table.now c.args.tams.now c.args.at ≡ true = cc in
     kept_marked c.args.table.now c.args.tams.now c.args.marks.now c.args.at c.get.result below c.get.ensures (shape_object c.args.table.now c.args.at _ _ _ tile)

@@ -4,8 +4,11 @@ use Rattle.regions.proofs.Cards.Entries.{weak_sound}
 use Rattle.regions.proofs.Words.Access.{weak_read, weak_written}
 use Rattle.regions.proofs.table.RegionTable.set_weak.Goals as goal
 
-pub pointers_in-requires : goal.pointers_in-requires
-pointers_in-requires c = (weak_read _ _ _ _ _ _ c.self.invariant.table c.self.view_is c.requires).at
+pub pointers_in-requires-clause-within : goal.pointers_in-requires-clause-within
+pointers_in-requires-clause-within c = (weak_read _ _ _ _ _ _ c.self.invariant.table c.self.view_is c.requires).at
+
+pub pointers_in-requires-clause-object : goal.pointers_in-requires-clause-object
+pointers_in-requires-clause-object c = (weak_read _ _ _ _ _ _ c.self.invariant.table c.self.view_is c.requires).object
 
 pub overflow_add-place : goal.overflow_add-place
 overflow_add-place c =

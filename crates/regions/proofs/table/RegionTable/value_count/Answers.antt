@@ -1,11 +1,16 @@
 use Rattle.std.proofs.Common.{arith, ◌∙◌}
-use Rattle.regions.proofs.Words.ObjectWords.{object_there, values_counted}
+use Rattle.regions.proofs.Words.ObjectWords.{object_there, is_counted, values_counted}
 use Rattle.regions.proofs.table.RegionTable.value_count.Goals as goal
 
-pub values_in-requires : goal.values_in-requires
-values_in-requires c =
+pub values_in-requires-clause-within : goal.values_in-requires-clause-within
+values_in-requires-clause-within c =
     let o = object_there _ _ _ _ _ c.self.invariant.table c.self.view_is c.requires in
     omega (arith, o.1.fits, o.1.large)
+
+pub values_in-requires-clause-object : goal.values_in-requires-clause-object
+values_in-requires-clause-object c =
+    let o = object_there _ _ _ _ _ c.self.invariant.table c.self.view_is c.requires in
+    is_counted _ _ _ _ o.1
 
 pub returns : goal.returns
 returns c =
