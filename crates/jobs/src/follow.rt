@@ -127,8 +127,8 @@ fn write_told<W: Write>(
     }
 }
 
-/// Reads a record as it is written, judges it event by event, and writes the verdict: `no` and the first event that isn't allowed as soon as its
-/// line is whole, `yes` and the number of events at the end of input. A last line that no line feed ends counts as not written. Where it
+/// Reads a record as it is written, judges it event by event, and writes the verdict: `no` and the first event that isn't allowed as soon
+/// as its line is whole, `yes` and the number of events at the end of input. A last line that no line feed ends counts as not written. Where it
 /// is asked for, a no has its reason behind it, as `explain_record` writes it. A line's fault is told as soon as the line is whole, or has
 /// more than 120 bytes. What it holds grows with the graph, and not with the text.
 pub fn follow_record<R: Read, W: Write>(

@@ -5,6 +5,7 @@
 //!   FILE -- read_plan --> Plan -- a run, in some order --> Record -- answer --> output
 //!   FILE -- read_text, parse_record --> Record -- check --> Verdict -- write_verdict --> output
 //!                                              -- explain --> Finding -- write_finding --> output
+//!   FILE -- LineBuffer, line by line --> Event -- Judge::take --> Finding -- write_told --> output
 //!   a fault of any of these -- tell --> its line on standard error
 //! ```
 //!

@@ -243,8 +243,8 @@ impl LineBuffer {
         }
     }
 
-    /// Waits for the line of the event of this count, and takes it. `None`: the input ended before; what then waits is a beginning of a line.
-    /// A line with a fault isn't taken.
+    /// Waits for the line of the event of this count, and takes it. `None`: the input ended before; what waits then is a beginning of a
+    /// line. A line with a fault isn't taken.
     ///
     /// ```rust
     /// let mut lines = LineBuffer::new(alloc)?;

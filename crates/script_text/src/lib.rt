@@ -14,6 +14,7 @@
 //! - `parse` gives the plan that a text spells, or the first line with a fault and the first fault of that line.
 //!   What is read of a text is spelled so in the whole of it, and each script's text is read as that script.
 //! - `parse_record` does the same of a record's text, and so gives back the record that was written (`written_record_is_read`).
+//! - `LineBuffer` takes a record's lines one by one, each as soon as it is whole: so a record can be read as it is written.
 //! - `write_record` appends the text of a record and no more, or a beginning of it where the writer refused. It holds one
 //!   buffer, however long the record is.
 //! - `put_text`, `put_number`, `put_event_text`, `put_reply`, `put_fault` and `write_bytes` are for other lines of a program: they put texts

@@ -75,7 +75,8 @@ impl<R: Read> WatchedReader<R> {
         }
     }
 
-    /// Reads some bytes to a buffer's front, and answers how many: none at the end of input alone. A read that is interrupted is tried again.
+    /// Reads some bytes to a buffer's front, and answers how many: none at the end of input alone. A read that is interrupted is tried
+    /// again.
     ///
     /// ```rust
     /// let mut buffer = [0; 4];
