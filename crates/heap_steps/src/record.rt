@@ -174,7 +174,7 @@ impl Record {
     /// ```rust
     /// let mut record = Record::new(alloc, config);
     /// record.push(event)?;
-    /// assert_eq!(rt; check(alloc, &record)?, Verdict::Yes(1));
+    /// assert_eq!(rt; record.events().len(), 1);
     /// ```
     pub fn push(&mut self, event: Event) -> Result<(), AllocError>
         requires { IsEvent self.old.config event }
