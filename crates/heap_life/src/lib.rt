@@ -20,6 +20,7 @@ mod pace;
 mod page;
 mod page_parts;
 mod pieces;
+mod redraw;
 mod region_text;
 mod shares;
 #[cfg(test)]
@@ -31,4 +32,5 @@ pub use life::{Life, Moment, live, planned};
 pub use numbers::{Numbers, numbers_of};
 pub use pace::{Pace, pace_of};
 pub use page::page_of;
+pub use redraw::draw_record;
 pub use shares::{Part, Shares, live_words, shares_of};

@@ -25,25 +25,32 @@
 //! that it has found and hasn't scanned, `scanned` one whose pointers it has followed.
 //!
 //! A view reads the heap and changes nothing of it. It takes no memory, and its cost grows with the heap: the writer gets many short
-//! pieces, so give it one that gathers them. `view_script` reads a script, does its steps in a new heap, and writes the view of that.
+//! pieces, so give it one that gathers them. `view_script` reads a script, does its steps in a new heap, and writes the view of that;
+//! `view_record` does the same of a record, whose replies have to be the heap's. A `Glance` says when, and whether of one region alone.
 #![tactic(auto)]
 
 mod card_lines;
+mod glance;
 mod names;
 mod pieces;
 mod region_lines;
+mod replay;
+mod review;
 mod root_lines;
 mod view;
 #[cfg(test)]
 mod tests;
 
+pub use glance::{Glance, write_glance};
 pub use names::name_at;
+pub use replay::first_other;
 
 use heap_words::config::Format;
 use pieces::{write_number, write_text};
 use std::io::{Result, Write};
 use step_core::Core;
 
+pub use review::view_record;
 pub use view::view_script;
 
 /// Writes what the first line has behind the first name.
@@ -92,9 +99,10 @@ fn write_state<W: Write>(core: &Core, writer: &mut W) -> Result<()> {
 
 /// Writes a view of the heap, a line for each region, tile and mutator at least. Where the writer fails, a beginning of it is written.
 pub fn write_view<W: Write>(core: &Core, writer: &mut W) -> Result<()> {
-    write_sizes(core, writer)?;
-    write_state(core, writer)?;
-    region_lines::write_regions(core, writer)?;
-    card_lines::write_queue(core, writer)?;
-    root_lines::write_roots(core, writer)
+    let whole = Glance {
+        at: None,
+        region: None,
+        summary: false,
+    };
+    write_glance(core, writer, &whole)
 }

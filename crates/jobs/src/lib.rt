@@ -5,6 +5,7 @@
 //!   FILE -- read_plan --> Plan -- a run, in some order --> Record -- answer --> output
 //!   FILE -- read_text, parse_record --> Record -- check --> Verdict -- write_verdict --> output
 //!                                              -- explain --> Finding -- write_finding --> output
+//!   FILE -- read_record --> Record -- its steps done again, by the crates above
 //!   a fault of any of these -- tell --> its line on standard error
 //! ```
 //!
@@ -15,10 +16,12 @@
 
 mod explain;
 mod faults;
+mod history;
 mod judge;
 mod script;
 
 pub use explain::{explain_record, explained_law, perform_explain};
 pub use faults::{JobFault, JudgeFault, conclude, tell};
+pub use history::read_record;
 pub use judge::{conclude_verdict, judge_record, perform_check, status_law, verdict_law};
 pub use script::{answer, read_plan};

@@ -1,5 +1,5 @@
-use Rattle.command_line.proofs.Paths.{check, draw, every, explain, run, sim, threads, view}
+use Rattle.command_line.proofs.Paths.{at, check, draw, every, explain, redraw, run, sim, threads, view}
 use Rattle.command_line.proofs.words_law.Goals as goal
 
 pub returns : goal.returns
-returns c = record { run = run; sim = sim; threads = threads; check = check; explain = explain; view = view; draw = draw; every = every }
+returns c = record { run = run; sim = sim; threads = threads; check = check; explain = explain; view = view; draw = draw; every = every; redraw = redraw; at = at }
