@@ -21,7 +21,7 @@ use Rattle.step_core.specs.Histories.{Runs, RunsTo}
 use Rattle.heap_life.specs.Numbers.{IsNumbersOf}
 use Rattle.heap_life.specs.declared.life.Moment.{Moment}
 use Rattle.heap_life.specs.declared.pace.Pace.{Pace}
-use Rattle.heap_life.specs.Paces.{counts, counted, one_if, IsShown, IsDue}
+use Rattle.heap_life.specs.Paces.{counts, counted, one_if, IsShown, IsDue, IsPaceFor, most_moments}
 use Rattle.heap_life.specs.Lives.{moved_by, moved_in, IsMomentFrom, IsMomentOf, HasMoment, NotesIf}
 
 -- ---- counts and sums over one event more
@@ -200,3 +200,14 @@ all_of_new config c0 es ms fresh core stands h = λ k d lt.
       numbers = m.numbers;
       copied = m.copied;
     }
+
+-- ---- the pace that was asked for
+
+pub pace_for : (every wish most : ℕ) (c k : Config) (es fs : List Event) (p q : Pace) → IsPaceFor wish most es q → wish ≡ every → most ≡ most_moments c → c ≡ k → es ≡ fs → p ≡ q
+    → IsPaceFor every (most_moments k) fs p
+pace_for every wish most c k es fs p q h ew em ec ee ep =
+    subst (λ (x : Pace). IsPaceFor every (most_moments k) fs x) (sym ep)
+    (subst (λ (l : List Event). IsPaceFor every (most_moments k) l q) ee
+    (subst (λ (d : Config). IsPaceFor every (most_moments d) es q) ec
+    (subst (λ (m : ℕ). IsPaceFor every m es q) em
+    (subst (λ (w : ℕ). IsPaceFor w most es q) ew h))))

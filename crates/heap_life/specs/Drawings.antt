@@ -25,7 +25,7 @@ pub record IsPageOfPlan (every : ℕ) (plan : StepList) (page : List ℕ) : Type
 pub record IsPageOfScript (every : ℕ) (input page : List ℕ) : Type 0 where
   pub plan : StepList
   pub read : script_of input ≡ Ok plan
-  pub page : IsPageOfPlan every plan page
+  pub drawn : IsPageOfPlan every plan page
 
 -- such a page was written, and no more
 abbrev pub WritesPage : ℕ → List ℕ → Writer → Writer → Type 0

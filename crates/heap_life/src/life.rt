@@ -12,17 +12,19 @@ ghost use Rattle.heap_words.specs.declared.config.Config.{Config};
 ghost use Rattle.object_graph.specs.Actors.{AreEvents, IsStep, IsStepOf};
 ghost use Rattle.object_graph.specs.State.{State};
 ghost use Rattle.step_core.specs.Stands.{Stands};
-ghost use Rattle.step_core.specs.Histories.{Runs, step_in, actor_in, actor_of, IsRunFault};
+ghost use Rattle.object_graph.specs.Faults.{IsRunFault};
+ghost use Rattle.step_core.specs.Histories.{Runs, step_in, actor_in, actor_of};
 ghost use Rattle.heap_life.specs.Paces.{counts, one_if, IsDue, IsPaceFor, most_moments};
 ghost use Rattle.heap_life.specs.Lives.{moved_by, IsMomentFrom, HasMoment, NotesIf, IsLifeOf};
 
 use crate::moment_text::Teller;
 use crate::numbers::{Numbers, numbers_of};
-use crate::pace::{Pace, pace_of};
+use crate::pace::Pace;
+use crate::pacing::pace_of;
 use heap_words::config::Config;
-use object_graph::{Actor, Event, Plan, Record, Reply, Step};
+use object_graph::{Actor, Event, Plan, Record, Reply, RunFault, Step, run_fault};
 use std::alloc::{AllocError, Global};
-use step_core::{Core, RunFault, run_fault};
+use step_core::Core;
 
 /// Up to how many words a heap has its tiles told.
 const TOLD_WORDS: u32 = 1 << 16;

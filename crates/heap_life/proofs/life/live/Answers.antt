@@ -5,11 +5,12 @@ use Rattle.object_graph.specs.Actors.{AreEvents}
 use Rattle.object_graph.specs.declared.step.Event.{Event}
 use Rattle.object_graph.specs.Run.{IsRun}
 use Rattle.object_graph.specs.State.{first_state}
-use Rattle.step_core.specs.Histories.{IsRunFault, RunsTo, step_in, actor_in}
+use Rattle.object_graph.specs.Faults.{IsRunFault}
+use Rattle.step_core.specs.Histories.{RunsTo, step_in, actor_in}
 use Rattle.step_core.proofs.Cores.Following.{history_is_run}
 use Rattle.heap_life.specs.Paces.{IsDue}
 use Rattle.heap_life.specs.Lives.{IsMomentOf, HasMoment}
-use Rattle.heap_life.proofs.Moments.{runs_to, all_of_new}
+use Rattle.heap_life.proofs.Moments.{runs_to, all_of_new, pace_for}
 use Rattle.heap_life.proofs.life.live.Goals as goal
 
 pub returns-in-Err-clause-fault : goal.returns-in-Err-clause-fault
@@ -41,5 +42,7 @@ returns-in-Ok-life_of-clause-life c =
       end = c.life_of.new.core;
       ends = subst (λ (k : Config). RunsTo k es c.life_of.new.core) is (runs_to config c.in-Ok.core c.life_of.new.core es made.fresh made.core made.stands runs);
       each = subst (λ (k : Config). All (IsMomentOf k es) ms) is (all_of_new config c.in-Ok.core es ms made.fresh made.core made.stands lived.each);
+      pace = pace_for c.args.every c.from.result c.most_moments.result config c.args.events.now.config c.events.result.now c.args.events.now.events life.pace c.pace_of-pace.result
+          c.pace_of-pace.ensures c.from.ensures c.most_moments.ensures is c.events.ensures.events lived.pace;
       due = subst (λ (events : List Event). (n : ℕ) → n ≤ length events → IsDue life.pace events n → HasMoment ms n) c.events-2.ensures.events lived.due;
     }
