@@ -25,7 +25,7 @@ pub record IsPageOfHistory (every : ℕ) (history : EventList) (page : List ℕ)
 pub record IsPageOfRecord (every : ℕ) (input page : List ℕ) : Type 0 where
   pub history : EventList
   pub read : record_of input ≡ Ok history
-  pub page : IsPageOfHistory every history page
+  pub drawn : IsPageOfHistory every history page
 
 -- why there is no such page
 abbrev pub IsHistoryFault : EventList → JobFault → Type 0
