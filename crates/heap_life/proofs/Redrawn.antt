@@ -1,17 +1,17 @@
 -- From a life over the steps of a record, and their replies, to the page of the record.
-use Rattle.std.proofs.Common.{◌≡◌, ◌∙◌, ◌+◌, ℕ, List, [], ◌∷◌, ap, drop, get_or, map, refl, subst, sym}
+use Rattle.std.proofs.Common.{◌≡◌, ◌∙◌, ℕ, List, [], ◌∷◌, ap, drop, get_or, map, refl, subst, sym}
 use Rattle.heap_words.specs.declared.config.Config.{Config}
 use Rattle.heap_steps.specs.Actors.{EventList}
 use Rattle.heap_steps.specs.declared.step.Actor.{Actor}
 use Rattle.heap_steps.specs.declared.step.Event.{Event}
 use Rattle.heap_steps.specs.declared.step.Reply.{Reply}
 use Rattle.heap_steps.specs.declared.step.Step.{Step}
-use Rattle.jobs.specs.Replays.{DifferFrom, reply_in}
+use Rattle.jobs.specs.Replays.{reply_in}
 use Rattle.step_core.specs.Histories.{step_in, actor_in}
 use Rattle.heap_life.specs.declared.life.Life.{Life}
 use Rattle.heap_life.specs.Lives.{IsLifeOf}
 use Rattle.heap_life.specs.Pages.{IsPageOf}
-use Rattle.heap_life.specs.Redrawings.{DiffersAt, IsPageOfHistory}
+use Rattle.heap_life.specs.Redrawings.{IsPageOfHistory}
 
 abbrev event_of : Actor → Step → Reply → Event
 event_of actor step reply = record { actor = actor; step = step; reply = reply }
@@ -42,14 +42,4 @@ of_history every history page life replies l drawn = record {
   same = same_history life.history history l.config (same_events life.history.events history.events l.actors l.steps replies);
   lives = l;
   drawn = drawn;
-}
-
-pub other_at : (every : ℕ) (history : EventList) (life : Life) (place : ℕ) → IsLifeOf every history life → DifferFrom history.events life.history.events place → DiffersAt history (place + 1)
-other_at every history life place l differ = record {
-  ran = life.history.events;
-  runs = (l.end, l.ends);
-  steps = l.steps;
-  place = place;
-  number = omega arith;
-  differ = differ;
 }
