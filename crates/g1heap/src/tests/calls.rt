@@ -89,7 +89,10 @@ fn follows_a_record(rt: HostRuntime) {
 fn views_a_script(rt: HostRuntime) {
     let mut out = WatchedWriter::new(Vec::new(rt.alloc()));
     let mut reader = WatchedReader::new(SCRIPT);
-    assert_eq!(rt; view_script(rt.alloc(), &GLANCE, &mut reader, &mut out), Ok(()));
+    assert_eq!(rt;
+        view_script(rt.alloc(), &GLANCE, &mut reader, &mut out),
+        Ok(())
+    );
     assert_eq!(rt; out.into_inner().as_slice(), VIEW);
 }
 
@@ -97,7 +100,10 @@ fn views_a_script(rt: HostRuntime) {
 fn views_a_record(rt: HostRuntime) {
     let mut out = WatchedWriter::new(Vec::new(rt.alloc()));
     let mut reader = WatchedReader::new(RECORD);
-    assert_eq!(rt; view_record(rt.alloc(), &GLANCE, &mut reader, &mut out), Ok(()));
+    assert_eq!(rt;
+        view_record(rt.alloc(), &GLANCE, &mut reader, &mut out),
+        Ok(())
+    );
     assert_eq!(rt; out.into_inner().as_slice(), VIEW);
 }
 

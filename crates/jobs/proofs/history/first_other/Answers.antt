@@ -12,9 +12,9 @@ same_more : (given ran : List Event) (i : ℕ) (a b : Reply) → length ran ≡ 
     → take i (map reply_in ran) ≡ take i (map reply_in given) → take (i + 1) (map reply_in ran) ≡ take (i + 1) (map reply_in given)
 same_more given ran i a b long within given_at ran_at same before =
     take_more_same (map reply_in ran) (map reply_in given) i a
-        (subst (λ (n : ℕ). i < n) (sym (length-map ran reply_in)) (subst (λ (n : ℕ). i < n) (sym long) within))
-        (subst (λ (n : ℕ). i < n) (sym (length-map given reply_in)) within)
-        before (get_or_from_slice_get (map reply_in ran) i b a ran_at ∙ same ∙ sym (get_or_from_slice_get (map reply_in given) i a a given_at))
+    (subst (λ (n : ℕ). i < n) (sym (length-map ran reply_in)) (subst (λ (n : ℕ). i < n) (sym long) within))
+    (subst (λ (n : ℕ). i < n) (sym (length-map given reply_in)) within)
+    before (get_or_from_slice_get (map reply_in ran) i b a ran_at ∙ same ∙ sym (get_or_from_slice_get (map reply_in given) i a a given_at))
 
 pub loop-index-preserved : goal.loop-index-preserved
 loop-index-preserved c = same_more c.args.given.now c.args.ran.now c.loop-index.index _ _ c.requires c.loop-index-test.true c.reply_at.ensures c.reply_at-in-loop-index.ensures (c.is_other.ensures.same c.if-is_other.false) c.loop-index.invariant
