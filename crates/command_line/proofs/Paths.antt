@@ -1,5 +1,5 @@
 -- What the plainest words ask for.
-use Rattle.std.proofs.Common.{◌≡◌, ◌∷◌, [], None, Bool, true, false, codes, refl}
+use Rattle.std.proofs.Common.{◌≡◌, ◌∷◌, [], None, Some, Bool, true, false, codes, refl}
 use Rattle.std.specs.Prelude.{◌==◌}
 use Rattle.std.specs.Str.{bytes_eq}
 use Rattle.clap.proofs.OnLiterals.{clap_on_literals}
@@ -54,7 +54,7 @@ follow program path h =
     let v = is_value path h in
     (rw v.no_end (rw v.no_name (rw v.no_letters refl)), rw v.no_end (rw v.no_name (rw v.no_letters refl)))
 
-pub view : (program path : Text) → is_path path ≡ true → Asks (program ∷ codes "view" ∷ path ∷ []) (path, View)
+pub view : (program path : Text) → is_path path ≡ true → Asks (program ∷ codes "view" ∷ path ∷ []) (path, View false None None false)
 unfolding clap_on_literals
 view program path h =
     let v = is_value path h in
@@ -74,15 +74,28 @@ threads program path h =
     let v = is_value path h in
     (rw v.no_end (rw v.no_name (rw v.no_letters refl)), rw v.no_end (rw v.no_name (rw v.no_letters refl)))
 
-pub draw : (program path : Text) → is_path path ≡ true → Asks (program ∷ codes "draw" ∷ path ∷ []) (path, Draw 1)
+pub draw : (program path : Text) → is_path path ≡ true → Asks (program ∷ codes "draw" ∷ path ∷ []) (path, Draw 1 false)
 unfolding clap_on_literals
 draw program path h =
     let v = is_value path h in
     (rw v.no_end (rw v.no_name (rw v.no_letters refl)), rw v.no_end (rw v.no_name (rw v.no_letters refl)))
 
 pub every : (program path : Text) → is_path path ≡ true
-    → Asks (program ∷ codes "draw" ∷ path ∷ codes "--every" ∷ codes "10" ∷ []) (path, Draw 10)
+    → Asks (program ∷ codes "draw" ∷ path ∷ codes "--every" ∷ codes "10" ∷ []) (path, Draw 10 false)
 unfolding clap_on_literals
 every program path h =
+    let v = is_value path h in
+    (rw v.no_end (rw v.no_name (rw v.no_letters refl)), rw v.no_end (rw v.no_name (rw v.no_letters refl)))
+
+pub redraw : (program path : Text) → is_path path ≡ true → Asks (program ∷ codes "draw" ∷ path ∷ codes "--record" ∷ []) (path, Draw 1 true)
+unfolding clap_on_literals
+redraw program path h =
+    let v = is_value path h in
+    (rw v.no_end (rw v.no_name (rw v.no_letters refl)), rw v.no_end (rw v.no_name (rw v.no_letters refl)))
+
+pub at : (program path : Text) → is_path path ≡ true
+    → Asks (program ∷ codes "view" ∷ path ∷ codes "--at" ∷ codes "9" ∷ []) (path, View false (Some 9) None false)
+unfolding clap_on_literals
+at program path h =
     let v = is_value path h in
     (rw v.no_end (rw v.no_name (rw v.no_letters refl)), rw v.no_end (rw v.no_name (rw v.no_letters refl)))

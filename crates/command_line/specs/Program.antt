@@ -51,9 +51,13 @@ checked = with_rule (with_rule (plain (codes "check")) (flag (codes "explain")))
 abbrev pub every : Rule
 every = record (number (codes "every") (parser.Signed (pos 1) (pos 1000000))) { defaults = codes "1" ∷ [] }
 
--- the subcommand that draws the life of a script's heap
+-- the subcommand that views a heap
+abbrev pub viewed : App
+viewed = with_rule (with_rule (with_rule (with_rule (plain (codes "view")) (flag (codes "record"))) (count (codes "at"))) (count (codes "region"))) (flag (codes "summary"))
+
+-- the subcommand that draws the life of a heap
 abbrev pub drawn : App
-drawn = with_rule (plain (codes "draw")) every
+drawn = with_rule (with_rule (plain (codes "draw")) every) (flag (codes "record"))
 
 -- the program without its subcommands
 abbrev pub bare : App
@@ -68,5 +72,5 @@ g1heap =
     (by_actors (codes "sim") schedule).top)
     (by_actors (codes "threads") workers).top)
     checked.top)
-    (plain (codes "view")).top)
+    viewed.top)
     drawn.top

@@ -7,22 +7,22 @@
 //!   g1heap check FILE                      Job { file: FILE, task: Task::Check { explained: false, followed: false } }
 //!   g1heap check FILE --explain            Job { file: FILE, task: Task::Check { explained: true, followed: false } }
 //!   g1heap check FILE --follow             Job { file: FILE, task: Task::Check { explained: false, followed: true } }
-//!   g1heap view FILE                       Job { file: FILE, task: Task::View }
-//!   g1heap draw FILE --every 10            Job { file: FILE, task: Task::Draw { every: 10 } }
+//!   g1heap view FILE --at 9                Job { file: FILE, task: Task::View { recorded: false, at: Some(9), region: None, summary: false } }
+//!   g1heap draw FILE --every 10            Job { file: FILE, task: Task::Draw { every: 10, recorded: false } }
 //!   g1heap help, and every mistake         an `Error`, whose text is for the user
 //! ```
 //!
 //! Whether a count is in range, the run itself says.
 #![tactic(auto)]
 
-ghost use Rattle.std.specs.Prelude.{◌≡◌, ◌∷◌, [], ℕ, List, Some, IfOk, true, false, codes, map, option_and_then, option_map, string_bytes};
+ghost use Rattle.std.specs.Prelude.{◌≡◌, ◌∷◌, [], ℕ, List, None, Some, IfOk, true, false, codes, map, option_and_then, option_map, string_bytes};
 ghost use Rattle.clap.specs.Words.{App, FailsBy, HasKind, first_of, found_of, kind_of, rows_of, rule_of};
 ghost use Rattle.clap.specs.Words.{subcommand_rows_of, with_rule, with_subcommand};
 ghost use Rattle.clap.specs.declared.error.kind.ErrorKind.TheVariants.{InvalidValue};
 ghost use Rattle.command_line.specs.Asked.{Asks, asked_in, asked_of, drawn_in, faults_of, flag_in, is_path, number_in, task_in, threads_in};
 ghost use Rattle.command_line.specs.declared.Order.TheVariants.{Concurrent, Drawn, File};
 ghost use Rattle.command_line.specs.declared.Task.TheVariants.{Check, Draw, Script, View};
-ghost use Rattle.command_line.specs.Program.{IsReadAs, background, bare, by_actors, checked, count, drawn, every, file, flag, g1heap, number, plain, schedule, workers};
+ghost use Rattle.command_line.specs.Program.{IsReadAs, background, bare, by_actors, checked, count, drawn, every, file, flag, g1heap, number, plain, schedule, viewed, workers};
 
 use clap::builder::ValueParser;
 use clap::error::ErrorKind;
@@ -54,11 +54,23 @@ pub enum Task {
     /// A script is run, and its record written.
     Script(Order),
     /// The events of a record are judged, and a no explained, or the record read as it is written, where that is asked for.
-    Check { explained: bool, followed: bool },
-    /// A script is run, and a view of its heap written.
-    View,
-    /// A script is run, and the page of its heap's life written, with a moment each so many events.
-    Draw { every: u32 },
+    Check {
+        explained: bool,
+        followed: bool,
+    },
+    /// A script is run, or a record's steps are done again, and a view of its heap written: behind so many steps, or the last one; of a
+    /// region alone, or all; and whether it is a short one.
+    View {
+        recorded: bool,
+        at: Option<u32>,
+        region: Option<u32>,
+        summary: bool,
+    },
+    /// A script is run, or a record's steps are done again, and the page of its heap's life written, with a moment each so many events.
+    Draw {
+        every: u32,
+        recorded: bool,
+    },
 }
 
 /// What a command line asks for.
@@ -148,6 +160,15 @@ fn flag<'a>(alloc: Global, name: &'a str, help: &'a str) -> Arg<'a>
         .long(name)
         .help(help)
         .action(ArgAction::SetTrue)
+}
+
+/// The option that says what FILE is.
+fn recorded<'a>(alloc: Global) -> Arg<'a>
+    ensures rule { rule_of result ≡ flag (codes "record") }
+    ensures own { result.global ≡ false }
+{
+    let help = "FILE is a record, whose replies have to be this heap's";
+    flag(alloc, "record", help)
 }
 
 /// The option that takes the seed.
@@ -304,14 +325,26 @@ fn check_command<'a>(alloc: Global) -> Result<Command<'a>, AllocError>
 }
 
 fn view_command<'a>(alloc: Global) -> Result<Command<'a>, AllocError>
-    ensures { IfOk result (IsReadAs (plain (codes "view"))) }
+    ensures { IfOk result (IsReadAs viewed) }
 {
-    plain(
+    let command = plain(
         alloc,
         "view",
         "Does the steps of a script, and prints the heap as it stands then",
         SCRIPT,
-    )
+    );
+    let command = with_arg(command, recorded(alloc));
+    let command = with_arg(
+        command,
+        count(
+            alloc,
+            "at",
+            "Views the heap behind N steps, and not the last one",
+        ),
+    );
+    let command = with_arg(command, count(alloc, "region", "Views region N alone"));
+    let help = "Prints a line a region, and what they add up to";
+    with_arg(command, flag(alloc, "summary", help))
 }
 
 fn draw_command<'a>(alloc: Global) -> Result<Command<'a>, AllocError>
@@ -323,7 +356,8 @@ fn draw_command<'a>(alloc: Global) -> Result<Command<'a>, AllocError>
         "Does the steps of a script, and prints the life of its heap as a page of HTML",
         SCRIPT,
     );
-    with_arg(command, every(alloc))
+    let command = with_arg(command, every(alloc));
+    with_arg(command, recorded(alloc))
 }
 
 /// The program, without its subcommands.
@@ -404,9 +438,15 @@ fn task_of(name: &str, found: &ArgMatches) -> Option<Task>
             explained: flag_in(found, "explain"),
             followed: flag_in(found, "follow"),
         }),
-        "view" => Some(Task::View),
+        "view" => Some(Task::View {
+            recorded: flag_in(found, "record"),
+            at: count_in(found, "at"),
+            region: count_in(found, "region"),
+            summary: flag_in(found, "summary"),
+        }),
         "draw" => Some(Task::Draw {
             every: count_in(found, "every")?,
+            recorded: flag_in(found, "record"),
         }),
         _ => None,
     }
@@ -473,10 +513,13 @@ pub fn words_law()
     ensures check { (program path : List ℕ) → is_path path ≡ true → Asks (program ∷ codes "check" ∷ path ∷ []) (path, Check false false) }
     ensures explain { (program path : List ℕ) → is_path path ≡ true → Asks (program ∷ codes "check" ∷ path ∷ codes "--explain" ∷ []) (path, Check true false) }
     ensures follow { (program path : List ℕ) → is_path path ≡ true → Asks (program ∷ codes "check" ∷ path ∷ codes "--follow" ∷ []) (path, Check false true) }
-    ensures view { (program path : List ℕ) → is_path path ≡ true → Asks (program ∷ codes "view" ∷ path ∷ []) (path, View) }
-    ensures draw { (program path : List ℕ) → is_path path ≡ true → Asks (program ∷ codes "draw" ∷ path ∷ []) (path, Draw 1) }
+    ensures view { (program path : List ℕ) → is_path path ≡ true → Asks (program ∷ codes "view" ∷ path ∷ []) (path, View false None None false) }
+    ensures draw { (program path : List ℕ) → is_path path ≡ true → Asks (program ∷ codes "draw" ∷ path ∷ []) (path, Draw 1 false) }
     ensures every { (program path : List ℕ) → is_path path ≡ true
-        → Asks (program ∷ codes "draw" ∷ path ∷ codes "--every" ∷ codes "10" ∷ []) (path, Draw 10) }
+        → Asks (program ∷ codes "draw" ∷ path ∷ codes "--every" ∷ codes "10" ∷ []) (path, Draw 10 false) }
+    ensures redraw { (program path : List ℕ) → is_path path ≡ true → Asks (program ∷ codes "draw" ∷ path ∷ codes "--record" ∷ []) (path, Draw 1 true) }
+    ensures at { (program path : List ℕ) → is_path path ≡ true
+        → Asks (program ∷ codes "view" ∷ path ∷ codes "--at" ∷ codes "9" ∷ []) (path, View false (Some 9) None false) }
 {}
 
 /// The text for the user where a word isn't UTF-8.

@@ -7,8 +7,8 @@
 //!                                                            --> thread_script    in turns of threads
 //!                                                            --> judge_record     the verdict on a record
 //!                                                            --> explain_record   the verdict with its reason
-//!                                                            --> view_script      the heap as it stands
-//!                                                            --> draw_script      the life of the heap, as a page
+//!                                                            --> view_script      the heap as it stands; view_record of a record
+//!                                                            --> draw_script      the life of the heap, as a page; draw_record of a record
 //! ```
 //!
 //! `program` reads the command line (crate `command_line`), opens the file and calls `perform`, which does the job and tells its end (crate

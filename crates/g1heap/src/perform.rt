@@ -1,13 +1,13 @@
 //! What the program does with a job.
 
 ghost use Rattle.g1heap.specs.Runs.{EndsIn};
-ghost use Rattle.g1heap.specs.Jobs.{DoesCheck, DoesJob};
+ghost use Rattle.g1heap.specs.Jobs.{DoesCheck, DoesDraw, DoesJob, DoesView};
 
 use crate::actors::{simulate_script, thread_script};
 use crate::in_order::run_script;
 use command_line::{Job, Order, Task};
-use heap_life::draw_script;
-use heap_view::view_script;
+use heap_life::{draw_record, draw_script};
+use heap_view::{Glance, view_record, view_script};
 use jobs::{JobFault, conclude, perform_check, perform_explain, perform_follow};
 use script_text::{WatchedReader, WatchedWriter};
 use std::alloc::Global;
@@ -60,6 +60,46 @@ fn do_check<R: Read, W: Write, E: Write>(
     }
 }
 
+/// Views the heap of a script, or of a record, and answers the program's status.
+fn do_view<R: Read, W: Write, E: Write>(
+    alloc: Global,
+    recorded: bool,
+    glance: &Glance,
+    reader: &mut WatchedReader<R>,
+    out: &mut WatchedWriter<W>,
+    err: &mut WatchedWriter<E>,
+) -> u8
+    ensures { DoesView recorded glance.now.at reader.old reader.new out.old out.new err.old err.new result }
+{
+    if recorded {
+        let viewed = view_record(alloc, glance, reader, out);
+        conclude(viewed, err)
+    } else {
+        let viewed = view_script(alloc, glance, reader, out);
+        conclude(viewed, err)
+    }
+}
+
+/// Draws the life of a script's heap, or of a record's, and answers the program's status.
+fn do_draw<R: Read, W: Write, E: Write>(
+    alloc: Global,
+    recorded: bool,
+    every: u32,
+    reader: &mut WatchedReader<R>,
+    out: &mut WatchedWriter<W>,
+    err: &mut WatchedWriter<E>,
+) -> u8
+    ensures { DoesDraw recorded every reader.old reader.new out.old out.new err.old err.new result }
+{
+    if recorded {
+        let drawn = draw_record(alloc, every, reader, out);
+        conclude(drawn, err)
+    } else {
+        let drawn = draw_script(alloc, every, reader, out);
+        conclude(drawn, err)
+    }
+}
+
 /// Does the job, and answers the program's status.
 pub fn perform<H: Threads + Wait + Sync, R: Read, W: Write, E: Write>(
     rt: &H,
@@ -80,13 +120,19 @@ pub fn perform<H: Threads + Wait + Sync, R: Read, W: Write, E: Write>(
             explained,
             followed,
         } => do_check(alloc, explained, followed, reader, out, err),
-        Task::View => {
-            let viewed = view_script(alloc, reader, out);
-            conclude(viewed, err)
+        Task::View {
+            recorded,
+            at,
+            region,
+            summary,
+        } => {
+            let glance = Glance {
+                at,
+                region,
+                summary,
+            };
+            do_view(alloc, recorded, &glance, reader, out, err)
         }
-        Task::Draw { every } => {
-            let drawn = draw_script(alloc, every, reader, out);
-            conclude(drawn, err)
-        }
+        Task::Draw { every, recorded } => do_draw(alloc, recorded, every, reader, out, err),
     }
 }

@@ -29,7 +29,7 @@ fn conclude_unread<E: Write>(task: Task, err: &mut WatchedWriter<E>) -> u8
     match task {
         Task::Script(_) => conclude(Err(JobFault::Read(ReadFault::CannotRead)), err),
         Task::Check { .. } => { conclude_verdict(Err(JobFault::Read(ReadFault::CannotRead)), err) }
-        Task::View => conclude(Err(JobFault::Read(ReadFault::CannotRead)), err),
+        Task::View { .. } => conclude(Err(JobFault::Read(ReadFault::CannotRead)), err),
         Task::Draw { .. } => conclude(Err(JobFault::Read(ReadFault::CannotRead)), err),
     }
 }

@@ -1,3 +1,4 @@
 pub mod Parts
 pub mod Moments
 mod Drawn
+mod Redrawn

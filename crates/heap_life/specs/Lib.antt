@@ -4,3 +4,4 @@ pub mod Paces
 pub mod Lives
 pub mod Pages
 pub mod Drawings
+pub mod Redrawings

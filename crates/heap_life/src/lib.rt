@@ -21,6 +21,7 @@ mod pacing;
 mod page;
 mod page_parts;
 mod pieces;
+mod redraw;
 mod region_text;
 mod shares;
 #[cfg(test)]
@@ -33,4 +34,5 @@ pub use numbers::{Numbers, numbers_of};
 pub use pace::Pace;
 pub use pacing::pace_of;
 pub use page::page_of;
+pub use redraw::draw_record;
 pub use shares::{Part, Shares, live_words, shares_of};

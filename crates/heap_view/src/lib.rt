@@ -25,20 +25,25 @@
 //! that it has found and hasn't scanned, `scanned` one whose pointers it has followed.
 //!
 //! A view reads the heap and changes nothing of it. It takes no memory, and its cost grows with the heap: the writer gets many short
-//! pieces, so give it one that gathers them. `view_script` reads a script, does its steps in a new heap, and writes the view of that.
+//! pieces, so give it one that gathers them. `view_script` reads a script, does its steps in a new heap, and writes the view of that;
+//! `view_record` does the same of a record, whose replies have to be the heap's. A `Glance` says when, and whether of one region alone.
 #![tactic(auto)]
 
 mod card_lines;
+mod glance;
 mod names;
 mod pieces;
 mod region_lines;
+mod review;
 mod root_lines;
 #[cfg(test)]
 mod tests;
 mod view;
 
+pub use glance::{Glance, write_glance};
 use heap_words::config::Format;
 use pieces::{write_number, write_text};
+pub use review::view_record;
 use std::io::{Result, Write};
 use step_core::Core;
 pub use view::view_script;
@@ -89,9 +94,10 @@ fn write_state<W: Write>(core: &Core, writer: &mut W) -> Result<()> {
 
 /// Writes a view of the heap, a line for each region, tile and mutator at least. Where the writer fails, a beginning of it is written.
 pub fn write_view<W: Write>(core: &Core, writer: &mut W) -> Result<()> {
-    write_sizes(core, writer)?;
-    write_state(core, writer)?;
-    region_lines::write_regions(core, writer)?;
-    card_lines::write_queue(core, writer)?;
-    root_lines::write_roots(core, writer)
+    let whole = Glance {
+        at: None,
+        region: None,
+        summary: false,
+    };
+    write_glance(core, writer, &whole)
 }

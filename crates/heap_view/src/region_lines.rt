@@ -178,13 +178,13 @@ fn write_live<W: Write>(core: &Core, writer: &mut W, region: RegionNo) -> Result
 }
 
 /// Writes how many words of a region are handed out.
-fn write_used<W: Write>(table: &RegionTable, writer: &mut W, region: RegionNo) -> Result<()>
+fn write_words<W: Write>(table: &RegionTable, writer: &mut W, region: RegionNo) -> Result<()>
     requires { region < length table.now.regions }
 {
     table.law();
     let words = table.words_per_region();
     let used = table.top(region).word() - region.number() * words;
-    writeln!(writer, ", {used} of {words} words handed out")
+    write!(writer, ", {used} of {words} words handed out")
 }
 
 /// Writes a region that is in use.
@@ -194,7 +194,8 @@ fn write_in_use<W: Write>(core: &Core, writer: &mut W, region: RegionNo) -> Resu
     if core.buffers().is_current(region) {
         write_text(writer, ", current")?;
     }
-    write_used(core.table(), writer, region)?;
+    write_words(core.table(), writer, region)?;
+    write_text(writer, "\n")?;
     write_tops(core, writer, region)?;
     if let Kind::Ordinary = core.table().kind(region) {
         write_live(core, writer, region)?;
@@ -216,8 +217,31 @@ fn write_kind<W: Write>(table: &RegionTable, writer: &mut W, region: RegionNo) -
     }
 }
 
+/// Writes a region as one line.
+pub(crate) fn write_region_alone<W: Write>(
+    core: &Core,
+    writer: &mut W,
+    region: RegionNo,
+) -> Result<()>
+    requires { region < length core.now.table.regions }
+{
+    write!(writer, "region {}: ", region.number())?;
+    write_kind(core.table(), writer, region)?;
+    if let Kind::Free = core.table().kind(region) {
+        return write_text(writer, "\n");
+    }
+    if core.buffers().is_current(region) {
+        write_text(writer, ", current")?;
+    }
+    write_words(core.table(), writer, region)?;
+    if let Kind::Ordinary = core.table().kind(region) {
+        write_live(core, writer, region)?;
+    }
+    write_text(writer, "\n")
+}
+
 /// Writes a region.
-fn write_region<W: Write>(core: &Core, writer: &mut W, region: RegionNo) -> Result<()>
+pub(crate) fn write_region<W: Write>(core: &Core, writer: &mut W, region: RegionNo) -> Result<()>
     requires { region < length core.now.table.regions }
 {
     write!(writer, "region {}: ", region.number())?;
@@ -226,12 +250,4 @@ fn write_region<W: Write>(core: &Core, writer: &mut W, region: RegionNo) -> Resu
         return write_text(writer, "\n");
     }
     write_in_use(core, writer, region)
-}
-
-/// Writes all regions.
-pub(crate) fn write_regions<W: Write>(core: &Core, writer: &mut W) -> Result<()> {
-    for number in 0..core.table().region_count() {
-        write_region(core, writer, RegionNo::new(number))?;
-    }
-    Ok(())
 }

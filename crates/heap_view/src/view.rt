@@ -3,13 +3,13 @@
 //! The view is gathered in memory, so that nothing is written before it is whole.
 
 ghost use Rattle.std.specs.Prelude.{◌≡◌, IfOk, IfErr};
-ghost use Rattle.heap_steps.specs.Actors.{EventList};
+ghost use Rattle.heap_steps.specs.Actors.{EventList, AreSteps};
 ghost use Rattle.heap_steps.specs.Faults.{IsRunFault};
-ghost use Rattle.step_core.specs.Histories.{IsRunInOrder};
-ghost use Rattle.heap_view.specs.Views.{Views};
+ghost use Rattle.heap_words.specs.declared.config.Config.{Config};
+ghost use Rattle.heap_view.specs.Views.{front, RunsFront, Views};
 
-use crate::write_view;
-use heap_steps::{Plan, RunFault};
+use crate::glance::{Glance, write_glance};
+use heap_steps::{Plan, RunFault, Step};
 use jobs::{JobFault, read_plan};
 use script_text::{WatchedReader, WatchedWriter, write_bytes};
 use std::alloc::Global;
@@ -17,38 +17,50 @@ use std::io::{Read, Write};
 use step_core::{Core, run_to_core};
 
 /// The text of a view.
-fn text_of(alloc: Global, core: &Core) -> Result<Vec<u8>, RunFault>
+pub(crate) fn text_of(alloc: Global, core: &Core, glance: &Glance) -> Result<Vec<u8>, RunFault>
     ensures { IfErr result (λ fault. fault ≡ RunFault.NoMemory) }
 {
     let mut text = Vec::new(alloc);
-    match write_view(core, &mut text) {
+    match write_glance(core, &mut text, glance) {
         Ok(()) => Ok(text),
         Err(_) => Err(RunFault::NoMemory),
     }
 }
 
-/// The view of a new heap after a plan's steps.
-fn view_of(alloc: Global, plan: &Plan) -> Result<Vec<u8>, RunFault>
-    ensures run { IfOk result (λ text. (r : EventList) × IsRunInOrder plan.now r) }
+/// The first so many steps, or all.
+fn first_steps(steps: &[Step], at: Option<u32>) -> &[Step]
+    ensures value { result.now ≡ front at steps.now }
+    ensures known { (config : Config) → AreSteps config steps.now → AreSteps config result.now }
+{
+    match at {
+        Some(count) => &steps[..steps.len().min(count as usize)],
+        None => steps,
+    }
+}
+
+/// The view of a new heap behind the first so many steps of a plan.
+fn view_of(alloc: Global, plan: &Plan, glance: &Glance) -> Result<Vec<u8>, RunFault>
+    ensures run { IfOk result (λ text. (r : EventList) × RunsFront glance.now.at plan.now r) }
     ensures fault { IfErr result (IsRunFault plan.now.config) }
 {
-    match run_to_core(alloc, &plan.config(), plan.steps()) {
-        Ok((_record, core)) => text_of(alloc, &core),
+    match run_to_core(alloc, &plan.config(), first_steps(plan.steps(), glance.at)) {
+        Ok((_record, core)) => text_of(alloc, &core, glance),
         Err(fault) => Err(fault),
     }
 }
 
-/// Reads a script to the end of input, runs it in a new heap, and writes a view of the heap as it stands then. Nothing is written before
+/// Reads a script to the end of input, does its steps in a new heap, and writes what is viewed of the heap as it stands then. Nothing is written before
 /// the run has ended well.
 pub fn view_script<R: Read, W: Write>(
     alloc: Global,
+    glance: &Glance,
     reader: &mut WatchedReader<R>,
     writer: &mut WatchedWriter<W>,
 ) -> Result<(), JobFault>
-    ensures { Views reader.old reader.new writer.old writer.new result }
+    ensures { Views glance.now.at reader.old reader.new writer.old writer.new result }
 {
     let plan = read_plan(alloc, reader)?;
-    let text = match view_of(alloc, &plan) {
+    let text = match view_of(alloc, &plan, glance) {
         Ok(text) => text,
         Err(fault) => return Err(JobFault::Run(fault)),
     };

@@ -10,7 +10,7 @@ use Rattle.heap_steps.specs.declared.fault.RunFault.{RunFault}
 use Rattle.heap_steps.specs.declared.fault.RunFault.TheVariants as runs
 use Rattle.heap_steps.specs.Faults.{IsRunFault}
 use Rattle.jobs.specs.declared.faults.JobFault.{JobFault}
-use Rattle.jobs.specs.declared.faults.JobFault.TheVariants.{Read, Line, Run, Judge, Write}
+use Rattle.jobs.specs.declared.faults.JobFault.TheVariants.{Read, Line, Run, Judge, Write, Differs}
 use Rattle.jobs.specs.Runs.{ReadsPlan, Answers, Ends}
 
 -- a run's record is one that such a run makes, and its fault one that may come
@@ -28,11 +28,13 @@ ends Makes Fails plan given left old new (Ok r) (Err (Read fault)) read made wri
 ends Makes Fails plan given left old new (Ok r) (Err (Line fault)) read made written = absurd written
 ends Makes Fails plan given left old new (Ok r) (Err (Run fault)) read made written = absurd written
 ends Makes Fails plan given left old new (Ok r) (Err (Judge fault)) read made written = absurd written
+ends Makes Fails plan given left old new (Ok r) (Err (Differs event)) read made written = absurd written
 ends Makes Fails plan given left old new (Err fault) (Ok done) read made written = absurd written
 ends Makes Fails plan given left old new (Err fault) (Err (Read other)) read made written = absurd written
 ends Makes Fails plan given left old new (Err fault) (Err (Line other)) read made written = absurd written
 ends Makes Fails plan given left old new (Err fault) (Err (Write other)) read made written = absurd written
 ends Makes Fails plan given left old new (Err fault) (Err (Judge other)) read made written = absurd written
+ends Makes Fails plan given left old new (Err fault) (Err (Differs event)) read made written = absurd written
 ends Makes Fails plan given left old new (Err fault) (Err (Run told)) (input, gives, read) may (same, keeps) =
     (input, gives, (plan, read, subst (Fails plan.config) (sym same) may), keeps)
 

@@ -1,5 +1,6 @@
 -- The lines on standard error, one for each fault.
 use Rattle.std.specs.Prelude.{ℕ, ◌⊎◌, List, [], ◌∷◌, ◌++◌, codes}
+use Rattle.std.specs.Fmt.{decimal}
 use Rattle.heap_words.specs.declared.config.NewFault.{NewFault}
 use Rattle.heap_words.specs.declared.config.NewFault.TheVariants as sizes
 use Rattle.script_text.specs.Faults.{fault_text}
@@ -9,7 +10,7 @@ use Rattle.script_text.specs.declared.fault.WriteFault.TheVariants as writes
 use Rattle.heap_steps.specs.declared.fault.RunFault.{RunFault}
 use Rattle.heap_steps.specs.declared.fault.RunFault.TheVariants as runs
 use Rattle.jobs.specs.declared.faults.JobFault.{JobFault}
-use Rattle.jobs.specs.declared.faults.JobFault.TheVariants.{Read, Line, Run, Judge, Write}
+use Rattle.jobs.specs.declared.faults.JobFault.TheVariants.{Read, Line, Run, Judge, Write, Differs}
 use Rattle.jobs.specs.declared.faults.JudgeFault.{JudgeFault}
 use Rattle.jobs.specs.declared.faults.JudgeFault.TheVariants as judges
 
@@ -41,12 +42,17 @@ abbrev pub write_words : WriteFault → List ℕ
 write_words writes.CannotWrite = codes "cannot write"
 write_words writes.NoMemory = codes "run: 2 NoMemory"
 
+-- a heap gives another reply to this event of a record
+abbrev pub event_words : ℕ → List ℕ
+event_words event = codes "event " ++ decimal event ++ codes ": 1 OtherReply"
+
 abbrev pub fault_words : JobFault → List ℕ
 fault_words (Read fault) = codes "cannot read"
 fault_words (Line fault) = fault_text fault
 fault_words (Run fault) = run_words fault
 fault_words (Judge fault) = judge_words fault
 fault_words (Write fault) = write_words fault
+fault_words (Differs event) = event_words event
 
 abbrev pub fault_line : JobFault → List ℕ
 fault_line fault = codes "g1heap: " ++ fault_words fault ++ 10 ∷ []

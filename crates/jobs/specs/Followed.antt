@@ -46,6 +46,7 @@ FindsBy given left (Err (faults.Line fault)) = (text : List ℕ) × Gives given 
 FindsBy given left (Err (faults.Judge fault)) = (text : List ℕ) × Gives given left text × IsFound text left (Err (faults.Judge fault))
 FindsBy given left (Err (faults.Run fault)) = ⊥
 FindsBy given left (Err (faults.Write fault)) = ⊥
+FindsBy given left (Err (faults.Differs event)) = ⊥
 
 -- what is told of a finding: the verdict's line, and behind a no its reason where that is asked for
 abbrev pub told_text : Bool → Finding → List ℕ
@@ -61,6 +62,7 @@ Follows explained given left old new (Err (faults.Read fault)) = FindsBy given l
 Follows explained given left old new (Err (faults.Line fault)) = FindsBy given left (Err (faults.Line fault)) × Stays old new
 Follows explained given left old new (Err (faults.Judge fault)) = FindsBy given left (Err (faults.Judge fault)) × Stays old new
 Follows explained given left old new (Err (faults.Run fault)) = ⊥
+Follows explained given left old new (Err (faults.Differs event)) = ⊥
 
 -- A record was judged so, and it was told so.
 pub record PerformsFollow (explained : Bool) (given left : Reader) (old new err err' : Writer) (status : ℕ) : Type 0 where

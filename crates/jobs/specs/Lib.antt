@@ -3,3 +3,4 @@ pub mod Runs
 pub mod Verdicts
 pub mod Explanations
 pub mod Followed
+pub mod Replays

@@ -5,12 +5,13 @@ use Rattle.heap_words.specs.declared.config.Config.{Config}
 use Rattle.heap_steps.specs.Actors.{StepList, EventList}
 use Rattle.script_text.specs.Lines.{script_of, FailsBy}
 use Rattle.script_text.specs.Records.{record_text}
+use Rattle.script_text.specs.Events.{record_of}
 use Rattle.script_text.specs.Watched.{Reader, Writer, Gives, FailsToGive, Takes, FailsToTake, Stays}
 use Rattle.script_text.specs.declared.fault.WriteFault.{WriteFault}
 use Rattle.heap_steps.specs.declared.fault.RunFault.{RunFault}
 use Rattle.jobs.specs.FaultLines.{TellsLine}
 use Rattle.jobs.specs.declared.faults.JobFault.{JobFault}
-use Rattle.jobs.specs.declared.faults.JobFault.TheVariants.{Read, Line, Run, Judge, Write}
+use Rattle.jobs.specs.declared.faults.JobFault.TheVariants.{Read, Line, Run, Judge, Write, Differs}
 
 -- Scripts are run in several orders. So what follows is said for any: `Makes plan r`, the record is one that such a run of the plan makes;
 -- `Fails config fault`, such a run on a heap of these sizes may end with the fault.
@@ -40,6 +41,13 @@ ReadsPlan given left (Err (Read fault)) = FailsToGive fault given left
 ReadsPlan given left (Err (Line fault)) = (input : List ℕ) × GivesAll given left input × FailsBy fault.kind fault input (script_of input)
 ReadsPlan given left (Err _) = ⊥
 
+-- the same of a record
+abbrev pub ReadsRecord : Reader → Reader → Result EventList JobFault → Type 0
+ReadsRecord given left (Ok history) = (input : List ℕ) × GivesAll given left input × (record_of input ≡ Ok history)
+ReadsRecord given left (Err (Read fault)) = FailsToGive fault given left
+ReadsRecord given left (Err (Line fault)) = (input : List ℕ) × GivesAll given left input × FailsBy fault.kind fault input (record_of input)
+ReadsRecord given left (Err _) = ⊥
+
 -- what came of a run was answered: the record's text was written, or a beginning of it where the writer refused, or the fault is the run's
 abbrev pub Answers : Result EventList RunFault → Writer → Writer → Result ⊤ JobFault → Type 0
 Answers (Ok r) old new (Ok done) = Takes old new (record_text r)
@@ -55,6 +63,7 @@ Ends Makes Fails given left old new (Err (Read fault)) = FailsToGive fault given
 Ends Makes Fails given left old new (Err (Line fault)) = (input : List ℕ) × GivesAll given left input × FailsBy fault.kind fault input (script_of input) × Stays old new
 Ends Makes Fails given left old new (Err (Run fault)) = (input : List ℕ) × GivesAll given left input × ((plan : StepList) × (script_of input ≡ Ok plan) × Fails plan.config fault) × Stays old new
 Ends Makes Fails given left old new (Err (Judge fault)) = ⊥
+Ends Makes Fails given left old new (Err (Differs event)) = ⊥
 Ends Makes Fails given left old new (Err (Write fault)) = (input : List ℕ) × GivesAll given left input × FailsToWrite Makes input fault old new
 
 -- the status that tells how a run ended, and what standard error took: nothing where the job is done, else the fault's line

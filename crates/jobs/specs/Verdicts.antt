@@ -68,6 +68,7 @@ Judges given left old new (Ok verdict) = (input : List ℕ) × GivesAll given le
 Judges given left old new (Err (faults.Read fault)) = FailsToGive fault given left × Stays old new
 Judges given left old new (Err (faults.Line fault)) = (input : List ℕ) × GivesAll given left input × FailsBy fault.kind fault input (record_of input) × Stays old new
 Judges given left old new (Err (faults.Run fault)) = ⊥
+Judges given left old new (Err (faults.Differs event)) = ⊥
 Judges given left old new (Err (faults.Judge fault)) = (input : List ℕ) × GivesAll given left input × IsUnjudged input fault × Stays old new
 Judges given left old new (Err (faults.Write fault)) = (input : List ℕ) × GivesAll given left input × WritesVerdictBeginning input old new × (fault ≢ writes.NoMemory)
 

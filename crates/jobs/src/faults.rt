@@ -2,13 +2,13 @@
 
 ghost use Rattle.std.specs.Prelude.{◌≡◌, ◌≢◌, ◌≤◌, ◌+◌, ◌++◌, OnOk, OnErr, length, take};
 ghost use Rattle.script_text.specs.Watched.{Takes, TakesPart};
-ghost use Rattle.jobs.specs.FaultLines.{sizes_words, run_words, judge_words, write_words, fault_words, fault_line};
+ghost use Rattle.jobs.specs.FaultLines.{sizes_words, run_words, judge_words, write_words, event_words, fault_words, fault_line};
 ghost use Rattle.jobs.specs.Runs.{Tells};
 
 use heap_steps::RunFault;
 use heap_words::config::NewFault;
 use script_text::{
-    LineFault, ReadFault, WatchedWriter, WriteFault, put_fault, put_text, write_bytes,
+    LineFault, ReadFault, WatchedWriter, WriteFault, put_fault, put_number, put_text, write_bytes,
 };
 use std::io::Write;
 use thiserror::Error;
@@ -37,6 +37,9 @@ pub enum JobFault {
     Judge(JudgeFault),
     #[error("cannot write")]
     Write(WriteFault),
+    /// To this event of a record, counted from 1, the heap gives another reply.
+    #[error("event {0}: 1 OtherReply")]
+    Differs(u64),
 }
 
 /// The room that a line needs.
@@ -92,6 +95,17 @@ fn write_words(fault: WriteFault) -> &'static [u8]
     }
 }
 
+/// Puts the words that name an event with another reply.
+fn put_event_words(buffer: &mut [u8], at: usize, event: u64) -> usize
+    requires { at + 40 ≤ length buffer.old }
+    ensures put { take result buffer.new ≡ take at buffer.old ++ event_words event }
+    ensures end { result ≤ at + 40 }
+{
+    let at = put_text(buffer, at, b"event ");
+    let at = put_number(buffer, at, event);
+    put_text(buffer, at, b": 1 OtherReply")
+}
+
 /// Puts a fault's words behind the first `at` bytes of a buffer, and answers where they end.
 fn put_words(buffer: &mut [u8], at: usize, fault: JobFault) -> usize
     requires { at + 40 ≤ length buffer.old }
@@ -104,6 +118,7 @@ fn put_words(buffer: &mut [u8], at: usize, fault: JobFault) -> usize
         JobFault::Run(fault) => put_text(buffer, at, run_words(fault)),
         JobFault::Judge(fault) => put_text(buffer, at, judge_words(fault)),
         JobFault::Write(fault) => put_text(buffer, at, write_words(fault)),
+        JobFault::Differs(event) => put_event_words(buffer, at, event),
     }
 }
 

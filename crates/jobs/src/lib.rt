@@ -6,6 +6,7 @@
 //!   FILE -- read_text, parse_record --> Record -- check --> Verdict -- write_verdict --> output
 //!                                              -- explain --> Finding -- write_finding --> output
 //!   FILE -- LineBuffer, line by line --> Event -- Judge::take --> Finding -- write_told --> output
+//!   FILE -- read_record --> Record -- its steps done again, by the crates above, and compared: first_other
 //!   a fault of any of these -- tell --> its line on standard error
 //! ```
 //!
@@ -17,11 +18,13 @@
 mod explain;
 mod faults;
 mod follow;
+mod history;
 mod judge;
 mod script;
 
 pub use explain::{explain_record, explained_law, perform_explain};
 pub use faults::{JobFault, JudgeFault, conclude, tell};
 pub use follow::{follow_law, follow_record, follow_status_law, perform_follow};
+pub use history::{first_other, read_record};
 pub use judge::{conclude_verdict, judge_record, perform_check, status_law, verdict_law};
 pub use script::{answer, read_plan};

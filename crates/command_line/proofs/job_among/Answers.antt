@@ -1,6 +1,6 @@
 use Rattle.std.proofs.Common.{map, string_bytes}
 use Rattle.clap.specs.Words.{app_of}
-use Rattle.command_line.proofs.Faults.{asked_by, refused, taken}
+use Rattle.command_line.proofs.Faults.{asked_by, missing, refused, taken}
 use Rattle.command_line.proofs.job_among.Goals as goal
 
 pub returns-in_err-matches-clause-faults : goal.returns-in_err-matches-clause-faults
@@ -19,3 +19,8 @@ returns-in-Some-clause-faults c =
     let words = map string_bytes c.args.words.now in
     taken app words _ c.requires c.in_ok-matches.ensures.kinds
     (asked_by app words c.in_ok-matches.matches _ c.requires c.in_ok-matches.ensures.ok.2 c.in-Some.ensures)
+
+pub returns-in_ok-error-in-None-clause-faults : goal.returns-in_ok-error-in-None-clause-faults
+returns-in_ok-error-in-None-clause-faults c =
+    missing (app_of c.args.command.now) (map string_bytes c.args.words.now) c.in_ok-matches.matches c.in_ok-error-in-None.field-0
+    c.requires c.in_ok-matches.ensures.kinds c.in_ok-matches.ensures.ok.2 c.in-None.ensures c.in_ok-error-in-None.ensures.kind

@@ -1,4 +1,4 @@
-use Rattle.command_line.proofs.Paths.{check, draw, every, explain, follow, run, sim, threads, view}
+use Rattle.command_line.proofs.Paths.{at, check, draw, every, explain, follow, redraw, run, sim, threads, view}
 use Rattle.command_line.proofs.words_law.Goals as goal
 
 pub returns : goal.returns
@@ -12,4 +12,6 @@ returns c = record {
   view = view;
   draw = draw;
   every = every;
+  redraw = redraw;
+  at = at;
 }

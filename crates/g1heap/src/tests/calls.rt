@@ -5,9 +5,9 @@ use crate::actors::{simulate_script, thread_script};
 use crate::in_order::run_script;
 use crate::program::refuse;
 use command_line::{Order, Task, misspelt, read_words};
-use heap_life::draw_script;
-use heap_view::view_script;
-use jobs::{follow_record, judge_record};
+use heap_life::{draw_record, draw_script};
+use heap_view::{Glance, view_record, view_script};
+use jobs::{JobFault, follow_record, judge_record};
 use object_graph::{Finding, Verdict};
 use script_text::{WatchedReader, WatchedWriter};
 use std::alloc::Global;
@@ -16,6 +16,22 @@ use std::test::Fail;
 const SCRIPT: &[u8] = b"heap 4 16 8 1 0\n0 new r0 1 1\n";
 
 const RECORD: &[u8] = b"heap 4 16 8 1 0\n1 0 new r0 1 1 = #0\n";
+
+/// A record of another heap, which had no place.
+const OTHER: &[u8] = b"heap 4 16 8 1 0\n1 0 new r0 1 1 = refused 3 Full\n";
+
+/// Region 0 behind the first event.
+const GLANCE: Glance = Glance {
+    at: Some(1),
+    region: Some(0),
+    summary: true,
+};
+
+const VIEW: &[u8] = b"heap 4 16 8 1 0
+next name 1
+marking doesn't run
+region 0: ordinary, current, 8 of 16 words handed out, live bound 8
+";
 
 #[test]
 fn runs_a_script(rt: HostRuntime) {
@@ -73,12 +89,34 @@ fn follows_a_record(rt: HostRuntime) {
 fn views_a_script(rt: HostRuntime) {
     let mut out = WatchedWriter::new(Vec::new(rt.alloc()));
     let mut reader = WatchedReader::new(SCRIPT);
-    assert_eq!(rt; view_script(rt.alloc(), &mut reader, &mut out), Ok(()));
-    assert!(rt;
-        out.into_inner()
-            .as_slice()
-            .starts_with(b"heap 4 16 8 1 0\nnext name 1\n")
+    assert_eq!(rt;
+        view_script(rt.alloc(), &GLANCE, &mut reader, &mut out),
+        Ok(())
     );
+    assert_eq!(rt; out.into_inner().as_slice(), VIEW);
+}
+
+#[test]
+fn views_a_record(rt: HostRuntime) {
+    let mut out = WatchedWriter::new(Vec::new(rt.alloc()));
+    let mut reader = WatchedReader::new(RECORD);
+    assert_eq!(rt;
+        view_record(rt.alloc(), &GLANCE, &mut reader, &mut out),
+        Ok(())
+    );
+    assert_eq!(rt; out.into_inner().as_slice(), VIEW);
+}
+
+/// The record's one event has another reply, and the fault names it.
+#[test]
+fn views_no_other_record(rt: HostRuntime) {
+    let mut out = WatchedWriter::new(Vec::new(rt.alloc()));
+    let mut reader = WatchedReader::new(OTHER);
+    assert_eq!(rt;
+        view_record(rt.alloc(), &GLANCE, &mut reader, &mut out),
+        Err(JobFault::Differs(1))
+    );
+    assert!(rt; out.into_inner().is_empty());
 }
 
 #[test]
@@ -87,6 +125,25 @@ fn draws_a_script(rt: HostRuntime) {
     let mut reader = WatchedReader::new(SCRIPT);
     assert_eq!(rt; draw_script(rt.alloc(), 1, &mut reader, &mut out), Ok(()));
     assert!(rt; out.into_inner().as_slice().starts_with(b"<!doctype html>"));
+}
+
+#[test]
+fn draws_a_record(rt: HostRuntime) {
+    let mut out = WatchedWriter::new(Vec::new(rt.alloc()));
+    let mut reader = WatchedReader::new(RECORD);
+    assert_eq!(rt; draw_record(rt.alloc(), 1, &mut reader, &mut out), Ok(()));
+    assert!(rt; out.into_inner().as_slice().starts_with(b"<!doctype html>"));
+}
+
+#[test]
+fn draws_no_other_record(rt: HostRuntime) {
+    let mut out = WatchedWriter::new(Vec::new(rt.alloc()));
+    let mut reader = WatchedReader::new(OTHER);
+    assert_eq!(rt;
+        draw_record(rt.alloc(), 1, &mut reader, &mut out),
+        Err(JobFault::Differs(1))
+    );
+    assert!(rt; out.into_inner().is_empty());
 }
 
 /// Words that aren't text are a mistake.

@@ -8,7 +8,7 @@ use std::alloc::Global;
 use std::process::Abort;
 
 /// The line of each fault.
-static FAULTS: [(JobFault, &[u8]); 16] = [
+static FAULTS: [(JobFault, &[u8]); 17] = [
     (
         JobFault::Read(ReadFault::CannotRead),
         b"g1heap: cannot read\n",
@@ -71,6 +71,10 @@ static FAULTS: [(JobFault, &[u8]); 16] = [
     (
         JobFault::Write(WriteFault::CannotWrite),
         b"g1heap: cannot write\n",
+    ),
+    (
+        JobFault::Differs(18_446_744_073_709_551_615),
+        b"g1heap: event 18446744073709551615: 1 OtherReply\n",
     ),
     (
         JobFault::Write(WriteFault::NoMemory),

@@ -1,7 +1,8 @@
-use Rattle.std.proofs.Common.{Err, ℕ, Bool, true, false}
+use Rattle.std.proofs.Common.{Err, ℕ, Bool, Option, true, false}
 use Rattle.script_text.specs.Watched.{Reader, Writer, FailsToGive, Stays}
+use Rattle.jobs.specs.Runs.{Tells}
 use Rattle.jobs.specs.Verdicts.{TellsVerdict}
-use Rattle.g1heap.specs.Jobs.{DoesCheck}
+use Rattle.g1heap.specs.Jobs.{DoesCheck, DoesView, DoesDraw}
 use Rattle.script_text.specs.declared.fault.ReadFault.TheVariants as reads
 use Rattle.jobs.specs.declared.faults.JobFault.TheVariants as faults
 use Rattle.g1heap.proofs.program.conclude_unread.Goals as goal
@@ -24,16 +25,20 @@ pub returns-in-Check : goal.returns-in-Check
 returns-in-Check g c = λ given left old new unread kept.
     rw c.in-Check.is (unread_check _ _ given left old new c.args.err.now c.conclude_verdict.new.err c.conclude_verdict.result unread kept c.conclude_verdict.ensures)
 
+unread_view : (recorded : Bool) (at : Option ℕ) (given left : Reader) (old new err err' : Writer) (status : ℕ) → FailsToGive reads.CannotRead given left → Stays old new
+    → Tells err err' (Err (faults.Read reads.CannotRead)) status → DoesView recorded at given left old new err err' status
+unread_view false at given left old new err err' status unread kept tells = record { outcome = Err (faults.Read reads.CannotRead); views = (unread, kept); tells = tells }
+unread_view true at given left old new err err' status unread kept tells = record { outcome = Err (faults.Read reads.CannotRead); views = (unread, kept); tells = tells }
+
 pub returns-in-View : goal.returns-in-View
-returns-in-View g c = λ given left old new unread kept. rw c.in-View.is (record {
-  outcome = Err (faults.Read reads.CannotRead);
-  views = (unread, kept);
-  tells = c.conclude-in-View.ensures;
-})
+returns-in-View g c = λ given left old new unread kept.
+    rw c.in-View.is (unread_view _ _ given left old new c.args.err.now c.conclude-in-View.new.err c.conclude-in-View.result unread kept c.conclude-in-View.ensures)
+
+unread_draw : (recorded : Bool) (every : ℕ) (given left : Reader) (old new err err' : Writer) (status : ℕ) → FailsToGive reads.CannotRead given left → Stays old new
+    → Tells err err' (Err (faults.Read reads.CannotRead)) status → DoesDraw recorded every given left old new err err' status
+unread_draw false every given left old new err err' status unread kept tells = record { outcome = Err (faults.Read reads.CannotRead); draws = (unread, kept); tells = tells }
+unread_draw true every given left old new err err' status unread kept tells = record { outcome = Err (faults.Read reads.CannotRead); draws = (unread, kept); tells = tells }
 
 pub returns-in-Draw : goal.returns-in-Draw
-returns-in-Draw g c = λ given left old new unread kept. rw c.in-Draw.is (record {
-  outcome = Err (faults.Read reads.CannotRead);
-  draws = (unread, kept);
-  tells = c.conclude-in-Draw.ensures;
-})
+returns-in-Draw g c = λ given left old new unread kept.
+    rw c.in-Draw.is (unread_draw _ _ given left old new c.args.err.now c.conclude-in-Draw.new.err c.conclude-in-Draw.result unread kept c.conclude-in-Draw.ensures)

@@ -1,14 +1,18 @@
-use Rattle.std.proofs.Common.{subst}
+use Rattle.std.proofs.Common.{◌∙◌, List, ap, subst}
 use Rattle.heap_words.specs.Configs.{Suits}
 use Rattle.heap_steps.specs.Actors.{StepList}
+use Rattle.heap_steps.specs.declared.step.Step.{Step}
 use Rattle.step_core.specs.Histories.{IsRunInOrder}
 use Rattle.jobs.proofs.Endings.{same_plan, if_ok, memory_alone}
+use Rattle.heap_view.specs.Views.{front, front_of}
 use Rattle.heap_view.proofs.view.view_of.Goals as goal
 
 pub returns-in-Ok-clause-run : goal.returns-in-Ok-clause-run
 returns-in-Ok-clause-run c =
     let run = c.in-Ok.ensures in
-    let same = same_plan c.config.result c.steps.result.now c.args.plan.now c.config.ensures c.steps.ensures.steps in
+    let at = c.args.glance.now.at in
+    let steps = c.first_steps.ensures.value ∙ ap (λ (ss : List Step). front at ss) c.steps.ensures.steps in
+    let same = same_plan c.config.result c.first_steps.result.now (front_of at c.args.plan.now) c.config.ensures steps in
     let (last, is) = run.run in
     if_ok c.text_of.result (
       c.in-Ok._record,
