@@ -1,8 +1,6 @@
 -- A record that is judged as it is written, event by event.
-use Rattle.std.proofs.Common.{◌≡◌, ℕ, ◌+◌, ◌-◌, List, [], ◌∷◌, ◌++◌, length, take, slice_get, Option, Some, None, Ok, Err, refl, sym, ap, ◌∙◌, append_assoc, arith, inl, inr, subst}
-use Rattle.std.specs.Prelude.{IsTrue}
-use Rattle.std.specs.Io.KnownBytes.{Consumes}
-use Rattle.std.proofs.KnownBytes.{Consumes-nil, Consumes-trans}
+use Rattle.std.proofs.Common.{◌≡◌, ℕ, ◌+◌, ◌-◌, List, [], ◌∷◌, ◌++◌, length, take, slice_get, Some, None, Ok, Err, refl, sym, ap, ◌∙◌, append_assoc, arith, inl, inr, subst}
+use Rattle.std.proofs.KnownBytes.{Consumes-trans}
 use Rattle.std.proofs.lemmas.List.{length_push, take_at}
 use Rattle.heap_words.specs.declared.config.Config.{Config}
 use Rattle.heap_words.specs.Configs.{Suits}
@@ -145,9 +143,12 @@ found_short c j start first now next waits left n e suits f taken given head giv
     let so_far = read_next c f.es given now next waits left n e f.count (f.read given head gives read) taken in
     (so_far.0 ++ left, so_far.1, (so_far.0, (left, refl), (made c (f.es ++ e ∷ []), so_far.2, suits)))
 
--- nothing more is asked of a reader
-pub given_up : (now next : Reader) → next.left ≡ now.left → IsTrue next.refused → FailsToGive reads.CannotRead now next
-given_up now next same refused = (([], subst (λ (o : Option (List ℕ)). Consumes now.left o []) (sym same) (Consumes-nil now.left)), refused)
+-- memory was refused for a longer count
+pub found_many : (c : Config) (j : Judging) (start : Reader) (first : List ℕ) (now : Reader) (waits : List ℕ) (n : ℕ) → Suits c → IsFollowing c j start first now waits n →
+    (given : Reader) (head : List ℕ) → Gives given start (head ++ first) → record_of head ≡ Ok (made c []) → FindsBy given now (Err (faults.Judge judges.NoMemory))
+found_many c j start first now waits n suits f given head gives read =
+    let so_far = f.read given head gives read in
+    (so_far.0 ++ waits, so_far.1, (so_far.0, (waits, refl), (made c f.es, so_far.2, suits)))
 
 -- the heap line was taken
 pub head_read : (given left : Reader) (waits : List ℕ) (c : Config) → IsNext heap_line_of [] waits given left (Ok (Some c)) → HasRead c [] given left waits

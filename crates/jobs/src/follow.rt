@@ -25,7 +25,7 @@ use std::alloc::Global;
 use std::io::{Read, Write};
 
 /// Judges the events behind the heap line, each as soon as its line is whole, to the end of input or to the first that isn't allowed. Lines
-/// are counted in 64 bits: behind 18,446,744,073,709,551,614 events the reader is given up.
+/// are counted in 64 bits: behind 18,446,744,073,709,551,614 events a longer count is refused for memory.
 fn follow_events<R: Read>(
     config: &Config,
     judge: &mut Judge,
@@ -61,8 +61,7 @@ fn follow_events<R: Read>(
             Err(_) => return Err(JobFault::Judge(JudgeFault::NoMemory)),
         }
     }
-    reader.give_up();
-    Err(JobFault::Read(ReadFault::CannotRead))
+    Err(JobFault::Judge(JudgeFault::NoMemory))
 }
 
 /// Judges the lines behind the heap line, in a graph of these sizes.

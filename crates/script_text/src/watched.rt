@@ -2,8 +2,8 @@
 //!
 //! The contracts of the standard library's readers and writers speak of bytes alone: none says that a call failed because the system
 //! refused. So these hold one, with a flag. That it is set only behind a call of the inner reader or writer that failed, or took no byte,
-//! no contract says: it is set in `read_to_end`, `read_some` and `write_some`, and by `give_up`, and this file is to be read for it. All above
-//! rests on the contracts here: a fault of reading or writing comes only where the flag is set.
+//! no contract says: it is set in `read_to_end`, `read_some` and `write_some`, and this file is to be read for it. All above rests on the
+//! contracts here: a fault of reading or writing comes only where the flag is set.
 
 ghost use Rattle.std.specs.Prelude.{◌≡◌, ◌≢◌, ◌<◌, ◌≤◌, ◌++◌, IsTrue, OnOk, OnErr, IfOk, IfErr, IfSome, false, length, take};
 ghost use Rattle.std.specs.Io.{appended_bytes};
@@ -104,19 +104,6 @@ impl<R: Read> WatchedReader<R> {
         }
         self.refused = true;
         Err(ReadFault::CannotRead)
-    }
-
-    /// Counts the reader as one that refused: nothing more is asked of it.
-    ///
-    /// ```rust
-    /// let mut reader = WatchedReader::new(script.as_slice());
-    /// reader.give_up();
-    /// ```
-    pub fn give_up(&mut self)
-        ensures left { self.new.left ≡ self.old.left }
-        ensures refused { IsTrue self.new.refused }
-    {
-        self.refused = true;
     }
 }
 
