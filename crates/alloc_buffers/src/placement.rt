@@ -116,7 +116,8 @@ impl AllocBuffers {
         requires mutator { mutator < length self.old.open_buffers }
         requires small { size ≤ table.old.words_per_region }
         requires ready { CanPlace table.old self.old size }
-        ensures some { IfSome result (λ a. small_place_of table.old self.old mutator size ≡ Some (record { place = Place.Filler a; table = table.new; buffers = self.new })) }
+        ensures some { IfSome result (λ a. small_place_of table.old self.old mutator size
+            ≡ Some (record { place = Place.Filler a; table = table.new; buffers = self.new })) }
         ensures none { IfNone result (small_place_of table.old self.old mutator size ≡ None) }
         ensures table_same { IfNone result (table.new ≡ table.old) }
         ensures buffers_same { IfNone result (self.new ≡ self.old) }
@@ -161,7 +162,8 @@ impl AllocBuffers {
     fn place_alone(&mut self, table: &mut RegionTable, size: u32) -> Option<Addr>
         requires small { size ≤ table.old.words_per_region }
         requires ready { CanPlace table.old self.old size }
-        ensures some { IfSome result (λ a. alone self.old size (room_for table.old self.old.current size) ≡ Some (record { place = Place.Filler a; table = table.new; buffers = self.new })) }
+        ensures some { IfSome result (λ a. alone self.old size (room_for table.old self.old.current size)
+            ≡ Some (record { place = Place.Filler a; table = table.new; buffers = self.new })) }
         ensures none { IfNone result (alone self.old size (room_for table.old self.old.current size) ≡ None) }
         ensures table_same { IfNone result (table.new ≡ table.old) }
         ensures buffers_same { IfNone result (self.new ≡ self.old) }
@@ -180,7 +182,8 @@ impl AllocBuffers {
         requires mutator { mutator < length self.old.open_buffers }
         requires ready { CanPlace table.old self.old size }
         requires fits { size ≤ self.old.words }
-        ensures some { IfSome result (λ a. in_new_buffer self.old mutator size (room_for table.old self.old.current self.old.words) ≡ Some (record { place = Place.Filler a; table = table.new; buffers = self.new })) }
+        ensures some { IfSome result (λ a. in_new_buffer self.old mutator size (room_for table.old self.old.current self.old.words)
+            ≡ Some (record { place = Place.Filler a; table = table.new; buffers = self.new })) }
         ensures none { IfNone result (in_new_buffer self.old mutator size (room_for table.old self.old.current self.old.words) ≡ None) }
         ensures table_same { IfNone result (table.new ≡ table.old) }
         ensures buffers_same { IfNone result (self.new ≡ self.old) }

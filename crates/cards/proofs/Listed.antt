@@ -4,7 +4,7 @@ use Rattle.std.proofs.lemmas.Bool.{cases_lt, cases_eq, eq-eqb, ne_eqb, false≢t
 use Rattle.std.proofs.lemmas.List.{get_or_past, get_or-replicate, length-replicate}
 use Rattle.std.proofs.lemmas.List.Elements.{All-replicate}
 use Rattle.std.proofs.lemmas.List.Sums.{sum_by-set, sum_by_push, sum_by-cons, sum_by-append, count_by-le-length}
-use Rattle.cards.specs.Cards.{Cards, is_dirty, times_in, times_listed, ListsDirtyOnce, log_of, clean_cards, appended, put_in_front, entered, sent}
+use Rattle.cards.specs.Cards.{Cards, is_dirty, times_in, times_listed, ListsDirtyOnce, log_of, clean_cards, entered, sent}
 use Rattle.cards.specs.Inside.{IsCounted, listed_count}
 
 abbrev pub bit : Bool → ℕ

@@ -32,12 +32,9 @@ times_listed t card = times_in card t.queue + sum_by (times_in card) t.logs
 pub record ListsDirtyOnce (t : Cards) : Type 0 where
   pub each : (card : ℕ) → times_listed t card ≡ (if is_dirty t card then 1 else 0)
 
--- a card becomes dirty at the end of the queue, at its front, at the end of a mutator's log
+-- a card becomes dirty at the end of the queue, at the end of a mutator's log
 abbrev pub appended : Cards → ℕ → Cards
 appended t card = record { dirty = slice_set t.dirty card true; logs = t.logs; queue = t.queue ++ card ∷ [] }
-
-abbrev pub put_in_front : Cards → ℕ → Cards
-put_in_front t card = record { dirty = slice_set t.dirty card true; logs = t.logs; queue = card ∷ t.queue }
 
 abbrev pub entered : Cards → ℕ → ℕ → Cards
 entered t mutator card =

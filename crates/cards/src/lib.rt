@@ -1,8 +1,8 @@
-//! Dirty cards: those whose words were written since their pointers were last looked at.
+//! Dirty cards: those whose words were written since their fields, pointers and weak slots, were last looked at.
 //!
-//! A store of a pointer into another region makes its card dirty, and enters it in the log of its mutator. A log that
-//! holds four cards is appended to the queue. Refinement takes a card from the queue's front, which becomes clean, looks
-//! at its pointers, and puts it back where it isn't done; a pause first sends all logs to the queue.
+//! A store into a field that then leads into another region makes the field's card dirty, and enters it in the log of its mutator. A
+//! log that holds four cards is appended to the queue. Refinement takes a card from the queue's front, which becomes clean, and looks at
+//! its fields. A pause first sends all logs to the queue, and in the end appends cards of fields that it wrote.
 //!
 //! ```text
 //!   dirty(0, 7)  logs | 3 9 1 7 |      queue 5 2             log 0 holds four cards: it goes to the queue
@@ -11,9 +11,9 @@
 //!                     | 6       |
 //!   take         logs |         |      queue 2 3 9 1 7       5 is clean
 //!                     | 6       |
-//!   put_back(5)  logs |         |      queue 5 2 3 9 1 7     5 is dirty again, before all others
+//!   append(5)    logs |         |      queue 2 3 9 1 7 5     5 is dirty again, behind all others
 //!                     | 6       |
-//!   flush_all    logs |         |      queue 5 2 3 9 1 7 6
+//!   flush_all    logs |         |      queue 2 3 9 1 7 5 6
 //!                     |         |
 //! ```
 //!

@@ -7,7 +7,7 @@
 
 ghost use Rattle.std.specs.List.{concat};
 ghost use Rattle.std.specs.Prelude.{◌≡◌, ◌⊎◌, Contains, ◌||◌, ◌&&◌, ◌==◌, ◌<◌, ℕ, false, true, not, All, IfNone, IfOk, IfSome, List, [], ◌∷◌, length, slice_get, slice_index_or, slice_set, Some};
-ghost use Rattle.cards.specs.Cards.{appended, clean_cards, dirtied, flushed, is_dirty, put_in_front, Cards, ListsDirtyOnce};
+ghost use Rattle.cards.specs.Cards.{appended, clean_cards, dirtied, flushed, is_dirty, Cards, ListsDirtyOnce};
 
 use crate::log::{CardLog, LOG_LEN};
 use heap_words::addr::Card;
@@ -154,16 +154,6 @@ impl CardTable {
         self.queue.push_back_reserved(card.number());
     }
 
-    /// A clean card becomes dirty at the queue's front.
-    pub fn put_back(&mut self, card: Card)
-        requires card { card < length self.old.dirty }
-        requires clean { is_dirty self.old card ≡ false }
-        ensures { self.new ≡ put_in_front self.old card }
-    {
-        self.dirty[card.number() as usize] = true;
-        self.queue.push_front_reserved(card.number());
-    }
-
     /// All logs go to the queue, by mutator.
     pub fn flush_all(&mut self)
         ensures { self.new ≡ flushed self.old }
@@ -177,10 +167,11 @@ impl CardTable {
 
 /// Which cards are dirty after each call: the one that it names changes, and no other.
 pub fn dirty_law()
-    ensures dirtied { (t : Cards) (mutator card other : ℕ) → card < length t.dirty → is_dirty (dirtied t mutator card) other ≡ (other == card || is_dirty t other) }
+    ensures dirtied { (t : Cards) (mutator card other : ℕ) → card < length t.dirty
+        → is_dirty (dirtied t mutator card) other ≡ (other == card || is_dirty t other) }
     ensures appended { (t : Cards) (card other : ℕ) → card < length t.dirty → is_dirty (appended t card) other ≡ (other == card || is_dirty t other) }
-    ensures put_in_front { (t : Cards) (card other : ℕ) → card < length t.dirty → is_dirty (put_in_front t card) other ≡ (other == card || is_dirty t other) }
-    ensures cleaned { (t u : Cards) (card other : ℕ) → card < length t.dirty → u.dirty ≡ slice_set t.dirty card false → is_dirty u other ≡ (not (other == card) && is_dirty t other) }
+    ensures cleaned { (t u : Cards) (card other : ℕ) → card < length t.dirty → u.dirty ≡ slice_set t.dirty card false
+        → is_dirty u other ≡ (not (other == card) && is_dirty t other) }
 {}
 
 /// A dirty card stands in the queue or in one of the logs, and what stands there is dirty.
@@ -234,9 +225,9 @@ mod tests {
         Ok(())
     }
 
-    /// What is taken is clean, and dirty again where it is put back, at the front, or appended, at the end.
+    /// What is taken is clean, and dirty again where it is appended, at the end.
     #[test]
-    fn puts_back_and_appends(rt: HostRuntime) -> Result<(), Fail> {
+    fn appends(rt: HostRuntime) -> Result<(), Fail> {
         let mut table = CardTable::new(rt.alloc(), 8, 1)?;
         table.dirty(0, Card::new(4));
         table.dirty(0, Card::new(6));
@@ -245,14 +236,10 @@ mod tests {
         let first = Card::new(4);
         assert!(rt; !table.is_dirty(first));
         if !table.is_dirty(first) {
-            table.put_back(first);
+            table.append(first);
         }
-        let last = Card::new(7);
-        if !table.is_dirty(last) {
-            table.append(last);
-        }
-        assert!(rt; table.is_dirty(first) && table.is_dirty(last));
-        for card in [4, 6, 7] {
+        assert!(rt; table.is_dirty(first));
+        for card in [6, 4] {
             assert_eq!(rt; table.take(), Some(Card::new(card)));
         }
         assert_eq!(rt; table.queued(), 0);

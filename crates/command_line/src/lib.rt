@@ -1,15 +1,15 @@
 //! The command line of the program: its words, and what they ask for.
 //!
 //! ```text
-//!   g1heap run FILE                        Job { file: FILE, task: Task::Script(Order::File) }
-//!   g1heap sim FILE --schedule 7           Job { file: FILE, task: Task::Script(Order::Drawn { seed: 7, refiners: 0, markers: 0 }) }
-//!   g1heap threads FILE --workers 2        Job { file: FILE, task: Task::Script(Order::Concurrent { workers: 2, refiners: 0, markers: 0 }) }
-//!   g1heap check FILE                      Job { file: FILE, task: Task::Check { explained: false, followed: false } }
-//!   g1heap check FILE --explain            Job { file: FILE, task: Task::Check { explained: true, followed: false } }
-//!   g1heap check FILE --follow             Job { file: FILE, task: Task::Check { explained: false, followed: true } }
-//!   g1heap view FILE --at 9                Job { file: FILE, task: Task::View { recorded: false, at: Some(9), region: None, summary: false } }
-//!   g1heap draw FILE --every 10            Job { file: FILE, task: Task::Draw { every: 10, recorded: false } }
-//!   g1heap help, and every mistake         an `Error`, whose text is for the user
+//!   g1heap run FILE                   Job { file: FILE, task: Task::Script(Order::File) }
+//!   g1heap sim FILE --schedule 7      Job { file: FILE, task: Task::Script(Order::Drawn { seed: 7, refiners: 0, markers: 0 }) }
+//!   g1heap threads FILE --workers 2   Job { file: FILE, task: Task::Script(Order::Concurrent { workers: 2, refiners: 0, markers: 0 }) }
+//!   g1heap check FILE                 Job { file: FILE, task: Task::Check { explained: false, followed: false } }
+//!   g1heap check FILE --explain       Job { file: FILE, task: Task::Check { explained: true, followed: false } }
+//!   g1heap check FILE --follow        Job { file: FILE, task: Task::Check { explained: false, followed: true } }
+//!   g1heap view FILE --at 9           Job { file: FILE, task: Task::View { recorded: false, at: Some(9), region: None, summary: false } }
+//!   g1heap draw FILE --every 10       Job { file: FILE, task: Task::Draw { every: 10, recorded: false } }
+//!   g1heap help, and every mistake    an `Error`, whose text is for the user
 //! ```
 //!
 //! Whether a count is in range, the run itself says.

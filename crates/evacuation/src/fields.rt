@@ -2,7 +2,7 @@
 
 ghost use Rattle.std.specs.Prelude.{◌≡◌, ◌≢◌, ◌⊎◌, ◌*◌, ◌/◌, ◌<◌, ℕ, Bool, true, false, List, Option, Some, length, slice_get};
 ghost use Rattle.heap_model.specs.Heap.{Stored};
-ghost use Rattle.regions.specs.Table.{tile_in, moved_to};
+ghost use Rattle.regions.specs.Table.{fields_at, tile_in, moved_to};
 ghost use Rattle.refinement.specs.Remembering.{field_word};
 ghost use Rattle.evacuation.specs.Space.{flag, set_of, IsField, IsNamed, IsNewWord, IsNoted, IsFieldClean, IsFieldSettled, IsObject, IsTaken};
 ghost use Rattle.evacuation.specs.Turns.{Pause, IsPause, IsTurn, After, EachCard, in_set, layout, plan, space, kept_now};
@@ -93,6 +93,36 @@ fn note(table: &RegionTable, noted: &mut BoundedBits, card_words: u32, word: u32
     }
 }
 
+/// A field that names an object of the set names its new place, and its card is noted if that lies in another region.
+fn redirect(
+    table: &mut RegionTable,
+    destinations: &mut Destinations,
+    noted: &mut BoundedBits,
+    card_words: u32,
+    at: Addr,
+    field: u32,
+    target: Addr,
+)
+    ghost pause: { Pause }
+    requires premises { IsPause pause }
+    requires turn { IsTurn pause table.old destinations.old }
+    requires card { card_words ≡ pause.card_words }
+    requires each_card { EachCard pause noted.old }
+    requires outside { in_set pause at ≡ false }
+    requires field { IsField (space pause table.old) at field }
+    requires names { slice_get (fields_at table.old at) field ≡ Some (Some target) }
+    requires inside { in_set pause target ≡ true }
+    ensures turn { IsTurn pause table.new destinations.new }
+    ensures after { After pause noted.old noted.new table.old table.new destinations.old destinations.new }
+    ensures each_card { EachCard pause noted.new }
+    ensures settled { IsFieldSettled (layout pause) noted.new (space pause table.new) at field }
+{
+    let to = new_place(table, destinations, target);
+    table.law();
+    table.set_field(at, field, Some(to));
+    note(table, noted, card_words, at.word() + 2 + field, to);
+}
+
 /// A field of an object outside the set names the new place of its target, and its card is noted if it leads into another
 /// region then. A field that names nothing of the set stays as it is.
 pub(crate) fn update_field(
@@ -123,13 +153,10 @@ pub(crate) fn update_field(
     if !is_inside(table, set, target) {
         return;
     }
-    let to = new_place(table, destinations, target);
-    table.law();
-    table.set_field(at, field, Some(to));
-    note(table, noted, card_words, at.word() + 2 + field, to);
+    redirect(table, destinations, noted, card_words, at, field, target);
 }
 
-/// A copied field names the new place of its target, and its card is noted if it leads into another region.
+/// A copied field names the new place of its target, and its card is noted if it leads into another region. Its word is read once.
 pub(crate) fn settle_field(
     table: &mut RegionTable,
     destinations: &mut Destinations,
@@ -153,9 +180,13 @@ pub(crate) fn settle_field(
     ensures each_card { EachCard pause noted.new }
     ensures settled { IsFieldSettled (layout pause) noted.new (space pause table.new) at field }
 {
-    update_field(table, destinations, set, noted, card_words, at, field);
     table.law();
-    if let Some(target) = table.get_field(at, field) {
-        note(table, noted, card_words, at.word() + 2 + field, target);
+    let Some(target) = table.get_field(at, field) else {
+        return;
+    };
+    if is_inside(table, set, target) {
+        redirect(table, destinations, noted, card_words, at, field, target);
+        return;
     }
+    note(table, noted, card_words, at.word() + 2 + field, target);
 }

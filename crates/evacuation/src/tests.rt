@@ -12,7 +12,7 @@ use cards::CardTable;
 use heap_words::addr::{Addr, Card, Ptr, RegionNo};
 use heap_words::bounded::BoundedBits;
 use heap_words::config::{Config, Format};
-use heap_words::header::{Count, Counts, FillerSize};
+use heap_words::header::{Count, HeaderCounts, FillerSize};
 use mark_bitmap::bitmaps::Bitmaps;
 use mark_bitmap::tams::Tams;
 use region_choice::LiveRow;
@@ -82,7 +82,7 @@ fn names_itself(alloc: Global) -> Result<RegionTable, Fail>
     let object = Addr::new(0);
     table.take_free();
     table.push_filler(RegionNo::new(0), FillerSize::new(4));
-    let counts = Counts {
+    let counts = HeaderCounts {
         pointers: Count::new(1),
         weaks: 1,
         values: Count::new(0),
@@ -101,7 +101,7 @@ fn has_weak_slot(alloc: Global) -> Result<RegionTable, Fail>
     let object = Addr::new(0);
     table.take_free();
     table.push_filler(RegionNo::new(0), FillerSize::new(3));
-    let counts = Counts {
+    let counts = HeaderCounts {
         pointers: Count::new(0),
         weaks: 1,
         values: Count::new(0),
@@ -118,7 +118,7 @@ fn held_weakly(alloc: Global) -> Result<RegionTable, Fail>
     let object = Addr::new(16);
     table.take_free();
     table.push_filler(RegionNo::new(1), FillerSize::new(2));
-    let counts = Counts {
+    let counts = HeaderCounts {
         pointers: Count::new(0),
         weaks: 0,
         values: Count::new(0),

@@ -31,7 +31,8 @@ abbrev pub DoesDraw : Bool → ℕ → Reader → Reader → Writer → Writer �
 DoesDraw false every given left old new err err' status = PerformsDraw every given left old new err err' status
 DoesDraw true every given left old new err err' status = PerformsRedraw every given left old new err err' status
 
--- a script was run, a record judged, a heap viewed, or its life drawn, and its end was told: what was read, what was written, what standard error took, and the status
+-- a script was run, a record judged, a heap viewed, or its life drawn, and its end was told: what was read, what was written, what standard
+-- error took, and the status
 abbrev pub DoesJob : Task → Reader → Reader → Writer → Writer → Writer → Writer → ℕ → Type 0
 DoesJob (Script order) given left old new err err' status = Performs order given left old new err err' status
 DoesJob (Check explained followed) given left old new err err' status = DoesCheck explained followed given left old new err err' status

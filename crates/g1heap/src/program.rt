@@ -24,13 +24,14 @@ use std::{env, fs, io};
 
 /// Tells that a job's file can't be read, and answers the program's status.
 fn conclude_unread<E: Write>(task: Task, err: &mut WatchedWriter<E>) -> u8
-    ensures { (given left : Reader) (old new : Writer) → FailsToGive ReadFault.CannotRead given left → Stays old new → DoesJob task given left old new err.old err.new result }
+    ensures { (given left : Reader) (old new : Writer) → FailsToGive ReadFault.CannotRead given left → Stays old new
+        → DoesJob task given left old new err.old err.new result }
 {
     match task {
-        Task::Script(_) => conclude(Err(JobFault::Read(ReadFault::CannotRead)), err),
-        Task::Check { .. } => { conclude_verdict(Err(JobFault::Read(ReadFault::CannotRead)), err) }
-        Task::View { .. } => conclude(Err(JobFault::Read(ReadFault::CannotRead)), err),
-        Task::Draw { .. } => conclude(Err(JobFault::Read(ReadFault::CannotRead)), err),
+        Task::Check { .. } => conclude_verdict(Err(JobFault::Read(ReadFault::CannotRead)), err),
+        Task::Script(_) | Task::View { .. } | Task::Draw { .. } => {
+            conclude(Err(JobFault::Read(ReadFault::CannotRead)), err)
+        }
     }
 }
 
@@ -74,8 +75,10 @@ pub fn refuse<W: Write, E: Write>(
     out: &mut WatchedWriter<W>,
     err: &mut WatchedWriter<E>,
 ) -> u8
-    ensures memory { kind_of error.now ≡ ErrorKind.OutOfMemory → (result ≡ 1) × Stays out.old out.new × TellsLine (JobFault.Run RunFault.NoMemory) err.old err.new }
-    ensures mistake { kind_of error.now ≢ ErrorKind.OutOfMemory → kind_of error.now ≢ ErrorKind.DisplayHelp → kind_of error.now ≢ ErrorKind.DisplayVersion → (result ≡ 2) × Stays out.old out.new }
+    ensures memory { kind_of error.now ≡ ErrorKind.OutOfMemory
+        → (result ≡ 1) × Stays out.old out.new × TellsLine (JobFault.Run RunFault.NoMemory) err.old err.new }
+    ensures mistake { kind_of error.now ≢ ErrorKind.OutOfMemory → kind_of error.now ≢ ErrorKind.DisplayHelp
+        → kind_of error.now ≢ ErrorKind.DisplayVersion → (result ≡ 2) × Stays out.old out.new }
     ensures help { (kind_of error.now ≡ ErrorKind.DisplayHelp) ⊎ (kind_of error.now ≡ ErrorKind.DisplayVersion) → (result ≡ 0) × Stays err.old err.new }
 {
     if error.kind() == ErrorKind::OutOfMemory {

@@ -11,6 +11,7 @@ use crate::answer::{Answer, answer_of, counted, no_heap, no_step};
 use crate::handle::Handle;
 use crate::loose::Loose;
 use heap_steps::{Action, CollectorStep, Op, Step};
+use heap_words::config::Format;
 use std::alloc::Global;
 use std::mem::replace;
 use step_core::Core;
@@ -49,10 +50,11 @@ pub(crate) fn take_out(alloc: Global, handle: &mut Handle) -> Box<Core>
 fn has_op(core: &Core, op: Op) -> bool
     ensures { IsTrue result ↔ IsStep core.now.config (steps.Mutator op) }
 {
-    match op.action {
-        Action::Scope { .. } => Step::Mutator(op).is_in(&core.config()),
-        _ => op.is_at(&core.roots().places()),
-    }
+    let known = match op.action {
+        Action::Scope { .. } => matches!(core.config().format, Format::V3 { .. }),
+        _ => true,
+    };
+    known && op.is_at(&core.roots().places())
 }
 
 /// Whether the heap's sizes have a step.

@@ -128,7 +128,8 @@ pub extern "C" fn g1_registers(alloc: Global, heap: &mut Heap) -> Answer
 fn name_at(core: &Core, mutator: u32, which: u32) -> Answer
     ensures { IsName mutator which core.now result }
 {
-    if core.config().mutators <= mutator || core.registers() <= which {
+    let places = core.roots().places();
+    if places.mutators() <= mutator || places.registers() <= which {
         return no_step();
     }
     answer_of(Reply::Named(core.name_at(mutator, Register { number: which })))

@@ -40,11 +40,14 @@ WritesPageBeginning every input old new = (page : List ℕ) × IsPageOfScript ev
 abbrev pub Draws : ℕ → Reader → Reader → Writer → Writer → Result ⊤ JobFault → Type 0
 Draws every given left old new (Ok done) = (input : List ℕ) × GivesAll given left input × WritesPage every input old new
 Draws every given left old new (Err (faults.Read fault)) = FailsToGive fault given left × Stays old new
-Draws every given left old new (Err (faults.Line fault)) = (input : List ℕ) × GivesAll given left input × FailsBy fault.kind fault input (script_of input) × Stays old new
-Draws every given left old new (Err (faults.Run fault)) = (input : List ℕ) × GivesAll given left input × ((plan : StepList) × (script_of input ≡ Ok plan) × IsRunFault plan.config fault) × Stays old new
+Draws every given left old new (Err (faults.Line fault)) = (input : List ℕ) × GivesAll given left input
+    × FailsBy fault.kind fault input (script_of input) × Stays old new
+Draws every given left old new (Err (faults.Run fault)) = (input : List ℕ) × GivesAll given left input
+    × ((plan : StepList) × (script_of input ≡ Ok plan) × IsRunFault plan.config fault) × Stays old new
 Draws every given left old new (Err (faults.Judge fault)) = ⊥
 Draws every given left old new (Err (faults.Differs event)) = ⊥
-Draws every given left old new (Err (faults.Write fault)) = (input : List ℕ) × GivesAll given left input × WritesPageBeginning every input old new × (fault ≢ writes.NoMemory)
+Draws every given left old new (Err (faults.Write fault)) = (input : List ℕ) × GivesAll given left input
+    × WritesPageBeginning every input old new × (fault ≢ writes.NoMemory)
 
 -- A script was drawn so, and it was told so.
 pub record PerformsDraw (every : ℕ) (given left : Reader) (old new err err' : Writer) (status : ℕ) : Type 0 where

@@ -24,8 +24,8 @@ abbrev pub moved_in : List Event → ℕ
 moved_in [] = 0
 moved_in (e ∷ es) = moved_by e.reply + moved_in es
 
--- The core behind the moment's events, from a first core on: a run leads to it, and the moment's numbers are its own. What was copied is what
--- the replies say, as far as it fits 64 bits
+-- The core behind the moment's events, from a first core on: a run leads to it, and the moment's numbers are its own. What was copied is
+-- what the replies say, as far as it fits 64 bits
 pub record IsMomentFrom (first : CoreState) (es : List Event) (m : Moment) : Type 0 where
   pub within : m.event ≤ length es
   pub core : CoreState
@@ -51,8 +51,8 @@ abbrev pub HasMoment : List Moment → ℕ → Type 0
 HasMoment [] n = ⊥
 HasMoment (m ∷ ms) n = (m.event ≡ n) ⊎ HasMoment ms n
 
--- A life of a new heap over the steps of some events: its record is a run of the graph with these steps and actors, each of its moments is one
--- of the run, and there is one wherever the pace wants one, which is the one that was asked for where it makes few enough
+-- A life of a new heap over the steps of some events: its record is a run of the graph with these steps and actors, each of its moments is
+-- one of the run, and there is one wherever the pace wants one, which is the one that was asked for where it makes few enough
 pub record IsLifeOf (every : ℕ) (events : EventList) (life : Life) : Type 0 where
   pub config : life.history.config ≡ events.config
   pub steps : map step_in life.history.events ≡ map step_in events.events

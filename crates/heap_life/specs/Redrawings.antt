@@ -1,17 +1,16 @@
 -- A record that is read, and the page of the life of its heap that is written.
-use Rattle.std.specs.Prelude.{◌≡◌, ◌≢◌, ℕ, suc, ⊤, List, map, Result, Ok, Err}
+use Rattle.std.specs.Prelude.{◌≡◌, ◌≢◌, ℕ, ⊤, List, Result, Ok, Err}
 use Rattle.heap_steps.specs.Actors.{EventList}
-use Rattle.heap_steps.specs.declared.step.Event.{Event}
 use Rattle.heap_steps.specs.Faults.{IsRunFault}
 use Rattle.script_text.specs.Lines.{FailsBy}
 use Rattle.script_text.specs.Events.{record_of}
 use Rattle.script_text.specs.Watched.{Reader, Writer, FailsToGive, Takes, TakesPart, Stays}
 use Rattle.script_text.specs.declared.fault.WriteFault.TheVariants as writes
-use Rattle.step_core.specs.Histories.{RunsFromNew, step_in}
+use Rattle.step_core.specs.Histories.{RunsFromNew}
 use Rattle.jobs.specs.Runs.{GivesAll, Tells}
 use Rattle.jobs.specs.declared.faults.JobFault.{JobFault}
 use Rattle.jobs.specs.declared.faults.JobFault.TheVariants as faults
-use Rattle.jobs.specs.Replays.{DifferFrom}
+use Rattle.jobs.specs.Replays.{DiffersAt}
 use Rattle.heap_life.specs.declared.life.Life.{Life}
 use Rattle.heap_life.specs.Lives.{IsLifeOf}
 use Rattle.heap_life.specs.Pages.{IsPageOf}
@@ -29,35 +28,30 @@ pub record IsPageOfRecord (every : ℕ) (input page : List ℕ) : Type 0 where
   pub read : record_of input ≡ Ok history
   pub drawn : IsPageOfHistory every history page
 
--- to event n of these, counted from 1, a new heap that does their steps gives another reply than stands there, and to none before it
-pub record DiffersAt (events : EventList) (n : ℕ) : Type 0 where
-  pub ran : List Event
-  pub runs : RunsFromNew events.config ran
-  pub steps : map step_in ran ≡ map step_in events.events
-  pub place : ℕ
-  pub number : n ≡ suc place
-  pub differ : DifferFrom events.events ran place
-
 -- why there is no such page
 abbrev pub IsHistoryFault : EventList → JobFault → Type 0
 IsHistoryFault history (faults.Run fault) = IsRunFault history.config fault
-IsHistoryFault history (faults.Differs event) = DiffersAt history event
+IsHistoryFault history (faults.Differs event) = DiffersAt RunsFromNew history event
 IsHistoryFault history _ = ⊥
 
 -- the input is a record to whose event n the heap gives another reply, and to none before it
 abbrev pub IsOfAnotherHeap : List ℕ → ℕ → Type 0
-IsOfAnotherHeap input n = (history : EventList) × (record_of input ≡ Ok history) × DiffersAt history n
+IsOfAnotherHeap input n = (history : EventList) × (record_of input ≡ Ok history) × DiffersAt RunsFromNew history n
 
 -- How a drawing of a record ended: the reader was `given` before and is `left` after, and the writer was `old` before and is `new` after. A
 -- page is written at Ok alone; a beginning of it where the writer refused; otherwise nothing.
 abbrev pub Redraws : ℕ → Reader → Reader → Writer → Writer → Result ⊤ JobFault → Type 0
-Redraws every given left old new (Ok done) = (input : List ℕ) × GivesAll given left input × ((page : List ℕ) × IsPageOfRecord every input page × Takes old new page)
+Redraws every given left old new (Ok done) = (input : List ℕ) × GivesAll given left input
+    × ((page : List ℕ) × IsPageOfRecord every input page × Takes old new page)
 Redraws every given left old new (Err (faults.Read fault)) = FailsToGive fault given left × Stays old new
-Redraws every given left old new (Err (faults.Line fault)) = (input : List ℕ) × GivesAll given left input × FailsBy fault.kind fault input (record_of input) × Stays old new
-Redraws every given left old new (Err (faults.Run fault)) = (input : List ℕ) × GivesAll given left input × ((history : EventList) × (record_of input ≡ Ok history) × IsRunFault history.config fault) × Stays old new
+Redraws every given left old new (Err (faults.Line fault)) = (input : List ℕ) × GivesAll given left input
+    × FailsBy fault.kind fault input (record_of input) × Stays old new
+Redraws every given left old new (Err (faults.Run fault)) = (input : List ℕ) × GivesAll given left input
+    × ((history : EventList) × (record_of input ≡ Ok history) × IsRunFault history.config fault) × Stays old new
 Redraws every given left old new (Err (faults.Judge fault)) = ⊥
 Redraws every given left old new (Err (faults.Differs event)) = (input : List ℕ) × GivesAll given left input × IsOfAnotherHeap input event × Stays old new
-Redraws every given left old new (Err (faults.Write fault)) = (input : List ℕ) × GivesAll given left input × ((page : List ℕ) × IsPageOfRecord every input page × TakesPart old new page) × (fault ≢ writes.NoMemory)
+Redraws every given left old new (Err (faults.Write fault)) = (input : List ℕ) × GivesAll given left input
+    × ((page : List ℕ) × IsPageOfRecord every input page × TakesPart old new page) × (fault ≢ writes.NoMemory)
 
 -- A record was drawn so, and it was told so.
 pub record PerformsRedraw (every : ℕ) (given left : Reader) (old new err err' : Writer) (status : ℕ) : Type 0 where

@@ -45,9 +45,9 @@ fn page_over_plan(alloc: Global, plan: &Plan, every: u32) -> Result<Vec<u8>, Run
     page_over(alloc, &events, every)
 }
 
-/// Reads a script to the end of input, does its steps in their order in a new heap, and writes the page of the heap's life, with a moment each
-/// `every` events, and before and behind each step of the collector, or fewer where they would be too many. Nothing is written before the
-/// page is whole.
+/// Reads a script to the end of input, does its steps in their order in a new heap, and writes the page of the heap's life, with a moment
+/// each `every` events, and before and behind each step of the collector, or fewer where they would be too many. Nothing is written before
+/// the page is whole.
 pub fn draw_script<R: Read, W: Write>(
     alloc: Global,
     every: u32,

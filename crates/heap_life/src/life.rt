@@ -61,14 +61,6 @@ fn words_moved(reply: Reply) -> u64
     }
 }
 
-/// Tells a moment.
-fn told(core: &Core, teller: &mut Teller, moment: &Moment) -> Result<(), AllocError> {
-    match teller.tell(core, moment) {
-        Ok(()) => Ok(()),
-        Err(_) => Err(AllocError),
-    }
-}
-
 /// Adds a moment, where one is due.
 fn note_if(
     due: bool,
@@ -89,7 +81,8 @@ fn note_if(
         numbers: numbers_of(core),
     };
     moments.push(moment)?;
-    told(core, teller, &moment)
+    teller.tell(core, &moment);
+    Ok(())
 }
 
 /// Whether a moment is due: behind a step that is shown, before one, or by the number of events.
@@ -251,7 +244,7 @@ fn life_of(alloc: Global, core: &mut Core, events: &[Event], pace: Pace) -> Resu
         history,
         pace,
         moments,
-        told: teller.into_text(),
+        told: teller.into_text()?,
     })
 }
 

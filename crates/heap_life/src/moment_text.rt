@@ -12,12 +12,10 @@
 ghost use Rattle.std.specs.Prelude.{◌<◌, length};
 
 use crate::life::Moment;
-use crate::pieces::{write_number, write_text};
-use crate::region_text::write_region;
+use crate::pieces::Text;
+use crate::region_text::put_region;
 use heap_words::addr::RegionNo;
 use std::alloc::{AllocError, Global};
-use std::io;
-use std::io::Write;
 use step_core::Core;
 
 /// How many cards of a queue are told.
@@ -29,121 +27,117 @@ const MOST_ROOTS: u32 = 64;
 /// What is told of moments, and what was told last of each region.
 #[derive(Drop)]
 pub struct Teller {
-    text: Vec<u8>,
-    block: Vec<u8>,
-    last: Vec<Vec<u8>>,
+    text: Text,
+    block: Text,
+    last: Vec<Text>,
     tiles: bool,
     most: usize,
 }
 
 /// The current region's number, or a dash.
-fn write_current<W: Write>(core: &Core, writer: &mut W) -> io::Result<()> {
+fn put_current(core: &Core, text: &mut Text) {
     for number in 0..core.table().region_count() {
         if core.buffers().is_current(RegionNo::new(number)) {
-            return write_number(writer, u64::from(number));
+            text.put_number(u64::from(number));
+            return;
         }
     }
-    write_text(writer, " -")
+    text.put(" -");
 }
 
-/// Writes a moment's numbers.
-fn write_numbers<W: Write>(core: &Core, writer: &mut W, moment: &Moment) -> io::Result<()> {
+/// Adds a moment's numbers.
+fn put_numbers(core: &Core, text: &mut Text, moment: &Moment) {
     let numbers = moment.numbers;
-    write!(
-        writer,
-        "m {} {} {} {} {} {} {}",
-        moment.event,
-        numbers.handed_out,
-        numbers.live,
-        numbers.free,
-        numbers.queued,
-        numbers.dirty,
-        moment.copied
-    )?;
-    write!(
-        writer,
-        " {} {} {}",
-        u8::from(core.marking()),
-        core.scans(),
-        core.next_name()
-    )?;
-    write_current(core, writer)?;
-    write_text(writer, "\n")
+    text.put("m");
+    text.put_number(moment.event);
+    text.put_number(numbers.handed_out);
+    text.put_number(numbers.live);
+    text.put_number(u64::from(numbers.free));
+    text.put_number(u64::from(numbers.queued));
+    text.put_number(numbers.dirty);
+    text.put_number(moment.copied);
+    text.put_number(u64::from(core.marking()));
+    text.put_number(u64::from(core.scans()));
+    text.put_number(core.next_name());
+    put_current(core, text);
+    text.put("\n");
 }
 
-/// Writes the open buffers.
-fn write_buffers<W: Write>(core: &Core, writer: &mut W) -> io::Result<()> {
+/// Adds the open buffers.
+fn put_buffers(core: &Core, text: &mut Text) {
     core.remembers();
     for mutator in 0..core.config().mutators {
         if let Some(buffer) = core.buffers().open_buffer(mutator) {
-            writeln!(writer, "b {mutator} {} {}", buffer.next, buffer.rest)?;
+            text.put("b");
+            text.put_number(u64::from(mutator));
+            text.put_number(u64::from(buffer.next));
+            text.put_number(u64::from(buffer.rest));
+            text.put("\n");
         }
     }
-    Ok(())
 }
 
-/// Writes the queue of refinement.
-fn write_queue<W: Write>(core: &Core, writer: &mut W) -> io::Result<()> {
+/// Adds the queue of refinement.
+fn put_queue(core: &Core, text: &mut Text) {
     let cards = core.cards();
     if cards.queued() == 0 {
-        return Ok(());
+        return;
     }
-    write_text(writer, "q")?;
+    text.put("q");
     for place in 0..cards.queued().min(MOST_CARDS) {
-        write_number(writer, u64::from(cards.queued_card(place).number()))?;
+        text.put_number(u64::from(cards.queued_card(place).number()));
     }
-    write_text(writer, "\n")
+    text.put("\n");
 }
 
-/// Writes a mutator's card log.
-fn write_log<W: Write>(core: &Core, writer: &mut W, mutator: u32) -> io::Result<()>
+/// Adds a mutator's card log.
+fn put_log(core: &Core, text: &mut Text, mutator: u32)
     requires { mutator < core.now.config.mutators }
 {
     core.remembers();
     let cards = core.cards();
     let count = cards.logged(mutator);
     if count == 0 {
-        return Ok(());
+        return;
     }
-    write!(writer, "l {mutator}")?;
+    text.put("l");
+    text.put_number(u64::from(mutator));
     for place in 0..count {
-        write_number(
-            writer,
-            u64::from(cards.logged_card(mutator, place).number()),
-        )?;
+        text.put_number(u64::from(cards.logged_card(mutator, place).number()));
     }
-    write_text(writer, "\n")
+    text.put("\n");
 }
 
-/// Writes the roots that aren't nil, by their places and where they lead.
-fn write_roots<W: Write>(core: &Core, writer: &mut W) -> io::Result<()> {
+/// Adds the roots that aren't nil, by their places and where they lead.
+fn put_roots(core: &Core, text: &mut Text) {
     let roots = core.roots();
     let mut from = 0;
     let mut count = 0u32;
-    write_text(writer, "n")?;
+    text.put("n");
     while let Some(place) = roots.next_named(from) {
         if count >= MOST_ROOTS {
             break;
         }
         if let Some(at) = roots.get(place) {
-            write!(writer, " {place} {}", at.word())?;
+            text.put_number(place as u64);
+            text.put_number(u64::from(at.word()));
         }
         count += 1;
         from = place + 1;
     }
-    write_text(writer, "\n")
+    text.put("\n");
 }
 
-/// Writes what a moment has beside its regions.
-fn write_heap<W: Write>(core: &Core, writer: &mut W, moment: &Moment) -> io::Result<()> {
+/// Adds what a moment has beside its regions.
+fn put_heap(core: &Core, text: &mut Text, moment: &Moment) {
     core.remembers();
-    write_numbers(core, writer, moment)?;
-    write_buffers(core, writer)?;
-    write_queue(core, writer)?;
+    put_numbers(core, text, moment);
+    put_buffers(core, text);
+    put_queue(core, text);
     for mutator in 0..core.config().mutators {
-        write_log(core, writer, mutator)?;
+        put_log(core, text, mutator);
     }
-    write_roots(core, writer)
+    put_roots(core, text);
 }
 
 impl Teller {
@@ -156,49 +150,48 @@ impl Teller {
     ) -> Result<Teller, AllocError> {
         let mut last = Vec::new(alloc);
         for _ in 0..regions {
-            last.push(Vec::new(alloc))?;
+            last.push(Text::new(alloc))?;
         }
         Ok(Teller {
-            text: Vec::new(alloc),
-            block: Vec::new(alloc),
+            text: Text::new(alloc),
+            block: Text::new(alloc),
             last,
             tiles,
             most,
         })
     }
 
-    /// What was told.
-    pub fn into_text(self) -> Vec<u8> {
-        self.text
+    /// What was told, unless memory was refused.
+    pub fn into_text(self) -> Result<Vec<u8>, AllocError> {
+        self.text.into_bytes()
     }
 
     /// Tells a region, unless it is as it was told last.
-    fn tell_region(&mut self, core: &Core, region: RegionNo) -> io::Result<()>
+    fn tell_region(&mut self, core: &Core, region: RegionNo)
         requires { region < length core.now.table.regions }
     {
         self.block.clear();
-        write_region(core, &mut self.block, region, self.tiles)?;
+        put_region(core, &mut self.block, region, self.tiles);
         let Some(last) = self.last.get_mut(region.number() as usize) else {
-            return Ok(());
+            return;
         };
-        if last.as_slice() == self.block.as_slice() {
-            return Ok(());
+        if self.block.is(last) {
+            return;
         }
         last.clear();
-        last.write_all(self.block.as_slice())?;
-        self.text.write_all(self.block.as_slice())
+        last.put_text(&self.block);
+        self.text.put_text(last);
     }
 
     /// Tells a moment.
-    pub fn tell(&mut self, core: &Core, moment: &Moment) -> io::Result<()> {
-        write_heap(core, &mut self.text, moment)?;
-        if self.tiles && self.text.len() > self.most {
+    pub fn tell(&mut self, core: &Core, moment: &Moment) {
+        put_heap(core, &mut self.text, moment);
+        if self.tiles && self.text.as_bytes().len() > self.most {
             self.tiles = false;
-            write_text(&mut self.text, "z\n")?;
+            self.text.put("z\n");
         }
         for number in 0..core.table().region_count() {
-            self.tell_region(core, RegionNo::new(number))?;
+            self.tell_region(core, RegionNo::new(number));
         }
-        Ok(())
     }
 }

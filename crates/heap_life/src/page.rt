@@ -9,12 +9,10 @@ use crate::page_parts::{
     BEFORE, BEHIND, BETWEEN, END, SCRIPT_CURVES, SCRIPT_LANES, SCRIPT_LIFE, SCRIPT_OVER,
     SCRIPT_PAGE, SCRIPT_PANELS,
 };
-use crate::pieces::write_text;
+use crate::pieces::Text;
 use heap_steps::Record;
 use script_text::{WatchedWriter, write_record};
 use std::alloc::{AllocError, Global};
-use std::io;
-use std::io::Write;
 
 /// Up to how many events all lines of the record stand in the page.
 const MOST_EVENTS: usize = 100_000;
@@ -74,56 +72,44 @@ fn lines_of(alloc: Global, life: &Life) -> Result<Vec<u8>, AllocError>
     near_lines(alloc, text.as_slice(), life.moments.as_slice())
 }
 
-/// Writes what the page says of itself first: the words of a card, the pace, how many events there are.
-fn write_facts<W: Write>(writer: &mut W, life: &Life) -> io::Result<()> {
+/// Adds what the page says of itself first: the words of a card, the roots, the pace, how many events there are.
+fn put_facts(text: &mut Text, life: &Life) {
     let config = life.history.config();
     let pace = life.pace;
-    writeln!(writer, "card {}", config.card_words())?;
-    writeln!(writer, "roots {} {}", config.globals(), config.registers())?;
-    writeln!(
-        writer,
-        "pace {} {} {}",
-        pace.every,
-        pace.stride,
-        u8::from(pace.small)
-    )?;
-    writeln!(writer, "events {}", life.history.events().len())
-}
-
-/// Writes what stands between the record's lines and the moments'.
-fn write_between<W: Write>(writer: &mut W, life: &Life) -> io::Result<()> {
-    write_text(writer, BETWEEN)?;
-    write_facts(writer, life)
+    text.put("card");
+    text.put_number(u64::from(config.card_words()));
+    text.put("\nroots");
+    text.put_number(u64::from(config.globals()));
+    text.put_number(u64::from(config.registers()));
+    text.put("\npace");
+    text.put_number(pace.every);
+    text.put_number(pace.stride);
+    text.put_number(u64::from(pace.small));
+    text.put("\nevents");
+    text.put_number(life.history.events().len() as u64);
+    text.put("\n");
 }
 
 /// What stands between the record's lines and the moments'.
 fn text_between(alloc: Global, life: &Life) -> Result<Vec<u8>, AllocError> {
-    let mut text = Vec::new(alloc);
-    match write_between(&mut text, life) {
-        Ok(()) => Ok(text),
-        Err(_) => Err(AllocError),
-    }
+    let mut text = Text::new(alloc);
+    text.put(BETWEEN);
+    put_facts(&mut text, life);
+    text.into_bytes()
 }
 
-/// Writes what draws a life.
-fn write_scripts<W: Write>(writer: &mut W) -> io::Result<()> {
-    write_text(writer, BEHIND)?;
-    write_text(writer, SCRIPT_LIFE)?;
-    write_text(writer, SCRIPT_CURVES)?;
-    write_text(writer, SCRIPT_LANES)?;
-    write_text(writer, SCRIPT_OVER)?;
-    write_text(writer, SCRIPT_PANELS)?;
-    write_text(writer, SCRIPT_PAGE)?;
-    write_text(writer, END)
-}
-
-/// What stands behind the moments' lines.
+/// What stands behind the moments' lines: what draws a life.
 fn text_behind(alloc: Global) -> Result<Vec<u8>, AllocError> {
-    let mut text = Vec::new(alloc);
-    match write_scripts(&mut text) {
-        Ok(()) => Ok(text),
-        Err(_) => Err(AllocError),
-    }
+    let mut text = Text::new(alloc);
+    text.put(BEHIND);
+    text.put(SCRIPT_LIFE);
+    text.put(SCRIPT_CURVES);
+    text.put(SCRIPT_LANES);
+    text.put(SCRIPT_OVER);
+    text.put(SCRIPT_PANELS);
+    text.put(SCRIPT_PAGE);
+    text.put(END);
+    text.into_bytes()
 }
 
 /// What stands before the record's lines.

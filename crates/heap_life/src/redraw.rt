@@ -30,8 +30,8 @@ fn page_over_history(alloc: Global, history: &Record, every: u32) -> Result<Vec<
 }
 
 /// Reads a record to the end of input, does its steps again in their order in a new heap, and writes the page of the heap's life as
-/// `draw_script` does. A record to whose event the heap gives another reply is refused, and the fault names the first such event. Nothing is
-/// written before the page is whole.
+/// `draw_script` does. A record to whose event the heap gives another reply is refused, and the fault names the first such event. Nothing
+/// is written before the page is whole.
 pub fn draw_record<R: Read, W: Write>(
     alloc: Global,
     every: u32,

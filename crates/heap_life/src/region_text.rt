@@ -4,7 +4,7 @@
 //!   r REGION f                                                             free
 //!   r REGION KIND USED MARKED DEAD NEW FILLER LIVE TOP [NEXT GREY]         ordinary `o`, or the first of a run `h`
 //!   r REGION t USED                                                        a later region of a run
-//!   s CARDS ; REGIONS                                                      its remembered set: cards, and regions all of whose cards it has
+//!   s CARDS ; REGIONS                                                      its remembered set: cards, and regions with all their cards
 //! ```
 //!
 //! Numbers are words, but for GREY, which counts objects. Tops at mark start are words above the region's bottom; NEXT and GREY are there
@@ -13,111 +13,104 @@
 ghost use Rattle.std.specs.Prelude.{◌<◌, length};
 
 use crate::numbers::used_words;
-use crate::pieces::{write_number, write_text};
+use crate::pieces::Text;
 use crate::shares::{grey_count, live_words, shares_of};
-use crate::tile_text::write_tiles;
+use crate::tile_text::put_tiles;
 use heap_words::addr::RegionNo;
 use regions::Kind;
-use std::io::{Result, Write};
 use step_core::Core;
 
 /// Up to how many tiles a region has its tiles told.
 const MOST_TILES: u32 = 400;
 
-/// Writes the tops at mark start, and while marking runs how many objects are grey.
-fn write_tops<W: Write>(core: &Core, writer: &mut W, region: RegionNo) -> Result<()>
+/// Adds the tops at mark start, and while marking runs how many objects are grey.
+fn put_tops(core: &Core, text: &mut Text, region: RegionNo)
     requires { region < length core.now.table.regions }
 {
     core.remembers();
     let tams = &core.marker().tams;
     let bottom = region.number() * core.table().words_per_region();
-    write_number(writer, u64::from(tams.previous(region).word() - bottom))?;
+    text.put_number(u64::from(tams.previous(region).word() - bottom));
     if core.marking() {
-        write_number(writer, u64::from(tams.next(region).word() - bottom))?;
-        write_number(writer, u64::from(grey_count(core, region)))?;
+        text.put_number(u64::from(tams.next(region).word() - bottom));
+        text.put_number(u64::from(grey_count(core, region)));
     }
-    Ok(())
 }
 
-/// Writes what the words of a region are.
-fn write_shares<W: Write>(core: &Core, writer: &mut W, region: RegionNo) -> Result<()>
+/// Adds what the words of a region are.
+fn put_shares(core: &Core, text: &mut Text, region: RegionNo)
     requires { region < length core.now.table.regions }
 {
     core.remembers();
     let shares = shares_of(core, region);
-    write_number(writer, u64::from(used_words(core, region)))?;
-    write_number(writer, u64::from(shares.marked))?;
-    write_number(writer, u64::from(shares.dead))?;
-    write_number(writer, u64::from(shares.new))?;
-    write_number(writer, u64::from(shares.filler))?;
-    write_number(writer, u64::from(live_words(core, region)))?;
-    write_tops(core, writer, region)
+    text.put_number(u64::from(used_words(core, region)));
+    text.put_number(u64::from(shares.marked));
+    text.put_number(u64::from(shares.dead));
+    text.put_number(u64::from(shares.new));
+    text.put_number(u64::from(shares.filler));
+    text.put_number(u64::from(live_words(core, region)));
+    put_tops(core, text, region);
 }
 
-/// Writes a region's line.
-fn write_line<W: Write>(core: &Core, writer: &mut W, region: RegionNo) -> Result<()>
+/// Adds a region's line.
+fn put_line(core: &Core, text: &mut Text, region: RegionNo)
     requires { region < length core.now.table.regions }
 {
     core.remembers();
-    write!(writer, "r {}", region.number())?;
+    text.put("r");
+    text.put_number(u64::from(region.number()));
     match core.table().kind(region) {
-        Kind::Free => write_text(writer, " f")?,
+        Kind::Free => text.put(" f"),
         Kind::Ordinary => {
-            write_text(writer, " o")?;
-            write_shares(core, writer, region)?;
+            text.put(" o");
+            put_shares(core, text, region);
         }
         Kind::First => {
-            write_text(writer, " h")?;
-            write_shares(core, writer, region)?;
+            text.put(" h");
+            put_shares(core, text, region);
         }
         Kind::Rest => {
-            write_text(writer, " t")?;
-            write_number(writer, u64::from(used_words(core, region)))?;
+            text.put(" t");
+            text.put_number(u64::from(used_words(core, region)));
         }
     }
-    write_text(writer, "\n")
+    text.put("\n");
 }
 
-/// Writes a region's remembered set, if it isn't empty.
-fn write_set<W: Write>(core: &Core, writer: &mut W, region: RegionNo) -> Result<()>
+/// Adds a region's remembered set, if it isn't empty.
+fn put_set(core: &Core, text: &mut Text, region: RegionNo)
     requires { region < length core.now.table.regions }
 {
     core.remembers();
     let sets = core.sets();
     let count = sets.card_count(region);
     if count == 0 {
-        return Ok(());
+        return;
     }
-    write_text(writer, "s")?;
+    text.put("s");
     for place in 0..count {
-        write_number(writer, u64::from(sets.card(region, place).number()))?;
+        text.put_number(u64::from(sets.card(region, place).number()));
     }
-    write_text(writer, " ;")?;
+    text.put(" ;");
     for number in 0..core.table().region_count() {
         if sets.is_whole(region, RegionNo::new(number)) {
-            write_number(writer, u64::from(number))?;
+            text.put_number(u64::from(number));
         }
     }
-    write_text(writer, "\n")
+    text.put("\n");
 }
 
-/// Writes a region, with its tiles where they are asked for.
-pub(crate) fn write_region<W: Write>(
-    core: &Core,
-    writer: &mut W,
-    region: RegionNo,
-    tiles: bool,
-) -> Result<()>
+/// Adds a region, with its tiles where they are asked for.
+pub(crate) fn put_region(core: &Core, text: &mut Text, region: RegionNo, tiles: bool)
     requires { region < length core.now.table.regions }
 {
     core.remembers();
-    write_line(core, writer, region)?;
+    put_line(core, text, region);
     if let Kind::Free = core.table().kind(region) {
-        return Ok(());
+        return;
     }
-    write_set(core, writer, region)?;
+    put_set(core, text, region);
     if tiles {
-        write_tiles(core, writer, region, MOST_TILES)?;
+        put_tiles(core, text, region, MOST_TILES);
     }
-    Ok(())
 }

@@ -12,57 +12,56 @@ ghost use Rattle.std.specs.Prelude.{◌<◌, IsSome, length};
 ghost use Rattle.regions.specs.Table.{object_at};
 ghost use Rattle.regions.specs.Walks.{IsPlacedTile};
 
-use crate::pieces::{write_number, write_text};
+use crate::pieces::Text;
 use crate::shares::{Part, is_grey, part_of};
 use heap_words::addr::{Addr, Ptr, RegionNo};
 use regions::{RegionTable, Shape};
-use std::io::{Result, Write};
 use step_core::{Core, object_name};
 
 /// How many fields of a kind are told.
 const SHOWN: u32 = 16;
 
-/// Writes what a field names.
-fn write_field<W: Write>(table: &RegionTable, writer: &mut W, pointer: Ptr) -> Result<()> {
+/// Adds what a field names.
+fn put_field(table: &RegionTable, text: &mut Text, pointer: Ptr) {
     let Some(at) = pointer else {
-        return write_text(writer, " -");
+        text.put(" -");
+        return;
     };
     match object_name(table, at) {
-        Some(name) => write_number(writer, name),
-        None => write_text(writer, " ?"),
+        Some(name) => text.put_number(name),
+        None => text.put(" ?"),
     }
 }
 
-/// Writes how many fields aren't told, if there are some.
-fn write_more<W: Write>(writer: &mut W, count: u32) -> Result<()> {
+/// Adds how many fields aren't told, if there are some.
+fn put_more(text: &mut Text, count: u32) {
     if SHOWN < count {
-        write!(writer, " +{}", count - SHOWN)
-    } else {
-        Ok(())
+        text.put(" +");
+        text.put_digits(u64::from(count - SHOWN));
     }
 }
 
-/// Writes an object's fields.
-fn write_fields<W: Write>(table: &RegionTable, writer: &mut W, object: Addr) -> Result<()>
+/// Adds an object's fields.
+fn put_fields(table: &RegionTable, text: &mut Text, object: Addr)
     requires { IsSome (object_at table.now object) }
 {
     let pointers = table.pointer_count(object);
     for field in 0..pointers.min(SHOWN) {
-        write_field(table, writer, table.get_ptr(object, field))?;
+        put_field(table, text, table.get_ptr(object, field));
     }
-    write_more(writer, pointers)?;
-    write_text(writer, " ;")?;
+    put_more(text, pointers);
+    text.put(" ;");
     let weaks = table.weak_count(object);
     for slot in 0..weaks.min(SHOWN) {
-        write_field(table, writer, table.get_weak(object, slot))?;
+        put_field(table, text, table.get_weak(object, slot));
     }
-    write_more(writer, weaks)?;
-    write_text(writer, " ;")?;
+    put_more(text, weaks);
+    text.put(" ;");
     let values = table.value_count(object);
     for field in 0..values.min(SHOWN) {
-        write_number(writer, table.get_value(object, field))?;
+        text.put_number(table.get_value(object, field));
     }
-    write_more(writer, values)
+    put_more(text, values);
 }
 
 /// The letter of what an object counts as.
@@ -97,24 +96,26 @@ fn progress(core: &Core, object: Addr) -> &'static str
     if is_grey(core, object) { "g" } else { "s" }
 }
 
-/// Writes an object.
-fn write_object<W: Write>(core: &Core, writer: &mut W, object: Addr, part: Part) -> Result<()>
+/// Adds an object.
+fn put_object(core: &Core, text: &mut Text, object: Addr, part: Part)
     requires { IsSome (object_at core.now.table object) }
 {
-    write!(writer, "{} ", core.table().name(object))?;
-    write_text(writer, letter(part))?;
-    write_text(writer, progress(core, object))?;
-    write_fields(core.table(), writer, object)
+    text.put_digits(core.table().name(object));
+    text.put(" ");
+    text.put(letter(part));
+    text.put(progress(core, object));
+    put_fields(core.table(), text, object);
 }
 
-/// Writes a tile.
-fn write_tile<W: Write>(
-    core: &Core,
-    writer: &mut W,
-    region: RegionNo,
-    at: Addr,
-    shape: Shape,
-) -> Result<()>
+/// Adds a tile that is no object.
+fn put_filler(text: &mut Text, offset: u64, size: u32) {
+    text.put("x");
+    text.put_number(offset);
+    text.put_number(u64::from(size));
+}
+
+/// Adds a tile.
+fn put_tile(core: &Core, text: &mut Text, region: RegionNo, at: Addr, shape: Shape)
     requires { IsPlacedTile core.now.table at shape }
 {
     core.table().law();
@@ -122,13 +123,15 @@ fn write_tile<W: Write>(
     let offset = u64::from(at.word()).saturating_sub(bottom);
     match &shape {
         Shape::Object { .. } => {
-            write!(writer, "o {offset} ")?;
-            write_object(core, writer, at, part_of(core, at, shape))?;
+            text.put("o");
+            text.put_number(offset);
+            text.put(" ");
+            put_object(core, text, at, part_of(core, at, shape));
         }
-        Shape::Filler { size } => write!(writer, "x {offset} {size}")?,
-        Shape::Forwarded { size, .. } => write!(writer, "x {offset} {size}")?,
+        Shape::Filler { size } => put_filler(text, offset, *size),
+        Shape::Forwarded { size, .. } => put_filler(text, offset, *size),
     }
-    write_text(writer, "\n")
+    text.put("\n");
 }
 
 /// Whether a region has at most so many tiles.
@@ -145,21 +148,16 @@ fn has_few_tiles(table: &RegionTable, region: RegionNo, most: u32) -> bool
     true
 }
 
-/// Writes the tiles that start in a region, where they are at most so many; else that they are too many.
-pub(crate) fn write_tiles<W: Write>(
-    core: &Core,
-    writer: &mut W,
-    region: RegionNo,
-    most: u32,
-) -> Result<()>
+/// Adds the tiles that start in a region, where they are at most so many; else that they are too many.
+pub(crate) fn put_tiles(core: &Core, text: &mut Text, region: RegionNo, most: u32)
     requires { region < length core.now.table.regions }
 {
     core.table().law();
     if !has_few_tiles(core.table(), region, most) {
-        return write_text(writer, "y\n");
+        text.put("y\n");
+        return;
     }
     for (at, shape) in core.table().walk(region) {
-        write_tile(core, writer, region, at, shape)?;
+        put_tile(core, text, region, at, shape);
     }
-    Ok(())
 }

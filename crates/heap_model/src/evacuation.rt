@@ -35,7 +35,8 @@ pub fn named_law()
 
 /// Once no word names the set any more, the copying was a move, and what is copied is what is reached.
 pub fn evacuation_law()
-    ensures moves { (set : ℕ → Bool) (h now : Heap) (forward : ℕ → Option ℕ) → IsEvacuating set h forward now → IsEvacuated set now → Relocates (place_after set forward) h (released set now) }
+    ensures moves { (set : ℕ → Bool) (h now : Heap) (forward : ℕ → Option ℕ) → IsEvacuating set h forward now → IsEvacuated set now
+        → Relocates (place_after set forward) h (released set now) }
     ensures reached { (set : ℕ → Bool) (h now : Heap) (forward : ℕ → Option ℕ) → IsEvacuating set h forward now → IsEvacuated set now
         → (a : ℕ) → IsReached set h a ↔ ((set a ≡ true) × (b : ℕ) × (forward a ≡ Some b)) }
 {}

@@ -27,10 +27,10 @@
 //!   9      pointers []        values [1, 2]      40     name 9  pointers []         values [1, 2]
 //! ```
 //!
-//! The definitions, in order of reading: `Graph` (objects by name, `IsReachable`), `Heap` (objects by address,
-//! `Shows`, `StandsOnce`), `Marking` (the snapshot-at-the-beginning invariant `KeepsSnapshot`, the steps that keep
-//! it, `MarksExactly`), `Weak` (touched names, `KeepsUnreached`, `Clears`), `Kept` (what is kept by marks and tops at mark start), `Relocation`, `Evacuation`; `Paths`
-//! and `Count` say again what reachable is.
+//! The definitions, in order of reading: `Graph` (objects by name, `IsReachable`), `Heap` (objects by address, `Shows`, `StandsOnce`),
+//! `Marking` (the snapshot-at-the-beginning invariant `KeepsSnapshot`, the steps that keep it, `MarksExactly`), `Weak` (touched names,
+//! `KeepsUnreached`, `Clears`), `Kept` (what is kept by marks and tops at mark start), `Relocation`, `Evacuation`; `Paths` and `Count` say
+//! again what reachable is.
 #![tactic(auto)]
 
 pub mod evacuation;

@@ -9,5 +9,6 @@ ghost use Rattle.heap_model.specs.Relocation.{Relocates, KeepsOld};
 /// A move keeps what is shown, and the invariant of marking where old objects stay.
 pub fn move_law()
     ensures shows { (place : ℕ → Option ℕ) (g : Graph) (h h' : Heap) → Shows g h → Relocates place h h' → Shows g h' }
-    ensures marking { (place : ℕ → Option ℕ) (s g : Graph) (h h' : Heap) (m : Marking) → Shows g h → Relocates place h h' → KeepsOld place h m → KeepsSnapshot s h m → KeepsSnapshot s h' m }
+    ensures marking { (place : ℕ → Option ℕ) (s g : Graph) (h h' : Heap) (m : Marking) → Shows g h → Relocates place h h'
+        → KeepsOld place h m → KeepsSnapshot s h m → KeepsSnapshot s h' m }
 {}

@@ -10,7 +10,8 @@ ghost use Rattle.heap_model.specs.Weak.{touched, KeepsUnreached, Clears, cleared
 /// In every graph that steps lead to, the next name is above every name.
 pub fn sound_law()
     ensures root { (g : Graph) (place : ℕ) (v : Option ℕ) → IsSound g → ((n : ℕ) → v ≡ Some n → n < next_name g) → IsSound (with_root g place v) }
-    ensures object { (g : Graph) (o : Object) (place : ℕ) → IsSound g → ((i n : ℕ) → slice_get (object_fields o) i ≢ Some (Some n)) → IsSound (with_object g o place) }
+    ensures object { (g : Graph) (o : Object) (place : ℕ) → IsSound g
+        → ((i n : ℕ) → slice_get (object_fields o) i ≢ Some (Some n)) → IsSound (with_object g o place) }
     ensures changed { (g : Graph) (n : ℕ) (o p : Object) → IsSound g → object_named g n ≡ Some o
         → ((i k : ℕ) → slice_get (object_fields p) i ≡ Some (Some k) → k < next_name g) → IsSound (with_changed g n p) }
     ensures cleared { (s g g' : Graph) → Clears s g g' → IsSound g → IsSound g' }

@@ -25,6 +25,10 @@ pub record EventList : Type 0 where
   pub config : Config
   pub events : List Event
 
+-- the step of an event
+abbrev pub step_in : Event → Step
+step_in e = e.step
+
 -- the format has frames of registers, which a scope leaves
 abbrev pub HasFrames : Format → Type 0
 HasFrames (V3 card globals registers) = Unit {0}

@@ -1,6 +1,6 @@
 //! Which steps the sizes of a heap allow: tests of what plans, records and heaps ask for.
 
-ghost use Rattle.std.specs.Prelude.{◌≡◌, ◌↔◌, ◌<◌, ℕ, IsTrue};
+ghost use Rattle.std.specs.Prelude.{◌≡◌, ◌↔◌, ◌<◌, ◌&&◌, ℕ, IsTrue};
 ghost use Rattle.heap_steps.specs.Roots.{has_register, has_global, has_value, names_roots, NamesRoots, IsOpAt};
 ghost use Rattle.heap_steps.specs.Actors.{has_action, allows, IsOp, IsStep, IsStepOf, IsEvent};
 
@@ -15,6 +15,14 @@ impl Register {
     {
         self.number < places.registers()
     }
+}
+
+/// Whether mutators have both registers: one test, of the larger number.
+#[inline(always)]
+fn are_in(one: Register, other: Register, places: &Places) -> bool
+    ensures { result ≡ (has_register places.now one && has_register places.now other) }
+{
+    one.number.max(other.number) < places.registers()
 }
 
 impl GlobalRoot {
@@ -46,7 +54,7 @@ impl Action {
         match self {
             Action::New { to, .. } | Action::NewWeak { to, .. } => to.is_in(places),
             Action::Get { to, object, .. } | Action::GetWeak { to, object, .. } => {
-                to.is_in(places) && object.is_in(places)
+                are_in(to, object, places)
             }
             Action::Put { object, value, .. } | Action::PutWeak { object, value, .. } => {
                 object.is_in(places) && is_value(value, places)
@@ -55,7 +63,7 @@ impl Action {
             | Action::Write { object, .. }
             | Action::Shape { object }
             | Action::Weaks { object } => object.is_in(places),
-            Action::Move { to, from } => to.is_in(places) && from.is_in(places),
+            Action::Move { to, from } => are_in(to, from, places),
             Action::Drop { register } => register.is_in(places),
             Action::Load { to, from } => to.is_in(places) && from.is_in(places),
             Action::Save { to, from } => to.is_in(places) && from.is_in(places),

@@ -3,6 +3,8 @@
 ghost use Rattle.std.specs.Prelude.{◌≡◌};
 ghost use Rattle.heap_words.specs.Sizes.{size_of};
 
+use heap_words::header::object_size;
+
 /// One of a mutator's registers, from `r0` on. A register holds nil or an object's name.
 #[derive(Clone, Copy, Debug, PartialEq, Eq)]
 pub struct Register {
@@ -17,7 +19,7 @@ pub struct GlobalRoot {
     pub number: u32,
 }
 
-/// How many pointers and data words an object has.
+/// How many pointers and data words a new object is to have, which may be more than any header has room for.
 #[derive(Clone, Copy, Debug, PartialEq, Eq)]
 pub struct Counts {
     pub pointers: u32,
@@ -33,7 +35,7 @@ impl Counts {
     pub fn size(&self, weaks: u8) -> u64
         ensures { result ≡ size_of self.now.pointers weaks self.now.values }
     {
-        2 + u64::from(self.pointers) + u64::from(weaks) + u64::from(self.values)
+        object_size(self.pointers, weaks, self.values)
     }
 }
 
@@ -183,7 +185,7 @@ pub enum Reply {
     Named(Option<u64>),
     /// A data word, or how many weak slots an object has.
     Word(u64),
-    /// How many pointers and data words an object has.
+    /// How many pointers and data words a new object is to have, which may be more than any header has room for.
     Shape { pointers: u32, values: u32 },
     /// How many objects were marked in this cycle.
     Marked(u32),

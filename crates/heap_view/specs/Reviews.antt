@@ -1,5 +1,5 @@
 -- A record that is read, and the view of its heap that is written.
-use Rattle.std.specs.Prelude.{◌≡◌, ◌≢◌, ℕ, suc, ⊤, List, map, Option, Result, Ok, Err}
+use Rattle.std.specs.Prelude.{◌≡◌, ◌≢◌, ℕ, ⊤, List, map, Option, Result, Ok, Err}
 use Rattle.heap_steps.specs.Actors.{EventList}
 use Rattle.heap_steps.specs.declared.step.Event.{Event}
 use Rattle.heap_steps.specs.Faults.{IsRunFault}
@@ -11,17 +11,8 @@ use Rattle.step_core.specs.Histories.{RunsFromNew, step_in}
 use Rattle.jobs.specs.Runs.{GivesAll, Tells}
 use Rattle.jobs.specs.declared.faults.JobFault.{JobFault}
 use Rattle.jobs.specs.declared.faults.JobFault.TheVariants as faults
-use Rattle.jobs.specs.Replays.{reply_in, DifferFrom}
+use Rattle.jobs.specs.Replays.{reply_in, DiffersAt}
 use Rattle.heap_view.specs.Views.{front, WritesText, WritesTextBeginning}
-
--- to event n of these, counted from 1, a new heap that does their steps gives another reply than stands there, and to none before it
-pub record DiffersAt (events : EventList) (n : ℕ) : Type 0 where
-  pub ran : List Event
-  pub runs : RunsFromNew events.config ran
-  pub steps : map step_in ran ≡ map step_in events.events
-  pub place : ℕ
-  pub number : n ≡ suc place
-  pub differ : DifferFrom events.events ran place
 
 -- a new heap does the steps of these events, and gives each their replies
 pub record GoesAs (events : EventList) : Type 0 where
@@ -43,18 +34,22 @@ pub record RedoesWell (at : Option ℕ) (input : List ℕ) : Type 0 where
 -- why a new heap didn't do the steps of these events and give them their replies
 abbrev pub IsRedoFault : EventList → JobFault → Type 0
 IsRedoFault events (faults.Run fault) = IsRunFault events.config fault
-IsRedoFault events (faults.Differs event) = DiffersAt events event
+IsRedoFault events (faults.Differs event) = DiffersAt RunsFromNew events event
 IsRedoFault events _ = ⊥
 
 -- How a view of a record behind so many events ended, as a script's. Nothing was written where the heap gives another reply to one of them
 abbrev pub Reviews : Option ℕ → Reader → Reader → Writer → Writer → Result ⊤ JobFault → Type 0
 Reviews at given left old new (Ok done) = (input : List ℕ) × GivesAll given left input × RedoesWell at input × WritesText old new
 Reviews at given left old new (Err (faults.Read fault)) = FailsToGive fault given left × Stays old new
-Reviews at given left old new (Err (faults.Line fault)) = (input : List ℕ) × GivesAll given left input × FailsBy fault.kind fault input (record_of input) × Stays old new
-Reviews at given left old new (Err (faults.Run fault)) = (input : List ℕ) × GivesAll given left input × ((history : EventList) × (record_of input ≡ Ok history) × IsRunFault history.config fault) × Stays old new
+Reviews at given left old new (Err (faults.Line fault)) = (input : List ℕ) × GivesAll given left input
+    × FailsBy fault.kind fault input (record_of input) × Stays old new
+Reviews at given left old new (Err (faults.Run fault)) = (input : List ℕ) × GivesAll given left input
+    × ((history : EventList) × (record_of input ≡ Ok history) × IsRunFault history.config fault) × Stays old new
 Reviews at given left old new (Err (faults.Judge fault)) = ⊥
-Reviews at given left old new (Err (faults.Differs event)) = (input : List ℕ) × GivesAll given left input × ((history : EventList) × (record_of input ≡ Ok history) × DiffersAt (beginning_of at history) event) × Stays old new
-Reviews at given left old new (Err (faults.Write fault)) = (input : List ℕ) × GivesAll given left input × RedoesWell at input × WritesTextBeginning old new × (fault ≢ writes.NoMemory)
+Reviews at given left old new (Err (faults.Differs event)) = (input : List ℕ) × GivesAll given left input
+    × ((history : EventList) × (record_of input ≡ Ok history) × DiffersAt RunsFromNew (beginning_of at history) event) × Stays old new
+Reviews at given left old new (Err (faults.Write fault)) = (input : List ℕ) × GivesAll given left input × RedoesWell at input
+    × WritesTextBeginning old new × (fault ≢ writes.NoMemory)
 
 -- A record was viewed so, and it was told so.
 pub record PerformsReview (at : Option ℕ) (given left : Reader) (old new err err' : Writer) (status : ℕ) : Type 0 where

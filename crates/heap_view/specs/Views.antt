@@ -40,11 +40,14 @@ WritesTextBeginning old new = (text : List ℕ) × TakesPart old new text
 abbrev pub Views : Option ℕ → Reader → Reader → Writer → Writer → Result ⊤ JobFault → Type 0
 Views at given left old new (Ok done) = (input : List ℕ) × GivesAll given left input × RunsWell at input × WritesText old new
 Views at given left old new (Err (faults.Read fault)) = FailsToGive fault given left × Stays old new
-Views at given left old new (Err (faults.Line fault)) = (input : List ℕ) × GivesAll given left input × FailsBy fault.kind fault input (script_of input) × Stays old new
-Views at given left old new (Err (faults.Run fault)) = (input : List ℕ) × GivesAll given left input × ((plan : StepList) × (script_of input ≡ Ok plan) × IsRunFault plan.config fault) × Stays old new
+Views at given left old new (Err (faults.Line fault)) = (input : List ℕ) × GivesAll given left input
+    × FailsBy fault.kind fault input (script_of input) × Stays old new
+Views at given left old new (Err (faults.Run fault)) = (input : List ℕ) × GivesAll given left input
+    × ((plan : StepList) × (script_of input ≡ Ok plan) × IsRunFault plan.config fault) × Stays old new
 Views at given left old new (Err (faults.Judge fault)) = ⊥
 Views at given left old new (Err (faults.Differs event)) = ⊥
-Views at given left old new (Err (faults.Write fault)) = (input : List ℕ) × GivesAll given left input × RunsWell at input × WritesTextBeginning old new × (fault ≢ writes.NoMemory)
+Views at given left old new (Err (faults.Write fault)) = (input : List ℕ) × GivesAll given left input × RunsWell at input
+    × WritesTextBeginning old new × (fault ≢ writes.NoMemory)
 
 -- A script was viewed so, and it was told so.
 pub record PerformsView (at : Option ℕ) (given left : Reader) (old new err err' : Writer) (status : ℕ) : Type 0 where

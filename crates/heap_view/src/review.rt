@@ -5,11 +5,10 @@ ghost use Rattle.heap_words.specs.Configs.{Suits};
 ghost use Rattle.heap_words.specs.declared.config.Config.{Config};
 ghost use Rattle.heap_steps.specs.Actors.{AreEvents, IsStep};
 ghost use Rattle.step_core.specs.Histories.{step_in};
-ghost use Rattle.heap_view.specs.Views.{front};
 ghost use Rattle.heap_view.specs.Reviews.{GoesAs, IsRedoFault, Reviews, beginning_of};
 
 use crate::glance::Glance;
-use crate::view::text_of;
+use crate::view::{first_of, text_of};
 use heap_steps::{Event, Record, RunFault, Step};
 use heap_words::config::Config;
 use jobs::{JobFault, first_other, read_record};
@@ -17,17 +16,6 @@ use script_text::{WatchedReader, WatchedWriter, write_bytes};
 use std::alloc::{AllocError, Global};
 use std::io::{Read, Write};
 use step_core::{Core, run_to_core};
-
-/// The first so many events, or all.
-fn first_events(events: &[Event], at: Option<u32>) -> &[Event]
-    ensures value { result.now ≡ front at events.now }
-    ensures known { (config : Config) → AreEvents config events.now → AreEvents config result.now }
-{
-    match at {
-        Some(count) => &events[..events.len().min(count as usize)],
-        None => events,
-    }
-}
 
 /// The steps of events.
 fn steps_of(alloc: Global, events: &[Event]) -> Result<Vec<Step>, AllocError>
@@ -69,7 +57,7 @@ fn review_of(alloc: Global, history: &Record, glance: &Glance) -> Result<Vec<u8>
     ensures goes { OnOk result (GoesAs (beginning_of glance.now.at history.now)) }
     ensures fault { IfErr result (IsRedoFault (beginning_of glance.now.at history.now)) }
 {
-    let events = first_events(history.events(), glance.at);
+    let events = first_of(history.events(), glance.at);
     let core = match core_over(alloc, &history.config(), events) {
         Ok(core) => core,
         Err(fault) => return Err(fault),
@@ -80,9 +68,9 @@ fn review_of(alloc: Global, history: &Record, glance: &Glance) -> Result<Vec<u8>
     }
 }
 
-/// Reads a record to the end of input, does its steps again in their order in a new heap, and writes what is viewed of the heap as it stands
-/// then. A record to whose event the heap gives another reply is refused, and the fault names the first such event. Nothing is written before
-/// the steps are done.
+/// Reads a record to the end of input, does its steps again in their order in a new heap, and writes what is viewed of the heap as it
+/// stands then. A record to whose event the heap gives another reply is refused, and the fault names the first such event. Nothing is
+/// written before the steps are done.
 pub fn view_record<R: Read, W: Write>(
     alloc: Global,
     glance: &Glance,

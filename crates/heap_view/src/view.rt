@@ -3,13 +3,12 @@
 //! The view is gathered in memory, so that nothing is written before it is whole.
 
 ghost use Rattle.std.specs.Prelude.{◌≡◌, IfOk, IfErr};
-ghost use Rattle.heap_steps.specs.Actors.{EventList, AreSteps};
+ghost use Rattle.heap_steps.specs.Actors.{EventList};
 ghost use Rattle.heap_steps.specs.Faults.{IsRunFault};
-ghost use Rattle.heap_words.specs.declared.config.Config.{Config};
 ghost use Rattle.heap_view.specs.Views.{front, RunsFront, Views};
 
 use crate::glance::{Glance, write_glance};
-use heap_steps::{Plan, RunFault, Step};
+use heap_steps::{Plan, RunFault};
 use jobs::{JobFault, read_plan};
 use script_text::{WatchedReader, WatchedWriter, write_bytes};
 use std::alloc::Global;
@@ -27,14 +26,13 @@ pub(crate) fn text_of(alloc: Global, core: &Core, glance: &Glance) -> Result<Vec
     }
 }
 
-/// The first so many steps, or all.
-fn first_steps(steps: &[Step], at: Option<u32>) -> &[Step]
-    ensures value { result.now ≡ front at steps.now }
-    ensures known { (config : Config) → AreSteps config steps.now → AreSteps config result.now }
+/// The first so many of a list, or all.
+pub(crate) fn first_of<T>(items: &[T], at: Option<u32>) -> &[T]
+    ensures { result.now ≡ front at items.now }
 {
     match at {
-        Some(count) => &steps[..steps.len().min(count as usize)],
-        None => steps,
+        Some(count) => &items[..items.len().min(count as usize)],
+        None => items,
     }
 }
 
@@ -43,14 +41,14 @@ fn view_of(alloc: Global, plan: &Plan, glance: &Glance) -> Result<Vec<u8>, RunFa
     ensures run { IfOk result (λ text. (r : EventList) × RunsFront glance.now.at plan.now r) }
     ensures fault { IfErr result (IsRunFault plan.now.config) }
 {
-    match run_to_core(alloc, &plan.config(), first_steps(plan.steps(), glance.at)) {
+    match run_to_core(alloc, &plan.config(), first_of(plan.steps(), glance.at)) {
         Ok((_record, core)) => text_of(alloc, &core, glance),
         Err(fault) => Err(fault),
     }
 }
 
-/// Reads a script to the end of input, does its steps in a new heap, and writes what is viewed of the heap as it stands then. Nothing is written before
-/// the run has ended well.
+/// Reads a script to the end of input, does its steps in a new heap, and writes what is viewed of the heap as it stands then. Nothing is
+/// written before the run has ended well.
 pub fn view_script<R: Read, W: Write>(
     alloc: Global,
     glance: &Glance,

@@ -2,7 +2,7 @@
 use Rattle.std.specs.Prelude.{ℕ, zero, suc, ◌+◌, List, [], ◌∷◌, ◌++◌, length, drop, slice_index, Option, Some, None}
 use Rattle.heap_words.specs.declared.header.Header.{Header}
 use Rattle.heap_words.specs.declared.header.Header.TheVariants as headers
-use Rattle.heap_words.specs.declared.header.Counts.{Counts}
+use Rattle.heap_words.specs.declared.header.HeaderCounts.{HeaderCounts}
 use Rattle.heap_words.specs.Headers.{header_of}
 
 -- the header at an address
@@ -10,7 +10,7 @@ abbrev pub header_at : List ℕ → ℕ → Option Header
 header_at words at = header_of (slice_index words at)
 
 -- the counts of an object's header
-abbrev pub counts_of : Option Header → Option Counts
+abbrev pub counts_of : Option Header → Option HeaderCounts
 counts_of None = None
 counts_of (Some (headers.Object p w d)) = Some (record { pointers = p; weaks = w; values = d })
 counts_of (Some (headers.Filler n)) = None

@@ -1,6 +1,7 @@
 //! Addresses, which count words from 0, and the numbers of regions and cards.
 
 ghost use Rattle.std.specs.Prelude.{◌≡◌, ℕ, ◌<◌, ◌^◌};
+ghost use Rattle.heap_words.specs.Sizes.{field_word};
 
 use std::marker::Model;
 
@@ -29,6 +30,14 @@ impl Addr {
         ensures { result ≡ self }
     {
         self.0
+    }
+
+    /// The number of the word that holds a field of the object at this address. Fields count from 0: pointers, then weak slots.
+    #[inline(always)]
+    pub fn field(self, field: u32) -> usize
+        ensures { result ≡ field_word self field }
+    {
+        self.0 as usize + 2 + field as usize
     }
 }
 

@@ -247,7 +247,9 @@ impl Bits {
     pub fn lowest_without(&self, other: &Bits, group: u32) -> Option<u32>
         requires known { 64 * group < length self.now }
         requires even { length other.now ≡ length self.now }
-        ensures lowest { MatchOption result (HasNoneBelow (has_alone self.now other.now) (64 * group) (64 * group + 64)) (IsLowest (has_alone self.now other.now) (64 * group)) }
+        ensures lowest { MatchOption result
+            (HasNoneBelow (has_alone self.now other.now) (64 * group) (64 * group + 64))
+            (IsLowest (has_alone self.now other.now) (64 * group)) }
         ensures below { IfSome result (λ found. found < 64 * group + 64) }
         ensures within { IfSome result (λ found. found < length self.now) }
     {

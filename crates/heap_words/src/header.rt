@@ -1,5 +1,6 @@
 //! Headers and the words that they are written as.
 ghost use Rattle.std.specs.Prelude.{◌≡◌, ℕ, ◌+◌, ◌<◌, ◌≤◌, ◌^◌, IfSome, IfNone, ◌≢◌, Some};
+ghost use Rattle.heap_words.specs.Sizes.{size_of};
 ghost use Rattle.heap_words.specs.Headers.{header_word, IsHeader, header_of, pointer_of, pointer_word};
 
 use crate::addr::{Addr, Ptr};
@@ -75,15 +76,33 @@ impl FillerSize {
     }
 }
 
-/// How many pointers, weak slots and data words an object has.
+/// How many pointers, weak slots and data words the header of an object tells.
 #[derive(Clone, Copy, Debug, PartialEq, Eq)]
-pub struct Counts {
+pub struct HeaderCounts {
     /// How many pointers.
     pub pointers: Count,
     /// How many weak slots.
     pub weaks: u8,
     /// How many data words.
     pub values: Count,
+}
+
+/// How many words an object of so many pointers, weak slots and data words has, with its header and its name.
+#[inline(always)]
+pub fn object_size(pointers: u32, weaks: u8, values: u32) -> u64
+    ensures { result ≡ size_of pointers weaks values }
+{
+    2 + u64::from(pointers) + u64::from(weaks) + u64::from(values)
+}
+
+impl HeaderCounts {
+    /// How many words such an object has.
+    #[inline(always)]
+    pub fn size(&self) -> u32
+        ensures { result ≡ size_of self.now.pointers self.now.weaks self.now.values }
+    {
+        object_size(self.pointers.get(), self.weaks, self.values.get()) as u32
+    }
 }
 
 /// The header of a tile, told apart by its two lowest bits.

@@ -8,14 +8,15 @@
 //! ```
 
 ghost use Rattle.std.specs.Prelude.{◌≡◌, ◌+◌, ◌<◌, ◌≤◌, ◌∷◌, length, replicate, slice_index, slice_set, take, drop, IfOk, IsSome};
-ghost use Rattle.heap_words.specs.Sizes.{size_of};
+ghost use Rattle.heap_words.specs.Sizes.{field_word, size_of};
 ghost use Rattle.heap_words.specs.Headers.{header_of, header_word, pointer_of, pointer_word};
 ghost use Rattle.heap_words.specs.Contents.{put, header_at, counts_of, pointer_count, pointer_count_at, field_count_at};
 ghost use Rattle.heap_words.specs.declared.header.Header.TheVariants as headers;
 
 use crate::addr::{Addr, Ptr};
 use crate::header::{
-    Count, Counts, FillerSize, Header, decode_header, decode_pointer, encode_header, encode_pointer,
+    Count, FillerSize, Header, HeaderCounts, decode_header, decode_pointer, encode_header,
+    encode_pointer,
 };
 use std::alloc::{AllocError, Global};
 use std::marker::Model;
@@ -56,7 +57,7 @@ fn copy_within(words: &mut [u64], from: usize, to: usize, size: usize)
 }
 
 /// The counts of an object's header, none of another one's.
-fn counts_in(word: u64) -> Option<Counts>
+fn counts_in(word: u64) -> Option<HeaderCounts>
     ensures { result ≡ counts_of (header_of word) }
 {
     match decode_header(word) {
@@ -65,7 +66,7 @@ fn counts_in(word: u64) -> Option<Counts>
                 pointers,
                 weaks,
                 data,
-            } => Some(Counts {
+            } => Some(HeaderCounts {
                 pointers,
                 weaks,
                 values: data,
@@ -111,7 +112,7 @@ impl Words {
     }
 
     /// How many pointers, weak slots and data words the object at an address has, None if no object's header is there.
-    pub fn object_at(&self, at: Addr) -> Option<Counts>
+    pub fn object_at(&self, at: Addr) -> Option<HeaderCounts>
         requires { at < length self.now }
         ensures { result ≡ counts_of (header_at self.now at) }
     {
@@ -137,38 +138,38 @@ impl Words {
 
     /// A field of the object at an address, counted from 0: its pointers, then its weak slots.
     pub fn get_field(&self, object: Addr, field: u32) -> Ptr
-        requires { object + 2 + field < length self.now }
-        ensures { result ≡ pointer_of (slice_index self.now (object + 2 + field)) }
+        requires { field_word object field < length self.now }
+        ensures { result ≡ pointer_of (slice_index self.now (field_word object field)) }
     {
-        decode_pointer(self.items[object.word() as usize + 2 + field as usize])
+        decode_pointer(self.items[object.field(field)])
     }
 
     /// Sets a field of the object at an address.
     pub fn set_field(&mut self, object: Addr, field: u32, target: Ptr)
-        requires { object + 2 + field < length self.old }
-        ensures word { self.new ≡ slice_set self.old (object + 2 + field) (pointer_word target) }
+        requires { field_word object field < length self.old }
+        ensures word { self.new ≡ slice_set self.old (field_word object field) (pointer_word target) }
         ensures back { pointer_of (pointer_word target) ≡ target }
     {
-        self.items[object.word() as usize + 2 + field as usize] = encode_pointer(target);
+        self.items[object.field(field)] = encode_pointer(target);
     }
 
     /// Where a data word of the object at an address is.
     fn data_place(&self, object: Addr, field: u32) -> usize
         requires { object < length self.now }
-        ensures { result ≡ object + 2 + field_count_at self.now object + field }
+        ensures { result ≡ field_word object (field_count_at self.now object) + field }
     {
         let fields = match self.object_at(object) {
             Some(counts) => counts.pointers.get() + u32::from(counts.weaks),
             None => 0,
         };
-        object.word() as usize + 2 + fields as usize + field as usize
+        object.field(fields) + field as usize
     }
 
     /// A data word of the object at an address, counted from 0 behind the fields that its header tells.
     pub fn get_value(&self, object: Addr, field: u32) -> u64
         requires at { object < length self.now }
-        requires within { object + 2 + field_count_at self.now object + field < length self.now }
-        ensures { result ≡ slice_index self.now (object + 2 + field_count_at self.now object + field) }
+        requires within { field_word object (field_count_at self.now object) + field < length self.now }
+        ensures { result ≡ slice_index self.now (field_word object (field_count_at self.now object) + field) }
     {
         self.items[self.data_place(object, field)]
     }
@@ -176,19 +177,20 @@ impl Words {
     /// Sets a data word of the object at an address.
     pub fn set_value(&mut self, object: Addr, field: u32, value: u64)
         requires at { object < length self.old }
-        requires within { object + 2 + field_count_at self.old object + field < length self.old }
-        ensures { self.new ≡ slice_set self.old (object + 2 + field_count_at self.old object + field) value }
+        requires within { field_word object (field_count_at self.old object) + field < length self.old }
+        ensures { self.new ≡ slice_set self.old (field_word object (field_count_at self.old object) + field) value }
     {
         let at = self.data_place(object, field);
         self.items[at] = value;
     }
 
     /// Writes an object whose pointers and weak slots are nil and whose data words are 0.
-    pub fn write_object(&mut self, at: Addr, name: u64, counts: Counts)
+    pub fn write_object(&mut self, at: Addr, name: u64, counts: HeaderCounts)
         requires { at + size_of counts.pointers counts.weaks counts.values ≤ length self.old }
-        ensures { self.new ≡ put self.old at (header_word (headers.Object counts.pointers counts.weaks counts.values) ∷ name ∷ replicate (counts.pointers + counts.weaks + counts.values) 0) }
+        ensures { self.new ≡ put self.old at
+            (header_word (headers.Object counts.pointers counts.weaks counts.values) ∷ name ∷ replicate (counts.pointers + counts.weaks + counts.values) 0) }
     {
-        let Counts {
+        let HeaderCounts {
             pointers,
             weaks,
             values,
@@ -248,12 +250,12 @@ mod tests {
         }
     }
 
-    fn small() -> Counts
+    fn small() -> HeaderCounts
         ensures pointers { result.pointers ≡ 1 }
         ensures weaks { result.weaks ≡ 0 }
         ensures values { result.values ≡ 2 }
     {
-        Counts {
+        HeaderCounts {
             pointers: Count::new(1),
             weaks: 0,
             values: Count::new(2),
@@ -293,12 +295,12 @@ mod tests {
         Ok(())
     }
 
-    fn slotted() -> Counts
+    fn slotted() -> HeaderCounts
         ensures pointers { result.pointers ≡ 1 }
         ensures weaks { result.weaks ≡ 2 }
         ensures values { result.values ≡ 1 }
     {
-        Counts {
+        HeaderCounts {
             pointers: Count::new(1),
             weaks: 2,
             values: Count::new(1),

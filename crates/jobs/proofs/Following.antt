@@ -15,7 +15,7 @@ use Rattle.script_text.specs.Awaited.{whole_lines, IsNext, IsWrong}
 use Rattle.script_text.specs.Events.{event_line_of, record_of}
 use Rattle.script_text.specs.Lines.{heap_line_of}
 use Rattle.script_text.specs.Watched.{Reader, Gives, FailsToGive}
-use Rattle.script_text.specs.declared.awaited.NextFault.TheVariants as nexts
+use Rattle.script_text.specs.declared.read.awaited.NextFault.TheVariants as nexts
 use Rattle.script_text.specs.declared.fault.Kind.{Kind}
 use Rattle.script_text.specs.declared.fault.Kind.TheVariants as kinds
 use Rattle.script_text.specs.declared.fault.ReadFault.{ReadFault}

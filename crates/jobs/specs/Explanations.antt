@@ -46,7 +46,9 @@ given_text (givens.Form k) = form_text k
 
 -- the line that tells why the n-th event may not happen, which stands in the record's line n + 1
 abbrev pub reason_line : ℕ → Event → Given → List ℕ
-reason_line n e given = codes "event " ++ decimal n ++ codes ", line " ++ decimal (n + 1) ++ codes ": " ++ event_text e ++ codes "; the graph gives " ++ given_text given ++ 10 ∷ []
+reason_line n e given =
+    codes "event " ++ decimal n ++ codes ", line " ++ decimal (n + 1) ++ codes ": " ++ event_text e
+    ++ codes "; the graph gives " ++ given_text given ++ 10 ∷ []
 
 -- the verdict's line, and behind a no its reason
 abbrev pub finding_text : Finding → List ℕ
@@ -70,7 +72,8 @@ WritesFindingBeginning input old new = (finding : Finding) × IsExplained input 
 
 -- a line tells of a line of the input that has a fault: it shows that one, if it is there, and then says something
 abbrev pub IsFaultReason : LineFault → List ℕ → List ℕ → Type 0
-IsFaultReason fault input told = (line : List ℕ) → slice_get (pieces_of input) (fault.line - 1) ≡ Some line → (hint : List ℕ) × (told ≡ fault_reason fault line hint)
+IsFaultReason fault input told = (line : List ℕ) → slice_get (pieces_of input) (fault.line - 1) ≡ Some line
+    → (hint : List ℕ) × (told ≡ fault_reason fault line hint)
 
 -- such a line was written whole, or a beginning of it, and then the writer refused
 abbrev pub TellsHint : LineFault → List ℕ → Writer → Writer → Type 0
@@ -86,11 +89,13 @@ TellsReason _ fault input old new = TellsHint fault input old new
 abbrev pub Explains : Reader → Reader → Writer → Writer → Result Finding JobFault → Type 0
 Explains given left old new (Ok finding) = (input : List ℕ) × GivesAll given left input × WritesFinding input finding old new
 Explains given left old new (Err (faults.Read fault)) = FailsToGive fault given left × Stays old new
-Explains given left old new (Err (faults.Line fault)) = (input : List ℕ) × GivesAll given left input × FailsBy fault.kind fault input (record_of input) × TellsReason fault.kind fault input old new
+Explains given left old new (Err (faults.Line fault)) = (input : List ℕ) × GivesAll given left input
+    × FailsBy fault.kind fault input (record_of input) × TellsReason fault.kind fault input old new
 Explains given left old new (Err (faults.Run fault)) = ⊥
 Explains given left old new (Err (faults.Differs event)) = ⊥
 Explains given left old new (Err (faults.Judge fault)) = (input : List ℕ) × GivesAll given left input × IsUnjudged input fault × Stays old new
-Explains given left old new (Err (faults.Write fault)) = (input : List ℕ) × GivesAll given left input × WritesFindingBeginning input old new × (fault ≢ writes.NoMemory)
+Explains given left old new (Err (faults.Write fault)) = (input : List ℕ) × GivesAll given left input × WritesFindingBeginning input old new
+    × (fault ≢ writes.NoMemory)
 
 -- the outcome of a judging without its reason
 abbrev pub judged_by : Result Finding JobFault → Result Verdict JobFault

@@ -53,11 +53,12 @@ abbrev pub told_text : Bool → Finding → List ℕ
 told_text false finding = verdict_line (verdict_of finding)
 told_text true finding = finding_text finding
 
--- How the judging of a record ended that is read as it is written. What was found is written at Ok alone; a beginning of it where the writer
--- refused; otherwise nothing.
+-- How the judging of a record ended that is read as it is written. What was found is written at Ok alone; a beginning of it where the
+-- writer refused; otherwise nothing.
 abbrev pub Follows : Bool → Reader → Reader → Writer → Writer → Result Finding JobFault → Type 0
 Follows explained given left old new (Ok finding) = FindsBy given left (Ok finding) × Takes old new (told_text explained finding)
-Follows explained given left old new (Err (faults.Write fault)) = (finding : Finding) × FindsBy given left (Ok finding) × TakesPart old new (told_text explained finding) × (fault ≢ writes.NoMemory)
+Follows explained given left old new (Err (faults.Write fault)) = (finding : Finding) × FindsBy given left (Ok finding)
+    × TakesPart old new (told_text explained finding) × (fault ≢ writes.NoMemory)
 Follows explained given left old new (Err (faults.Read fault)) = FindsBy given left (Err (faults.Read fault)) × Stays old new
 Follows explained given left old new (Err (faults.Line fault)) = FindsBy given left (Err (faults.Line fault)) × Stays old new
 Follows explained given left old new (Err (faults.Judge fault)) = FindsBy given left (Err (faults.Judge fault)) × Stays old new
@@ -73,10 +74,12 @@ pub record PerformsFollow (explained : Bool) (given left : Reader) (old new err 
 -- The reader gave, to its end, the text of a run and perhaps a cut line, and the verdict yes was written, and no more, with nothing on
 -- standard error.
 abbrev pub FollowedYes : Reader → Reader → Writer → Writer → Writer → Writer → Type 0
-FollowedYes given left old new err err' = (text : List ℕ) × (n : ℕ) × GivesAll given left text × IsTextOfRun (whole_lines text) n × Takes old new (verdict_line (Yes n)) × Stays err err'
+FollowedYes given left old new err err' = (text : List ℕ) × (n : ℕ) × GivesAll given left text × IsTextOfRun (whole_lines text) n
+    × Takes old new (verdict_line (Yes n)) × Stays err err'
 
 -- The reader gave the text of a record whose last event is the first that isn't allowed, and perhaps more, and the verdict no was written
 -- with that event, and the line of its reason where that is asked for.
 abbrev pub FollowedNo : Bool → Reader → Reader → Writer → Writer → Writer → Writer → Type 0
 FollowedNo explained given left old new err err' =
-    (text : List ℕ) × (lines : List ℕ) × (finding : Finding) × (n : ℕ) × Gives given left text × GoesOnBehind text lines × IsTextBrokenAt lines n × (verdict_of finding ≡ No n) × Takes old new (told_text explained finding) × Stays err err'
+    (text : List ℕ) × (lines : List ℕ) × (finding : Finding) × (n : ℕ) × Gives given left text × GoesOnBehind text lines
+    × IsTextBrokenAt lines n × (verdict_of finding ≡ No n) × Takes old new (told_text explained finding) × Stays err err'

@@ -60,8 +60,10 @@ Answers _ old new _ = ⊥
 abbrev pub Ends : (StepList → EventList → Type 0) → (Config → RunFault → Type 0) → Reader → Reader → Writer → Writer → Result ⊤ JobFault → Type 0
 Ends Makes Fails given left old new (Ok done) = (input : List ℕ) × GivesAll given left input × WritesRecord Makes input old new
 Ends Makes Fails given left old new (Err (Read fault)) = FailsToGive fault given left × Stays old new
-Ends Makes Fails given left old new (Err (Line fault)) = (input : List ℕ) × GivesAll given left input × FailsBy fault.kind fault input (script_of input) × Stays old new
-Ends Makes Fails given left old new (Err (Run fault)) = (input : List ℕ) × GivesAll given left input × ((plan : StepList) × (script_of input ≡ Ok plan) × Fails plan.config fault) × Stays old new
+Ends Makes Fails given left old new (Err (Line fault)) = (input : List ℕ) × GivesAll given left input
+    × FailsBy fault.kind fault input (script_of input) × Stays old new
+Ends Makes Fails given left old new (Err (Run fault)) = (input : List ℕ) × GivesAll given left input
+    × ((plan : StepList) × (script_of input ≡ Ok plan) × Fails plan.config fault) × Stays old new
 Ends Makes Fails given left old new (Err (Judge fault)) = ⊥
 Ends Makes Fails given left old new (Err (Differs event)) = ⊥
 Ends Makes Fails given left old new (Err (Write fault)) = (input : List ℕ) × GivesAll given left input × FailsToWrite Makes input fault old new

@@ -66,11 +66,13 @@ WritesVerdictBeginning input old new = (verdict : Verdict) × IsJudged input ver
 abbrev pub Judges : Reader → Reader → Writer → Writer → Result Verdict JobFault → Type 0
 Judges given left old new (Ok verdict) = (input : List ℕ) × GivesAll given left input × WritesVerdict input verdict old new
 Judges given left old new (Err (faults.Read fault)) = FailsToGive fault given left × Stays old new
-Judges given left old new (Err (faults.Line fault)) = (input : List ℕ) × GivesAll given left input × FailsBy fault.kind fault input (record_of input) × Stays old new
+Judges given left old new (Err (faults.Line fault)) = (input : List ℕ) × GivesAll given left input
+    × FailsBy fault.kind fault input (record_of input) × Stays old new
 Judges given left old new (Err (faults.Run fault)) = ⊥
 Judges given left old new (Err (faults.Differs event)) = ⊥
 Judges given left old new (Err (faults.Judge fault)) = (input : List ℕ) × GivesAll given left input × IsUnjudged input fault × Stays old new
-Judges given left old new (Err (faults.Write fault)) = (input : List ℕ) × GivesAll given left input × WritesVerdictBeginning input old new × (fault ≢ writes.NoMemory)
+Judges given left old new (Err (faults.Write fault)) = (input : List ℕ) × GivesAll given left input × WritesVerdictBeginning input old new
+    × (fault ≢ writes.NoMemory)
 
 -- the status that tells a verdict, 0 for yes and 3 for no, or 1 for a fault, and what standard error took: nothing, or the fault's line
 abbrev pub TellsVerdict : Writer → Writer → Result Verdict JobFault → ℕ → Type 0
@@ -104,8 +106,10 @@ pub record IsTextBrokenAt (input : List ℕ) (n : ℕ) : Type 0 where
 
 -- The reader gave the text of a run, to its end, and the verdict yes was written, and no more, with nothing on standard error.
 abbrev pub ToldYes : Reader → Reader → Writer → Writer → Writer → Writer → Type 0
-ToldYes given left old new err err' = (input : List ℕ) × (n : ℕ) × GivesAll given left input × IsTextOfRun input n × Takes old new (verdict_line (Yes n)) × Stays err err'
+ToldYes given left old new err err' = (input : List ℕ) × (n : ℕ) × GivesAll given left input × IsTextOfRun input n
+    × Takes old new (verdict_line (Yes n)) × Stays err err'
 
 -- The reader gave the text of a record, to its end, and the verdict no was written with its first event that isn't allowed, and no more.
 abbrev pub ToldNo : Reader → Reader → Writer → Writer → Writer → Writer → Type 0
-ToldNo given left old new err err' = (input : List ℕ) × (n : ℕ) × GivesAll given left input × IsTextBrokenAt input n × Takes old new (verdict_line (No n)) × Stays err err'
+ToldNo given left old new err err' = (input : List ℕ) × (n : ℕ) × GivesAll given left input × IsTextBrokenAt input n
+    × Takes old new (verdict_line (No n)) × Stays err err'

@@ -35,7 +35,8 @@ fn follow_events<R: Read>(
     requires suits { Suits config.now }
     requires config { judge.old.config ≡ config.now }
     requires taken { HasTaken judge.old [] }
-    ensures { (given : Reader) (head : List ℕ) → Gives given reader.old (head ++ lines.old) → record_of head ≡ Ok (record { config = config.now; events = [] }) → FindsBy given reader.new result }
+    ensures { (given : Reader) (head : List ℕ) → Gives given reader.old (head ++ lines.old)
+        → record_of head ≡ Ok (record { config = config.now; events = [] }) → FindsBy given reader.new result }
 {
     for count in 1..u64::MAX {
         let event = match lines.next_event(reader, count, config) {
@@ -71,7 +72,8 @@ fn follow_lines<R: Read>(
     lines: &mut LineBuffer,
     reader: &mut WatchedReader<R>,
 ) -> Result<Finding, JobFault>
-    ensures { (given : Reader) (head : List ℕ) → Gives given reader.old (head ++ lines.old) → record_of head ≡ Ok (record { config = config.now; events = [] }) → FindsBy given reader.new result }
+    ensures { (given : Reader) (head : List ℕ) → Gives given reader.old (head ++ lines.old)
+        → record_of head ≡ Ok (record { config = config.now; events = [] }) → FindsBy given reader.new result }
 {
     if let Err(fault) = config.check() {
         return Err(JobFault::Judge(JudgeFault::Heap(fault)));
@@ -127,9 +129,9 @@ fn write_told<W: Write>(
 }
 
 /// Reads a record as it is written, judges it event by event, and writes the verdict: `no` and the first event that isn't allowed as soon
-/// as its line is whole, `yes` and the number of events at the end of input. A last line that no line feed ends counts as not written. Where it
-/// is asked for, a no has its reason behind it, as `explain_record` writes it. A line's fault is told as soon as the line is whole, or has
-/// more than 120 bytes. What it holds grows with the graph, and not with the text.
+/// as its line is whole, `yes` and the number of events at the end of input. A last line that no line feed ends counts as not written.
+/// Where it is asked for, a no has its reason behind it, as `explain_record` writes it. A line's fault is told as soon as the line is
+/// whole, or has more than 120 bytes. What it holds grows with the graph, and not with the text.
 pub fn follow_record<R: Read, W: Write>(
     alloc: Global,
     explained: bool,
@@ -165,20 +167,25 @@ pub fn perform_follow<R: Read, W: Write, E: Write>(
     conclude_verdict(judged_by(outcome), err)
 }
 
-/// What is found is the verdict of `check` on the text without its cut last line: yes at the end of input, exactly where that is the text of
-/// a run of so many events; no n where, whatever comes behind, `check` has no other verdict.
+/// What is found is the verdict of `check` on the text without its cut last line: yes at the end of input, exactly where that is the text
+/// of a run of so many events; no n where, whatever comes behind, `check` has no other verdict.
 pub fn follow_law()
-    ensures yes { (text : List ℕ) (left : Reader) (n : ℕ) → IsFound text left (Ok (Finding.Allowed n)) ↔ (IsAtEnd left.left × IsTextOfRun (whole_lines text) n) }
-    ensures no { (text : List ℕ) (left : Reader) (n : ℕ) (e : events.Event) (given : Given) → IsFound text left (Ok (Finding.Refused n e given)) → (more : List ℕ) (v : Verdict) → IsJudged (whole_lines (text ++ more)) v → v ≡ Verdict.No n }
+    ensures yes { (text : List ℕ) (left : Reader) (n : ℕ) → IsFound text left (Ok (Finding.Allowed n))
+        ↔ (IsAtEnd left.left × IsTextOfRun (whole_lines text) n) }
+    ensures no { (text : List ℕ) (left : Reader) (n : ℕ) (e : events.Event) (given : Given)
+        → IsFound text left (Ok (Finding.Refused n e given)) → (more : List ℕ) (v : Verdict) → IsJudged (whole_lines (text ++ more)) v
+        → v ≡ Verdict.No n }
 {
     verdict_law();
 }
 
-/// What the status says by itself: 0, the reader gave the text of a run to its end, and the verdict says so; 3, it gave the text of a record
-/// that breaks at its last event, and the verdict names that.
+/// What the status says by itself: 0, the reader gave the text of a run to its end, and the verdict says so; 3, it gave the text of a
+/// record that breaks at its last event, and the verdict names that.
 pub fn follow_status_law()
-    ensures yes { (explained : Bool) (given left : Reader) (old new err told : Writer) → PerformsFollow explained given left old new err told 0 → FollowedYes given left old new err told }
-    ensures no { (explained : Bool) (given left : Reader) (old new err told : Writer) → PerformsFollow explained given left old new err told 3 → FollowedNo explained given left old new err told }
+    ensures yes { (explained : Bool) (given left : Reader) (old new err told : Writer)
+        → PerformsFollow explained given left old new err told 0 → FollowedYes given left old new err told }
+    ensures no { (explained : Bool) (given left : Reader) (old new err told : Writer)
+        → PerformsFollow explained given left old new err told 3 → FollowedNo explained given left old new err told }
 {
     verdict_law();
 }

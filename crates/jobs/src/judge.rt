@@ -6,10 +6,11 @@ ghost use Rattle.object_graph.specs.declared.judge.Verdict.{Verdict};
 ghost use Rattle.jobs.specs.Verdicts.{verdict_word, verdict_number, verdict_line, IsJudged, Judges, TellsVerdict, PerformsCheck, IsTextOfRun, IsTextBrokenAt, ToldYes, ToldNo};
 
 use crate::faults::{JobFault, JudgeFault, tell};
+use crate::history::read_record;
 use object_graph::{Verdict, check, judged_once};
 use script_text::{
-    WatchedReader, WatchedWriter, WriteFault, parse_record, put_number, put_text,
-    read_record_is_spelled, read_text, spelled_record_is_read, write_bytes,
+    WatchedReader, WatchedWriter, WriteFault, put_number, put_text, read_record_is_spelled,
+    spelled_record_is_read, write_bytes,
 };
 use std::alloc::Global;
 use std::io::{Read, Write};
@@ -72,15 +73,7 @@ pub fn judge_record<R: Read, W: Write>(
 ) -> Result<Verdict, JobFault>
     ensures { Judges reader.old reader.new writer.old writer.new result }
 {
-    let text = match read_text(alloc, reader) {
-        Ok(text) => text,
-        Err(fault) => return Err(JobFault::Read(fault)),
-    };
-    let history = match parse_record(alloc, text.as_slice()) {
-        Ok(history) => history,
-        Err(fault) => return Err(JobFault::Line(fault)),
-    };
-    drop(text);
+    let history = read_record(alloc, reader)?;
     let config = history.config();
     if let Err(fault) = config.check() {
         return Err(JobFault::Judge(JudgeFault::Heap(fault)));
@@ -137,8 +130,8 @@ pub fn verdict_law()
     judged_once();
 }
 
-/// What the status says by itself: 0, the file was the text of a run, and the verdict says so; 3, it was the text of a record that breaks, and
-/// the verdict names the event.
+/// What the status says by itself: 0, the file was the text of a run, and the verdict says so; 3, it was the text of a record that breaks,
+/// and the verdict names the event.
 pub fn status_law()
     ensures yes { (given left : Reader) (old new err told : Writer) → PerformsCheck given left old new err told 0 → ToldYes given left old new err told }
     ensures no { (given left : Reader) (old new err told : Writer) → PerformsCheck given left old new err told 3 → ToldNo given left old new err told }

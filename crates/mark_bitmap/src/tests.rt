@@ -11,7 +11,7 @@ use crate::marks::Marks;
 use crate::tams::Tams;
 use heap_words::addr::{Addr, RegionNo};
 use heap_words::config::{Config, Format};
-use heap_words::header::{Count, Counts, FillerSize};
+use heap_words::header::{Count, HeaderCounts, FillerSize};
 use regions::{Kind, RegionTable, Shape};
 use std::alloc::Global;
 use std::test::Fail;
@@ -55,7 +55,7 @@ fn add(table: &mut RegionTable, region: RegionNo, size: u32)
     if size < 2 {
         return;
     }
-    let counts = Counts {
+    let counts = HeaderCounts {
         pointers: Count::new(0),
         weaks: 0,
         values: Count::new(size - 2),

@@ -35,6 +35,7 @@ pub record EndsMarking (s g : Graph) (t t' : Table) (roots : List (Option ℕ)) 
 -- so it ends whatever the snapshot, the graph and the roots, and where the snapshot is still the graph, what is kept is
 -- reachable
 pub record EndsExactly (t t' : Table) (m m' : Marker) (n : ℕ) : Type 0 where
-  pub ends : (s g : Graph) (roots : List (Option ℕ)) → Shows g (heap_of t roots m) → KeepsSnapshot s (heap_of t roots m) (marking_of t m) → EndsMarking s g t t' roots m m' n
+  pub ends : (s g : Graph) (roots : List (Option ℕ)) → Shows g (heap_of t roots m) → KeepsSnapshot s (heap_of t roots m) (marking_of t m)
+      → EndsMarking s g t t' roots m m' n
   pub quiet : (g : Graph) (roots : List (Option ℕ)) → Shows g (heap_of t roots m) → KeepsSnapshot g (heap_of t roots m) (marking_of t m)
       → (a : ℕ) (x : Stored) → (heap_of t' roots m').kept a ≡ Some x → IsReachable g x.name

@@ -13,7 +13,8 @@ use Rattle.marker.specs.declared.marker.Marker.{Marker}
 
 -- whatever the snapshot, the graph that the heap shows and its roots: where the snapshot invariant held, it holds
 abbrev pub KeepsSnapshots : Table → Marker → Marker → Type 0
-KeepsSnapshots t m m' = (s g : Graph) (roots : List (Option ℕ)) → Shows g (heap_of t roots m) → KeepsSnapshot s (heap_of t roots m) (marking_of t m) → KeepsSnapshot s (heap_of t roots m') (marking_of t m')
+KeepsSnapshots t m m' = (s g : Graph) (roots : List (Option ℕ)) → Shows g (heap_of t roots m)
+    → KeepsSnapshot s (heap_of t roots m) (marking_of t m) → KeepsSnapshot s (heap_of t roots m') (marking_of t m')
 
 -- what is kept, all tops and whether marking runs stay
 pub record SameRoles (m m' : Marker) : Type 0 where

@@ -1,5 +1,5 @@
-//! How many objects were scanned. What was counted in all never falls: so the count shows that no object was scanned twice in
-//! a cycle.
+//! How many objects were scanned. What was counted in all never falls: so the count shows that no object was scanned twice in a cycle. Only
+//! contracts read that total, so there is no call that tells it.
 
 ghost use Rattle.std.specs.Prelude.{◌≡◌, ◌<◌, ◌-◌, ◌^◌};
 ghost use Rattle.marker.specs.Counts.{added, restarted};

@@ -66,7 +66,8 @@ impl Marker {
         ensures stands { MarkerStands table.now self.new }
         ensures running { self.new.running ≡ true }
         ensures begins { Begins (heap_of table.now roots.now.words self.new) (marking_of table.now self.new) }
-        ensures snapshot { (g : Graph) → Shows g (heap_of table.now roots.now.words self.old) → KeepsSnapshot g (heap_of table.now roots.now.words self.new) (marking_of table.now self.new) }
+        ensures snapshot { (g : Graph) → Shows g (heap_of table.now roots.now.words self.old)
+            → KeepsSnapshot g (heap_of table.now roots.now.words self.new) (marking_of table.now self.new) }
         ensures tops { (k : ℕ) → k < length table.now.regions → slice_index self.new.tams.next k ≡ top_of table.now k }
         ensures previous_tops { self.new.tams.previous ≡ self.old.tams.previous }
         ensures previous_marks { self.new.bitmaps.previous ≡ self.old.bitmaps.previous }

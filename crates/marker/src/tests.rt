@@ -10,7 +10,7 @@ ghost use Rattle.marker.specs.Samples.{IsLinked, LeadToObjects, Keeps};
 use crate::marker::Marker;
 use heap_words::addr::{Addr, Ptr, RegionNo};
 use heap_words::config::{Config, Format};
-use heap_words::header::{Count, Counts, FillerSize};
+use heap_words::header::{Count, FillerSize, HeaderCounts};
 use regions::{Kind, RegionTable, Shape};
 use root_table::{Places, Roots};
 use std::alloc::Global;
@@ -39,7 +39,7 @@ fn add(
         return None;
     }
     let size = FillerSize::new(words);
-    let counts = Counts {
+    let counts = HeaderCounts {
         pointers: Count::new(u32::from(pointers)),
         weaks,
         values: Count::new(0),

@@ -35,7 +35,8 @@ IsLine config k s = IsStep config s × (actor_of s ≡ scripted config.mutators 
 -- script, as many as its place says
 abbrev pub Begins : ℕ → List (List Step) → List ℕ → List Event → Type 0
 Begins m scripts places events =
-    (k : ℕ) → k ≤ m → (steps_of (scripted m k) events ≡ take (slice_index places k) (slice_index_or scripts k [])) × (slice_index places k ≤ length (slice_index_or scripts k []))
+    (k : ℕ) → k ≤ m → (steps_of (scripted m k) events ≡ take (slice_index places k) (slice_index_or scripts k []))
+    × (slice_index places k ≤ length (slice_index_or scripts k []))
 
 -- What every journal keeps: its core is where its events lead a new heap, and they are a beginning of an interleaving of its
 -- scripts

@@ -54,3 +54,9 @@ IsCast m (Mutator i) = i < m
 IsCast m Collector = Unit {0}
 IsCast m (Marker i) = i < 8
 IsCast m (Refiner i) = i < 8
+
+-- how many steps a turn did
+abbrev pub steps_done : Turn → ℕ
+steps_done Done = 1
+steps_done Idle = 0
+steps_done End = 0

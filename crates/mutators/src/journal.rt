@@ -83,7 +83,8 @@ fn no_lines(alloc: Global, count: usize) -> Result<Vec<Vec<Step>>, AllocError>
 /// Adds a line to the script at a place.
 fn add_line(scripts: &mut Vec<Vec<Step>>, place: usize, step: Step) -> Result<(), AllocError>
     requires { place < length scripts.old.items }
-    ensures { OnOk result (map (λ s. s.items) scripts.new.items ≡ slice_set (map (λ s. s.items) scripts.old.items) place (slice_index_or (map (λ s. s.items) scripts.old.items) place [] ++ step ∷ [])) }
+    ensures { OnOk result (map (λ s. s.items) scripts.new.items
+        ≡ slice_set (map (λ s. s.items) scripts.old.items) place (slice_index_or (map (λ s. s.items) scripts.old.items) place [] ++ step ∷ [])) }
 {
     scripts[place].push(step)?;
     Ok(())
@@ -94,7 +95,8 @@ fn scripts_of(alloc: Global, config: &Config, steps: &[Step]) -> Result<Vec<Vec<
     requires few { config.now.mutators ≤ 64 }
     requires steps { AreSteps config.now steps.now }
     ensures len { IfOk result (λ v. length v.items ≡ config.now.mutators + 1) }
-    ensures each { IfOk result (λ v. (k : ℕ) → k ≤ config.now.mutators → slice_index_or (map (λ s. s.items) v.items) k [] ≡ lines_of (scripted config.now.mutators k) steps.now) }
+    ensures each { IfOk result (λ v. (k : ℕ) → k ≤ config.now.mutators
+        → slice_index_or (map (λ s. s.items) v.items) k [] ≡ lines_of (scripted config.now.mutators k) steps.now) }
 {
     let mut scripts = no_lines(alloc, config.mutators as usize + 1)?;
     for step in steps {
@@ -123,7 +125,8 @@ fn rows_of(alloc: Global, config: &Config, steps: &[Step]) -> Result<Rows, Alloc
     requires few { config.now.mutators ≤ 64 }
     requires steps { AreSteps config.now steps.now }
     ensures len { IfOk result (λ r. length r.scripts.items ≡ config.now.mutators + 1) }
-    ensures each { IfOk result (λ r. (k : ℕ) → k ≤ config.now.mutators → slice_index_or (map (λ s. s.items) r.scripts.items) k [] ≡ lines_of (scripted config.now.mutators k) steps.now) }
+    ensures each { IfOk result (λ r. (k : ℕ) → k ≤ config.now.mutators
+        → slice_index_or (map (λ s. s.items) r.scripts.items) k [] ≡ lines_of (scripted config.now.mutators k) steps.now) }
     ensures places { IfOk result (λ r. r.places.items ≡ replicate (config.now.mutators + 1) 0) }
     ensures events { IfOk result (λ r. r.events.items ≡ []) }
 {
@@ -135,6 +138,7 @@ fn rows_of(alloc: Global, config: &Config, steps: &[Step]) -> Result<Rows, Alloc
 }
 
 /// Does a step and notes it as an event, for which room is made before. Refused for memory, nothing has changed.
+#[inline(always)]
 fn record(
     core: &mut Core,
     events: &mut Vec<Event>,
@@ -145,7 +149,8 @@ fn record(
     ensures config { core.new.config ≡ core.old.config }
     ensures does { IfOk result (λ r. Does step r core.old core.new) }
     ensures events { IfOk result (λ r. events.new.items ≡ events.old.items ++ event_of actor step r ∷ []) }
-    ensures runs { IfOk result (λ r. (config : Config) → RunsTo config events.old.items core.old → RunsTo config (events.old.items ++ event_of actor step r ∷ []) core.new) }
+    ensures runs { IfOk result (λ r. (config : Config) → RunsTo config events.old.items core.old
+        → RunsTo config (events.old.items ++ event_of actor step r ∷ []) core.new) }
     ensures same_core { OnErr result (core.new ≡ core.old) }
     ensures same_events { OnErr result (events.new.items ≡ events.old.items) }
 {
@@ -182,7 +187,8 @@ impl Journal {
     /// ```
     pub fn new(alloc: Global, plan: &Plan) -> Result<Journal, NewFault>
         ensures config { IfOk result (λ j. j.core.config ≡ plan.now.config) }
-        ensures scripts { IfOk result (λ j. (k : ℕ) → k ≤ plan.now.config.mutators → script_at j k ≡ lines_of (scripted plan.now.config.mutators k) plan.now.steps) }
+        ensures scripts { IfOk result (λ j. (k : ℕ) → k ≤ plan.now.config.mutators
+            → script_at j k ≡ lines_of (scripted plan.now.config.mutators k) plan.now.steps) }
         ensures events { IfOk result (λ j. j.events ≡ []) }
         ensures places { IfOk result (λ j. (k : ℕ) → slice_index j.places k ≡ 0) }
         ensures keeps { IfOk result (λ j. Keeps j) }

@@ -151,7 +151,8 @@ fn all_rounds(
 ) -> Result<(), AllocError>
     requires small { (markers ≤ 8) × (refiners ≤ 8) }
     ensures plan { SamePlan journal.old journal.new }
-    ensures drawn { OnOk result (scripted_actors journal.new.events ≡ scripted_actors journal.old.events ++ rest_of pcg32 (has_background markers refiners) words journal.old) }
+    ensures drawn { OnOk result (scripted_actors journal.new.events
+        ≡ scripted_actors journal.old.events ++ rest_of pcg32 (has_background markers refiners) words journal.old) }
     ensures asked { OnOk result (AreAsked markers refiners journal.old.events → AreAsked markers refiners journal.new.events) }
     ensures over { OnOk result (length (open_places (lefts_of journal.new)) ≡ 0) }
 {

@@ -1,9 +1,9 @@
 //! What the workers share: the journal under its lock, and the queue of places.
 
-ghost use Rattle.std.specs.Prelude.{◌≡◌, ℕ, ◌+◌, ◌^◌, ◌<◌, All, ⊤, [], length, if◌then◌else◌, IfSome, None};
+ghost use Rattle.std.specs.Prelude.{◌≡◌, ℕ, ◌+◌, ◌^◌, ◌<◌, All, ⊤, [], length, IfSome, None};
 ghost use Rattle.heap_words.specs.declared.config.Format.TheVariants.{V1};
 ghost use Rattle.heap_steps.specs.Actors.{StepList};
-ghost use Rattle.mutators.specs.Turns.{IsCast};
+ghost use Rattle.mutators.specs.Turns.{IsCast, steps_done};
 ghost use Rattle.mutators.specs.Interleavings.{IsAsked, IsOf};
 
 use crate::journal::{Journal, Turn};
@@ -88,13 +88,13 @@ impl<C: Crew> Shared<C> {
         self.fault || self.journal.is_ended()
     }
 
-    /// One turn, and whether it was done, which counts in the share.
-    pub fn turn(&mut self, actor: Actor, mine: &mut Share<C>) -> bool
+    /// One turn. A done one counts in the share. Where memory is refused that is noted, and the actor is idle.
+    pub fn turn(&mut self, actor: Actor, mine: &mut Share<C>) -> Turn
         requires cast { IsCast C.plan.config.mutators actor }
         requires asked { IsAsked C.markers C.refiners actor }
         requires part { 0 < mine.old.parts }
         ensures parts { mine.new.parts ≡ mine.old.parts }
-        ensures amount { mine.new.amount ≡ mine.old.amount + (if result then 1 else 0) }
+        ensures amount { mine.new.amount ≡ mine.old.amount + steps_done result }
         ensures fits { mine.new.amount < 2 ^ 64 }
     {
         let Shared {
@@ -103,30 +103,31 @@ impl<C: Crew> Shared<C> {
             done,
         } = self;
         let answer = journal.turn(actor);
-        let is_done = match answer {
+        let turn = match answer {
             Ok(Turn::Done) => {
                 done.add(mine, 1);
-                true
+                Turn::Done
             }
-            Ok(_) => false,
+            Ok(Turn::Idle) => Turn::Idle,
+            Ok(Turn::End) => Turn::End,
             Err(_) => {
                 *fault = true;
-                false
+                Turn::Idle
             }
         };
         done.audit(mine);
         let _events = journal.len();
-        is_done
+        turn
     }
 
-    /// One turn where anything is left to do, and whether it was done, which counts in the share.
-    pub fn next_turn(&mut self, actor: Actor, mine: &mut Share<C>) -> Option<bool>
+    /// One turn, where anything is left to do. A done one counts in the share.
+    pub fn next_turn(&mut self, actor: Actor, mine: &mut Share<C>) -> Option<Turn>
         requires cast { IsCast C.plan.config.mutators actor }
         requires asked { IsAsked C.markers C.refiners actor }
         requires part { 0 < mine.old.parts }
         ensures parts { mine.new.parts ≡ mine.old.parts }
-        ensures amount { IfSome result (λ d. mine.new.amount ≡ mine.old.amount + (if d then 1 else 0)) }
-        ensures fits { IfSome result (λ d. mine.new.amount < 2 ^ 64) }
+        ensures amount { IfSome result (λ turn. mine.new.amount ≡ mine.old.amount + steps_done turn) }
+        ensures fits { IfSome result (λ turn. mine.new.amount < 2 ^ 64) }
         ensures over { result ≡ None → mine.new.amount ≡ mine.old.amount }
     {
         if self.is_over() {

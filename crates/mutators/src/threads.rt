@@ -5,6 +5,9 @@
 //!   places            0 .. m-1 the mutators, m the collector, then the markers, then the refiners
 //! ```
 //!
+//! A place whose script is at its end isn't pushed back. The worker that finds nothing left to do raises a flag; one without a place looks
+//! at that, and leaves the lock to those that have work. As long as a script has lines left its place is in the queue or with a worker.
+//!
 //! Each worker counts its done turns in its share of a ledger, whose book lies under the lock and has the number of events: so the
 //! counts that the workers hand back sum to it.
 
@@ -15,13 +18,13 @@ ghost use Rattle.heap_words.specs.declared.config.Config.{Config};
 ghost use Rattle.mutators.specs.Turns.{IsCast};
 ghost use Rattle.mutators.specs.Interleavings.{IsAsked, IsOf, IsRunOf, IsThreadsFault};
 
-use crate::journal::Journal;
+use crate::journal::{Journal, Turn};
 use crate::shared::{Below, Crew, Places, Shared};
 use crossbeam_queue::Pass;
 use heap_steps::{Actor, Plan, Record, RunFault, run_fault};
 use std::alloc::{AllocError, Global};
 use std::marker::Brand;
-use std::sync::atomic::{AtomicU64, Ordering};
+use std::sync::atomic::{AtomicBool, AtomicU64, Ordering};
 use std::sync::ledger::{Blank, Share};
 use std::sync::{Mutex, Wait};
 use std::thread;
@@ -101,6 +104,7 @@ struct Hall<'a, C: Crew, F: Fn(u32) + Sync, R: Wait> {
     shared: &'a Mutex<Shared<C>>,
     places: &'a Places<C>,
     skipped: &'a AtomicU64,
+    over: &'a AtomicBool,
     seen: &'a F,
     cast: Cast,
     ghost same_cast: { (cast.mutators ≡ C.plan.config.mutators) × (cast.markers ≡ C.markers) × (cast.refiners ≡ C.refiners) },
@@ -132,8 +136,7 @@ fn work<C: Crew, F: Fn(u32) + Sync, R: Wait>(
             held = hall.places.pop_as::<Below<C>, R>(rt, &mut pass);
         }
         let Some(place) = held else {
-            let is_over = hall.shared.lock(rt).is_over();
-            if is_over {
+            if hall.over.load(Ordering::SeqCst) {
                 break;
             }
             continue;
@@ -142,14 +145,18 @@ fn work<C: Crew, F: Fn(u32) + Sync, R: Wait>(
             .shared
             .lock(rt)
             .next_turn(hall.cast.actor_at(place), &mut share);
-        let Some(is_done) = turn else {
+        let Some(turn) = turn else {
+            hall.over.store(true, Ordering::SeqCst);
             break;
         };
-        held = hall
-            .places
-            .push_as::<Below<C>, R>(rt, &mut pass, place)
-            .err();
-        if is_done {
+        held = match turn {
+            Turn::End => None,
+            Turn::Done | Turn::Idle => hall
+                .places
+                .push_as::<Below<C>, R>(rt, &mut pass, place)
+                .err(),
+        };
+        if let Turn::Done = turn {
             count += 1;
             (hall.seen)(worker);
         }
@@ -209,7 +216,8 @@ fn start_all<'x, C: Crew + Send + Sync, F: Fn(u32) + Sync, R: Threads + Wait + S
         thread::scope_env(),
         hall.rt,
         move |scope| -> Gathered<C>
-            requires { (workers ≤ 32) × IsPassOf hall.now.places.now pass × ((all.parts ≡ workers + 1) × (all.amount ≡ 0)) × ((hands.items ≡ []) × (workers ≤ vec_capacity hands)) × ((w : ℕ) → w < 32 → F.pre hall.now.seen.now w) }
+            requires { (workers ≤ 32) × IsPassOf hall.now.places.now pass × ((all.parts ≡ workers + 1) × (all.amount ≡ 0))
+                × ((hands.items ≡ []) × (workers ≤ vec_capacity hands)) × ((w : ℕ) → w < 32 → F.pre hall.now.seen.now w) }
             ensures { (result.all.parts ≡ workers + 1) × (sum result.done ≡ result.all.amount) × ((w : ℕ) → workers ≤ w → slice_index result.done w ≡ 0) }
         {
             let mut all = all;
@@ -342,6 +350,7 @@ fn gather<C: Crew + Send + Sync, F: Fn(u32) + Sync, R: Threads + Wait + Sync>(
     let (book, all) = blank.open::<C>();
     let shared = Mutex::new(Shared::new(journal, book));
     let skipped = AtomicU64::new(u64::MAX);
+    let over = AtomicBool::new(false);
     let Gathered {
         mut all,
         done,
@@ -352,6 +361,7 @@ fn gather<C: Crew + Send + Sync, F: Fn(u32) + Sync, R: Threads + Wait + Sync>(
             shared: &shared,
             places: &queue,
             skipped: &skipped,
+            over: &over,
             seen,
             cast,
         },

@@ -54,7 +54,8 @@ pub fn copy(table: &mut RegionTable, destinations: &mut Destinations, from: Addr
     requires list { free_count table.old ≤ destinations.old.room }
     requires count { destinations.old.words + object_words table.old from < 2 ^ 32 }
     ensures copies { (x : Stored) → object_at table.old from ≡ Some x → Copies table.old table.new destinations.old destinations.new from result x }
-    ensures changes { (x : Stored) (k : ℕ) → object_at table.old from ≡ Some x → destinations.new.last ≡ Some k → CopiesObject table.old table.new k from result x }
+    ensures changes { (x : Stored) (k : ℕ) → object_at table.old from ≡ Some x → destinations.new.last ≡ Some k
+        → CopiesObject table.old table.new k from result x }
 {
     let size = table.object_size(from);
     let region = destination_for(table, destinations, size);

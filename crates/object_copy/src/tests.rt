@@ -13,7 +13,7 @@ ghost use Rattle.object_copy.specs.Samples.{IsCopyable};
 use crate::{Destinations, copy};
 use heap_words::addr::{Addr, Ptr, RegionNo};
 use heap_words::config::{Config, Format};
-use heap_words::header::{Count, Counts, FillerSize};
+use heap_words::header::{Count, FillerSize, HeaderCounts};
 use regions::RegionTable;
 use std::alloc::Global;
 use std::test::Fail;
@@ -36,7 +36,7 @@ fn one_object(alloc: Global) -> Result<RegionTable, Fail>
     table.take_free();
     let object = Addr::new(0);
     table.push_filler(RegionNo::new(0), FillerSize::new(4));
-    let counts = Counts {
+    let counts = HeaderCounts {
         pointers: Count::new(0),
         weaks: 1,
         values: Count::new(1),

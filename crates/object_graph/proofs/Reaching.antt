@@ -4,7 +4,7 @@ use Rattle.std.proofs.Common.{◌≡◌, ℕ, zero, suc, ◌+◌, ◌-◌, ◌<�
 use Rattle.std.specs.Prelude.{slice_get, slice_set, slice_index_or, replicate, reverse, IfOk}
 use Rattle.std.proofs.Math.Dec.{leb}
 use Rattle.std.proofs.lemmas.Bool.{cases_lt, cases_eq, leb-true, leb-false, le-leb}
-use Rattle.std.proofs.lemmas.Option.{get_or_from_slice_get}
+use Rattle.std.proofs.lemmas.Option.{get_or_from_slice_get, slice_get_past}
 use Rattle.heap_model.specs.Graph.{Graph, Object, object_named, next_name, IsReachable, FromRoot, FromObject}
 use Rattle.heap_model.specs.Weak.{AreReached, Clears, cleared_graph}
 use Rattle.heap_model.proofs.Cleared.{cleared_by}
@@ -13,7 +13,7 @@ use Rattle.heap_model.proofs.Lists.{get_kept-set, get-set_same, get-set_other, g
 use Rattle.heap_model.proofs.Changed.{named_at, at_least}
 use Rattle.object_graph.specs.State.{State, AtRoot, AtField, IsNameOf, HoldsNames, IsEarlier, ForSnapshot, IsSoundState}
 use Rattle.object_graph.specs.Run.{ClearsBy}
-use Rattle.object_graph.specs.Reached.{Search, started, flag_of, flagged_at, found, all_found, looked_in, looked_at, searched}
+use Rattle.object_graph.specs.Reached.{Search, started, flag_of, flagged_at, found, all_found, looked_in, looked_at, looked, searched}
 
 -- how many flags are set
 abbrev pub count_set : List Bool → ℕ
@@ -341,6 +341,19 @@ searched_looked g holds s l (suc k) = looked_by g holds (searched s g.objects k)
 searched_keeps : (s : Search) (objects : List Object) (k : ℕ) → Keeps s (searched s objects k)
 searched_keeps s objects zero q on = on
 searched_keeps s objects (suc k) q on = looked_keeps (searched s objects k) objects (slice_get (searched s objects k).queue k) q (searched_keeps s objects k q on)
+
+-- behind the queue's end no look changes anything
+none_looked : (s : Search) (objects : List Object) (i : ℕ) → length s.queue ≤ i → looked s objects i ≡ s
+none_looked s objects i past = ap (λ (place : Option ℕ). looked_at s objects place) (slice_get_past s.queue i past)
+
+pub searched_past : (s : Search) (objects : List Object) (i k : ℕ) → i ≤ k → length (searched s objects i).queue ≤ i → searched s objects k ≡ searched s objects i
+searched_past s objects i zero within past = let e : 0 ≡ i = omega arith in ap (λ (n : ℕ). searched s objects n) e
+searched_past s objects i (suc k) within past = elim (cases_lt k i) [
+  | inl low ↦ (let e : suc k ≡ i = omega arith in ap (λ (n : ℕ). searched s objects n) e)
+  | inr high ↦ (
+      let e = searched_past s objects i k high past in
+      ap (λ (t : Search). looked t objects k) e ∙ none_looked (searched s objects i) objects k (omega arith))
+]
 
 -- a list and the same backwards have the same elements
 in_reverse : (ts : List (Option ℕ)) (j : ℕ) (v : Option ℕ) → slice_get (reverse ts) j ≡ Some v → (i : ℕ) × (slice_get ts i ≡ Some v)

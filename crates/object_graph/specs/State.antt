@@ -37,7 +37,13 @@ pub record State : Type 0 where
 
 -- the graph of a new heap: no objects, and each root nil
 abbrev pub first_graph : Config → Graph
-first_graph c = record { room = c.regions * c.words; first_name = c.first_name; places = places_of c; objects = []; roots = replicate (root_places (places_of c)) None }
+first_graph c = record {
+  room = c.regions * c.words;
+  first_name = c.first_name;
+  places = places_of c;
+  objects = [];
+  roots = replicate (root_places (places_of c)) None;
+}
 
 -- the state of a new heap
 abbrev pub first_state : Config → State

@@ -33,7 +33,9 @@ impl Model for Graph {
 
     ghost view = { λ g. record { room = g.room; first_name = g.first_name; places = g.places; objects = g.objects; roots = g.roots.items } };
 
-    ghost invariant = { λ g. IsGraph (record { room = g.room; first_name = g.first_name; places = g.places; objects = g.objects; roots = g.roots.items }) g.used.items };
+    ghost invariant = { λ g. IsGraph
+        (record { room = g.room; first_name = g.first_name; places = g.places; objects = g.objects; roots = g.roots.items })
+        g.used.items };
 }
 
 /// Where it is let go there is one call, and not a drop for each of its parts.
@@ -443,7 +445,8 @@ impl Graph {
 
     /// The search for what is reachable from the graph's roots and from some other names: a flag for each object.
     pub(crate) fn search(&self, alloc: Global, others: &[Pointer]) -> Result<Vec<bool>, AllocError>
-        ensures { IfOk result (λ flags. flags.items ≡ (searched (all_found (all_found (started self.now) others.now) self.now.roots) self.now.objects (length self.now.objects)).flags) }
+        ensures { IfOk result (λ flags. flags.items
+            ≡ (searched (all_found (all_found (started self.now) others.now) self.now.roots) self.now.objects (length self.now.objects)).flags) }
     {
         let mut search = Search::new(alloc, self.first_name, self.objects.len())?;
         search.find_all(others)?;

@@ -121,8 +121,8 @@ impl Judge {
     }
 }
 
-/// What the judge finds in a record, from the graph of a new heap: where memory suffices, all its events exactly if they are a run, else the
-/// first one with which those before it cannot go on, and what the graph gives there.
+/// What the judge finds in a record, from the graph of a new heap: where memory suffices, all its events exactly if they are a run, else
+/// the first one with which those before it cannot go on, and what the graph gives there.
 ///
 /// ```rust
 /// let mut record = Record::new(alloc, config);

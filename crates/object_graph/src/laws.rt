@@ -21,7 +21,8 @@ pub fn judged_once()
 
 /// What the graph gives for a step says which replies may stand behind it: exactly those with which some state may follow.
 pub fn given_law()
-    ensures { (old : State) (k : Step) (given : Given) (r : Reply) → IsSoundState old → IsGiven old.graph k given → ((new : State) × Happens old k r new) ↔ MayStand given r }
+    ensures { (old : State) (k : Step) (given : Given) (r : Reply) → IsSoundState old → IsGiven old.graph k given
+        → ((new : State) × Happens old k r new) ↔ MayStand given r }
 {}
 
 /// A run leads to one state.

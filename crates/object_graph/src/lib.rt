@@ -27,9 +27,9 @@
 //!
 //! A `getweak r1 r0 0` before the `remark` would reply `#1`, and touch it: then 1 counts as a root of the snapshot, and the slot stays.
 //!
-//! `Graph` takes the steps of mutators (`apply`); `check` says whether a record is a run, from the graph of a new heap, and if not, at which
-//! event it breaks; `explain` says too what the graph gives there. A `Judge` takes events one by one, as they come. The laws of states and
-//! runs stand in `laws`. Steps, replies and records are those of `heap_steps`, which the heap has too.
+//! `Graph` takes the steps of mutators (`apply`); `check` says whether a record is a run, from the graph of a new heap, and if not, at
+//! which event it breaks; `explain` says too what the graph gives there. A `Judge` takes events one by one, as they come. The laws of
+//! states and runs stand in `laws`. Steps, replies and records are those of `heap_steps`, which the heap has too.
 //!
 //! Examples of calls go on from this one, in which `rt` is a test's `HostRuntime` and `alloc` its allocator:
 //!

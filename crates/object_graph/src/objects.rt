@@ -186,7 +186,8 @@ impl Objects {
     pub(crate) fn set_pointer(&mut self, place: usize, field: u32, value: Pointer)
         requires place { place < length self.old }
         requires field { field < length (object_in self.old place).pointers }
-        ensures { self.new ≡ slice_set self.old place (record (object_in self.old place) { pointers = slice_set (object_in self.old place).pointers field value }) }
+        ensures { self.new ≡ slice_set self.old place
+            (record (object_in self.old place) { pointers = slice_set (object_in self.old place).pointers field value }) }
     {
         let entry = self.entries[place];
         self.words[entry.start() + field as usize] = value.word();
@@ -215,7 +216,8 @@ impl Objects {
 
     /// One more object, its pointers and weak slots nil and its data words 0. Refused for memory, nothing changes.
     pub(crate) fn push(&mut self, counts: Counts, weaks: u8) -> Result<(), AllocError>
-        ensures ok { OnOk result (self.new ≡ self.old ++ record { pointers = replicate counts.pointers None; weaks = replicate weaks None; values = replicate counts.values 0 } ∷ []) }
+        ensures ok { OnOk result (self.new
+            ≡ self.old ++ record { pointers = replicate counts.pointers None; weaks = replicate weaks None; values = replicate counts.values 0 } ∷ []) }
         ensures err { OnErr result (self.new ≡ self.old) }
     {
         let start = self.words.len();

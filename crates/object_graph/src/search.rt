@@ -105,11 +105,14 @@ impl Search {
         self.look_in(objects, place)
     }
 
-    /// Every place of the queue is looked at, also those that join it.
+    /// Every place of the queue is looked at, also those that join it, up to its end.
     pub(crate) fn look_at_all(&mut self, objects: &Objects) -> Result<(), AllocError>
         ensures { OnOk result (self.new ≡ searched self.old objects.now (length objects.now)) }
     {
         for next in 0..objects.len() {
+            if self.queue.len() <= next {
+                return Ok(());
+            }
             self.look(objects, next)?;
         }
         Ok(())

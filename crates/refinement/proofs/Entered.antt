@@ -1,11 +1,12 @@
 -- What is covered once a card was added to the sets of some regions.
 use Rattle.std.proofs.Common.{inl, inr, ◌≡◌, ◌⊎◌, ℕ, ◌/◌, ◌<◌, true, Option, Some, None, List, [], ◌∷◌, ◌++◌, length, All, ⊎_elim, refl, sym, ap, subst, ◌∙◌, length-set}
-use Rattle.std.specs.Prelude.{slice_get, if◌then◌else◌}
+use Rattle.std.specs.Prelude.{slice_get, slice_set, nat_lt, Bool, if◌then◌else◌}
 use Rattle.std.proofs.lemmas.Bool.{cases_eq}
+use Rattle.std.proofs.lemmas.List.{set-get_or}
 use Rattle.std.proofs.lemmas.Bool.Decides.{eqb_tells}
 use Rattle.std.proofs.lemmas.List.Elements.{All-nil, All-cons, All-head, All-tail, All-append}
 use Rattle.heap_model.specs.Heap.{Stored, fields}
-use Rattle.remembered_sets.specs.Sets.{Sets, CardSet, added, covers, set_of, set_covers, set_with}
+use Rattle.remembered_sets.specs.Sets.{Sets, CardSet, empty_set, added, covers, set_of, set_covers, set_with}
 use Rattle.remembered_sets.proofs.Laws.{covers_grows, covers_only, added_other}
 use Rattle.refinement.specs.Remembering.{IsCrossing, LeadsInto, LeadsInside, Gains, field_word, field_card}
 use Rattle.refinement.specs.Refining.{added_to, AddsCard, with_field}
@@ -117,3 +118,13 @@ field_grows words card word n (Some v) s u known e r c was =
       | inl q ↦ ap (λ (x : Sets). covers x r c) (e ∙ ap (λ b. if b then s else added s (v / words) card) q.0) ∙ was
       | inr q ↦ ap (λ (x : Sets). covers x r c) (e ∙ ap (λ b. if b then s else added s (v / words) card) q.0) ∙ covers_grows s (v / words) card r c (known v refl) was
     ]
+
+-- a card that is covered already changes nothing
+pub added_covered : (s : Sets) (region card : ℕ) → covers s region card ≡ true → added s region card ≡ s
+added_covered s region card e =
+    let set : CardSet = set_of s region in
+    let same : set_with set card (card / s.cards_per_region) ≡ set =
+    ap (λ (b : Bool). if b then set else if nat_lt (length set.inline) 16 then record { inline = set.inline ++ card ∷ []; sources = set.sources } else record { inline = set.inline; sources = slice_set set.sources (card / s.cards_per_region) true }) e in
+    let sets : slice_set s.sets region (set_with set card (card / s.cards_per_region)) ≡ s.sets =
+    ap (λ (x : CardSet). slice_set s.sets region x) same ∙ set-get_or s.sets region (empty_set 0) in
+    ap (λ (ss : List CardSet). record { sets = ss; cards_per_region = s.cards_per_region }) sets

@@ -1,11 +1,8 @@
 -- Which fields lead out of their region, and what it means that they are remembered. A region has so many words, a card
 -- so many card words; what is kept, dirty or covered is a function, however a heap keeps it.
-use Rattle.std.specs.Prelude.{◌≡◌, ◌≢◌, ◌⊎◌, ℕ, ◌+◌, ◌/◌, ◌<◌, ⊤, Bool, true, Option, Some, None, slice_get, slice_set}
+use Rattle.std.specs.Prelude.{◌≡◌, ◌≢◌, ◌⊎◌, ℕ, ◌/◌, ◌<◌, ⊤, Bool, true, Option, Some, None, slice_get, slice_set}
 use Rattle.heap_model.specs.Heap.{Stored, fields}
-
--- the word of a field: behind the object's header and its name
-abbrev pub field_word : ℕ → ℕ → ℕ
-field_word at index = at + 2 + index
+pub use Rattle.heap_words.specs.Sizes.{field_word}
 
 -- the card of a field's word
 abbrev pub field_card : ℕ → ℕ → ℕ → ℕ

@@ -44,25 +44,52 @@ pub fn is_kept(table: &RegionTable, tams: &Tams, marks: &Marks, at: Addr, shape:
     }
 }
 
-/// Adds the card to the set of the region that a field leads into, if its word lies in another one.
-fn scan_field(table: &RegionTable, sets: &mut RememberedSets, card: Card, object: Addr, field: u32)
+/// Whether the region that the card was added to last is this one.
+#[inline(always)]
+fn is_last(last: Option<u32>, region: u32) -> bool
+    ensures { result ≡ true → last ≡ Some region }
+{
+    match last {
+        Some(found) => found == region,
+        None => false,
+    }
+}
+
+/// Adds the card to the set of the region that a field leads into, if its word lies in another one. `last` is a region whose set has the
+/// card, so that fields in turn that lead into one region cost one look at its set; the result is such a region too.
+fn scan_field(
+    table: &RegionTable,
+    sets: &mut RememberedSets,
+    card: Card,
+    object: Addr,
+    field: u32,
+    last: Option<u32>,
+) -> Option<u32>
     requires field { field < length (fields_at table.now object) }
     requires inside { FieldsInside table.now object }
     requires regions { length sets.old.sets ≡ length table.now.regions }
     requires card { card < card_count sets.old }
+    requires last { (region : ℕ) → last ≡ Some region → covers sets.old region card ≡ true }
     ensures after { (target : Option ℕ) → slice_get (fields_at table.now object) field ≡ Some target
         → sets.new ≡ with_field table.now.words_per_region card (field_word object field) target sets.old }
     ensures covered { (target : ℕ) → slice_get (fields_at table.now object) field ≡ Some (Some target)
         → target / table.now.words_per_region ≢ field_word object field / table.now.words_per_region → covers sets.new (target / table.now.words_per_region) card ≡ true }
+    ensures last { (region : ℕ) → result ≡ Some region → covers sets.new region card ≡ true }
 {
     table.law();
     let home = object.word() + 2 + field;
     let Some(target) = table.get_field(object, field) else {
-        return;
+        return last;
     };
-    if table.leads_out(home, target) {
-        sets.add(table.region_of(target), card);
+    if !table.leads_out(home, target) {
+        return last;
     }
+    let region = table.region_of(target);
+    if is_last(last, region.number()) {
+        return last;
+    }
+    sets.add(region, card);
+    Some(region.number())
 }
 
 /// Adds the card for the fields of an object that lie in it.
@@ -72,13 +99,16 @@ fn scan_object(
     card_words: u32,
     card: Card,
     object: Addr,
-)
+    before: Option<u32>,
+) -> Option<u32>
     requires object { IsSome (object_at table.now object) }
     requires inside { FieldsInside table.now object }
     requires fit { SetsFit table.now card_words sets.old }
     requires card { card < card_count sets.old }
-    ensures { (kept : ℕ → Option Stored) → kept object ≡ object_at table.now object
+    requires last { (region : ℕ) → before ≡ Some region → covers sets.old region card ≡ true }
+    ensures scanned { (kept : ℕ → Option Stored) → kept object ≡ object_at table.now object
         → IsScanned table.now.words_per_region kept card_words card object sets.old sets.new }
+    ensures last { (region : ℕ) → result ≡ Some region → covers sets.new region card ≡ true }
 {
     table.law();
     let first = object.word() + 2;
@@ -87,9 +117,11 @@ fn scan_object(
     let count = table.field_count(object);
     let start = from.saturating_sub(first);
     let end = to.saturating_sub(first).min(count);
+    let mut last = before;
     for field in start..end {
-        scan_field(table, sets, card, object, field);
+        last = scan_field(table, sets, card, object, field, last);
     }
+    last
 }
 
 /// Adds the card for the fields of kept objects that lie in it, over the tiles of a region from the one on that holds the
@@ -113,13 +145,14 @@ fn scan_tiles(
     table.law();
     let end = card.number() * card_words + card_words;
     let mut looked = 0;
+    let mut last = None;
     for (at, shape) in table.walk_from(first) {
         if at.word() >= end {
             return looked;
         }
         looked += 1;
         if is_kept(table, tams, marks, at, shape) {
-            scan_object(table, sets, card_words, card, at);
+            last = scan_object(table, sets, card_words, card, at, last);
         }
     }
     looked

@@ -17,7 +17,7 @@ use crate::{refine_one, scan_card};
 use cards::CardTable;
 use heap_words::addr::{Addr, Card, RegionNo};
 use heap_words::config::{Config, Format};
-use heap_words::header::{Count, Counts, FillerSize};
+use heap_words::header::{Count, HeaderCounts, FillerSize};
 use mark_bitmap::marks::Marks;
 use mark_bitmap::tams::Tams;
 use regions::{Kind, RegionTable, Shape};
@@ -44,7 +44,7 @@ fn add(table: &mut RegionTable, region: u32, pointers: u32, weaks: u8)
         return;
     }
     let size = FillerSize::new(words);
-    let counts = Counts {
+    let counts = HeaderCounts {
         pointers: Count::new(pointers),
         weaks,
         values: Count::new(0),
@@ -71,7 +71,7 @@ fn take_run(table: &mut RegionTable, pointers: u32)
     ensures sample { IsSample table.new }
 {
     table.law();
-    let counts = Counts {
+    let counts = HeaderCounts {
         pointers: Count::new(pointers),
         weaks: 0,
         values: Count::new(0),

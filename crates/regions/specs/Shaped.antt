@@ -27,7 +27,8 @@ pub record IsShaped (t : Table) : Type 0 where
   -- each tile's words lie in the heap
   pub within : (a : ℕ) (tile : Tile) → tile_in t a ≡ Some tile → a + tile_size tile ≤ length t.regions * t.words_per_region
   -- the regions that a run reaches are its later ones, and there are no others
-  pub run : (k j : ℕ) (object : Stored) → nth_region t k ≡ First object → 0 < j → j * t.words_per_region < tile_size (Object object) → kind_of t (k + j) ≡ kinds.Rest
+  pub run : (k j : ℕ) (object : Stored) → nth_region t k ≡ First object → 0 < j → j * t.words_per_region < tile_size (Object object)
+      → kind_of t (k + j) ≡ kinds.Rest
   pub later : (k n : ℕ) → nth_region t k ≡ Rest n → IsLater t k n
   pub targets : AreTargetsRight t
 

@@ -238,7 +238,8 @@ kind_of t k = region_kind (nth_region t k)
 
 -- each object in an ordinary region has at most half of the region's words
 abbrev pub AreHalves : Table → Type 0
-AreHalves t = (a : ℕ) (object : Stored) → object_at t a ≡ Some object → kind_of t (a / t.words_per_region) ≡ kinds.Ordinary → 2 * tile_size (Object object) ≤ t.words_per_region
+AreHalves t = (a : ℕ) (object : Stored) → object_at t a ≡ Some object → kind_of t (a / t.words_per_region) ≡ kinds.Ordinary
+    → 2 * tile_size (Object object) ≤ t.words_per_region
 
 -- so many free regions of so many words
 unfoldable pub free_table : ℕ → ℕ → Table

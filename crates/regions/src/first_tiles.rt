@@ -85,7 +85,8 @@ fn write_start(entries: &mut [u32], shift: u32, at: u32, end: u32)
     requires small { end ≤ max_words }
     requires within { end ≤ length entries.old * 2 ^ shift }
     ensures len { length entries.new ≡ length entries.old }
-    ensures entries { (c : ℕ) → slice_index entries.new c ≡ (if is_between at end (c * 2 ^ shift) && (c * 2 ^ shift == last_card (2 ^ shift) end) then at else slice_index entries.old c) }
+    ensures entries { (c : ℕ) → slice_index entries.new c
+        ≡ (if is_between at end (c * 2 ^ shift) && (c * 2 ^ shift == last_card (2 ^ shift) end) then at else slice_index entries.old c) }
 {
     let past = card_from(shift, end);
     if card_from(shift, at) < past {
@@ -101,7 +102,9 @@ fn write_filler(entries: &mut [u32], shift: u32, at: u32, size: u32)
     requires small { at + size ≤ max_words }
     requires within { at + size ≤ length entries.old * 2 ^ shift }
     ensures len { length entries.new ≡ length entries.old }
-    ensures entries { (c : ℕ) → slice_index entries.new c ≡ (if is_between at (at + size) (c * 2 ^ shift) then entry_of (2 ^ shift) at (Filler size) (c * 2 ^ shift) else slice_index entries.old c) }
+    ensures entries { (c : ℕ) → slice_index entries.new c
+        ≡ (if is_between at (at + size) (c * 2 ^ shift) then entry_of (2 ^ shift) at (Filler size) (c * 2 ^ shift)
+        else slice_index entries.old c) }
 {
     let first = card_from(shift, at);
     let past = card_from(shift, at + size);
@@ -161,7 +164,8 @@ impl FirstTiles {
         requires small { at + size ≤ max_words }
         ensures card_words { self.new.card_words ≡ self.old.card_words }
         ensures len { length self.new.starts ≡ length self.old.starts }
-        ensures entries { (c : ℕ) → slice_index self.new.starts c ≡ (if is_between at (at + size) (c * self.old.card_words) then at else slice_index self.old.starts c) }
+        ensures entries { (c : ℕ) → slice_index self.new.starts c
+            ≡ (if is_between at (at + size) (c * self.old.card_words) then at else slice_index self.old.starts c) }
     {
         write_entries(&mut self.starts, self.shift, at, at + size, at);
     }
@@ -173,10 +177,12 @@ impl FirstTiles {
         requires room { size ≤ filler }
         requires within { at + filler ≤ length self.old.starts * self.old.card_words }
         requires small { at + filler ≤ max_words }
-        requires entries { (c : ℕ) → at ≤ c * self.old.card_words → c * self.old.card_words < at + filler → slice_index self.old.starts c ≡ entry_of self.old.card_words at (Filler filler) (c * self.old.card_words) }
+        requires entries { (c : ℕ) → at ≤ c * self.old.card_words → c * self.old.card_words < at + filler
+            → slice_index self.old.starts c ≡ entry_of self.old.card_words at (Filler filler) (c * self.old.card_words) }
         ensures card_words { self.new.card_words ≡ self.old.card_words }
         ensures len { length self.new.starts ≡ length self.old.starts }
-        ensures entries { (c : ℕ) → slice_index self.new.starts c ≡ (if is_between at (at + size) (c * self.old.card_words) then at else slice_index self.old.starts c) }
+        ensures entries { (c : ℕ) → slice_index self.new.starts c
+            ≡ (if is_between at (at + size) (c * self.old.card_words) then at else slice_index self.old.starts c) }
     {
         if size == filler {
             if size <= self.card_words {
@@ -194,7 +200,9 @@ impl FirstTiles {
         requires small { at + size ≤ max_words }
         ensures card_words { self.new.card_words ≡ self.old.card_words }
         ensures len { length self.new.starts ≡ length self.old.starts }
-        ensures entries { (c : ℕ) → slice_index self.new.starts c ≡ (if is_between at (at + size) (c * self.old.card_words) then entry_of self.old.card_words at (Filler size) (c * self.old.card_words) else slice_index self.old.starts c) }
+        ensures entries { (c : ℕ) → slice_index self.new.starts c
+            ≡ (if is_between at (at + size) (c * self.old.card_words)
+            then entry_of self.old.card_words at (Filler size) (c * self.old.card_words) else slice_index self.old.starts c) }
     {
         write_filler(&mut self.starts, self.shift, at, size);
     }
@@ -207,7 +215,9 @@ impl FirstTiles {
         requires small { end ≤ max_words }
         ensures card_words { self.new.card_words ≡ self.old.card_words }
         ensures len { length self.new.starts ≡ length self.old.starts }
-        ensures entries { (c : ℕ) → slice_index self.new.starts c ≡ (if is_between at end (c * self.old.card_words) && (c * self.old.card_words == last_card self.old.card_words end) then at else slice_index self.old.starts c) }
+        ensures entries { (c : ℕ) → slice_index self.new.starts c
+            ≡ (if is_between at end (c * self.old.card_words) && (c * self.old.card_words == last_card self.old.card_words end) then at
+            else slice_index self.old.starts c) }
     {
         write_start(&mut self.starts, self.shift, at, end);
     }

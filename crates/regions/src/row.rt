@@ -4,7 +4,7 @@ ghost use Rattle.regions.specs.Rows.{kind_is_free, kind_is_rest, free_row};
 ghost use Rattle.regions.specs.Shapes.{size_of_shape};
 
 use heap_words::addr::Addr;
-use heap_words::header::Count;
+use heap_words::header::{Count, object_size};
 use std::alloc::{AllocError, Global};
 
 /// What a region is.
@@ -57,7 +57,7 @@ impl Shape {
                 pointers,
                 weaks,
                 values,
-            } => 2 + pointers.get() + u32::from(weaks) + values.get(),
+            } => object_size(pointers.get(), weaks, values.get()) as u32,
             Shape::Filler { size } => size,
             Shape::Forwarded { size, .. } => size,
         }

@@ -10,7 +10,7 @@ use crate::row::{Kind, Row, is_free};
 use crate::table::RegionTable;
 use crate::updates::rests_from;
 use heap_words::addr::{Addr, RegionNo};
-use heap_words::header::Counts;
+use heap_words::header::HeaderCounts;
 
 /// The lowest place from which `count` rows are free, where no row below `from` is.
 fn lowest_run(rows: &[Row], count: usize, from: usize) -> Option<usize>
@@ -69,16 +69,17 @@ impl RegionTable {
     /// Makes a humongous object at the bottom of the run of `count` free regions that `free_run` found.
     /// Its pointers and weak slots are nil and its data words 0, and it ends in the last of the regions.
     #[inline(never)]
-    pub fn make_run(&mut self, first: RegionNo, count: u32, name: u64, counts: Counts)
+    pub fn make_run(&mut self, first: RegionNo, count: u32, name: u64, counts: HeaderCounts)
         requires positive { 0 < count }
         requires lowest { first_run region_is_free count self.old.regions ≡ Some first }
         requires covers { size_of counts.pointers counts.weaks counts.values ≤ count * self.old.words_per_region }
         requires tight { count * self.old.words_per_region < size_of counts.pointers counts.weaks counts.values + self.old.words_per_region }
-        ensures { self.new ≡ with_regions self.old first count (run_regions self.old.words_per_region (new_object name counts.pointers counts.weaks counts.values) count) }
+        ensures { self.new ≡ with_regions self.old first count
+            (run_regions self.old.words_per_region (new_object name counts.pointers counts.weaks counts.values) count) }
     {
         let number = first.number();
         let weaks = u32::from(counts.weaks);
-        let size = 2 + counts.pointers.get() + weaks + counts.values.get();
+        let size = counts.size();
         let bottom = number * self.words_per_region;
         self.words.write_object(Addr::new(bottom), name, counts);
         self.first_tiles.put_object(bottom, size);
@@ -94,12 +95,13 @@ impl RegionTable {
 
     /// Makes a humongous object in the lowest run of `count` free regions, and answers its first region;
     /// none where there is no such run, and then nothing changed.
-    pub fn take_run(&mut self, count: u32, name: u64, counts: Counts) -> Option<RegionNo>
+    pub fn take_run(&mut self, count: u32, name: u64, counts: HeaderCounts) -> Option<RegionNo>
         requires positive { 0 < count }
         requires covers { size_of counts.pointers counts.weaks counts.values ≤ count * self.old.words_per_region }
         requires tight { count * self.old.words_per_region < size_of counts.pointers counts.weaks counts.values + self.old.words_per_region }
         ensures lowest { result ≡ first_run region_is_free count self.old.regions }
-        ensures taken { self.new ≡ with_run self.old count (new_object name counts.pointers counts.weaks counts.values) (first_run region_is_free count self.old.regions) }
+        ensures taken { self.new ≡ with_run self.old count (new_object name counts.pointers counts.weaks counts.values)
+            (first_run region_is_free count self.old.regions) }
     {
         let first = self.free_run(count)?;
         self.make_run(first, count, name, counts);

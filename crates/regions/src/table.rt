@@ -67,9 +67,7 @@ pub(crate) fn size_at(words: &Words, at: Addr) -> u32
     ensures { result ≡ sizes_in words.now at }
 {
     match words.object_at(at) {
-        Some(counts) => {
-            2 + counts.pointers.get() + u32::from(counts.weaks) + counts.values.get()
-        }
+        Some(counts) => counts.size(),
         None => 1,
     }
 }

@@ -5,19 +5,19 @@ use crate::row::{Kind, Shape};
 use crate::table::RegionTable;
 use heap_words::addr::{Addr, Ptr, RegionNo};
 use heap_words::config::{Config, Format, NewFault};
-use heap_words::header::{Count, Counts, FillerSize};
+use heap_words::header::{Count, FillerSize, HeaderCounts};
 use std::alloc::Global;
 use std::process::Abort;
 use std::test::Fail;
 
-fn counts(pointers: u32, weaks: u8, values: u32) -> Counts
+fn counts(pointers: u32, weaks: u8, values: u32) -> HeaderCounts
     requires pointers { pointers < 2 ^ 24 }
     requires values { values < 2 ^ 24 }
     ensures pointers_are { result.pointers ≡ pointers }
     ensures weaks_are { result.weaks ≡ weaks }
     ensures values_are { result.values ≡ values }
 {
-    Counts {
+    HeaderCounts {
         pointers: Count::new(pointers),
         weaks,
         values: Count::new(values),

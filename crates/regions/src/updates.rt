@@ -11,7 +11,7 @@ ghost use Rattle.regions.specs.declared.row.Kind.TheVariants as kinds;
 use crate::row::{Kind, Row, is_free, is_rest};
 use crate::table::RegionTable;
 use heap_words::addr::{Addr, RegionNo};
-use heap_words::header::{Counts, FillerSize};
+use heap_words::header::{FillerSize, HeaderCounts};
 use heap_words::words::Words;
 
 /// The lowest free row, where none below `from` is free.
@@ -138,13 +138,14 @@ impl RegionTable {
     /// Makes an object at the start of a filler of `filler` words: its pointers and weak slots are nil and its data words 0.
     /// The rest is a filler again or nothing.
     #[inline(always)]
-    pub fn make_object(&mut self, at: Addr, filler: FillerSize, name: u64, counts: Counts)
+    pub fn make_object(&mut self, at: Addr, filler: FillerSize, name: u64, counts: HeaderCounts)
         requires there { tile_in self.old at ≡ Some (Filler filler) }
         requires room { size_of counts.pointers counts.weaks counts.values ≤ filler }
-        ensures { self.new ≡ replace_tile self.old at (Object (new_object name counts.pointers counts.weaks counts.values) ∷ remainder (filler - size_of counts.pointers counts.weaks counts.values)) }
+        ensures { self.new ≡ replace_tile self.old at
+            (Object (new_object name counts.pointers counts.weaks counts.values) ∷ remainder (filler - size_of counts.pointers counts.weaks counts.values)) }
     {
         let weaks = u32::from(counts.weaks);
-        let size = 2 + counts.pointers.get() + weaks + counts.values.get();
+        let size = counts.size();
         self.words.write_object(at, name, counts);
         write_remainder(&mut self.words, at.word() + size, filler.get() - size);
         self.first_tiles.put_front(at.word(), size, filler.get());

@@ -91,7 +91,9 @@ impl WeakStarts {
         requires { region * self.old.region_words + self.old.region_words ≤ length self.old.flags }
         ensures region_words { self.new.region_words ≡ self.old.region_words }
         ensures len { length self.new.flags ≡ length self.old.flags }
-        ensures flags { (a : ℕ) → has self.new.flags a ≡ (if is_between (region * self.old.region_words) (region * self.old.region_words + self.old.region_words) a then false else has self.old.flags a) }
+        ensures flags { (a : ℕ) → has self.new.flags a
+            ≡ (if is_between (region * self.old.region_words) (region * self.old.region_words + self.old.region_words) a then false
+            else has self.old.flags a) }
     {
         self.addresses.law();
         if self.regions.get(region) {

@@ -1,8 +1,8 @@
-//! Remembered sets: for each region, cards that may hold a pointer into it from another region.
+//! Remembered sets: for each region, cards that may hold a field, a pointer or a weak slot, that leads into it from another region.
 //!
-//! Refinement looks at a dirty card, and adds it to the set of each region that its pointers lead into. A pause that
-//! reclaims the region then looks at the cards of its set, and at no other region, for the pointers that it has to set
-//! anew; the region's set is cleared when it is freed.
+//! Refinement looks at a dirty card, and adds it to the set of each region that its fields lead into. A pause that reclaims the region
+//! then looks at the cards of its set, and at no other card outside, for the fields that it has to set anew; the region's set is cleared
+//! when it is freed.
 //!
 //! ```text
 //!   2 cards a region: cards 6 and 7 lie in region 3

@@ -1,4 +1,4 @@
-//! The remembered set of one region.
+//! One remembered set, that of one region: `RememberedSet`. `sets` has all of them.
 
 ghost use Rattle.std.specs.Prelude.{◌≡◌, ◌||◌, ◌<◌, ◌*◌, ◌/◌, ℕ, false, All, IfOk, Some, length, slice_get, slice_index_or};
 ghost use Rattle.heap_words.specs.Bits.{has};

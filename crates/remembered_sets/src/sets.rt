@@ -1,4 +1,4 @@
-//! The remembered sets of all regions.
+//! The remembered sets of all regions: `RememberedSets`, a `RememberedSet` of `set` for each.
 //!
 //! ```text
 //!   region      0     1            2     3
@@ -150,11 +150,13 @@ impl RememberedSets {
 /// What a set covers after a card is added: the card, all that it covered, and else nothing but cards of the card's own
 /// region, or the card alone where there was room inline. The other sets stay.
 pub fn add_law()
-    ensures covered { (s : Sets) (region card : ℕ) → AreSets s → region < length s.sets → card < card_count s → covers (added s region card) region card ≡ true }
+    ensures covered { (s : Sets) (region card : ℕ) → AreSets s → region < length s.sets → card < card_count s
+        → covers (added s region card) region card ≡ true }
     ensures grows { (s : Sets) (region card other c : ℕ) → region < length s.sets → covers s other c ≡ true → covers (added s region card) other c ≡ true }
     ensures only { (s : Sets) (region card c : ℕ) → region < length s.sets → covers (added s region card) region c ≡ true
         → (covers s region c ≡ true) ⊎ (c / s.cards_per_region ≡ card / s.cards_per_region) }
-    ensures only_the_card { (s : Sets) (region card c : ℕ) → region < length s.sets → length (set_of s region).inline < 16 → covers (added s region card) region c ≡ true
+    ensures only_the_card { (s : Sets) (region card c : ℕ) → region < length s.sets → length (set_of s region).inline < 16
+        → covers (added s region card) region c ≡ true
         → (covers s region c ≡ true) ⊎ (c ≡ card) }
     ensures others { (s : Sets) (region card other : ℕ) → other ≢ region → set_of (added s region card) other ≡ set_of s other }
 {}

@@ -6,7 +6,7 @@ use Rattle.std.proofs.lemmas.Grind.{get_or_default_zero}
 use Rattle.std.proofs.lemmas.List.{get_or-replicate, length-replicate}
 use Rattle.heap_model.specs.Graph.{Places, root_places, register_place}
 use Rattle.root_table.specs.Roots.{row_start, row_length, AreNil, IsNextNamed}
-use Rattle.root_table.specs.Bounds.{AreBounded}
+use Rattle.root_table.specs.Bounds.{AreBounded, AreStarts}
 
 -- a row ends where the next one starts
 pub row_end : (p : Places) (row : ℕ) → row_start p row + row_length p row ≡ row_start p (suc row)
@@ -178,3 +178,13 @@ register_kept p words used m k place n v b known inside at =
 -- a register's place is among the places
 pub register_within : (p : Places) (m k : ℕ) → m < p.mutators → k < p.registers → register_place p m k < root_places p
 register_within p m k known inside = let end = row_within p (suc m) (omega (arith, known)) in omega (arith, end, inside)
+
+-- ---- the starts of rows
+-- a start that was read
+pub start_read : (p : Places) (starts : List ℕ) (row x : ℕ) → AreStarts p starts → row < length starts → x ≡ get_or starts row x → x ≡ row_start p row
+start_read p starts row x s inside e = bound_read starts row x inside e ∙ s.each row (omega (arith, inside, s.rows))
+
+-- the same of a mutator's row, which the code writes as m + 1
+pub register_start : (p : Places) (starts : List ℕ) (m x : ℕ) → AreStarts p starts → m < p.mutators → x ≡ get_or starts (m + 1) x → x ≡ register_place p m 0
+register_start p starts m x s known e =
+    start_read p starts (suc m) x s (omega (arith, known, s.rows)) (subst (λ (row : ℕ). x ≡ get_or starts row x) (sym (one_more m)) e)

@@ -9,3 +9,8 @@ pub record AreBounded (p : Places) (words : List (Option ℕ)) (used : List ℕ)
   pub rows : length used ≡ p.mutators + 1
   pub within : (row : ℕ) → row ≤ p.mutators → slice_index used row ≤ row_length p row
   pub nil : (row : ℕ) → row ≤ p.mutators → AreNil words (row_start p row + slice_index used row) (row_start p row + row_length p row)
+
+-- where each row starts
+pub record AreStarts (p : Places) (starts : List ℕ) : Type 0 where
+  pub rows : length starts ≡ p.mutators + 1
+  pub each : (row : ℕ) → row ≤ p.mutators → slice_index starts row ≡ row_start p row

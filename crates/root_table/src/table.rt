@@ -3,6 +3,7 @@
 ghost use Rattle.std.specs.Prelude.{◌≡◌, ◌<◌, ◌≤◌, ◌+◌, ◌-◌, ◌*◌, ◌^◌, None, IfOk, IfSome, IsSome, length, MatchOption, replicate, slice_get, slice_index_or, slice_set};
 ghost use Rattle.heap_model.specs.Graph.{register_place, root_places, with_nils};
 ghost use Rattle.root_table.specs.Roots.{row_start, row_length, AreNil, IsNextNamed};
+ghost use Rattle.root_table.specs.Bounds.{AreStarts};
 
 use crate::places::Places;
 use heap_words::addr::Ptr;
@@ -13,19 +14,21 @@ use std::marker::Model;
 pub struct Roots {
     places: Places,
     words: Vec<Ptr>,
+    /// Where each row starts, so that a register's place is a look and a sum, and no product.
+    starts: Vec<usize>,
     /// For each row a number from which on its roots are nil.
     used: Vec<u32>,
 }
 
 impl Model for Roots {
     ghost use Rattle.root_table.specs.Roots.{RootTable};
-    ghost use Rattle.root_table.specs.Bounds.{AreBounded};
+    ghost use Rattle.root_table.specs.Bounds.{AreBounded, AreStarts};
 
     ghost Value = { RootTable };
 
     ghost view = { λ r. record { places = r.places; words = r.words.items } };
 
-    ghost invariant = { λ r. AreBounded r.places r.words.items r.used.items };
+    ghost invariant = { λ r. AreBounded r.places r.words.items r.used.items × AreStarts r.places r.starts.items };
 }
 
 /// Where it is let go there is one call, and not a drop for each of its parts.
@@ -34,6 +37,7 @@ impl Drop for Roots {
         let Roots {
             places: _,
             words: _,
+            starts: _,
             used: _,
         } = self;
     }
@@ -64,14 +68,27 @@ fn fill_nil(words: &mut [Ptr], first: usize, count: usize)
     }
 }
 
+/// Writes where each row starts.
+fn fill_starts(starts: &mut [usize], places: Places)
+    requires { length starts.old ≡ places.mutators + 1 }
+    ensures { AreStarts places starts.new }
+{
+    for row in 0..starts.len() {
+        starts[row] = places.start_of(row);
+    }
+}
+
 impl Roots {
     /// All roots nil.
     pub fn new(alloc: Global, places: Places) -> Result<Roots, AllocError>
         ensures { IfOk result (λ r. r ≡ record { places = places; words = replicate (root_places places) None }) }
     {
+        let mut starts = vec![in alloc; 0; places.mutators() as usize + 1]?;
+        fill_starts(&mut starts, places);
         Ok(Roots {
             places,
             words: vec![in alloc; None; places.count()]?,
+            starts,
             used: vec![in alloc; 0; places.mutators() as usize + 1]?,
         })
     }
@@ -92,6 +109,16 @@ impl Roots {
         self.words.as_slice()
     }
 
+    /// The place of a mutator's register.
+    #[inline(always)]
+    pub fn place_of(&self, mutator: u32, register: u32) -> usize
+        requires mutator { mutator < self.now.places.mutators }
+        requires register { register < self.now.places.registers }
+        ensures { result ≡ register_place self.now.places mutator register }
+    {
+        self.starts[mutator as usize + 1] + register as usize
+    }
+
     /// What a place holds.
     #[inline(always)]
     pub fn get(&self, place: usize) -> Ptr
@@ -108,7 +135,7 @@ impl Roots {
         requires register { register < self.old.places.registers }
         ensures { self.new ≡ record self.old { words = slice_set self.old.words (register_place self.old.places mutator register) value } }
     {
-        let place = self.places.register(mutator, register);
+        let place = self.place_of(mutator, register);
         self.words[place] = value;
         let row = mutator as usize + 1;
         if self.used[row] <= register {
@@ -146,9 +173,9 @@ impl Roots {
         if used <= register {
             return;
         }
-        let first = self.places.register(mutator, register);
-        fill_nil(&mut self.words, first, (used - register) as usize);
+        let first = self.place_of(mutator, register);
         self.used[row] = register;
+        fill_nil(&mut self.words, first, (used - register) as usize);
     }
 
     /// The lowest place from `from` on that doesn't hold nil. It looks at no place above its row's bound.
@@ -175,7 +202,7 @@ impl Roots {
         ensures small { IfSome result (λ place. place + 1 < 2 ^ 64) }
     {
         for row in first..self.used.len() {
-            let start = self.places.start_of(row);
+            let start = self.starts[row];
             let end = start + self.used[row] as usize;
             let Some(place) = first_named(&self.words, from.max(start), end) else {
                 continue;

@@ -1,8 +1,8 @@
 //! The deletion logs of marking from a snapshot.
 //!
-//! While marking runs, a store that overwrites a pointer first saves the old value in its mutator's log, so that
-//! what the snapshot reached is found even where its last pointer is gone. Marking takes a log when it is full, and
-//! all of them at its end.
+//! While marking runs, a store that overwrites a pointer first saves the old value in its mutator's log, so that what the snapshot
+//! reached is found even where its last pointer is gone. What is read from a weak slot is saved there too. Marking takes a log when it is
+//! full, and all of them at its end.
 //!
 //! ```text
 //!   mutator 0   | 16 40 16          |    log: an address enters at the end; "full" is answered with the eighth

@@ -111,10 +111,14 @@ impl DeletionLogs {
 /// What stands in all logs together: `log` adds the address and nothing else; what `drain` hands out and what is left
 /// in the logs was in them, and nothing else; where each log is empty, nothing is logged.
 pub fn logged_law()
-    ensures stays { (logs : List (List ℕ)) (mutator a b : ℕ) → mutator < length logs → Contains (logged logs) b → Contains (logged (slice_set logs mutator (log_of logs mutator ++ a ∷ []))) b }
-    ensures new { (logs : List (List ℕ)) (mutator a : ℕ) → mutator < length logs → Contains (logged (slice_set logs mutator (log_of logs mutator ++ a ∷ []))) a }
-    ensures only { (logs : List (List ℕ)) (mutator a b : ℕ) → Contains (logged (slice_set logs mutator (log_of logs mutator ++ a ∷ []))) b → Contains (logged logs) b ⊎ (b ≡ a) }
-    ensures drained { (logs : List (List ℕ)) (mutator b : ℕ) → Contains (logged logs) b → Contains (logged (slice_set logs mutator [])) b ⊎ Contains (log_of logs mutator) b }
+    ensures stays { (logs : List (List ℕ)) (mutator a b : ℕ) → mutator < length logs → Contains (logged logs) b
+        → Contains (logged (slice_set logs mutator (log_of logs mutator ++ a ∷ []))) b }
+    ensures new { (logs : List (List ℕ)) (mutator a : ℕ) → mutator < length logs
+        → Contains (logged (slice_set logs mutator (log_of logs mutator ++ a ∷ []))) a }
+    ensures only { (logs : List (List ℕ)) (mutator a b : ℕ) → Contains (logged (slice_set logs mutator (log_of logs mutator ++ a ∷ []))) b
+        → Contains (logged logs) b ⊎ (b ≡ a) }
+    ensures drained { (logs : List (List ℕ)) (mutator b : ℕ) → Contains (logged logs) b
+        → Contains (logged (slice_set logs mutator [])) b ⊎ Contains (log_of logs mutator) b }
     ensures rest { (logs : List (List ℕ)) (mutator b : ℕ) → Contains (logged (slice_set logs mutator [])) b → Contains (logged logs) b }
     ensures one { (logs : List (List ℕ)) (mutator b : ℕ) → Contains (log_of logs mutator) b → Contains (logged logs) b }
     ensures empty { (logs : List (List ℕ)) → ((mutator : ℕ) → mutator < length logs → log_of logs mutator ≡ []) → logged logs ≡ [] }

@@ -2,3 +2,4 @@
 pub mod Digits
 pub mod WriteLaws
 pub mod RecordLaws
+pub mod Counts

@@ -1,10 +1,11 @@
 -- Lines that are taken as they are written.
-use Rattle.std.specs.Prelude.{◌≡◌, ◌⊎◌, ◌<◌, ℕ, Bool, true, false, List, [], ◌∷◌, ◌++◌, Option, Some, None, Result, Ok, Err, ◌==◌, if◌then◌else◌, length}
+use Rattle.std.specs.Prelude.{◌≡◌, ◌⊎◌, ◌<◌, ℕ, Bool, true, false, List, [], ◌∷◌, ◌++◌, length}
+use Rattle.std.specs.Prelude.{Option, Some, None, Result, Ok, Err, ◌==◌, if◌then◌else◌}
 use Rattle.std.specs.Io.KnownBytes.{IsAtEnd}
 use Rattle.script_text.specs.Lines.{pieces_of}
 use Rattle.script_text.specs.Watched.{Reader, Gives, FailsToGive}
-use Rattle.script_text.specs.declared.awaited.NextFault.{NextFault}
-use Rattle.script_text.specs.declared.awaited.NextFault.TheVariants as nexts
+use Rattle.script_text.specs.declared.read.awaited.NextFault.{NextFault}
+use Rattle.script_text.specs.declared.read.awaited.NextFault.TheVariants as nexts
 use Rattle.script_text.specs.declared.fault.Kind.{Kind}
 use Rattle.script_text.specs.declared.fault.Kind.TheVariants as kinds
 
@@ -35,7 +36,9 @@ IsWrong read text kind =
 -- What the next line gave, where `read` says what a line gives. Bytes waited, the reader gave more behind them, and others wait after: what
 -- stands behind the line that was taken; at the end of input there is no whole line.
 abbrev pub IsNext : {A : Type 0} → (List ℕ → Result A Kind) → List ℕ → List ℕ → Reader → Reader → Result (Option A) NextFault → Type 0
-IsNext read waited waits given left (Ok (Some x)) = (more : List ℕ) × (line : List ℕ) × Gives given left more × Begins (waited ++ more) line waits × (read line ≡ Ok x)
+IsNext read waited waits given left (Ok (Some x)) =
+    (more : List ℕ) × (line : List ℕ) × Gives given left more × Begins (waited ++ more) line waits × (read line ≡ Ok x)
 IsNext read waited waits given left (Ok None) = (more : List ℕ) × Gives given left more × IsAtEnd left.left × IsUnended (waited ++ more)
-IsNext read waited waits given left (Err (nexts.Line kind)) = (more : List ℕ) × Gives given left more × (waits ≡ waited ++ more) × IsWrong read waits kind
+IsNext read waited waits given left (Err (nexts.Line kind)) =
+    (more : List ℕ) × Gives given left more × (waits ≡ waited ++ more) × IsWrong read waits kind
 IsNext read waited waits given left (Err (nexts.Read fault)) = FailsToGive fault given left

@@ -8,3 +8,5 @@ pub mod Events
 pub mod Faults
 pub mod Watched
 pub mod Awaited
+pub mod Counts
+pub mod Feeds

@@ -3,9 +3,12 @@
 ghost use Rattle.std.specs.Prelude.{◌≡◌, ◌≤◌, ◌+◌, ◌++◌, length, take};
 ghost use Rattle.script_text.specs.Faults.{kind_text, fault_text};
 
-use crate::bytes::{put_number, put_text};
+use crate::write::bytes::{put_number, put_text};
 use std::error::Error;
 use std::fmt;
+
+/// How often a reader or a writer is asked: one that is interrupted each time counts as refusing then.
+pub(crate) const MOST_TRIES: u64 = u64::MAX;
 
 /// What is wrong with a line. Lines are tested in this order, and the first kind that holds is named.
 #[derive(Clone, Copy, Debug, PartialEq, Eq)]

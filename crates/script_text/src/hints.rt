@@ -8,11 +8,11 @@ ghost use Rattle.std.specs.Prelude.{◌≡◌, ◌≤◌, ◌+◌, ◌-◌, ◌+
 ghost use Rattle.script_text.specs.Lines.{pieces_of};
 ghost use Rattle.script_text.specs.Faults.{shown_byte, shown, fault_reason, PutsHint};
 
-use crate::bytes::{put_byte, put_number, put_text};
-use crate::events::actor;
 use crate::fault::{Kind, LineFault};
-use crate::script::heap_line;
-use crate::words::{global, is_word, number, register, small_number, split_line};
+use crate::read::events::actor;
+use crate::read::script::heap_line;
+use crate::read::words::{global, is_word, number, register, small_number, split_line};
+use crate::write::bytes::{put_byte, put_number, put_text};
 use heap_steps::Actor;
 use heap_words::config::{Config, Format};
 
@@ -397,7 +397,8 @@ fn put_shown(buffer: &mut [u8], at: usize, line: &[u8]) -> usize
 /// ```
 pub fn put_fault_reason(buffer: &mut [u8], text: &[u8], fault: LineFault) -> usize
     requires { length buffer.old ≡ REASON_ROOM }
-    ensures put { (line : List ℕ) → slice_get (pieces_of text.now) (fault.line - 1) ≡ Some line → (hint : List ℕ) × (take result buffer.new ≡ fault_reason fault line hint) }
+    ensures put { (line : List ℕ) → slice_get (pieces_of text.now) (fault.line - 1) ≡ Some line →
+        (hint : List ℕ) × (take result buffer.new ≡ fault_reason fault line hint) }
     ensures end { result ≤ REASON_ROOM }
 {
     let rest = behind(text, fault.line);

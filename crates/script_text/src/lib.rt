@@ -20,6 +20,8 @@
 //! - `put_text`, `put_number`, `put_event_text`, `put_reply`, `put_fault` and `write_bytes` are for other lines of a program: they put texts
 //!   into a buffer, and write bytes in their order.
 //!
+//! The modules of `read` make values of texts, those of `write` texts of values. Faults, what a line lacks and the laws are shared.
+//!
 //! Examples of calls go on from this one, in which `rt` is a test's `HostRuntime` and `alloc` its allocator:
 //!
 //! ```rust
@@ -31,37 +33,27 @@
 //! ```
 #![tactic(auto)]
 
-mod awaited;
-mod bytes;
-mod events;
 mod fault;
 mod hints;
-mod input;
 mod laws;
-mod lines;
-mod records;
-mod replies;
-mod script;
-mod steps;
+mod read;
 #[cfg(test)]
 mod tests;
-mod watched;
-mod words;
-mod writing;
-mod written;
+mod write;
 
-pub use awaited::{LineBuffer, NextFault};
-pub use bytes::{put_number, put_text};
 pub use fault::{Kind, LineFault, ReadFault, WriteFault, put_fault};
 pub use hints::{REASON_ROOM, put_fault_reason};
-pub use input::read_text;
 pub use laws::{
     action_is_read, read_is_spelled, read_record_is_spelled, reply_is_read, spelled_is_read,
     spelled_record_is_read,
 };
-pub use lines::{put_event_text, put_reply};
-pub use records::parse_record;
-pub use script::parse;
-pub use watched::{WatchedReader, WatchedWriter};
-pub use writing::{write_bytes, write_record};
-pub use written::written_record_is_read;
+pub use read::awaited::{LineBuffer, NextFault};
+pub use read::input::read_text;
+pub use read::records::parse_record;
+pub use read::script::parse;
+pub use read::watched::WatchedReader;
+pub use write::bytes::{put_number, put_text};
+pub use write::lines::{put_event_text, put_reply};
+pub use write::watched::WatchedWriter;
+pub use write::writing::{write_bytes, write_record};
+pub use write::written::written_record_is_read;

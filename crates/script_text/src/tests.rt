@@ -249,7 +249,10 @@ const RECORDS: [(&str, usize); 11] = [
     ),
     ("heap 4 16 8 1 0\n1 0 drop r0 = nil\n", 1),
     (
-        "heap 4 16 8 1 0\n1 0 newweak r0 0 1 0 = #0\n2 0 new r1 0 1 = #1\n3 0 putweak r0 0 r1 = ok\n4 0 drop r1 = ok\n5 gc begin = ok\n6 gc remark = marked 1\n7 0 getweak r1 r0 0 = nil\n8 0 putweak r0 1 nil = refused 2 NoField\n9 0 weaks r0 = 1\n10 0 newweak r7 4294967295 255 4294967295 = refused 4 TooBig\n",
+        "heap 4 16 8 1 0\n1 0 newweak r0 0 1 0 = #0\n2 0 new r1 0 1 = #1\n3 0 putweak r0 0 r1 = ok\n4 0 drop r1 = ok\n\
+         5 gc begin = ok\n6 gc remark = marked 1\n7 0 getweak r1 r0 0 = nil\n\
+         8 0 putweak r0 1 nil = refused 2 NoField\n9 0 weaks r0 = 1\n\
+         10 0 newweak r7 4294967295 255 4294967295 = refused 4 TooBig\n",
         10,
     ),
     (
@@ -261,15 +264,22 @@ const RECORDS: [(&str, usize); 11] = [
         4,
     ),
     (
-        "heap 4 16 8 1 18446744073709551614\n1 0 new r7 0 0 = #18446744073709551614\n2 0 new r7 0 0 = refused 5 NamesSpent\n3 0 new r7 31 32 = refused 4 TooBig\n4 0 put r7 0 nil = refused 2 NoField\n5 0 read r7 0 = 18446744073709551615\n",
+        "heap 4 16 8 1 18446744073709551614\n1 0 new r7 0 0 = #18446744073709551614\n\
+         2 0 new r7 0 0 = refused 5 NamesSpent\n3 0 new r7 31 32 = refused 4 TooBig\n\
+         4 0 put r7 0 nil = refused 2 NoField\n5 0 read r7 0 = 18446744073709551615\n",
         5,
     ),
     (
-        "heap 6 16 4 1 0\n1 0 new r0 1 0 = #0\n2 0 new r1 0 1 = #1\n3 0 write r1 0 5 = ok\n4 0 put r0 0 r1 = ok\n5 0 drop r1 = ok\n6 gc begin = ok\n7 0 new r1 2 2 = #2\n8 0 new r2 2 2 = #3\n9 0 new r3 2 2 = #4\n10 0 new r4 2 2 = #5\n11 0 get r5 r0 0 = #1\n12 0 put r4 0 r5 = ok\n13 0 put r0 0 nil = ok\n14 0 drop r5 = ok\n15 0 drop r3 = ok\n16 gc pause 100 = moved 2 12\n17 gc refine 5 = refined 1\n18 gc mark 10 = ok\n19 gc remark = marked 2\n20 0 get r6 r4 0 = #1\n21 0 read r6 0 = 5\n",
+        "heap 6 16 4 1 0\n1 0 new r0 1 0 = #0\n2 0 new r1 0 1 = #1\n3 0 write r1 0 5 = ok\n4 0 put r0 0 r1 = ok\n\
+         5 0 drop r1 = ok\n6 gc begin = ok\n7 0 new r1 2 2 = #2\n8 0 new r2 2 2 = #3\n9 0 new r3 2 2 = #4\n\
+         10 0 new r4 2 2 = #5\n11 0 get r5 r0 0 = #1\n12 0 put r4 0 r5 = ok\n13 0 put r0 0 nil = ok\n\
+         14 0 drop r5 = ok\n15 0 drop r3 = ok\n16 gc pause 100 = moved 2 12\n17 gc refine 5 = refined 1\n\
+         18 gc mark 10 = ok\n19 gc remark = marked 2\n20 0 get r6 r4 0 = #1\n21 0 read r6 0 = 5\n",
         21,
     ),
     (
-        "heap3 4 16 8 1 0 8 65536 65536\n1 0 new r65535 0 1 = #0\n2 0 save g65535 r65535 = ok\n3 0 scope r9 = ok\n4 0 load r10 g65535 = #0\n5 0 write r10 0 7 = ok\n",
+        "heap3 4 16 8 1 0 8 65536 65536\n1 0 new r65535 0 1 = #0\n2 0 save g65535 r65535 = ok\n3 0 scope r9 = ok\n\
+         4 0 load r10 g65535 = #0\n5 0 write r10 0 7 = ok\n",
         5,
     ),
 ];

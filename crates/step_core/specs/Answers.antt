@@ -30,8 +30,10 @@ HasNoPlace c m size = place_of c.table c.buffers m size ≡ None
 
 -- the graph creates an object, and the heap has no place for it
 abbrev pub IsFull : Graph → ℕ → Action → CoreState → Type 0
-IsFull g m (actions.New to counts) c = ((act g m (actions.New to counts)).0 ≡ replies.Named (Some (next_name g))) × HasNoPlace c m (size_of counts.pointers 0 counts.values)
-IsFull g m (actions.NewWeak to counts weaks) c = ((act g m (actions.NewWeak to counts weaks)).0 ≡ replies.Named (Some (next_name g))) × HasNoPlace c m (size_of counts.pointers weaks counts.values)
+IsFull g m (actions.New to counts) c = ((act g m (actions.New to counts)).0 ≡ replies.Named (Some (next_name g)))
+    × HasNoPlace c m (size_of counts.pointers 0 counts.values)
+IsFull g m (actions.NewWeak to counts weaks) c = ((act g m (actions.NewWeak to counts weaks)).0 ≡ replies.Named (Some (next_name g)))
+    × HasNoPlace c m (size_of counts.pointers weaks counts.values)
 IsFull g m _ c = ⊥
 
 -- the same of a step: the collector creates nothing

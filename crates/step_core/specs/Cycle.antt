@@ -114,7 +114,8 @@ pub record IsAsBefore (c c' : CoreState) (k : ℕ) : Type 0 where
   pub set : set_of c'.sets k ≡ set_of c.sets k
   pub previous_top : slice_index c'.marker.tams.previous k ≡ slice_index c.marker.tams.previous k
   pub next_top : slice_index c'.marker.tams.next k ≡ slice_index c.marker.tams.next k
-  pub previous_marks : (a : ℕ) → is_in_region c.table.words_per_region k a ≡ true → is_marked c'.marker.bitmaps.previous a ≡ is_marked c.marker.bitmaps.previous a
+  pub previous_marks : (a : ℕ) → is_in_region c.table.words_per_region k a ≡ true
+      → is_marked c'.marker.bitmaps.previous a ≡ is_marked c.marker.bitmaps.previous a
   pub next_marks : (a : ℕ) → is_in_region c.table.words_per_region k a ≡ true → is_marked c'.marker.bitmaps.next a ≡ is_marked c.marker.bitmaps.next a
 
 -- regions change, with their sets, tops and marks, and else nothing does; and what is kept stays

@@ -10,6 +10,7 @@ use Rattle.heap_steps.specs.declared.step.Reply.TheVariants as replies
 use Rattle.heap_steps.specs.declared.step.Refusal.TheVariants as refusals
 use Rattle.cards.specs.Cards.{ListsDirtyOnce}
 use Rattle.heap_steps.specs.Actors.{StepList, EventList}
+pub use Rattle.heap_steps.specs.Actors.{step_in}
 use Rattle.object_graph.specs.Run.{IsRun}
 use Rattle.object_graph.specs.State.{State, first_state}
 use Rattle.step_core.specs.Stands.{CoreState, Stands, IsCore, IsWhole}
@@ -17,8 +18,8 @@ use Rattle.step_core.specs.Fresh.{fresh_core}
 use Rattle.step_core.specs.Answers.{Follows, IsFullStep}
 use Rattle.step_core.specs.Cycle.{Does}
 
--- An event takes a core that stands for a state to the next. The reply is Full exactly where there is no place; the next core
--- keeps what every core keeps, its dirty cards are listed once, and every object that a root reaches stands, whole and once, in regions in use
+-- An event takes a core that stands for a state to the next. The reply is Full exactly where there is no place; the next core keeps what
+-- every core keeps, its dirty cards are listed once, and every object that a root reaches stands, whole and once, in regions in use
 pub record Passes (s : State) (c : CoreState) (e : Event) (c' : CoreState) : Type 0 where
   pub follows : Follows s e.step e.reply c'
   pub does : Does e.step e.reply c c'
@@ -47,9 +48,6 @@ pub record RunsTo (config : Config) (es : List Event) (c : CoreState) : Type 0 w
 -- the same, up to some core
 abbrev pub RunsFromNew : Config → List Event → Type 0
 RunsFromNew config es = (last : CoreState) × RunsTo config es last
-
-abbrev pub step_in : Event → Step
-step_in e = e.step
 
 abbrev pub actor_in : Event → Actor
 actor_in e = e.actor

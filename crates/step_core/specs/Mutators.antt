@@ -57,7 +57,8 @@ with_nil_words c first count = record c { roots = with_nils c.roots first count 
 -- the cards once a value is stored in a field's word: the word's card is dirty if it leads into another region than the word's
 abbrev pub noted : CoreState → ℕ → ℕ → Option ℕ → Cards
 noted c m word None = c.cards
-noted c m word (Some target) = if target / c.table.words_per_region == word / c.table.words_per_region then c.cards else dirtied c.cards m (word / card_words c.config)
+noted c m word (Some target) =
+    if target / c.table.words_per_region == word / c.table.words_per_region then c.cards else dirtied c.cards m (word / card_words c.config)
 
 -- the core with a pointer of an object changed
 abbrev pub with_pointer : CoreState → ℕ → ℕ → ℕ → Option ℕ → CoreState
@@ -79,7 +80,8 @@ with_made c place counts weaks (Some x) = record c {
 
 -- the core once an object is made
 abbrev pub after_new : CoreState → ℕ → Register → Counts → ℕ → CoreState
-after_new c m to counts weaks = with_made c (register_place (places_of c.config) m to.number) counts weaks (place_of c.table c.buffers m (size_of counts.pointers weaks counts.values))
+after_new c m to counts weaks =
+    with_made c (register_place (places_of c.config) m to.number) counts weaks (place_of c.table c.buffers m (size_of counts.pointers weaks counts.values))
 
 -- how many weak slots the object that an action makes has
 abbrev pub weaks_made : Action → ℕ

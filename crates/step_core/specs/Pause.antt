@@ -63,13 +63,18 @@ pub record IsChosen (t : Table) (tams : Tops) (previous : List Bool) (running : 
   pub candidates : AreCandidates t tams previous running (length t.regions) rows
   pub sorted : IsSorted row_cmp rows
   pub front : chosen ≡ take (length chosen) rows
-  pub next : (row : LiveRow) → slice_get rows (length chosen) ≡ Some row → copy_limit t.words_per_region budget (count_by is_free t.regions) < live_sum chosen + row.live_bound
+  pub next : (row : LiveRow) → slice_get rows (length chosen) ≡ Some row
+      → copy_limit t.words_per_region budget (count_by is_free t.regions) < live_sum chosen + row.live_bound
   pub best : IsBestWithin t.words_per_region (copy_limit t.words_per_region budget (count_by is_free t.regions)) rows chosen
 
 -- No buffer is open and no region current. Every listed card is refined: no card is dirty, and the sets gained what these cards lead into.
 -- Nothing else changed
 pub record IsReady (c c' : CoreState) : Type 0 where
-  pub same : c' ≡ record c { buffers = closed c.buffers.words (length c.buffers.open_buffers); cards = clean_cards (length c.cards.dirty) (length c.cards.logs); sets = c'.sets }
+  pub same : c' ≡ record c {
+    buffers = closed c.buffers.words (length c.buffers.open_buffers);
+    cards = clean_cards (length c.cards.dirty) (length c.cards.logs);
+    sets = c'.sets;
+  }
   pub sets : GainsCards (flushed c.cards).queue c c'
 
 -- an object of this name is reached in the set: from a root, or from a field of an object outside the set, by fields within it
@@ -99,7 +104,15 @@ pub record AreCopiedNames (g : Graph) (set : ℕ → Bool) (h : Heap) (w : ℕ) 
 
 -- the layers of a core that evacuation works on
 abbrev pub layers_of : CoreState → Layers
-layers_of c = record { table = c.table; tams = c.marker.tams; previous = c.marker.bitmaps.previous; next = c.marker.bitmaps.next; cards = c.cards; sets = c.sets; roots = c.roots }
+layers_of c = record {
+  table = c.table;
+  tams = c.marker.tams;
+  previous = c.marker.bitmaps.previous;
+  next = c.marker.bitmaps.next;
+  cards = c.cards;
+  sets = c.sets;
+  roots = c.roots;
+}
 
 -- The chosen regions, n of them, are the best within the limit, and are reclaimed, and no others. What is reached in them, w words, at most
 -- the budget, is evacuated from the core that was made ready, and nothing else of it changes

@@ -9,7 +9,8 @@ use Rattle.step_core.specs.Stands.{CoreState, kept_of}
 pub record GainsCards (cards : List ℕ) (c c' : CoreState) : Type 0 where
   pub stays : (region card : ℕ) → covers c.sets region card ≡ true → covers c'.sets region card ≡ true
   pub only : (region card : ℕ) → covers c'.sets region card ≡ true → (covers c.sets region card ≡ true)
-      ⊎ ((x : ℕ) × Contains cards x × LeadsInto c.table.words_per_region (kept_of c) (card_words c.config) x region × (card / c.sets.cards_per_region ≡ x / c.sets.cards_per_region))
+      ⊎ ((x : ℕ) × Contains cards x × LeadsInto c.table.words_per_region (kept_of c) (card_words c.config) x region
+      × (card / c.sets.cards_per_region ≡ x / c.sets.cards_per_region))
 
 -- the card was the queue's front, and isn't in it now
 pub record HasTaken (card : ℕ) (c c' : CoreState) : Type 0 where

@@ -107,7 +107,8 @@ pub record IsWhole (g : Graph) (c : CoreState) : Type 0 where
 
 -- no object of an ordinary region that starts below the region's top at mark start reaches over it
 abbrev pub EndsBelow : Table → List ℕ → Type 0
-EndsBelow t tops = (k a : ℕ) → kind_of t k ≡ kinds.Ordinary → is_in_region t.words_per_region k a ≡ true → a < slice_index tops k → a + object_words t a ≤ slice_index tops k
+EndsBelow t tops = (k a : ℕ) → kind_of t k ≡ kinds.Ordinary → is_in_region t.words_per_region k a ≡ true → a < slice_index tops k
+    → a + object_words t a ≤ slice_index tops k
 
 -- The layers below fit one another: they have the sizes of the configuration, open buffers are fillers of the table,
 -- nothing has moved, what is still to be handed out lies at or above both tops at mark start, and no deletion log is full. Objects

@@ -58,7 +58,7 @@ impl Core {
             return;
         };
         self.table.law();
-        let word = object.word() + 2 + field;
+        let word = object.field(field) as u32;
         if self.table.leads_out(word, *to) {
             let card = quotient(word, self.config.card_words());
             self.cards.dirty(mutator, Card::new(card));
@@ -72,7 +72,8 @@ impl Core {
         requires rooted { IsRoot (heap_of self.old) object }
         requires field { field < length (pointers_at self.old.table object) }
         requires held { IsHeld (heap_of self.old) target }
-        ensures shows { (g : Graph) (x : Stored) (o : Object) (v : Option ℕ) → ShowsGraph g self.old → kept_of self.old object ≡ Some x → object_named g x.name ≡ Some o
+        ensures shows { (g : Graph) (x : Stored) (o : Object) (v : Option ℕ) → ShowsGraph g self.old → kept_of self.old object ≡ Some x
+            → object_named g x.name ≡ Some o
             → IsShown (heap_of self.old) target v → ShowsGraph (with_changed g x.name (record o { pointers = slice_set o.pointers field v })) self.new }
         ensures keeps { (s : Graph) → KeepsFrom s self.old → KeepsFrom s self.new }
         ensures core { self.new ≡ record (with_pointer self.old mutator object field target) { marker = self.new.marker } }
@@ -91,7 +92,8 @@ impl Core {
         requires field { field < length (pointers_at self.old.table object) }
         requires held { IsHeld (heap_of self.old) target }
         requires noted { IsNoted self.old.table.words_per_region (card_words self.old.config) (is_dirty self.old.cards) (field_word object field) target }
-        ensures shows { (g : Graph) (x : Stored) (o : Object) (v : Option ℕ) → ShowsGraph g self.old → kept_of self.old object ≡ Some x → object_named g x.name ≡ Some o
+        ensures shows { (g : Graph) (x : Stored) (o : Object) (v : Option ℕ) → ShowsGraph g self.old → kept_of self.old object ≡ Some x
+            → object_named g x.name ≡ Some o
             → IsShown (heap_of self.old) target v → ShowsGraph (with_changed g x.name (record o { pointers = slice_set o.pointers field v })) self.new }
         ensures keeps { (s : Graph) → KeepsFrom s self.old → KeepsFrom s self.new }
         ensures core { self.new ≡ record self.old { table = set_pointer self.old.table object field target; marker = self.new.marker } }
@@ -116,7 +118,8 @@ impl Core {
         requires rooted { IsRoot (heap_of self.old) object }
         requires slot { slot < length (weaks_at self.old.table object) }
         requires word { IsWordOf (heap_of self.old) target }
-        ensures shows { (g : Graph) (x : Stored) (o : Object) (v : Option ℕ) → ShowsGraph g self.old → kept_of self.old object ≡ Some x → object_named g x.name ≡ Some o
+        ensures shows { (g : Graph) (x : Stored) (o : Object) (v : Option ℕ) → ShowsGraph g self.old → kept_of self.old object ≡ Some x
+            → object_named g x.name ≡ Some o
             → IsShown (heap_of self.old) target v → ShowsGraph (with_changed g x.name (record o { weaks = slice_set o.weaks slot v })) self.new }
         ensures keeps { (s : Graph) → KeepsFrom s self.old → KeepsFrom s self.new }
         ensures after { self.new ≡ with_weak self.old mutator object slot target }
@@ -133,8 +136,10 @@ impl Core {
         requires rooted { IsRoot (heap_of self.old) object }
         requires slot { slot < length (weaks_at self.old.table object) }
         requires word { IsWordOf (heap_of self.old) target }
-        requires noted { IsNoted self.old.table.words_per_region (card_words self.old.config) (is_dirty self.old.cards) (field_word object (weak_field self.old object slot)) target }
-        ensures shows { (g : Graph) (x : Stored) (o : Object) (v : Option ℕ) → ShowsGraph g self.old → kept_of self.old object ≡ Some x → object_named g x.name ≡ Some o
+        requires noted { IsNoted self.old.table.words_per_region (card_words self.old.config) (is_dirty self.old.cards)
+            (field_word object (weak_field self.old object slot)) target }
+        ensures shows { (g : Graph) (x : Stored) (o : Object) (v : Option ℕ) → ShowsGraph g self.old → kept_of self.old object ≡ Some x
+            → object_named g x.name ≡ Some o
             → IsShown (heap_of self.old) target v → ShowsGraph (with_changed g x.name (record o { weaks = slice_set o.weaks slot v })) self.new }
         ensures keeps { (s : Graph) → KeepsFrom s self.old → KeepsFrom s self.new }
         ensures after { self.new ≡ record self.old { table = set_weak self.old.table object slot target } }
@@ -148,9 +153,12 @@ impl Core {
         requires known { mutator < self.old.config.mutators }
         requires to { IsRegister (places_of self.old.config) to }
         requires word { IsWordOf (heap_of self.old) value.now }
-        ensures shows { (g : Graph) (v : Option ℕ) → ShowsGraph g self.old → IsShown (heap_of self.old) value.now v → ShowsGraph (with_root g (register_place g.places mutator to.number) v) self.new }
-        ensures keeps { (s g : Graph) (v : Option ℕ) → ShowsGraph g self.old → KeepsUnreached s g → IsShown (heap_of self.old) value.now v → KeepsFrom s self.old → KeepsFrom (touched s v) self.new }
-        ensures core { self.new ≡ record (with_root_word self.old (register_place (places_of self.old.config) mutator to.number) value.now) { marker = self.new.marker } }
+        ensures shows { (g : Graph) (v : Option ℕ) → ShowsGraph g self.old → IsShown (heap_of self.old) value.now v
+            → ShowsGraph (with_root g (register_place g.places mutator to.number) v) self.new }
+        ensures keeps { (s g : Graph) (v : Option ℕ) → ShowsGraph g self.old → KeepsUnreached s g → IsShown (heap_of self.old) value.now v
+            → KeepsFrom s self.old → KeepsFrom (touched s v) self.new }
+        ensures core { self.new ≡ record (with_root_word self.old (register_place (places_of self.old.config) mutator to.number) value.now)
+            { marker = self.new.marker } }
         ensures marker { Overwrites self.old.marker.running self.old.table mutator value.now self.old.marker self.new.marker }
         ensures leaves { LeavesRegions self.old self.new }
     {

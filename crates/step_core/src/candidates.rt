@@ -86,7 +86,8 @@ fn choose_rows(rows: &mut Vec<LiveRow>, words: u32, budget: u32, free: u32) -> u
     ensures len { length rows.new.items ≡ length rows.old.items }
     ensures sorted { IsSorted row_cmp rows.new.items }
     ensures count { result ≤ length rows.new.items }
-    ensures next { (row : LiveRow) → slice_get rows.new.items result ≡ Some row → copy_limit words budget free < live_sum (take result rows.new.items) + row.live_bound }
+    ensures next { (row : LiveRow) → slice_get rows.new.items result ≡ Some row
+        → copy_limit words budget free < live_sum (take result rows.new.items) + row.live_bound }
     ensures best { IsBestWithin words (copy_limit words budget free) rows.old.items (take result rows.new.items) }
     ensures room { vec_capacity rows.new ≡ vec_capacity rows.old }
 {

@@ -49,9 +49,33 @@ impl Model for Core {
 
     ghost Value = { CoreState };
 
-    ghost view = { λ c. record { config = c.config; table = c.table; buffers = c.buffers; marker = c.marker; cards = c.cards; sets = c.sets; room = c.room; row_room = vec_capacity c.rows; places = c.roots.places; roots = c.roots.words; next = c.next } };
+    ghost view = { λ c. record {
+      config = c.config;
+      table = c.table;
+      buffers = c.buffers;
+      marker = c.marker;
+      cards = c.cards;
+      sets = c.sets;
+      room = c.room;
+      row_room = vec_capacity c.rows;
+      places = c.roots.places;
+      roots = c.roots.words;
+      next = c.next;
+    } };
 
-    ghost invariant = { λ c. IsCore (record { config = c.config; table = c.table; buffers = c.buffers; marker = c.marker; cards = c.cards; sets = c.sets; room = c.room; row_room = vec_capacity c.rows; places = c.roots.places; roots = c.roots.words; next = c.next }) };
+    ghost invariant = { λ c. IsCore (record {
+      config = c.config;
+      table = c.table;
+      buffers = c.buffers;
+      marker = c.marker;
+      cards = c.cards;
+      sets = c.sets;
+      room = c.room;
+      row_room = vec_capacity c.rows;
+      places = c.roots.places;
+      roots = c.roots.words;
+      next = c.next;
+    }) };
 }
 
 /// Where a core is let go there is one call, and not a drop for each part of each layer.
@@ -207,7 +231,8 @@ impl Core {
         requires global { IsGlobal (places_of self.old.config) global }
         requires word { IsWordOf (heap_of self.old) value }
         requires held { IsHeld (heap_of self.old) value }
-        ensures shows { (g : Graph) (v : Option ℕ) → ShowsGraph g self.old → IsShown (heap_of self.old) value v → ShowsGraph (with_root g global.number v) self.new }
+        ensures shows { (g : Graph) (v : Option ℕ) → ShowsGraph g self.old → IsShown (heap_of self.old) value v
+            → ShowsGraph (with_root g global.number v) self.new }
         ensures keeps { (s : Graph) → KeepsFrom s self.old → KeepsFrom s self.new }
         ensures after { self.new ≡ with_root_word self.old global.number value }
         ensures leaves { LeavesRegions self.old self.new }
@@ -225,7 +250,7 @@ impl Core {
         ensures leads { Leads self.now (register_place (places_of self.now.config) mutator register.number) result }
         ensures shows { (g : Graph) → ShowsGraph g self.now → IsShown (heap_of self.now) result (root_at g (register_place g.places mutator register.number)) }
     {
-        let place = self.roots.places().register(mutator, register.number);
+        let place = self.roots.place_of(mutator, register.number);
         self.root(place)
     }
 
@@ -234,7 +259,8 @@ impl Core {
         requires register { IsRegister (places_of self.old.config) register }
         requires word { IsWordOf (heap_of self.old) value }
         requires held { IsHeld (heap_of self.old) value }
-        ensures shows { (g : Graph) (v : Option ℕ) → ShowsGraph g self.old → IsShown (heap_of self.old) value v → ShowsGraph (with_root g (register_place g.places mutator register.number) v) self.new }
+        ensures shows { (g : Graph) (v : Option ℕ) → ShowsGraph g self.old → IsShown (heap_of self.old) value v
+            → ShowsGraph (with_root g (register_place g.places mutator register.number) v) self.new }
         ensures keeps { (s : Graph) → KeepsFrom s self.old → KeepsFrom s self.new }
         ensures after { self.new ≡ with_root_word self.old (register_place (places_of self.old.config) mutator register.number) value }
         ensures leaves { LeavesRegions self.old self.new }
@@ -246,9 +272,11 @@ impl Core {
     pub(crate) fn leave(&mut self, mutator: u32, from: Register)
         requires mutator { mutator < self.old.config.mutators }
         requires from { IsRegister (places_of self.old.config) from }
-        ensures shows { (g : Graph) → ShowsGraph g self.old → ShowsGraph (with_nil_roots g (register_place g.places mutator from.number) (g.places.registers - from.number)) self.new }
+        ensures shows { (g : Graph) → ShowsGraph g self.old
+            → ShowsGraph (with_nil_roots g (register_place g.places mutator from.number) (g.places.registers - from.number)) self.new }
         ensures keeps { (s : Graph) → KeepsFrom s self.old → KeepsFrom s self.new }
-        ensures after { self.new ≡ with_nil_words self.old (register_place (places_of self.old.config) mutator from.number) (registers_of self.old.config - from.number) }
+        ensures after { self.new ≡ with_nil_words self.old (register_place (places_of self.old.config) mutator from.number)
+            (registers_of self.old.config - from.number) }
         ensures leaves { LeavesRegions self.old self.new }
     {
         self.roots.leave(mutator, from.number);
@@ -273,7 +301,8 @@ impl Core {
         requires word { IsWordOf (heap_of self.old) value }
         requires held { IsHeld (heap_of self.old) value }
         ensures name { result ≡ name_in self.old.table value }
-        ensures shows { (g : Graph) (v : Option ℕ) → ShowsGraph g self.old → IsShown (heap_of self.old) value v → ShowsGraph (with_root g (register_place g.places mutator register.number) v) self.new }
+        ensures shows { (g : Graph) (v : Option ℕ) → ShowsGraph g self.old → IsShown (heap_of self.old) value v
+            → ShowsGraph (with_root g (register_place g.places mutator register.number) v) self.new }
         ensures keeps { (s : Graph) → KeepsFrom s self.old → KeepsFrom s self.new }
         ensures after { self.new ≡ with_root_word self.old (register_place (places_of self.old.config) mutator register.number) value }
         ensures leaves { LeavesRegions self.old self.new }

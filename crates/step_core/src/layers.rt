@@ -95,7 +95,8 @@ fn new_remembering(alloc: Global, config: &Config) -> Result<Remembering, AllocE
 /// Room for a pause over every region and every card.
 fn new_pausing(alloc: Global, config: &Config) -> Result<Pausing, AllocError>
     requires { Suits config.now }
-    ensures room { IfOk result (λ p. p.room ≡ record { regions = config.now.regions; cards = config.now.regions * (config.now.words / card_words config.now) }) }
+    ensures room { IfOk result (λ p. p.room
+        ≡ record { regions = config.now.regions; cards = config.now.regions * (config.now.words / card_words config.now) }) }
     ensures rows { IfOk result (λ p. vec_capacity p.rows ≡ config.now.regions) }
 {
     let cards_per_region = config.words / config.card_words();
@@ -113,7 +114,8 @@ pub(crate) fn new_collecting(alloc: Global, config: &Config) -> Result<Collectin
     ensures logs { IfOk result (λ c. c.marker.logs ≡ replicate config.now.mutators []) }
     ensures cards { IfOk result (λ c. c.remembering.cards ≡ clean_cards (config.now.regions * (config.now.words / card_words config.now)) config.now.mutators) }
     ensures sets { IfOk result (λ c. c.remembering.sets ≡ empty_sets config.now.regions (config.now.words / card_words config.now)) }
-    ensures room { IfOk result (λ c. c.pausing.room ≡ record { regions = config.now.regions; cards = config.now.regions * (config.now.words / card_words config.now) }) }
+    ensures room { IfOk result (λ c. c.pausing.room
+        ≡ record { regions = config.now.regions; cards = config.now.regions * (config.now.words / card_words config.now) }) }
     ensures rows { IfOk result (λ c. vec_capacity c.pausing.rows ≡ config.now.regions) }
 {
     let marker = Marker::new(alloc, config)?;

@@ -1,10 +1,10 @@
 //! The heap as a whole: its steps one by one, and a run of a list of them.
 //!
-//! A `Core` is the table of regions, the allocation buffers, the marker, the dirty cards, the remembered sets, the roots and
-//! the name of the next object. It stands for a state: a graph of objects by name, and while marking runs a snapshot, the graph when marking
-//! began, in which each name that a mutator read from a weak slot since then counts as a root. Its heap shows the graph: each root word is
-//! nil or the start of the object that the graph's root names, and each object has the graph's contents. And whatever is reachable in the
-//! snapshot is marked or will be. A new core stands for the first state, and after each step it stands for a state.
+//! A `Core` is the table of regions, the allocation buffers, the marker, the dirty cards, the remembered sets, the roots and the name of
+//! the next object. It stands for a state: a graph of objects by name, and while marking runs a snapshot, the graph when marking began, in
+//! which each name that a mutator read from a weak slot since then counts as a root. Its heap shows the graph: each root word is nil or the
+//! start of the object that the graph's root names, and each object has the graph's contents. And whatever is reachable in the snapshot is
+//! marked or will be. A new core stands for the first state, and after each step it stands for a state.
 //!
 //! ```text
 //!   snapshot  -                     -                   g1                      g1
@@ -13,19 +13,19 @@
 //!   core      c0 -----------------> c1 ---------------> c2 -------------------> c3     each core stands for its state
 //! ```
 //!
-//! What is promised, for every state that the core stands for: a step's reply is one that the graph gives, and
-//! the core stands for the state after it; or the reply is Full and nothing changed, exactly where the graph
-//! creates an object and the heap has no place for it. A `remark` clears the weak slots that hold what neither the snapshot reaches nor was
-//! made since, and no such name is reachable then. What each step does to each part of the core is
-//! said too (`Does`), of a mutator's step exactly, and a refused step leaves it as it was: regions
-//! are reclaimed by `cleanup`, those that hold nothing live, and by `pause`, those that it evacuates. Cross-region fields are remembered at
-//! every moment: the card of each field that leads into another region is dirty, or that region's set covers it. No step takes memory. `run`
-//! does a list of steps in a new heap; after each of them every object that a root reaches stands, whole and once, in regions in use.
+//! What is promised, for every state that the core stands for: a step's reply is one that the graph gives, and the core stands for the
+//! state after it; or the reply is Full and nothing changed, exactly where the graph creates an object and the heap has no place for it. A
+//! `remark` clears the weak slots that hold what neither the snapshot reaches nor was made since, and no such name is reachable then. What
+//! each step does to each part of the core is said too (`Does`), of a mutator's step exactly, and a refused step leaves it as it was:
+//! regions are reclaimed by `cleanup`, those that hold nothing live, and by `pause`, those that it evacuates. Cross-region fields are
+//! remembered at every moment: the card of each field that leads into another region is dirty, or that region's set covers it. No step
+//! takes memory. `run` does a list of steps in a new heap; after each of them every object that a root reaches stands, whole and once, in
+//! regions in use.
 //!
 //! `mutator` has the mutator's steps, `barrier` what a store and a weak read do beside, `cycle` the steps of marking, `cleanup` the
-//! reclaiming, `refine` refinement, `candidates` the choice of what a pause evacuates, `pause` the pause, `step` any step,
-//! `runs` a list of them, `readers` what is read of a core from outside, `names` which object starts at an address, `measures` what a policy of
-//! collection asks of it, `layers` the parts that a new core is made of.
+//! reclaiming, `refine` refinement, `candidates` the choice of what a pause evacuates, `pause` the pause, `step` any step, `runs` a list of
+//! them, `readers` what is read of a core from outside, `names` which object starts at an address, `measures` what a policy of collection
+//! asks of it, `layers` the parts that a new core is made of.
 //!
 //! A field is read or written in constant time: no step tests or walks its region to see that an address is an object.
 //!

@@ -23,13 +23,12 @@ use alloc_buffers::Place;
 use heap_steps::{Action, Counts, GlobalRoot, Op, Refusal, Register, Reply};
 use heap_words::addr::{Addr, Ptr};
 use heap_words::config::Config;
-use heap_words::header;
-use heap_words::header::{Count, FillerSize};
+use heap_words::header::{Count, FillerSize, HeaderCounts};
 use regions::RegionTable;
 
 /// Makes a new object in its place, and answers its address.
 #[inline(always)]
-fn make(table: &mut RegionTable, place: Place, name: u64, counts: header::Counts) -> Addr
+fn make(table: &mut RegionTable, place: Place, name: u64, counts: HeaderCounts) -> Addr
     requires { CanHold table.old place (size_of counts.pointers counts.weaks counts.values) }
     ensures at { result ≡ address_of table.old place }
     ensures made { table.new ≡ made_at table.old place (new_object name counts.pointers counts.weaks counts.values) }
@@ -37,8 +36,8 @@ fn make(table: &mut RegionTable, place: Place, name: u64, counts: header::Counts
     table.law();
     match place {
         Place::Filler(at) => {
-            let size = 2 + counts.pointers.get() + u32::from(counts.weaks) + counts.values.get();
-            table.make_object(at, FillerSize::new(size), name, counts);
+            let size = FillerSize::new(counts.size());
+            table.make_object(at, size, name, counts);
             at
         }
         Place::Run { first, count } => {
@@ -49,7 +48,7 @@ fn make(table: &mut RegionTable, place: Place, name: u64, counts: header::Counts
     }
 }
 
-/// How many weak slots the object that an action makes has.
+/// How many weak slots the object that an action makes has. `act` asks it, so that `new_object` stands there once.
 fn weaks_of(action: Action) -> u8
     ensures { result ≡ weaks_made action }
 {
@@ -321,7 +320,7 @@ impl Core {
         };
         let name = self.next;
         self.table.law();
-        let counts = header::Counts {
+        let counts = HeaderCounts {
             pointers: Count::new(counts.pointers),
             weaks,
             values: Count::new(counts.values),

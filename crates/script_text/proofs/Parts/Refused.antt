@@ -4,8 +4,8 @@ use Rattle.std.proofs.KnownBytes.{Consumes-trans}
 use Rattle.std.proofs.lemmas.List.{append-nil}
 use Rattle.script_text.specs.Awaited.{IsUnended, IsNext}
 use Rattle.script_text.specs.Watched.{Reader, Gives, FailsToGive}
-use Rattle.script_text.specs.declared.awaited.NextFault.{NextFault}
-use Rattle.script_text.specs.declared.awaited.NextFault.TheVariants as nexts
+use Rattle.script_text.specs.declared.read.awaited.NextFault.{NextFault}
+use Rattle.script_text.specs.declared.read.awaited.NextFault.TheVariants as nexts
 use Rattle.script_text.specs.declared.fault.Kind.{Kind}
 use Rattle.script_text.specs.declared.fault.Kind.TheVariants as kinds
 use Rattle.script_text.specs.declared.fault.ReadFault.{ReadFault}

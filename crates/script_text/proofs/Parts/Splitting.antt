@@ -1,17 +1,14 @@
 -- The words of a line, found one after another.
 use Rattle.std.proofs.Common.{◌≡◌, ℕ, suc, ◌+◌, ◌-◌, ◌<◌, ◌≤◌, true, false, not, eqb, List, [], ◌∷◌, ◌++◌, length, take, drop, get_or, set, map, refl, sym, ap, subst, ◌∙◌, append_assoc, arith, inl, inr}
-use Rattle.std.specs.List.{position_or_len, All}
+use Rattle.std.specs.List.{All}
 use Rattle.std.proofs.Math.Seq.{drop-cons, take-append_seam}
 use Rattle.std.proofs.lemmas.Grind.{get_or_default_zero}
 use Rattle.std.proofs.lemmas.Bool.{cases_lt, eqb-true, ne_eqb}
 use Rattle.std.proofs.lemmas.List.{take_more_set, map-append, drop-take, take-take, drop-drop, take-append-drop, take_all, length-take, length-take-le, length-append, get_or-take, get_or-drop}
 use Rattle.std.proofs.lemmas.List.Splits.{slice_split_at, slice_split_none, slice_split_first}
 use Rattle.std.proofs.lemmas.List.Sums.{fails_before_first, passes_at_first, prefix_len-le-length}
+use Rattle.script_text.specs.Feeds.{end_of}
 use Rattle.script_text.specs.Lines.{pieces_of, words_of}
-
--- where the line at the front of a text ends
-abbrev pub end_of : List ℕ → ℕ
-end_of text = position_or_len (λ b. eqb b 10) text
 
 abbrev pub line_of : List ℕ → List ℕ
 line_of text = take (end_of text) text
@@ -35,7 +32,7 @@ here_ends text at within lt feed =
       | inr past ↦ omega arith
     ]
 
-not_yet : (text : List ℕ) (at : ℕ) → at ≤ end_of text → at < length text → (get_or text at 0 ≡ 10 → ⊥) → at + 1 ≤ end_of text
+pub not_yet : (text : List ℕ) (at : ℕ) → at ≤ end_of text → at < length text → (get_or text at 0 ≡ 10 → ⊥) → at + 1 ≤ end_of text
 not_yet text at within lt other =
     elim (cases_lt at (end_of text)) [
       | inl before ↦ omega arith
@@ -131,3 +128,12 @@ first_piece text at within lt feed =
 
 pub one_piece : (text : List ℕ) (at : ℕ) → at ≤ end_of text → length text ≤ at → pieces_of text ≡ text ∷ []
 one_piece text at within past = slice_split_none (λ b. eqb b 10) text (λ k d lt. fails_before_first (λ b. eqb b 10) text k d (omega arith))
+
+-- the first line feed is no later than one that stands there
+pub ended_by : (text : List ℕ) (at : ℕ) → at < length text → get_or text at 0 ≡ 10 → end_of text < length text
+ended_by text at lt feed =
+    elim (cases_lt at (end_of text)) [
+      | inl before ↦ (let no : eqb (get_or text at 0) 10 ≡ false = fails_before_first (λ b. eqb b 10) text at 0 before in
+          let yes : eqb (get_or text at 0) 10 ≡ true = rw feed refl in absurd cc)
+      | inr past ↦ omega arith
+    ]

@@ -8,8 +8,5 @@ returns-clause-dirtied c = λ t mutator card other h. dirty_after t mutator card
 pub returns-clause-appended : goal.returns-clause-appended
 returns-clause-appended c = λ t card other h. flag_set_after t.dirty card other h
 
-pub returns-clause-put_in_front : goal.returns-clause-put_in_front
-returns-clause-put_in_front c = λ t card other h. flag_set_after t.dirty card other h
-
 pub returns-clause-cleaned : goal.returns-clause-cleaned
 returns-clause-cleaned c = λ t u card other h flags. ap (λ d. get_or d other false) flags ∙ flag_cleared_after t.dirty card other h

@@ -1,7 +1,10 @@
 use Rattle.evacuation.proofs.fields.settle_field.Given as goal
 
-abbrev pub ghost-update_field : goal.ghost-update_field
-ghost-update_field g a = g.pause
+abbrev pub ghost-is_inside : goal.ghost-is_inside
+ghost-is_inside g a = g.pause
+
+abbrev pub ghost-redirect : goal.ghost-redirect
+ghost-redirect g a = g.pause
 
 abbrev pub ghost-note : goal.ghost-note
 ghost-note g a = g.pause

@@ -1,9 +1,6 @@
-use Rattle.std.proofs.Common.{◌≢◌, ◌⊎◌, ◌/◌, ◌∙◌, ℕ, sym, subst, arith, Some, None, ◌+◌, ◌≡◌, true}
-use Rattle.refinement.specs.Remembering.{field_word}
-use Rattle.evacuation.specs.Space.{IsNoted, flag}
-use Rattle.evacuation.specs.Turns.{layout}
+use Rattle.std.proofs.Common.{◌∙◌, sym, Some, None}
 use Rattle.evacuation.proofs.FieldUpdates.InTable as updates
-use Rattle.evacuation.proofs.FieldUpdates.FieldCards.{field_pointer, word_within, all_small}
+use Rattle.evacuation.proofs.FieldUpdates.FieldCards.{field_pointer}
 use Rattle.evacuation.proofs.fields.update_field.Goals as goal
 
 pub get_field-requires : goal.get_field-requires
@@ -19,65 +16,10 @@ returns-then-not-is_inside-clause-clean g c =
     let (premises, (turn, (flags, (card, (each, (outside, field)))))) = c.requires in
     updates.unchanged g.pause premises c.args.table.now c.args.destinations.now turn c.args.at c.args.field outside field (Some c.in-Some.target) c.in-Some.ensures (sym c.is_inside.ensures ∙ c.if-not-is_inside.true)
 
-pub new_place-to-requires : goal.new_place-to-requires
-new_place-to-requires g c =
+pub redirect-requires : goal.redirect-requires
+redirect-requires g c =
     let (premises, (turn, (flags, (card, (each, (outside, field)))))) = c.requires in
-    (premises, (turn, updates.named g.pause premises c.args.table.now c.args.destinations.now turn c.args.at c.args.field outside field c.in-Some.target c.in-Some.ensures (sym c.is_inside.ensures ∙ c.if-not-is_inside.false)))
-
-pub set_field-requires : goal.set_field-requires
-set_field-requires g c =
-    let (premises, (turn, (flags, (card, (each, (outside, field)))))) = c.requires in
-    field_pointer g.pause c.new_place-to.new.table c.args.at c.args.field
-    (updates.there g.pause premises c.args.table.now c.args.destinations.now turn c.args.at c.args.field outside field c.new_place-to.new.table c.new_place-to.new.table c.new_place-to.new.destinations c.new_place-to.ensures.turn c.new_place-to.ensures.after c.new_place-to.ensures.frame
-    c.in-Some.target c.new_place-to.result c.in-Some.ensures (sym c.is_inside.ensures ∙ c.if-not-is_inside.false) c.new_place-to.ensures.place)
-
-pub overflow_add-word : goal.overflow_add-word
-overflow_add-word g c =
-    let (premises, (turn, (flags, (card, (each, (outside, field)))))) = c.requires in
-    let w = word_within g.pause c.new_place-to.new.table c.args.at c.args.field c.law.ensures c.new_place-to.ensures.turn.table
-    (updates.there g.pause premises c.args.table.now c.args.destinations.now turn c.args.at c.args.field outside field c.new_place-to.new.table c.new_place-to.new.table c.new_place-to.new.destinations c.new_place-to.ensures.turn c.new_place-to.ensures.after c.new_place-to.ensures.frame
-    c.in-Some.target c.new_place-to.result c.in-Some.ensures (sym c.is_inside.ensures ∙ c.if-not-is_inside.false) c.new_place-to.ensures.place) in
-    let n = all_small g.pause premises in
-    rw c.word.ensures (omega (arith, w, n))
-
-pub overflow_add-word-2 : goal.overflow_add-word-2
-overflow_add-word-2 g c =
-    let (premises, (turn, (flags, (card, (each, (outside, field)))))) = c.requires in
-    let w = word_within g.pause c.new_place-to.new.table c.args.at c.args.field c.law.ensures c.new_place-to.ensures.turn.table
-    (updates.there g.pause premises c.args.table.now c.args.destinations.now turn c.args.at c.args.field outside field c.new_place-to.new.table c.new_place-to.new.table c.new_place-to.new.destinations c.new_place-to.ensures.turn c.new_place-to.ensures.after c.new_place-to.ensures.frame
-    c.in-Some.target c.new_place-to.result c.in-Some.ensures (sym c.is_inside.ensures ∙ c.if-not-is_inside.false) c.new_place-to.ensures.place) in
-    let n = all_small g.pause premises in
-    rw c.word.ensures (omega (arith, w, n))
-
-pub note-requires : goal.note-requires
-note-requires g c =
-    let (premises, (turn, (flags, (card, (each, (outside, field)))))) = c.requires in
-    let w = word_within g.pause c.new_place-to.new.table c.args.at c.args.field c.law.ensures c.new_place-to.ensures.turn.table
-    (updates.there g.pause premises c.args.table.now c.args.destinations.now turn c.args.at c.args.field outside field c.new_place-to.new.table c.new_place-to.new.table c.new_place-to.new.destinations c.new_place-to.ensures.turn c.new_place-to.ensures.after c.new_place-to.ensures.frame
-    c.in-Some.target c.new_place-to.result c.in-Some.ensures (sym c.is_inside.ensures ∙ c.if-not-is_inside.false) c.new_place-to.ensures.place) in
-    let n = all_small g.pause premises in
-    let t = updates.update_turn g.pause premises c.args.table.now c.args.destinations.now turn c.args.at c.args.field outside field c.new_place-to.new.table c.set_field.new.self c.new_place-to.new.destinations c.new_place-to.ensures.turn c.new_place-to.ensures.after c.new_place-to.ensures.frame
-    c.in-Some.target c.new_place-to.result c.in-Some.ensures (sym c.is_inside.ensures ∙ c.if-not-is_inside.false) c.new_place-to.ensures.place c.law.ensures.positive c.set_field.ensures in
-    (premises, (t.table.size, (card, (each, rw c.word.ensures w))))
-
-pub returns-clause-turn : goal.returns-clause-turn
-returns-clause-turn g c =
-    let (premises, (turn, (flags, (card, (each, (outside, field)))))) = c.requires in
-    updates.update_turn g.pause premises c.args.table.now c.args.destinations.now turn c.args.at c.args.field outside field c.new_place-to.new.table c.set_field.new.self c.new_place-to.new.destinations c.new_place-to.ensures.turn c.new_place-to.ensures.after c.new_place-to.ensures.frame
-    c.in-Some.target c.new_place-to.result c.in-Some.ensures (sym c.is_inside.ensures ∙ c.if-not-is_inside.false) c.new_place-to.ensures.place c.law.ensures.positive c.set_field.ensures
-
-pub returns-clause-after : goal.returns-clause-after
-returns-clause-after g c =
-    let (premises, (turn, (flags, (card, (each, (outside, field)))))) = c.requires in
-    let only = subst (λ (n : ℕ). (k : ℕ) → flag c.note.new.noted k ≡ true → (flag c.args.noted.now k ≡ true) ⊎ ((k ≡ (n + 2 + c.args.field) / g.pause.card_words) × (c.new_place-to.result / g.pause.start.words_per_region ≢ (n + 2 + c.args.field) / g.pause.start.words_per_region))) c.word.ensures c.note.ensures.only in
-    let noted : IsNoted (layout g.pause) c.note.new.noted (field_word c.args.at c.args.field) (Some c.new_place-to.result) = subst (λ (n : ℕ). IsNoted (layout g.pause) c.note.new.noted (n + 2 + c.args.field) (Some c.new_place-to.result)) c.word.ensures c.note.ensures.noted in
-    updates.update_after g.pause premises c.args.table.now c.args.destinations.now turn c.args.at c.args.field outside field c.new_place-to.new.table c.set_field.new.self c.new_place-to.new.destinations c.new_place-to.ensures.turn c.new_place-to.ensures.after c.new_place-to.ensures.frame
-    c.in-Some.target c.new_place-to.result c.in-Some.ensures (sym c.is_inside.ensures ∙ c.if-not-is_inside.false) c.new_place-to.ensures.place c.law.ensures.positive c.set_field.ensures c.args.noted.now c.note.new.noted noted c.note.ensures.grows (c.note.ensures.each_card ∙ sym each) only
+    (premises, (turn, (card, (each, (outside, (field, (c.in-Some.ensures, sym c.is_inside.ensures ∙ c.if-not-is_inside.false)))))))
 
 pub returns-clause-clean : goal.returns-clause-clean
-returns-clause-clean g c =
-    let (premises, (turn, (flags, (card, (each, (outside, field)))))) = c.requires in
-    let only = subst (λ (n : ℕ). (k : ℕ) → flag c.note.new.noted k ≡ true → (flag c.args.noted.now k ≡ true) ⊎ ((k ≡ (n + 2 + c.args.field) / g.pause.card_words) × (c.new_place-to.result / g.pause.start.words_per_region ≢ (n + 2 + c.args.field) / g.pause.start.words_per_region))) c.word.ensures c.note.ensures.only in
-    let noted : IsNoted (layout g.pause) c.note.new.noted (field_word c.args.at c.args.field) (Some c.new_place-to.result) = subst (λ (n : ℕ). IsNoted (layout g.pause) c.note.new.noted (n + 2 + c.args.field) (Some c.new_place-to.result)) c.word.ensures c.note.ensures.noted in
-    updates.update_clean g.pause premises c.args.table.now c.args.destinations.now turn c.args.at c.args.field outside field c.new_place-to.new.table c.set_field.new.self c.new_place-to.new.destinations c.new_place-to.ensures.turn c.new_place-to.ensures.after c.new_place-to.ensures.frame
-    c.in-Some.target c.new_place-to.result c.in-Some.ensures (sym c.is_inside.ensures ∙ c.if-not-is_inside.false) c.new_place-to.ensures.place c.law.ensures.positive c.set_field.ensures c.args.noted.now c.note.new.noted noted c.note.ensures.grows (c.note.ensures.each_card ∙ sym each) only
+returns-clause-clean g c = λ y w here is. (c.redirect.ensures.settled y w here is).0

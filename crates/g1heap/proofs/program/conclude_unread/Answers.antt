@@ -1,4 +1,4 @@
-use Rattle.std.proofs.Common.{Err, ℕ, Bool, Option, true, false}
+use Rattle.std.proofs.Common.{Err, ℕ, Bool, Option, true, false, inl, inr}
 use Rattle.script_text.specs.Watched.{Reader, Writer, FailsToGive, Stays}
 use Rattle.jobs.specs.Runs.{Tells}
 use Rattle.jobs.specs.Verdicts.{TellsVerdict}
@@ -6,13 +6,6 @@ use Rattle.g1heap.specs.Jobs.{DoesCheck, DoesView, DoesDraw}
 use Rattle.script_text.specs.declared.fault.ReadFault.TheVariants as reads
 use Rattle.jobs.specs.declared.faults.JobFault.TheVariants as faults
 use Rattle.g1heap.proofs.program.conclude_unread.Goals as goal
-
-pub returns-in-Script : goal.returns-in-Script
-returns-in-Script g c = λ given left old new unread kept. rw c.in-Script.is (record {
-  outcome = Err (faults.Read reads.CannotRead);
-  ends = (unread, kept);
-  tells = c.conclude.ensures;
-})
 
 -- how it was to be judged makes no difference
 unread_check : (explained followed : Bool) (given left : Reader) (old new err err' : Writer) (status : ℕ) → FailsToGive reads.CannotRead given left → Stays old new
@@ -30,15 +23,16 @@ unread_view : (recorded : Bool) (at : Option ℕ) (given left : Reader) (old new
 unread_view false at given left old new err err' status unread kept tells = record { outcome = Err (faults.Read reads.CannotRead); views = (unread, kept); tells = tells }
 unread_view true at given left old new err err' status unread kept tells = record { outcome = Err (faults.Read reads.CannotRead); views = (unread, kept); tells = tells }
 
-pub returns-in-View : goal.returns-in-View
-returns-in-View g c = λ given left old new unread kept.
-    rw c.in-View.is (unread_view _ _ given left old new c.args.err.now c.conclude-in-View.new.err c.conclude-in-View.result unread kept c.conclude-in-View.ensures)
-
 unread_draw : (recorded : Bool) (every : ℕ) (given left : Reader) (old new err err' : Writer) (status : ℕ) → FailsToGive reads.CannotRead given left → Stays old new
     → Tells err err' (Err (faults.Read reads.CannotRead)) status → DoesDraw recorded every given left old new err err' status
 unread_draw false every given left old new err err' status unread kept tells = record { outcome = Err (faults.Read reads.CannotRead); draws = (unread, kept); tells = tells }
 unread_draw true every given left old new err err' status unread kept tells = record { outcome = Err (faults.Read reads.CannotRead); draws = (unread, kept); tells = tells }
 
-pub returns-in-Draw : goal.returns-in-Draw
-returns-in-Draw g c = λ given left old new unread kept.
-    rw c.in-Draw.is (unread_draw _ _ given left old new c.args.err.now c.conclude-in-Draw.new.err c.conclude-in-Draw.result unread kept c.conclude-in-Draw.ensures)
+pub returns-in-Script : goal.returns-in-Script
+returns-in-Script g c = λ given left old new unread kept. elim c.in-Script.is [
+    inl script ↦ rw script.1 (record { outcome = Err (faults.Read reads.CannotRead); ends = (unread, kept); tells = c.conclude.ensures })
+    | inr other ↦ elim other [
+        inl view ↦ rw view.4 (unread_view _ _ given left old new c.args.err.now c.conclude.new.err c.conclude.result unread kept c.conclude.ensures)
+        | inr draw ↦ rw draw.2 (unread_draw _ _ given left old new c.args.err.now c.conclude.new.err c.conclude.result unread kept c.conclude.ensures)
+      ]
+  ]

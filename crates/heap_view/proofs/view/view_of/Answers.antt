@@ -1,18 +1,20 @@
-use Rattle.std.proofs.Common.{◌∙◌, List, ap, subst}
+use Rattle.std.proofs.Common.{◌∙◌, List, All, ap, subst, sym}
 use Rattle.heap_words.specs.Configs.{Suits}
-use Rattle.heap_steps.specs.Actors.{StepList}
+use Rattle.heap_words.specs.declared.config.Config.{Config}
+use Rattle.heap_steps.specs.Actors.{StepList, IsStep}
 use Rattle.heap_steps.specs.declared.step.Step.{Step}
 use Rattle.step_core.specs.Histories.{IsRunInOrder}
 use Rattle.jobs.proofs.Endings.{same_plan, if_ok, memory_alone}
 use Rattle.heap_view.specs.Views.{front, front_of}
+use Rattle.heap_view.proofs.Fronts.{all_front}
 use Rattle.heap_view.proofs.view.view_of.Goals as goal
 
 pub returns-in-Ok-clause-run : goal.returns-in-Ok-clause-run
 returns-in-Ok-clause-run c =
     let run = c.in-Ok.ensures in
     let at = c.args.glance.now.at in
-    let steps = c.first_steps.ensures.value ∙ ap (λ (ss : List Step). front at ss) c.steps.ensures.steps in
-    let same = same_plan c.config.result c.first_steps.result.now (front_of at c.args.plan.now) c.config.ensures steps in
+    let steps = c.first_of.ensures ∙ ap (λ (ss : List Step). front at ss) c.steps.ensures.steps in
+    let same = same_plan c.config.result c.first_of.result.now (front_of at c.args.plan.now) c.config.ensures steps in
     let (last, is) = run.run in
     if_ok c.text_of.result (
       c.in-Ok._record,
@@ -25,3 +27,11 @@ returns-in-Ok-clause-fault c =
     let run = c.in-Ok.ensures in
     let same = c.config.ensures in
     memory_alone c.args.plan.now.config c.text_of.result c.text_of.ensures (subst Suits same run.suits)
+
+pub run_to_core-requires : goal.run_to_core-requires
+run_to_core-requires c =
+    let plan = c.args.plan.now in
+    let at = c.args.glance.now.at in
+    let steps = c.first_of.ensures ∙ ap (λ (ss : List Step). front at ss) c.steps.ensures.steps in
+    let each = all_front (IsStep plan.config) at plan.steps c.steps.ensures.each in
+    subst (λ (ss : List Step). All (IsStep c.config.result) ss) (sym steps) (subst (λ (config : Config). All (IsStep config) (front at plan.steps)) (sym c.config.ensures) each)

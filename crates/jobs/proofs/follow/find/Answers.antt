@@ -3,8 +3,8 @@ use Rattle.heap_words.specs.declared.config.Config.{Config}
 use Rattle.script_text.specs.Awaited.{IsNext}
 use Rattle.script_text.specs.Lines.{heap_line_of}
 use Rattle.script_text.specs.Watched.{Reader}
-use Rattle.script_text.specs.declared.awaited.NextFault.{NextFault}
-use Rattle.script_text.specs.declared.awaited.NextFault.TheVariants as nexts
+use Rattle.script_text.specs.declared.read.awaited.NextFault.{NextFault}
+use Rattle.script_text.specs.declared.read.awaited.NextFault.TheVariants as nexts
 use Rattle.script_text.specs.declared.fault.Kind.{Kind}
 use Rattle.jobs.specs.Followed.{FindsBy}
 use Rattle.jobs.specs.declared.faults.JobFault.TheVariants as faults

@@ -6,8 +6,8 @@ use Rattle.heap_steps.specs.declared.step.Event.{Event}
 use Rattle.script_text.specs.Awaited.{IsNext}
 use Rattle.script_text.specs.Events.{event_line_of}
 use Rattle.script_text.specs.Watched.{Reader}
-use Rattle.script_text.specs.declared.awaited.NextFault.{NextFault}
-use Rattle.script_text.specs.declared.awaited.NextFault.TheVariants as nexts
+use Rattle.script_text.specs.declared.read.awaited.NextFault.{NextFault}
+use Rattle.script_text.specs.declared.read.awaited.NextFault.TheVariants as nexts
 use Rattle.script_text.specs.declared.fault.Kind.{Kind}
 use Rattle.jobs.proofs.Following.{found_yes, found_no, found_wrong, found_unread, found_short, goes_on}
 use Rattle.jobs.proofs.follow.follow_events.Goals as goal

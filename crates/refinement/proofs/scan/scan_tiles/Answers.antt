@@ -32,6 +32,7 @@ loop-at-init c =
       turn = turn_first c.args.table.now c.law.ensures (kept_in c.args.table.now c.args.tams.now c.args.marks.now) (kept_object c.args.table.now c.args.tams.now c.args.marks.now)
           c.args.card_words c.args.card c.args.first (covers c.args.sets.now) c.into_iter-at-iterator.result h.tile h.tile_is walk;
       count = count_first c.args.table.now c.args.card_words c.args.card c.args.first c.into_iter-at-iterator.result c.law.ensures z h walk;
+      last = λ region e. absurd (cc);
     }
 
 pub returns-then-word-end-clause-adds : goal.returns-then-word-end-clause-adds
@@ -49,16 +50,16 @@ is_kept-requires-clause-tile c =
     turn_placed c.args.table.now c.law.ensures (kept_in c.args.table.now c.args.tams.now c.args.marks.now) (kept_object c.args.table.now c.args.tams.now c.args.marks.now)
     c.args.card_words c.args.card c.args.first (covers c.loop-at.sets) c.loop-at.at-iterator c.next.new.self c.in-Some.at c.in-Some.shape c.loop-at.invariant.turn c.in-Some.ensures.steps
 
-pub scan_object-requires-clause-inside : goal.scan_object-requires-clause-inside
-scan_object-requires-clause-inside c =
+pub scan_object-last-requires-clause-inside : goal.scan_object-last-requires-clause-inside
+scan_object-last-requires-clause-inside c =
     fields_inside c.args.table.now (kept_in c.args.table.now c.args.tams.now c.args.marks.now) c.in-Some.at (kept_object c.args.table.now c.args.tams.now c.args.marks.now) c.requires.stands.inside (c.is_kept.ensures.0 c.if-is_kept.true)
 
-pub scan_object-requires-clause-fit : goal.scan_object-requires-clause-fit
-scan_object-requires-clause-fit c =
+pub scan_object-last-requires-clause-fit : goal.scan_object-last-requires-clause-fit
+scan_object-last-requires-clause-fit c =
     (adds_fit c.args.table.now (kept_in c.args.table.now c.args.tams.now c.args.marks.now) c.args.card_words c.args.card c.args.sets.now c.loop-at.sets c.requires.stands.fit c.loop-at.invariant.adds).0
 
-pub scan_object-requires-clause-card : goal.scan_object-requires-clause-card
-scan_object-requires-clause-card c =
+pub scan_object-last-requires-clause-card : goal.scan_object-last-requires-clause-card
+scan_object-last-requires-clause-card c =
     let e = (adds_fit c.args.table.now (kept_in c.args.table.now c.args.tams.now c.args.marks.now) c.args.card_words c.args.card c.args.sets.now c.loop-at.sets c.requires.stands.fit c.loop-at.invariant.adds).1 in
     subst (λ (n : ℕ). c.args.card < n) (sym e) c.requires.card
 
@@ -69,14 +70,15 @@ loop-at-preserved-then-is_kept c =
     let stands = kept_object c.args.table.now c.args.tams.now c.args.marks.now in
     let p = c.loop-at.invariant in
     let same = same_object c.args.table.now kept c.in-Some.at stands (c.is_kept.ensures.0 c.if-is_kept.true) in
-    let q = c.scan_object.ensures kept same in
+    let q = c.scan_object-last.ensures.scanned kept same in
     let fit = (adds_fit c.args.table.now kept c.args.card_words c.args.card c.args.sets.now c.loop-at.sets c.requires.stands.fit p.adds).0 in
     let inside = subst (λ (n : ℕ). LeadsInside words n kept) (sym fit.each_region) c.requires.stands.inside in
     record {
-      adds = adds_more words kept c.args.card_words c.args.card c.args.sets.now c.loop-at.sets c.scan_object.new.sets p.adds q.adds;
-      turn = turn_next c.args.table.now c.law.ensures kept stands c.args.card_words c.args.card c.args.first (covers c.loop-at.sets) (covers c.scan_object.new.sets) c.loop-at.at-iterator c.next.new.self c.in-Some.at c.in-Some.shape
-          p.turn c.in-Some.ensures.steps (adds_grows words kept c.args.card_words c.args.card c.loop-at.sets c.scan_object.new.sets inside q.adds) q.covered;
+      adds = adds_more words kept c.args.card_words c.args.card c.args.sets.now c.loop-at.sets c.scan_object-last.new.sets p.adds q.adds;
+      turn = turn_next c.args.table.now c.law.ensures kept stands c.args.card_words c.args.card c.args.first (covers c.loop-at.sets) (covers c.scan_object-last.new.sets) c.loop-at.at-iterator c.next.new.self c.in-Some.at c.in-Some.shape
+          p.turn c.in-Some.ensures.steps (adds_grows words kept c.args.card_words c.args.card c.loop-at.sets c.scan_object-last.new.sets inside q.adds) q.covered;
       count = count_next c.args.card_words c.args.card c.loop-at.looked c.in-Some.at c.in-Some.shape c.loop-at.at-iterator c.next.new.self p.count c.in-Some.ensures.steps c.word.result c.number.result c.word.ensures c.number.ensures c.if-word-end.false;
+      last = c.scan_object-last.ensures.last;
     }
 
 pub loop-at-preserved : goal.loop-at-preserved
@@ -89,6 +91,7 @@ loop-at-preserved c =
       turn = turn_next c.args.table.now c.law.ensures kept (kept_object c.args.table.now c.args.tams.now c.args.marks.now) c.args.card_words c.args.card c.args.first (covers c.loop-at.sets) (covers c.loop-at.sets) c.loop-at.at-iterator c.next.new.self c.in-Some.at c.in-Some.shape
           p.turn c.in-Some.ensures.steps (λ r card was. was) (covered_dead c.args.table.now.words_per_region kept c.args.card_words c.args.card c.in-Some.at (covers c.loop-at.sets) none);
       count = count_next c.args.card_words c.args.card c.loop-at.looked c.in-Some.at c.in-Some.shape c.loop-at.at-iterator c.next.new.self p.count c.in-Some.ensures.steps c.word.result c.number.result c.word.ensures c.number.ensures c.if-word-end.false;
+      last = p.last;
     }
 
 pub returns-clause-adds : goal.returns-clause-adds

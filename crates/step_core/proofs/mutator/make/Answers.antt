@@ -5,11 +5,11 @@ use Rattle.regions.specs.Table.{new_object}
 use Rattle.regions.proofs.Tiles.Released.{filler_short}
 use Rattle.step_core.proofs.mutator.make.Goals as goal
 
-pub new-requires-clause-small : goal.new-requires-clause-small
-new-requires-clause-small c =
+pub new-size-requires-clause-small : goal.new-size-requires-clause-small
+new-size-requires-clause-small c =
     let there = rw c.in-Filler.is at c.requires in
     let short = filler_short c.args.table.now c.in-Filler.at _ c.law.ensures.positive c.law.ensures.fitting there in
-    omega (arith, short, c.law.ensures.small, c.get.ensures.value, c.get-in-Filler.ensures.value)
+    omega (arith, short, c.law.ensures.small, c.size.ensures)
 
 pub overflow_mul-number : goal.overflow_mul-number
 overflow_mul-number c =

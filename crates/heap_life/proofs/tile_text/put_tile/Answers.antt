@@ -1,0 +1,9 @@
+use Rattle.std.proofs.Common.{subst}
+use Rattle.regions.specs.declared.row.Shape.{Shape}
+use Rattle.regions.specs.Walks.{IsPlacedTile}
+use Rattle.refinement.proofs.Holders.{shape_object}
+use Rattle.heap_life.proofs.tile_text.put_tile.Goals as goal
+
+pub put_object-requires : goal.put_object-requires
+put_object-requires c =
+    shape_object c.args.core.now.table c.args.at _ _ _ (subst (λ (s : Shape). IsPlacedTile c.args.core.now.table c.args.at s) c.in-Object.is c.requires)

@@ -1,0 +1,8 @@
+-- The first so many of a list.
+use Rattle.std.proofs.Common.{ℕ, List, All, Option, Some, None}
+use Rattle.std.proofs.lemmas.List.Elements.{All-take}
+use Rattle.heap_view.specs.Views.{front}
+
+pub all_front : {A : Type 0} (P : A → Type 0) (at : Option ℕ) (xs : List A) → All P xs → All P (front at xs)
+all_front P None xs all = all
+all_front P (Some n) xs all = All-take P n xs all

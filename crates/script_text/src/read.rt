@@ -1,0 +1,11 @@
+//! Texts to values.
+
+pub(crate) mod awaited;
+pub(crate) mod events;
+pub(crate) mod input;
+pub(crate) mod records;
+pub(crate) mod replies;
+pub(crate) mod script;
+pub(crate) mod steps;
+pub(crate) mod watched;
+pub(crate) mod words;

@@ -1,0 +1,188 @@
+//! Scripts, read line by line.
+
+ghost use Rattle.std.specs.Prelude.{◌≡◌, ◌∷◌, None, ℕ, List, map, take, IfOk, IfSome, IfNone};
+ghost use Rattle.heap_steps.specs.Actors.{IsStep};
+ghost use Rattle.script_text.specs.Reading.{sizes_in, third_of, sizes_of};
+ghost use Rattle.script_text.specs.Lines.{words_of, heap_line_of, step_line_of, Gives, script_of};
+
+use crate::fault::{Kind, LineFault};
+use crate::read::steps::step;
+use crate::read::words::{is_word, number, small_number, split_line};
+use heap_steps::{Plan, Step};
+use heap_words::config::{Config, Format};
+use std::alloc::Global;
+
+/// The most bytes of a line before its line feed.
+pub(crate) const LONGEST_LINE: usize = 120;
+
+/// The sizes that five words give, in a heap line of the format.
+#[tactic(auto, unfolding(crate::specs::Reading::sizes_in))]
+fn sizes(
+    format: Format,
+    regions: &[u8],
+    size: &[u8],
+    buffer: &[u8],
+    mutators: &[u8],
+    first_name: &[u8],
+) -> Option<Config>
+    ensures { result ≡ sizes_in format regions.now size.now buffer.now mutators.now first_name.now }
+{
+    let regions = small_number(regions)?;
+    let words = small_number(size)?;
+    let buffer = small_number(buffer)?;
+    let mutators = small_number(mutators)?;
+    let first_name = number(first_name, u64::MAX)?;
+    Some(Config {
+        format,
+        regions,
+        words,
+        buffer,
+        mutators,
+        first_name,
+    })
+}
+
+/// The third format, by the words behind the five sizes.
+#[tactic(auto, unfolding(crate::specs::Reading::third_of))]
+fn third(card: &[u8], globals: &[u8], registers: &[u8]) -> Option<Format>
+    ensures { result ≡ third_of card.now globals.now registers.now }
+{
+    let card = small_number(card)?;
+    let globals = small_number(globals)?;
+    let registers = small_number(registers)?;
+    Some(Format::V3 {
+        card,
+        globals,
+        registers,
+    })
+}
+
+/// The format of a heap line, by its verb and the words behind its five sizes.
+#[tactic(auto, unfolding(crate::specs::Reading::sizes_of))]
+fn format(verb: &[u8], rest: &[&[u8]]) -> Option<Format>
+    ensures some { IfSome result (λ format. (n r b m f : List ℕ) →
+        sizes_of (verb.now ∷ n ∷ r ∷ b ∷ m ∷ f ∷ map (λ w. w.now) rest.now) ≡ sizes_in format n r b m f) }
+    ensures none { IfNone result ((n r b m f : List ℕ) → sizes_of (verb.now ∷ n ∷ r ∷ b ∷ m ∷ f ∷ map (λ w. w.now) rest.now) ≡ None) }
+{
+    match rest {
+        [] => {
+            if is_word(verb, b"heap") {
+                Some(Format::V1)
+            } else {
+                None
+            }
+        }
+        [card] => {
+            if is_word(verb, b"heap2") {
+                let card = small_number(card)?;
+                Some(Format::V2 { card })
+            } else {
+                None
+            }
+        }
+        [card, globals, registers] => {
+            if is_word(verb, b"heap3") {
+                third(card, globals, registers)
+            } else {
+                None
+            }
+        }
+        _ => None,
+    }
+}
+
+/// The sizes that a heap line's words give.
+#[tactic(auto, unfolding(crate::specs::Reading::sizes_of))]
+fn heap(words: &[&[u8]]) -> Option<Config>
+    ensures { result ≡ sizes_of (map (λ w. w.now) words.now) }
+{
+    let [verb, regions, size, buffer, mutators, first_name, rest @ ..] = words else {
+        return None;
+    };
+    let format = format(verb, rest)?;
+    sizes(format, regions, size, buffer, mutators, first_name)
+}
+
+/// The sizes that the heap line gives, whose first words these are.
+#[tactic(auto, unfolding(crate::specs::Lines::heap_line_of))]
+pub(crate) fn heap_line(line: &[u8], words: &[&[u8]]) -> Result<Config, Kind>
+    requires { map (λ w. w.now) words.now ≡ take 12 (words_of line.now) }
+    ensures { result ≡ heap_line_of line.now }
+{
+    if line.len() > LONGEST_LINE {
+        return Err(Kind::LongLine);
+    }
+    match heap(words) {
+        Some(config) => Ok(config),
+        None => Err(Kind::BadHeap),
+    }
+}
+
+/// The step that a line gives, whose first words these are.
+#[tactic(auto, unfolding(crate::specs::Lines::step_line_of))]
+fn step_line(config: &Config, line: &[u8], words: &[&[u8]]) -> Result<Step, Kind>
+    requires { map (λ w. w.now) words.now ≡ take 12 (words_of line.now) }
+    ensures exact { result ≡ step_line_of config.now line.now }
+    ensures known { IfOk result (IsStep config.now) }
+{
+    if line.len() > LONGEST_LINE {
+        return Err(Kind::LongLine);
+    }
+    step(config, words)
+}
+
+/// The plan that a script's text spells, or the first fault of the text. Where memory is refused, the line at which it was wanted: no
+/// line up to that one has a fault.
+///
+/// ```rust
+/// let plan = parse(alloc, script)?;
+/// assert_eq!(rt; plan.steps().len(), 1);
+/// let fault = LineFault { line: 2, kind: Kind::BadActor };
+/// assert_eq!(rt; parse(alloc, b"heap 4 16 8 1 0\n\n").err(), Some(fault));
+/// ```
+pub fn parse(alloc: Global, text: &[u8]) -> Result<Plan, LineFault>
+    ensures { Gives result text.now (script_of text.now) }
+{
+    let mut words: [&[u8]; 12] = [&text[..0]; 12];
+    let Some(first) = split_line(text, &mut words) else {
+        if text.is_empty() {
+            return Err(LineFault {
+                line: 1,
+                kind: Kind::BadHeap,
+            });
+        }
+        return Err(LineFault {
+            line: 1,
+            kind: Kind::Cut,
+        });
+    };
+    let config = match heap_line(&text[..first.length], &words[..first.count]) {
+        Ok(config) => config,
+        Err(kind) => return Err(LineFault { line: 1, kind }),
+    };
+    let mut plan = Plan::new(alloc, config);
+    let mut rest = &text[first.length + 1..];
+    let mut number = 2u64;
+    while let Some(line) = split_line(rest, &mut words) {
+        let step = match step_line(&config, &rest[..line.length], &words[..line.count]) {
+            Ok(step) => step,
+            Err(kind) => return Err(LineFault { line: number, kind }),
+        };
+        let Ok(()) = plan.push(step) else {
+            return Err(LineFault {
+                line: number,
+                kind: Kind::NoMemory,
+            });
+        };
+        rest = &rest[line.length + 1..];
+        number += 1;
+    }
+    if rest.is_empty() {
+        Ok(plan)
+    } else {
+        Err(LineFault {
+            line: number,
+            kind: Kind::Cut,
+        })
+    }
+}

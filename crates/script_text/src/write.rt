@@ -1,0 +1,8 @@
+//! Values to texts.
+
+pub(crate) mod bytes;
+pub(crate) mod counts;
+pub(crate) mod lines;
+pub(crate) mod watched;
+pub(crate) mod writing;
+pub(crate) mod written;
