@@ -17,14 +17,16 @@ one_region : (a i j size : ℕ) → 0 < size → i * size ≤ a → a < i * size
 one_region a i j size z il ih jl jh = sym (row_within a j size z jl jh) ∙ row_within a i size z il ih
 
 -- behind an address in the same region
-pub above_behind : (limit : ℕ → ℕ) (size k x y : ℕ) → 0 < size → k * size ≤ x → x ≤ y → y < k * size + size → IsAbove size limit x → IsAbove size limit y
+pub above_behind : (limit : ℕ → ℕ) (size k x y : ℕ) → 0 < size → k * size ≤ x → x ≤ y → y < k * size + size → IsAbove size limit x
+    → IsAbove size limit y
 above_behind limit size k x y z low le high above = λ j jl jh.
     let same = one_region y k j size z (omega arith) high jl jh in
     let at : limit k ≤ x = above k low (omega arith) in
     subst (λ (i : ℕ). limit i ≤ y) (sym same) (omega arith)
 
 -- as much of each region is handed out as before
-pub above_same : (t t' : Table) (b : Buffers) (limit : ℕ → ℕ) → t'.words_per_region ≡ t.words_per_region → length t'.regions ≡ length t.regions → ((k : ℕ) → used_of t' k ≡ used_of t k) → AreAbove t b limit → AreAbove t' b limit
+pub above_same : (t t' : Table) (b : Buffers) (limit : ℕ → ℕ) → t'.words_per_region ≡ t.words_per_region
+    → length t'.regions ≡ length t.regions → ((k : ℕ) → used_of t' k ≡ used_of t k) → AreAbove t b limit → AreAbove t' b limit
 above_same t t' b limit size count used above = record {
   tops = λ k h.
       let at = above.tops k (omega (arith, count)) in
@@ -34,11 +36,14 @@ above_same t t' b limit size count used above = record {
 }
 
 -- other buffers are open
-pub above_buffers : (t : Table) (b b' : Buffers) (limit : ℕ → ℕ) → ((m : ℕ) (x : Buffer) → slice_get b'.open_buffers m ≡ Some (Some x) → IsAbove t.words_per_region limit x.next) → AreAbove t b limit → AreAbove t b' limit
+pub above_buffers : (t : Table) (b b' : Buffers) (limit : ℕ → ℕ)
+    → ((m : ℕ) (x : Buffer) → slice_get b'.open_buffers m ≡ Some (Some x) → IsAbove t.words_per_region limit x.next) → AreAbove t b limit
+    → AreAbove t b' limit
 above_buffers t b b' limit opened above = record { tops = above.tops; buffers = opened }
 
 -- a tile is pushed at a region's top
-pub above_pushed : (t t' : Table) (b : Buffers) (k a : ℕ) (tile : Tile) (limit : ℕ → ℕ) → Pushed t t' k a tile → AreAbove t b limit → IsAbove t.words_per_region limit a × AreAbove t' b limit
+pub above_pushed : (t t' : Table) (b : Buffers) (k a : ℕ) (tile : Tile) (limit : ℕ → ℕ) → Pushed t t' k a tile → AreAbove t b limit
+    → IsAbove t.words_per_region limit a × AreAbove t' b limit
 above_pushed t t' b k a tile limit p above =
     let size : ℕ = t.words_per_region in
     let room = p.room in
@@ -63,7 +68,8 @@ above_pushed t t' b k a tile limit p above =
     )
 
 -- an address within a filler
-pub above_filler : (t : Table) (limit : ℕ → ℕ) (x n j : ℕ) → 0 < t.words_per_region → AreFitting t → tile_in t x ≡ Some (Filler n) → j < n → IsAbove t.words_per_region limit x → IsAbove t.words_per_region limit (x + j)
+pub above_filler : (t : Table) (limit : ℕ → ℕ) (x n j : ℕ) → 0 < t.words_per_region → AreFitting t → tile_in t x ≡ Some (Filler n) → j < n
+    → IsAbove t.words_per_region limit x → IsAbove t.words_per_region limit (x + j)
 above_filler t limit x n j z fitting e lt above =
     let size : ℕ = t.words_per_region in
     let k : ℕ = x / size in
@@ -73,7 +79,9 @@ above_filler t limit x n j z fitting e lt above =
     above_behind limit size k x (x + j) z low (omega arith) (omega arith) above
 
 -- no open buffer is in a region above whose limit nothing is handed out
-buffer_outside : (t : Table) (b : Buffers) (limit : ℕ → ℕ) (k m : ℕ) (x : Buffer) → IsShaped t → BuffersStand t b → AreAbove t b limit → kind_of t k ≡ kinds.Ordinary → limit k ≡ top_of t k → slice_get b.open_buffers m ≡ Some (Some x) → (x.next < k * t.words_per_region) ⊎ (k * t.words_per_region + t.words_per_region ≤ x.next)
+buffer_outside : (t : Table) (b : Buffers) (limit : ℕ → ℕ) (k m : ℕ) (x : Buffer) → IsShaped t → BuffersStand t b → AreAbove t b limit
+    → kind_of t k ≡ kinds.Ordinary → limit k ≡ top_of t k → slice_get b.open_buffers m ≡ Some (Some x)
+    → (x.next < k * t.words_per_region) ⊎ (k * t.words_per_region + t.words_per_region ≤ x.next)
 buffer_outside t b limit k m x shaped stand above o full e =
     let size : ℕ = t.words_per_region in
     elim (cases_lt x.next (k * size)) [
@@ -88,7 +96,8 @@ buffer_outside t b limit k m x shaped stand above o full e =
       ]
     ]
 
-pub stand_released : (t : Table) (b : Buffers) (limit : ℕ → ℕ) (k : ℕ) → IsShaped t → BuffersStand t b → AreAbove t b limit → k < length t.regions
+pub stand_released : (t : Table) (b : Buffers) (limit : ℕ → ℕ) (k : ℕ) → IsShaped t → BuffersStand t b → AreAbove t b limit
+    → k < length t.regions
     → kind_of t k ≡ kinds.Ordinary → limit k ≡ top_of t k → b.current ≢ Some k → BuffersStand (released t k) b
 stand_released t b limit k shaped stand above known o full other =
     let r = region_released t k shaped.positive known o in
@@ -102,7 +111,8 @@ stand_released t b limit k shaped stand above known o full other =
     }
 
 pub above_released : (t : Table) (b : Buffers) (limit limit' : ℕ → ℕ) (k : ℕ) → IsShaped t → AreAbove t b limit → k < length t.regions
-    → kind_of t k ≡ kinds.Ordinary → ((j : ℕ) → j ≢ k → limit' j ≡ limit j) → limit' k ≡ k * t.words_per_region → AreAbove (released t k) b limit'
+    → kind_of t k ≡ kinds.Ordinary → ((j : ℕ) → j ≢ k → limit' j ≡ limit j) → limit' k ≡ k * t.words_per_region
+    → AreAbove (released t k) b limit'
 above_released t b limit limit' k shaped above known o others here =
     let t' : Table = released t k in
     let r = region_released t k shaped.positive known o in

@@ -1,5 +1,6 @@
 -- What a placement changes.
-use Rattle.std.proofs.Common.{◌≡◌, ◌≢◌, ℕ, zero, suc, ◌+◌, ◌-◌, ◌*◌, ◌<◌, ◌≤◌, ◌⊎◌, Option, Some, None, List, [], ◌∷◌, length, refl, sym, ◌∙◌, ap, subst, arith, inl, inr}
+use Rattle.std.proofs.Common.{◌≡◌, ◌≢◌, ◌+◌, ◌-◌, ◌*◌, ◌<◌, ◌≤◌, ◌⊎◌, ◌∷◌, ◌∙◌}
+use Rattle.std.proofs.Common.{ℕ, zero, suc, Option, Some, None, List, [], length, refl, sym, ap, subst, arith, inl, inr}
 use Rattle.std.specs.Prelude.{slice_get, slice_set}
 use Rattle.std.proofs.lemmas.Bool.Decides.{leb_tells}
 use Rattle.std.proofs.lemmas.List.{length-set, get_or-set_other}
@@ -9,19 +10,23 @@ use Rattle.heap_model.proofs.Lists.{get-set_cases, get-set_same, get-set_other}
 use Rattle.regions.specs.Tiles.{Tile, Filler, tile_at, total_size}
 use Rattle.regions.specs.declared.row.Kind.TheVariants as kinds
 use Rattle.regions.specs.Walks.{AreFitting}
-use Rattle.regions.specs.Table.{Table, Free, Ordinary, nth_region, region_kind, used_of, top_of, kind_of, first_free, taken, push_tile, replace_tile, remainder, tile_in, object_at, HasNoForwarded, tile_object}
-use Rattle.regions.proofs.Tiles.Placing.{remainder_total, remainder_positive, remainder_unmoved, Replaces, filler_replaced, Pushed, filler_push, region_taken}
+use Rattle.regions.specs.Table.{Table, Free, Ordinary, nth_region, region_kind, used_of, top_of, kind_of, first_free, taken, push_tile}
+use Rattle.regions.specs.Table.{replace_tile, remainder, tile_in, object_at, HasNoForwarded, tile_object}
+use Rattle.regions.proofs.Tiles.Placing.{remainder_total, remainder_positive, remainder_unmoved, Replaces, filler_replaced, Pushed}
+use Rattle.regions.proofs.Tiles.Placing.{filler_push, region_taken}
 use Rattle.regions.proofs.Tiles.Changes.{object_same}
 use Rattle.regions.proofs.LongRuns.Blocks.{void_object}
 use Rattle.alloc_buffers.proofs.Above.{above_same, above_buffers, above_pushed, above_filler}
 use Rattle.alloc_buffers.specs.declared.buffers.Buffer.{Buffer}
 use Rattle.alloc_buffers.specs.declared.placement.Place.TheVariants as places
-use Rattle.alloc_buffers.specs.Placement.{Buffers, BuffersStand, HasFiller, IsPlaced, HasRoom, buffer_of, with_buffer, IsAbove, AreAbove, alone, room_for, in_new_buffer, with_filler, closed}
+use Rattle.alloc_buffers.specs.Placement.{Buffers, BuffersStand, HasFiller, IsPlaced, HasRoom, buffer_of, with_buffer, IsAbove, AreAbove}
+use Rattle.alloc_buffers.specs.Placement.{alone, room_for, in_new_buffer, with_filler, closed}
 
 -- an open buffer is at its address
 buffer_at : (next rest : ℕ) (x : Buffer) → buffer_of next rest ≡ Some x → (x.next ≡ next) × (x.rest ≡ rest) × (0 < rest)
 buffer_at next zero x e = cc
-buffer_at next (suc n) x e = let same : record { next = next; rest = suc n } ≡ x = cc in (sym (ap (λ (y : Buffer). y.next) same), sym (ap (λ (y : Buffer). y.rest) same), omega arith)
+buffer_at next (suc n) x e = let same : record { next = next; rest = suc n } ≡ x = cc in
+    (sym (ap (λ (y : Buffer). y.next) same), sym (ap (λ (y : Buffer). y.rest) same), omega arith)
 
 object_none : (t : Table) (y n : ℕ) → tile_in t y ≡ Some (Filler n) → object_at t y ≡ None
 unfolding object_at
@@ -48,18 +53,22 @@ second_part (suc s) (suc r) p q =
     let z : suc s - suc s ≡ 0 = omega arith in
     elim (leb_tells (suc s) (suc s)) [ inl k ↦ rw (k.0, z) refl | inr k ↦ absurd (let lt = k.1 in omega arith) ]
 
-set_cases : {A : Type 0} (xs : List A) (i j : ℕ) (v w : A) → slice_get (slice_set xs i v) j ≡ Some w → ((j ≡ i) × (w ≡ v)) ⊎ ((j ≢ i) × (slice_get xs j ≡ Some w))
+set_cases : {A : Type 0} (xs : List A) (i j : ℕ) (v w : A) → slice_get (slice_set xs i v) j ≡ Some w
+    → ((j ≡ i) × (w ≡ v)) ⊎ ((j ≢ i) × (slice_get xs j ≡ Some w))
 set_cases xs i j v w e = elim (cases_eq j i) [
   | inl q ↦ elim (get-set_cases xs i j v w e) [
     | inl is ↦ inl (q, is)
-    | inr was ↦ let same : slice_get (slice_set xs i v) j ≡ Some v = subst (λ (k : ℕ). slice_get (slice_set xs k v) j ≡ Some v) q (get-set_same xs j v w was) in inl (q, cc)
+    | inr was ↦ let same : slice_get (slice_set xs i v) j ≡ Some v =
+        subst (λ (k : ℕ). slice_get (slice_set xs k v) j ≡ Some v) q (get-set_same xs j v w was) in inl (q, cc)
   ]
   | inr n ↦ inr (n, sym (get-set_other xs i j v (λ h. n (sym h))) ∙ e)
 ]
 
 -- an object's filler at a region's top
-pub top_placed : (t t1 t2 : Table) (b : Buffers) (opens : List (Option Buffer)) (k w size a : ℕ) → BuffersStand t b → HasNoForwarded t → HasRoom t t1 k w → Pushed t1 t2 k a (Filler size)
-    → ((m : ℕ) (x : Buffer) → slice_get opens m ≡ Some (Some x) → slice_get b.open_buffers m ≡ Some (Some x)) → length opens ≡ length b.open_buffers
+pub top_placed : (t t1 t2 : Table) (b : Buffers) (opens : List (Option Buffer)) (k w size a : ℕ) → BuffersStand t b → HasNoForwarded t
+    → HasRoom t t1 k w → Pushed t1 t2 k a (Filler size)
+    → ((m : ℕ) (x : Buffer) → slice_get opens m ≡ Some (Some x) → slice_get b.open_buffers m ≡ Some (Some x))
+    → length opens ≡ length b.open_buffers
     → IsPlaced t t2 b (record { words = b.words; current = Some k; open_buffers = opens }) size a
 top_placed t t1 t2 b opens k w size a s none r p old count =
     let apart : (m : ℕ) (x : Buffer) → slice_get opens m ≡ Some (Some x) → x.next ≢ a = λ m x e h.
@@ -78,7 +87,8 @@ top_placed t t1 t2 b opens k w size a s none r p old count =
       stand = record {
         known = λ j e. let same : k ≡ j = cc in rw (← same, p.count) r.known;
         ordinary = λ j e. let same : k ≡ j = cc in rw (← same) (p.kinds_same k ∙ r.ordinary);
-        fillers = λ m x e. let f = s.fillers m x (old m x e) in record { positive = f.positive; filler = p.others x.next (apart m x e) ∙ r.tiles x.next ∙ f.filler };
+        fillers = λ m x e. let f = s.fillers m x (old m x e) in
+            record { positive = f.positive; filler = p.others x.next (apart m x e) ∙ r.tiles x.next ∙ f.filler };
         apart = λ m n x y ex ey h. s.apart m n x y (old m x ex) (old n y ey) h;
       };
       open_count = count;
@@ -88,19 +98,27 @@ top_placed t t1 t2 b opens k w size a s none r p old count =
       kinds_stay = λ j n. p.kinds_same j ∙ r.kinds_stay j n;
       above = λ limit h.
           let same = above_same t t1 b limit r.region_size r.count r.used h in
-          let more = above_pushed t1 t2 b k a (Filler size) limit p same in
-          (subst (λ (n : ℕ). IsAbove n limit a) r.region_size more.0, above_buffers t2 b _ limit (λ m x e. more.1.buffers m x (old m x e)) more.1);
+          let more = above_pushed t1 t2 b k a (Filler size) limit p same in (
+            subst (λ (n : ℕ). IsAbove n limit a) r.region_size more.0,
+            above_buffers t2 b _ limit (λ m x e. more.1.buffers m x (old m x e)) more.1,
+          );
     }
 
 -- the rest of a new buffer behind it
-pub rest_placed : (t t2 t3 : Table) (b b2 : Buffers) (m k size rest a a2 : ℕ) → IsPlaced t t2 b b2 size a → Pushed t2 t3 k a2 (Filler rest) → 0 < rest
-    → IsPlaced t t3 b (record { words = b2.words; current = b2.current; open_buffers = slice_set b2.open_buffers m (Some (record { next = a2; rest = rest })) }) size a
+pub rest_placed : (t t2 t3 : Table) (b b2 : Buffers) (m k size rest a a2 : ℕ) → IsPlaced t t2 b b2 size a → Pushed t2 t3 k a2 (Filler rest)
+    → 0 < rest
+    → IsPlaced t t3 b (record {
+      words = b2.words;
+      current = b2.current;
+      open_buffers = slice_set b2.open_buffers m (Some (record { next = a2; rest = rest }));
+    }) size a
 rest_placed t t2 t3 b b2 m k size rest a a2 s p z =
     let buffer : Buffer = record { next = a2; rest = rest } in
     let away : a ≢ a2 = λ h.
     let here : tile_in t2 a2 ≡ Some (Filler size) = subst (λ (y : ℕ). tile_in t2 y ≡ Some (Filler size)) h s.filler in
     let void = p.was in cc in
-    let next_is : (x : Buffer) → Some x ≡ Some buffer → x.next ≡ a2 = λ x e. let same : x ≡ buffer = cc in ap (λ (y : Buffer). y.next) same in
+    let next_is : (x : Buffer) → Some x ≡ Some buffer
+    → x.next ≡ a2 = λ x e. let same : x ≡ buffer = cc in ap (λ (y : Buffer). y.next) same in
     let other : (n : ℕ) (x : Buffer) → slice_get b2.open_buffers n ≡ Some (Some x) → x.next ≢ a2 = λ n x e h.
     let f = s.stand.fillers n x e in
     let here : tile_in t2 a2 ≡ Some (Filler x.rest) = subst (λ (y : ℕ). tile_in t2 y ≡ Some (Filler x.rest)) h f.filler in
@@ -161,7 +179,8 @@ kind_taken t k first j n =
       | inr e ↦ ap region_kind (get_or-set_other t.regions k j (Ordinary []) Free e)
     ]
 
-pub fresh_is : (t t' : Table) (k n w : ℕ) → Some k ≡ first_free t → t' ≡ taken t (first_free t) → w ≤ t.words_per_region → n ≡ k → HasRoom t t' n w
+pub fresh_is : (t t' : Table) (k n w : ℕ) → Some k ≡ first_free t → t' ≡ taken t (first_free t) → w ≤ t.words_per_region → n ≡ k
+    → HasRoom t t' n w
 fresh_is t t' k n w first is small same =
     let is' : t' ≡ taken t (Some k) = is ∙ ap (taken t) (sym first) in
     let u = region_taken t k (sym first) in
@@ -181,7 +200,8 @@ fresh_is t t' k n w first is small same =
     subst (λ (j : ℕ). HasRoom t t' j w) (sym same) (subst (λ (v : Table). HasRoom t v k w) (sym is') facts)
 
 -- an object's filler at the start of a buffer
-pub split_placed : (t t' : Table) (b : Buffers) (m size : ℕ) (x : Buffer) → BuffersStand t b → HasNoForwarded t → 0 < t.words_per_region → AreFitting t → slice_get b.open_buffers m ≡ Some (Some x) → 0 < size → size ≤ x.rest
+pub split_placed : (t t' : Table) (b : Buffers) (m size : ℕ) (x : Buffer) → BuffersStand t b → HasNoForwarded t → 0 < t.words_per_region
+    → AreFitting t → slice_get b.open_buffers m ≡ Some (Some x) → 0 < size → size ≤ x.rest
     → t' ≡ replace_tile t x.next (Filler size ∷ remainder (x.rest - size))
     → IsPlaced t t' b (with_buffer b b.current m (buffer_of (x.next + size) (x.rest - size))) size x.next
 split_placed t t' b m size x s none z fitting here p le is =
@@ -189,8 +209,10 @@ split_placed t t' b m size x s none z fitting here p le is =
     let r : ℕ = x.rest - size in
     let f = s.fillers m x here in
     let total : total_size (Filler size ∷ remainder r) ≡ n = omega (arith, remainder_total r) in
-    let w' = filler_replaced t x.next n (Filler size ∷ remainder r) z fitting f.filler f.positive (p, remainder_positive r) total (remainder_unmoved r) in
-    let w : Replaces t t' x.next n (Filler size ∷ remainder r) = subst (λ (u : Table). Replaces t u x.next n (Filler size ∷ remainder r)) (sym is) w' in
+    let w' = filler_replaced t x.next n (Filler size ∷ remainder r) z fitting f.filler f.positive (p, remainder_positive r) total
+    (remainder_unmoved r) in
+    let w : Replaces t t' x.next n (Filler size ∷ remainder r) =
+    subst (λ (u : Table). Replaces t u x.next n (Filler size ∷ remainder r)) (sym is) w' in
     let start : x.next + 0 ≡ x.next = omega arith in
     let first : tile_in t' x.next ≡ Some (Filler size) = ap (tile_in t') (sym start) ∙ w.within 0 f.positive in
     let fresh : (y : Buffer) → buffer_of (x.next + size) r ≡ Some y → HasFiller t' y = λ y e.
@@ -200,7 +222,8 @@ split_placed t t' b m size x s none z fitting here p le is =
       positive = omega (arith, at.1, at.2);
       filler = ap (tile_in t') at.0 ∙ w.within size lt ∙ second_part size r p at.2 ∙ ap (λ (j : ℕ). Some (Filler j)) (sym at.1);
     } in
-    let off : (j : ℕ) (y : Buffer) → j ≢ m → slice_get b.open_buffers j ≡ Some (Some y) → (y.next < x.next) ⊎ (x.next + n ≤ y.next) = λ j y ne e.
+    let off : (j : ℕ) (y : Buffer) → j ≢ m → slice_get b.open_buffers j ≡ Some (Some y)
+    → (y.next < x.next) ⊎ (x.next + n ≤ y.next) = λ j y ne e.
     let g = s.fillers j y e in
     elim (cases_lt y.next x.next) [
       | inl lt ↦ inl lt
@@ -226,7 +249,8 @@ split_placed t t' b m size x s none z fitting here p le is =
         | inr ge ↦ elim (cases_lt y (x.next + n)) [
           | inl lt ↦
               let at : x.next + (y - x.next) ≡ y = omega arith in
-              let after : object_at t' y ≡ None = object_by t' y _ (ap (tile_in t') (sym at) ∙ w.within (y - x.next) (omega arith)) (parts_void size r (y - x.next)) in
+              let after : object_at t' y ≡ None =
+              object_by t' y _ (ap (tile_in t') (sym at) ∙ w.within (y - x.next) (omega arith)) (parts_void size r (y - x.next)) in
               let before : object_at t y ≡ None = elim (cases_eq y x.next) [
                 | inl same ↦ object_none t y n (ap (tile_in t) same ∙ f.filler)
                 | inr differ ↦ void_object t y (ap (tile_in t) (sym at) ∙ w.inside (y - x.next) (omega arith) (omega arith))
@@ -264,60 +288,84 @@ split_placed t t' b m size x s none z fitting here p le is =
           let old : IsAbove t.words_per_region limit x.next = h.buffers m x here in
           let same = above_same t t' b limit w.size w.count w.used h in (
             old,
-            above_buffers t' b (with_buffer b b.current m (buffer_of (x.next + size) r)) limit (λ j y e. elim (set_cases b.open_buffers m j (buffer_of (x.next + size) r) (Some y) e) [
-              | inl q ↦
-                  let at = buffer_at (x.next + size) r y (sym q.1) in
-                  let lt : size < n = omega (arith, at.1, at.2) in
-                  let behind = above_filler t limit x.next n size z fitting f.filler lt old in
-                  subst (λ (i : ℕ). IsAbove t'.words_per_region limit i) (sym at.0) (subst (λ (i : ℕ). IsAbove i limit (x.next + size)) (sym w.size) behind)
-              | inr q ↦ same.buffers j y q.1
-            ]) same,
+            above_buffers t' b (with_buffer b b.current m (buffer_of (x.next + size) r)) limit
+                (λ j y e. elim (set_cases b.open_buffers m j (buffer_of (x.next + size) r) (Some y) e) [
+                  | inl q ↦
+                      let at = buffer_at (x.next + size) r y (sym q.1) in
+                      let lt : size < n = omega (arith, at.1, at.2) in
+                      let behind = above_filler t limit x.next n size z fitting f.filler lt old in
+                      subst (λ (i : ℕ). IsAbove t'.words_per_region limit i) (sym at.0)
+                      (subst (λ (i : ℕ). IsAbove i limit (x.next + size)) (sym w.size) behind)
+                  | inr q ↦ same.buffers j y q.1
+                ]) same,
           );
     }
   where
-    between : (y u : Buffer) (j : ℕ) → buffer_of (x.next + size) (x.rest - size) ≡ Some y → y.next ≡ u.next → j ≢ m → slice_get b.open_buffers j ≡ Some (Some u) → ⊥
+    between : (y u : Buffer) (j : ℕ) → buffer_of (x.next + size) (x.rest - size) ≡ Some y → y.next ≡ u.next → j ≢ m
+        → slice_get b.open_buffers j ≡ Some (Some u) → ⊥
     between y u j e h ne eu =
         let at = buffer_at (x.next + size) (x.rest - size) y e in
         let g = s.fillers j u eu in
         let f = s.fillers m x here in
         let total : total_size (Filler size ∷ remainder (x.rest - size)) ≡ x.rest = omega (arith, remainder_total (x.rest - size)) in
-        let w = filler_replaced t x.next x.rest (Filler size ∷ remainder (x.rest - size)) z fitting f.filler f.positive (p, remainder_positive (x.rest - size)) total (remainder_unmoved (x.rest - size)) in
+        let w = filler_replaced t x.next x.rest (Filler size ∷ remainder (x.rest - size)) z fitting f.filler f.positive
+        (p, remainder_positive (x.rest - size)) total (remainder_unmoved (x.rest - size)) in
         let place : x.next + size ≡ u.next = sym at.0 ∙ h in
         let void : tile_in t u.next ≡ None = ap (tile_in t) (sym place) ∙ w.inside size p (omega (arith, at.2)) in
         let filler = g.filler in cc
 
 -- an object of its own at a region's top, by the steps that push its filler
-pub alone_placed : (t t1 t2 : Table) (c b : Buffers) (n k size a : ℕ) → c ≡ b → BuffersStand t b → HasNoForwarded t → HasRoom t t1 k size → n ≡ k → 0 < t1.words_per_region → AreFitting t1 → 0 < size → a ≡ n * t1.words_per_region + used_of t1 n → t2 ≡ push_tile t1 n (Filler size)
+pub alone_placed : (t t1 t2 : Table) (c b : Buffers) (n k size a : ℕ) → c ≡ b → BuffersStand t b → HasNoForwarded t → HasRoom t t1 k size
+    → n ≡ k → 0 < t1.words_per_region → AreFitting t1 → 0 < size → a ≡ n * t1.words_per_region + used_of t1 n
+    → t2 ≡ push_tile t1 n (Filler size)
     → IsPlaced t t2 b (record { words = c.words; current = Some k; open_buffers = c.open_buffers }) size a
 alone_placed t t1 t2 c b n k size a e s none r same z fitting p at is =
     let push = filler_push t1 k (Filler size) z fitting r.known r.ordinary p r.room tt in
     let at' : k * t1.words_per_region + used_of t1 k ≡ a = ap (λ (j : ℕ). j * t1.words_per_region + used_of t1 j) (sym same) ∙ sym at in
     let is' : push_tile t1 k (Filler size) ≡ t2 = ap (λ (j : ℕ). push_tile t1 j (Filler size)) (sym same) ∙ sym is in
-    let pushed : Pushed t1 t2 k a (Filler size) = subst (λ (j : ℕ). Pushed t1 t2 k j (Filler size)) at' (subst (λ (u : Table). Pushed t1 u k (k * t1.words_per_region + used_of t1 k) (Filler size)) is' push) in
-    subst (λ (d : Buffers). IsPlaced t t2 b (record { words = d.words; current = Some k; open_buffers = d.open_buffers }) size a) (sym e) (top_placed t t1 t2 b b.open_buffers k size size a s none r pushed (λ m x h. h) refl)
+    let pushed : Pushed t1 t2 k a (Filler size) =
+    subst (λ (j : ℕ). Pushed t1 t2 k j (Filler size)) at'
+    (subst (λ (u : Table). Pushed t1 u k (k * t1.words_per_region + used_of t1 k) (Filler size)) is' push) in
+    subst (λ (d : Buffers). IsPlaced t t2 b (record { words = d.words; current = Some k; open_buffers = d.open_buffers }) size a) (sym e)
+    (top_placed t t1 t2 b b.open_buffers k size size a s none r pushed (λ m x h. h) refl)
 
-pub alone_is : (t t1 t2 : Table) (c b : Buffers) (n k size a : ℕ) → c ≡ b → n ≡ k → room_for t c.current size ≡ Some (record { region = k; table = t1 }) → a ≡ n * t1.words_per_region + used_of t1 n → t2 ≡ push_tile t1 n (Filler size)
-    → alone b size (room_for t b.current size) ≡ Some (record { place = places.Filler a; table = t2; buffers = record { words = c.words; current = Some k; open_buffers = c.open_buffers } })
+pub alone_is : (t t1 t2 : Table) (c b : Buffers) (n k size a : ℕ) → c ≡ b → n ≡ k
+    → room_for t c.current size ≡ Some (record { region = k; table = t1 }) → a ≡ n * t1.words_per_region + used_of t1 n
+    → t2 ≡ push_tile t1 n (Filler size)
+    → alone b size (room_for t b.current size) ≡ Some
+    (record {
+      place = places.Filler a;
+      table = t2;
+      buffers = record { words = c.words; current = Some k; open_buffers = c.open_buffers };
+    })
 alone_is t t1 t2 c b n k size a e same is at push =
     ap (λ (d : Buffers). alone d size (room_for t d.current size)) (sym e) ∙ ap (alone c size) is ∙ rw (at, push, same) refl
 
-pub inside_placed : (t t' : Table) (c b : Buffers) (m size at next a : ℕ) (x : Buffer) (v : Option Buffer) → c ≡ b → BuffersStand t b → HasNoForwarded t → 0 < t.words_per_region → AreFitting t → slice_get b.open_buffers m ≡ Some (Some x) → 0 < size → size ≤ x.rest
-    → at ≡ x.next → t' ≡ replace_tile t at (Filler size ∷ remainder (x.rest - size)) → next ≡ at + size → v ≡ buffer_of next (x.rest - size) → a ≡ x.next
+pub inside_placed : (t t' : Table) (c b : Buffers) (m size at next a : ℕ) (x : Buffer) (v : Option Buffer) → c ≡ b → BuffersStand t b
+    → HasNoForwarded t → 0 < t.words_per_region → AreFitting t → slice_get b.open_buffers m ≡ Some (Some x) → 0 < size → size ≤ x.rest
+    → at ≡ x.next → t' ≡ replace_tile t at (Filler size ∷ remainder (x.rest - size)) → next ≡ at + size
+    → v ≡ buffer_of next (x.rest - size) → a ≡ x.next
     → IsPlaced t t' b (record { words = c.words; current = c.current; open_buffers = slice_set c.open_buffers m v }) size a
 inside_placed t t' c b m size at next a x v e s none z fitting here p le at_is is next_is v_is a_is =
-    let is' : t' ≡ replace_tile t x.next (Filler size ∷ remainder (x.rest - size)) = is ∙ ap (λ (j : ℕ). replace_tile t j (Filler size ∷ remainder (x.rest - size))) at_is in
-    let v' : v ≡ buffer_of (x.next + size) (x.rest - size) = v_is ∙ ap (λ (j : ℕ). buffer_of j (x.rest - size)) (next_is ∙ ap (λ (j : ℕ). j + size) at_is) in
+    let is' : t' ≡ replace_tile t x.next (Filler size ∷ remainder (x.rest - size)) =
+    is ∙ ap (λ (j : ℕ). replace_tile t j (Filler size ∷ remainder (x.rest - size))) at_is in
+    let v' : v ≡ buffer_of (x.next + size) (x.rest - size) =
+    v_is ∙ ap (λ (j : ℕ). buffer_of j (x.rest - size)) (next_is ∙ ap (λ (j : ℕ). j + size) at_is) in
     let w = split_placed t t' b m size x s none z fitting here p le is' in
-    let w1 : IsPlaced t t' b (with_buffer b b.current m v) size x.next = subst (λ (u : Option Buffer). IsPlaced t t' b (with_buffer b b.current m u) size x.next) (sym v') w in
-    let w2 : IsPlaced t t' b (with_buffer c c.current m v) size x.next = subst (λ (d : Buffers). IsPlaced t t' b (with_buffer d d.current m v) size x.next) (sym e) w1 in
+    let w1 : IsPlaced t t' b (with_buffer b b.current m v) size x.next =
+    subst (λ (u : Option Buffer). IsPlaced t t' b (with_buffer b b.current m u) size x.next) (sym v') w in
+    let w2 : IsPlaced t t' b (with_buffer c c.current m v) size x.next =
+    subst (λ (d : Buffers). IsPlaced t t' b (with_buffer d d.current m v) size x.next) (sym e) w1 in
     subst (λ (j : ℕ). IsPlaced t t' b (with_buffer c c.current m v) size j) (sym a_is) w2
 
-pub pushed_by : (t t1 t2 : Table) (n k w size a : ℕ) → HasRoom t t1 k w → size ≤ w → n ≡ k → 0 < t1.words_per_region → AreFitting t1 → 0 < size → a ≡ n * t1.words_per_region + used_of t1 n → t2 ≡ push_tile t1 n (Filler size) → Pushed t1 t2 k a (Filler size)
+pub pushed_by : (t t1 t2 : Table) (n k w size a : ℕ) → HasRoom t t1 k w → size ≤ w → n ≡ k → 0 < t1.words_per_region → AreFitting t1
+    → 0 < size → a ≡ n * t1.words_per_region + used_of t1 n → t2 ≡ push_tile t1 n (Filler size) → Pushed t1 t2 k a (Filler size)
 pushed_by t t1 t2 n k w size a r le same z fitting p at is =
     let push = filler_push t1 k (Filler size) z fitting r.known r.ordinary p (let room = r.room in omega arith) tt in
     let at' : k * t1.words_per_region + used_of t1 k ≡ a = ap (λ (j : ℕ). j * t1.words_per_region + used_of t1 j) (sym same) ∙ sym at in
     let is' : push_tile t1 k (Filler size) ≡ t2 = ap (λ (j : ℕ). push_tile t1 j (Filler size)) (sym same) ∙ sym is in
-    subst (λ (j : ℕ). Pushed t1 t2 k j (Filler size)) at' (subst (λ (u : Table). Pushed t1 u k (k * t1.words_per_region + used_of t1 k) (Filler size)) is' push)
+    subst (λ (j : ℕ). Pushed t1 t2 k j (Filler size)) at'
+    (subst (λ (u : Table). Pushed t1 u k (k * t1.words_per_region + used_of t1 k) (Filler size)) is' push)
 
 -- the room that is left behind the object
 pub record NextRoom (t2 : Table) (k rest : ℕ) : Type 0 where
@@ -326,7 +374,8 @@ pub record NextRoom (t2 : Table) (k rest : ℕ) : Type 0 where
   pub unmoved : HasNoForwarded t2
   pub room : used_of t2 k + rest ≤ t2.words_per_region
 
-pub next_room : (t t1 t2 : Table) (k n w size a : ℕ) → HasNoForwarded t → HasRoom t t1 k w → size ≤ w → Pushed t1 t2 k a (Filler size) → n ≡ k → NextRoom t2 n (w - size)
+pub next_room : (t t1 t2 : Table) (k n w size a : ℕ) → HasNoForwarded t → HasRoom t t1 k w → size ≤ w → Pushed t1 t2 k a (Filler size)
+    → n ≡ k → NextRoom t2 n (w - size)
 next_room t t1 t2 k n w size a none r le p same = rw same (record {
   known = rw p.count r.known;
   ordinary = p.kinds_same k ∙ r.ordinary;
@@ -334,37 +383,54 @@ next_room t t1 t2 k n w size a none r le p same = rw same (record {
   room = (let used = p.used in let size_is = p.size in let room = r.room in omega arith);
 })
 
-less : (b : Buffers) (i m : ℕ) (x : Buffer) → slice_get (slice_set b.open_buffers i None) m ≡ Some (Some x) → slice_get b.open_buffers m ≡ Some (Some x)
+less : (b : Buffers) (i m : ℕ) (x : Buffer) → slice_get (slice_set b.open_buffers i None) m ≡ Some (Some x)
+    → slice_get b.open_buffers m ≡ Some (Some x)
 less b i m x e = elim (set_cases b.open_buffers i m None (Some x) e) [ inl q ↦ absurd (let h = q.1 in cc) | inr q ↦ q.1 ]
 
-pub whole_placed : (t t1 t2 : Table) (c b : Buffers) (m k w size a : ℕ) → c ≡ b → BuffersStand t b → HasNoForwarded t → HasRoom t t1 k w → Pushed t1 t2 k a (Filler size)
+pub whole_placed : (t t1 t2 : Table) (c b : Buffers) (m k w size a : ℕ) → c ≡ b → BuffersStand t b → HasNoForwarded t → HasRoom t t1 k w
+    → Pushed t1 t2 k a (Filler size)
     → IsPlaced t t2 b (record { words = c.words; current = Some k; open_buffers = slice_set c.open_buffers m None }) size a
 whole_placed t t1 t2 c b m k w size a e s none r p =
-    subst (λ (d : Buffers). IsPlaced t t2 b (record { words = d.words; current = Some k; open_buffers = slice_set d.open_buffers m None }) size a) (sym e)
+    subst (λ (d : Buffers). IsPlaced t t2 b
+    (record { words = d.words; current = Some k; open_buffers = slice_set d.open_buffers m None }) size a) (sym e)
     (top_placed t t1 t2 b (slice_set b.open_buffers m None) k w size a s none r p (less b m) (length-set b.open_buffers m None))
 
 some_buffer : (next rest : ℕ) → 0 < rest → buffer_of next rest ≡ Some (record { next = next; rest = rest })
 some_buffer next zero z = absurd (omega arith)
 some_buffer next (suc n) z = refl
 
-pub part_placed : (t t1 t2 t3 : Table) (c b : Buffers) (m k n w size rest a a2 next : ℕ) (v : Option Buffer) → c ≡ b → BuffersStand t b → HasNoForwarded t → HasRoom t t1 k w → size ≤ w → Pushed t1 t2 k a (Filler size) → n ≡ k → rest ≡ w - size → 0 < rest
-    → 0 < t2.words_per_region → AreFitting t2 → a2 ≡ n * t2.words_per_region + used_of t2 n → t3 ≡ push_tile t2 n (Filler rest) → next ≡ a2 → v ≡ buffer_of next rest
+pub part_placed : (t t1 t2 t3 : Table) (c b : Buffers) (m k n w size rest a a2 next : ℕ) (v : Option Buffer) → c ≡ b → BuffersStand t b
+    → HasNoForwarded t → HasRoom t t1 k w → size ≤ w → Pushed t1 t2 k a (Filler size) → n ≡ k → rest ≡ w - size → 0 < rest
+    → 0 < t2.words_per_region → AreFitting t2 → a2 ≡ n * t2.words_per_region + used_of t2 n → t3 ≡ push_tile t2 n (Filler rest) → next ≡ a2
+    → v ≡ buffer_of next rest
     → IsPlaced t t3 b (record { words = c.words; current = Some k; open_buffers = slice_set c.open_buffers m v }) size a
 part_placed t t1 t2 t3 c b m k n w size rest a a2 next v e s none r le p same rest_is z big fitting at is next_is v_is =
     let nr = next_room t t1 t2 k n w size a none r le p same in
     let push = filler_push t2 n (Filler rest) big fitting nr.known nr.ordinary z (let room = nr.room in omega arith) tt in
-    let pushed : Pushed t2 t3 n a2 (Filler rest) = subst (λ (j : ℕ). Pushed t2 t3 n j (Filler rest)) (sym at) (subst (λ (u : Table). Pushed t2 u n (n * t2.words_per_region + used_of t2 n) (Filler rest)) (sym is) push) in
+    let pushed : Pushed t2 t3 n a2 (Filler rest) =
+    subst (λ (j : ℕ). Pushed t2 t3 n j (Filler rest)) (sym at)
+    (subst (λ (u : Table). Pushed t2 u n (n * t2.words_per_region + used_of t2 n) (Filler rest)) (sym is) push) in
     let base = top_placed t t1 t2 b b.open_buffers k w size a s none r p (λ m x h. h) refl in
     let done = rest_placed t t2 t3 b _ m n size rest a a2 base pushed z in
     let v' : v ≡ Some (record { next = a2; rest = rest }) = v_is ∙ ap (λ (j : ℕ). buffer_of j rest) next_is ∙ some_buffer a2 rest z in
-    subst (λ (d : Buffers). IsPlaced t t3 b (record { words = d.words; current = Some k; open_buffers = slice_set d.open_buffers m v }) size a) (sym e)
-    (subst (λ (u : Option Buffer). IsPlaced t t3 b (record { words = b.words; current = Some k; open_buffers = slice_set b.open_buffers m u }) size a) (sym v') done)
+    subst (λ (d : Buffers). IsPlaced t t3 b
+    (record { words = d.words; current = Some k; open_buffers = slice_set d.open_buffers m v }) size a) (sym e)
+    (subst (λ (u : Option Buffer). IsPlaced t t3 b
+    (record { words = b.words; current = Some k; open_buffers = slice_set b.open_buffers m u }) size a) (sym v') done)
 
-pub in_new_is : (t t1 t2 t3 : Table) (c b : Buffers) (m n k size a : ℕ) (v : Option Buffer) → c ≡ b → n ≡ k → room_for t c.current c.words ≡ Some (record { region = k; table = t1 }) → a ≡ n * t1.words_per_region + used_of t1 n → t2 ≡ push_tile t1 n (Filler size)
+pub in_new_is : (t t1 t2 t3 : Table) (c b : Buffers) (m n k size a : ℕ) (v : Option Buffer) → c ≡ b → n ≡ k
+    → room_for t c.current c.words ≡ Some (record { region = k; table = t1 }) → a ≡ n * t1.words_per_region + used_of t1 n
+    → t2 ≡ push_tile t1 n (Filler size)
     → t3 ≡ with_filler t2 k (c.words - size) → v ≡ buffer_of (a + size) (c.words - size)
-    → in_new_buffer b m size (room_for t b.current b.words) ≡ Some (record { place = places.Filler a; table = t3; buffers = record { words = c.words; current = Some k; open_buffers = slice_set c.open_buffers m v } })
+    → in_new_buffer b m size (room_for t b.current b.words) ≡ Some
+    (record {
+      place = places.Filler a;
+      table = t3;
+      buffers = record { words = c.words; current = Some k; open_buffers = slice_set c.open_buffers m v };
+    })
 in_new_is t t1 t2 t3 c b m n k size a v e same is at push more v_is =
-    ap (λ (d : Buffers). in_new_buffer d m size (room_for t d.current d.words)) (sym e) ∙ ap (in_new_buffer c m size) is ∙ rw (v_is, more, push, at, same) refl
+    ap (λ (d : Buffers). in_new_buffer d m size (room_for t d.current d.words)) (sym e) ∙ ap (in_new_buffer c m size) is
+    ∙ rw (v_is, more, push, at, same) refl
 
 some_filler : (t : Table) (k r : ℕ) → 0 < r → with_filler t k r ≡ push_tile t k (Filler r)
 some_filler t k zero z = absurd (omega arith)
@@ -373,8 +439,10 @@ some_filler t k (suc r) z = refl
 pub nothing_more : (t : Table) (k r next : ℕ) → r ≡ 0 → (t ≡ with_filler t k r) × (None ≡ buffer_of next r)
 nothing_more t k r next z = (ap (with_filler t k) (sym z), ap (buffer_of next) (sym z))
 
-pub more_is : (t1 t2 t3 : Table) (k n1 n2 size rest a a2 next : ℕ) (v : Option Buffer) → n1 ≡ k → n2 ≡ k → 0 < rest → Pushed t1 t2 k a (Filler size) → a ≡ n1 * t1.words_per_region + used_of t1 n1
-    → a2 ≡ n2 * t2.words_per_region + used_of t2 n2 → t3 ≡ push_tile t2 n2 (Filler rest) → next ≡ a2 → v ≡ buffer_of next rest → (t3 ≡ with_filler t2 k rest) × (v ≡ buffer_of (a + size) rest)
+pub more_is : (t1 t2 t3 : Table) (k n1 n2 size rest a a2 next : ℕ) (v : Option Buffer) → n1 ≡ k → n2 ≡ k → 0 < rest
+    → Pushed t1 t2 k a (Filler size) → a ≡ n1 * t1.words_per_region + used_of t1 n1
+    → a2 ≡ n2 * t2.words_per_region + used_of t2 n2 → t3 ≡ push_tile t2 n2 (Filler rest) → next ≡ a2 → v ≡ buffer_of next rest
+    → (t3 ≡ with_filler t2 k rest) × (v ≡ buffer_of (a + size) rest)
 more_is t1 t2 t3 k n1 n2 size rest a a2 next v e1 e2 z p at at2 is next_is v_is =
     let x : a ≡ k * t1.words_per_region + used_of t1 k = at ∙ ap (λ (j : ℕ). j * t1.words_per_region + used_of t1 j) e1 in
     let y : a2 ≡ k * t2.words_per_region + used_of t2 k = at2 ∙ ap (λ (j : ℕ). j * t2.words_per_region + used_of t2 j) e2 in
@@ -398,7 +466,8 @@ closed_stand t words mutators = record {
 }
 
 -- where no buffer is open, the tops are all that is to be handed out
-pub retired_above : (t : Table) (b : Buffers) (n : ℕ) (limit : ℕ → ℕ) → b.open_buffers ≡ replicate n None → ((k : ℕ) → k < length t.regions → limit k ≤ top_of t k) → AreAbove t b limit
+pub retired_above : (t : Table) (b : Buffers) (n : ℕ) (limit : ℕ → ℕ) → b.open_buffers ≡ replicate n None
+    → ((k : ℕ) → k < length t.regions → limit k ≤ top_of t k) → AreAbove t b limit
 retired_above t b n limit is tops = record {
   tops = tops;
   buffers = λ m x e. absurd (none_open n m x (subst (λ (opens : List (Option Buffer)). slice_get opens m ≡ Some (Some x)) is e));

@@ -16,7 +16,8 @@ pub record IsReady (regions region words mutators : ℕ) (t : Table) (b : Buffer
   pub unmoved : HasNoForwarded t
   pub stand : BuffersStand t b
 
-pub ready_new : (regions region words mutators : ℕ) (t : Table) (b : Buffers) → t ≡ free_table regions region → HasNoForwarded t → b ≡ closed words mutators → BuffersStand t b → IsReady regions region words mutators t b
+pub ready_new : (regions region words mutators : ℕ) (t : Table) (b : Buffers) → t ≡ free_table regions region → HasNoForwarded t
+    → b ≡ closed words mutators → BuffersStand t b → IsReady regions region words mutators t b
 unfolding free_table
 ready_new regions region words mutators t b table none buffers stand = record {
   count = ap (λ (d : Buffers). length d.open_buffers) buffers ∙ length-replicate mutators _;
@@ -27,11 +28,14 @@ ready_new regions region words mutators t b table none buffers stand = record {
   stand = stand;
 }
 
-same_ready : (regions region words mutators : ℕ) (t t' : Table) (b b' : Buffers) → t' ≡ t → b' ≡ b → IsReady regions region words mutators t b → IsReady regions region words mutators t' b'
+same_ready : (regions region words mutators : ℕ) (t t' : Table) (b b' : Buffers) → t' ≡ t → b' ≡ b
+    → IsReady regions region words mutators t b → IsReady regions region words mutators t' b'
 same_ready regions region words mutators t t' b b' table buffers ready =
-    subst (λ (u : Table). IsReady regions region words mutators u b') (sym table) (subst (λ (d : Buffers). IsReady regions region words mutators t d) (sym buffers) ready)
+    subst (λ (u : Table). IsReady regions region words mutators u b') (sym table)
+    (subst (λ (d : Buffers). IsReady regions region words mutators t d) (sym buffers) ready)
 
-pub ready_after : {E : Type 0} (r : Result Place E) (regions region words mutators size : ℕ) (t t' : Table) (b b' : Buffers) → IsReady regions region words mutators t b
+pub ready_after : {E : Type 0} (r : Result Place E) (regions region words mutators size : ℕ) (t t' : Table) (b b' : Buffers)
+    → IsReady regions region words mutators t b
     → IfOk r (λ p. IsPlace t t' b b' size p) → OnErr r (t' ≡ t) → OnErr r (b' ≡ b) → IsReady regions region words mutators t' b'
 ready_after (Ok (places.Filler a)) regions region words mutators size t t' b b' ready place table buffers =
     let placed = place.1 in
@@ -43,5 +47,7 @@ ready_after (Ok (places.Filler a)) regions region words mutators size t t' b b' 
       unmoved = placed.unmoved;
       stand = placed.stand;
     }
-ready_after (Ok (places.Run k count)) regions region words mutators size t t' b b' ready place table buffers = same_ready regions region words mutators t t' b b' place.1.table place.1.buffers ready
-ready_after (Err e) regions region words mutators size t t' b b' ready place table buffers = same_ready regions region words mutators t t' b b' table buffers ready
+ready_after (Ok (places.Run k count)) regions region words mutators size t t' b b' ready place table buffers =
+    same_ready regions region words mutators t t' b b' place.1.table place.1.buffers ready
+ready_after (Err e) regions region words mutators size t t' b b' ready place table buffers =
+    same_ready regions region words mutators t t' b b' table buffers ready

@@ -1,9 +1,11 @@
 -- Where an object goes.
-use Rattle.std.specs.Prelude.{◌≡◌, ◌≢◌, [], ◌∷◌, ℕ, zero, suc, ◌+◌, ◌-◌, ◌*◌, ◌/◌, ◌<◌, ◌≤◌, Option, Some, None, List, replicate, slice_get, slice_set, slice_index_or, length, if◌then◌else◌, nat_le}
+use Rattle.std.specs.Prelude.{◌≡◌, ◌≢◌, ◌∷◌, ◌+◌, ◌-◌, ◌*◌, ◌/◌, ◌<◌, ◌≤◌, if◌then◌else◌}
+use Rattle.std.specs.Prelude.{[], ℕ, zero, suc, Option, Some, None, List, replicate, slice_get, slice_set, slice_index_or, length, nat_le}
 use Rattle.heap_model.specs.Heap.{Stored}
 use Rattle.regions.specs.Tiles.{Filler, Object}
 use Rattle.regions.specs.declared.row.Kind.TheVariants as kinds
-use Rattle.regions.specs.Table.{Table, used_of, top_of, kind_of, first_free, taken, push_tile, replace_tile, remainder, tile_in, object_at, HasNoForwarded, first_run, is_free, with_regions, run_regions}
+use Rattle.regions.specs.Table.{Table, used_of, top_of, kind_of, first_free, taken, push_tile, replace_tile, remainder, tile_in, object_at}
+use Rattle.regions.specs.Table.{HasNoForwarded, first_run, is_free, with_regions, run_regions}
 use Rattle.alloc_buffers.specs.declared.buffers.Buffer.{Buffer}
 use Rattle.alloc_buffers.specs.declared.placement.Place.{Place}
 use Rattle.alloc_buffers.specs.declared.placement.Place.TheVariants as places
@@ -33,7 +35,8 @@ fresh_room t (Some k) = Some (record { region = k; table = taken t (Some k) })
 
 abbrev pub room_for : Table → Option ℕ → ℕ → Option Room
 room_for t None w = fresh_room t (first_free t)
-room_for t (Some k) w = if nat_le (used_of t k + w) t.words_per_region then Some (record { region = k; table = t }) else fresh_room t (first_free t)
+room_for t (Some k) w = if nat_le (used_of t k + w) t.words_per_region then Some (record { region = k; table = t }) else fresh_room t
+    (first_free t)
 
 -- an open buffer, unless it has no words
 abbrev pub buffer_of : ℕ → ℕ → Option Buffer
@@ -64,7 +67,8 @@ alone b size (Some r) = Some (record {
 })
 
 abbrev pub outside : Table → Buffers → ℕ → ℕ → Option Placement
-outside t b m size = if nat_le size b.words then in_new_buffer b m size (room_for t b.current b.words) else alone b size (room_for t b.current size)
+outside t b m size = if nat_le size b.words then in_new_buffer b m size (room_for t b.current b.words) else alone b size
+    (room_for t b.current size)
 
 abbrev pub in_buffer : Table → Buffers → ℕ → ℕ → Buffer → Placement
 in_buffer t b m size x = record {
@@ -111,7 +115,8 @@ pub record BuffersStand (t : Table) (b : Buffers) : Type 0 where
   pub known : (k : ℕ) → b.current ≡ Some k → k < length t.regions
   pub ordinary : (k : ℕ) → b.current ≡ Some k → kind_of t k ≡ kinds.Ordinary
   pub fillers : (m : ℕ) (x : Buffer) → slice_get b.open_buffers m ≡ Some (Some x) → HasFiller t x
-  pub apart : (m n : ℕ) (x y : Buffer) → slice_get b.open_buffers m ≡ Some (Some x) → slice_get b.open_buffers n ≡ Some (Some y) → x.next ≡ y.next → m ≡ n
+  pub apart : (m n : ℕ) (x y : Buffer) → slice_get b.open_buffers m ≡ Some (Some x) → slice_get b.open_buffers n ≡ Some (Some y)
+      → x.next ≡ y.next → m ≡ n
 
 -- what placing an object of a size asks for: it has words, a buffer is no larger than a region, nothing was moved, and buffers stand
 pub record CanPlace (t : Table) (b : Buffers) (size : ℕ) : Type 0 where

@@ -1,10 +1,12 @@
 //! Where an object goes: into a buffer, beside the buffers, or into a run of its own.
 
-ghost use Rattle.std.specs.Prelude.{◌≡◌, ◌<◌, ◌≤◌, ◌+◌, ◌-◌, ◌*◌, ◌^◌, ◌↔◌, ◌∷◌, length, Some, None, IfOk, OnErr, IsErr, IfSome, IfNone, slice_get};
+ghost use Rattle.std.specs.Prelude.{◌≡◌, ◌<◌, ◌≤◌, ◌+◌, ◌-◌, ◌*◌, ◌^◌, ◌↔◌, ◌∷◌};
+ghost use Rattle.std.specs.Prelude.{length, Some, None, IfOk, OnErr, IsErr, IfSome, IfNone, slice_get};
 ghost use Rattle.regions.specs.Table.{used_of, kind_of, tile_in, push_tile, replace_tile, remainder};
 ghost use Rattle.regions.specs.Tiles.{Filler};
 ghost use Rattle.regions.specs.declared.row.Kind.TheVariants as kinds;
-ghost use Rattle.alloc_buffers.specs.Placement.{room_for, place_of, small_place_of, run_count, CanPlace, IsPlaced, IsPlace, HasRoom, in_buffer, alone, in_new_buffer};
+ghost use Rattle.alloc_buffers.specs.Placement.{room_for, place_of, small_place_of, run_count, CanPlace, IsPlaced, IsPlace, HasRoom};
+ghost use Rattle.alloc_buffers.specs.Placement.{in_buffer, alone, in_new_buffer};
 
 use crate::buffers::{AllocBuffers, Buffer, open_buffer};
 use heap_words::addr::{Addr, RegionNo};
@@ -89,7 +91,8 @@ impl AllocBuffers {
         requires mutator { mutator < length self.old.open_buffers }
         requires within { size ≤ length table.old.regions * table.old.words_per_region }
         requires ready { CanPlace table.old self.old size }
-        ensures place { IfOk result (λ p. place_of table.old self.old mutator size ≡ Some (record { place = p; table = table.new; buffers = self.new })) }
+        ensures place { IfOk result (λ p. place_of table.old self.old mutator size ≡ Some
+            (record { place = p; table = table.new; buffers = self.new })) }
         ensures full { IsErr result ↔ (place_of table.old self.old mutator size ≡ None) }
         ensures table_same { OnErr result (table.new ≡ table.old) }
         ensures buffers_same { OnErr result (self.new ≡ self.old) }
@@ -148,7 +151,8 @@ impl AllocBuffers {
         requires ready { CanPlace table.old self.old size }
         requires opened { slice_get self.old.open_buffers mutator ≡ Some (Some buffer) }
         requires room { size ≤ buffer.rest }
-        ensures some { in_buffer table.old self.old mutator size buffer ≡ record { place = Place.Filler result; table = table.new; buffers = self.new } }
+        ensures some { in_buffer table.old self.old mutator size buffer
+            ≡ record { place = Place.Filler result; table = table.new; buffers = self.new } }
         ensures placed { IsPlaced table.old table.new self.old self.new size result }
     {
         table.law();

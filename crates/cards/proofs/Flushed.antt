@@ -1,5 +1,7 @@
 -- Logs that go to the queue one after another.
-use Rattle.std.proofs.Common.{◌≡◌, ℕ, ◌+◌, ◌<◌, ◌≤◌, List, [], ◌∷◌, ◌++◌, length, get_or, set, take, drop, replicate, zero, suc, refl, sym, ap, ◌∙◌, arith, add-one, append_assoc, length-append}
+use Rattle.std.proofs.Common.{◌≡◌, ◌+◌, ◌<◌, ◌≤◌, ◌∷◌, ◌++◌, ◌∙◌}
+use Rattle.std.proofs.Common.{ℕ, List, [], length, get_or, set, take, drop, replicate, zero, suc, refl, sym, ap, arith, add-one}
+use Rattle.std.proofs.Common.{append_assoc, length-append}
 use Rattle.std.specs.List.{concat}
 use Rattle.std.proofs.Math.Seq.{drop-length, take-length}
 use Rattle.std.proofs.lemmas.List.{append-nil, length-drop, length-replicate}
@@ -13,7 +15,8 @@ flushed_up_to n t = record {
   queue = t.queue ++ concat (take n t.logs);
 }
 
-emptied_more : (logs : List (List ℕ)) (i : ℕ) → i < length logs → set (replicate i [] ++ drop i logs) i [] ≡ replicate (suc i) [] ++ drop (suc i) logs
+emptied_more : (logs : List (List ℕ)) (i : ℕ) → i < length logs
+    → set (replicate i [] ++ drop i logs) i [] ≡ replicate (suc i) [] ++ drop (suc i) logs
 emptied_more [] i h = absurd (omega arith)
 emptied_more (log ∷ logs) zero h = refl
 emptied_more (log ∷ logs) (suc i) h = ap (λ l. [] ∷ l) (emptied_more logs i (omega arith))
@@ -21,7 +24,8 @@ emptied_more (log ∷ logs) (suc i) h = ap (λ l. [] ∷ l) (emptied_more logs i
 concat_more : (logs : List (List ℕ)) (i : ℕ) → i < length logs → concat (take (suc i) logs) ≡ concat (take i logs) ++ get_or logs i []
 concat_more [] i h = absurd (omega arith)
 concat_more (log ∷ logs) zero h = append-nil log
-concat_more (log ∷ logs) (suc i) h = ap (λ l. log ++ l) (concat_more logs i (omega arith)) ∙ sym (append_assoc log (concat (take i logs)) (get_or logs i []))
+concat_more (log ∷ logs) (suc i) h = ap (λ l. log ++ l) (concat_more logs i (omega arith))
+    ∙ sym (append_assoc log (concat (take i logs)) (get_or logs i []))
 
 log_left : (logs : List (List ℕ)) (i : ℕ) → i < length logs → get_or (replicate i [] ++ drop i logs) i [] ≡ get_or logs i []
 log_left [] i h = absurd (omega arith)
@@ -31,8 +35,10 @@ log_left (log ∷ logs) (suc i) h = log_left logs i (omega arith)
 -- one more log goes
 pub sent_more : (t : Cards) (i : ℕ) → i < length t.logs → sent (flushed_up_to i t) i ≡ flushed_up_to (i + 1) t
 sent_more t i h =
-    let queue : (t.queue ++ concat (take i t.logs)) ++ get_or (replicate i [] ++ drop i t.logs) i [] ≡ t.queue ++ concat (take (suc i) t.logs) =
-    ap (λ l. (t.queue ++ concat (take i t.logs)) ++ l) (log_left t.logs i h) ∙ append_assoc t.queue (concat (take i t.logs)) (get_or t.logs i []) ∙ ap (λ l. t.queue ++ l) (sym (concat_more t.logs i h)) in
+    let queue : (t.queue ++ concat (take i t.logs)) ++ get_or (replicate i [] ++ drop i t.logs) i [] ≡ t.queue ++ concat
+    (take (suc i) t.logs) =
+    ap (λ l. (t.queue ++ concat (take i t.logs)) ++ l) (log_left t.logs i h)
+    ∙ append_assoc t.queue (concat (take i t.logs)) (get_or t.logs i []) ∙ ap (λ l. t.queue ++ l) (sym (concat_more t.logs i h)) in
     rw (add-one, emptied_more t.logs i h, queue) refl
 
 pub all_sent : (t : Cards) (n : ℕ) → n ≡ length t.logs → flushed_up_to n t ≡ flushed t

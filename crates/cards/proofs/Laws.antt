@@ -1,5 +1,7 @@
 -- Which cards are dirty after each change, and that the dirty cards are those that are listed.
-use Rattle.std.proofs.Common.{inl, inr, not, ◌≡◌, ◌⊎◌, ◌||◌, ◌&&◌, ℕ, ◌<◌, ◌≤◌, Bool, true, false, cond, eqb, List, [], ◌∷◌, length, get_or, set, sum_by, ⊎_elim, refl, ap, ◌∙◌, arith, get_or-set_same, get_or-set_other}
+use Rattle.std.proofs.Common.{◌≡◌, ◌⊎◌, ◌||◌, ◌&&◌, ◌<◌, ◌≤◌, ◌∷◌, ◌∙◌}
+use Rattle.std.proofs.Common.{inl, inr, not, ℕ, Bool, true, false, cond, eqb, List, [], length, get_or, set, sum_by, ⊎_elim, refl, ap}
+use Rattle.std.proofs.Common.{arith, get_or-set_same, get_or-set_other}
 use Rattle.std.specs.List.{Contains, concat}
 use Rattle.std.proofs.lemmas.Bool.{cases_eq, cases_lt, eq-eqb, ne_eqb}
 use Rattle.std.proofs.lemmas.List.Elements.{Contains-append_right, Contains-append_cases, Contains-push_cases}
@@ -16,16 +18,19 @@ and_of : (b v : Bool) → cond b false v ≡ (not b && v)
 and_of true v = refl
 and_of false v = refl
 
-flag_after : (flags : List Bool) (c x : ℕ) (v : Bool) → c < length flags → get_or (set flags c v) x false ≡ cond (eqb x c) v (get_or flags x false)
+flag_after : (flags : List Bool) (c x : ℕ) (v : Bool) → c < length flags
+    → get_or (set flags c v) x false ≡ cond (eqb x c) v (get_or flags x false)
 flag_after flags c x v h = ⊎_elim
     (λ (same : x ≡ c). rw (same, eq-eqb c c refl) (get_or-set_same flags c v false h))
     (λ differs. rw (ne_eqb x c differs) (get_or-set_other flags c x v false differs))
     (cases_eq x c)
 
-pub flag_set_after : (flags : List Bool) (c x : ℕ) → c < length flags → get_or (set flags c true) x false ≡ (eqb x c || get_or flags x false)
+pub flag_set_after : (flags : List Bool) (c x : ℕ) → c < length flags
+    → get_or (set flags c true) x false ≡ (eqb x c || get_or flags x false)
 flag_set_after flags c x h = flag_after flags c x true h ∙ or_of (eqb x c) (get_or flags x false)
 
-pub flag_cleared_after : (flags : List Bool) (c x : ℕ) → c < length flags → get_or (set flags c false) x false ≡ (not (eqb x c) && get_or flags x false)
+pub flag_cleared_after : (flags : List Bool) (c x : ℕ) → c < length flags
+    → get_or (set flags c false) x false ≡ (not (eqb x c) && get_or flags x false)
 flag_cleared_after flags c x h = flag_after flags c x false h ∙ and_of (eqb x c) (get_or flags x false)
 
 -- a card that is dirty already
@@ -46,7 +51,8 @@ counted_in : (xs : List ℕ) (c : ℕ) → 0 < times_in c xs → Contains xs c
 counted_in [] c h = absurd (omega (arith, h))
 counted_in (x ∷ xs) c h = ⊎_elim
     (λ (same : x ≡ c). (0, omega arith, same))
-    (λ differs. Contains-append_right (x ∷ []) xs c (counted_in xs c (omega (arith, h, sum_by-cons (λ y. bit (eqb y c)) x xs, ap bit (ne_eqb x c differs)))))
+    (λ differs. Contains-append_right (x ∷ []) xs c
+    (counted_in xs c (omega (arith, h, sum_by-cons (λ y. bit (eqb y c)) x xs, ap bit (ne_eqb x c differs)))))
     (cases_eq x c)
 
 none : (c : ℕ) → Contains [] c → ⊥
@@ -64,12 +70,18 @@ counts (x ∷ xs) c h = ⊎_elim
 
 times_in-concat : (x : ℕ) (logs : List (List ℕ)) → times_in x (concat logs) ≡ sum_by (times_in x) logs
 times_in-concat x [] = refl
-times_in-concat x (log ∷ logs) = omega (arith, sum_by-append (λ y. bit (eqb y x)) log (concat logs), sum_by-cons (times_in x) log logs, times_in-concat x logs)
+times_in-concat x (log ∷ logs) = omega (
+  arith,
+  sum_by-append (λ y. bit (eqb y x)) log (concat logs),
+  sum_by-cons (times_in x) log logs,
+  times_in-concat x logs,
+)
 
 pub where_dirty : (t : Cards) (c : ℕ) → ListsDirtyOnce t → is_dirty t c ≡ true → Contains t.queue c ⊎ Contains (concat t.logs) c
 where_dirty t c once e = ⊎_elim
     (λ queued. inl (counted_in t.queue c queued))
-    (λ (not_queued : times_in c t.queue ≤ 0). inr (counted_in (concat t.logs) c (omega (arith, not_queued, once.each c, ap bit e, times_in-concat c t.logs))))
+    (λ (not_queued : times_in c t.queue ≤ 0). inr
+    (counted_in (concat t.logs) c (omega (arith, not_queued, once.each c, ap bit e, times_in-concat c t.logs))))
     (cases_lt 0 (times_in c t.queue))
 
 pub queued_is_dirty : (t : Cards) (c : ℕ) → ListsDirtyOnce t → Contains t.queue c → is_dirty t c ≡ true

@@ -1,5 +1,7 @@
 -- Each change of the cards keeps each dirty card listed once.
-use Rattle.std.proofs.Common.{◌≡◌, ℕ, ◌+◌, ◌<◌, ◌≤◌, Bool, true, false, cond, eqb, List, [], ◌∷◌, ◌++◌, length, get_or, set, replicate, zero, suc, sum_by, count_by, All, ⊎_elim, lit<, refl, sym, ap, ◌∙◌, arith, get_or-set_same, get_or-set_other, length-set, length-append}
+use Rattle.std.proofs.Common.{◌≡◌, ◌+◌, ◌<◌, ◌≤◌, ◌∷◌, ◌++◌, ◌∙◌}
+use Rattle.std.proofs.Common.{ℕ, Bool, true, false, cond, eqb, List, [], length, get_or, set, replicate, zero, suc, sum_by, count_by, All}
+use Rattle.std.proofs.Common.{⊎_elim, lit<, refl, sym, ap, arith, get_or-set_same, get_or-set_other, length-set, length-append}
 use Rattle.std.proofs.lemmas.Bool.{cases_lt, cases_eq, eq-eqb, ne_eqb, false≢true}
 use Rattle.std.proofs.lemmas.List.{get_or_past, get_or-replicate, length-replicate}
 use Rattle.std.proofs.lemmas.List.Elements.{All-replicate}
@@ -34,7 +36,8 @@ one_at c x = bit (eqb c x)
 
 -- a card that is listed is dirty, and so it is a card
 pub dirty_from_listed : (t : Cards) (c : ℕ) → ListsDirtyOnce t → 0 < times_listed t c → is_dirty t c ≡ true
-dirty_from_listed t c once h = elim (is_dirty t c) as (λ b. is_dirty t c ≡ b → b ≡ true) [ true ↦ λ e. refl | false ↦ λ e. absurd (omega (arith, once.each c, ap bit e)) ] refl
+dirty_from_listed t c once h = elim (is_dirty t c) as
+    (λ b. is_dirty t c ≡ b → b ≡ true) [ true ↦ λ e. refl | false ↦ λ e. absurd (omega (arith, once.each c, ap bit e)) ] refl
 
 card_from_dirty : (t : Cards) (c : ℕ) → is_dirty t c ≡ true → c < length t.dirty
 card_from_dirty t c e = ⊎_elim (λ h. h) (λ h. absurd (false≢true (sym (get_or_past t.dirty c false h) ∙ e))) (cases_lt c (length t.dirty))
@@ -57,7 +60,8 @@ dirty_other : (t u : Cards) (c x : ℕ) (v : Bool) → u.dirty ≡ set t.dirty c
 dirty_other t u c x v flag differs = ap (λ d. get_or d x false) flag ∙ get_or-set_other t.dirty c x v false (λ e. differs (sym e))
 
 -- a clean card becomes dirty, and is listed once more
-IsCounted-more : (t u : Cards) (c : ℕ) → IsCounted t → c < length t.dirty → is_dirty t c ≡ false → u.dirty ≡ set t.dirty c true → ((x : ℕ) → times_listed u x ≡ times_listed t x + one_at c x) → listed_count u ≡ listed_count t + 1 → IsCounted u
+IsCounted-more : (t u : Cards) (c : ℕ) → IsCounted t → c < length t.dirty → is_dirty t c ≡ false → u.dirty ≡ set t.dirty c true
+    → ((x : ℕ) → times_listed u x ≡ times_listed t x + one_at c x) → listed_count u ≡ listed_count t + 1 → IsCounted u
 IsCounted-more t u c all h clean flag times count = record {
   listed = record {
     each = λ x. ⊎_elim
@@ -71,9 +75,11 @@ IsCounted-more t u c all h clean flag times count = record {
 }
 
 -- the front of the queue leaves it, and becomes clean
-pub IsCounted-taken : (t u : Cards) (c : ℕ) → IsCounted t → t.queue ≡ c ∷ u.queue → u.dirty ≡ set t.dirty c false → u.logs ≡ t.logs → IsCounted u
+pub IsCounted-taken : (t u : Cards) (c : ℕ) → IsCounted t → t.queue ≡ c ∷ u.queue → u.dirty ≡ set t.dirty c false → u.logs ≡ t.logs
+    → IsCounted u
 IsCounted-taken t u c all front flag same =
-    let queue : (x : ℕ) → times_in x t.queue ≡ one_at c x + times_in x u.queue = λ x. ap (times_in x) front ∙ sum_by-cons (λ y. bit (eqb y x)) c u.queue in
+    let queue : (x : ℕ) → times_in x t.queue ≡ one_at c x + times_in x u.queue =
+    λ x. ap (times_in x) front ∙ sum_by-cons (λ y. bit (eqb y x)) c u.queue in
     let logs : (x : ℕ) → sum_by (times_in x) u.logs ≡ sum_by (times_in x) t.logs = λ x. ap (λ l. sum_by (times_in x) l) same in
     let dirty = front_is_dirty t c u.queue all front in
     let inside = front_is_card t c u.queue all front in
@@ -82,14 +88,37 @@ IsCounted-taken t u c all front flag same =
         each = λ x. ⊎_elim
             (λ e.
             let was : is_dirty t x ≡ true = ap (is_dirty t) (sym e) ∙ dirty in
-            omega (arith, queue x, logs x, all.listed.each x, ap bit (dirty_same t u c x false flag inside e), ap bit was, ap bit (eq-eqb c x e)))
-            (λ differs. omega (arith, queue x, logs x, all.listed.each x, ap bit (dirty_other t u c x false flag differs), ap bit (ne_eqb c x differs)))
+            omega (
+              arith,
+              queue x,
+              logs x,
+              all.listed.each x,
+              ap bit (dirty_same t u c x false flag inside e),
+              ap bit was,
+              ap bit (eq-eqb c x e),
+            ))
+            (λ differs. omega (
+              arith,
+              queue x,
+              logs x,
+              all.listed.each x,
+              ap bit (dirty_other t u c x false flag differs),
+              ap bit (ne_eqb c x differs),
+            ))
             (cases_eq c x);
       };
-      counted = omega (arith, all.counted, flag_cleared t.dirty c inside dirty, ap flags flag, ap length front, ap (λ l. sum_by length l) same);
+      counted = omega (
+        arith,
+        all.counted,
+        flag_cleared t.dirty c inside dirty,
+        ap flags flag,
+        ap length front,
+        ap (λ l. sum_by length l) same,
+      );
     }
 
-pub IsCounted-entered : (t : Cards) (m c : ℕ) → IsCounted t → m < length t.logs → c < length t.dirty → is_dirty t c ≡ false → IsCounted (entered t m c)
+pub IsCounted-entered : (t : Cards) (m c : ℕ) → IsCounted t → m < length t.logs → c < length t.dirty → is_dirty t c ≡ false
+    → IsCounted (entered t m c)
 IsCounted-entered t m c all known h clean =
     let log : List ℕ = log_of t m ++ c ∷ [] in
     IsCounted-more t (entered t m c) c all h clean refl
@@ -99,7 +128,14 @@ IsCounted-entered t m c all known h clean =
 -- a log goes to the queue
 pub IsCounted-sent : (t : Cards) (m : ℕ) → IsCounted t → m < length t.logs → IsCounted (sent t m)
 IsCounted-sent t m all known = record {
-  listed = record { each = λ x. omega (arith, all.listed.each x, sum_by-append (λ y. bit (eqb y x)) t.queue (log_of t m), sum_by-set (times_in x) t.logs m [] [] known) };
+  listed = record {
+    each = λ x. omega (
+      arith,
+      all.listed.each x,
+      sum_by-append (λ y. bit (eqb y x)) t.queue (log_of t m),
+      sum_by-set (times_in x) t.logs m [] [] known,
+    );
+  };
   counted = omega (arith, all.counted, length-append t.queue (log_of t m), sum_by-set (λ (l : List ℕ). length l) t.logs m [] [] known);
 }
 
@@ -116,7 +152,8 @@ no_flags zero = refl
 no_flags (suc k) = omega (arith, sum_by-cons bit false (replicate k false), no_flags k)
 
 all_clean : (k x : ℕ) → get_or (replicate k false) x false ≡ false
-all_clean k x = ⊎_elim (λ h. get_or-replicate k x false false h) (λ h. get_or_past (replicate k false) x false (omega (arith, length-replicate k false))) (cases_lt x k)
+all_clean k x = ⊎_elim (λ h. get_or-replicate k x false false h)
+    (λ h. get_or_past (replicate k false) x false (omega (arith, length-replicate k false))) (cases_lt x k)
 
 -- no card is dirty and none is listed
 pub IsCounted-new : (cards mutators : ℕ) → IsCounted (clean_cards cards mutators)

@@ -1,5 +1,6 @@
 -- Dirty cards, and where they stand.
-use Rattle.std.specs.Prelude.{◌≡◌, ℕ, ◌+◌, Bool, true, false, ◌==◌, List, [], ◌∷◌, ◌++◌, length, count_by, replicate, sum_by, slice_index_or, slice_set, if◌then◌else◌}
+use Rattle.std.specs.Prelude.{◌≡◌, ◌+◌, ◌==◌, ◌∷◌, ◌++◌, if◌then◌else◌}
+use Rattle.std.specs.Prelude.{ℕ, Bool, true, false, List, [], length, count_by, replicate, sum_by, slice_index_or, slice_set}
 use Rattle.std.specs.List.{concat}
 
 -- which cards are dirty; the card log of each mutator; the queue

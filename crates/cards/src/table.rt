@@ -6,7 +6,9 @@
 //! ```
 
 ghost use Rattle.std.specs.List.{concat};
-ghost use Rattle.std.specs.Prelude.{◌≡◌, ◌⊎◌, Contains, ◌||◌, ◌&&◌, ◌==◌, ◌<◌, ℕ, false, true, not, All, IfNone, IfOk, IfSome, List, [], ◌∷◌, length, slice_get, slice_index_or, slice_set, Some};
+ghost use Rattle.std.specs.Prelude.{◌≡◌, ◌⊎◌, ◌||◌, ◌&&◌, ◌==◌, ◌<◌, ◌∷◌};
+ghost use Rattle.std.specs.Prelude.{Contains, ℕ, false, true, not, All, IfNone, IfOk, IfSome, List, [], length, slice_get, slice_index_or};
+ghost use Rattle.std.specs.Prelude.{slice_set, Some};
 ghost use Rattle.cards.specs.Cards.{appended, clean_cards, dirtied, flushed, is_dirty, Cards, ListsDirtyOnce};
 
 use crate::log::{CardLog, LOG_LEN};
@@ -169,14 +171,16 @@ impl CardTable {
 pub fn dirty_law()
     ensures dirtied { (t : Cards) (mutator card other : ℕ) → card < length t.dirty
         → is_dirty (dirtied t mutator card) other ≡ (other == card || is_dirty t other) }
-    ensures appended { (t : Cards) (card other : ℕ) → card < length t.dirty → is_dirty (appended t card) other ≡ (other == card || is_dirty t other) }
+    ensures appended { (t : Cards) (card other : ℕ) → card < length t.dirty
+        → is_dirty (appended t card) other ≡ (other == card || is_dirty t other) }
     ensures cleaned { (t u : Cards) (card other : ℕ) → card < length t.dirty → u.dirty ≡ slice_set t.dirty card false
         → is_dirty u other ≡ (not (other == card) && is_dirty t other) }
 {}
 
 /// A dirty card stands in the queue or in one of the logs, and what stands there is dirty.
 pub fn listed_law()
-    ensures dirty { (t : Cards) (card : ℕ) → ListsDirtyOnce t → is_dirty t card ≡ true → Contains t.queue card ⊎ Contains (concat t.logs) card }
+    ensures dirty { (t : Cards) (card : ℕ) → ListsDirtyOnce t → is_dirty t card ≡ true
+        → Contains t.queue card ⊎ Contains (concat t.logs) card }
     ensures queue { (t : Cards) (card : ℕ) → ListsDirtyOnce t → Contains t.queue card → is_dirty t card ≡ true }
     ensures logs { (t : Cards) (card : ℕ) → ListsDirtyOnce t → Contains (concat t.logs) card → is_dirty t card ≡ true }
 {}

@@ -44,11 +44,14 @@ refused app words e (Err y) is parsed made =
     rw made (still_refused (fault_of g1heap words) _ e kind)
 
 -- words whose parse is taken and that ask for nothing lack an argument
-pub missing : (app : App) (words : List Text) (m : ArgMatches) (e : Error) → app ≡ g1heap → (is_simple_and_free app ≡ true → fault_of app words ≡ []) → HasMatchesOf app words m
-    → None ≡ option_and_then (λ found. asked_in found.0 found.1) (subcommand_rows_of m) → kind_of e ≡ MissingRequiredArgument → HasKind (faults_of words) e
+pub missing : (app : App) (words : List Text) (m : ArgMatches) (e : Error) → app ≡ g1heap
+    → (is_simple_and_free app ≡ true → fault_of app words ≡ []) → HasMatchesOf app words m
+    → None ≡ option_and_then (λ found. asked_in found.0 found.1) (subcommand_rows_of m) → kind_of e ≡ MissingRequiredArgument
+    → HasKind (faults_of words) e
 missing app words m e is parsed matches found kind =
     let none = subst (λ (a : App). fault_of a words ≡ []) is (parsed (ap is_simple_and_free is ∙ is_read_whole)) in
     let rows = (matches (ap is_simple is ∙ (both _ _ is_read_whole).0)).1 in
-    let nothing : asked_of words ≡ None = sym (found ∙ ap (option_and_then (λ found. asked_in found.0 found.1)) (rows ∙ ap (λ (a : App). subcommand_of a words) is)) in
+    let nothing : asked_of words ≡ None = sym
+    (found ∙ ap (option_and_then (λ found. asked_in found.0 found.1)) (rows ∙ ap (λ (a : App). subcommand_of a words) is)) in
     let faults : faults_of words ≡ MissingRequiredArgument ∷ [] = rw (none, nothing) refl in
     subst (λ (kinds : Kinds). HasKind kinds e) (sym faults) (inr (inl kind))

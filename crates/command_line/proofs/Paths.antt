@@ -42,13 +42,15 @@ check program path h =
     let v = is_value path h in
     (rw v.no_end (rw v.no_name (rw v.no_letters refl)), rw v.no_end (rw v.no_name (rw v.no_letters refl)))
 
-pub explain : (program path : Text) → is_path path ≡ true → Asks (program ∷ codes "check" ∷ path ∷ codes "--explain" ∷ []) (path, Check true false)
+pub explain : (program path : Text) → is_path path ≡ true
+    → Asks (program ∷ codes "check" ∷ path ∷ codes "--explain" ∷ []) (path, Check true false)
 unfolding clap_on_literals
 explain program path h =
     let v = is_value path h in
     (rw v.no_end (rw v.no_name (rw v.no_letters refl)), rw v.no_end (rw v.no_name (rw v.no_letters refl)))
 
-pub follow : (program path : Text) → is_path path ≡ true → Asks (program ∷ codes "check" ∷ path ∷ codes "--follow" ∷ []) (path, Check false true)
+pub follow : (program path : Text) → is_path path ≡ true
+    → Asks (program ∷ codes "check" ∷ path ∷ codes "--follow" ∷ []) (path, Check false true)
 unfolding clap_on_literals
 follow program path h =
     let v = is_value path h in

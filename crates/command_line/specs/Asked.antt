@@ -49,8 +49,10 @@ task_in name rows =
     else if bytes_eq name (codes "threads") then option_map Script (threads_in rows)
     else if bytes_eq name (codes "check") then Some (Check (flag_in (codes "explain") rows) (flag_in (codes "follow") rows))
     else if bytes_eq name (codes "view")
-    then Some (View (flag_in (codes "record") rows) (number_in 32 (codes "at") rows) (number_in 32 (codes "region") rows) (flag_in (codes "summary") rows))
-    else if bytes_eq name (codes "draw") then option_map (λ every. Draw every (flag_in (codes "record") rows)) (number_in 32 (codes "every") rows)
+    then Some (View (flag_in (codes "record") rows) (number_in 32 (codes "at") rows) (number_in 32 (codes "region") rows)
+    (flag_in (codes "summary") rows))
+    else if bytes_eq name (codes "draw") then option_map (λ every. Draw every (flag_in (codes "record") rows))
+    (number_in 32 (codes "every") rows)
     else None
 
 -- a path, and what is done with the file

@@ -54,7 +54,8 @@ every = record (number (codes "every") (parser.Signed (pos 1) (pos 1000000))) { 
 -- the subcommand that views a heap
 abbrev pub viewed : App
 viewed =
-    with_rule (with_rule (with_rule (with_rule (plain (codes "view")) (flag (codes "record"))) (count (codes "at"))) (count (codes "region")))
+    with_rule (with_rule (with_rule (with_rule (plain (codes "view")) (flag (codes "record"))) (count (codes "at")))
+    (count (codes "region")))
     (flag (codes "summary"))
 
 -- the subcommand that draws the life of a heap

@@ -15,14 +15,16 @@
 //! Whether a count is in range, the run itself says.
 #![tactic(auto)]
 
-ghost use Rattle.std.specs.Prelude.{◌≡◌, ◌∷◌, [], ℕ, List, None, Some, IfOk, true, false, codes, map, option_and_then, option_map, string_bytes};
+ghost use Rattle.std.specs.Prelude.{◌≡◌, ◌∷◌};
+ghost use Rattle.std.specs.Prelude.{[], ℕ, List, None, Some, IfOk, true, false, codes, map, option_and_then, option_map, string_bytes};
 ghost use Rattle.clap.specs.Words.{App, FailsBy, HasKind, first_of, found_of, kind_of, rows_of, rule_of};
 ghost use Rattle.clap.specs.Words.{subcommand_rows_of, with_rule, with_subcommand};
 ghost use Rattle.clap.specs.declared.error.kind.ErrorKind.TheVariants.{InvalidValue};
 ghost use Rattle.command_line.specs.Asked.{Asks, asked_in, asked_of, drawn_in, faults_of, flag_in, is_path, number_in, task_in, threads_in};
 ghost use Rattle.command_line.specs.declared.Order.TheVariants.{Concurrent, Drawn, File};
 ghost use Rattle.command_line.specs.declared.Task.TheVariants.{Check, Draw, Script, View};
-ghost use Rattle.command_line.specs.Program.{IsReadAs, background, bare, by_actors, checked, count, drawn, every, file, flag, g1heap, number, plain, schedule, viewed, workers};
+ghost use Rattle.command_line.specs.Program.{IsReadAs, background, bare, by_actors, checked, count, drawn, every, file, flag, g1heap};
+ghost use Rattle.command_line.specs.Program.{number, plain, schedule, viewed, workers};
 
 use clap::builder::ValueParser;
 use clap::error::ErrorKind;
@@ -511,13 +513,17 @@ pub fn words_law()
     ensures threads { (program path : List ℕ) → is_path path ≡ true
         → Asks (program ∷ codes "threads" ∷ path ∷ codes "--workers" ∷ codes "2" ∷ []) (path, Script (Concurrent 2 0 0)) }
     ensures check { (program path : List ℕ) → is_path path ≡ true → Asks (program ∷ codes "check" ∷ path ∷ []) (path, Check false false) }
-    ensures explain { (program path : List ℕ) → is_path path ≡ true → Asks (program ∷ codes "check" ∷ path ∷ codes "--explain" ∷ []) (path, Check true false) }
-    ensures follow { (program path : List ℕ) → is_path path ≡ true → Asks (program ∷ codes "check" ∷ path ∷ codes "--follow" ∷ []) (path, Check false true) }
-    ensures view { (program path : List ℕ) → is_path path ≡ true → Asks (program ∷ codes "view" ∷ path ∷ []) (path, View false None None false) }
+    ensures explain { (program path : List ℕ) → is_path path ≡ true
+        → Asks (program ∷ codes "check" ∷ path ∷ codes "--explain" ∷ []) (path, Check true false) }
+    ensures follow { (program path : List ℕ) → is_path path ≡ true
+        → Asks (program ∷ codes "check" ∷ path ∷ codes "--follow" ∷ []) (path, Check false true) }
+    ensures view { (program path : List ℕ) → is_path path ≡ true
+        → Asks (program ∷ codes "view" ∷ path ∷ []) (path, View false None None false) }
     ensures draw { (program path : List ℕ) → is_path path ≡ true → Asks (program ∷ codes "draw" ∷ path ∷ []) (path, Draw 1 false) }
     ensures every { (program path : List ℕ) → is_path path ≡ true
         → Asks (program ∷ codes "draw" ∷ path ∷ codes "--every" ∷ codes "10" ∷ []) (path, Draw 10 false) }
-    ensures redraw { (program path : List ℕ) → is_path path ≡ true → Asks (program ∷ codes "draw" ∷ path ∷ codes "--record" ∷ []) (path, Draw 1 true) }
+    ensures redraw { (program path : List ℕ) → is_path path ≡ true
+        → Asks (program ∷ codes "draw" ∷ path ∷ codes "--record" ∷ []) (path, Draw 1 true) }
     ensures at { (program path : List ℕ) → is_path path ≡ true
         → Asks (program ∷ codes "view" ∷ path ∷ codes "--at" ∷ codes "9" ∷ []) (path, View false (Some 9) None false) }
 {}

@@ -15,15 +15,21 @@ pub within : (k n : ℕ) → (k < n → ⊥) → n ≤ k
 within k n not_over = omega (arith, not_over)
 
 -- where a run fails by its counts exactly if they are over, and they suit exactly if they aren't
-pub comes_counted : {Over Suit : Type 0} (Runs Makes : StepList → EventList → Type 0) (IsFault : Config → RunFault → Type 0) (plan : StepList) (outcome : Result EventList RunFault) →
+pub comes_counted : {Over Suit : Type 0} (Runs Makes : StepList → EventList → Type 0) (IsFault : Config → RunFault → Type 0)
+    (plan : StepList) (outcome : Result EventList RunFault) →
     IfOk outcome (Runs plan) → (outcome ≡ Err runs.BadWorkers) ↔ Over → (Over → Suit → ⊥) → ((Over → ⊥) → Suit) →
-    IfErr outcome (λ f. f ≢ runs.BadWorkers → IsFault plan.config f) → ((r : EventList) → Suit → Runs plan r → Makes plan r) → Comes Makes (IsCountedFault Suit IsFault) plan outcome
+    IfErr outcome (λ f. f ≢ runs.BadWorkers → IsFault plan.config f) → ((r : EventList) → Suit → Runs plan r → Makes plan r)
+    → Comes Makes (IsCountedFault Suit IsFault) plan outcome
 comes_counted Runs Makes IsFault plan (Ok r) run bad clash suits fault makes = makes r (suits (λ over. let same = bad.1 over in cc)) run
 comes_counted Runs Makes IsFault plan (Err runs.BadWorkers) run bad clash suits fault makes = clash (bad.0 refl)
-comes_counted Runs Makes IsFault plan (Err runs.NoMemory) run bad clash suits fault makes = (suits (λ over. let same = bad.1 over in cc), fault (λ same. cc))
-comes_counted Runs Makes IsFault plan (Err runs.NoWorker) run bad clash suits fault makes = (suits (λ over. let same = bad.1 over in cc), fault (λ same. cc))
-comes_counted Runs Makes IsFault plan (Err runs.Unfinished) run bad clash suits fault makes = (suits (λ over. let same = bad.1 over in cc), fault (λ same. cc))
-comes_counted Runs Makes IsFault plan (Err (runs.Heap f)) run bad clash suits fault makes = (suits (λ over. let same = bad.1 over in cc), fault (λ same. cc))
+comes_counted Runs Makes IsFault plan (Err runs.NoMemory) run bad clash suits fault makes =
+    (suits (λ over. let same = bad.1 over in cc), fault (λ same. cc))
+comes_counted Runs Makes IsFault plan (Err runs.NoWorker) run bad clash suits fault makes =
+    (suits (λ over. let same = bad.1 over in cc), fault (λ same. cc))
+comes_counted Runs Makes IsFault plan (Err runs.Unfinished) run bad clash suits fault makes =
+    (suits (λ over. let same = bad.1 over in cc), fault (λ same. cc))
+comes_counted Runs Makes IsFault plan (Err (runs.Heap f)) run bad clash suits fault makes =
+    (suits (λ over. let same = bad.1 over in cc), fault (λ same. cc))
 
 abbrev pub IsOver : ℕ → ℕ → Type 0
 IsOver refiners markers = (8 < refiners) ⊎ (8 < markers)
@@ -31,7 +37,8 @@ IsOver refiners markers = (8 < refiners) ⊎ (8 < markers)
 pub both_suit : (refiners markers : ℕ) → (IsOver refiners markers → ⊥) → AreFew refiners markers
 both_suit refiners markers not_over = (within 8 refiners (λ over. not_over (inl over)), within 8 markers (λ over. not_over (inr over)))
 
-pub all_suit : (workers refiners markers : ℕ) → ((workers ≡ 0) ⊎ (32 < workers) ⊎ IsOver refiners markers → ⊥) → CanStart workers refiners markers
+pub all_suit : (workers refiners markers : ℕ) → ((workers ≡ 0) ⊎ (32 < workers) ⊎ IsOver refiners markers → ⊥)
+    → CanStart workers refiners markers
 all_suit workers refiners markers not_over =
     let some : workers ≢ 0 = λ none. not_over (inl none) in
     let background = both_suit refiners markers (λ over. not_over (inr (inr over))) in
@@ -46,15 +53,22 @@ both_ok P Q (Ok r) p q = (p, q)
 both_ok P Q (Err f) p q = tt
 
 -- what `simulate` says
-pub comes_drawn : (plan : StepList) (seed refiners markers : ℕ) (outcome : Result EventList RunFault) → IfOk outcome (IsRunOf plan markers refiners) →
-    IfOk outcome (λ r. scripted_actors r.events ≡ drawn_by seed markers refiners plan) → (outcome ≡ Err runs.BadWorkers) ↔ IsOver refiners markers →
-    IfErr outcome (λ f. f ≢ runs.BadWorkers → IsRunFault plan.config f) → Comes (IsDrawnRun seed refiners markers) (IsCountedFault (AreFew refiners markers) IsRunFault) plan outcome
+pub comes_drawn : (plan : StepList) (seed refiners markers : ℕ) (outcome : Result EventList RunFault)
+    → IfOk outcome (IsRunOf plan markers refiners) →
+    IfOk outcome (λ r. scripted_actors r.events ≡ drawn_by seed markers refiners plan)
+    → (outcome ≡ Err runs.BadWorkers) ↔ IsOver refiners markers →
+    IfErr outcome (λ f. f ≢ runs.BadWorkers → IsRunFault plan.config f)
+    → Comes (IsDrawnRun seed refiners markers) (IsCountedFault (AreFew refiners markers) IsRunFault) plan outcome
 comes_drawn plan seed refiners markers outcome run drawn bad fault =
-    comes_counted (IsDrawn seed refiners markers) (IsDrawnRun seed refiners markers) IsRunFault plan outcome (both_ok (IsRunOf plan markers refiners) (λ r. scripted_actors r.events ≡ drawn_by seed markers refiners plan) outcome run drawn) bad
-    (λ over suits. omega (arith, over, suits)) (both_suit refiners markers) fault (λ r suit is. record { counts = suit; run = is.0; drawn = is.1 })
+    comes_counted (IsDrawn seed refiners markers) (IsDrawnRun seed refiners markers) IsRunFault plan outcome
+    (both_ok (IsRunOf plan markers refiners)
+    (λ r. scripted_actors r.events ≡ drawn_by seed markers refiners plan) outcome run drawn) bad
+    (λ over suits. omega (arith, over, suits)) (both_suit refiners markers) fault
+    (λ r suit is. record { counts = suit; run = is.0; drawn = is.1 })
 
 -- what `run_threads` says
-pub comes_threaded : (plan : StepList) (workers refiners markers : ℕ) (outcome : Result EventList RunFault) → IfOk outcome (IsRunOf plan markers refiners) →
+pub comes_threaded : (plan : StepList) (workers refiners markers : ℕ) (outcome : Result EventList RunFault)
+    → IfOk outcome (IsRunOf plan markers refiners) →
     (outcome ≡ Err runs.BadWorkers) ↔ ((workers ≡ 0) ⊎ (32 < workers) ⊎ IsOver refiners markers) →
     IfErr outcome (λ f. f ≢ runs.BadWorkers → IsThreadsFault plan.config f) →
     Comes (IsThreadedRun workers refiners markers) (IsCountedFault (CanStart workers refiners markers) IsThreadsFault) plan outcome

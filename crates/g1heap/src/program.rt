@@ -79,7 +79,8 @@ pub fn refuse<W: Write, E: Write>(
         → (result ≡ 1) × Stays out.old out.new × TellsLine (JobFault.Run RunFault.NoMemory) err.old err.new }
     ensures mistake { kind_of error.now ≢ ErrorKind.OutOfMemory → kind_of error.now ≢ ErrorKind.DisplayHelp
         → kind_of error.now ≢ ErrorKind.DisplayVersion → (result ≡ 2) × Stays out.old out.new }
-    ensures help { (kind_of error.now ≡ ErrorKind.DisplayHelp) ⊎ (kind_of error.now ≡ ErrorKind.DisplayVersion) → (result ≡ 0) × Stays err.old err.new }
+    ensures help { (kind_of error.now ≡ ErrorKind.DisplayHelp) ⊎ (kind_of error.now ≡ ErrorKind.DisplayVersion)
+        → (result ≡ 0) × Stays err.old err.new }
 {
     if error.kind() == ErrorKind::OutOfMemory {
         return conclude(Err(JobFault::Run(RunFault::NoMemory)), err);

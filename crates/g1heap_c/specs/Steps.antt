@@ -44,7 +44,8 @@ pub record Stays (before : Option CoreState) (code : Answer) (answer : Answer) (
   pub same : after ≡ before
 
 -- a heap takes the step if its sizes have it, and else is as it was, with the answer that there is no such step
-pub record TakesOrNot (tell : CoreState → CoreState → Reply → Answer) (c : CoreState) (step : Step) (answer : Answer) (after : Option CoreState)
+pub record TakesOrNot (tell : CoreState → CoreState → Reply → Answer) (c : CoreState) (step : Step) (answer : Answer)
+    (after : Option CoreState)
     : Type 0 where
   pub takes : IsStep c.config step → Steps tell c step answer after
   pub not : (IsStep c.config step → ⊥) → Stays (Some c) no_step answer after

@@ -10,7 +10,8 @@ use Rattle.heap_life.specs.Lives.{IsLifeOf}
 use Rattle.heap_life.specs.Pages.{IsPageOf}
 use Rattle.heap_life.specs.Drawings.{IsPageOfPlan}
 
-pub of_plan : (every : ℕ) (plan : StepList) (events : EventList) (page : List ℕ) (life : Life) → events.config ≡ plan.config → map step_in events.events ≡ plan.steps
+pub of_plan : (every : ℕ) (plan : StepList) (events : EventList) (page : List ℕ) (life : Life) → events.config ≡ plan.config
+    → map step_in events.events ≡ plan.steps
     → map actor_in events.events ≡ map actor_of plan.steps → IsLifeOf every events life → IsPageOf life page → IsPageOfPlan every plan page
 of_plan every plan events page life sizes steps actors l drawn = record {
   life = life;

@@ -1,5 +1,7 @@
 -- Moments that are added one by one.
-use Rattle.std.proofs.Common.{◌≡◌, ℕ, zero, suc, ◌+◌, ◌%◌, ◌<◌, ◌≤◌, Bool, true, false, Some, List, [], ◌∷◌, ◌++◌, length, take, map, get_or, eq-eqb, inl, inr, refl, sym, ap, subst, ◌∙◌, arith}
+use Rattle.std.proofs.Common.{◌≡◌, ◌+◌, ◌%◌, ◌<◌, ◌≤◌, ◌∷◌, ◌++◌, ◌∙◌}
+use Rattle.std.proofs.Common.{ℕ, zero, suc, Bool, true, false, Some, List, [], length, take, map, get_or, eq-eqb, inl, inr, refl, sym, ap}
+use Rattle.std.proofs.Common.{subst, arith}
 use Rattle.std.specs.Prelude.{All, min, slice_get, slice_index_or, ◌||◌, ◌&&◌, ◌==◌}
 use Rattle.std.proofs.lemmas.List.{take_more, take_all, take-append-le, length-append, length-map, get_or-map}
 use Rattle.std.proofs.lemmas.List.Elements.{All-append}
@@ -30,7 +32,8 @@ pub counted_more : (p : Pace) (es : List Event) (e : Event) → counted p (es ++
 counted_more p [] e = omega arith
 counted_more p (d ∷ es) e = let more = counted_more p es e in omega arith
 
-pub counted_next : (p : Pace) (es : List Event) (i : ℕ) (d : Event) → i < length es → counted p (take (i + 1) es) ≡ counted p (take i es) + one_if (counts p (get_or es i d).step)
+pub counted_next : (p : Pace) (es : List Event) (i : ℕ) (d : Event) → i < length es
+    → counted p (take (i + 1) es) ≡ counted p (take i es) + one_if (counts p (get_or es i d).step)
 counted_next p es i d lt = ap (counted p) (take_more es i d lt) ∙ counted_more p (take i es) (get_or es i d)
 
 pub moved_more : (es : List Event) (e : Event) → moved_in (es ++ e ∷ []) ≡ moved_in es + moved_by e.reply
@@ -52,11 +55,13 @@ has_last : (ms : List Moment) (m : Moment) (n : ℕ) → m.event ≡ n → HasMo
 has_last [] m n e = inl e
 has_last (x ∷ ms) m n e = inr (has_last ms m n e)
 
-pub kept_by_note : (due : Bool) (c : CoreState) (event copied : ℕ) (ms ms' : List Moment) (n : ℕ) → NotesIf due c event copied ms ms' → HasMoment ms n → HasMoment ms' n
+pub kept_by_note : (due : Bool) (c : CoreState) (event copied : ℕ) (ms ms' : List Moment) (n : ℕ) → NotesIf due c event copied ms ms'
+    → HasMoment ms n → HasMoment ms' n
 kept_by_note true c event copied ms ms' n h has = subst (λ (l : List Moment). HasMoment l n) (sym h.1) (has_kept ms h.0 n has)
 kept_by_note false c event copied ms ms' n h has = subst (λ (l : List Moment). HasMoment l n) (sym h) has
 
-pub noted : (due : Bool) (c : CoreState) (event copied : ℕ) (ms ms' : List Moment) → due ≡ true → NotesIf due c event copied ms ms' → HasMoment ms' event
+pub noted : (due : Bool) (c : CoreState) (event copied : ℕ) (ms ms' : List Moment) → due ≡ true → NotesIf due c event copied ms ms'
+    → HasMoment ms' event
 noted true c event copied ms ms' e h = subst (λ (l : List Moment). HasMoment l event) (sym h.1) (has_last ms h.0 event h.2)
 noted false c event copied ms ms' e h = absurd (cc)
 
@@ -73,7 +78,8 @@ later first es e m h =
       copied = h.copied ∙ ap (λ (l : List Event). min (moved_in l) 18446744073709551615) (sym same);
     }
 
-pub all_later : (first : CoreState) (es : List Event) (e : Event) (ms : List Moment) → All (IsMomentFrom first es) ms → All (IsMomentFrom first (es ++ e ∷ [])) ms
+pub all_later : (first : CoreState) (es : List Event) (e : Event) (ms : List Moment) → All (IsMomentFrom first es) ms
+    → All (IsMomentFrom first (es ++ e ∷ [])) ms
 all_later first es e ms h = λ k d lt. later first es e (slice_index_or ms k d) (h k d lt)
 
 all_one : (P : Moment → Type 0) (m : Moment) → P m → All P (m ∷ [])
@@ -83,7 +89,8 @@ all_one P m p (suc k) d lt = absurd (omega arith)
 all_last : (P : Moment → Type 0) (ms : List Moment) (m : Moment) → All P ms → P m → All P (ms ++ m ∷ [])
 all_last P ms m h p = All-append P ms (m ∷ []) h (all_one P m p)
 
-moment_is : (first c : CoreState) (es : List Event) (m : Moment) (event copied : ℕ) → event ≡ length es → m.event ≡ event → m.copied ≡ copied → IsNumbersOf c m.numbers
+moment_is : (first c : CoreState) (es : List Event) (m : Moment) (event copied : ℕ) → event ≡ length es → m.event ≡ event
+    → m.copied ≡ copied → IsNumbersOf c m.numbers
     → ((s : State) → Stands s first → Runs s first es c) → copied ≡ min (moved_in es) 18446744073709551615 → IsMomentFrom first es m
 moment_is first c es m event copied len at by numbers runs sum =
     let whole : take m.event es ≡ es = take_all m.event es (omega arith) in
@@ -95,8 +102,10 @@ moment_is first c es m event copied len at by numbers runs sum =
       copied = by ∙ sum ∙ ap (λ (l : List Event). min (moved_in l) 18446744073709551615) (sym whole);
     }
 
-pub all_noted : (due : Bool) (first c : CoreState) (es : List Event) (event copied : ℕ) (ms ms' : List Moment) → NotesIf due c event copied ms ms' → event ≡ length es
-    → ((s : State) → Stands s first → Runs s first es c) → copied ≡ min (moved_in es) 18446744073709551615 → All (IsMomentFrom first es) ms → All (IsMomentFrom first es) ms'
+pub all_noted : (due : Bool) (first c : CoreState) (es : List Event) (event copied : ℕ) (ms ms' : List Moment)
+    → NotesIf due c event copied ms ms' → event ≡ length es
+    → ((s : State) → Stands s first → Runs s first es c) → copied ≡ min (moved_in es) 18446744073709551615 → All (IsMomentFrom first es) ms
+    → All (IsMomentFrom first es) ms'
 all_noted true first c es event copied ms ms' h len runs sum all =
     let here : IsMomentFrom first es h.0 = moment_is first c es h.0 event copied len h.2 h.3 h.4 runs sum in
     subst (λ (l : List Moment). All (IsMomentFrom first es) l) (sym h.1) (all_last (IsMomentFrom first es) ms h.0 all here)
@@ -112,20 +121,23 @@ or_second : (a b : Bool) → b ≡ true → a || b ≡ true
 or_second true b e = refl
 or_second false b e = e
 
-pub is_due : (p : Pace) (es : List Event) (n : ℕ) (behind ahead stop : Bool) → n < length es → IsDue p es n → (n ≡ 0 → behind ≡ true) → ((i : ℕ) → suc i ≡ n → IsShown p es i → behind ≡ true)
+pub is_due : (p : Pace) (es : List Event) (n : ℕ) (behind ahead stop : Bool) → n < length es → IsDue p es n → (n ≡ 0 → behind ≡ true)
+    → ((i : ℕ) → suc i ≡ n → IsShown p es i → behind ≡ true)
     → (IsShown p es n → ahead ≡ true) → (n % p.every ≡ 0 → stop ≡ true) → behind || ahead || stop ≡ true
 is_due p es n behind ahead stop lt (inl e) z b a s = or_first (behind || ahead) stop (or_first behind ahead (z e))
 is_due p es n behind ahead stop lt (inr (inl e)) z b a s = absurd (omega arith)
 is_due p es n behind ahead stop lt (inr (inr (inl e))) z b a s = or_second (behind || ahead) stop (s e)
 is_due p es n behind ahead stop lt (inr (inr (inr (inl e)))) z b a s = or_first (behind || ahead) stop (or_second behind ahead (a e))
-is_due p es n behind ahead stop lt (inr (inr (inr (inr e)))) z b a s = or_first (behind || ahead) stop (or_first behind ahead (b e.0 e.1 e.2))
+is_due p es n behind ahead stop lt (inr (inr (inr (inr e)))) z b a s =
+    or_first (behind || ahead) stop (or_first behind ahead (b e.0 e.1 e.2))
 
 -- the event at a place
 here : (xs : List Event) (i : ℕ) (e : Event) → slice_get xs i ≡ Some e → get_or xs i e ≡ e
 here xs i e at = get_or_from_slice_get xs i e e at
 
 -- step `index` is shown: so it counts, and its number is right
-pub shown_ahead : (p : Pace) (xs : List Event) (index count : ℕ) (e : Event) → slice_get xs index ≡ Some e → count ≡ counted p (take index xs) → IsShown p xs index → (counts p e.step && count % p.stride == 0) ≡ true
+pub shown_ahead : (p : Pace) (xs : List Event) (index count : ℕ) (e : Event) → slice_get xs index ≡ Some e
+    → count ≡ counted p (take index xs) → IsShown p xs index → (counts p e.step && count % p.stride == 0) ≡ true
 shown_ahead p xs index count e at is h =
     let found : Some e ≡ Some h.event = sym at ∙ h.at in
     let same : e ≡ h.event = cc in
@@ -133,14 +145,17 @@ shown_ahead p xs index count e at is h =
     let number : count % p.stride ≡ 0 = ap (λ (n : ℕ). n % p.stride) is ∙ h.nth in
     rw (counting, eq-eqb (count % p.stride) 0 number) refl
 
-pub counted_at : (p : Pace) (xs : List Event) (i : ℕ) (e : Event) → i < length xs → slice_get xs i ≡ Some e → counted p (take (i + 1) xs) ≡ counted p (take i xs) + one_if (counts p e.step)
+pub counted_at : (p : Pace) (xs : List Event) (i : ℕ) (e : Event) → i < length xs → slice_get xs i ≡ Some e
+    → counted p (take (i + 1) xs) ≡ counted p (take i xs) + one_if (counts p e.step)
 counted_at p xs i e lt at = counted_next p xs i e lt ∙ ap (λ (d : Event). counted p (take i xs) + one_if (counts p d.step)) (here xs i e at)
 
 pub stops : (n every : ℕ) → n % every ≡ 0 → (n % every == 0) ≡ true
 stops n every e = eq-eqb (n % every) 0 e
 
-pub due_more : (p : Pace) (xs : List Event) (index : ℕ) (due behind ahead stop : Bool) (c : CoreState) (copied : ℕ) (ms ms' : List Moment) → index < length xs → NotesIf due c index copied ms ms'
-    → due ≡ (behind || ahead || stop) → ((n : ℕ) → n < index → IsDue p xs n → HasMoment ms n) → (index ≡ 0 → behind ≡ true) → ((i : ℕ) → suc i ≡ index → IsShown p xs i → behind ≡ true)
+pub due_more : (p : Pace) (xs : List Event) (index : ℕ) (due behind ahead stop : Bool) (c : CoreState) (copied : ℕ) (ms ms' : List Moment)
+    → index < length xs → NotesIf due c index copied ms ms'
+    → due ≡ (behind || ahead || stop) → ((n : ℕ) → n < index → IsDue p xs n → HasMoment ms n) → (index ≡ 0 → behind ≡ true)
+    → ((i : ℕ) → suc i ≡ index → IsShown p xs i → behind ≡ true)
     → (IsShown p xs index → ahead ≡ true) → (index % p.every ≡ 0 → stop ≡ true) → (n : ℕ) → n < index + 1 → IsDue p xs n → HasMoment ms' n
 due_more p xs index due behind ahead stop c copied ms ms' within notes is earlier z b a s n lt due_here =
     elim (cases_lt n index) [
@@ -148,15 +163,18 @@ due_more p xs index due behind ahead stop c copied ms ms' within notes is earlie
       | inr ge ↦
           let same : n ≡ index = omega arith in
           let here : IsDue p xs index = subst (λ (m : ℕ). IsDue p xs m) same due_here in
-          subst (λ (m : ℕ). HasMoment ms' m) (sym same) (noted due c index copied ms ms' (is ∙ is_due p xs index behind ahead stop within here z b a s) notes)
+          subst (λ (m : ℕ). HasMoment ms' m) (sym same)
+          (noted due c index copied ms ms' (is ∙ is_due p xs index behind ahead stop within here z b a s) notes)
     ]
 
-pub due_whole : (p : Pace) (xs : List Event) (c : CoreState) (end copied : ℕ) (ms ms' : List Moment) → NotesIf true c end copied ms ms' → end ≡ length xs
+pub due_whole : (p : Pace) (xs : List Event) (c : CoreState) (end copied : ℕ) (ms ms' : List Moment) → NotesIf true c end copied ms ms'
+    → end ≡ length xs
     → ((n : ℕ) → n < end → IsDue p xs n → HasMoment ms n) → (n : ℕ) → n ≤ length xs → IsDue p xs n → HasMoment ms' n
 due_whole p xs c end copied ms ms' notes is earlier n le due_here =
     elim (cases_lt n end) [
       | inl less ↦ kept_by_note true c end copied ms ms' n notes (earlier n less due_here)
-      | inr ge ↦ let same : n ≡ end = omega arith in subst (λ (m : ℕ). HasMoment ms' m) (sym same) (noted true c end copied ms ms' refl notes)
+      | inr ge ↦ let same : n ≡ end = omega arith in
+          subst (λ (m : ℕ). HasMoment ms' m) (sym same) (noted true c end copied ms ms' refl notes)
     ]
 
 -- ---- events
@@ -168,7 +186,8 @@ is_step config (actors.Marker i) (steps.Mutator o) h = absurd h
 is_step config (actors.Refiner i) (steps.Mutator o) h = absurd h
 is_step config actor (steps.Collector k) h = tt
 
-pub grown_at : {A : Type 0} (f : Event → A) (es : List Event) (new : Event) (xs : List Event) (i : ℕ) (e : Event) → map f es ≡ take i (map f xs) → i < length xs → slice_get xs i ≡ Some e → f new ≡ f e
+pub grown_at : {A : Type 0} (f : Event → A) (es : List Event) (new : Event) (xs : List Event) (i : ℕ) (e : Event)
+    → map f es ≡ take i (map f xs) → i < length xs → slice_get xs i ≡ Some e → f new ≡ f e
     → map f (es ++ new ∷ []) ≡ take (i + 1) (map f xs)
 grown_at {A} f es new xs i e same lt at is =
     let l : length (map f xs) ≡ length xs = length-map xs f in
@@ -183,14 +202,16 @@ one_most false = omega arith
 
 -- ---- from the core of a new heap
 
-pub runs_to : (config : Config) (c0 c : CoreState) (es : List Event) → c0 ≡ fresh_core config → IsCore c0 → Stands (first_state config) c0 → Runs (first_state config) c0 es c → RunsTo config es c
+pub runs_to : (config : Config) (c0 c : CoreState) (es : List Event) → c0 ≡ fresh_core config → IsCore c0 → Stands (first_state config) c0
+    → Runs (first_state config) c0 es c → RunsTo config es c
 runs_to config c0 c es fresh core stands runs = record {
   core = subst IsCore fresh core;
   stands = subst (λ (d : CoreState). Stands (first_state config) d) fresh stands;
   runs = subst (λ (d : CoreState). Runs (first_state config) d es c) fresh runs;
 }
 
-pub all_of_new : (config : Config) (c0 : CoreState) (es : List Event) (ms : List Moment) → c0 ≡ fresh_core config → IsCore c0 → Stands (first_state config) c0 → All (IsMomentFrom c0 es) ms → All (IsMomentOf config es) ms
+pub all_of_new : (config : Config) (c0 : CoreState) (es : List Event) (ms : List Moment) → c0 ≡ fresh_core config → IsCore c0
+    → Stands (first_state config) c0 → All (IsMomentFrom c0 es) ms → All (IsMomentOf config es) ms
 all_of_new config c0 es ms fresh core stands h = λ k d lt.
     let m = h k d lt in
     record {
@@ -203,7 +224,8 @@ all_of_new config c0 es ms fresh core stands h = λ k d lt.
 
 -- ---- the pace that was asked for
 
-pub pace_for : (every wish most : ℕ) (c k : Config) (es fs : List Event) (p q : Pace) → IsPaceFor wish most es q → wish ≡ every → most ≡ most_moments c → c ≡ k → es ≡ fs → p ≡ q
+pub pace_for : (every wish most : ℕ) (c k : Config) (es fs : List Event) (p q : Pace) → IsPaceFor wish most es q → wish ≡ every
+    → most ≡ most_moments c → c ≡ k → es ≡ fs → p ≡ q
     → IsPaceFor every (most_moments k) fs p
 pace_for every wish most c k es fs p q h ew em ec ee ep =
     subst (λ (x : Pace). IsPaceFor every (most_moments k) fs x) (sym ep)

@@ -25,15 +25,18 @@ use Rattle.heap_life.specs.Shares.{words_if, words_in, part_in}
 pub run_object : (t : Table) (k : ℕ) → IsShaped t → kind_of t k ≡ kinds.First → IsSome (object_at t (k * t.words_per_region))
 run_object t k shaped f = let (s, is) = first_number t k f in let e = first_object t k s shaped.positive is in rw e refl
 
-pub kept_new : (c : CoreState) (a : ℕ) → is_below c.table.words_per_region c.marker.tams.previous a ≡ false → object_words c.table a ≡ stored_size (kept_of c a)
+pub kept_new : (c : CoreState) (a : ℕ) → is_below c.table.words_per_region c.marker.tams.previous a ≡ false
+    → object_words c.table a ≡ stored_size (kept_of c a)
 unfolding kept_of object_words
 kept_new c a e = rw e refl
 
-pub kept_marked : (c : CoreState) (a : ℕ) → is_below c.table.words_per_region c.marker.tams.previous a ≡ true → is_marked c.marker.bitmaps.previous a ≡ true → object_words c.table a ≡ stored_size (kept_of c a)
+pub kept_marked : (c : CoreState) (a : ℕ) → is_below c.table.words_per_region c.marker.tams.previous a ≡ true
+    → is_marked c.marker.bitmaps.previous a ≡ true → object_words c.table a ≡ stored_size (kept_of c a)
 unfolding kept_of object_words
 kept_marked c a e f = rw (e, f) refl
 
-pub kept_not : (c : CoreState) (a : ℕ) → is_below c.table.words_per_region c.marker.tams.previous a ≡ true → is_marked c.marker.bitmaps.previous a ≡ false → 0 ≡ stored_size (kept_of c a)
+pub kept_not : (c : CoreState) (a : ℕ) → is_below c.table.words_per_region c.marker.tams.previous a ≡ true
+    → is_marked c.marker.bitmaps.previous a ≡ false → 0 ≡ stored_size (kept_of c a)
 unfolding kept_of
 kept_not c a e f = rw (e, f) refl
 
@@ -92,7 +95,8 @@ in_heap t k shaped known = go (nth_region t k) refl
     go Free e = rw e (omega arith)
     go (Ordinary ts) e =
         let fits : total_size ts ≤ t.words_per_region = rw e at ((shaped.fitting k).fits (rw e refl)) in
-        let few : suc k * t.words_per_region ≤ length t.regions * t.words_per_region = mul-le-mul_right t.words_per_region (suc-le k (length t.regions) known) in
+        let few : suc k * t.words_per_region ≤ length t.regions * t.words_per_region =
+        mul-le-mul_right t.words_per_region (suc-le k (length t.regions) known) in
         let one : suc k * t.words_per_region ≡ t.words_per_region + k * t.words_per_region = one_more k t.words_per_region in
         rw e (omega arith)
     go (First s) e =
@@ -100,7 +104,8 @@ in_heap t k shaped known = go (nth_region t k) refl
         rw e (omega (arith, w))
     go (Rest n) e = rw e (omega arith)
 
-pub part_fits : (c : CoreState) (p : Part) (k : ℕ) → IsShaped c.table → k < length c.table.regions → words_in c p (placed (k * c.table.words_per_region) (tiles_of c.table k)) ≤ 16777216
+pub part_fits : (c : CoreState) (p : Part) (k : ℕ) → IsShaped c.table → k < length c.table.regions
+    → words_in c p (placed (k * c.table.words_per_region) (tiles_of c.table k)) ≤ 16777216
 part_fits c p k shaped known =
     let a = within_sizes c p (placed (k * c.table.words_per_region) (tiles_of c.table k)) in
     let b = placed_sizes (k * c.table.words_per_region) (tiles_of c.table k) in

@@ -18,16 +18,20 @@ event_of actor step reply = record { actor = actor; step = step; reply = reply }
 
 same_event : (x y : Event) → x.actor ≡ y.actor → x.step ≡ y.step → x.reply ≡ y.reply → x ≡ y
 same_event x y actor step reply =
-    ap (λ (k : Actor). event_of k x.step x.reply) actor ∙ ap (λ (k : Step). event_of y.actor k x.reply) step ∙ ap (λ (k : Reply). event_of y.actor y.step k) reply
+    ap (λ (k : Actor). event_of k x.step x.reply) actor ∙ ap (λ (k : Step). event_of y.actor k x.reply) step
+    ∙ ap (λ (k : Reply). event_of y.actor y.step k) reply
 
 -- two lists with the same actors, steps and replies are the same
-same_events : (xs ys : List Event) → map actor_in xs ≡ map actor_in ys → map step_in xs ≡ map step_in ys → map reply_in xs ≡ map reply_in ys → xs ≡ ys
+same_events : (xs ys : List Event) → map actor_in xs ≡ map actor_in ys → map step_in xs ≡ map step_in ys
+    → map reply_in xs ≡ map reply_in ys → xs ≡ ys
 same_events [] [] actors steps replies = refl
 same_events [] (y ∷ ys) actors steps replies = absurd (cc)
 same_events (x ∷ xs) [] actors steps replies = absurd (cc)
 same_events (x ∷ xs) (y ∷ ys) actors steps replies =
-    let rest : xs ≡ ys = same_events xs ys (ap (λ (l : List Actor). drop 1 l) actors) (ap (λ (l : List Step). drop 1 l) steps) (ap (λ (l : List Reply). drop 1 l) replies) in
-    let first : x ≡ y = same_event x y (ap (λ (l : List Actor). get_or l 0 x.actor) actors) (ap (λ (l : List Step). get_or l 0 x.step) steps) (ap (λ (l : List Reply). get_or l 0 x.reply) replies) in
+    let rest : xs ≡ ys = same_events xs ys (ap (λ (l : List Actor). drop 1 l) actors) (ap (λ (l : List Step). drop 1 l) steps)
+    (ap (λ (l : List Reply). drop 1 l) replies) in
+    let first : x ≡ y = same_event x y (ap (λ (l : List Actor). get_or l 0 x.actor) actors)
+    (ap (λ (l : List Step). get_or l 0 x.step) steps) (ap (λ (l : List Reply). get_or l 0 x.reply) replies) in
     ap (λ (e : Event). e ∷ xs) first ∙ ap (λ (es : List Event). y ∷ es) rest
 
 same_history : (made history : EventList) → made.config ≡ history.config → made.events ≡ history.events → made ≡ history
@@ -35,7 +39,8 @@ same_history made history config events =
     subst (λ (c : Config). (record { config = c; events = made.events }) ≡ history) (sym config)
     (subst (λ (es : List Event). (record { config = history.config; events = es }) ≡ history) (sym events) refl)
 
-pub of_history : (every : ℕ) (history : EventList) (page : List ℕ) (life : Life) → map reply_in life.history.events ≡ map reply_in history.events → IsLifeOf every history life → IsPageOf life page
+pub of_history : (every : ℕ) (history : EventList) (page : List ℕ) (life : Life)
+    → map reply_in life.history.events ≡ map reply_in history.events → IsLifeOf every history life → IsPageOf life page
     → IsPageOfHistory every history page
 of_history every history page life replies l drawn = record {
   life = life;

@@ -43,7 +43,8 @@ pub record IsMomentOf (config : Config) (es : List Event) (m : Moment) : Type 0 
 
 -- a moment with so many events and copied words, and with the core's numbers, was added at the end where one is due, and otherwise none
 abbrev pub NotesIf : Bool → CoreState → ℕ → ℕ → List Moment → List Moment → Type 0
-NotesIf true c event copied old new = (m : Moment) × (new ≡ old ++ m ∷ []) × (m.event ≡ event) × (m.copied ≡ copied) × IsNumbersOf c m.numbers
+NotesIf true c event copied old new = (m : Moment) × (new ≡ old ++ m ∷ []) × (m.event ≡ event) × (m.copied ≡ copied)
+    × IsNumbersOf c m.numbers
 NotesIf false c event copied old new = new ≡ old
 
 -- there is a moment behind so many events

@@ -1,5 +1,6 @@
 -- Which moments of a run are shown.
-use Rattle.std.specs.Prelude.{◌≡◌, ◌≤◌, ℕ, suc, ◌+◌, ◌*◌, ◌/◌, ◌%◌, ◌⊎◌, min, max, Bool, true, false, List, [], ◌∷◌, Some, length, take, slice_get}
+use Rattle.std.specs.Prelude.{◌≡◌, ◌≤◌, ◌+◌, ◌*◌, ◌/◌, ◌%◌, ◌⊎◌, ◌∷◌}
+use Rattle.std.specs.Prelude.{ℕ, suc, min, max, Bool, true, false, List, [], Some, length, take, slice_get}
 use Rattle.heap_words.specs.declared.config.Config.{Config}
 use Rattle.heap_steps.specs.declared.step.Step.{Step}
 use Rattle.heap_steps.specs.declared.step.Step.TheVariants as steps

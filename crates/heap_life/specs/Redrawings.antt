@@ -49,7 +49,8 @@ Redraws every given left old new (Err (faults.Line fault)) = (input : List ℕ) 
 Redraws every given left old new (Err (faults.Run fault)) = (input : List ℕ) × GivesAll given left input
     × ((history : EventList) × (record_of input ≡ Ok history) × IsRunFault history.config fault) × Stays old new
 Redraws every given left old new (Err (faults.Judge fault)) = ⊥
-Redraws every given left old new (Err (faults.Differs event)) = (input : List ℕ) × GivesAll given left input × IsOfAnotherHeap input event × Stays old new
+Redraws every given left old new (Err (faults.Differs event)) =
+    (input : List ℕ) × GivesAll given left input × IsOfAnotherHeap input event × Stays old new
 Redraws every given left old new (Err (faults.Write fault)) = (input : List ℕ) × GivesAll given left input
     × ((page : List ℕ) × IsPageOfRecord every input page × TakesPart old new page) × (fault ≢ writes.NoMemory)
 

@@ -17,7 +17,13 @@ module _ (g : Graph) (h : Heap) (m : Marking) (shows : Shows g h) (b : Begins h 
   each_pending : (n : ℕ) → IsReachable g n → IsPending h m n
   each_pending n (FromRoot j k e) =
       let t = root_stands g h shows j k e in
-      record { address = t.address; object = t.object; at = t.at; named = t.named; pending = FromGrey t.address (b.roots t.address t.root) (b.scanned t.address) }
+      record {
+        address = t.address;
+        object = t.object;
+        at = t.at;
+        named = t.named;
+        pending = FromGrey t.address (b.roots t.address t.root) (b.scanned t.address);
+      }
   each_pending n (FromObject k l i o r e q) =
       let before = each_pending k r in
       let t = pointer_stands g h shows before.address before.object o i l before.at (ap (object_named g) before.named ∙ e) q in
@@ -26,7 +32,8 @@ module _ (g : Graph) (h : Heap) (m : Marking) (shows : Shows g h) (b : Begins h 
         object = t.object;
         at = t.at;
         named = t.named;
-        pending = Through before.address t.address before.pending (b.old before.address before.object before.at) (b.scanned before.address) t.points;
+        pending = Through before.address t.address before.pending (b.old before.address before.object before.at)
+            (b.scanned before.address) t.points;
       }
 
   marked_reachable : (a : ℕ) → m.marked a ≡ true → IsOldLive (IsReachable g) h m a
@@ -49,8 +56,10 @@ module _ (g : Graph) (h : Heap) (m : Marking) (shows : Shows g h) (b : Begins h 
 
   pub begins : KeepsSnapshot g h m
   begins = record {
-    below = λ n r. let p = each_pending n r in let o = shows.objects p.address p.object p.at in let k = named_below g p.object.name o.object o.named in let named = p.named in omega arith;
-    all = λ n r. let p = each_pending n r in record { address = p.address; object = p.object; at = p.at; named = p.named; why = inr p.pending };
+    below = λ n r. let p = each_pending n r in let o = shows.objects p.address p.object p.at in
+        let k = named_below g p.object.name o.object o.named in let named = p.named in omega arith;
+    all = λ n r. let p = each_pending n r in
+        record { address = p.address; object = p.object; at = p.at; named = p.named; why = inr p.pending };
     marked = marked_reachable;
     logged = λ a e. absurd (nothing_in m.logged a b.logged e);
     found = λ a x at o f. found_reachable a x at f;

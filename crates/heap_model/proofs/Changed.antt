@@ -1,5 +1,6 @@
 -- A mutator's steps, in the graph and in the heap.
-use Rattle.std.proofs.Common.{◌≡◌, ℕ, ◌<◌, ◌≤◌, ◌-◌, ◌⊎◌, ◌∷◌, [], ◌++◌, length, Option, Some, None, refl, sym, ap, ◌∙◌, subst, inl, inr, arith}
+use Rattle.std.proofs.Common.{◌≡◌, ◌<◌, ◌≤◌, ◌-◌, ◌⊎◌, ◌∷◌, ◌++◌, ◌∙◌}
+use Rattle.std.proofs.Common.{ℕ, [], length, Option, Some, None, refl, sym, ap, subst, inl, inr, arith}
 use Rattle.std.specs.Prelude.{slice_set, slice_get}
 use Rattle.std.specs.List.{AllZip}
 use Rattle.std.proofs.lemmas.Bool.{cases_eq, cases_lt}
@@ -21,11 +22,13 @@ changed_here g n o p e =
     let k = at_least g n o e in
     named_at (with_changed g n p) n k ∙ get-set_same g.objects (n - g.first_name) p o (sym (named_at g n k) ∙ e)
 
-pub changed_other : (g : Graph) (n k : ℕ) (o p q : Object) → object_named g n ≡ Some o → (k ≡ n → ⊥) → object_named g k ≡ Some q → object_named (with_changed g n p) k ≡ Some q
+pub changed_other : (g : Graph) (n k : ℕ) (o p q : Object) → object_named g n ≡ Some o → (k ≡ n → ⊥) → object_named g k ≡ Some q
+    → object_named (with_changed g n p) k ≡ Some q
 changed_other g n k o p q e ne f =
     let a = at_least g n o e in
     let b = at_least g k q f in
-    named_at (with_changed g n p) k b ∙ get-set_other g.objects (n - g.first_name) (k - g.first_name) p (λ s. ne (omega arith)) ∙ sym (named_at g k b) ∙ f
+    named_at (with_changed g n p) k b ∙ get-set_other g.objects (n - g.first_name) (k - g.first_name) p (λ s. ne (omega arith))
+    ∙ sym (named_at g k b) ∙ f
 
 pub added_here : (g : Graph) (o : Object) (j : ℕ) → object_named (with_object g o j) (next_name g) ≡ Some o
 added_here g o j =
@@ -42,7 +45,8 @@ unfolding object_named
 rooted_same g j n v = refl
 
 -- a word shows the same in a heap where each kept object is kept under its name
-shown_in : (h h' : Heap) → ((a : ℕ) (x : Stored) → h.kept a ≡ Some x → (y : Stored) × (h'.kept a ≡ Some y) × (y.name ≡ x.name)) → (w v : Option ℕ) → IsShown h w v → IsShown h' w v
+shown_in : (h h' : Heap) → ((a : ℕ) (x : Stored) → h.kept a ≡ Some x → (y : Stored) × (h'.kept a ≡ Some y) × (y.name ≡ x.name))
+    → (w v : Option ℕ) → IsShown h w v → IsShown h' w v
 shown_in h h' f None None s = tt
 shown_in h h' f None (Some n) s = absurd s
 shown_in h h' f (Some a) None s = absurd s
@@ -56,23 +60,42 @@ module _ (g : Graph) (h h' : Heap) (shows : Shows g h) where
     pub root_set_shows : Shows (with_root g place v) h'
     root_set_shows = record {
       roots = subst (λ ws. AllZip (IsShown h') ws (slice_set g.roots place v)) (sym step.roots)
-          (AllZip-set (IsShown h') h.roots g.roots (AllZip_map (IsShown h) (IsShown h') same h.roots g.roots shows.roots) place w v (same w v shown));
+          (AllZip-set (IsShown h') h.roots g.roots (AllZip_map (IsShown h) (IsShown h') same h.roots g.roots shows.roots) place w v
+          (same w v shown));
       distinct = λ a b x y ea eb e. shows.distinct a b x y (sym (step.kept a) ∙ ea) (sym (step.kept b) ∙ eb) e;
       objects = λ a x e.
           let o = shows.objects a x (sym (step.kept a) ∙ e) in
-          record { object = o.object; named = rooted_same g place x.name v ∙ o.named; values = o.values; pointers = AllZip_map (IsShown h) (IsShown h') same x.pointers o.object.pointers o.pointers; weaks = AllZip_map (IsShown h) (IsShown h') same x.weaks o.object.weaks o.weaks };
+          record {
+            object = o.object;
+            named = rooted_same g place x.name v
+                ∙ o.named;
+            values = o.values;
+            pointers =
+                AllZip_map (IsShown h) (IsShown h') same x.pointers o.object.pointers o.pointers;
+            weaks =
+                AllZip_map (IsShown h) (IsShown h') same x.weaks o.object.weaks o.weaks;
+          };
     }
 
   module _ (d : ℕ) (x y : Stored) (o p : Object) (step : ObjectSet h h' d x y) (named : object_named g x.name ≡ Some o)
-      (pointers : AllZip (IsShown h) y.pointers p.pointers) (weaks : AllZip (IsShown h) y.weaks p.weaks) (values : y.values ≡ p.values) where
+      (pointers : AllZip (IsShown h) y.pointers p.pointers) (weaks : AllZip (IsShown h) y.weaks p.weaks)
+      (values : y.values ≡ p.values) where
     set_same : (w v : Option ℕ) → IsShown h w v → IsShown h' w v
     set_same = shown_in h h' (λ a z at. elim (cases_eq a d) [
-      | inl q ↦ (y, ap h'.kept q ∙ step.is, step.name ∙ (let e : x ≡ z = let e1 = step.was in let e2 = ap h.kept q in cc in ap (λ (k : Stored). k.name) e))
+      | inl q ↦ (
+        y,
+        ap h'.kept q ∙ step.is,
+        step.name
+            ∙ (let e : x ≡ z = let e1 = step.was in let e2 = ap h.kept q in cc in ap (λ (k : Stored). k.name) e),
+      )
       | inr n ↦ (z, step.others a n ∙ at, refl)
     ])
 
     set_before : (a : ℕ) (z : Stored) → h'.kept a ≡ Some z → ((a ≡ d) × (z ≡ y)) ⊎ ((a ≡ d → ⊥) × (h.kept a ≡ Some z))
-    set_before a z at = elim (cases_eq a d) [ inl q ↦ inl (q, (let is = step.is in let here = ap h'.kept q in cc)) | inr n ↦ inr (n, sym (step.others a n) ∙ at) ]
+    set_before a z at = elim (cases_eq a d) [
+      | inl q ↦ inl (q, (let is = step.is in let here = ap h'.kept q in cc))
+      | inr n ↦ inr (n, sym (step.others a n) ∙ at)
+    ]
 
     set_was : (a : ℕ) (z : Stored) → h'.kept a ≡ Some z → (u : Stored) × (h.kept a ≡ Some u) × (u.name ≡ z.name)
     set_was a z at = elim (set_before a z at) [
@@ -102,7 +125,8 @@ module _ (g : Graph) (h h' : Heap) (shows : Shows g h) where
 
     pub object_set_shows : Shows (with_changed g x.name p) h'
     object_set_shows = record {
-      roots = subst (λ ws. AllZip (IsShown h') ws g.roots) (sym step.roots) (AllZip_map (IsShown h) (IsShown h') set_same h.roots g.roots shows.roots);
+      roots = subst (λ ws. AllZip (IsShown h') ws g.roots) (sym step.roots)
+          (AllZip_map (IsShown h) (IsShown h') set_same h.roots g.roots shows.roots);
       distinct = λ a b u z ea eb e.
           let (u', eu, nu) = set_was a u ea in
           let (z', ez, nz) = set_was b z eb in
@@ -111,15 +135,22 @@ module _ (g : Graph) (h h' : Heap) (shows : Shows g h) where
     }
 
   module _ (a : ℕ) (x : Stored) (o : Object) (place : ℕ) (step : ObjectAdded h h' a x place) (name : x.name ≡ next_name g)
-      (pointers : AllZip (IsShown h) x.pointers o.pointers) (weaks : AllZip (IsShown h) x.weaks o.weaks) (values : x.values ≡ o.values) where
+      (pointers : AllZip (IsShown h) x.pointers o.pointers) (weaks : AllZip (IsShown h) x.weaks o.weaks)
+      (values : x.values ≡ o.values) where
     added_other_at : (b : ℕ) (z : Stored) → h.kept b ≡ Some z → h'.kept b ≡ Some z
-    added_other_at b z at = elim (cases_eq b a) [ inl q ↦ absurd (let was = step.was in let here = ap h.kept q in cc) | inr n ↦ step.others b n ∙ at ]
+    added_other_at b z at = elim (cases_eq b a) [
+      | inl q ↦ absurd (let was = step.was in let here = ap h.kept q in cc)
+      | inr n ↦ step.others b n ∙ at
+    ]
 
     added_same : (w v : Option ℕ) → IsShown h w v → IsShown h' w v
     added_same = shown_in h h' (λ b z at. (z, added_other_at b z at, refl))
 
     added_before : (b : ℕ) (z : Stored) → h'.kept b ≡ Some z → ((b ≡ a) × (z ≡ x)) ⊎ (h.kept b ≡ Some z)
-    added_before b z at = elim (cases_eq b a) [ inl q ↦ inl (q, (let is = step.is in let here = ap h'.kept q in cc)) | inr n ↦ inr (sym (step.others b n) ∙ at) ]
+    added_before b z at = elim (cases_eq b a) [
+      | inl q ↦ inl (q, (let is = step.is in let here = ap h'.kept q in cc))
+      | inr n ↦ inr (sym (step.others b n) ∙ at)
+    ]
 
     below : (b : ℕ) (z : Stored) → h.kept b ≡ Some z → z.name < next_name g
     below b z at = let t = shows.objects b z at in named_below g z.name t.object t.named
@@ -135,7 +166,14 @@ module _ (g : Graph) (h h' : Heap) (shows : Shows g h) where
       })
       | inr was ↦
           let t = shows.objects b z was in
-          record { object = t.object; named = added_other g o t.object place z.name t.named; values = t.values; pointers = AllZip_map (IsShown h) (IsShown h') added_same z.pointers t.object.pointers t.pointers; weaks = AllZip_map (IsShown h) (IsShown h') added_same z.weaks t.object.weaks t.weaks }
+          record {
+            object = t.object;
+            named = added_other g o t.object place z.name t.named;
+            values = t.values;
+            pointers = AllZip_map (IsShown h) (IsShown h') added_same z.pointers t.object.pointers t.pointers;
+            weaks =
+                AllZip_map (IsShown h) (IsShown h') added_same z.weaks t.object.weaks t.weaks;
+          }
     ]
 
     added_distinct : (b c : ℕ) (u z : Stored) → h'.kept b ≡ Some u → h'.kept c ≡ Some z → u.name ≡ z.name → b ≡ c
@@ -154,7 +192,8 @@ module _ (g : Graph) (h h' : Heap) (shows : Shows g h) where
     pub object_added_shows : Shows (with_object g o place) h'
     object_added_shows = record {
       roots = subst (λ ws. AllZip (IsShown h') ws (slice_set g.roots place (Some (next_name g)))) (sym step.roots)
-          (AllZip-set (IsShown h') h.roots g.roots (AllZip_map (IsShown h) (IsShown h') added_same h.roots g.roots shows.roots) place (Some a) (Some (next_name g)) (x, step.is, name));
+          (AllZip-set (IsShown h') h.roots g.roots (AllZip_map (IsShown h) (IsShown h') added_same h.roots g.roots shows.roots) place
+          (Some a) (Some (next_name g)) (x, step.is, name));
       distinct = added_distinct;
       objects = added_object;
     }
@@ -163,22 +202,34 @@ module _ (g : Graph) (h h' : Heap) (shows : Shows g h) where
   same_shows same =
       let in' = shown_in h h' (λ a x at. (x, same.kept a ∙ at, refl)) in
       record {
-        roots = subst (λ ws. AllZip (IsShown h') ws g.roots) (sym same.roots) (AllZip_map (IsShown h) (IsShown h') in' h.roots g.roots shows.roots);
+        roots = subst (λ ws. AllZip (IsShown h') ws g.roots) (sym same.roots)
+            (AllZip_map (IsShown h) (IsShown h') in' h.roots g.roots shows.roots);
         distinct = λ a b x y ea eb e. shows.distinct a b x y (sym (same.kept a) ∙ ea) (sym (same.kept b) ∙ eb) e;
         objects = λ a x e.
             let o = shows.objects a x (sym (same.kept a) ∙ e) in
-            record { object = o.object; named = o.named; values = o.values; pointers = AllZip_map (IsShown h) (IsShown h') in' x.pointers o.object.pointers o.pointers; weaks = AllZip_map (IsShown h) (IsShown h') in' x.weaks o.object.weaks o.weaks };
+            record {
+              object = o.object;
+              named = o.named;
+              values = o.values;
+              pointers = AllZip_map (IsShown h) (IsShown h') in' x.pointers o.object.pointers o.pointers;
+              weaks =
+                  AllZip_map (IsShown h) (IsShown h') in' x.weaks o.object.weaks o.weaks;
+            };
       }
 
   -- what is read of the heap is what the graph has
   pub root_read : (j : ℕ) (w : Option ℕ) → slice_get h.roots j ≡ Some w → (v : Option ℕ) × (slice_get g.roots j ≡ Some v) × IsShown h w v
   root_read j w e = AllZip-get (IsShown h) h.roots g.roots shows.roots j w e
 
-  pub pointer_read : (a i : ℕ) (x : Stored) (w : Option ℕ) → h.kept a ≡ Some x → slice_get x.pointers i ≡ Some w → (o : Object) × (object_named g x.name ≡ Some o) × (v : Option ℕ) × (slice_get o.pointers i ≡ Some v) × IsShown h w v
-  pointer_read a i x w at e = let t = shows.objects a x at in let (v, is, s) = AllZip-get (IsShown h) x.pointers t.object.pointers t.pointers i w e in (t.object, t.named, v, is, s)
+  pub pointer_read : (a i : ℕ) (x : Stored) (w : Option ℕ) → h.kept a ≡ Some x → slice_get x.pointers i ≡ Some w
+      → (o : Object) × (object_named g x.name ≡ Some o) × (v : Option ℕ) × (slice_get o.pointers i ≡ Some v) × IsShown h w v
+  pointer_read a i x w at e = let t = shows.objects a x at in
+      let (v, is, s) = AllZip-get (IsShown h) x.pointers t.object.pointers t.pointers i w e in (t.object, t.named, v, is, s)
 
-  pub weak_read : (a i : ℕ) (x : Stored) (w : Option ℕ) → h.kept a ≡ Some x → slice_get x.weaks i ≡ Some w → (o : Object) × (object_named g x.name ≡ Some o) × (v : Option ℕ) × (slice_get o.weaks i ≡ Some v) × IsShown h w v
-  weak_read a i x w at e = let t = shows.objects a x at in let (v, is, s) = AllZip-get (IsShown h) x.weaks t.object.weaks t.weaks i w e in (t.object, t.named, v, is, s)
+  pub weak_read : (a i : ℕ) (x : Stored) (w : Option ℕ) → h.kept a ≡ Some x → slice_get x.weaks i ≡ Some w
+      → (o : Object) × (object_named g x.name ≡ Some o) × (v : Option ℕ) × (slice_get o.weaks i ≡ Some v) × IsShown h w v
+  weak_read a i x w at e = let t = shows.objects a x at in let (v, is, s) = AllZip-get (IsShown h) x.weaks t.object.weaks t.weaks i w e in
+      (t.object, t.named, v, is, s)
 
   pub word_read : (a : ℕ) (x : Stored) → h.kept a ≡ Some x → (o : Object) × (object_named g x.name ≡ Some o) × (x.values ≡ o.values)
   word_read a x at = let t = shows.objects a x at in (t.object, t.named, t.values)

@@ -1,5 +1,6 @@
 -- The clearing of weak slots at the end of marking.
-use Rattle.std.proofs.Common.{◌≡◌, ℕ, zero, suc, ◌-◌, ◌<◌, ◌≤◌, ◌⊎◌, Bool, true, false, List, ◌∷◌, [], Option, Some, None, refl, sym, ap, ◌∙◌, subst, inl, inr, arith}
+use Rattle.std.proofs.Common.{◌≡◌, ◌-◌, ◌<◌, ◌≤◌, ◌⊎◌, ◌∷◌, ◌∙◌}
+use Rattle.std.proofs.Common.{ℕ, zero, suc, Bool, true, false, List, [], Option, Some, None, refl, sym, ap, subst, inl, inr, arith}
 use Rattle.std.specs.Prelude.{slice_get, map}
 use Rattle.std.specs.List.{AllZip}
 use Rattle.std.proofs.lemmas.Bool.{cases_eq, cases_lt, lt-ltb}
@@ -7,12 +8,14 @@ use Rattle.heap_model.specs.Graph.{Graph, Object, object_named, next_name, IsRea
 use Rattle.heap_model.specs.Heap.{Heap, Stored, IsShown, IsObjectShown, Shows}
 use Rattle.heap_model.specs.Marking.{Marking, IsFound, ByRoot, KeepsSnapshot, IsDone, kept_after}
 use Rattle.heap_model.specs.Count.{IsReachableCount}
-use Rattle.heap_model.specs.Weak.{IsClearedSlot, ClearsObject, Clears, cleared_word, cleared, cleared_object, cleared_after, AreReached, cleared_slot, cleared_names, cleared_graph}
+use Rattle.heap_model.specs.Weak.{IsClearedSlot, ClearsObject, Clears, cleared_word, cleared, cleared_object, cleared_after, AreReached}
+use Rattle.heap_model.specs.Weak.{cleared_slot, cleared_names, cleared_graph}
 use Rattle.heap_model.proofs.Names.{bool_cases}
 use Rattle.heap_model.proofs.Fields.{ltb_above}
 use Rattle.heap_model.proofs.Lists.{AllZip_map_at, AllZip-get, AllZip-get_right}
 use Rattle.heap_model.proofs.Changed.{named_at, at_least}
-use Rattle.heap_model.proofs.Finish.{kept_before_here, old_marked, found_kept, pointer_found, marked_reachable, reachable_kept, kept_or_new, quiet_kept}
+use Rattle.heap_model.proofs.Finish.{kept_before_here, old_marked, found_kept, pointer_found, marked_reachable, reachable_kept, kept_or_new}
+use Rattle.heap_model.proofs.Finish.{quiet_kept}
 
 -- a name's object before and after
 module _ (s g g' : Graph) (c : Clears s g g') where
@@ -22,11 +25,13 @@ module _ (s g g' : Graph) (c : Clears s g g') where
       let (p, is, z) = AllZip-get (ClearsObject s) g.objects g'.objects c.objects (n - g.first_name) o (sym (named_at g n k) ∙ e) in
       (p, named_at g' n (subst (λ f. f ≤ n) (sym c.first_name) k) ∙ ap (λ f. slice_get g'.objects (n - f)) c.first_name ∙ is, z)
 
-  pub cleared_named_back : (n : ℕ) (p : Object) → object_named g' n ≡ Some p → (o : Object) × (object_named g n ≡ Some o) × ClearsObject s o p
+  pub cleared_named_back : (n : ℕ) (p : Object) → object_named g' n ≡ Some p
+      → (o : Object) × (object_named g n ≡ Some o) × ClearsObject s o p
   cleared_named_back n p e =
       let k = at_least g' n p e in
       let k' = subst (λ f. f ≤ n) c.first_name k in
-      let (o, is, z) = AllZip-get_right (ClearsObject s) g.objects g'.objects c.objects (n - g.first_name) p (ap (λ f. slice_get g'.objects (n - f)) (sym c.first_name) ∙ sym (named_at g' n k) ∙ e) in
+      let (o, is, z) = AllZip-get_right (ClearsObject s) g.objects g'.objects c.objects (n - g.first_name) p
+      (ap (λ f. slice_get g'.objects (n - f)) (sym c.first_name) ∙ sym (named_at g' n k) ∙ e) in
       (o, named_at g n k' ∙ is, z)
 
   -- pointers stay, so what is reachable stays
@@ -42,12 +47,14 @@ module _ (s g g' : Graph) (c : Clears s g g') where
       let (o, is, z) = cleared_named_back m p e in
       FromObject m k i o (reach_back m r) is (ap (λ l. slice_get l i) (sym z.pointers) ∙ q)
 
-cleared_from : (m : Marking) (o : Option Stored) (y : Stored) → cleared_object m o ≡ Some y → (x : Stored) × (o ≡ Some x) × (y ≡ cleared m x)
+cleared_from : (m : Marking) (o : Option Stored) (y : Stored) → cleared_object m o ≡ Some y
+    → (x : Stored) × (o ≡ Some x) × (y ≡ cleared m x)
 cleared_from m None y e = cc
 cleared_from m (Some x) y e = (x, refl, cc)
 
 -- what is kept and cleared was kept, and bears the same name
-pub cleared_was : (h : Heap) (m : Marking) (a : ℕ) (y : Stored) → cleared_after h m a ≡ Some y → (x : Stored) × (kept_after h m a ≡ Some x) × (y ≡ cleared m x)
+pub cleared_was : (h : Heap) (m : Marking) (a : ℕ) (y : Stored) → cleared_after h m a ≡ Some y
+    → (x : Stored) × (kept_after h m a ≡ Some x) × (y ≡ cleared m x)
 cleared_was h m a y e = cleared_from m (kept_after h m a) y e
 
 pub cleared_is : (h : Heap) (m : Marking) (a : ℕ) (x : Stored) → kept_after h m a ≡ Some x → cleared_after h m a ≡ Some (cleared m x)
@@ -106,7 +113,8 @@ module _ (s g g' : Graph) (h : Heap) (m : Marking) (i : KeepsSnapshot s h m) (do
             rw new (cleared m z.0, is, z.2 ∙ sym q.0)
       ]
 
-  weaks_after : (ws vs vs' : List (Option ℕ)) → AllZip (IsShown h) ws vs → AllZip (IsClearedSlot s) vs vs' → AllZip (IsShown after) (map (cleared_word m) ws) vs'
+  weaks_after : (ws vs vs' : List (Option ℕ)) → AllZip (IsShown h) ws vs → AllZip (IsClearedSlot s) vs vs'
+      → AllZip (IsShown after) (map (cleared_word m) ws) vs'
   weaks_after [] [] [] z q = tt
   weaks_after [] [] (v' ∷ vs') z q = absurd q
   weaks_after [] (v ∷ vs) vs' z q = absurd z
@@ -123,7 +131,8 @@ module _ (s g g' : Graph) (h : Heap) (m : Marking) (i : KeepsSnapshot s h m) (do
         object = p;
         named = named;
         values = o.values ∙ sym z.values;
-        pointers = subst (λ ps. AllZip (IsShown after) x.pointers ps) (sym z.pointers) (AllZip_map_at (IsShown h) (IsShown after) x.pointers o.object.pointers
+        pointers = subst (λ ps. AllZip (IsShown after) x.pointers ps) (sym z.pointers)
+            (AllZip_map_at (IsShown h) (IsShown after) x.pointers o.object.pointers
             (λ j w v is k. shown_after w v (λ b q. pointer_found s g h m i done shows a x j b at why (is ∙ ap Some q)) k) o.pointers);
         weaks = weaks_after x.weaks o.object.weaks p.weaks o.weaks z.weaks;
       }
@@ -154,7 +163,8 @@ member (x ∷ xs) n = elim (cases_eq x n) [
   ]
 ]
   where
-    nowhere : (x : ℕ) (xs : List ℕ) (n : ℕ) → (x ≡ n → ⊥) → ((i : ℕ) → slice_get xs i ≡ Some n → ⊥) → (i : ℕ) → slice_get (x ∷ xs) i ≡ Some n → ⊥
+    nowhere : (x : ℕ) (xs : List ℕ) (n : ℕ) → (x ≡ n → ⊥) → ((i : ℕ) → slice_get xs i ≡ Some n → ⊥) → (i : ℕ)
+        → slice_get (x ∷ xs) i ≡ Some n → ⊥
     nowhere x xs n ne none zero e = ne cc
     nowhere x xs n ne none (suc i) e = none i e
 
@@ -223,22 +233,30 @@ module _ (s : Graph) where
 
   pub clears_once : (g a b : Graph) → Clears s g a → Clears s g b → a ≡ b
   clears_once g a b p q =
-      ap (λ u. record { room = u; first_name = a.first_name; places = a.places; objects = a.objects; roots = a.roots }) (p.room ∙ sym q.room)
-      ∙ ap (λ u. record { room = b.room; first_name = u; places = a.places; objects = a.objects; roots = a.roots }) (p.first_name ∙ sym q.first_name)
-      ∙ ap (λ u. record { room = b.room; first_name = b.first_name; places = u; objects = a.objects; roots = a.roots }) (p.places ∙ sym q.places)
-      ∙ ap (λ u. record { room = b.room; first_name = b.first_name; places = b.places; objects = u; roots = a.roots }) (objects_once g.objects a.objects b.objects p.objects q.objects)
-      ∙ ap (λ u. record { room = b.room; first_name = b.first_name; places = b.places; objects = b.objects; roots = u }) (p.roots ∙ sym q.roots)
+      ap (λ u. record { room = u; first_name = a.first_name; places = a.places; objects = a.objects; roots = a.roots })
+      (p.room ∙ sym q.room)
+      ∙ ap (λ u. record { room = b.room; first_name = u; places = a.places; objects = a.objects; roots = a.roots })
+      (p.first_name ∙ sym q.first_name)
+      ∙ ap (λ u. record { room = b.room; first_name = b.first_name; places = u; objects = a.objects; roots = a.roots })
+      (p.places ∙ sym q.places)
+      ∙ ap (λ u. record { room = b.room; first_name = b.first_name; places = b.places; objects = u; roots = a.roots })
+      (objects_once g.objects a.objects b.objects p.objects q.objects)
+      ∙ ap (λ u. record { room = b.room; first_name = b.first_name; places = b.places; objects = b.objects; roots = u })
+      (p.roots ∙ sym q.roots)
 
 -- what is kept at the end, cleared: each name that was reachable, and of those that were there nothing else
-pub cleared_all : (s : Graph) (h : Heap) (m : Marking) → KeepsSnapshot s h m → IsDone m → (n : ℕ) → IsReachable s n → (a : ℕ) × (x : Stored) × (cleared_after h m a ≡ Some x) × (x.name ≡ n)
+pub cleared_all : (s : Graph) (h : Heap) (m : Marking) → KeepsSnapshot s h m → IsDone m → (n : ℕ) → IsReachable s n
+    → (a : ℕ) × (x : Stored) × (cleared_after h m a ≡ Some x) × (x.name ≡ n)
 cleared_all s h m i done n r = let (a, x, at, named) = reachable_kept s s h m i done n r in (a, cleared m x, cleared_is h m a x at, named)
 
-pub cleared_only : (s : Graph) (h : Heap) (m : Marking) → KeepsSnapshot s h m → IsDone m → (a : ℕ) (y : Stored) → cleared_after h m a ≡ Some y → IsReachable s y.name ⊎ (next_name s ≤ y.name)
+pub cleared_only : (s : Graph) (h : Heap) (m : Marking) → KeepsSnapshot s h m → IsDone m → (a : ℕ) (y : Stored)
+    → cleared_after h m a ≡ Some y → IsReachable s y.name ⊎ (next_name s ≤ y.name)
 cleared_only s h m i done a y e =
     let (x, k, same) = cleared_was h m a y e in
     subst (λ (z : Stored). IsReachable s z.name ⊎ (next_name s ≤ z.name)) (sym same) (kept_or_new s s h m i done a x k)
 
-pub cleared_quiet : (g : Graph) (h : Heap) (m : Marking) → KeepsSnapshot g h m → IsDone m → Shows g h → (a : ℕ) (y : Stored) → cleared_after h m a ≡ Some y → IsReachable g y.name
+pub cleared_quiet : (g : Graph) (h : Heap) (m : Marking) → KeepsSnapshot g h m → IsDone m → Shows g h → (a : ℕ) (y : Stored)
+    → cleared_after h m a ≡ Some y → IsReachable g y.name
 cleared_quiet g h m i done shows a y e =
     let (x, k, same) = cleared_was h m a y e in
     subst (λ (z : Stored). IsReachable g z.name) (sym same) (quiet_kept g h m i done shows a x k)

@@ -34,7 +34,8 @@ module _ (s g : Graph) (h : Heap) (m : Marking) (shows : Shows g h) (inv : Keeps
   unfolding name_at
   named_at a x e = ap name_in e
 
-  stands : (i k : ℕ) → slice_get (map name_at marks) i ≡ Some k → (a : ℕ) × (x : Stored) × (slice_get marks i ≡ Some a) × (h.kept a ≡ Some x) × (x.name ≡ k) × IsReachable s x.name
+  stands : (i k : ℕ) → slice_get (map name_at marks) i ≡ Some k
+      → (a : ℕ) × (x : Stored) × (slice_get marks i ≡ Some a) × (h.kept a ≡ Some x) × (x.name ≡ k) × IsReachable s x.name
   stands i k e =
       let (a, is, q) = get-map name_at marks i k e in
       let r = inv.marked a (listed.only i a is) in

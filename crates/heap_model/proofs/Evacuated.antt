@@ -1,11 +1,13 @@
 -- The turns of the copying.
-use Rattle.std.proofs.Common.{◌≡◌, ℕ, zero, suc, ◌⊎◌, ◌↔◌, Bool, true, false, List, ◌∷◌, [], length, Option, Some, None, refl, sym, ap, ◌∙◌, subst, inl, inr}
+use Rattle.std.proofs.Common.{◌≡◌, ◌⊎◌, ◌↔◌, ◌∷◌, ◌∙◌}
+use Rattle.std.proofs.Common.{ℕ, zero, suc, Bool, true, false, List, [], length, Option, Some, None, refl, sym, ap, subst, inl, inr}
 use Rattle.std.specs.Prelude.{slice_set, slice_get}
 use Rattle.std.specs.List.{AllZip}
 use Rattle.std.proofs.lemmas.Bool.{cases_eq}
 use Rattle.heap_model.specs.Heap.{Heap, Stored, fields, HasField, IsRoot, IsClosed, RootSet, ObjectSet}
 use Rattle.heap_model.specs.Relocation.{IsMoved, Relocates}
-use Rattle.heap_model.specs.Evacuation.{IsReached, ByRootWord, ByOutside, ByInside, place_after, IsWord, IsEvacuating, IsClean, IsEvacuated, released, Copies}
+use Rattle.heap_model.specs.Evacuation.{IsReached, ByRootWord, ByOutside, ByInside, place_after, IsWord, IsEvacuating, IsClean, IsEvacuated}
+use Rattle.heap_model.specs.Evacuation.{released, Copies}
 use Rattle.heap_model.proofs.Names.{bool_cases}
 use Rattle.heap_model.proofs.Lists.{get_as, AllZip-get, AllZip-get_right, AllZip_map, AllZip-split}
 
@@ -16,7 +18,8 @@ placed_outside : (set : ℕ → Bool) (forward : ℕ → Option ℕ) (a : ℕ) �
 placed_outside set forward a e = rw e refl
 
 -- a clean word that is as it was names what stays
-clean_moved : (set : ℕ → Bool) (forward : ℕ → Option ℕ) (w w' : Option ℕ) → ((a : ℕ) → w' ≡ Some a → set a ≡ false) → IsWord (place_after set forward) w w' → IsMoved (place_after set forward) w w'
+clean_moved : (set : ℕ → Bool) (forward : ℕ → Option ℕ) (w w' : Option ℕ) → ((a : ℕ) → w' ≡ Some a → set a ≡ false)
+    → IsWord (place_after set forward) w w' → IsMoved (place_after set forward) w w'
 clean_moved set forward w w' clean (inr m) = m
 clean_moved set forward None None clean (inl e) = tt
 clean_moved set forward None (Some b) clean (inl e) = cc
@@ -48,11 +51,15 @@ start set h = record {
 
 module _ (set : ℕ → Bool) (h : Heap) (forward : ℕ → Option ℕ) (now : Heap) (v : IsEvacuating set h forward now) where
   module _ (done : IsEvacuated set now) where
-    clean_words : (xs ys : List (Option ℕ)) → IsClean set ys → AllZip (IsWord (place_after set forward)) xs ys → AllZip (IsMoved (place_after set forward)) xs ys
+    clean_words : (xs ys : List (Option ℕ)) → IsClean set ys → AllZip (IsWord (place_after set forward)) xs ys
+        → AllZip (IsMoved (place_after set forward)) xs ys
     clean_words [] [] c z = tt
     clean_words [] (y ∷ ys) c z = absurd z
     clean_words (x ∷ xs) [] c z = absurd z
-    clean_words (x ∷ xs) (y ∷ ys) c z = (clean_moved set forward x y (λ a e. c zero a (ap Some e)) z.0, clean_words xs ys (λ i a e. c (suc i) a e) z.1)
+    clean_words (x ∷ xs) (y ∷ ys) c z = (
+      clean_moved set forward x y (λ a e. c zero a (ap Some e)) z.0,
+      clean_words xs ys (λ i a e. c (suc i) a e) z.1,
+    )
 
     part_outside : (a b : ℕ) (x : Stored) → h.kept a ≡ Some x → place_after set forward a ≡ Some b → set b ≡ false
     part_outside a b x at e = elim (bool_cases (set a)) [
@@ -67,7 +74,8 @@ module _ (set : ℕ → Bool) (h : Heap) (forward : ℕ → Option ℕ) (now : H
           let p = v.objects a b x at e in
           let out = part_outside a b x at e in
           let moved = clean_words (fields x) (fields p.part) (done.objects b p.part p.at out) p.words in
-          let (pointers, weaks) = AllZip-split (IsMoved (place_after set forward)) x.pointers p.part.pointers x.weaks p.part.weaks p.shape moved in
+          let (pointers, weaks) = AllZip-split
+          (IsMoved (place_after set forward)) x.pointers p.part.pointers x.weaks p.part.weaks p.shape moved in
           record { copy = p.part; at = rw out p.at; name = p.name; values = p.values; pointers = pointers; weaks = weaks };
       came = λ b y e. elim (bool_cases (set b)) [
         | inl k ↦ absurd (let q = rw k at e in cc)
@@ -90,7 +98,8 @@ module _ (set : ℕ → Bool) (h : Heap) (forward : ℕ → Option ℕ) (now : H
     -- what is reached is copied
     reached_copied : (a : ℕ) → IsReached set h a → (b : ℕ) × (forward a ≡ Some b)
     reached_copied a (ByRootWord c r inside) =
-        let (w, is, m) = AllZip-get (IsMoved (place_after set forward)) h.roots now.roots (clean_words h.roots now.roots done.roots v.roots) r.place (Some c) r.is in
+        let (w, is, m) = AllZip-get (IsMoved (place_after set forward)) h.roots now.roots
+        (clean_words h.roots now.roots done.roots v.roots) r.place (Some c) r.is in
         moved_inside c w m inside
     reached_copied a (ByOutside b c out p inside) = field_forwarded b b c p (placed_outside set forward b out) inside
     reached_copied a (ByInside b c r p inside) =
@@ -112,21 +121,25 @@ module _ (set : ℕ → Bool) (h : Heap) (forward : ℕ → Option ℕ) (now : H
         reached_inside a (ByInside _ _ _ _ inside) = inside
 
   -- a root word is updated
-  pub root_updated : (now' : Heap) (j : ℕ) (w w' : Option ℕ) → slice_get h.roots j ≡ Some w → IsMoved (place_after set forward) w w' → RootSet now now' j w' → IsEvacuating set h forward now'
+  pub root_updated : (now' : Heap) (j : ℕ) (w w' : Option ℕ) → slice_get h.roots j ≡ Some w → IsMoved (place_after set forward) w w'
+      → RootSet now now' j w' → IsEvacuating set h forward now'
   root_updated now' j w w' at moved step = record {
     roots = subst (λ ws. AllZip (IsWord (place_after set forward)) h.roots ws) (sym step.roots) (set_one h.roots now.roots j v.roots at);
-    objects = λ a b x e p. let k = v.objects a b x e p in record { part = k.part; at = step.kept b ∙ k.at; name = k.name; values = k.values; shape = k.shape; words = k.words };
+    objects = λ a b x e p. let k = v.objects a b x e p in
+        record { part = k.part; at = step.kept b ∙ k.at; name = k.name; values = k.values; shape = k.shape; words = k.words };
     came = λ b y e out. v.came b y (sym (step.kept b) ∙ e) out;
     untouched = λ a e u. step.kept a ∙ v.untouched a e u;
     reached = v.reached;
     out = v.out;
   }
     where
-      set_one : (xs ys : List (Option ℕ)) (i : ℕ) → AllZip (IsWord (place_after set forward)) xs ys → slice_get xs i ≡ Some w → AllZip (IsWord (place_after set forward)) xs (slice_set ys i w')
+      set_one : (xs ys : List (Option ℕ)) (i : ℕ) → AllZip (IsWord (place_after set forward)) xs ys → slice_get xs i ≡ Some w
+          → AllZip (IsWord (place_after set forward)) xs (slice_set ys i w')
       set_one [] [] i z e = tt
       set_one [] (y ∷ ys) i z e = absurd z
       set_one (x ∷ xs) [] i z e = absurd z
-      set_one (x ∷ xs) (y ∷ ys) zero z e = let same : w ≡ x = cc in (inr (subst (λ u. IsMoved (place_after set forward) u w') same moved), z.1)
+      set_one (x ∷ xs) (y ∷ ys) zero z e = let same : w ≡ x = cc in
+          (inr (subst (λ u. IsMoved (place_after set forward) u w') same moved), z.1)
       set_one (x ∷ xs) (y ∷ ys) (suc i) z e = (z.0, set_one xs ys i z.1 e)
 
   -- a word that still names the set is as it was
@@ -140,8 +153,10 @@ module _ (set : ℕ → Bool) (h : Heap) (forward : ℕ → Option ℕ) (now : H
       ])
 
   -- what is forwarded is its new value
-  word_updated : (w : Option ℕ) (c d : ℕ) → IsWord (place_after set forward) w (Some c) → set c ≡ true → forward c ≡ Some d → IsMoved (place_after set forward) w (Some d)
-  word_updated w c d k inside f = subst (λ u. IsMoved (place_after set forward) u (Some d)) (sym (word_was w c k inside)) (placed_inside set forward c inside ∙ f)
+  word_updated : (w : Option ℕ) (c d : ℕ) → IsWord (place_after set forward) w (Some c) → set c ≡ true → forward c ≡ Some d
+      → IsMoved (place_after set forward) w (Some d)
+  word_updated w c d k inside f = subst (λ u. IsMoved (place_after set forward) u (Some d)) (sym (word_was w c k inside))
+      (placed_inside set forward c inside ∙ f)
 
   -- what a present word outside the set still names is reached
   pub root_reached : (j c : ℕ) → slice_get now.roots j ≡ Some (Some c) → set c ≡ true → IsRoot h c
@@ -149,21 +164,29 @@ module _ (set : ℕ → Bool) (h : Heap) (forward : ℕ → Option ℕ) (now : H
       let (w, is, k) = AllZip-get_right (IsWord (place_after set forward)) h.roots now.roots v.roots j (Some c) e in
       record { place = j; is = get_as h.roots j w (Some c) is (word_was w c k inside) }
 
-  pub field_reached : (b i c : ℕ) (y : Stored) → now.kept b ≡ Some y → set b ≡ false → slice_get (fields y) i ≡ Some (Some c) → set c ≡ true → IsReached set h c
+  pub field_reached : (b i c : ℕ) (y : Stored) → now.kept b ≡ Some y → set b ≡ false → slice_get (fields y) i ≡ Some (Some c)
+      → set c ≡ true → IsReached set h c
   field_reached b i c y at out e inside =
       let o = v.came b y at out in
       let k = v.objects o.from b o.object o.at o.placed in
       let same : y ≡ k.part = let e1 = k.at in cc in
       let e' = subst (λ (z : Stored). slice_get (fields z) i ≡ Some (Some c)) same e in
       let (w, is, s) = AllZip-get_right (IsWord (place_after set forward)) (fields o.object) (fields k.part) k.words i (Some c) e' in
-      let p : HasField h o.from c = record { object = o.object; at = o.at; field = i; is = get_as (fields o.object) i w (Some c) is (word_was w c s inside) } in
+      let p : HasField h o.from c = record {
+        object = o.object;
+        at = o.at;
+        field = i;
+        is = get_as (fields o.object) i w (Some c) is (word_was w c s inside);
+      } in
       elim (bool_cases (set o.from)) [
         | inl q ↦ ByInside o.from c (v.reached o.from b q (sym (placed_inside set forward o.from q) ∙ o.placed)) p inside
         | inr q ↦ ByOutside o.from c q p inside
       ]
 
   -- a pointer field of an object outside the set is updated
-  pub field_updated : (now' : Heap) (b i c d : ℕ) (y y' : Stored) → set b ≡ false → slice_get (fields y) i ≡ Some (Some c) → set c ≡ true → forward c ≡ Some d → ObjectSet now now' b y y' → y'.values ≡ y.values → length y'.pointers ≡ length y.pointers → fields y' ≡ slice_set (fields y) i (Some d) → IsEvacuating set h forward now'
+  pub field_updated : (now' : Heap) (b i c d : ℕ) (y y' : Stored) → set b ≡ false → slice_get (fields y) i ≡ Some (Some c) → set c ≡ true
+      → forward c ≡ Some d → ObjectSet now now' b y y' → y'.values ≡ y.values → length y'.pointers ≡ length y.pointers
+      → fields y' ≡ slice_set (fields y) i (Some d) → IsEvacuating set h forward now'
   field_updated now' b i c d y y' out e inside f step values shape words = record {
     roots = subst (λ ws. AllZip (IsWord (place_after set forward)) h.roots ws) (sym step.roots) v.roots;
     objects = λ a b0 x at p.
@@ -178,12 +201,22 @@ module _ (set : ℕ → Bool) (h : Heap) (forward : ℕ → Option ℕ) (now : H
                 values = values ∙ ap (λ (z : Stored). z.values) (sym same) ∙ k.values;
                 shape = shape ∙ ap (λ (z : Stored). length z.pointers) (sym same) ∙ k.shape;
                 words = subst (λ ws. AllZip (IsWord (place_after set forward)) (fields x) ws) (sym words)
-                    (set_one (fields x) (fields y) i (subst (λ (z : Stored). AllZip (IsWord (place_after set forward)) (fields x) (fields z)) same k.words) e);
+                    (set_one (fields x) (fields y) i
+                    (subst (λ (z : Stored). AllZip (IsWord (place_after set forward)) (fields x) (fields z)) same k.words) e);
               }
-          | inr n ↦ record { part = k.part; at = step.others b0 n ∙ k.at; name = k.name; values = k.values; shape = k.shape; words = k.words }
+          | inr n ↦ record {
+            part = k.part;
+            at = step.others b0 n
+                ∙ k.at;
+            name = k.name;
+            values = k.values;
+            shape = k.shape;
+            words = k.words;
+          }
         ];
     came = λ b0 z at o. elim (cases_eq b0 b) [
-      | inl q ↦ let k = v.came b y step.was out in record { from = k.from; object = k.object; at = k.at; placed = k.placed ∙ ap Some (sym q) }
+      | inl q ↦ let k = v.came b y step.was out in
+          record { from = k.from; object = k.object; at = k.at; placed = k.placed ∙ ap Some (sym q) }
       | inr n ↦ v.came b0 z (sym (step.others b0 n) ∙ at) o
     ];
     untouched = λ a k u. step.others a (λ q. let here = ap set q in absurd cc) ∙ v.untouched a k u;
@@ -191,14 +224,17 @@ module _ (set : ℕ → Bool) (h : Heap) (forward : ℕ → Option ℕ) (now : H
     out = v.out;
   }
     where
-      set_one : (xs ys : List (Option ℕ)) (j : ℕ) → AllZip (IsWord (place_after set forward)) xs ys → slice_get ys j ≡ Some (Some c) → AllZip (IsWord (place_after set forward)) xs (slice_set ys j (Some d))
+      set_one : (xs ys : List (Option ℕ)) (j : ℕ) → AllZip (IsWord (place_after set forward)) xs ys → slice_get ys j ≡ Some (Some c)
+          → AllZip (IsWord (place_after set forward)) xs (slice_set ys j (Some d))
       set_one [] [] j z e = tt
       set_one [] (y ∷ ys) j z e = absurd z
       set_one (x ∷ xs) [] j z e = absurd z
-      set_one (x ∷ xs) (y ∷ ys) zero z e = let same : y ≡ Some c = cc in (inr (word_updated x c d (subst (λ u. IsWord (place_after set forward) x u) same z.0) inside f), z.1)
+      set_one (x ∷ xs) (y ∷ ys) zero z e = let same : y ≡ Some c = cc in
+          (inr (word_updated x c d (subst (λ u. IsWord (place_after set forward) x u) same z.0) inside f), z.1)
       set_one (x ∷ xs) (y ∷ ys) (suc j) z e = (z.0, set_one xs ys j z.1 e)
 
-  module _ (forward' : ℕ → Option ℕ) (now' : Heap) (a b : ℕ) (x : Stored) (step : Copies set forward forward' now now' a b x) (r : IsReached set h a) where
+  module _ (forward' : ℕ → Option ℕ) (now' : Heap) (a b : ℕ) (x : Stored) (step : Copies set forward forward' now now' a b x)
+      (r : IsReached set h a) where
     grows : (c d : ℕ) → place_after set forward c ≡ Some d → place_after set forward' c ≡ Some d
     grows c d e = elim (bool_cases (set c)) [
       | inl k ↦ elim (cases_eq c a) [
@@ -220,9 +256,14 @@ module _ (set : ℕ → Bool) (h : Heap) (forward : ℕ → Option ℕ) (now : H
     same_words (w ∷ ws) = (inl refl, same_words ws)
 
     -- what is placed anew is placed as before, or is the copy
-    placed_before : (c d : ℕ) → place_after set forward' c ≡ Some d → ((c ≡ a) × (d ≡ b)) ⊎ ((c ≡ a → ⊥) × (place_after set forward c ≡ Some d))
+    placed_before : (c d : ℕ) → place_after set forward' c ≡ Some d
+        → ((c ≡ a) × (d ≡ b)) ⊎ ((c ≡ a → ⊥) × (place_after set forward c ≡ Some d))
     placed_before c d e = elim (cases_eq c a) [
-      | inl q ↦ inl (q, (let p = placed_inside set forward' a step.inside in let f = step.forwarded in let here = ap (place_after set forward') q in cc))
+      | inl q ↦ inl (
+        q,
+        (let p = placed_inside set forward' a step.inside in let f = step.forwarded in
+            let here = ap (place_after set forward') q in cc),
+      )
       | inr n ↦ inr (
         n,
         elim (bool_cases (set c)) [
@@ -239,29 +280,61 @@ module _ (set : ℕ → Bool) (h : Heap) (forward : ℕ → Option ℕ) (now : H
     ]
 
     kept_on : (c : ℕ) (y : Stored) → now.kept c ≡ Some y → set c ≡ false → now'.kept c ≡ Some y
-    kept_on c y e out = step.others c (λ q. let here = ap set q in let i = step.inside in absurd cc) (λ q. let here = ap now.kept q in let room = step.room in absurd cc) ∙ e
+    kept_on c y e out = step.others c (λ q. let here = ap set q in let i = step.inside in absurd cc)
+        (λ q. let here = ap now.kept q in let room = step.room in absurd cc) ∙ e
 
     pub copied : IsEvacuating set h forward' now'
     copied = record {
-      roots = subst (λ ws. AllZip (IsWord (place_after set forward')) h.roots ws) (sym step.roots) (AllZip_map (IsWord (place_after set forward)) (IsWord (place_after set forward')) word_grows h.roots now.roots v.roots);
+      roots = subst (λ ws. AllZip (IsWord (place_after set forward')) h.roots ws) (sym step.roots)
+          (AllZip_map (IsWord (place_after set forward)) (IsWord (place_after set forward')) word_grows h.roots now.roots v.roots);
       objects = λ c d z at e. elim (placed_before c d e) [
         | inl q ↦
-            let same : z ≡ x = let e1 = ap h.kept q.0 in let e2 = v.untouched a step.inside step.unforwarded in let e3 = step.object in cc in
-            record { part = x; at = ap now'.kept q.1 ∙ step.copy; name = ap (λ (y : Stored). y.name) (sym same); values = ap (λ (y : Stored). y.values) (sym same); shape = ap (λ (y : Stored). length y.pointers) (sym same); words = subst (λ (y : Stored). AllZip (IsWord (place_after set forward')) (fields y) (fields x)) (sym same) (same_words (fields x)) }
+            let same : z ≡ x = let e1 = ap h.kept q.0 in let e2 = v.untouched a step.inside step.unforwarded in let e3 = step.object in
+            cc in
+            record {
+              part = x;
+              at = ap now'.kept q.1
+                  ∙ step.copy;
+              name = ap (λ (y : Stored). y.name) (sym same);
+              values = ap (λ (y : Stored). y.values) (sym same);
+              shape =
+                  ap (λ (y : Stored). length y.pointers) (sym same);
+              words =
+                  subst (λ (y : Stored). AllZip (IsWord (place_after set forward')) (fields y) (fields x)) (sym same)
+                  (same_words (fields x));
+            }
         | inr q ↦
             let k = v.objects c d z at q.1 in
-            record { part = k.part; at = kept_on d k.part k.at (out_of c d q.1); name = k.name; values = k.values; shape = k.shape; words = AllZip_map (IsWord (place_after set forward)) (IsWord (place_after set forward')) word_grows (fields z) (fields k.part) k.words }
+            record {
+              part = k.part;
+              at = kept_on d k.part k.at (out_of c d q.1);
+              name = k.name;
+              values = k.values;
+              shape = k.shape;
+              words = AllZip_map (IsWord (place_after set forward)) (IsWord (place_after set forward')) word_grows (fields z)
+                  (fields k.part) k.words;
+            }
       ];
       came = λ d y e out. elim (cases_eq d b) [
-        | inl q ↦ record { from = a; object = x; at = sym (v.untouched a step.inside step.unforwarded) ∙ step.object; placed = placed_inside set forward' a step.inside ∙ step.forwarded ∙ ap Some (sym q) }
+        | inl q ↦ record {
+          from = a;
+          object = x;
+          at = sym (v.untouched a step.inside step.unforwarded)
+              ∙ step.object;
+          placed = placed_inside set forward' a step.inside ∙ step.forwarded ∙ ap Some (sym q);
+        }
         | inr n ↦
             let k = v.came d y (sym (step.others d (λ q. let here = ap set q in let i = step.inside in absurd cc) n) ∙ e) out in
             record { from = k.from; object = k.object; at = k.at; placed = grows k.from d k.placed }
       ];
       untouched = λ c k u.
           let n : c ≡ a → ⊥ = λ q. let here = ap forward' q in let f = step.forwarded in absurd cc in
-          step.others c n (λ q. let here = ap set q in let o = step.outside in absurd cc) ∙ v.untouched c k (sym (step.forward_others c n) ∙ u);
-      reached = λ c d k e. elim (cases_eq c a) [ inl q ↦ subst (IsReached set h) (sym q) r | inr n ↦ v.reached c d k (sym (step.forward_others c n) ∙ e) ];
+          step.others c n (λ q. let here = ap set q in let o = step.outside in absurd cc)
+          ∙ v.untouched c k (sym (step.forward_others c n) ∙ u);
+      reached = λ c d k e. elim (cases_eq c a) [
+        | inl q ↦ subst (IsReached set h) (sym q) r
+        | inr n ↦ v.reached c d k (sym (step.forward_others c n) ∙ e)
+      ];
       out = λ c d k e. elim (cases_eq c a) [
         | inl q ↦ let here = ap forward' q in let f = step.forwarded in let same : d ≡ b = cc in ap set same ∙ step.outside
         | inr n ↦ v.out c d k (sym (step.forward_others c n) ∙ e)
@@ -269,7 +342,9 @@ module _ (set : ℕ → Bool) (h : Heap) (forward : ℕ → Option ℕ) (now : H
     }
 
   -- a present word names an object of the set, as it was, or a present object outside the set
-  pub word_names : (w : Option ℕ) (c : ℕ) → IsWord (place_after set forward) w (Some c) → ((a : ℕ) → w ≡ Some a → (x : Stored) × (h.kept a ≡ Some x)) → ((set c ≡ true) × (x : Stored) × (h.kept c ≡ Some x)) ⊎ ((set c ≡ false) × (y : Stored) × (now.kept c ≡ Some y))
+  pub word_names : (w : Option ℕ) (c : ℕ) → IsWord (place_after set forward) w (Some c)
+      → ((a : ℕ) → w ≡ Some a → (x : Stored) × (h.kept a ≡ Some x))
+      → ((set c ≡ true) × (x : Stored) × (h.kept c ≡ Some x)) ⊎ ((set c ≡ false) × (y : Stored) × (now.kept c ≡ Some y))
   word_names None c (inl e) f = cc
   word_names None c (inr m) f = absurd m
   word_names (Some a) c (inl e) f =
@@ -288,7 +363,8 @@ module _ (set : ℕ → Bool) (h : Heap) (forward : ℕ → Option ℕ) (now : H
       ] in
       inr (out, p.part, p.at)
 
-  pub field_names : IsClosed h → (b i c : ℕ) (y : Stored) → now.kept b ≡ Some y → set b ≡ false → slice_get (fields y) i ≡ Some (Some c) → ((set c ≡ true) × (x : Stored) × (h.kept c ≡ Some x)) ⊎ ((set c ≡ false) × (z : Stored) × (now.kept c ≡ Some z))
+  pub field_names : IsClosed h → (b i c : ℕ) (y : Stored) → now.kept b ≡ Some y → set b ≡ false → slice_get (fields y) i ≡ Some (Some c)
+      → ((set c ≡ true) × (x : Stored) × (h.kept c ≡ Some x)) ⊎ ((set c ≡ false) × (z : Stored) × (now.kept c ≡ Some z))
   field_names closed b i c y at out e =
       let o = v.came b y at out in
       let k = v.objects o.from b o.object o.at o.placed in

@@ -31,8 +31,18 @@ pub field_set : (x : Stored) (i : ℕ) (v : Option ℕ) → IsFieldSet x (with_f
 field_set x i v = elim (cases_lt i (length x.pointers)) [
   | inl k ↦
       let e = lt-ltb i (length x.pointers) k in
-      rw e (record { name = refl; fields_are = set-append_front x.pointers x.weaks i v k; shape = length-set x.pointers i v; values = refl })
+      rw e (record {
+        name = refl;
+        fields_are = set-append_front x.pointers x.weaks i v k;
+        shape = length-set x.pointers i v;
+        values = refl;
+      })
   | inr k ↦
       let e = ltb_above i (length x.pointers) k in
-      rw e (record { name = refl; fields_are = set-append_back x.pointers x.weaks i (i - length x.pointers) v (omega arith); shape = refl; values = refl })
+      rw e (record {
+        name = refl;
+        fields_are = set-append_back x.pointers x.weaks i (i - length x.pointers) v (omega arith);
+        shape = refl;
+        values = refl;
+      })
 ]

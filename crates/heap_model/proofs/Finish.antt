@@ -3,7 +3,8 @@ use Rattle.std.proofs.Common.{◌≡◌, ℕ, ◌≤◌, ◌⊎◌, true, false,
 use Rattle.std.specs.Prelude.{slice_get}
 use Rattle.heap_model.specs.Graph.{Graph, next_name, IsReachable}
 use Rattle.heap_model.specs.Heap.{Heap, Stored, Shows}
-use Rattle.heap_model.specs.Marking.{Marking, Pending, FromGrey, FromLogged, Through, IsFound, ByLive, ByNew, KeepsSnapshot, IsDone, IsMarkedName, MarksExactly, kept_after}
+use Rattle.heap_model.specs.Marking.{Marking, Pending, FromGrey, FromLogged, Through, IsFound, ByLive, ByNew, KeepsSnapshot, IsDone}
+use Rattle.heap_model.specs.Marking.{IsMarkedName, MarksExactly, kept_after}
 use Rattle.heap_model.proofs.Names.{bool_cases, nothing_in, named_below}
 
 nothing_pending : (h : Heap) (m : Marking) (a : ℕ) → IsDone m → Pending h m a → ⊥
@@ -15,7 +16,13 @@ module _ (s g : Graph) (h : Heap) (m : Marking) (i : KeepsSnapshot s h m) (done 
   pub reachable_marked : (n : ℕ) → IsReachable s n → IsMarkedName h m n
   reachable_marked n r =
       let w = i.all n r in
-      record { address = w.address; object = w.object; at = w.at; named = w.named; marked = elim w.why [ inl k ↦ k | inr p ↦ absurd (nothing_pending h m w.address done p) ] }
+      record {
+        address = w.address;
+        object = w.object;
+        at = w.at;
+        named = w.named;
+        marked = elim w.why [ inl k ↦ k | inr p ↦ absurd (nothing_pending h m w.address done p) ];
+      }
 
   pub marked_reachable : (n : ℕ) → IsMarkedName h m n → IsReachable s n
   marked_reachable n k =
@@ -54,7 +61,8 @@ module _ (s g : Graph) (h : Heap) (m : Marking) (i : KeepsSnapshot s h m) (done 
           ]
         ]
 
-    pub pointer_found : (a : ℕ) (x : Stored) (j b : ℕ) → h.kept a ≡ Some x → ((m.marked a ≡ true) ⊎ (m.old a ≡ false)) → slice_get x.pointers j ≡ Some (Some b) → IsFound (IsReachable s) h m b
+    pub pointer_found : (a : ℕ) (x : Stored) (j b : ℕ) → h.kept a ≡ Some x → ((m.marked a ≡ true) ⊎ (m.old a ≡ false))
+        → slice_get x.pointers j ≡ Some (Some b) → IsFound (IsReachable s) h m b
     pointer_found a x j b at (inl k) e =
         let r = i.marked a k in
         let same : r.object ≡ x = let e1 = r.at in cc in
@@ -71,7 +79,8 @@ module _ (s g : Graph) (h : Heap) (m : Marking) (i : KeepsSnapshot s h m) (done 
       ]
 
 -- with no step of a mutator since, the kept names are those that are reachable
-pub quiet_kept : (g : Graph) (h : Heap) (m : Marking) → KeepsSnapshot g h m → IsDone m → Shows g h → (a : ℕ) (x : Stored) → kept_after h m a ≡ Some x → IsReachable g x.name
+pub quiet_kept : (g : Graph) (h : Heap) (m : Marking) → KeepsSnapshot g h m → IsDone m → Shows g h → (a : ℕ) (x : Stored)
+    → kept_after h m a ≡ Some x → IsReachable g x.name
 quiet_kept g h m i done shows a x e =
     elim (kept_or_new g g h m i done a x e) [
       | inl r ↦ r
@@ -82,7 +91,8 @@ quiet_kept g h m i done shows a x e =
           absurd (omega arith)
     ]
 
-pub reachable_kept : (s g : Graph) (h : Heap) (m : Marking) → KeepsSnapshot s h m → IsDone m → (n : ℕ) → IsReachable s n → (a : ℕ) × (x : Stored) × (kept_after h m a ≡ Some x) × (x.name ≡ n)
+pub reachable_kept : (s g : Graph) (h : Heap) (m : Marking) → KeepsSnapshot s h m → IsDone m → (n : ℕ) → IsReachable s n
+    → (a : ℕ) × (x : Stored) × (kept_after h m a ≡ Some x) × (x.name ≡ n)
 reachable_kept s g h m i done n r =
     let k = reachable_marked s g h m i done n r in
     (k.address, k.object, rw k.marked k.at, k.named)

@@ -7,11 +7,13 @@ use Rattle.heap_model.specs.Kept.{kept_by}
 use Rattle.heap_model.proofs.Names.{bool_cases}
 
 -- where the next tops are nowhere below the previous ones, the new marks and tops keep what marking keeps, cleared
-module _ (live : ℕ → Type 0) (limit : ℕ) (tiles cleared_tiles : ℕ → Option Stored) (below marked : ℕ → Bool) (roots : List (Option ℕ)) (m : Marking)
+module _ (live : ℕ → Type 0) (limit : ℕ) (tiles cleared_tiles : ℕ → Option Stored) (below marked : ℕ → Bool) (roots : List (Option ℕ))
+    (m : Marking)
     (i : MarkingInvariant live limit (record { kept = kept_by tiles below marked; roots = roots }) m)
     (tops : (a : ℕ) → m.old a ≡ false → below a ≡ false)
     (clears : (a : ℕ) → (m.marked a ≡ true) ⊎ (m.old a ≡ false) → cleared_tiles a ≡ cleared_object m (tiles a)) where
-  pub kept_by_marks : (a : ℕ) → kept_by cleared_tiles m.old m.marked a ≡ cleared_after (record { kept = kept_by tiles below marked; roots = roots }) m a
+  pub kept_by_marks : (a : ℕ) → kept_by cleared_tiles m.old m.marked a ≡ cleared_after
+      (record { kept = kept_by tiles below marked; roots = roots }) m a
   kept_by_marks a =
       elim (bool_cases (m.marked a)) [
         | inl k ↦

@@ -4,20 +4,23 @@ use Rattle.std.specs.Prelude.{slice_set, slice_get}
 use Rattle.std.specs.List.{AllZip}
 
 module _ {A B : Type 0} (R : A → B → Type 0) where
-  pub AllZip-get : (xs : List A) (ys : List B) → AllZip R xs ys → (i : ℕ) (x : A) → slice_get xs i ≡ Some x → (y : B) × (slice_get ys i ≡ Some y) × R x y
+  pub AllZip-get : (xs : List A) (ys : List B) → AllZip R xs ys → (i : ℕ) (x : A) → slice_get xs i ≡ Some x
+      → (y : B) × (slice_get ys i ≡ Some y) × R x y
   AllZip-get [] ys z i x e = cc
   AllZip-get (u ∷ xs) [] z i x e = absurd z
   AllZip-get (u ∷ xs) (v ∷ ys) z zero x e = let q : u ≡ x = cc in (v, refl, subst (λ k. R k v) q z.0)
   AllZip-get (u ∷ xs) (v ∷ ys) z (suc i) x e = AllZip-get xs ys z.1 i x e
 
-  pub AllZip-get_right : (xs : List A) (ys : List B) → AllZip R xs ys → (i : ℕ) (y : B) → slice_get ys i ≡ Some y → (x : A) × (slice_get xs i ≡ Some x) × R x y
+  pub AllZip-get_right : (xs : List A) (ys : List B) → AllZip R xs ys → (i : ℕ) (y : B) → slice_get ys i ≡ Some y
+      → (x : A) × (slice_get xs i ≡ Some x) × R x y
   AllZip-get_right [] [] z i y e = cc
   AllZip-get_right [] (v ∷ ys) z i y e = absurd z
   AllZip-get_right (u ∷ xs) [] z i y e = absurd z
   AllZip-get_right (u ∷ xs) (v ∷ ys) z zero y e = let q : v ≡ y = cc in (u, refl, subst (λ k. R u k) q z.0)
   AllZip-get_right (u ∷ xs) (v ∷ ys) z (suc i) y e = AllZip-get_right xs ys z.1 i y e
 
-  pub AllZip-set : (xs : List A) (ys : List B) → AllZip R xs ys → (i : ℕ) (x : A) (y : B) → R x y → AllZip R (slice_set xs i x) (slice_set ys i y)
+  pub AllZip-set : (xs : List A) (ys : List B) → AllZip R xs ys → (i : ℕ) (x : A) (y : B) → R x y
+      → AllZip R (slice_set xs i x) (slice_set ys i y)
   AllZip-set [] [] z i x y r = tt
   AllZip-set [] (v ∷ ys) z i x y r = absurd z
   AllZip-set (u ∷ xs) [] z i x y r = absurd z
@@ -31,7 +34,8 @@ module _ {A B : Type 0} (R : A → B → Type 0) where
   AllZip_map Q f (u ∷ xs) (v ∷ ys) z = (f u v z.0, AllZip_map Q f xs ys z.1)
 
 module _ {A B C : Type 0} (R : A → B → Type 0) (Q : A → C → Type 0) (P : C → B → Type 0) where
-  pub AllZip_through : ((x : A) (y : B) (w : C) → R x y → Q x w → P w y) → (xs : List A) (ys : List B) (ws : List C) → AllZip R xs ys → AllZip Q xs ws → AllZip P ws ys
+  pub AllZip_through : ((x : A) (y : B) (w : C) → R x y → Q x w → P w y) → (xs : List A) (ys : List B) (ws : List C) → AllZip R xs ys
+      → AllZip Q xs ws → AllZip P ws ys
   AllZip_through f [] [] [] z q = tt
   AllZip_through f [] [] (w ∷ ws) z q = absurd q
   AllZip_through f [] (v ∷ ys) ws z q = absurd z
@@ -81,14 +85,16 @@ module _ {A : Type 0} where
   get-push_last (x ∷ xs) v = get-push_last xs v
 
 module _ {A B : Type 0} (R Q : A → B → Type 0) where
-  pub AllZip_map_at : (xs : List A) (ys : List B) → ((i : ℕ) (x : A) (y : B) → slice_get xs i ≡ Some x → R x y → Q x y) → AllZip R xs ys → AllZip Q xs ys
+  pub AllZip_map_at : (xs : List A) (ys : List B) → ((i : ℕ) (x : A) (y : B) → slice_get xs i ≡ Some x → R x y → Q x y) → AllZip R xs ys
+      → AllZip Q xs ys
   AllZip_map_at [] [] f z = tt
   AllZip_map_at [] (v ∷ ys) f z = absurd z
   AllZip_map_at (u ∷ xs) [] f z = absurd z
   AllZip_map_at (u ∷ xs) (v ∷ ys) f z = (f zero u v refl z.0, AllZip_map_at xs ys (λ i x y e r. f (suc i) x y e r) z.1)
 
 module _ {A B : Type 0} (R : A → B → Type 0) where
-  pub AllZip-append : (xs : List A) (ys : List B) (us : List A) (vs : List B) → AllZip R xs ys → AllZip R us vs → AllZip R (xs ++ us) (ys ++ vs)
+  pub AllZip-append : (xs : List A) (ys : List B) (us : List A) (vs : List B) → AllZip R xs ys → AllZip R us vs
+      → AllZip R (xs ++ us) (ys ++ vs)
   AllZip-append [] [] us vs z q = q
   AllZip-append [] (v ∷ ys) us vs z q = absurd z
   AllZip-append (u ∷ xs) [] us vs z q = absurd z
@@ -101,7 +107,8 @@ module _ {A B : Type 0} (R : A → B → Type 0) where
   AllZip_length (u ∷ xs) (v ∷ ys) z = ap suc (AllZip_length xs ys z.1)
 
   -- the fronts are equally long
-  pub AllZip-split : (xs : List A) (ys : List B) (us : List A) (vs : List B) → length ys ≡ length xs → AllZip R (xs ++ us) (ys ++ vs) → AllZip R xs ys × AllZip R us vs
+  pub AllZip-split : (xs : List A) (ys : List B) (us : List A) (vs : List B) → length ys ≡ length xs → AllZip R (xs ++ us) (ys ++ vs)
+      → AllZip R xs ys × AllZip R us vs
   AllZip-split [] [] us vs e z = (tt, z)
   AllZip-split [] (v ∷ ys) us vs e z = cc
   AllZip-split (u ∷ xs) [] us vs e z = cc
@@ -109,7 +116,8 @@ module _ {A B : Type 0} (R : A → B → Type 0) where
 
 module _ {A : Type 0} where
   -- what stands in two lists one after the other stands in one of them
-  pub get-append_cases : (xs ys : List A) (i : ℕ) (x : A) → slice_get (xs ++ ys) i ≡ Some x → (slice_get xs i ≡ Some x) ⊎ ((j : ℕ) × (slice_get ys j ≡ Some x))
+  pub get-append_cases : (xs ys : List A) (i : ℕ) (x : A) → slice_get (xs ++ ys) i ≡ Some x
+      → (slice_get xs i ≡ Some x) ⊎ ((j : ℕ) × (slice_get ys j ≡ Some x))
   get-append_cases [] ys i x e = inr (i, e)
   get-append_cases (u ∷ xs) ys zero x e = inl e
   get-append_cases (u ∷ xs) ys (suc i) x e = get-append_cases xs ys i x e
@@ -121,7 +129,8 @@ module _ {A : Type 0} where
   pub get-append_left : (xs ys : List A) (i : ℕ) (x : A) → slice_get xs i ≡ Some x → slice_get (xs ++ ys) i ≡ Some x
   get-append_left xs ys i x e = get_kept-append xs ys x i e
 
-  pub get-push_cases : (xs : List A) (y x : A) (i : ℕ) → slice_get (xs ++ y ∷ []) i ≡ Some x → (slice_get xs i ≡ Some x) ⊎ ((i ≡ length xs) × (x ≡ y))
+  pub get-push_cases : (xs : List A) (y x : A) (i : ℕ) → slice_get (xs ++ y ∷ []) i ≡ Some x
+      → (slice_get xs i ≡ Some x) ⊎ ((i ≡ length xs) × (x ≡ y))
   get-push_cases [] y x zero e = inr (refl, cc)
   get-push_cases [] y x (suc i) e = cc
   get-push_cases (u ∷ xs) y x zero e = inl e

@@ -15,14 +15,24 @@ module _ (h h' : Heap) (d : ℕ) (x y : Stored) (v : ObjectSet h h' d x y) where
   set_stays : (a : ℕ) (z : Stored) → h.kept a ≡ Some z → Stands h' a z.name
   set_stays a z at =
       elim (cases_eq a d) [
-        | inl q ↦ record { object = y; at = ap h'.kept q ∙ v.is; named = let same : z ≡ x = let e2 = v.was in let e3 = ap h.kept q in cc in v.name ∙ ap (λ (k : Stored). k.name) (sym same) }
+        | inl q ↦ record {
+          object = y;
+          at = ap h'.kept q ∙ v.is;
+          named = let same : z ≡ x = let e2 = v.was in let e3 = ap h.kept q in cc in
+              v.name ∙ ap (λ (k : Stored). k.name) (sym same);
+        }
         | inr n ↦ record { object = z; at = v.others a n ∙ at; named = refl }
       ]
 
   set_came : (a : ℕ) (z : Stored) → h'.kept a ≡ Some z → Stands h a z.name
   set_came a z at =
       elim (cases_eq a d) [
-        | inl q ↦ record { object = x; at = ap h.kept q ∙ v.was; named = let same : z ≡ y = let e2 = v.is in let e3 = ap h'.kept q in cc in sym v.name ∙ ap (λ (k : Stored). k.name) (sym same) }
+        | inl q ↦ record {
+          object = x;
+          at = ap h.kept q ∙ v.was;
+          named = let same : z ≡ y = let e2 = v.is in let e3 = ap h'.kept q in cc in
+              sym v.name ∙ ap (λ (k : Stored). k.name) (sym same);
+        }
         | inr n ↦ record { object = z; at = sym (v.others a n) ∙ at; named = refl }
       ]
 
@@ -34,7 +44,13 @@ module _ (live : ℕ → Type 0) (limit : ℕ) (h h' : Heap) (m : Marking) (i : 
       elim (cases_eq a d) [
         | inl q ↦
             let here : p.object ≡ x = let e1 = p.at in let e2 = v.was in let e3 = ap h.kept q in cc in
-            record { object = y; at = ap h'.kept q ∙ v.is; field = p.field; is = ap (λ l. slice_get l p.field) (same ∙ ap (λ (z : Stored). z.pointers) (sym here)) ∙ p.is }
+            record {
+              object = y;
+              at = ap h'.kept q
+                  ∙ v.is;
+              field = p.field;
+              is = ap (λ l. slice_get l p.field) (same ∙ ap (λ (z : Stored). z.pointers) (sym here)) ∙ p.is;
+            }
         | inr n ↦ record { object = p.object; at = v.others a n ∙ p.at; field = p.field; is = p.is }
       ]
 
@@ -43,7 +59,14 @@ module _ (live : ℕ → Type 0) (limit : ℕ) (h h' : Heap) (m : Marking) (i : 
       elim (cases_eq a d) [
         | inl q ↦
             let here : p.object ≡ y = let e1 = p.at in let e2 = v.is in let e3 = ap h'.kept q in cc in (
-              record { object = x; at = ap h.kept q ∙ v.was; field = p.field; is = ap (λ l. slice_get l p.field) (sym same ∙ ap (λ (z : Stored). z.pointers) (sym here)) ∙ p.is },
+              record {
+                object = x;
+                at = ap h.kept q
+                    ∙ v.was;
+                field = p.field;
+                is =
+                    ap (λ l. slice_get l p.field) (sym same ∙ ap (λ (z : Stored). z.pointers) (sym here)) ∙ p.is;
+              },
               sym v.name ∙ ap (λ (z : Stored). z.name) (sym here),
             )
         | inr n ↦ (record { object = p.object; at = sym (v.others a n) ∙ p.at; field = p.field; is = p.is }, refl)
@@ -65,17 +88,22 @@ module _ (live : ℕ → Type 0) (limit : ℕ) (h h' : Heap) (m : Marking) (i : 
     newly_marked = λ a k. inl k;
     newly_logged = λ a e. inl e;
     found = λ a o f. values_found a f;
-    fresh = λ a z at o. let t = set_came h h' d x y v a z at in let named = t.named in let above = i.new_names a t.object t.at o in omega arith;
+    fresh = λ a z at o. let t = set_came h h' d x y v a z at in let named = t.named in let above = i.new_names a t.object t.at o in
+        omega arith;
   }) i
 
 -- one more object, at a new address and under a new name
 module _ (live : ℕ → Type 0) (limit : ℕ) (h : Heap) (m : Marking) (i : MarkingInvariant live limit h m) where
-  module _ (h' : Heap) (a : ℕ) (x : Stored) (place : ℕ) (new : m.old a ≡ false) (above : limit ≤ x.name) (v : ObjectAdded h h' a x place) where
+  module _ (h' : Heap) (a : ℕ) (x : Stored) (place : ℕ) (new : m.old a ≡ false) (above : limit ≤ x.name)
+      (v : ObjectAdded h h' a x place) where
     other : (b : ℕ) (y : Stored) → h.kept b ≡ Some y → h'.kept b ≡ Some y
     other b y at = elim (cases_eq b a) [ inl q ↦ absurd (let was = v.was in let here = ap h.kept q in cc) | inr n ↦ v.others b n ∙ at ]
 
     before : (b : ℕ) (y : Stored) → h'.kept b ≡ Some y → ((b ≡ a) × (y ≡ x)) ⊎ (h.kept b ≡ Some y)
-    before b y at = elim (cases_eq b a) [ inl q ↦ inl (q, (let is = v.is in let here = ap h'.kept q in cc)) | inr n ↦ inr (sym (v.others b n) ∙ at) ]
+    before b y at = elim (cases_eq b a) [
+      | inl q ↦ inl (q, (let is = v.is in let here = ap h'.kept q in cc))
+      | inr n ↦ inr (sym (v.others b n) ∙ at)
+    ]
 
     added_back : (c d : ℕ) (p : Points h' c d) → (q : Points h c d) × (q.object ≡ p.object)
     added_back c d p =
@@ -103,14 +131,21 @@ module _ (live : ℕ → Type 0) (limit : ℕ) (h : Heap) (m : Marking) (i : Mar
       logged = λ b e. inr e;
       edges = λ b c _ _ un p _. inl (un, record { object = p.object; at = other b p.object p.at; field = p.field; is = p.is });
       stays = λ b y at o. record { object = y; at = other b y at; named = refl };
-      came = λ b y at o. elim (before b y at) [ inl q ↦ absurd (let here = ap m.old q.0 in cc) | inr was ↦ record { object = y; at = was; named = refl } ];
+      came = λ b y at o. elim (before b y at) [
+        | inl q ↦ absurd (let here = ap m.old q.0 in cc)
+        | inr was ↦ record { object = y; at = was; named = refl }
+      ];
       newly_marked = λ b k. inl k;
       newly_logged = λ b e. inl e;
       found = λ b o f. added_found b o f;
-      fresh = λ b y at o. elim (before b y at) [ inl q ↦ let here = ap (λ (z : Stored). z.name) q.1 in omega arith | inr was ↦ i.new_names b y was o ];
+      fresh = λ b y at o. elim (before b y at) [
+        | inl q ↦ let here = ap (λ (z : Stored). z.name) q.1 in omega arith
+        | inr was ↦ i.new_names b y was o
+      ];
     }) i
 
-module _ (live : ℕ → Type 0) (limit : ℕ) (g : Graph) (h : Heap) (m : Marking) (shows : Shows g h) (i : MarkingInvariant live limit h m) where
+module _ (live : ℕ → Type 0) (limit : ℕ) (g : Graph) (h : Heap) (m : Marking) (shows : Shows g h)
+    (i : MarkingInvariant live limit h m) where
   -- an old address that a mutator can hold is found
   pub held_found : (a : ℕ) → IsHeld h (Some a) → IsFound live h m a
   held_found a (inl r) = ByRoot a r
@@ -164,15 +199,21 @@ module _ (live : ℕ → Type 0) (limit : ℕ) (g : Graph) (h : Heap) (m : Marki
     put_logged : (a : ℕ) → was ≡ Some a → m.old a ≡ true → IsOldLive live h m a
     put_logged a e o = old_value d a root (record { object = x; at = v.was; field = field; is = there ∙ ap Some e }) o
 
-    put_edge : (a b : ℕ) → m.scanned a ≡ false → Points h a b → m.old b ≡ true → ((m'.scanned a ≡ false) × Points h' a b) ⊎ ((m'.marked b ≡ true) ⊎ Contains m'.logged b)
+    put_edge : (a b : ℕ) → m.scanned a ≡ false → Points h a b → m.old b ≡ true
+        → ((m'.scanned a ≡ false) × Points h' a b) ⊎ ((m'.marked b ≡ true) ⊎ Contains m'.logged b)
     put_edge a b un p o =
         elim (cases_eq a d) [
           | inl q ↦
               let same : p.object ≡ x = let e1 = p.at in let e2 = v.was in let e3 = ap h.kept q in cc in
               let is = subst (λ (z : Stored). slice_get z.pointers p.field ≡ Some (Some b)) same p.is in
               elim (get_kept-set x.pointers field p.field w (Some b) is) [
-                | inl k ↦ inr (inr (saved.saved b (let e1 : slice_get x.pointers field ≡ Some (Some b) = ap (slice_get x.pointers) k ∙ is in cc) o))
-                | inr k ↦ inl (saved.scanned a ∙ un, record { object = y; at = ap h'.kept q ∙ v.is; field = p.field; is = ap (λ l. slice_get l p.field) set ∙ k })
+                | inl k ↦ inr (inr (saved.saved b
+                    (let e1 : slice_get x.pointers field ≡ Some (Some b) = ap (slice_get x.pointers) k ∙ is in cc) o))
+                | inr k ↦ inl (
+                  saved.scanned a
+                      ∙ un,
+                  record { object = y; at = ap h'.kept q ∙ v.is; field = p.field; is = ap (λ l. slice_get l p.field) set ∙ k },
+                )
               ]
           | inr n ↦ inl (saved.scanned a ∙ un, record { object = p.object; at = v.others a n ∙ p.at; field = p.field; is = p.is })
         ]
@@ -185,7 +226,11 @@ module _ (live : ℕ → Type 0) (limit : ℕ) (g : Graph) (h : Heap) (m : Marki
               let is = subst (λ (z : Stored). slice_get z.pointers p.field ≡ Some (Some b)) same p.is in
               elim (get-set_cases x.pointers field p.field w (Some b) (sym (ap (λ l. slice_get l p.field) set) ∙ is)) [
                 | inl k ↦ inl (subst (IsHeld h) (sym k) held)
-                | inr k ↦ inr (record { object = x; at = ap h.kept q ∙ v.was; field = p.field; is = k }, sym v.name ∙ ap (λ (z : Stored). z.name) (sym same))
+                | inr k ↦ inr (
+                  record { object = x; at = ap h.kept q ∙ v.was; field = p.field; is = k },
+                  sym v.name
+                      ∙ ap (λ (z : Stored). z.name) (sym same),
+                )
               ]
           | inr n ↦ inr (record { object = p.object; at = sym (v.others a n) ∙ p.at; field = p.field; is = p.is }, refl)
         ]
@@ -208,5 +253,6 @@ module _ (live : ℕ → Type 0) (limit : ℕ) (g : Graph) (h : Heap) (m : Marki
       newly_marked = λ a k. inl (sym (saved.marked a) ∙ k);
       newly_logged = λ a e. elim (saved.only a e) [ inl l ↦ inl l | inr q ↦ inr (put_logged a q.0 q.1) ];
       found = λ a o f. put_found a f;
-      fresh = λ a z at o. let t = set_came h h' d x y v a z at in let named = t.named in let above = i.new_names a t.object t.at o in omega arith;
+      fresh = λ a z at o. let t = set_came h h' d x y v a z at in let named = t.named in let above = i.new_names a t.object t.at o in
+          omega arith;
     }) i

@@ -72,7 +72,8 @@ module _ (place : ℕ → Option ℕ) (g : Graph) (h h' : Heap) (shows : Shows g
           object = o.object;
           named = ap (object_named g) p.name ∙ o.named;
           values = p.values ∙ o.values;
-          pointers = AllZip_through (IsShown h) (IsMoved place) (IsShown h') shown_moved p.object.pointers o.object.pointers x.pointers o.pointers p.pointers;
+          pointers = AllZip_through (IsShown h) (IsMoved place)
+              (IsShown h') shown_moved p.object.pointers o.object.pointers x.pointers o.pointers p.pointers;
           weaks = AllZip_through (IsShown h) (IsMoved place) (IsShown h') shown_moved p.object.weaks o.object.weaks x.weaks o.weaks p.weaks;
         };
   }
@@ -109,12 +110,17 @@ module _ (place : ℕ → Option ℕ) (g : Graph) (h h' : Heap) (shows : Shows g
         let before : Points h k.from a = record { object = k.object; at = k.at; field = p.field; is = is ∙ ap Some e } in
         let (y, at, _) = target_reachable g h shows g k.from a before in
         let same = keeps.none_comes a d y at placed o in
-        record { origin = k; points = record { object = k.object; at = k.at; field = p.field; is = is ∙ ap Some (e ∙ ap Some same) }; name = sym k.name }
+        record {
+          origin = k;
+          points = record { object = k.object; at = k.at; field = p.field; is = is ∙ ap Some (e ∙ ap Some same) };
+          name = sym k.name;
+        }
 
     -- what came to a new address was new
     from_new : (c : ℕ) (y : Stored) → (k : Origin c y) → m.old c ≡ false → m.old k.from ≡ false
     from_new c y k new = elim (bool_cases (m.old k.from)) [
-      | inl o ↦ absurd (let stays = keeps.stays k.from k.object k.at o in let placed = k.placed in let same : k.from ≡ c = cc in let here = ap m.old same in cc)
+      | inl o ↦ absurd (let stays = keeps.stays k.from k.object k.at o in let placed = k.placed in let same : k.from ≡ c = cc in
+          let here = ap m.old same in cc)
       | inr n ↦ n
     ]
 
@@ -130,9 +136,11 @@ module _ (place : ℕ → Option ℕ) (g : Graph) (h h' : Heap) (shows : Shows g
       logged = λ a e. inr e;
       edges = λ a b _ o un p ob. inl (un, edge a b o p ob);
       stays = λ a x at o. let k = r.kept a a x at (keeps.stays a x at o) in record { object = k.copy; at = k.at; named = k.name };
-      came = λ a x at o. let k = origin a x at in let same = keeps.none_comes k.from a k.object k.at k.placed o in record { object = k.object; at = ap h.kept (sym same) ∙ k.at; named = sym k.name };
+      came = λ a x at o. let k = origin a x at in let same = keeps.none_comes k.from a k.object k.at k.placed o in
+          record { object = k.object; at = ap h.kept (sym same) ∙ k.at; named = sym k.name };
       newly_marked = λ a k. inl k;
       newly_logged = λ a e. inl e;
       found = found_back;
-      fresh = λ a x at n. let k = origin a x at in let above = i.new_names k.from k.object k.at (from_new a x k n) in let named = k.name in omega arith;
+      fresh = λ a x at n. let k = origin a x at in let above = i.new_names k.from k.object k.at (from_new a x k n) in let named = k.name in
+          omega arith;
     }) i

@@ -5,7 +5,8 @@ use Rattle.heap_model.specs.Heap.{Heap, Points, SameHeap}
 use Rattle.heap_model.specs.Marking.{Marking, MarkingInvariant, IsFound, ByRoot, ByLive, ByNew, SameMarking}
 use Rattle.heap_model.proofs.Advance.{invariant_after}
 
-module _ (live : ℕ → Type 0) (limit : ℕ) (h h' : Heap) (m m' : Marking) (heap : SameHeap h h') (marks : SameMarking m m') (i : MarkingInvariant live limit h m) where
+module _ (live : ℕ → Type 0) (limit : ℕ) (h h' : Heap) (m m' : Marking) (heap : SameHeap h h') (marks : SameMarking m m')
+    (i : MarkingInvariant live limit h m) where
   points : (a b : ℕ) → Points h' a b → Points h a b
   points a b p = record { object = p.object; at = sym (heap.kept a) ∙ p.at; field = p.field; is = p.is }
 

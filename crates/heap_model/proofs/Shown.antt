@@ -25,17 +25,27 @@ root_to : (h : Heap) (j n : ℕ) (w : Option ℕ) → slice_get h.roots j ≡ So
 root_to h j n None at s = absurd s
 root_to h j n (Some a) at s = record { address = a; root = record { place = j; is = at }; object = s.0; at = s.1; named = s.2 }
 
-pointer_to : (h : Heap) (a : ℕ) (x : Stored) (i n : ℕ) (w : Option ℕ) → h.kept a ≡ Some x → slice_get x.pointers i ≡ Some w → IsShown h w (Some n) → PointsTo h a n
+pointer_to : (h : Heap) (a : ℕ) (x : Stored) (i n : ℕ) (w : Option ℕ) → h.kept a ≡ Some x → slice_get x.pointers i ≡ Some w
+    → IsShown h w (Some n) → PointsTo h a n
 pointer_to h a x i n None at is s = absurd s
-pointer_to h a x i n (Some b) at is s = record { address = b; points = record { object = x; at = at; field = i; is = is }; object = s.0; at = s.1; named = s.2 }
+pointer_to h a x i n (Some b) at is s = record {
+  address = b;
+  points = record { object = x; at = at; field = i; is = is };
+  object = s.0;
+  at = s.1;
+  named = s.2;
+}
 
-pub shown_name : (h : Heap) (a : ℕ) (v : Option ℕ) → IsShown h (Some a) v → (n : ℕ) × (v ≡ Some n) × (x : Stored) × (h.kept a ≡ Some x) × (x.name ≡ n)
+pub shown_name : (h : Heap) (a : ℕ) (v : Option ℕ) → IsShown h (Some a) v
+    → (n : ℕ) × (v ≡ Some n) × (x : Stored) × (h.kept a ≡ Some x) × (x.name ≡ n)
 shown_name h a None s = absurd s
 shown_name h a (Some n) s = (n, refl, s.0, s.1, s.2)
 
 -- so all fields show what the graph has
-pub fields_shown : {g : Graph} {h : Heap} (x : Stored) (shown : IsObjectShown g h x) → AllZip (IsShown h) (fields x) (object_fields shown.object)
-fields_shown {g} {h} x shown = AllZip-append (IsShown h) x.pointers shown.object.pointers x.weaks shown.object.weaks shown.pointers shown.weaks
+pub fields_shown : {g : Graph} {h : Heap} (x : Stored) (shown : IsObjectShown g h x)
+    → AllZip (IsShown h) (fields x) (object_fields shown.object)
+fields_shown {g} {h} x shown = AllZip-append
+    (IsShown h) x.pointers shown.object.pointers x.weaks shown.object.weaks shown.pointers shown.weaks
 
 module _ (g : Graph) (h : Heap) (shows : Shows g h) where
   pub root_stands : (j n : ℕ) → slice_get g.roots j ≡ Some (Some n) → StandsRoot h n
@@ -43,7 +53,8 @@ module _ (g : Graph) (h : Heap) (shows : Shows g h) where
       let (w, at, s) = AllZip-get_right (IsShown h) h.roots g.roots shows.roots j (Some n) e in
       root_to h j n w at s
 
-  pub pointer_stands : (a : ℕ) (x : Stored) (o : Object) (i n : ℕ) → h.kept a ≡ Some x → object_named g x.name ≡ Some o → slice_get o.pointers i ≡ Some (Some n) → PointsTo h a n
+  pub pointer_stands : (a : ℕ) (x : Stored) (o : Object) (i n : ℕ) → h.kept a ≡ Some x → object_named g x.name ≡ Some o
+      → slice_get o.pointers i ≡ Some (Some n) → PointsTo h a n
   pointer_stands a x o i n at named e =
       let shown = shows.objects a x at in
       let same : shown.object ≡ o = let n1 = shown.named in cc in
@@ -52,7 +63,8 @@ module _ (g : Graph) (h : Heap) (shows : Shows g h) where
       pointer_to h a x i n w at is s
 
   -- a pointer of a kept object whose name is reachable leads to a kept object whose name is reachable
-  pub target_reachable : (r : Graph) (a b : ℕ) → (p : Points h a b) → (y : Stored) × (h.kept b ≡ Some y) × (IsReachable g p.object.name → IsReachable g y.name)
+  pub target_reachable : (r : Graph) (a b : ℕ) → (p : Points h a b)
+      → (y : Stored) × (h.kept b ≡ Some y) × (IsReachable g p.object.name → IsReachable g y.name)
   target_reachable r a b p =
       let shown = shows.objects a p.object p.at in
       let (v, is, s) = AllZip-get (IsShown h) p.object.pointers shown.object.pointers shown.pointers p.field (Some b) p.is in

@@ -3,15 +3,18 @@ use Rattle.std.proofs.Common.{◌≡◌, ℕ, ◌<◌, ◌≤◌, ◌⊎◌, tru
 use Rattle.std.specs.Prelude.{slice_get}
 use Rattle.heap_model.specs.Graph.{Graph, Object, object_named, next_name, IsReachable, FromRoot, FromObject}
 use Rattle.heap_model.specs.Heap.{Heap, Stored, Points, IsShown, Shows, RootSet}
-use Rattle.heap_model.specs.Marking.{Marking, Pending, FromGrey, FromLogged, Through, WillBeMarked, IsOldLive, IsFound, ByRoot, ByLive, ByNew, KeepsSnapshot, IsSaved}
+use Rattle.heap_model.specs.Marking.{Marking, Pending, FromGrey, FromLogged, Through, WillBeMarked, IsOldLive, IsFound, ByRoot, ByLive}
+use Rattle.heap_model.specs.Marking.{ByNew, KeepsSnapshot, IsSaved}
 use Rattle.heap_model.specs.Weak.{touched, KeepsUnreached}
 use Rattle.heap_model.proofs.Names.{bool_cases}
 use Rattle.heap_model.proofs.Lists.{get-set_cases, AllZip-get}
 use Rattle.heap_model.proofs.Shown.{pointer_stands, root_stands, shown_name}
-use Rattle.heap_model.proofs.Unreached.{touched_next, touched_reaches, touched_sound, touched_named, touched_root_cases, touched_reached, sound_reaches}
+use Rattle.heap_model.proofs.Unreached.{touched_next, touched_reaches, touched_sound, touched_named, touched_root_cases, touched_reached}
+use Rattle.heap_model.proofs.Unreached.{sound_reaches}
 
 -- where a word that shows a name leads
-shown_target : (h : Heap) (w v : Option ℕ) (k : ℕ) → IsShown h w v → v ≡ Some k → (a : ℕ) × (w ≡ Some a) × (x : Stored) × (h.kept a ≡ Some x) × (x.name ≡ k)
+shown_target : (h : Heap) (w v : Option ℕ) (k : ℕ) → IsShown h w v → v ≡ Some k
+    → (a : ℕ) × (w ≡ Some a) × (x : Stored) × (h.kept a ≡ Some x) × (x.name ≡ k)
 shown_target h None None k sh e = cc
 shown_target h None (Some n) k sh e = absurd sh
 shown_target h (Some a) None k sh e = absurd sh
@@ -50,27 +53,41 @@ module _ (s g : Graph) (h : Heap) (m : Marking) (shows : Shows g h) (i : KeepsSn
   reached_kept : (n : ℕ) → IsReachable g n → Kept n
   reached_kept n (FromRoot j k e) =
       let t = root_stands g h shows j k e in
-      record { address = t.address; object = t.object; at = t.at; named = t.named; known = subst (IsKnown s) t.named (known_at t.address t.object t.at (ByRoot t.address t.root)) }
+      record {
+        address = t.address;
+        object = t.object;
+        at = t.at;
+        named = t.named;
+        known = subst (IsKnown s) t.named (known_at t.address t.object t.at (ByRoot t.address t.root));
+      }
   reached_kept n (FromObject q k j o r e is) =
       let b = reached_kept q r in
       let t = pointer_stands g h shows b.address b.object o j k b.at (ap (object_named g) b.named ∙ e) is in
       let same = same_some (h.kept b.address) t.points.object b.object t.points.at b.at in
       let known = subst (IsKnown s) (sym (ap (λ (z : Stored). z.name) same ∙ b.named)) b.known in
-      record { address = t.address; object = t.object; at = t.at; named = t.named; known = subst (IsKnown s) t.named (known_at t.address t.object t.at (found_from b.address t.address t.points known)) }
+      record {
+        address = t.address;
+        object = t.object;
+        at = t.at;
+        named = t.named;
+        known = subst (IsKnown s) t.named (known_at t.address t.object t.at (found_from b.address t.address t.points known));
+      }
 
   pub reached_known : (n : ℕ) → IsReachable g n → IsKnown s n
   reached_known n r = (reached_kept n r).known
 
   -- a root place takes a word that shows a name; the target is saved, and the name touched
   module _ (u : KeepsUnreached s g) (scanned : (a : ℕ) → m.scanned a ≡ true → m.marked a ≡ true)
-      (h' : Heap) (m' : Marking) (place : ℕ) (w v : Option ℕ) (shown : IsShown h w v) (step : RootSet h h' place w) (saved : IsSaved m m' w) where
+      (h' : Heap) (m' : Marking) (place : ℕ) (w v : Option ℕ) (shown : IsShown h w v) (step : RootSet h h' place w)
+      (saved : IsSaved m m' w) where
     on : (n : ℕ) → IsReachable s n → IsReachable (touched s v) n
     on n r = touched_reaches s v n r
 
     pending_on : (a : ℕ) → Pending h m a → Pending h' m' a
     pending_on a (FromGrey b k sc) = FromGrey b (saved.marked b ∙ k) (saved.scanned b ∙ sc)
     pending_on a (FromLogged b e) = FromLogged b (saved.kept b e)
-    pending_on a (Through b c p o sc e) = Through b c (pending_on b p) (saved.old b ∙ o) (saved.scanned b ∙ sc) (record { object = e.object; at = step.kept b ∙ e.at; field = e.field; is = e.is })
+    pending_on a (Through b c p o sc e) = Through b c (pending_on b p) (saved.old b ∙ o) (saved.scanned b ∙ sc)
+        (record { object = e.object; at = step.kept b ∙ e.at; field = e.field; is = e.is })
 
     will_on : (n : ℕ) → WillBeMarked h m n → WillBeMarked h' m' n
     will_on n k = record {
@@ -112,7 +129,9 @@ module _ (s g : Graph) (h : Heap) (m : Marking) (shows : Shows g h) (i : KeepsSn
         elim (u.each q t.object named (below_s q r)) [
           | inl rs ↦ live_on rs
           | inr same ↦
-              let is' : slice_get t.object.pointers j ≡ Some (Some k) = ap (λ l. slice_get l j) (same.2 ∙ ap (λ (z : Object). z.pointers) (same_some (object_named s q) same.0 o same.1 e')) ∙ is in
+              let is' : slice_get t.object.pointers j ≡ Some (Some k) =
+              ap (λ l. slice_get l j) (same.2 ∙ ap (λ (z : Object). z.pointers) (same_some (object_named s q) same.0 o same.1 e'))
+              ∙ is in
               let c = pointer_stands g h shows b.address b.object t.object j k at t.named is' in
               let marked_on : m.marked b.address ≡ true → WillBeMarked h' m' k = λ k1.
               let l = i.marked b.address k1 in
@@ -129,7 +148,13 @@ module _ (s g : Graph) (h : Heap) (m : Marking) (shows : Shows g h) (i : KeepsSn
                     at = step.kept c.address ∙ c.at;
                     named = c.named;
                     why = inr (Through b.address c.address p (saved.old b.address ∙ old) (saved.scanned b.address ∙ un)
-                        (record { object = c.points.object; at = step.kept b.address ∙ c.points.at; field = c.points.field; is = c.points.is }));
+                        (record {
+                          object = c.points.object;
+                          at = step.kept b.address
+                              ∙ c.points.at;
+                          field = c.points.field;
+                          is = c.points.is;
+                        }));
                   }
                 ]
               ]
@@ -146,7 +171,8 @@ module _ (s g : Graph) (h : Heap) (m : Marking) (shows : Shows g h) (i : KeepsSn
         let vq' : v ≡ Some x.name = vq ∙ ap Some (sym named ∙ ap (λ (z : Stored). z.name) same) in
         subst (λ k. IsReachable (touched s k) x.name) (sym vq') (touched_reached s x.name (i.old_names a x at o))
 
-    pointer_live : (c a : ℕ) (x : Stored) → h.kept a ≡ Some x → m.old a ≡ true → (p : Points h c a) → IsReachable (touched s v) p.object.name → IsReachable (touched s v) x.name
+    pointer_live : (c a : ℕ) (x : Stored) → h.kept a ≡ Some x → m.old a ≡ true → (p : Points h c a)
+        → IsReachable (touched s v) p.object.name → IsReachable (touched s v) x.name
     pointer_live c a x at o p l =
         let t = shows.objects c p.object p.at in
         elim (u.each p.object.name t.object t.named (below_s p.object.name l)) [
@@ -160,12 +186,14 @@ module _ (s g : Graph) (h : Heap) (m : Marking) (shows : Shows g h) (i : KeepsSn
               (ap (λ k. slice_get k p.field) (sym same.2) ∙ is ∙ ap Some (vq ∙ ap Some nx))
         ]
 
-    found_on : (a : ℕ) (x : Stored) → h.kept a ≡ Some x → m.old a ≡ true → IsFound (IsReachable (touched s v)) h' m' a → IsReachable (touched s v) x.name
+    found_on : (a : ℕ) (x : Stored) → h.kept a ≡ Some x → m.old a ≡ true → IsFound (IsReachable (touched s v)) h' m' a
+        → IsReachable (touched s v) x.name
     unfolding back
-    found_on a x at o (ByRoot c r) = elim (get-set_cases h.roots place r.place w (Some c) (sym (ap (λ l. slice_get l r.place) step.roots) ∙ r.is)) [
-      | inl q ↦ word_live c x at o (sym q)
-      | inr q ↦ on x.name (i.found c x at o (ByRoot c (record { place = r.place; is = q })))
-    ]
+    found_on a x at o (ByRoot c r) = elim (get-set_cases h.roots place r.place w (Some c)
+        (sym (ap (λ l. slice_get l r.place) step.roots) ∙ r.is)) [
+          | inl q ↦ word_live c x at o (sym q)
+          | inr q ↦ on x.name (i.found c x at o (ByRoot c (record { place = r.place; is = q })))
+        ]
     found_on a x at o (ByLive c d p l) = pointer_live c d x at o (back c d p) l
     found_on a x at o (ByNew c d p n) = on x.name (i.found d x at o (ByNew c d (back c d p) (sym (saved.old c) ∙ n)))
 
@@ -181,6 +209,8 @@ module _ (s g : Graph) (h : Heap) (m : Marking) (shows : Shows g h) (i : KeepsSn
       marked = λ a k. old_on a (i.marked a (sym (saved.marked a) ∙ k));
       logged = λ a e. elim (saved.only a e) [ inl k ↦ old_on a (i.logged a k) | inr k ↦ saved_live a k.0 k.1 ];
       found = λ a x at o f. found_on a x (sym (step.kept a) ∙ at) (sym (saved.old a) ∙ o) f;
-      old_names = λ a x at o. subst (λ l. x.name < l) (sym (touched_next s v)) (i.old_names a x (sym (step.kept a) ∙ at) (sym (saved.old a) ∙ o));
-      new_names = λ a x at o. subst (λ l. l ≤ x.name) (sym (touched_next s v)) (i.new_names a x (sym (step.kept a) ∙ at) (sym (saved.old a) ∙ o));
+      old_names = λ a x at o. subst (λ l. x.name < l) (sym (touched_next s v))
+          (i.old_names a x (sym (step.kept a) ∙ at) (sym (saved.old a) ∙ o));
+      new_names = λ a x at o. subst (λ l. l ≤ x.name) (sym (touched_next s v))
+          (i.new_names a x (sym (step.kept a) ∙ at) (sym (saved.old a) ∙ o));
     }

@@ -1,27 +1,33 @@
 -- Names below the next one, and pointers that stay as they were in the snapshot: laws of graphs alone.
-use Rattle.std.proofs.Common.{◌≡◌, ℕ, zero, suc, ◌<◌, ◌≤◌, ◌-◌, ◌⊎◌, ◌∷◌, List, false, Option, Some, None, refl, sym, ap, ◌∙◌, subst, inl, inr, arith}
+use Rattle.std.proofs.Common.{◌≡◌, ◌<◌, ◌≤◌, ◌-◌, ◌⊎◌, ◌∷◌, ◌∙◌}
+use Rattle.std.proofs.Common.{ℕ, zero, suc, List, false, Option, Some, None, refl, sym, ap, subst, inl, inr, arith}
 use Rattle.std.specs.Prelude.{slice_get}
 use Rattle.std.proofs.lemmas.Bool.{cases_eq, cases_lt, lt-ltb, ltb-true}
 use Rattle.std.proofs.Math.Dec.{ltb}
-use Rattle.heap_model.specs.Graph.{Graph, Object, object_named, object_fields, next_name, IsReachable, FromRoot, FromObject, IsSound, with_root, with_object, with_changed}
+use Rattle.heap_model.specs.Graph.{Graph, Object, object_named, object_fields, next_name, IsReachable, FromRoot, FromObject, IsSound}
+use Rattle.heap_model.specs.Graph.{with_root, with_object, with_changed}
 use Rattle.heap_model.specs.Weak.{touched, KeepsUnreached, IsClearedSlot, ClearsObject, Clears}
 use Rattle.heap_model.proofs.Names.{bool_cases}
-use Rattle.heap_model.proofs.Lists.{AllZip-get_right, get-append_cases, get-append_left, get-append_right, get-push_cases, get-set_cases, get-set_other, length-set, length-push, AllZip_length}
+use Rattle.heap_model.proofs.Lists.{AllZip-get_right, get-append_cases, get-append_left, get-append_right, get-push_cases, get-set_cases}
+use Rattle.heap_model.proofs.Lists.{get-set_other, length-set, length-push, AllZip_length}
 use Rattle.heap_model.proofs.Changed.{named_at, at_least, changed_here}
 use Rattle.heap_model.proofs.Cleared.{cleared_named_back}
 
 -- the object of a name after a change
-pub changed_cases : (g : Graph) (n k : ℕ) (o p q : Object) → object_named g n ≡ Some o → object_named (with_changed g n p) k ≡ Some q → ((k ≡ n) × (q ≡ p)) ⊎ (object_named g k ≡ Some q)
+pub changed_cases : (g : Graph) (n k : ℕ) (o p q : Object) → object_named g n ≡ Some o → object_named (with_changed g n p) k ≡ Some q
+    → ((k ≡ n) × (q ≡ p)) ⊎ (object_named g k ≡ Some q)
 changed_cases g n k o p q e f =
     elim (cases_eq k n) [
       | inl same ↦ inl (same, (let here = changed_here g n o p e in let e1 = ap (object_named (with_changed g n p)) same in cc))
       | inr ne ↦
           let a = at_least g n o e in
           let b = at_least (with_changed g n p) k q f in
-          inr (named_at g k b ∙ sym (get-set_other g.objects (n - g.first_name) (k - g.first_name) p (λ s. ne (omega arith))) ∙ sym (named_at (with_changed g n p) k b) ∙ f)
+          inr (named_at g k b ∙ sym (get-set_other g.objects (n - g.first_name) (k - g.first_name) p (λ s. ne (omega arith)))
+          ∙ sym (named_at (with_changed g n p) k b) ∙ f)
     ]
 
-pub added_cases : (g : Graph) (o q : Object) (j k : ℕ) → object_named (with_object g o j) k ≡ Some q → ((k ≡ next_name g) × (q ≡ o)) ⊎ (object_named g k ≡ Some q)
+pub added_cases : (g : Graph) (o q : Object) (j k : ℕ) → object_named (with_object g o j) k ≡ Some q
+    → ((k ≡ next_name g) × (q ≡ o)) ⊎ (object_named g k ≡ Some q)
 added_cases g o q j k f =
     let b : g.first_name ≤ k = at_least (with_object g o j) k q f in
     elim (get-push_cases g.objects o q (k - g.first_name) (sym (named_at (with_object g o j) k b) ∙ f)) [
@@ -29,7 +35,8 @@ added_cases g o q j k f =
       | inr e ↦ let e1 = e.0 in inl ((omega arith), e.1)
     ]
 
-pub touched_cases : (s : Graph) (n : ℕ) → ((touched s (Some n) ≡ record s { roots = Some n ∷ s.roots }) × (n < next_name s)) ⊎ ((touched s (Some n) ≡ s) × (next_name s ≤ n))
+pub touched_cases : (s : Graph) (n : ℕ) → ((touched s (Some n) ≡ record s { roots = Some n ∷ s.roots }) × (n < next_name s))
+    ⊎ ((touched s (Some n) ≡ s) × (next_name s ≤ n))
 touched_cases s n = elim (cases_lt n (next_name s)) [
   | inl k ↦ inl (let e = lt-ltb n (next_name s) k in rw e refl, k)
   | inr k ↦ inr (let e = ltb_above n (next_name s) k in rw e refl, k)
@@ -50,7 +57,8 @@ root_sound g j v k below = record {
   fields = λ m i n o e q. k.fields m i n o e q;
 }
 
-pub object_sound : (g : Graph) (o : Object) (j : ℕ) → IsSound g → ((i n : ℕ) → slice_get (object_fields o) i ≡ Some (Some n) → ⊥) → IsSound (with_object g o j)
+pub object_sound : (g : Graph) (o : Object) (j : ℕ) → IsSound g → ((i n : ℕ) → slice_get (object_fields o) i ≡ Some (Some n) → ⊥)
+    → IsSound (with_object g o j)
 object_sound g o j k nil =
     let more : next_name (with_object g o j) ≡ suc (next_name g) = let e = length-push g.objects o in omega arith in
     record {
@@ -67,7 +75,8 @@ object_sound g o j k nil =
 changed_next : (g : Graph) (n : ℕ) (p : Object) → next_name (with_changed g n p) ≡ next_name g
 changed_next g n p = let e = length-set g.objects (n - g.first_name) p in omega arith
 
-pub changed_sound : (g : Graph) (n : ℕ) (o p : Object) → IsSound g → object_named g n ≡ Some o → ((i k : ℕ) → slice_get (object_fields p) i ≡ Some (Some k) → k < next_name g) → IsSound (with_changed g n p)
+pub changed_sound : (g : Graph) (n : ℕ) (o p : Object) → IsSound g → object_named g n ≡ Some o
+    → ((i k : ℕ) → slice_get (object_fields p) i ≡ Some (Some k) → k < next_name g) → IsSound (with_changed g n p)
 unfolding object_named
 changed_sound g n o p k e below =
     let same = changed_next g n p in
@@ -87,7 +96,8 @@ touched_sound s (Some n) k = elim (touched_cases s n) [
   | inr c ↦ subst IsSound (sym c.0) k
 ]
   where
-    first_root : (n : ℕ) (s : Graph) → IsSound s → n < next_name s → (j a : ℕ) → slice_get (Some n ∷ s.roots) j ≡ Some (Some a) → a < next_name s
+    first_root : (n : ℕ) (s : Graph) → IsSound s → n < next_name s → (j a : ℕ) → slice_get (Some n ∷ s.roots) j ≡ Some (Some a)
+        → a < next_name s
     first_root n s k below zero a e = let same : n ≡ a = cc in subst (λ l. l < next_name s) same below
     first_root n s k below (suc j) a e = k.roots j a e
 
@@ -100,7 +110,8 @@ slot_was s (Some n) (Some l) k c e = let same = c.0 in cc
 
 pub cleared_sound : (s g g' : Graph) → Clears s g g' → IsSound g → IsSound g'
 cleared_sound s g g' c k =
-    let same : next_name g' ≡ next_name g = let e1 = AllZip_length (ClearsObject s) g.objects g'.objects c.objects in let e2 = c.first_name in omega arith in
+    let same : next_name g' ≡ next_name g = let e1 = AllZip_length (ClearsObject s) g.objects g'.objects c.objects in
+    let e2 = c.first_name in omega arith in
     record {
       roots = λ j n e. subst (λ l. n < l) (sym same) (k.roots j n (ap (λ r. slice_get r j) (sym c.roots) ∙ e));
       fields = λ m i n p e q. subst (λ l. n < l) (sym same) (
@@ -109,7 +120,8 @@ cleared_sound s g g' c k =
             | inl at ↦ k.fields m i n o is (get-append_left o.pointers o.weaks i (Some n) (ap (λ l. slice_get l i) (sym z.pointers) ∙ at))
             | inr at ↦
                 let (v, was, slot) = AllZip-get_right (IsClearedSlot s) o.weaks p.weaks z.weaks at.0 (Some n) at.1 in
-                let (there, holds) = get-append_right o.pointers o.weaks at.0 (Some n) (was ∙ ap Some (slot_was s v (Some n) n slot refl)) in
+                let (there, holds) = get-append_right o.pointers o.weaks at.0 (Some n)
+                (was ∙ ap Some (slot_was s v (Some n) n slot refl)) in
                 k.fields m there n o is holds
           ]);
     }
@@ -137,14 +149,16 @@ touched_reaches s (Some k) n r = elim (touched_cases s k) [
     on s k n (FromObject m a i o r e q) = FromObject m a i o (on s k m r) e q
 
 -- a root of a touched snapshot is the touched name, or was one
-pub touched_root_cases : (s : Graph) (v : Option ℕ) (j n : ℕ) → slice_get (touched s v).roots j ≡ Some (Some n) → (v ≡ Some n) ⊎ ((i : ℕ) × (slice_get s.roots i ≡ Some (Some n)))
+pub touched_root_cases : (s : Graph) (v : Option ℕ) (j n : ℕ) → slice_get (touched s v).roots j ≡ Some (Some n)
+    → (v ≡ Some n) ⊎ ((i : ℕ) × (slice_get s.roots i ≡ Some (Some n)))
 touched_root_cases s None j n e = inr (j, e)
 touched_root_cases s (Some k) j n e = elim (touched_cases s k) [
   | inl c ↦ front k s.roots j n (ap (λ (g : Graph). slice_get g.roots j) (sym c.0) ∙ e)
   | inr c ↦ inr (j, ap (λ (g : Graph). slice_get g.roots j) (sym c.0) ∙ e)
 ]
   where
-    front : (k : ℕ) (rs : List (Option ℕ)) (j n : ℕ) → slice_get (Some k ∷ rs) j ≡ Some (Some n) → (Some k ≡ Some n) ⊎ ((i : ℕ) × (slice_get rs i ≡ Some (Some n)))
+    front : (k : ℕ) (rs : List (Option ℕ)) (j n : ℕ) → slice_get (Some k ∷ rs) j ≡ Some (Some n)
+        → (Some k ≡ Some n) ⊎ ((i : ℕ) × (slice_get rs i ≡ Some (Some n)))
     front k rs zero n e = inl cc
     front k rs (suc j) n e = inr (j, e)
 
@@ -173,7 +187,8 @@ module _ (s g : Graph) (u : KeepsUnreached s g) where
   }
 
   -- an object that was reachable in the snapshot, or is new, may change
-  pub unreached_changed : (n : ℕ) (o p : Object) → object_named g n ≡ Some o → IsReachable s n ⊎ (next_name s ≤ n) → KeepsUnreached s (with_changed g n p)
+  pub unreached_changed : (n : ℕ) (o p : Object) → object_named g n ≡ Some o → IsReachable s n ⊎ (next_name s ≤ n)
+      → KeepsUnreached s (with_changed g n p)
   unreached_changed n o p e why = record {
     sound = u.sound;
     each = λ k q f below. elim (changed_cases g n k o p q e f) [
@@ -186,7 +201,8 @@ module _ (s g : Graph) (u : KeepsUnreached s g) where
   }
 
   -- so may any object but for its pointers
-  pub unreached_written : (n : ℕ) (o p : Object) → object_named g n ≡ Some o → p.pointers ≡ o.pointers → KeepsUnreached s (with_changed g n p)
+  pub unreached_written : (n : ℕ) (o p : Object) → object_named g n ≡ Some o → p.pointers ≡ o.pointers
+      → KeepsUnreached s (with_changed g n p)
   unreached_written n o p e same = record {
     sound = u.sound;
     each = λ k q f below. elim (changed_cases g n k o p q e f) [

@@ -13,7 +13,8 @@ path_reaches g a n (b ∷ path) r p = path_reaches g b n path (FromObject a b p.
 
 pub by_path : (g : Graph) (n : ℕ) → IsReachable g n → IsReachableByPath g n
 by_path g n (FromRoot j k e) = (j, k, [], e, refl)
-by_path g n (FromObject m k i o r e q) = let (j, a, path, is, p) = by_path g m r in (j, a, path ++ k ∷ [], is, path_push g a m k path p (o, i, e, q))
+by_path g n (FromObject m k i o r e q) = let (j, a, path, is, p) = by_path g m r in
+    (j, a, path ++ k ∷ [], is, path_push g a m k path p (o, i, e, q))
 
 pub from_path : (g : Graph) (n : ℕ) → IsReachableByPath g n → IsReachable g n
 from_path g n p = path_reaches g p.1 n p.2 (FromRoot p.0 p.1 p.3) p.4

@@ -1,6 +1,7 @@
 -- The object graph: objects by unchanging names, and root places that lead to them. No object is ever
 -- removed, so objects stand in a list, by name: the first one bears the first name, each later one the next.
-use Rattle.std.specs.Prelude.{◌≡◌, ℕ, zero, suc, ◌+◌, ◌-◌, ◌*◌, ◌<◌, List, ◌∷◌, [], ◌++◌, length, Option, Some, None, slice_set, slice_get, nat_le, if◌then◌else◌}
+use Rattle.std.specs.Prelude.{◌≡◌, ◌+◌, ◌-◌, ◌*◌, ◌<◌, ◌∷◌, ◌++◌, if◌then◌else◌}
+use Rattle.std.specs.Prelude.{ℕ, zero, suc, List, [], length, Option, Some, None, slice_set, slice_get, nat_le}
 
 -- pointers and weak slots are nil or names. Marking and reachability follow the pointers alone
 pub record Object : Type 0 where
@@ -53,7 +54,8 @@ object_named g n = if nat_le g.first_name n then slice_get g.objects (n - g.firs
 -- a root place holds the name, or a pointer of an object whose name is reachable
 pub data IsReachable (g : Graph) : ℕ → Type 0 where
   FromRoot : (j n : ℕ) → slice_get g.roots j ≡ Some (Some n) → IsReachable g n
-  FromObject : (m n i : ℕ) (o : Object) → IsReachable g m → object_named g m ≡ Some o → slice_get o.pointers i ≡ Some (Some n) → IsReachable g n
+  FromObject : (m n i : ℕ) (o : Object) → IsReachable g m → object_named g m ≡ Some o → slice_get o.pointers i ≡ Some (Some n)
+      → IsReachable g n
 
 -- the graph with another value in a root place
 abbrev pub with_root : Graph → ℕ → Option ℕ → Graph

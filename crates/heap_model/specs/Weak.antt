@@ -43,7 +43,8 @@ pub record Clears (s g g' : Graph) : Type 0 where
 -- flags that hold what roots name, with each name what its pointers name, and nothing that isn't reachable
 pub record AreReached (s : Graph) (flag : ℕ → Bool) : Type 0 where
   pub roots : (j n : ℕ) → slice_get s.roots j ≡ Some (Some n) → flag n ≡ true
-  pub pointers : (m n i : ℕ) (o : Object) → flag m ≡ true → object_named s m ≡ Some o → slice_get o.pointers i ≡ Some (Some n) → flag n ≡ true
+  pub pointers : (m n i : ℕ) (o : Object) → flag m ≡ true → object_named s m ≡ Some o → slice_get o.pointers i ≡ Some (Some n)
+      → flag n ≡ true
   pub only : (n : ℕ) → flag n ≡ true → IsReachable s n
 
 -- the clearing by such flags, for names below a limit

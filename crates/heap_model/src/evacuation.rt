@@ -27,7 +27,8 @@ pub fn named_law()
     ensures root { (set : ℕ → Bool) (h now : Heap) (forward : ℕ → Option ℕ) → IsEvacuating set h forward now
         → (j c : ℕ) → slice_get now.roots j ≡ Some (Some c) → set c ≡ true → IsRoot h c }
     ensures field { (set : ℕ → Bool) (h now : Heap) (forward : ℕ → Option ℕ) → IsEvacuating set h forward now
-        → (b i c : ℕ) (y : Stored) → now.kept b ≡ Some y → set b ≡ false → slice_get (fields y) i ≡ Some (Some c) → set c ≡ true → IsReached set h c }
+        → (b i c : ℕ) (y : Stored) → now.kept b ≡ Some y → set b ≡ false → slice_get (fields y) i ≡ Some (Some c) → set c ≡ true
+        → IsReached set h c }
     ensures target { (set : ℕ → Bool) (h now : Heap) (forward : ℕ → Option ℕ) → IsEvacuating set h forward now → IsClosed h
         → (b i c : ℕ) (y : Stored) → now.kept b ≡ Some y → set b ≡ false → slice_get (fields y) i ≡ Some (Some c)
         → ((set c ≡ true) × (x : Stored) × (h.kept c ≡ Some x)) ⊎ ((set c ≡ false) × (z : Stored) × (now.kept c ≡ Some z)) }

@@ -75,5 +75,6 @@ pub fn kept_law()
         → KeepsSnapshot s (record { kept = kept_by tiles below marked; roots = roots }) m
         → ((a : ℕ) → m.old a ≡ false → below a ≡ false)
         → ((a : ℕ) → (m.marked a ≡ true) ⊎ (m.old a ≡ false) → cleared_tiles a ≡ cleared_object m (tiles a))
-        → (a : ℕ) → kept_by cleared_tiles m.old m.marked a ≡ cleared_after (record { kept = kept_by tiles below marked; roots = roots }) m a }
+        → (a : ℕ) → kept_by cleared_tiles m.old m.marked a ≡ cleared_after
+        (record { kept = kept_by tiles below marked; roots = roots }) m a }
 {}

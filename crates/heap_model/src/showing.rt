@@ -3,7 +3,8 @@
 ghost use Rattle.std.specs.Prelude.{◌≡◌, ℕ, Option, Some, length, slice_get, slice_set};
 ghost use Rattle.std.specs.List.{AllZip};
 ghost use Rattle.heap_model.specs.Graph.{Graph, Object, IsReachable, next_name, object_named, with_root, with_object, with_changed};
-ghost use Rattle.heap_model.specs.Heap.{Heap, Stored, Shows, IsShown, StandsOnce, IsClosed, RootSet, ObjectSet, ObjectAdded, SameHeap, fields, with_field};
+ghost use Rattle.heap_model.specs.Heap.{Heap, Stored, Shows, IsShown, StandsOnce, IsClosed, RootSet, ObjectSet, ObjectAdded, SameHeap};
+ghost use Rattle.heap_model.specs.Heap.{fields, with_field};
 
 /// Each object that a root reaches stands in the heap once, with the graph's contents.
 pub fn stands_law()
@@ -48,14 +49,16 @@ pub fn root_set_law()
 pub fn object_set_law()
     ensures { (g : Graph) (h h' : Heap) → Shows g h
         → (d : ℕ) (x y : Stored) (o p : Object) → ObjectSet h h' d x y → object_named g x.name ≡ Some o
-        → AllZip (IsShown h) y.pointers p.pointers → AllZip (IsShown h) y.weaks p.weaks → y.values ≡ p.values → Shows (with_changed g x.name p) h' }
+        → AllZip (IsShown h) y.pointers p.pointers → AllZip (IsShown h) y.weaks p.weaks → y.values ≡ p.values
+        → Shows (with_changed g x.name p) h' }
 {}
 
 /// An object added to both, under the graph's next name.
 pub fn object_added_law()
     ensures { (g : Graph) (h h' : Heap) → Shows g h
         → (a : ℕ) (x : Stored) (o : Object) (place : ℕ) → ObjectAdded h h' a x place → x.name ≡ next_name g
-        → AllZip (IsShown h) x.pointers o.pointers → AllZip (IsShown h) x.weaks o.weaks → x.values ≡ o.values → Shows (with_object g o place) h' }
+        → AllZip (IsShown h) x.pointers o.pointers → AllZip (IsShown h) x.weaks o.weaks → x.values ≡ o.values
+        → Shows (with_object g o place) h' }
 {}
 
 /// Only what is kept at each address counts, and the root words.

@@ -1,7 +1,8 @@
 //! Weak slots: what a mutator reads from one while marking runs, and their clearing when it ends.
 
 ghost use Rattle.std.specs.Prelude.{◌≡◌, ◌≢◌, ℕ, ◌<◌, ◌≤◌, ◌⊎◌, ◌↔◌, Bool, true, Option, Some, None, slice_get};
-ghost use Rattle.heap_model.specs.Graph.{Graph, Object, IsReachable, IsSound, next_name, object_named, object_fields, with_root, with_object, with_changed};
+ghost use Rattle.heap_model.specs.Graph.{Graph, Object, IsReachable, IsSound, next_name, object_named, object_fields, with_root};
+ghost use Rattle.heap_model.specs.Graph.{with_object, with_changed};
 ghost use Rattle.heap_model.specs.Heap.{Heap, IsShown, Shows, RootSet};
 ghost use Rattle.heap_model.specs.Marking.{Marking, KeepsSnapshot, IsSaved, IsDone};
 ghost use Rattle.heap_model.specs.Count.{IsReachableCount};
@@ -9,7 +10,8 @@ ghost use Rattle.heap_model.specs.Weak.{touched, KeepsUnreached, Clears, cleared
 
 /// In every graph that steps lead to, the next name is above every name.
 pub fn sound_law()
-    ensures root { (g : Graph) (place : ℕ) (v : Option ℕ) → IsSound g → ((n : ℕ) → v ≡ Some n → n < next_name g) → IsSound (with_root g place v) }
+    ensures root { (g : Graph) (place : ℕ) (v : Option ℕ) → IsSound g → ((n : ℕ) → v ≡ Some n → n < next_name g)
+        → IsSound (with_root g place v) }
     ensures object { (g : Graph) (o : Object) (place : ℕ) → IsSound g
         → ((i n : ℕ) → slice_get (object_fields o) i ≢ Some (Some n)) → IsSound (with_object g o place) }
     ensures changed { (g : Graph) (n : ℕ) (o p : Object) → IsSound g → object_named g n ≡ Some o
@@ -22,7 +24,8 @@ pub fn sound_law()
 pub fn unreached_law()
     ensures begins { (g : Graph) → IsSound g → KeepsUnreached g g }
     ensures root { (s g : Graph) (place : ℕ) (v : Option ℕ) → KeepsUnreached s g → KeepsUnreached s (with_root g place v) }
-    ensures object { (s g : Graph) (o : Object) (place : ℕ) → KeepsUnreached s g → next_name s ≤ next_name g → KeepsUnreached s (with_object g o place) }
+    ensures object { (s g : Graph) (o : Object) (place : ℕ) → KeepsUnreached s g → next_name s ≤ next_name g
+        → KeepsUnreached s (with_object g o place) }
     ensures changed { (s g : Graph) (n : ℕ) (o p : Object) → KeepsUnreached s g → object_named g n ≡ Some o
         → IsReachable s n ⊎ (next_name s ≤ n) → KeepsUnreached s (with_changed g n p) }
     ensures written { (s g : Graph) (n : ℕ) (o p : Object) → KeepsUnreached s g → object_named g n ≡ Some o
@@ -33,7 +36,8 @@ pub fn unreached_law()
 /// What is reachable while marking runs was reachable in the snapshot, or is new. So no name that the clearing at its end takes
 /// from a weak slot is reachable then.
 pub fn reached_law()
-    ensures { (s g : Graph) (h : Heap) (m : Marking) → Shows g h → KeepsSnapshot s h m → (n : ℕ) → IsReachable g n → IsReachable s n ⊎ (next_name s ≤ n) }
+    ensures { (s g : Graph) (h : Heap) (m : Marking) → Shows g h → KeepsSnapshot s h m → (n : ℕ) → IsReachable g n
+        → IsReachable s n ⊎ (next_name s ≤ n) }
 {}
 
 /// A root place may take what a weak slot holds, where the target is saved and its name touched.

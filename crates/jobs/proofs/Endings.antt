@@ -18,8 +18,10 @@ abbrev pub Comes : (StepList → EventList → Type 0) → (Config → RunFault 
 Comes Makes Fails plan (Ok r) = Makes plan r
 Comes Makes Fails plan (Err fault) = Fails plan.config fault
 
-pub ends : (Makes : StepList → EventList → Type 0) (Fails : Config → RunFault → Type 0) (plan : StepList) (given left : Reader) (old new : Writer) (outcome : Result EventList RunFault) (result : Result ⊤ JobFault) →
-    ReadsPlan given left (Ok plan) → Comes Makes Fails plan outcome → Answers outcome old new result → Ends Makes Fails given left old new result
+pub ends : (Makes : StepList → EventList → Type 0) (Fails : Config → RunFault → Type 0) (plan : StepList) (given left : Reader)
+    (old new : Writer) (outcome : Result EventList RunFault) (result : Result ⊤ JobFault) →
+    ReadsPlan given left (Ok plan) → Comes Makes Fails plan outcome → Answers outcome old new result
+    → Ends Makes Fails given left old new result
 ends Makes Fails plan given left old new (Ok r) (Ok done) (input, gives, read) made written =
     (input, gives, (r, record { plan = plan; read = read; made = made }, written))
 ends Makes Fails plan given left old new (Ok r) (Err (Write fault)) (input, gives, read) made fails =
@@ -38,12 +40,14 @@ ends Makes Fails plan given left old new (Err fault) (Err (Differs event)) read 
 ends Makes Fails plan given left old new (Err fault) (Err (Run told)) (input, gives, read) may (same, keeps) =
     (input, gives, (plan, read, subst (Fails plan.config) (sym same) may), keeps)
 
-pub comes : (Makes : StepList → EventList → Type 0) (Fails : Config → RunFault → Type 0) (plan : StepList) (outcome : Result EventList RunFault) →
+pub comes : (Makes : StepList → EventList → Type 0) (Fails : Config → RunFault → Type 0) (plan : StepList)
+    (outcome : Result EventList RunFault) →
     IfOk outcome (Makes plan) → IfErr outcome (Fails plan.config) → Comes Makes Fails plan outcome
 comes Makes Fails plan (Ok r) made fault = made
 comes Makes Fails plan (Err f) made fault = fault
 
-pub same_plan : (config : Config) (steps : List Step) (plan : StepList) → config ≡ plan.config → steps ≡ plan.steps → (record { config = config; steps = steps }) ≡ plan
+pub same_plan : (config : Config) (steps : List Step) (plan : StepList) → config ≡ plan.config → steps ≡ plan.steps
+    → (record { config = config; steps = steps }) ≡ plan
 same_plan config steps plan sizes lines =
     subst (λ (c : Config). (record { config = c; steps = steps }) ≡ plan) (sym sizes)
     (subst (λ (ss : List Step). (record { config = plan.config; steps = ss }) ≡ plan) (sym lines) refl)
@@ -54,6 +58,7 @@ if_ok (Ok x) p = p
 if_ok (Err e) p = tt
 
 -- want of memory, where the heap's sizes suit
-pub memory_alone : {A : Type 0} (config : Config) (r : Result A RunFault) → IfErr r (λ fault. fault ≡ runs.NoMemory) → Suits config → IfErr r (IsRunFault config)
+pub memory_alone : {A : Type 0} (config : Config) (r : Result A RunFault) → IfErr r (λ fault. fault ≡ runs.NoMemory) → Suits config
+    → IfErr r (IsRunFault config)
 memory_alone config (Ok x) memory suits = tt
 memory_alone config (Err e) memory suits = subst (IsRunFault config) (sym memory) suits

@@ -1,5 +1,7 @@
 -- What following tells is the verdict on the text without its cut last line.
-use Rattle.std.proofs.Common.{◌≡◌, ℕ, zero, suc, ◌-◌, ◌<◌, ◌↔◌, Bool, true, false, List, [], ◌∷◌, ◌++◌, length, take, slice_get, Some, Result, Ok, Err, refl, sym, ap, ◌∙◌, append_assoc, arith, subst}
+use Rattle.std.proofs.Common.{◌≡◌, ◌-◌, ◌<◌, ◌↔◌, ◌∷◌, ◌++◌, ◌∙◌}
+use Rattle.std.proofs.Common.{ℕ, zero, suc, Bool, true, false, List, [], length, take, slice_get, Some, Result, Ok, Err, refl, sym, ap}
+use Rattle.std.proofs.Common.{append_assoc, arith, subst}
 use Rattle.std.specs.Io.KnownBytes.{IsAtEnd}
 use Rattle.std.proofs.lemmas.List.{take-append-le, length-append}
 use Rattle.heap_steps.specs.Actors.{EventList}
@@ -29,7 +31,8 @@ yes_explained lines n j = record { history = j.history; read = j.read; suits = j
 explained_yes : (lines : List ℕ) (n : ℕ) → IsExplained lines (Allowed n) → IsJudged lines (Yes n)
 explained_yes lines n e = record { history = e.history; read = e.read; suits = e.suits; judged = e.finds }
 
-pub followed_yes : YesLaw → (text : List ℕ) (left : Reader) (n : ℕ) → IsFound text left (Ok (Allowed n)) ↔ (IsAtEnd left.left × IsTextOfRun (whole_lines text) n)
+pub followed_yes : YesLaw → (text : List ℕ) (left : Reader) (n : ℕ)
+    → IsFound text left (Ok (Allowed n)) ↔ (IsAtEnd left.left × IsTextOfRun (whole_lines text) n)
 followed_yes law text left n = (
   λ found. (found.0, (law (whole_lines text) n).0 (explained_yes (whole_lines text) n found.1)),
   λ run. (run.0, yes_explained (whole_lines text) n ((law (whole_lines text) n).1 run.1)),
@@ -55,19 +58,31 @@ breaks_on first es more n b =
       stops = λ e is. b.stops e (stands es more (n - 1) e (omega arith) is);
     }
 
-broken_on : (q r : EventList) (more : List Event) (n : ℕ) → q ≡ record r { events = r.events ++ more } → BreaksAt (first_state r.config) r.events n → BreaksAt (first_state q.config) q.events n
-broken_on q r more n is b = subst (λ (p : EventList). BreaksAt (first_state p.config) p.events n) (sym is) (breaks_on (first_state r.config) r.events more n b)
+broken_on : (q r : EventList) (more : List Event) (n : ℕ) → q ≡ record r { events = r.events ++ more }
+    → BreaksAt (first_state r.config) r.events n → BreaksAt (first_state q.config) q.events n
+broken_on q r more n is b = subst (λ (p : EventList). BreaksAt (first_state p.config) p.events n) (sym is)
+    (breaks_on (first_state r.config) r.events more n b)
 
 -- whatever comes, no other verdict can be
-pub followed_no : ((input : List ℕ) (a b : Verdict) → IsJudged input a → IsJudged input b → a ≡ b) → (text : List ℕ) (n : ℕ) (e : Event) (given : Given) → BreaksAlready text n (Refused n e given) → (more : List ℕ) (v : Verdict) → IsJudged (whole_lines (text ++ more)) v → v ≡ No n
+pub followed_no : ((input : List ℕ) (a b : Verdict) → IsJudged input a → IsJudged input b → a ≡ b)
+    → (text : List ℕ) (n : ℕ) (e : Event) (given : Given) → BreaksAlready text n (Refused n e given) → (more : List ℕ) (v : Verdict)
+    → IsJudged (whole_lines (text ++ more)) v → v ≡ No n
 followed_no once text n e given found more v j =
     let lines = found.0 in
     let is = found.2.0 in
     let cut : text ++ more ≡ lines ++ (found.1.0 ++ more) = ap (λ (t : List ℕ). t ++ more) found.1.1 ∙ append_assoc lines found.1.0 more in
-    let whole : whole_lines (text ++ more) ≡ lines ++ whole_lines (found.1.0 ++ more) = ap whole_lines cut ∙ whole_behind lines (found.1.0 ++ more) is.history is.read in
+    let whole : whole_lines (text ++ more) ≡ lines ++ whole_lines (found.1.0 ++ more) =
+    ap whole_lines cut ∙ whole_behind lines (found.1.0 ++ more) is.history is.read in
     let events = reads_behind lines (whole_lines (found.1.0 ++ more)) is.history j.history is.read (ap record_of (sym whole) ∙ j.read) in
-    let broken : BreaksAt (first_state is.history.config) is.history.events n = found_judged (first_state is.history.config) is.history.events (Refused n e given) is.finds in
-    let other : IsJudged (whole_lines (text ++ more)) (No n) = record { history = j.history; read = j.read; suits = j.suits; judged = broken_on j.history is.history events.0 n events.1 broken } in
+    let broken : BreaksAt (first_state is.history.config) is.history.events n =
+    found_judged (first_state is.history.config) is.history.events (Refused n e given) is.finds in
+    let other : IsJudged (whole_lines (text ++ more)) (No n) =
+    record {
+      history = j.history;
+      read = j.read;
+      suits = j.suits;
+      judged = broken_on j.history is.history events.0 n events.1 broken;
+    } in
     once (whole_lines (text ++ more)) v (No n) j other
 
 -- a yes is told without a reason
@@ -76,24 +91,35 @@ told_yes_text false n = refl
 told_yes_text true n = refl
 
 -- the status says which
-yes_by : YesLaw → (outcome : Result Finding JobFault) (explained : Bool) (given left : Reader) (old new err told : Writer) → Follows explained given left old new outcome → TellsVerdict err told (judged_by outcome) 0 → FollowedYes given left old new err told
+yes_by : YesLaw → (outcome : Result Finding JobFault) (explained : Bool) (given left : Reader) (old new err told : Writer)
+    → Follows explained given left old new outcome → TellsVerdict err told (judged_by outcome) 0 → FollowedYes given left old new err told
 yes_by law (Ok (Allowed n)) explained given left old new err told f t =
     let run = (followed_yes law f.0.0 left n).0 f.0.2 in
     (f.0.0, n, (f.0.1, run.0), run.1, subst (λ (l : List ℕ). Takes old new l) (told_yes_text explained n) f.1, t.1)
 yes_by law (Ok (Refused n e g)) explained given left old new err told f t = absurd (let bad = t.0 in omega arith)
 yes_by law (Err fault) explained given left old new err told f t = absurd (let bad = t.0 in omega arith)
 
-pub status_yes : YesLaw → (explained : Bool) (given left : Reader) (old new err told : Writer) → PerformsFollow explained given left old new err told 0 → FollowedYes given left old new err told
+pub status_yes : YesLaw → (explained : Bool) (given left : Reader) (old new err told : Writer)
+    → PerformsFollow explained given left old new err told 0 → FollowedYes given left old new err told
 status_yes law explained given left old new err told p = yes_by law p.outcome explained given left old new err told p.follows p.tells
 
-no_by : NoLaw → (outcome : Result Finding JobFault) (explained : Bool) (given left : Reader) (old new err told : Writer) → Follows explained given left old new outcome → TellsVerdict err told (judged_by outcome) 3 → FollowedNo explained given left old new err told
+no_by : NoLaw → (outcome : Result Finding JobFault) (explained : Bool) (given left : Reader) (old new err told : Writer)
+    → Follows explained given left old new outcome → TellsVerdict err told (judged_by outcome) 3
+    → FollowedNo explained given left old new err told
 no_by law (Ok (Allowed n)) explained given left old new err told f t = absurd (let bad = t.0 in omega arith)
 no_by law (Ok (Refused n e g)) explained given left old new err told f t =
     let breaks = f.0.2 in
     let found = breaks.2.0 in
-    let judged : IsJudged breaks.0 (No n) = record { history = found.history; read = found.read; suits = found.suits; judged = found_judged (first_state found.history.config) found.history.events (Refused n e g) found.finds } in
+    let judged : IsJudged breaks.0 (No n) =
+    record {
+      history = found.history;
+      read = found.read;
+      suits = found.suits;
+      judged = found_judged (first_state found.history.config) found.history.events (Refused n e g) found.finds;
+    } in
     (f.0.0, breaks.0, Refused n e g, n, f.0.1, breaks.1, (law breaks.0 n).0 judged, refl, f.1, t.1)
 no_by law (Err fault) explained given left old new err told f t = absurd (let bad = t.0 in omega arith)
 
-pub status_no : NoLaw → (explained : Bool) (given left : Reader) (old new err told : Writer) → PerformsFollow explained given left old new err told 3 → FollowedNo explained given left old new err told
+pub status_no : NoLaw → (explained : Bool) (given left : Reader) (old new err told : Writer)
+    → PerformsFollow explained given left old new err told 3 → FollowedNo explained given left old new err told
 status_no law explained given left old new err told p = no_by law p.outcome explained given left old new err told p.follows p.tells

@@ -1,5 +1,6 @@
 -- No text gets two verdicts.
-use Rattle.std.proofs.Common.{◌≡◌, ℕ, zero, suc, ◌-◌, ◌<◌, ◌≤◌, inl, inr, List, [], ◌∷◌, length, take, slice_get, Some, Result, Ok, refl, sym, ap, subst, ◌∙◌, arith}
+use Rattle.std.proofs.Common.{◌≡◌, ◌-◌, ◌<◌, ◌≤◌, ◌∷◌, ◌∙◌}
+use Rattle.std.proofs.Common.{ℕ, zero, suc, inl, inr, List, [], length, take, slice_get, Some, Result, Ok, refl, sym, ap, subst, arith}
 use Rattle.std.proofs.lemmas.Bool.{cases_order}
 use Rattle.std.proofs.lemmas.List.{length-take-le}
 use Rattle.heap_steps.specs.Actors.{EventList}
@@ -67,4 +68,5 @@ pub once : NeverBoth → (input : List ℕ) (a b : Verdict) → IsJudged input a
 unfolding found
 once never input a b p q =
     let same : p.history ≡ q.history = same_record p.history q.history (sym p.read ∙ q.read) in
-    one_verdict never (first_state p.history.config) p.history.events a b p.judged (subst (λ (r : EventList). Judged (first_state r.config) r.events b) (sym same) q.judged)
+    one_verdict never (first_state p.history.config) p.history.events a b p.judged
+    (subst (λ (r : EventList). Judged (first_state r.config) r.events b) (sym same) q.judged)

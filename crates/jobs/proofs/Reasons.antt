@@ -13,7 +13,8 @@ one_way (Ok x) p q = inl p
 one_way (Err e) p q = inr q
 
 -- a line is told where memory wasn't refused
-pub tells_reason : (kind : Kind) (fault : LineFault) (input : List ℕ) (old new : Writer) → (kind ≡ kinds.NoMemory → ⊥) → TellsHint fault input old new → TellsReason kind fault input old new
+pub tells_reason : (kind : Kind) (fault : LineFault) (input : List ℕ) (old new : Writer) → (kind ≡ kinds.NoMemory → ⊥)
+    → TellsHint fault input old new → TellsReason kind fault input old new
 tells_reason kinds.NoMemory fault input old new memory told = absurd (memory refl)
 tells_reason kinds.Cut fault input old new memory told = told
 tells_reason kinds.LongLine fault input old new memory told = told

@@ -93,7 +93,8 @@ Explains given left old new (Err (faults.Line fault)) = (input : List ℕ) × Gi
     × FailsBy fault.kind fault input (record_of input) × TellsReason fault.kind fault input old new
 Explains given left old new (Err (faults.Run fault)) = ⊥
 Explains given left old new (Err (faults.Differs event)) = ⊥
-Explains given left old new (Err (faults.Judge fault)) = (input : List ℕ) × GivesAll given left input × IsUnjudged input fault × Stays old new
+Explains given left old new (Err (faults.Judge fault)) =
+    (input : List ℕ) × GivesAll given left input × IsUnjudged input fault × Stays old new
 Explains given left old new (Err (faults.Write fault)) = (input : List ℕ) × GivesAll given left input × WritesFindingBeginning input old new
     × (fault ≢ writes.NoMemory)
 

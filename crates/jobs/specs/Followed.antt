@@ -26,7 +26,8 @@ IsWrongAlready fault text = (more : List ℕ) → record_of (text ++ more ++ 10 
 
 -- the text begins with the lines of a record that breaks at its last event, and the graph alone says so
 abbrev pub BreaksAlready : List ℕ → ℕ → Finding → Type 0
-BreaksAlready text n finding = (lines : List ℕ) × GoesOnBehind text lines × ((found : IsExplained lines finding) × (length found.history.events ≡ n))
+BreaksAlready text n finding = (lines : List ℕ) × GoesOnBehind text lines
+    × ((found : IsExplained lines finding) × (length found.history.events ≡ n))
 
 -- What is found of a text that a reader gave so far: yes at the end of input alone, of all that is whole; no where it begins with a record
 -- that breaks at its last event; a line's fault where that is known already, or at the end if no line came; and why it isn't judged where

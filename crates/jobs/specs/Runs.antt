@@ -57,7 +57,8 @@ Answers _ old new _ = ⊥
 
 -- How a script's run ended: the reader was `given` before and is `left` after, and the writer was `old` before and is `new` after. A record
 -- is written at Ok alone; a beginning of it where the writer refused; otherwise nothing.
-abbrev pub Ends : (StepList → EventList → Type 0) → (Config → RunFault → Type 0) → Reader → Reader → Writer → Writer → Result ⊤ JobFault → Type 0
+abbrev pub Ends : (StepList → EventList → Type 0) → (Config → RunFault → Type 0) → Reader → Reader → Writer → Writer → Result ⊤ JobFault
+    → Type 0
 Ends Makes Fails given left old new (Ok done) = (input : List ℕ) × GivesAll given left input × WritesRecord Makes input old new
 Ends Makes Fails given left old new (Err (Read fault)) = FailsToGive fault given left × Stays old new
 Ends Makes Fails given left old new (Err (Line fault)) = (input : List ℕ) × GivesAll given left input
@@ -66,7 +67,8 @@ Ends Makes Fails given left old new (Err (Run fault)) = (input : List ℕ) × Gi
     × ((plan : StepList) × (script_of input ≡ Ok plan) × Fails plan.config fault) × Stays old new
 Ends Makes Fails given left old new (Err (Judge fault)) = ⊥
 Ends Makes Fails given left old new (Err (Differs event)) = ⊥
-Ends Makes Fails given left old new (Err (Write fault)) = (input : List ℕ) × GivesAll given left input × FailsToWrite Makes input fault old new
+Ends Makes Fails given left old new (Err (Write fault)) =
+    (input : List ℕ) × GivesAll given left input × FailsToWrite Makes input fault old new
 
 -- the status that tells how a run ended, and what standard error took: nothing where the job is done, else the fault's line
 abbrev pub Tells : Writer → Writer → Result ⊤ JobFault → ℕ → Type 0

@@ -6,7 +6,8 @@ ghost use Rattle.script_text.specs.Watched.{Takes, TakesPart};
 ghost use Rattle.object_graph.specs.Reasons.{verdict_of};
 ghost use Rattle.object_graph.specs.declared.judge.Finding.{Finding};
 ghost use Rattle.jobs.specs.Verdicts.{IsJudged};
-ghost use Rattle.jobs.specs.Explanations.{form_text, given_text, reason_line, finding_text, judged_by, TellsHint, TellsReason, IsExplained, Explains, PerformsExplain};
+ghost use Rattle.jobs.specs.Explanations.{form_text, given_text, reason_line, finding_text, judged_by, TellsHint, TellsReason, IsExplained};
+ghost use Rattle.jobs.specs.Explanations.{Explains, PerformsExplain};
 
 use crate::faults::{JobFault, JudgeFault};
 use crate::judge::{conclude_verdict, put_verdict};

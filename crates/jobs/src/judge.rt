@@ -3,7 +3,8 @@
 ghost use Rattle.std.specs.Prelude.{◌≡◌, ◌≢◌, ◌≤◌, ◌↔◌, ℕ, List, OnOk, OnErr, length, take};
 ghost use Rattle.script_text.specs.Watched.{Reader, Writer, Takes, TakesPart};
 ghost use Rattle.object_graph.specs.declared.judge.Verdict.{Verdict};
-ghost use Rattle.jobs.specs.Verdicts.{verdict_word, verdict_number, verdict_line, IsJudged, Judges, TellsVerdict, PerformsCheck, IsTextOfRun, IsTextBrokenAt, ToldYes, ToldNo};
+ghost use Rattle.jobs.specs.Verdicts.{verdict_word, verdict_number, verdict_line, IsJudged, Judges, TellsVerdict, PerformsCheck};
+ghost use Rattle.jobs.specs.Verdicts.{IsTextOfRun, IsTextBrokenAt, ToldYes, ToldNo};
 
 use crate::faults::{JobFault, JudgeFault, tell};
 use crate::history::read_record;
@@ -133,8 +134,10 @@ pub fn verdict_law()
 /// What the status says by itself: 0, the file was the text of a run, and the verdict says so; 3, it was the text of a record that breaks,
 /// and the verdict names the event.
 pub fn status_law()
-    ensures yes { (given left : Reader) (old new err told : Writer) → PerformsCheck given left old new err told 0 → ToldYes given left old new err told }
-    ensures no { (given left : Reader) (old new err told : Writer) → PerformsCheck given left old new err told 3 → ToldNo given left old new err told }
+    ensures yes { (given left : Reader) (old new err told : Writer) → PerformsCheck given left old new err told 0
+        → ToldYes given left old new err told }
+    ensures no { (given left : Reader) (old new err told : Writer) → PerformsCheck given left old new err told 3
+        → ToldNo given left old new err told }
 {
     verdict_law();
 }

@@ -1,5 +1,6 @@
 -- Clearing slot after slot, and object after object, clears them all.
-use Rattle.std.proofs.Common.{◌≡◌, ℕ, zero, suc, ◌+◌, ◌<◌, ◌≤◌, List, [], ◌∷◌, ◌++◌, Option, Some, slice_get, length, get_or, set, map, take, drop, refl, sym, ap, ◌∙◌, arith}
+use Rattle.std.proofs.Common.{◌≡◌, ◌+◌, ◌<◌, ◌≤◌, ◌∷◌, ◌++◌, ◌∙◌}
+use Rattle.std.proofs.Common.{ℕ, zero, suc, List, [], Option, Some, slice_get, length, get_or, set, map, take, drop, refl, sym, ap, arith}
 use Rattle.std.proofs.lemmas.List.{get_or-set_same, set-get_or}
 use Rattle.std.proofs.lemmas.List.Edits.{map_over_more}
 use Rattle.std.proofs.lemmas.Option.{get_or_from_slice_get, slice_get-get_or}
@@ -23,13 +24,18 @@ set-set [] i a b = refl
 set-set (x ∷ xs) zero a b = refl
 set-set (x ∷ xs) (suc i) a b = ap (λ (ys : List Object). x ∷ ys) (set-set xs i a b)
 
-part_at : (f : Option ℕ → Option ℕ) (old cur : List Object) (place slot : ℕ) → place < length old → cur ≡ cleared_in f old place slot → object_in cur place ≡ cleared_part f slot (object_in old place)
-part_at f old cur place slot inside is = ap (λ (xs : List Object). object_in xs place) is ∙ get_or-set_same old place (cleared_part f slot (object_in old place)) _ inside
+part_at : (f : Option ℕ → Option ℕ) (old cur : List Object) (place slot : ℕ) → place < length old → cur ≡ cleared_in f old place slot
+    → object_in cur place ≡ cleared_part f slot (object_in old place)
+part_at f old cur place slot inside is = ap (λ (xs : List Object). object_in xs place) is
+    ∙ get_or-set_same old place (cleared_part f slot (object_in old place)) _ inside
 
-pub part_length : (f : Option ℕ → Option ℕ) (old cur : List Object) (place slot : ℕ) → place < length old → cur ≡ cleared_in f old place slot → length cur ≡ length old
+pub part_length : (f : Option ℕ → Option ℕ) (old cur : List Object) (place slot : ℕ) → place < length old
+    → cur ≡ cleared_in f old place slot → length cur ≡ length old
 part_length f old cur place slot inside is = ap length is ∙ length-set old place (cleared_part f slot (object_in old place))
 
-pub part_weaks : (f : Option ℕ → Option ℕ) (old cur : List Object) (place slot : ℕ) → place < length old → slot ≤ length (object_in old place).weaks → cur ≡ cleared_in f old place slot → length (object_in cur place).weaks ≡ length (object_in old place).weaks
+pub part_weaks : (f : Option ℕ → Option ℕ) (old cur : List Object) (place slot : ℕ) → place < length old
+    → slot ≤ length (object_in old place).weaks → cur ≡ cleared_in f old place slot
+    → length (object_in cur place).weaks ≡ length (object_in old place).weaks
 part_weaks f old cur place slot inside le is =
     ap (λ (x : Object). length x.weaks) (part_at f old cur place slot inside is) ∙ by_length (object_in old place).weaks slot
   where
@@ -40,25 +46,36 @@ part_weaks f old cur place slot inside le is =
     by_length (w ∷ ws) (suc n) = ap suc (by_length ws n)
 
 -- one slot more
-pub part_more : (f : Option ℕ → Option ℕ) (old cur new : List Object) (place slot : ℕ) (was value : Option ℕ) → place < length old → slot < length (object_in old place).weaks → cur ≡ cleared_in f old place slot
-    → slice_get (object_in cur place).weaks slot ≡ Some was → value ≡ f was → new ≡ set cur place (record (object_in cur place) { weaks = set (object_in cur place).weaks slot value })
+pub part_more : (f : Option ℕ → Option ℕ) (old cur new : List Object) (place slot : ℕ) (was value : Option ℕ) → place < length old
+    → slot < length (object_in old place).weaks → cur ≡ cleared_in f old place slot
+    → slice_get (object_in cur place).weaks slot ≡ Some was → value ≡ f was
+    → new ≡ set cur place (record (object_in cur place) { weaks = set (object_in cur place).weaks slot value })
     → new ≡ cleared_in f old place (slot + 1)
 part_more f old cur new place slot was value inside field is there given made =
     let now : object_in cur place ≡ cleared_part f slot (object_in old place) = part_at f old cur place slot inside is in
-    let weaks : (object_in cur place).weaks ≡ map f (take slot (object_in old place).weaks) ++ drop slot (object_in old place).weaks = ap (λ (x : Object). x.weaks) now in
-    let read : was ≡ get_or (object_in cur place).weaks slot was = sym (get_or_from_slice_get (object_in cur place).weaks slot was was there) in
-    let more : set (object_in cur place).weaks slot (f was) ≡ map f (take (slot + 1) (object_in old place).weaks) ++ drop (slot + 1) (object_in old place).weaks = map_over_more f (object_in old place).weaks (object_in cur place).weaks slot was field weaks read in
-    let changed : record (object_in cur place) { weaks = set (object_in cur place).weaks slot value } ≡ cleared_part f (slot + 1) (object_in old place) =
-    same_but (object_in cur place) (object_in old place) (ap (λ (x : Object). x.pointers) now) (ap (λ (x : Object). x.values) now) (ap (λ (v : Option ℕ). set (object_in cur place).weaks slot v) given ∙ more) in
-    made ∙ ap (λ (x : Object). set cur place x) changed ∙ ap (λ (xs : List Object). set xs place (cleared_part f (slot + 1) (object_in old place))) is
+    let weaks : (object_in cur place).weaks ≡ map f (take slot (object_in old place).weaks) ++ drop slot (object_in old place).weaks =
+    ap (λ (x : Object). x.weaks) now in
+    let read : was ≡ get_or (object_in cur place).weaks slot was =
+    sym (get_or_from_slice_get (object_in cur place).weaks slot was was there) in
+    let more : set (object_in cur place).weaks slot (f was) ≡ map f (take (slot + 1) (object_in old place).weaks) ++ drop (slot + 1)
+    (object_in old place).weaks = map_over_more f (object_in old place).weaks (object_in cur place).weaks slot was field weaks read in
+    let changed : record (object_in cur place) { weaks = set (object_in cur place).weaks slot value } ≡ cleared_part f (slot + 1)
+    (object_in old place) =
+    same_but (object_in cur place) (object_in old place) (ap (λ (x : Object). x.pointers) now) (ap (λ (x : Object). x.values) now)
+    (ap (λ (v : Option ℕ). set (object_in cur place).weaks slot v) given ∙ more) in
+    made ∙ ap (λ (x : Object). set cur place x) changed
+    ∙ ap (λ (xs : List Object). set xs place (cleared_part f (slot + 1) (object_in old place))) is
     ∙ set-set old place (cleared_part f slot (object_in old place)) (cleared_part f (slot + 1) (object_in old place))
   where
-    same_but : (x y : Object) {u v : List (Option ℕ)} → x.pointers ≡ y.pointers → x.values ≡ y.values → u ≡ v → ◌≡◌ {A = Object} (record x { weaks = u }) (record y { weaks = v })
+    same_but : (x y : Object) {u v : List (Option ℕ)} → x.pointers ≡ y.pointers → x.values ≡ y.values → u ≡ v
+        → ◌≡◌ {A = Object} (record x { weaks = u }) (record y { weaks = v })
     same_but x y a b c = cc
 
 -- all slots
-pub part_all : (f : Option ℕ → Option ℕ) (old cur : List Object) (place slot : ℕ) → length (object_in old place).weaks ≤ slot → cur ≡ cleared_in f old place slot → cur ≡ set old place (record (object_in old place) { weaks = map f (object_in old place).weaks })
-part_all f old cur place slot le is = is ∙ ap (λ (ws : List (Option ℕ)). set old place (record (object_in old place) { weaks = ws })) (all (object_in old place).weaks slot le)
+pub part_all : (f : Option ℕ → Option ℕ) (old cur : List Object) (place slot : ℕ) → length (object_in old place).weaks ≤ slot
+    → cur ≡ cleared_in f old place slot → cur ≡ set old place (record (object_in old place) { weaks = map f (object_in old place).weaks })
+part_all f old cur place slot le is = is ∙ ap (λ (ws : List (Option ℕ)). set old place (record (object_in old place) { weaks = ws }))
+    (all (object_in old place).weaks slot le)
   where
     all : (ws : List (Option ℕ)) (n : ℕ) → length ws ≤ n → map f (take n ws) ++ drop n ws ≡ map f ws
     all [] zero le = refl
@@ -67,13 +84,16 @@ part_all f old cur place slot le is = is ∙ ap (λ (ws : List (Option ℕ)). se
     all (w ∷ ws) (suc n) le = ap (λ (vs : List (Option ℕ)). f w ∷ vs) (all ws n (omega arith))
 
 -- one object more
-pub object_more : (f : Object → Object) (old cur new : List Object) (place : ℕ) → place < length old → place < length cur → cur ≡ map f (take place old) ++ drop place old → new ≡ set cur place (f (object_in cur place))
+pub object_more : (f : Object → Object) (old cur new : List Object) (place : ℕ) → place < length old → place < length cur
+    → cur ≡ map f (take place old) ++ drop place old → new ≡ set cur place (f (object_in cur place))
     → new ≡ map f (take (place + 1) old) ++ drop (place + 1) old
 object_more f old cur new place inside there is made =
-    let read : object_in cur place ≡ get_or cur place (object_in cur place) = sym (get_or_from_slice_get cur place (object_in cur place) (object_in cur place) (slice_get-get_or cur place _ there)) in
+    let read : object_in cur place ≡ get_or cur place (object_in cur place) =
+    sym (get_or_from_slice_get cur place (object_in cur place) (object_in cur place) (slice_get-get_or cur place _ there)) in
     made ∙ map_over_more f old cur place (object_in cur place) inside is read
 
-pub objects_length : (f : Object → Object) (old cur : List Object) (place : ℕ) → cur ≡ map f (take place old) ++ drop place old → length cur ≡ length old
+pub objects_length : (f : Object → Object) (old cur : List Object) (place : ℕ) → cur ≡ map f (take place old) ++ drop place old
+    → length cur ≡ length old
 objects_length f old cur place is = ap length is ∙ by_length old place
   where
     by_length : (xs : List Object) (n : ℕ) → length (map f (take n xs) ++ drop n xs) ≡ length xs

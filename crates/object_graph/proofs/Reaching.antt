@@ -1,6 +1,8 @@
 -- The search for reachable names: what is flagged is reachable, each flagged place is looked at or waits, and in the end
 -- nothing waits.
-use Rattle.std.proofs.Common.{◌≡◌, ℕ, zero, suc, ◌+◌, ◌-◌, ◌<◌, ◌≤◌, ◌⊎◌, Bool, true, false, cond, List, ◌∷◌, [], ◌++◌, length, take, Option, Some, None, Result, Ok, Err, refl, sym, ap, ◌∙◌, subst, inl, inr, arith}
+use Rattle.std.proofs.Common.{◌≡◌, ◌+◌, ◌-◌, ◌<◌, ◌≤◌, ◌⊎◌, ◌∷◌, ◌++◌, ◌∙◌}
+use Rattle.std.proofs.Common.{ℕ, zero, suc, Bool, true, false, cond, List, [], length, take, Option, Some, None, Result, Ok, Err, refl, sym}
+use Rattle.std.proofs.Common.{ap, subst, inl, inr, arith}
 use Rattle.std.specs.Prelude.{slice_get, slice_set, slice_index_or, replicate, reverse, IfOk}
 use Rattle.std.proofs.Math.Dec.{leb}
 use Rattle.std.proofs.lemmas.Bool.{cases_lt, cases_eq, leb-true, leb-false, le-leb}
@@ -9,7 +11,8 @@ use Rattle.heap_model.specs.Graph.{Graph, Object, object_named, next_name, IsRea
 use Rattle.heap_model.specs.Weak.{AreReached, Clears, cleared_graph}
 use Rattle.heap_model.proofs.Cleared.{cleared_by}
 use Rattle.std.proofs.lemmas.List.{reverse-append, reverse-reverse}
-use Rattle.heap_model.proofs.Lists.{get_kept-set, get-set_same, get-set_other, get-push_last, get-push_cases, get-append_cases, get-append_left, get-append_right, length-set, length-push}
+use Rattle.heap_model.proofs.Lists.{get_kept-set, get-set_same, get-set_other, get-push_last, get-push_cases, get-append_cases}
+use Rattle.heap_model.proofs.Lists.{get-append_left, get-append_right, length-set, length-push}
 use Rattle.heap_model.proofs.Changed.{named_at, at_least}
 use Rattle.object_graph.specs.State.{State, AtRoot, AtField, IsNameOf, HoldsNames, IsEarlier, ForSnapshot, IsSoundState}
 use Rattle.object_graph.specs.Run.{ClearsBy}
@@ -61,7 +64,8 @@ IsWaiting queue i p = (k : ℕ) × (i ≤ k) × (slice_get queue k ≡ Some p)
 
 -- every pointer of the object in a place is flagged
 abbrev pub IsLookedAt : Graph → List Bool → ℕ → Type 0
-IsLookedAt g flags p = (x : Object) (j n : ℕ) → slice_get g.objects p ≡ Some x → slice_get x.pointers j ≡ Some (Some n) → IsOn g.first_name flags n
+IsLookedAt g flags p = (x : Object) (j n : ℕ) → slice_get g.objects p ≡ Some x → slice_get x.pointers j ≡ Some (Some n)
+    → IsOn g.first_name flags n
 
 -- the search has looked at the first i places of its queue
 pub record Grows (g : Graph) (s : Search) (i : ℕ) : Type 0 where
@@ -101,7 +105,8 @@ keeps_set s p e q f = elim (get_kept-set s.flags p q true true f) [
   | inr k ↦ k
 ]
 
-set_grows : (g : Graph) (s : Search) (i p : ℕ) → Grows g s i → slice_get s.flags p ≡ Some false → IsReachable g (g.first_name + p) → Grows g (set_at s p) i
+set_grows : (g : Graph) (s : Search) (i p : ℕ) → Grows g s i → slice_get s.flags p ≡ Some false → IsReachable g (g.first_name + p)
+    → Grows g (set_at s p) i
 set_grows g s i p k e r =
     let at = k.at in
     let more = length-push s.queue p in
@@ -115,7 +120,11 @@ set_grows g s i p k e r =
         | inr ne ↦ k.only q (sym (get-set_other s.flags p q true (λ b. ne (sym b))) ∙ f)
       ];
       waits = λ q f. elim (cases_eq q p) [
-        | inl same ↦ inr (length s.queue, at, subst (λ a. slice_get (s.queue ++ p ∷ []) (length s.queue) ≡ Some a) (sym same) (get-push_last s.queue p))
+        | inl same ↦ inr (
+          length s.queue,
+          at,
+          subst (λ a. slice_get (s.queue ++ p ∷ []) (length s.queue) ≡ Some a) (sym same) (get-push_last s.queue p),
+        )
         | inr ne ↦ elim (k.waits q (sym (get-set_other s.flags p q true (λ b. ne (sym b))) ∙ f)) [
           | inl done ↦ inl (λ x j n at is. ((done x j n at is).0, keeps_set s p e (n - g.first_name) (done x j n at is).1))
           | inr w ↦ inr (w.0, w.1, get-append_left s.queue (p ∷ []) w.0 q w.2)
@@ -132,11 +141,13 @@ pub record Finds (g : Graph) (s t : Search) (i : ℕ) : Type 0 where
   pub grows : Grows g t i
   pub keeps : Keeps s t
 
-find_place : (g : Graph) (s : Search) (i p : ℕ) (f : Option Bool) → slice_get s.flags p ≡ f → p < length s.flags → Grows g s i → IsReachable g (g.first_name + p)
+find_place : (g : Graph) (s : Search) (i p : ℕ) (f : Option Bool) → slice_get s.flags p ≡ f → p < length s.flags → Grows g s i
+    → IsReachable g (g.first_name + p)
     → Finds g s (flagged_at s p f) i × (slice_get (flagged_at s p f).flags p ≡ Some true)
 find_place g s i p None e k grows r = let there = there_is s.flags p k in let e1 = there.1 in absurd cc
 find_place g s i p (Some true) e k grows r = (record { grows = grows; keeps = λ q f. f }, e)
-find_place g s i p (Some false) e k grows r = (record { grows = set_grows g s i p grows e r; keeps = keeps_set s p e }, get-set_same s.flags p true false e)
+find_place g s i p (Some false) e k grows r =
+    (record { grows = set_grows g s i p grows e r; keeps = keeps_set s p e }, get-set_same s.flags p true false e)
 
 find_on : (g : Graph) (s : Search) (i n : ℕ) (b : Bool) → leb s.first_name n ≡ b → IsNameOf g n → Grows g s i → IsReachable g n
     → Finds g s (cond b (flagged_at s (n - s.first_name) (slice_get s.flags (n - s.first_name))) s) i
@@ -149,10 +160,18 @@ find_on g s i n true e name grows r =
     let high = name.1 in
     let here : g.first_name + (n - s.first_name) ≡ n = omega arith in
     let there : n - s.first_name < length s.flags = omega arith in
-    let found = find_place g s i (n - s.first_name) (slice_get s.flags (n - s.first_name)) refl there grows (subst (IsReachable g) (sym here) r) in
-    (found.0, (low, subst (λ a. slice_get (flagged_at s (n - s.first_name) (slice_get s.flags (n - s.first_name))).flags (n - a) ≡ Some true) f found.1))
+    let found = find_place g s i (n - s.first_name) (slice_get s.flags (n - s.first_name)) refl there grows
+    (subst (IsReachable g) (sym here) r) in (
+      found.0,
+      (
+        low,
+        subst (λ a. slice_get (flagged_at s (n - s.first_name) (slice_get s.flags (n - s.first_name))).flags
+            (n - a) ≡ Some true) f found.1,
+      ),
+    )
 
-pub find_name : (g : Graph) (s : Search) (i n : ℕ) → IsNameOf g n → Grows g s i → IsReachable g n → Finds g s (found s (Some n)) i × IsOn g.first_name (found s (Some n)).flags n
+pub find_name : (g : Graph) (s : Search) (i n : ℕ) → IsNameOf g n → Grows g s i → IsReachable g n
+    → Finds g s (found s (Some n)) i × IsOn g.first_name (found s (Some n)).flags n
 find_name g s i n name grows r = find_on g s i n (leb s.first_name n) refl name grows r
 
 -- the names of a list are all found
@@ -167,7 +186,8 @@ find_all g s i (None ∷ vs) grows each =
     let rest = find_all g s i vs grows (λ j n e. each (suc j) n e) in
     record { finds = rest.finds; all = λ j n e. later j n e rest }
   where
-    later : (j n : ℕ) → slice_get (None ∷ vs) j ≡ Some (Some n) → FindsAll g s (all_found s vs) i vs → IsOn g.first_name (all_found s vs).flags n
+    later : (j n : ℕ) → slice_get (None ∷ vs) j ≡ Some (Some n) → FindsAll g s (all_found s vs) i vs
+        → IsOn g.first_name (all_found s vs).flags n
     later zero n e rest = cc
     later (suc j) n e rest = rest.all j n e
 find_all g s i (Some a ∷ vs) grows each =
@@ -180,20 +200,25 @@ find_all g s i (Some a ∷ vs) grows each =
   where
     later : (j n : ℕ) → slice_get (Some a ∷ vs) j ≡ Some (Some n) → IsOn g.first_name (found s (Some a)).flags a
         → FindsAll g (found s (Some a)) (all_found (found s (Some a)) vs) i vs → IsOn g.first_name (all_found (found s (Some a)) vs).flags n
-    later zero n e on rest = let same : a ≡ n = cc in subst (IsOn g.first_name (all_found (found s (Some a)) vs).flags) same (on.0, rest.finds.keeps (a - g.first_name) on.1)
+    later zero n e on rest = let same : a ≡ n = cc in
+        subst (IsOn g.first_name (all_found (found s (Some a)) vs).flags) same (on.0, rest.finds.keeps (a - g.first_name) on.1)
     later (suc j) n e on rest = rest.all j n e
 
 -- what the pointers of a flagged place's object name
-place_name : (g : Graph) → HoldsNames g → (s : Search) (i p : ℕ) (x : Object) → Grows g s i → slice_get s.flags p ≡ Some true → slice_get g.objects p ≡ Some x
+place_name : (g : Graph) → HoldsNames g → (s : Search) (i p : ℕ) (x : Object) → Grows g s i → slice_get s.flags p ≡ Some true
+    → slice_get g.objects p ≡ Some x
     → (j n : ℕ) → slice_get x.pointers j ≡ Some (Some n) → IsNameOf g n × IsReachable g n
 place_name g holds s i p x grows on at j n e =
     let low : g.first_name ≤ g.first_name + p = omega arith in
     let same : g.first_name + p - g.first_name ≡ p = omega arith in
-    let named : object_named g (g.first_name + p) ≡ Some x = named_at g (g.first_name + p) low ∙ ap (slice_get g.objects) same ∙ at in
-    (holds n (AtField p j x at (get-append_left x.pointers x.weaks j (Some n) e)), FromObject (g.first_name + p) n j x (grows.only p on) named e)
+    let named : object_named g (g.first_name + p) ≡ Some x = named_at g (g.first_name + p) low ∙ ap (slice_get g.objects) same ∙ at in (
+      holds n (AtField p j x at (get-append_left x.pointers x.weaks j (Some n) e)),
+      FromObject (g.first_name + p) n j x (grows.only p on) named e,
+    )
 
 -- a look at the i-th place of the queue
-pub look_grows : (g : Graph) → HoldsNames g → (s : Search) (i p : ℕ) (x : Object) → Grows g s i → slice_get s.queue i ≡ Some p → slice_get g.objects p ≡ Some x
+pub look_grows : (g : Graph) → HoldsNames g → (s : Search) (i p : ℕ) (x : Object) → Grows g s i → slice_get s.queue i ≡ Some p
+    → slice_get g.objects p ≡ Some x
     → Grows g (all_found s x.pointers) (suc i)
 look_grows g holds s i p x grows next at =
     let on = grows.queued i p next in
@@ -204,32 +229,39 @@ look_grows g holds s i p x grows next at =
       size = after.size;
       count = after.count;
       only = after.only;
-      at = (let bound = get_in s.queue i p next in let q = prefix_kept s x.pointers i p next in get_in (all_found s x.pointers).queue i p q);
+      at = (let bound = get_in s.queue i p next in let q = prefix_kept s x.pointers i p next in
+          get_in (all_found s x.pointers).queue i p q);
       waits = λ q f. elim (after.waits q f) [
         | inl d ↦ inl d
         | inr w ↦ elim (cases_eq w.0 i) [
           | inl same ↦
-              let here : q ≡ p = (let e1 = w.2 in let e2 = prefix_kept s x.pointers i p next in let e3 = ap (slice_get (all_found s x.pointers).queue) same in let e4 : Some q ≡ Some p = sym e1 ∙ e3 ∙ e2 in cc) in
-              inl (λ y j n aty is. done.all j n (let e5 : slice_get g.objects p ≡ Some y = ap (slice_get g.objects) (sym here) ∙ aty in let e6 : y ≡ x = cc in ap (λ (z : Object). slice_get z.pointers j) (sym e6) ∙ is))
+              let here : q ≡ p = (let e1 = w.2 in let e2 = prefix_kept s x.pointers i p next in
+              let e3 = ap (slice_get (all_found s x.pointers).queue) same in let e4 : Some q ≡ Some p = sym e1 ∙ e3 ∙ e2 in cc) in
+              inl (λ y j n aty is. done.all j n
+              (let e5 : slice_get g.objects p ≡ Some y = ap (slice_get g.objects) (sym here) ∙ aty in let e6 : y ≡ x = cc in
+              ap (λ (z : Object). slice_get z.pointers j) (sym e6) ∙ is))
           | inr ne ↦ inr (w.0, (let low = w.1 in omega arith), w.2)
         ]
       ];
       queued = after.queued;
     }
   where
-    flagged_kept : (s : Search) (p : ℕ) (f : Option Bool) (k q : ℕ) → slice_get s.queue k ≡ Some q → slice_get (flagged_at s p f).queue k ≡ Some q
+    flagged_kept : (s : Search) (p : ℕ) (f : Option Bool) (k q : ℕ) → slice_get s.queue k ≡ Some q
+        → slice_get (flagged_at s p f).queue k ≡ Some q
     flagged_kept s p None k q e = e
     flagged_kept s p (Some true) k q e = e
     flagged_kept s p (Some false) k q e = get-append_left s.queue (p ∷ []) k q e
 
-    on_kept : (s : Search) (p : ℕ) (f : Option Bool) (b : Bool) (k q : ℕ) → slice_get s.queue k ≡ Some q → slice_get (cond b (flagged_at s p f) s).queue k ≡ Some q
+    on_kept : (s : Search) (p : ℕ) (f : Option Bool) (b : Bool) (k q : ℕ) → slice_get s.queue k ≡ Some q
+        → slice_get (cond b (flagged_at s p f) s).queue k ≡ Some q
     on_kept s p f true k q e = flagged_kept s p f k q e
     on_kept s p f false k q e = e
 
     prefix_kept : (s : Search) (vs : List (Option ℕ)) (k q : ℕ) → slice_get s.queue k ≡ Some q → slice_get (all_found s vs).queue k ≡ Some q
     prefix_kept s [] k q e = e
     prefix_kept s (None ∷ vs) k q e = prefix_kept s vs k q e
-    prefix_kept s (Some n ∷ vs) k q e = prefix_kept (found s (Some n)) vs k q (on_kept s (n - s.first_name) (slice_get s.flags (n - s.first_name)) (leb s.first_name n) k q e)
+    prefix_kept s (Some n ∷ vs) k q e = prefix_kept (found s (Some n)) vs k q
+        (on_kept s (n - s.first_name) (slice_get s.flags (n - s.first_name)) (leb s.first_name n) k q e)
 
 -- after i looks: all of them were at places of the queue, or the queue ended before
 pub record Looked (g : Graph) (s : Search) (i : ℕ) : Type 0 where
@@ -240,7 +272,8 @@ pub record Looked (g : Graph) (s : Search) (i : ℕ) : Type 0 where
 pub looked_begins : (g : Graph) (s : Search) → Grows g s 0 → Looked g s 0
 looked_begins g s grows = record { to = 0; grows = grows; why = inl refl }
 
-pub looked_on : (g : Graph) → HoldsNames g → (s : Search) (i p : ℕ) (x : Object) → Looked g s i → slice_get s.queue i ≡ Some p → slice_get g.objects p ≡ Some x → Looked g (all_found s x.pointers) (suc i)
+pub looked_on : (g : Graph) → HoldsNames g → (s : Search) (i p : ℕ) (x : Object) → Looked g s i → slice_get s.queue i ≡ Some p
+    → slice_get g.objects p ≡ Some x → Looked g (all_found s x.pointers) (suc i)
 looked_on g holds s i p x l next at = elim l.why [
   | inl same ↦ record { to = suc i; grows = look_grows g holds s i p x (subst (Grows g s) same l.grows) next at; why = inl refl }
   | inr past ↦ absurd (let k = get_in s.queue i p next in let a = past.0 in let b = past.1 in omega arith)
@@ -248,7 +281,10 @@ looked_on g holds s i p x l next at = elim l.why [
 
 pub looked_past : (g : Graph) (s : Search) (i : ℕ) → Looked g s i → slice_get s.queue i ≡ None → Looked g s (suc i)
 looked_past g s i l none =
-    let past : length s.queue ≤ i = elim (cases_lt i (length s.queue)) [ inl k ↦ (let t = there_is s.queue i k in let e = t.1 in absurd cc) | inr k ↦ k ] in
+    let past : length s.queue ≤ i = elim (cases_lt i (length s.queue)) [
+      | inl k ↦ (let t = there_is s.queue i k in let e = t.1 in absurd cc)
+      | inr k ↦ k
+    ] in
     let at = l.grows.at in
     elim l.why [
       | inl same ↦ record { to = l.to; grows = l.grows; why = inr ((omega arith), (omega arith)) }
@@ -256,7 +292,8 @@ looked_past g s i l none =
     ]
 
 -- after as many looks as there are objects, nothing waits
-pub looked_all : (g : Graph) (s : Search) → Looked g s (length g.objects) → (p : ℕ) → slice_get s.flags p ≡ Some true → IsLookedAt g s.flags p
+pub looked_all : (g : Graph) (s : Search) → Looked g s (length g.objects) → (p : ℕ) → slice_get s.flags p ≡ Some true
+    → IsLookedAt g s.flags p
 looked_all g s l p e =
     let bound = count_bound s.flags in
     let count = l.grows.count in
@@ -283,7 +320,8 @@ flag_on first flags n e = flag_cases (leb first n) refl e
     flag_cases false q e = cc
 
 -- so the flags tell what is reachable
-pub flags_reached : (g : Graph) (s : Search) → Looked g s (length g.objects) → ((j n : ℕ) → slice_get g.roots j ≡ Some (Some n) → IsOn g.first_name s.flags n) → AreReached g (flag_of g.first_name s.flags)
+pub flags_reached : (g : Graph) (s : Search) → Looked g s (length g.objects)
+    → ((j n : ℕ) → slice_get g.roots j ≡ Some (Some n) → IsOn g.first_name s.flags n) → AreReached g (flag_of g.first_name s.flags)
 flags_reached g s l roots = record {
   roots = λ j n e. on_flag g.first_name s.flags n (roots j n e);
   pointers = λ m n i o fm named e.
@@ -322,7 +360,8 @@ looked_keeps s objects (Some p) q on = inside (slice_get objects p)
     inside None = on
     inside (Some x) = all_keeps s x.pointers q on
 
-looked_by : (g : Graph) → HoldsNames g → (s : Search) (i : ℕ) → Looked g s i → (o : Option ℕ) → slice_get s.queue i ≡ o → Looked g (looked_at s g.objects o) (suc i)
+looked_by : (g : Graph) → HoldsNames g → (s : Search) (i : ℕ) → Looked g s i → (o : Option ℕ) → slice_get s.queue i ≡ o
+    → Looked g (looked_at s g.objects o) (suc i)
 looked_by g holds s i l None e = looked_past g s i l e
 looked_by g holds s i l (Some p) e = inside (slice_get g.objects p) refl
   where
@@ -336,17 +375,20 @@ looked_by g holds s i l (Some p) e = inside (slice_get g.objects p) refl
 
 searched_looked : (g : Graph) → HoldsNames g → (s : Search) → Looked g s 0 → (k : ℕ) → Looked g (searched s g.objects k) k
 searched_looked g holds s l zero = l
-searched_looked g holds s l (suc k) = looked_by g holds (searched s g.objects k) k (searched_looked g holds s l k) (slice_get (searched s g.objects k).queue k) refl
+searched_looked g holds s l (suc k) = looked_by g holds (searched s g.objects k) k (searched_looked g holds s l k)
+    (slice_get (searched s g.objects k).queue k) refl
 
 searched_keeps : (s : Search) (objects : List Object) (k : ℕ) → Keeps s (searched s objects k)
 searched_keeps s objects zero q on = on
-searched_keeps s objects (suc k) q on = looked_keeps (searched s objects k) objects (slice_get (searched s objects k).queue k) q (searched_keeps s objects k q on)
+searched_keeps s objects (suc k) q on = looked_keeps (searched s objects k) objects (slice_get (searched s objects k).queue k) q
+    (searched_keeps s objects k q on)
 
 -- behind the queue's end no look changes anything
 none_looked : (s : Search) (objects : List Object) (i : ℕ) → length s.queue ≤ i → looked s objects i ≡ s
 none_looked s objects i past = ap (λ (place : Option ℕ). looked_at s objects place) (slice_get_past s.queue i past)
 
-pub searched_past : (s : Search) (objects : List Object) (i k : ℕ) → i ≤ k → length (searched s objects i).queue ≤ i → searched s objects k ≡ searched s objects i
+pub searched_past : (s : Search) (objects : List Object) (i k : ℕ) → i ≤ k → length (searched s objects i).queue ≤ i
+    → searched s objects k ≡ searched s objects i
 searched_past s objects i zero within past = let e : 0 ≡ i = omega arith in ap (λ (n : ℕ). searched s objects n) e
 searched_past s objects i (suc k) within past = elim (cases_lt k i) [
   | inl low ↦ (let e : suc k ≡ i = omega arith in ap (λ (n : ℕ). searched s objects n) e)
@@ -359,7 +401,8 @@ searched_past s objects i (suc k) within past = elim (cases_lt k i) [
 in_reverse : (ts : List (Option ℕ)) (j : ℕ) (v : Option ℕ) → slice_get (reverse ts) j ≡ Some v → (i : ℕ) × (slice_get ts i ≡ Some v)
 in_reverse [] j v e = cc
 in_reverse (t ∷ ts) j v e =
-    let f : slice_get (reverse ts ++ t ∷ []) j ≡ Some v = ap (λ (l : List (Option ℕ)). slice_get l j) (sym (reverse-append (t ∷ []) ts)) ∙ e in
+    let f : slice_get (reverse ts ++ t ∷ []) j ≡ Some v =
+    ap (λ (l : List (Option ℕ)). slice_get l j) (sym (reverse-append (t ∷ []) ts)) ∙ e in
     elim (get-push_cases (reverse ts) t v j f) [
       | inl q ↦ (let r = in_reverse ts j v q in (suc r.0, r.1))
       | inr q ↦ (0, ap Some (sym q.1))
@@ -372,7 +415,8 @@ of_reverse ts j v e = in_reverse (reverse ts) j v (ap (λ (l : List (Option ℕ)
 search_reached : (g : Graph) (ts : List (Option ℕ)) (flags : List Bool) → HoldsNames (record g { roots = reverse ts ++ g.roots })
     → flags ≡ (searched (all_found (all_found (started g) ts) g.roots) g.objects (length g.objects)).flags
     → AreReached (record g { roots = reverse ts ++ g.roots }) (flag_of g.first_name flags)
-search_reached g ts flags holds is = subst (λ (l : List Bool). AreReached s (flag_of g.first_name l)) (sym is) (flags_reached s last (searched_looked s holds second (looked_begins s second rest.finds.grows) (length g.objects)) roots_on)
+search_reached g ts flags holds is = subst (λ (l : List Bool). AreReached s (flag_of g.first_name l)) (sym is)
+    (flags_reached s last (searched_looked s holds second (looked_begins s second rest.finds.grows) (length g.objects)) roots_on)
   where
     s : Graph
     s = record g { roots = reverse ts ++ g.roots }
@@ -381,13 +425,15 @@ search_reached g ts flags holds is = subst (λ (l : List Bool). AreReached s (fl
     from_root j n e = (holds n (AtRoot j e), FromRoot j n e)
 
     some : FindsAll s (started g) (all_found (started g) ts) 0 ts
-    some = find_all s (started g) 0 ts (begins s) (λ j n e. let r = of_reverse ts j (Some n) e in from_root r.0 n (get-append_left (reverse ts) g.roots r.0 (Some n) r.1))
+    some = find_all s (started g) 0 ts (begins s)
+        (λ j n e. let r = of_reverse ts j (Some n) e in from_root r.0 n (get-append_left (reverse ts) g.roots r.0 (Some n) r.1))
 
     second : Search
     second = all_found (all_found (started g) ts) g.roots
 
     rest : FindsAll s (all_found (started g) ts) second 0 g.roots
-    rest = find_all s (all_found (started g) ts) 0 g.roots some.finds.grows (λ j n e. let r = get-append_right (reverse ts) g.roots j (Some n) e in from_root r.0 n r.1)
+    rest = find_all s (all_found (started g) ts) 0 g.roots some.finds.grows
+        (λ j n e. let r = get-append_right (reverse ts) g.roots j (Some n) e in from_root r.0 n r.1)
 
     last : Search
     last = searched second g.objects (length g.objects)
@@ -397,37 +443,53 @@ search_reached g ts flags holds is = subst (λ (l : List Bool). AreReached s (fl
 
     roots_on : (j n : ℕ) → slice_get s.roots j ≡ Some (Some n) → IsOn g.first_name last.flags n
     roots_on j n e = elim (get-append_cases (reverse ts) g.roots j (Some n) e) [
-      | inl q ↦ (let r = in_reverse ts j (Some n) q in let on = some.all r.0 n r.1 in on_last n (on.0, rest.finds.keeps (n - g.first_name) on.1))
+      | inl q ↦ (let r = in_reverse ts j (Some n) q in let on = some.all r.0 n r.1 in
+          on_last n (on.0, rest.finds.keeps (n - g.first_name) on.1))
       | inr q ↦ on_last n (rest.all q.0 n q.1)
     ]
 
-pub view_reached : (g view : Graph) (ts : List (Option ℕ)) (flags : List Bool) → record g { roots = reverse ts ++ g.roots } ≡ view → HoldsNames view
-    → flags ≡ (searched (all_found (all_found (started g) ts) g.roots) g.objects (length g.objects)).flags → AreReached view (flag_of view.first_name flags)
-view_reached g view ts flags same holds is = subst (λ (v : Graph). AreReached v (flag_of v.first_name flags)) same (search_reached g ts flags (subst HoldsNames (sym same) holds) is)
+pub view_reached : (g view : Graph) (ts : List (Option ℕ)) (flags : List Bool) → record g { roots = reverse ts ++ g.roots } ≡ view
+    → HoldsNames view
+    → flags ≡ (searched (all_found (all_found (started g) ts) g.roots) g.objects (length g.objects)).flags
+    → AreReached view (flag_of view.first_name flags)
+view_reached g view ts flags same holds is =
+    subst (λ (v : Graph). AreReached v (flag_of v.first_name flags)) same (search_reached g ts flags (subst HoldsNames (sym same) holds) is)
 
 -- the loop over a list of names
-found_upto : (s : Search) (vs : List (Option ℕ)) (i : ℕ) (t u : Search) → i < length vs → t ≡ all_found s (take i vs) → u ≡ found t (slice_index_or vs i None) → u ≡ all_found s (take (suc i) vs)
+found_upto : (s : Search) (vs : List (Option ℕ)) (i : ℕ) (t u : Search) → i < length vs → t ≡ all_found s (take i vs)
+    → u ≡ found t (slice_index_or vs i None) → u ≡ all_found s (take (suc i) vs)
 found_upto s [] i t u k e f = absurd (omega arith)
 found_upto s (v ∷ vs) zero t u k e f = f ∙ ap (λ (x : Search). found x v) e
 found_upto s (v ∷ vs) (suc i) t u k e f = found_upto (found s v) vs i t u (omega arith) e f
 
-pub found_more : (s : Search) (vs : List (Option ℕ)) (i : ℕ) (t u : Search) → i < length vs → t ≡ all_found s (take i vs) → u ≡ found t (slice_index_or vs i None) → u ≡ all_found s (take (i + 1) vs)
-found_more s vs i t u k e f = let next : suc i ≡ i + 1 = omega arith in subst (λ (j : ℕ). u ≡ all_found s (take j vs)) next (found_upto s vs i t u k e f)
+pub found_more : (s : Search) (vs : List (Option ℕ)) (i : ℕ) (t u : Search) → i < length vs → t ≡ all_found s (take i vs)
+    → u ≡ found t (slice_index_or vs i None) → u ≡ all_found s (take (i + 1) vs)
+found_more s vs i t u k e f = let next : suc i ≡ i + 1 = omega arith in
+    subst (λ (j : ℕ). u ≡ all_found s (take j vs)) next (found_upto s vs i t u k e f)
 
 -- clearing by such flags is what the end of marking does
-pub cleared_by_flags : (st : State) (s g new : Graph) (flags : List Bool) (limit : ℕ) → IsSoundState st → st.snapshot ≡ Some s → g ≡ st.graph
-    → AreReached s (flag_of s.first_name flags) → limit ≡ next_name s → new ≡ cleared_graph (flag_of g.first_name flags) limit g → ClearsBy st.snapshot st.graph new
+pub cleared_by_flags : (st : State) (s g new : Graph) (flags : List Bool) (limit : ℕ) → IsSoundState st → st.snapshot ≡ Some s
+    → g ≡ st.graph
+    → AreReached s (flag_of s.first_name flags) → limit ≡ next_name s → new ≡ cleared_graph (flag_of g.first_name flags) limit g
+    → ClearsBy st.snapshot st.graph new
 cleared_by_flags st s g new flags limit sound is same reached l e =
-    let earlier : ForSnapshot (Some s) (λ t. IsEarlier t st.graph) = subst (λ (o : Option Graph). ForSnapshot o (λ t. IsEarlier t st.graph)) is sound.snapshot in
-    let clears : Clears s g (cleared_graph (flag_of s.first_name flags) (next_name s) g) = cleared_by s (flag_of s.first_name flags) reached g in
+    let earlier : ForSnapshot (Some s) (λ t. IsEarlier t st.graph) =
+    subst (λ (o : Option Graph). ForSnapshot o (λ t. IsEarlier t st.graph)) is sound.snapshot in
+    let clears : Clears s g (cleared_graph (flag_of s.first_name flags) (next_name s) g) =
+    cleared_by s (flag_of s.first_name flags) reached g in
     let first : s.first_name ≡ g.first_name = earlier.first_name ∙ ap (λ (x : Graph). x.first_name) (sym same) in
-    let there : Clears s g new = subst (Clears s g) (sym (e ∙ ap (λ (k : ℕ). cleared_graph (flag_of g.first_name flags) k g) l ∙ ap (λ (k : ℕ). cleared_graph (flag_of k flags) (next_name s) g) (sym first))) clears in
+    let there : Clears s g new = subst (Clears s g)
+    (sym (e ∙ ap (λ (k : ℕ). cleared_graph (flag_of g.first_name flags) k g) l
+    ∙ ap (λ (k : ℕ). cleared_graph (flag_of k flags) (next_name s) g) (sym first))) clears in
     subst (λ (o : Option Graph). ClearsBy o st.graph new) (sym is) (subst (λ (x : Graph). Clears s x new) same there)
 
 -- the same of what a call answered
-pub if_reached : {V E : Type 0} (r : Result V E) (items : V → List Bool) (g view : Graph) (ts others : List (Option ℕ)) → record g { roots = reverse ts ++ g.roots } ≡ view → HoldsNames view → others ≡ ts
+pub if_reached : {V E : Type 0} (r : Result V E) (items : V → List Bool) (g view : Graph) (ts others : List (Option ℕ))
+    → record g { roots = reverse ts ++ g.roots } ≡ view → HoldsNames view → others ≡ ts
     → IfOk r (λ v. items v ≡ (searched (all_found (all_found (started g) others) g.roots) g.objects (length g.objects)).flags)
     → IfOk r (λ v. AreReached view (flag_of view.first_name (items v)))
 if_reached (Ok v) items g view ts others same holds given is =
-    view_reached g view ts (items v) same holds (is ∙ ap (λ (l : List (Option ℕ)). (searched (all_found (all_found (started g) l) g.roots) g.objects (length g.objects)).flags) given)
+    view_reached g view ts (items v) same holds
+    (is ∙ ap (λ (l : List (Option ℕ)).
+    (searched (all_found (all_found (started g) l) g.roots) g.objects (length g.objects)).flags) given)
 if_reached (Err e) items g view ts others same holds given is = tt

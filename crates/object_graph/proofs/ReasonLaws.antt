@@ -1,5 +1,7 @@
 -- What the graph gives for a step, and what a judge tells of an event.
-use Rattle.std.proofs.Common.{◌≡◌, ◌↔◌, ◌⊎◌, ℕ, ◌+◌, ◌-◌, ◌<◌, ◌++◌, Option, Some, None, List, [], ◌∷◌, take, length, get_or, slice_get, Result, Ok, Err, refl, sym, ap, ◌∙◌, subst, inl, inr, arith}
+use Rattle.std.proofs.Common.{◌≡◌, ◌↔◌, ◌⊎◌, ◌+◌, ◌-◌, ◌<◌, ◌++◌, ◌∷◌, ◌∙◌}
+use Rattle.std.proofs.Common.{ℕ, Option, Some, None, List, [], take, length, get_or, slice_get, Result, Ok, Err, refl, sym, ap, subst, inl}
+use Rattle.std.proofs.Common.{inr, arith}
 use Rattle.std.specs.Prelude.{nat_lt, ◌==◌, ◌^◌, IfOk}
 use Rattle.std.proofs.lemmas.List.{take_more}
 use Rattle.std.proofs.lemmas.Option.{slice_get-get_or}
@@ -68,7 +70,8 @@ next_named g m (actions.Weaks object) n new h = absurd new
 next_named g m (actions.Scope from) n new h = absurd new
 
 -- the name of the object that is made is given
-pub object_given : (g : Graph) (m : ℕ) (a : Action) (n : ℕ) → IsNew a → replies.Named (Some n) ≡ (act g m a).0 → IsGiven g (steps.Mutator (record { mutator = m; action = a })) (givens.Object n)
+pub object_given : (g : Graph) (m : ℕ) (a : Action) (n : ℕ) → IsNew a → replies.Named (Some n) ≡ (act g m a).0
+    → IsGiven g (steps.Mutator (record { mutator = m; action = a })) (givens.Object n)
 object_given g m a n new h =
     let e = next_named g m a n new h in
     (e, (new, sym h ∙ ap (λ (k : ℕ). replies.Named (Some k)) e))
@@ -79,7 +82,8 @@ pub reply_given : (g : Graph) (m : ℕ) (a : Action) (r : Reply) → r ≡ (act 
 reply_given g m a r h other = (h, λ creates. other creates.0 (next_name g) (h ∙ creates.1))
 
 -- a mutator's step may not have another reply than the graph's, unless the heap may be full
-pub not_served : (old after : State) (o : Op) (r given : Reply) → given ≡ reply_of old.graph o → (given ≡ r → ⊥) → (r ≡ replies.Refused refusals.Full → Creates old.graph o → ⊥) → Happens old (steps.Mutator o) r after → ⊥
+pub not_served : (old after : State) (o : Op) (r given : Reply) → given ≡ reply_of old.graph o → (given ≡ r → ⊥)
+    → (r ≡ replies.Refused refusals.Full → Creates old.graph o → ⊥) → Happens old (steps.Mutator o) r after → ⊥
 not_served old after o r given is other full (inl h) = other (is ∙ sym (ap (λ (out : Outcome). out.0) h.0))
 not_served old after o r given is other full (inr h) = full h.1 h.0
 
@@ -88,7 +92,8 @@ pub given_same : (g h : Graph) (k : Step) (given : Given) → g ≡ h → IsGive
 given_same g h k given e is = subst (λ (x : Graph). IsGiven x k given) e is
 
 -- the judge's state took the event, or tells why not: so of the machine that it stands for
-pub takes_next : (old new : Judging) (es : List Event) (e : Event) (told : Option Given) → new.config ≡ old.config → HasTaken old es → SparingTakes old.state e.step e.reply new.state told → TakesNext old new es e told
+pub takes_next : (old new : Judging) (es : List Event) (e : Event) (told : Option Given) → new.config ≡ old.config → HasTaken old es
+    → SparingTakes old.state e.step e.reply new.state told → TakesNext old new es e told
 takes_next old new es e None same taken h =
     let st = taken.0 in
     let first = first_state old.config in
@@ -121,22 +126,29 @@ found_judged first es (findings.Refused n e given) h =
       within = omega arith;
       before = h.2.before;
       run = h.2.run;
-      stops = λ f at after happens. (let there = h.1 in let q : f ≡ e = cc in h.2.stops after (subst (λ (x : Event). EventHappens h.2.before x after) q happens));
+      stops = λ f at after happens. (let there = h.1 in let q : f ≡ e = cc in
+          h.2.stops after (subst (λ (x : Event). EventHappens h.2.before x after) q happens));
     }
 
 -- weak slots can be cleared by any snapshot
 cleared_there : (st : State) (o : Option Graph) → st.snapshot ≡ o → IsSoundState st → (h : Graph) × ClearsBy st.snapshot st.graph h
 cleared_there st None is sound = (st.graph, subst (λ (o : Option Graph). ClearsBy o st.graph st.graph) (sym is) refl)
 cleared_there st (Some s) is sound =
-    let earlier : ForSnapshot (Some s) (λ t. IsEarlier t st.graph) = subst (λ (o : Option Graph). ForSnapshot o (λ t. IsEarlier t st.graph)) is sound.snapshot in
+    let earlier : ForSnapshot (Some s) (λ t. IsEarlier t st.graph) =
+    subst (λ (o : Option Graph). ForSnapshot o (λ t. IsEarlier t st.graph)) is sound.snapshot in
     let flags = (searched (all_found (all_found (started s) []) s.roots) s.objects (length s.objects)).flags in
-    let reached = view_reached s s [] flags refl earlier.holds refl in
-    (cleared_graph (flag_of st.graph.first_name flags) (next_name s) st.graph, cleared_by_flags st s st.graph _ flags (next_name s) sound is refl reached refl refl)
+    let reached = view_reached s s [] flags refl earlier.holds refl in (
+      cleared_graph (flag_of st.graph.first_name flags) (next_name s) st.graph,
+      cleared_by_flags st s st.graph _ flags (next_name s) sound is refl reached refl refl,
+    )
 
 -- some state follows a step of the collector
 collected : (old : State) (k : CollectorStep) (r : Reply) → IsSoundState old → (new : State) × Collects old k r new
 collected old k r sound = elim (kind k r) [
-  | inl t ↦ (record { graph = old.graph; snapshot = Some old.graph }, (t.0 old (record { graph = old.graph; snapshot = Some old.graph })).1 refl)
+  | inl t ↦ (
+    record { graph = old.graph; snapshot = Some old.graph },
+    (t.0 old (record { graph = old.graph; snapshot = Some old.graph })).1 refl,
+  )
   | inr u ↦ elim u [
     | inl g ↦ (let h = cleared_there old old.snapshot refl sound in
         let next : State = record { graph = h.0; snapshot = None } in
@@ -147,11 +159,14 @@ collected old k r sound = elim (kind k r) [
 
 -- some state follows a mutator's step with the graph's reply
 served : (old : State) (o : Op) (r : Reply) → r ≡ reply_of old.graph o → (new : State) × Happens old (steps.Mutator o) r new
-served old o r is =
-    (record { graph = (outcome_of old.graph o).1; snapshot = snapshot_after old.snapshot o.action r }, inl (ap (λ (x : Reply). (x, (outcome_of old.graph o).1)) is, refl))
+served old o r is = (
+  record { graph = (outcome_of old.graph o).1; snapshot = snapshot_after old.snapshot o.action r },
+  inl (ap (λ (x : Reply). (x, (outcome_of old.graph o).1)) is, refl),
+)
 
 -- the replies that may stand are those with which some state may follow
-pub may_stand : (old : State) (k : Step) (given : Given) (r : Reply) → IsSoundState old → IsGiven old.graph k given → ((new : State) × Happens old k r new) ↔ MayStand given r
+pub may_stand : (old : State) (k : Step) (given : Given) (r : Reply) → IsSoundState old → IsGiven old.graph k given
+    → ((new : State) × Happens old k r new) ↔ MayStand given r
 may_stand old (steps.Mutator o) (givens.Reply g) r sound is = (λ n. here n.0 n.1, λ e. served old o r (e ∙ is.0))
   where
     here : (new : State) → Happens old (steps.Mutator o) r new → r ≡ g
@@ -183,13 +198,16 @@ op_of c (actors.Refiner i) (steps.Mutator o) h = absurd h
 op_of c a (steps.Collector k) h = tt
 
 -- so in a judge's state
-pub op_taken : (j : Judging) (es : List Event) (e : Event) → HasTaken j es → IsEvent j.config e → ForMutator e.step (IsOpAt j.state.graph.places)
+pub op_taken : (j : Judging) (es : List Event) (e : Event) → HasTaken j es → IsEvent j.config e
+    → ForMutator e.step (IsOpAt j.state.graph.places)
 op_taken j es e taken known =
-    let same : j.state.graph.places ≡ places_of j.config = ap (λ (g : Graph). g.places) taken.2.graph ∙ run_places es (first_state j.config) taken.0 taken.1 in
+    let same : j.state.graph.places ≡ places_of j.config =
+    ap (λ (g : Graph). g.places) taken.2.graph ∙ run_places es (first_state j.config) taken.0 taken.1 in
     subst (λ (p : Places). ForMutator e.step (IsOpAt p)) (sym same) (op_of j.config e.actor e.step known)
 
 -- a judge that took the first i events and one more took the first i + 1
-pub taken_more : (j : Judging) (es seen : List Event) (i : ℕ) (e : Event) → seen ≡ es → i < length seen → e ≡ get_or seen i e → HasTaken j (take i es ++ e ∷ []) → HasTaken j (take (i + 1) es)
+pub taken_more : (j : Judging) (es seen : List Event) (i : ℕ) (e : Event) → seen ≡ es → i < length seen → e ≡ get_or seen i e
+    → HasTaken j (take i es ++ e ∷ []) → HasTaken j (take (i + 1) es)
 taken_more j es seen i e same lt is taken =
     let inside : i < length es = rw (← same) lt in
     let there : e ≡ get_or es i e = rw (← same) is in
@@ -197,7 +215,8 @@ taken_more j es seen i e same lt is taken =
     subst (λ (xs : List Event). HasTaken j xs) (sym more) taken
 
 -- what is found where the judge tells of the event behind the first i
-pub found_there : (first : State) (es seen : List Event) (i : ℕ) (e : Event) (given : Given) → seen ≡ es → i < length seen → e ≡ get_or seen i e → Refuses first (take i es) e given
+pub found_there : (first : State) (es seen : List Event) (i : ℕ) (e : Event) (given : Given) → seen ≡ es → i < length seen
+    → e ≡ get_or seen i e → Refuses first (take i es) e given
     → Finds first es (findings.Refused (i + 1) e given)
 found_there first es seen i e given same lt is refuses =
     let back : i + 1 - 1 ≡ i = omega arith in
@@ -205,7 +224,10 @@ found_there first es seen i e given same lt is refuses =
     (omega arith, ap (slice_get es) back ∙ there, subst (λ (k : ℕ). Refuses first (take k es) e given) (sym back) refuses)
 
 -- so of what a call answered
-pub takes_told : {E : Type 0} (r : Result (Option Given) E) (old new : Judging) (e : Event) (before : State) → new.config ≡ old.config → before ≡ old.state
-    → IfOk r (SparingTakes before e.step e.reply new.state) → IfOk r (λ told. (es : List Event) → HasTaken old es → TakesNext old new es e told)
-takes_told (Ok told) old new e before same is h = λ es taken. takes_next old new es e told same taken (subst (λ (st : State). SparingTakes st e.step e.reply new.state told) is h)
+pub takes_told : {E : Type 0} (r : Result (Option Given) E) (old new : Judging) (e : Event) (before : State) → new.config ≡ old.config
+    → before ≡ old.state
+    → IfOk r (SparingTakes before e.step e.reply new.state)
+    → IfOk r (λ told. (es : List Event) → HasTaken old es → TakesNext old new es e told)
+takes_told (Ok told) old new e before same is h =
+    λ es taken. takes_next old new es e told same taken (subst (λ (st : State). SparingTakes st e.step e.reply new.state told) is h)
 takes_told (Err f) old new e before same is h = tt

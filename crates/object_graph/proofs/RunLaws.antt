@@ -1,5 +1,6 @@
 -- How a run goes on.
-use Rattle.std.proofs.Common.{◌≡◌, ℕ, zero, suc, ◌+◌, ◌-◌, ◌<◌, Some, slice_get, arith, List, [], ◌∷◌, ◌++◌, length, take, get_or, refl, sym, ap, ◌∙◌, subst}
+use Rattle.std.proofs.Common.{◌≡◌, ◌+◌, ◌-◌, ◌<◌, ◌∷◌, ◌++◌, ◌∙◌}
+use Rattle.std.proofs.Common.{ℕ, zero, suc, Some, slice_get, arith, List, [], length, take, get_or, refl, sym, ap, subst}
 use Rattle.std.proofs.lemmas.List.{take_more}
 use Rattle.std.proofs.lemmas.Option.{slice_get-get_or}
 use Rattle.object_graph.specs.State.{State}
@@ -11,12 +12,14 @@ use Rattle.heap_steps.specs.declared.step.Step.TheVariants as steps
 use Rattle.heap_steps.specs.declared.step.Reply.TheVariants as replies
 
 -- a run goes on by one event
-pub IsRun-more : (first : State) (es : List Event) (mid : State) (e : Event) (last : State) → IsRun first es mid → EventHappens mid e last → IsRun first (es ++ e ∷ []) last
+pub IsRun-more : (first : State) (es : List Event) (mid : State) (e : Event) (last : State) → IsRun first es mid → EventHappens mid e last
+    → IsRun first (es ++ e ∷ []) last
 IsRun-more first [] mid e last run next = (last, subst (λ (g : State). EventHappens g e last) run next, refl)
 IsRun-more first (x ∷ es) mid e last run next = (run.0, run.1, IsRun-more run.0 es mid e last run.2 next)
 
 -- the run of the first i events goes on by the next one
-pub IsRun-step : (first : State) (es : List Event) (i : ℕ) (e : Event) (mid last : State) → i < length es → e ≡ get_or es i e → IsRun first (take i es) mid → EventHappens mid e last → IsRun first (take (i + 1) es) last
+pub IsRun-step : (first : State) (es : List Event) (i : ℕ) (e : Event) (mid last : State) → i < length es → e ≡ get_or es i e
+    → IsRun first (take i es) mid → EventHappens mid e last → IsRun first (take (i + 1) es) last
 IsRun-step first es i e mid last lt is run next =
     let more : take (i + 1) es ≡ take i es ++ e ∷ [] = take_more es i e lt ∙ ap (λ (x : Event). take i es ++ x ∷ []) (sym is) in
     rw more (IsRun-more first (take i es) mid e last run next)
@@ -39,11 +42,13 @@ pub event_there : (es : List Event) (i : ℕ) → i < length es → event_in es 
 event_there es i inside = read_again es i _ _ inside
 
 -- the same as a step, where the events were read from a slice
-pub IsRun-read : (first : State) (es seen : List Event) (i : ℕ) (e : Event) (mid last : State) → seen ≡ es → i < length seen → e ≡ get_or seen i e → IsRun first (take i es) mid → EventHappens mid e last → IsRun first (take (i + 1) es) last
+pub IsRun-read : (first : State) (es seen : List Event) (i : ℕ) (e : Event) (mid last : State) → seen ≡ es → i < length seen
+    → e ≡ get_or seen i e → IsRun first (take i es) mid → EventHappens mid e last → IsRun first (take (i + 1) es) last
 IsRun-read first es seen i e mid last same lt is run next = IsRun-step first es i e mid last (rw (← same) lt) (rw (← same) is) run next
 
 -- the run of the first i events breaks at the next one, where nothing goes on with it
-pub breaks_at : (first : State) (es seen : List Event) (i : ℕ) (e : Event) (mid : State) → seen ≡ es → i < length seen → e ≡ get_or seen i e → IsRun first (take i es) mid
+pub breaks_at : (first : State) (es seen : List Event) (i : ℕ) (e : Event) (mid : State) → seen ≡ es → i < length seen
+    → e ≡ get_or seen i e → IsRun first (take i es) mid
     → ((after : State) → EventHappens mid e after → ⊥) → BreaksAt first es (i + 1)
 breaks_at first es seen i e mid same lt is run stuck =
     let back : i + 1 - 1 ≡ i = omega arith in

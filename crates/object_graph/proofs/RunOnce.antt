@@ -1,5 +1,6 @@
 -- A run has one outcome, so no record is both a run and broken.
-use Rattle.std.proofs.Common.{◌≡◌, ℕ, zero, suc, ◌-◌, ◌<◌, inl, inr, List, [], ◌∷◌, length, take, slice_get, Option, Some, None, refl, sym, ap, subst, ◌∙◌, arith}
+use Rattle.std.proofs.Common.{◌≡◌, ◌-◌, ◌<◌, ◌∷◌, ◌∙◌}
+use Rattle.std.proofs.Common.{ℕ, zero, suc, inl, inr, List, [], length, take, slice_get, Option, Some, None, refl, sym, ap, subst, arith}
 use Rattle.heap_model.specs.Graph.{Graph}
 use Rattle.heap_model.proofs.Cleared.{clears_once}
 use Rattle.object_graph.specs.State.{State}
@@ -15,7 +16,8 @@ use Rattle.heap_steps.specs.declared.step.Reply.TheVariants as replies
 use Rattle.object_graph.proofs.Collected.{kind}
 use Rattle.heap_steps.specs.declared.step.Refusal.TheVariants as refusals
 
-not_both : (old : State) (g : Graph) (o : Op) (reply : Reply) → (reply, g) ≡ outcome_of old.graph o → Creates old.graph o → reply ≡ replies.Refused refusals.Full → ⊥
+not_both : (old : State) (g : Graph) (o : Op) (reply : Reply) → (reply, g) ≡ outcome_of old.graph o → Creates old.graph o
+    → reply ≡ replies.Refused refusals.Full → ⊥
 not_both old g o reply given creates full =
     let named : reply ≡ (outcome_of old.graph o).0 = ap (λ (x : Outcome). x.0) given in
     let bad = sym full ∙ named ∙ creates.1 in cc bad
@@ -25,7 +27,8 @@ state_of g s = record { graph = g; snapshot = s }
 
 pub same_state : (a b : State) → a.graph ≡ b.graph → a.snapshot ≡ b.snapshot → a ≡ b
 unfolding state_of
-same_state a b g s = let e : state_of a.graph a.snapshot ≡ state_of b.graph b.snapshot = ap (λ (x : Graph). state_of x a.snapshot) g ∙ ap (λ (t : Option Graph). state_of b.graph t) s in e
+same_state a b g s = let e : state_of a.graph a.snapshot ≡ state_of b.graph b.snapshot =
+    ap (λ (x : Graph). state_of x a.snapshot) g ∙ ap (λ (t : Option Graph). state_of b.graph t) s in e
 
 cleared_once : (s : Option Graph) (g a b : Graph) → ClearsBy s g a → ClearsBy s g b → a ≡ b
 cleared_once None g a b p q = p ∙ sym q
@@ -35,7 +38,8 @@ collected_once : (old a b : State) (k : CollectorStep) (reply : Reply) → Colle
 collected_once old a b k reply p q = elim (kind k reply) [
   | inl t ↦ (t.0 old a).0 p ∙ sym ((t.0 old b).0 q)
   | inr u ↦ elim u [
-    | inl g ↦ (let x = (g.0 old a).0 p in let y = (g.0 old b).0 q in same_state a b (cleared_once old.snapshot old.graph a.graph b.graph x.1 y.1) (x.0 ∙ sym y.0))
+    | inl g ↦ (let x = (g.0 old a).0 p in let y = (g.0 old b).0 q in
+        same_state a b (cleared_once old.snapshot old.graph a.graph b.graph x.1 y.1) (x.0 ∙ sym y.0))
     | inr n ↦ (n.0 old a).0 p ∙ sym ((n.0 old b).0 q)
   ]
 ]
@@ -67,7 +71,14 @@ parts [] k first last lt run = absurd (omega arith)
 parts (e ∷ es) zero first last lt run = record { mid = first; event = e; after = run.0; run = refl; there = refl; happens = run.1 }
 parts (e ∷ es) (suc k) first last lt run =
     let rest = parts es k run.0 last (omega arith) run.2 in
-    record { mid = rest.mid; event = rest.event; after = rest.after; run = (run.0, run.1, rest.run); there = rest.there; happens = rest.happens }
+    record {
+      mid = rest.mid;
+      event = rest.event;
+      after = rest.after;
+      run = (run.0, run.1, rest.run);
+      there = rest.there;
+      happens = rest.happens;
+    }
 
 pub never_both : (first last : State) (es : List Event) (n : ℕ) → IsRun first es last → BreaksAt first es n → ⊥
 never_both first last es n run broken =

@@ -1,16 +1,19 @@
 -- What is since the snapshot stays so at each step: all that a mutator can come by was reachable in the snapshot from a root or a
 -- touched name, or is newer.
-use Rattle.std.proofs.Common.{◌≡◌, ℕ, zero, suc, ◌+◌, ◌-◌, ◌<◌, ◌≤◌, List, ◌∷◌, [], Option, Some, None, refl, sym, ap, ◌∙◌, subst, inl, inr, arith}
+use Rattle.std.proofs.Common.{◌≡◌, ◌+◌, ◌-◌, ◌<◌, ◌≤◌, ◌∷◌, ◌∙◌}
+use Rattle.std.proofs.Common.{ℕ, zero, suc, List, [], Option, Some, None, refl, sym, ap, subst, inl, inr, arith}
 use Rattle.std.specs.Prelude.{slice_get, slice_set, slice_index_or, nat_lt, ◌==◌, ◌^◌}
 use Rattle.std.proofs.lemmas.Bool.{cases_lt, cases_eq}
 use Rattle.heap_words.specs.Sizes.{size_of}
-use Rattle.heap_model.specs.Graph.{Graph, Object, object_named, next_name, IsReachable, FromRoot, FromObject, IsSound, with_root, with_object, with_changed}
+use Rattle.heap_model.specs.Graph.{Graph, Object, object_named, next_name, IsReachable, FromRoot, FromObject, IsSound, with_root}
+use Rattle.heap_model.specs.Graph.{with_object, with_changed}
 use Rattle.heap_model.specs.Weak.{touched, KeepsUnreached, IsClearedSlot, ClearsObject, Clears}
 use Rattle.heap_model.proofs.Lists.{AllZip-get_right, get-set_cases, get-set_other, get-push_cases}
 use Rattle.heap_model.proofs.Cleared.{reach_back}
 use Rattle.heap_model.proofs.Changed.{named_at, at_least}
 use Rattle.heap_model.proofs.Unreached.{touched_cases, touched_next, touched_named, touched_reaches, touched_reached}
-use Rattle.object_graph.specs.State.{State, register_place, with_nil_roots, root_at, AtRoot, AtField, HoldsNames, IsEarlier, ForSnapshot, IsSoundState}
+use Rattle.object_graph.specs.State.{State, register_place, with_nil_roots, root_at, AtRoot, AtField, HoldsNames, IsEarlier, ForSnapshot}
+use Rattle.object_graph.specs.State.{IsSoundState}
 use Rattle.object_graph.specs.Since.{IsKnown, IsSince, IsSinceState}
 use Rattle.object_graph.specs.Sparing.{HoldsKnown}
 use Rattle.object_graph.specs.Machine.{Outcome, refused, on_contents, on_name, on_field, stored, made, act, outcome_of}
@@ -41,7 +44,10 @@ place_named g n x named = sym (named_at g n (at_least g n x named)) ∙ named
 
 touched_objects : (s : Graph) (v : Option ℕ) → (touched s v).objects ≡ s.objects
 touched_objects s None = refl
-touched_objects s (Some n) = elim (touched_cases s n) [ inl c ↦ ap (λ (t : Graph). t.objects) c.0 | inr c ↦ ap (λ (t : Graph). t.objects) c.0 ]
+touched_objects s (Some n) = elim (touched_cases s n) [
+  | inl c ↦ ap (λ (t : Graph). t.objects) c.0
+  | inr c ↦ ap (λ (t : Graph). t.objects) c.0
+]
 
 pub known_on : (s : Graph) (v : Option ℕ) (n : ℕ) → IsKnown s n → IsKnown (touched s v) n
 known_on s v n (inl r) = inl (touched_reaches s v n r)
@@ -58,7 +64,11 @@ touched_known : (s : Graph) (v : Option ℕ) → KnownValue (touched s v) v
 touched_known s None n e = cc
 touched_known s (Some m) n e =
     let same : m ≡ n = cc in
-    subst (IsKnown (touched s (Some m))) same (elim (cases_lt m (next_name s)) [ inl l ↦ inl (touched_reached s m l) | inr l ↦ inr (let q = touched_next s (Some m) in omega arith) ])
+    subst (IsKnown (touched s (Some m))) same
+    (elim (cases_lt m (next_name s)) [
+      | inl l ↦ inl (touched_reached s m l)
+      | inr l ↦ inr (let q = touched_next s (Some m) in omega arith)
+    ])
 
 set_known : (s : Graph) (vs : List (Option ℕ)) (i : ℕ) (v : Option ℕ) → KnownFields s vs → KnownValue s v → KnownFields s (slice_set vs i v)
 set_known s vs i v each value j n e = elim (get-set_cases vs i j v (Some n) e) [ inl q ↦ value n (sym q) | inr q ↦ each j n q ]
@@ -79,9 +89,11 @@ since_root s g j v k value = record { roots = set_known s g.roots j v k.roots va
 
 since_nils : (s g : Graph) (first count : ℕ) → IsSince s g → IsSince s (with_nil_roots g first count)
 since_nils s g first zero k = k
-since_nils s g first (suc count) k = since_root s (with_nil_roots g first count) (first + count) None (since_nils s g first count k) (λ n e. cc)
+since_nils s g first (suc count) k = since_root s (with_nil_roots g first count) (first + count) None (since_nils s g first count k)
+    (λ n e. cc)
 
-since_object : (s g : Graph) (x : Object) (j : ℕ) → IsSince s g → next_name s ≤ next_name g → ((i n : ℕ) → slice_get x.pointers i ≡ Some (Some n) → ⊥) → IsSince s (with_object g x j)
+since_object : (s g : Graph) (x : Object) (j : ℕ) → IsSince s g → next_name s ≤ next_name g
+    → ((i n : ℕ) → slice_get x.pointers i ≡ Some (Some n) → ⊥) → IsSince s (with_object g x j)
 since_object s g x j k later nil = record {
   roots = set_known s g.roots j (Some (next_name g)) k.roots (λ n e. inr (let same : next_name g ≡ n = cc in omega arith));
   pointers = λ p i n y at known e. elim (get-push_cases g.objects x y p at) [
@@ -94,7 +106,8 @@ since_object s g x j k later nil = record {
   ];
 }
 
-since_changed : (s g : Graph) (n : ℕ) (y : Object) → IsSince s g → IsKnown s n → g.first_name ≤ n → KnownFields s y.pointers → IsSince s (with_changed g n y)
+since_changed : (s g : Graph) (n : ℕ) (y : Object) → IsSince s g → IsKnown s n → g.first_name ≤ n → KnownFields s y.pointers
+    → IsSince s (with_changed g n y)
 since_changed s g n y k known low each = record {
   roots = k.roots;
   pointers = λ p i m z at there e. elim (get-set_cases g.objects (n - g.first_name) p y z at) [
@@ -102,7 +115,8 @@ since_changed s g n y k known low each = record {
     | inr q ↦ k.pointers p i m z q there e
   ];
   unreached = λ p z at old. elim (cases_eq p (n - g.first_name)) [
-    | inl q ↦ (let same : n ≡ g.first_name + p = omega arith in elim (subst (IsKnown s) same known) [ inl r ↦ inl r | inr l ↦ absurd (omega arith) ])
+    | inl q ↦ (let same : n ≡ g.first_name + p = omega arith in
+        elim (subst (IsKnown s) same known) [ inl r ↦ inl r | inr l ↦ absurd (omega arith) ])
     | inr ne ↦ k.unreached p z (sym (get-set_other g.objects (n - g.first_name) p y (λ e. ne (sym e))) ∙ at) old
   ];
 }
@@ -114,7 +128,8 @@ since_touched s g v k first = record {
     | inl r ↦ elim (cases_lt (g.first_name + p) (next_name s)) [
       | inl old ↦ elim (k.unreached p x at old) [
         | inl was ↦ known_on s v n (k.pointers p i n x at (inl was) e)
-        | inr same ↦ inl (FromObject (g.first_name + p) n i same.0 r (named p same.0 same.1) (ap (λ (l : List (Option ℕ)). slice_get l i) (sym same.2) ∙ e))
+        | inr same ↦ inl (FromObject (g.first_name + p) n i same.0 r (named p same.0 same.1)
+            (ap (λ (l : List (Option ℕ)). slice_get l i) (sym same.2) ∙ e))
       ]
       | inr new ↦ known_on s v n (k.pointers p i n x at (inr new) e)
     ]
@@ -130,7 +145,8 @@ since_touched s g v k first = record {
     named p x at = touched_named s v (g.first_name + p) ∙ ap (λ (m : ℕ). object_named s (m + p)) (sym first) ∙ named_place s p x at
 
 -- slots of the new graph
-slots_object : (s g : Graph) (x : Object) (j : ℕ) → HoldsKnown s g → ((i n : ℕ) → slice_get x.weaks i ≡ Some (Some n) → ⊥) → HoldsKnown s (with_object g x j)
+slots_object : (s g : Graph) (x : Object) (j : ℕ) → HoldsKnown s g → ((i n : ℕ) → slice_get x.weaks i ≡ Some (Some n) → ⊥)
+    → HoldsKnown s (with_object g x j)
 slots_object s g x j slots nil p i n y at e = elim (get-push_cases g.objects x y p at) [
   | inl q ↦ slots p i n y q e
   | inr q ↦ absurd (nil i n (subst (λ (z : Object). slice_get z.weaks i ≡ Some (Some n)) q.1 e))
@@ -148,7 +164,8 @@ root_read (r ∷ rs) zero n e = ap Some e
 root_read (r ∷ rs) (suc j) n e = root_read rs j n e
 
 -- what is done with the object that a root names
-root_law : (P : Outcome → Type 0) (g : Graph) (o : Option ℕ) (f : ℕ → Object → Outcome) → P (refused g refusals.Nil) → ((n : ℕ) (x : Object) → o ≡ Some n → slice_get g.objects (n - g.first_name) ≡ Some x → P (f n x)) → P (on_name g o f)
+root_law : (P : Outcome → Type 0) (g : Graph) (o : Option ℕ) (f : ℕ → Object → Outcome) → P (refused g refusals.Nil)
+    → ((n : ℕ) (x : Object) → o ≡ Some n → slice_get g.objects (n - g.first_name) ≡ Some x → P (f n x)) → P (on_name g o f)
 root_law P g None f nil each = nil
 root_law P g (Some n) f nil each = contents (slice_get g.objects (n - g.first_name)) (λ x e. each n x refl e)
   where
@@ -167,7 +184,8 @@ module _ (s g : Graph) (k : IsSince s g) (holds : HoldsNames g) (earlier : IsEar
   low : (j n : ℕ) → root_at g j ≡ Some n → g.first_name ≤ n
   low j n e = (holds n (AtRoot j (root_read g.roots j n e))).0
 
-  pointers_known : (j n : ℕ) (x : Object) → root_at g j ≡ Some n → slice_get g.objects (n - g.first_name) ≡ Some x → KnownFields s x.pointers
+  pointers_known : (j n : ℕ) (x : Object) → root_at g j ≡ Some n → slice_get g.objects (n - g.first_name) ≡ Some x
+      → KnownFields s x.pointers
   pointers_known j n x is at i m e =
       let least = low j n is in
       let back : n ≡ g.first_name + (n - g.first_name) = omega arith in
@@ -188,31 +206,64 @@ module _ (s g : Graph) (k : IsSince s g) (holds : HoldsNames g) (earlier : IsEar
 
   act_since : (m : ℕ) (a : Action) → SinceAfter a (act g m a)
   act_since m (actions.New to counts) = made_since m to counts 0
-  act_since m (actions.Get to object i) = root_law (SinceAfter (actions.Get to object i)) g (root_at g (register_place g.places m object.number)) _ k (λ n x is at. field_law (SinceAfter (actions.Get to object i)) g (slice_get x.pointers i) _ k (λ v e. since_root s g (register_place g.places m to.number) v k (λ u q. pointers_known (register_place g.places m object.number) n x is at i u (e ∙ ap Some q))))
-  act_since m (actions.Put object i value) = root_law (SinceAfter (actions.Put object i value)) g (root_at g (register_place g.places m object.number)) _ k (λ n x is at. field_law (SinceAfter (actions.Put object i value)) g (slice_get x.pointers i) _ k (λ v e. changed_since (register_place g.places m object.number) n (record x { pointers = slice_set x.pointers i (stored g m value) }) is (set_known s x.pointers i (stored g m value) (pointers_known (register_place g.places m object.number) n x is at) (stored_known m value))))
-  act_since m (actions.Read object i) = root_law (SinceAfter (actions.Read object i)) g (root_at g (register_place g.places m object.number)) _ k (λ n x is at. field_law (SinceAfter (actions.Read object i)) g (slice_get x.values i) _ k (λ v e. k))
-  act_since m (actions.Write object i value) = root_law (SinceAfter (actions.Write object i value)) g (root_at g (register_place g.places m object.number)) _ k (λ n x is at. field_law (SinceAfter (actions.Write object i value)) g (slice_get x.values i) _ k (λ v e. changed_since (register_place g.places m object.number) n (record x { values = slice_set x.values i value }) is (pointers_known (register_place g.places m object.number) n x is at)))
-  act_since m (actions.Move to from) = since_root s g (register_place g.places m to.number) (root_at g (register_place g.places m from.number)) k (root_known (register_place g.places m from.number))
+  act_since m (actions.Get to object i) = root_law (SinceAfter (actions.Get to object i)) g
+      (root_at g (register_place g.places m object.number)) _ k
+      (λ n x is at. field_law (SinceAfter (actions.Get to object i)) g (slice_get x.pointers i) _ k
+      (λ v e. since_root s g (register_place g.places m to.number) v k
+      (λ u q. pointers_known (register_place g.places m object.number) n x is at i u (e ∙ ap Some q))))
+  act_since m (actions.Put object i value) =
+      root_law (SinceAfter (actions.Put object i value)) g (root_at g (register_place g.places m object.number)) _ k
+      (λ n x is at. field_law (SinceAfter (actions.Put object i value)) g (slice_get x.pointers i) _ k
+      (λ v e. changed_since (register_place g.places m object.number) n
+      (record x { pointers = slice_set x.pointers i (stored g m value) }) is
+      (set_known s x.pointers i (stored g m value) (pointers_known (register_place g.places m object.number) n x is at)
+      (stored_known m value))))
+  act_since m (actions.Read object i) = root_law (SinceAfter (actions.Read object i)) g
+      (root_at g (register_place g.places m object.number)) _ k
+      (λ n x is at. field_law (SinceAfter (actions.Read object i)) g (slice_get x.values i) _ k (λ v e. k))
+  act_since m (actions.Write object i value) =
+      root_law (SinceAfter (actions.Write object i value)) g (root_at g (register_place g.places m object.number)) _ k
+      (λ n x is at. field_law (SinceAfter (actions.Write object i value)) g (slice_get x.values i) _ k
+      (λ v e. changed_since (register_place g.places m object.number) n (record x { values = slice_set x.values i value }) is
+      (pointers_known (register_place g.places m object.number) n x is at)))
+  act_since m (actions.Move to from) = since_root s g (register_place g.places m to.number)
+      (root_at g (register_place g.places m from.number)) k (root_known (register_place g.places m from.number))
   act_since m (actions.Drop register) = since_root s g (register_place g.places m register.number) None k (λ n e. cc)
-  act_since m (actions.Load to from) = since_root s g (register_place g.places m to.number) (root_at g from.number) k (root_known from.number)
-  act_since m (actions.Save to from) = since_root s g to.number (root_at g (register_place g.places m from.number)) k (root_known (register_place g.places m from.number))
-  act_since m (actions.Shape object) = root_law (SinceAfter (actions.Shape object)) g (root_at g (register_place g.places m object.number)) _ k (λ n x is at. k)
+  act_since m (actions.Load to from) = since_root s g (register_place g.places m to.number) (root_at g from.number) k
+      (root_known from.number)
+  act_since m (actions.Save to from) = since_root s g to.number (root_at g (register_place g.places m from.number)) k
+      (root_known (register_place g.places m from.number))
+  act_since m (actions.Shape object) = root_law (SinceAfter (actions.Shape object)) g
+      (root_at g (register_place g.places m object.number)) _ k (λ n x is at. k)
   act_since m (actions.NewWeak to counts weaks) = made_since m to counts weaks
-  act_since m (actions.GetWeak to object i) = root_law (SinceAfter (actions.GetWeak to object i)) g (root_at g (register_place g.places m object.number)) _ k (λ n x is at. field_law (SinceAfter (actions.GetWeak to object i)) g (slice_get x.weaks i) _ k (λ v e. since_root (touched s v) g (register_place g.places m to.number) v (since_touched s g v k earlier.first_name) (touched_known s v)))
-  act_since m (actions.PutWeak object i value) = root_law (SinceAfter (actions.PutWeak object i value)) g (root_at g (register_place g.places m object.number)) _ k (λ n x is at. field_law (SinceAfter (actions.PutWeak object i value)) g (slice_get x.weaks i) _ k (λ v e. changed_since (register_place g.places m object.number) n (record x { weaks = slice_set x.weaks i (stored g m value) }) is (pointers_known (register_place g.places m object.number) n x is at)))
+  act_since m (actions.GetWeak to object i) =
+      root_law (SinceAfter (actions.GetWeak to object i)) g (root_at g (register_place g.places m object.number)) _ k
+      (λ n x is at. field_law (SinceAfter (actions.GetWeak to object i)) g (slice_get x.weaks i) _ k
+      (λ v e. since_root (touched s v) g (register_place g.places m to.number) v (since_touched s g v k earlier.first_name)
+      (touched_known s v)))
+  act_since m (actions.PutWeak object i value) =
+      root_law (SinceAfter (actions.PutWeak object i value)) g (root_at g (register_place g.places m object.number)) _ k
+      (λ n x is at. field_law (SinceAfter (actions.PutWeak object i value)) g (slice_get x.weaks i) _ k
+      (λ v e. changed_since (register_place g.places m object.number) n (record x { weaks = slice_set x.weaks i (stored g m value) }) is
+      (pointers_known (register_place g.places m object.number) n x is at)))
   act_since m (actions.Scope from) = since_nils s g (register_place g.places m from.number) (g.places.registers - from.number) k
-  act_since m (actions.Weaks object) = root_law (SinceAfter (actions.Weaks object)) g (root_at g (register_place g.places m object.number)) _ k (λ n x is at. k)
+  act_since m (actions.Weaks object) = root_law (SinceAfter (actions.Weaks object)) g
+      (root_at g (register_place g.places m object.number)) _ k (λ n x is at. k)
 
   -- weak slots that hold known names alone still do
   module _ (slots : HoldsKnown s g) where
     made_slots : (m : ℕ) (to : Register) (counts : Counts) (weaks : ℕ) → HoldsKnown s (made g m to counts weaks).1
     made_slots m to counts weaks =
-        cond_law (λ out. HoldsKnown s out.1) (nat_lt g.room (size_of counts.pointers weaks counts.values)) (refused g refusals.TooBig) _ slots
+        cond_law (λ out. HoldsKnown s out.1) (nat_lt g.room (size_of counts.pointers weaks counts.values))
+        (refused g refusals.TooBig) _ slots
         (cond_law (λ out. HoldsKnown s out.1) (next_name g == 2 ^ 64 - 1) (refused g refusals.NamesSpent) _ slots
         (slots_object s g _ (register_place g.places m to.number) slots (λ i n e. nils weaks i n e)))
 
-    object_slots : (m : ℕ) (object : Register) (f : ℕ → Object → Outcome) → ((n : ℕ) (x : Object) → KnownFields s x.weaks → HoldsKnown s (f n x).1) → HoldsKnown s (on_name g (root_at g (register_place g.places m object.number)) f).1
-    object_slots m object f each = root_law (λ out. HoldsKnown s out.1) g (root_at g (register_place g.places m object.number)) f slots (λ n x is at. each n x (λ i u e. slots (n - g.first_name) i u x at e))
+    object_slots : (m : ℕ) (object : Register) (f : ℕ → Object → Outcome)
+        → ((n : ℕ) (x : Object) → KnownFields s x.weaks → HoldsKnown s (f n x).1)
+        → HoldsKnown s (on_name g (root_at g (register_place g.places m object.number)) f).1
+    object_slots m object f each = root_law (λ out. HoldsKnown s out.1) g (root_at g (register_place g.places m object.number)) f slots
+        (λ n x is at. each n x (λ i u e. slots (n - g.first_name) i u x at e))
 
     field_slots : {X : Type 0} (o : Option X) (f : X → Outcome) → ((x : X) → HoldsKnown s (f x).1) → HoldsKnown s (on_field g o f).1
     field_slots o f each = field_law (λ out. HoldsKnown s out.1) g o f slots (λ x e. each x)
@@ -220,9 +271,13 @@ module _ (s g : Graph) (k : IsSince s g) (holds : HoldsNames g) (earlier : IsEar
     act_slots : (m : ℕ) (a : Action) → HoldsKnown s (act g m a).1
     act_slots m (actions.New to counts) = made_slots m to counts 0
     act_slots m (actions.Get to object i) = object_slots m object _ (λ n x weaks. field_slots (slice_get x.pointers i) _ (λ v. slots))
-    act_slots m (actions.Put object i value) = object_slots m object _ (λ n x weaks. field_slots (slice_get x.pointers i) _ (λ v. slots_changed s g n (record x { pointers = slice_set x.pointers i (stored g m value) }) slots weaks))
+    act_slots m (actions.Put object i value) =
+        object_slots m object _ (λ n x weaks. field_slots (slice_get x.pointers i) _
+        (λ v. slots_changed s g n (record x { pointers = slice_set x.pointers i (stored g m value) }) slots weaks))
     act_slots m (actions.Read object i) = object_slots m object _ (λ n x weaks. field_slots (slice_get x.values i) _ (λ v. slots))
-    act_slots m (actions.Write object i value) = object_slots m object _ (λ n x weaks. field_slots (slice_get x.values i) _ (λ v. slots_changed s g n (record x { values = slice_set x.values i value }) slots weaks))
+    act_slots m (actions.Write object i value) =
+        object_slots m object _ (λ n x weaks. field_slots (slice_get x.values i) _
+        (λ v. slots_changed s g n (record x { values = slice_set x.values i value }) slots weaks))
     act_slots m (actions.Move to from) = slots
     act_slots m (actions.Drop register) = slots
     act_slots m (actions.Load to from) = slots
@@ -230,7 +285,10 @@ module _ (s g : Graph) (k : IsSince s g) (holds : HoldsNames g) (earlier : IsEar
     act_slots m (actions.Shape object) = object_slots m object _ (λ n x weaks. slots)
     act_slots m (actions.NewWeak to counts weaks) = made_slots m to counts weaks
     act_slots m (actions.GetWeak to object i) = object_slots m object _ (λ n x weaks. field_slots (slice_get x.weaks i) _ (λ v. slots))
-    act_slots m (actions.PutWeak object i value) = object_slots m object _ (λ n x weaks. field_slots (slice_get x.weaks i) _ (λ v. slots_changed s g n (record x { weaks = slice_set x.weaks i (stored g m value) }) slots (set_known s x.weaks i (stored g m value) weaks (stored_known m value))))
+    act_slots m (actions.PutWeak object i value) =
+        object_slots m object _ (λ n x weaks. field_slots (slice_get x.weaks i) _
+        (λ v. slots_changed s g n (record x { weaks = slice_set x.weaks i (stored g m value) }) slots
+        (set_known s x.weaks i (stored g m value) weaks (stored_known m value))))
     act_slots m (actions.Scope from) = slots
     act_slots m (actions.Weaks object) = object_slots m object _ (λ n x weaks. slots)
 
@@ -238,15 +296,19 @@ slots_on : (s g : Graph) (v : Option ℕ) → HoldsKnown s g → HoldsKnown (tou
 slots_on s g v slots p i n x at e = known_on s v n (slots p i n x at e)
 
 -- a mutator's step, with the snapshot that it leaves
-pub op_since : (sn : Option Graph) (g g' : Graph) (o : Op) (r : Reply) → HoldsNames g → ForSnapshot sn (λ s. IsEarlier s g) → ForSnapshot sn (λ s. IsSince s g)
+pub op_since : (sn : Option Graph) (g g' : Graph) (o : Op) (r : Reply) → HoldsNames g → ForSnapshot sn (λ s. IsEarlier s g)
+    → ForSnapshot sn (λ s. IsSince s g)
     → (r, g') ≡ outcome_of g o → ForSnapshot (snapshot_after sn o.action r) (λ s. IsSince s g')
 op_since None g g' o r holds earlier k is = tt
-op_since (Some s) g g' o r holds earlier k is = subst (λ (out : Outcome). ForSnapshot (snapshot_after (Some s) o.action out.0) (λ t. IsSince t out.1)) (sym is) (act_since s g k holds earlier o.mutator o.action)
+op_since (Some s) g g' o r holds earlier k is =
+    subst (λ (out : Outcome). ForSnapshot (snapshot_after (Some s) o.action out.0) (λ t. IsSince t out.1)) (sym is)
+    (act_since s g k holds earlier o.mutator o.action)
 
 pub op_slots : (s g g' : Graph) (o : Op) (r : Reply) → HoldsNames g → IsEarlier s g → IsSince s g → HoldsKnown s g
     → (r, g') ≡ outcome_of g o → ForSnapshot (snapshot_after (Some s) o.action r) (λ t. HoldsKnown t g')
 op_slots s g g' o r holds earlier k slots is =
-    let there : HoldsKnown s g' = subst (λ (out : Outcome). HoldsKnown s out.1) (sym is) (act_slots s g k holds earlier slots o.mutator o.action) in
+    let there : HoldsKnown s g' = subst (λ (out : Outcome). HoldsKnown s out.1) (sym is)
+    (act_slots s g k holds earlier slots o.mutator o.action) in
     after_law (λ t. HoldsKnown t g') s o.action r there (λ v e. slots_on s g' v there)
 
 -- what is reachable now is known
@@ -263,7 +325,8 @@ slot_gone s None w n c e f = cc
 slot_gone s (Some m) (Some l) n c e f = cc
 slot_gone s (Some m) None n c e f = let same : m ≡ n = cc in subst (λ (l : ℕ). (l < next_name s) × (IsReachable s l → ⊥)) same c
 
-pub cleared_unreached : (s g h : Graph) → IsSince s g → Clears s g h → (k i n : ℕ) (x y : Object) → slice_get g.objects k ≡ Some x → slice_get h.objects k ≡ Some y
+pub cleared_unreached : (s g h : Graph) → IsSince s g → Clears s g h → (k i n : ℕ) (x y : Object) → slice_get g.objects k ≡ Some x
+    → slice_get h.objects k ≡ Some y
     → slice_get x.weaks i ≡ Some (Some n) → slice_get y.weaks i ≡ Some None → IsReachable h n → ⊥
 cleared_unreached s g h since clears k i n x y at now held gone r =
     let (x', is, z) = AllZip-get_right (ClearsObject s) g.objects h.objects clears.objects k y now in
@@ -310,7 +373,8 @@ none_since new e = subst (λ (o : Option Graph). ForSnapshot o (λ s. IsSince s 
 
 pub happens_since : (old new : State) (k : Step) (r : Reply) → IsSoundState old → IsSinceState old → Happens old k r new → IsSinceState new
 happens_since old new (steps.Mutator o) r sound since (inl h) =
-    subst (λ (sn : Option Graph). ForSnapshot sn (λ s. IsSince s new.graph)) (sym h.1) (op_since old.snapshot old.graph new.graph o r sound.graph sound.snapshot since h.0)
+    subst (λ (sn : Option Graph). ForSnapshot sn (λ s. IsSince s new.graph)) (sym h.1)
+    (op_since old.snapshot old.graph new.graph o r sound.graph sound.snapshot since h.0)
 happens_since old new (steps.Mutator o) r sound since (inr h) = same_since old new since h.2
 happens_since old new (steps.Collector c) r sound since h = elim (kind c r) [
   | inl t ↦ subst IsSinceState (sym ((t.0 old new).0 h.1)) (since_begins old.graph)
@@ -323,4 +387,5 @@ happens_since old new (steps.Collector c) r sound since h = elim (kind c r) [
 pub run_since : (es : List Event) (first last : State) → IsSoundState first → IsSinceState first → IsRun first es last → IsSinceState last
 run_since [] first last sound since run = same_since first last since run
 run_since (e ∷ es) first last sound since run =
-    run_since es run.0 last (happens_sound first run.0 e.step e.reply sound run.1) (happens_since first run.0 e.step e.reply sound since run.1) run.2
+    run_since es run.0 last (happens_sound first run.0 e.step e.reply sound run.1)
+    (happens_since first run.0 e.step e.reply sound since run.1) run.2

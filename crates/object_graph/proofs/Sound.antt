@@ -1,13 +1,16 @@
 -- Every name that stands in a state's graphs is borne by an object: at the beginning, and after each event.
-use Rattle.std.proofs.Common.{◌≡◌, ℕ, zero, suc, ◌+◌, ◌-◌, ◌<◌, ◌≤◌, List, ◌∷◌, [], ◌++◌, length, Option, Some, None, refl, sym, ap, ◌∙◌, subst, inl, inr, arith}
+use Rattle.std.proofs.Common.{◌≡◌, ◌+◌, ◌-◌, ◌<◌, ◌≤◌, ◌∷◌, ◌++◌, ◌∙◌}
+use Rattle.std.proofs.Common.{ℕ, zero, suc, List, [], length, Option, Some, None, refl, sym, ap, subst, inl, inr, arith}
 use Rattle.std.specs.Prelude.{slice_get, slice_set, slice_index_or, replicate, nat_lt, ◌==◌, ◌^◌}
 use Rattle.heap_words.specs.Sizes.{size_of}
 use Rattle.heap_words.specs.declared.config.Config.{Config}
 use Rattle.heap_model.specs.Graph.{Graph, Object, next_name, object_fields, with_root, with_object, with_changed}
 use Rattle.heap_model.specs.Weak.{touched, IsClearedSlot, ClearsObject, Clears}
-use Rattle.heap_model.proofs.Lists.{AllZip-get_right, AllZip_length, get-set_cases, get-append_cases, get-append_left, get-append_right, get-push_cases, length-set, length-push}
+use Rattle.heap_model.proofs.Lists.{AllZip-get_right, AllZip_length, get-set_cases, get-append_cases, get-append_left, get-append_right}
+use Rattle.heap_model.proofs.Lists.{get-push_cases, length-set, length-push}
 use Rattle.heap_model.proofs.Unreached.{touched_cases}
-use Rattle.object_graph.specs.State.{State, root_places, places_of, register_place, with_nil_roots, root_at, Occurs, AtRoot, AtField, IsNameOf, HoldsNames, IsEarlier, ForSnapshot, IsSoundState, first_graph, first_state}
+use Rattle.object_graph.specs.State.{State, root_places, places_of, register_place, with_nil_roots, root_at, Occurs, AtRoot, AtField}
+use Rattle.object_graph.specs.State.{IsNameOf, HoldsNames, IsEarlier, ForSnapshot, IsSoundState, first_graph, first_state}
 use Rattle.object_graph.specs.Machine.{Outcome, refused, on_contents, on_name, on_field, stored, made, act, outcome_of}
 use Rattle.object_graph.specs.Run.{snapshot_after, ClearsBy, Collects, Happens, IsRun}
 use Rattle.heap_steps.specs.declared.step.Action.{Action}
@@ -46,18 +49,21 @@ stored_value g k m None n e = cc
 stored_value g k m (Some r) n e = root_value g k (register_place g.places m r.number) n e
 
 root_holds : (g : Graph) (j : ℕ) (v : Option ℕ) → HoldsNames g → IsValue g v → HoldsNames (with_root g j v)
-root_holds g j v k value n (AtRoot i e) = elim (get-set_cases g.roots j i v (Some n) e) [ inl q ↦ value n (sym q) | inr q ↦ k n (AtRoot i q) ]
+root_holds g j v k value n (AtRoot i e) = elim
+    (get-set_cases g.roots j i v (Some n) e) [ inl q ↦ value n (sym q) | inr q ↦ k n (AtRoot i q) ]
 root_holds g j v k value n (AtField p i x at e) = k n (AtField p i x at e)
 
 nil_roots_hold : (g : Graph) (first count : ℕ) → HoldsNames g → HoldsNames (with_nil_roots g first count)
 nil_roots_hold g first zero k = k
-nil_roots_hold g first (suc count) k = root_holds (with_nil_roots g first count) (first + count) None (nil_roots_hold g first count k) (λ n e. cc)
+nil_roots_hold g first (suc count) k = root_holds (with_nil_roots g first count) (first + count) None (nil_roots_hold g first count k)
+    (λ n e. cc)
 
 -- fields that hold names of the graph
 abbrev AreValues : Graph → List (Option ℕ) → Type 0
 AreValues g vs = (i n : ℕ) → slice_get vs i ≡ Some (Some n) → IsNameOf g n
 
-object_holds : (g : Graph) (x : Object) (j : ℕ) → HoldsNames g → ((i n : ℕ) → slice_get (object_fields x) i ≡ Some (Some n) → ⊥) → HoldsNames (with_object g x j)
+object_holds : (g : Graph) (x : Object) (j : ℕ) → HoldsNames g → ((i n : ℕ) → slice_get (object_fields x) i ≡ Some (Some n) → ⊥)
+    → HoldsNames (with_object g x j)
 object_holds g x j k nil n o = by_place n o
   where
     more : next_name (with_object g x j) ≡ suc (next_name g)
@@ -77,7 +83,8 @@ object_holds g x j k nil n o = by_place n o
     ]
 
 changed_holds : (g : Graph) (name : ℕ) (y : Object) → HoldsNames g → AreValues g (object_fields y) → HoldsNames (with_changed g name y)
-changed_holds g name y k each n o = more_names g (with_changed g name y) refl (let e = length-set g.objects (name - g.first_name) y in omega arith) n (by_place n o)
+changed_holds g name y k each n o = more_names g (with_changed g name y) refl
+    (let e = length-set g.objects (name - g.first_name) y in omega arith) n (by_place n o)
   where
     by_place : (n : ℕ) → Occurs (with_changed g name y) n → IsNameOf g n
     by_place n (AtRoot i e) = k n (AtRoot i e)
@@ -113,12 +120,14 @@ cleared_holds s g g' c k n o = more_names g g' c.first_name (let e = cleared_nex
 touched_earlier : (s g : Graph) (v : Option ℕ) → IsEarlier s g → IsValue g v → IsEarlier (touched s v) g
 touched_earlier s g None k value = k
 touched_earlier s g (Some a) k value = elim (touched_cases s a) [
-  | inl c ↦ subst (λ (t : Graph). IsEarlier t g) (sym c.0) (record { holds = holds c.1; first_name = k.first_name; next_name = k.next_name })
+  | inl c ↦ subst (λ (t : Graph). IsEarlier t g) (sym c.0)
+      (record { holds = holds c.1; first_name = k.first_name; next_name = k.next_name })
   | inr c ↦ subst (λ (t : Graph). IsEarlier t g) (sym c.0) k
 ]
   where
     first_root : a < next_name s → (j n : ℕ) → slice_get (Some a ∷ s.roots) j ≡ Some (Some n) → IsNameOf s n
-    first_root below zero n e = let same : a ≡ n = cc in let low = (value a refl).0 in let f = k.first_name in ((omega arith), (omega arith))
+    first_root below zero n e = let same : a ≡ n = cc in let low = (value a refl).0 in let f = k.first_name in
+        ((omega arith), (omega arith))
     first_root below (suc j) n e = k.holds n (AtRoot j e)
 
     holds : a < next_name s → HoldsNames (record s { roots = Some a ∷ s.roots })
@@ -131,15 +140,18 @@ get_in (y ∷ xs) zero x e = omega arith
 get_in (y ∷ xs) (suc i) x e = let k = get_in xs i x e in omega arith
 
 -- what a step of a mutator leaves, by its cases
-contents_law : (P : Outcome → Type 0) (g : Graph) (o : Option Object) (f : Object → Outcome) → P (refused g refusals.Nil) → ((x : Object) → o ≡ Some x → P (f x)) → P (on_contents g o f)
+contents_law : (P : Outcome → Type 0) (g : Graph) (o : Option Object) (f : Object → Outcome) → P (refused g refusals.Nil)
+    → ((x : Object) → o ≡ Some x → P (f x)) → P (on_contents g o f)
 contents_law P g None f nil each = nil
 contents_law P g (Some x) f nil each = each x refl
 
-name_law : (P : Outcome → Type 0) (g : Graph) (o : Option ℕ) (f : ℕ → Object → Outcome) → P (refused g refusals.Nil) → ((n : ℕ) (x : Object) → slice_get g.objects (n - g.first_name) ≡ Some x → P (f n x)) → P (on_name g o f)
+name_law : (P : Outcome → Type 0) (g : Graph) (o : Option ℕ) (f : ℕ → Object → Outcome) → P (refused g refusals.Nil)
+    → ((n : ℕ) (x : Object) → slice_get g.objects (n - g.first_name) ≡ Some x → P (f n x)) → P (on_name g o f)
 name_law P g None f nil each = nil
 name_law P g (Some n) f nil each = contents_law P g (slice_get g.objects (n - g.first_name)) (f n) nil (each n)
 
-pub field_law : {X : Type 0} (P : Outcome → Type 0) (g : Graph) (o : Option X) (f : X → Outcome) → P (refused g refusals.NoField) → ((x : X) → o ≡ Some x → P (f x)) → P (on_field g o f)
+pub field_law : {X : Type 0} (P : Outcome → Type 0) (g : Graph) (o : Option X) (f : X → Outcome) → P (refused g refusals.NoField)
+    → ((x : X) → o ≡ Some x → P (f x)) → P (on_field g o f)
 field_law P g None f none each = none
 field_law P g (Some x) f none each = each x refl
 
@@ -156,18 +168,26 @@ nils (suc n) zero k e = cc
 nils (suc n) (suc i) k e = nils n i k e
 
 fresh_fields : (p w i k : ℕ) → slice_get (replicate p None ++ replicate w None) i ≡ Some (Some k) → ⊥
-fresh_fields p w i k e = elim (get-append_cases (replicate p None) (replicate w None) i (Some k) e) [ inl q ↦ nils p i k q | inr q ↦ nils w q.0 k q.1 ]
+fresh_fields p w i k e = elim (get-append_cases (replicate p None) (replicate w None) i (Some k) e) [
+  | inl q ↦ nils p i k q
+  | inr q ↦ nils w q.0 k q.1
+]
 
-fields_set : (g : Graph) (p w : List (Option ℕ)) (i : ℕ) (v : Option ℕ) → AreValues g (p ++ w) → IsValue g v → AreValues g (slice_set p i v ++ w)
+fields_set : (g : Graph) (p w : List (Option ℕ)) (i : ℕ) (v : Option ℕ) → AreValues g (p ++ w) → IsValue g v
+    → AreValues g (slice_set p i v ++ w)
 fields_set g p w i v each value j n e = elim (get-append_cases (slice_set p i v) w j (Some n) e) [
   | inl q ↦ elim (get-set_cases p i j v (Some n) q) [ inl a ↦ value n (sym a) | inr a ↦ each j n (get-append_left p w j (Some n) a) ]
   | inr q ↦ (let t = get-append_right p w q.0 (Some n) q.1 in each t.0 n t.1)
 ]
 
-weaks_set : (g : Graph) (p w : List (Option ℕ)) (i : ℕ) (v : Option ℕ) → AreValues g (p ++ w) → IsValue g v → AreValues g (p ++ slice_set w i v)
+weaks_set : (g : Graph) (p w : List (Option ℕ)) (i : ℕ) (v : Option ℕ) → AreValues g (p ++ w) → IsValue g v
+    → AreValues g (p ++ slice_set w i v)
 weaks_set g p w i v each value j n e = elim (get-append_cases p (slice_set w i v) j (Some n) e) [
   | inl q ↦ each j n (get-append_left p w j (Some n) q)
-  | inr q ↦ elim (get-set_cases w i q.0 v (Some n) q.1) [ inl a ↦ value n (sym a) | inr a ↦ (let t = get-append_right p w q.0 (Some n) a in each t.0 n t.1) ]
+  | inr q ↦ elim (get-set_cases w i q.0 v (Some n) q.1) [
+    | inl a ↦ value n (sym a)
+    | inr a ↦ (let t = get-append_right p w q.0 (Some n) a in each t.0 n t.1)
+  ]
 ]
 
 module _ (g : Graph) (k : HoldsNames g) where
@@ -175,9 +195,15 @@ module _ (g : Graph) (k : HoldsNames g) where
   stays r not = record { holds = k; first_name = refl; next_name = omega arith; replied = λ v e. absurd (not v e) }
 
   rooted : (r : Reply) (j : ℕ) (v : Option ℕ) → IsValue g v → ((u : Option ℕ) → r ≡ replies.Named u → u ≡ v) → Goes g (r, with_root g j v)
-  rooted r j v value same = record { holds = root_holds g j v k value; first_name = refl; next_name = omega arith; replied = λ u e n q. value n (sym (same u e) ∙ q) }
+  rooted r j v value same = record {
+    holds = root_holds g j v k value;
+    first_name = refl;
+    next_name = omega arith;
+    replied = λ u e n q. value n (sym (same u e) ∙ q);
+  }
 
-  added : (x : Object) (j : ℕ) → ((i n : ℕ) → slice_get (object_fields x) i ≡ Some (Some n) → ⊥) → Goes g (replies.Named (Some (next_name g)), with_object g x j)
+  added : (x : Object) (j : ℕ) → ((i n : ℕ) → slice_get (object_fields x) i ≡ Some (Some n) → ⊥)
+      → Goes g (replies.Named (Some (next_name g)), with_object g x j)
   added x j nil =
       let e = length-push g.objects x in
       record {
@@ -195,7 +221,8 @@ module _ (g : Graph) (k : HoldsNames g) where
   values_at : (p : ℕ) (x : Object) → slice_get g.objects p ≡ Some x → AreValues g (object_fields x)
   values_at p x at i n e = k n (AtField p i x at e)
 
-  pointer_value : (p : ℕ) (x : Object) (i : ℕ) (v : Option ℕ) → slice_get g.objects p ≡ Some x → slice_get x.pointers i ≡ Some v → IsValue g v
+  pointer_value : (p : ℕ) (x : Object) (i : ℕ) (v : Option ℕ) → slice_get g.objects p ≡ Some x → slice_get x.pointers i ≡ Some v
+      → IsValue g v
   pointer_value p x i v at e n q = values_at p x at i n (get-append_left x.pointers x.weaks i (Some n) (e ∙ ap Some q))
 
   weak_value : (p : ℕ) (x : Object) (i : ℕ) (v : Option ℕ) → slice_get g.objects p ≡ Some x → slice_get x.weaks i ≡ Some v → IsValue g v
@@ -212,34 +239,62 @@ module _ (g : Graph) (k : HoldsNames g) where
 
   made_goes : (m : ℕ) (to : Register) (counts : Counts) (weaks : ℕ) → Goes g (made g m to counts weaks)
   made_goes m to counts weaks =
-      cond_law (Goes g) (nat_lt g.room (size_of counts.pointers weaks counts.values)) (refused g refusals.TooBig) _ (stays (replies.Refused refusals.TooBig) (λ v e. cc))
-      (cond_law (Goes g) (next_name g == 2 ^ 64 - 1) (refused g refusals.NamesSpent) _ (stays (replies.Refused refusals.NamesSpent) (λ v e. cc))
-      (added (record { pointers = replicate counts.pointers None; weaks = replicate weaks None; values = replicate counts.values 0 }) (register_place g.places m to.number) (λ i n e. fresh_fields counts.pointers weaks i n e)))
+      cond_law (Goes g) (nat_lt g.room (size_of counts.pointers weaks counts.values)) (refused g refusals.TooBig) _
+      (stays (replies.Refused refusals.TooBig) (λ v e. cc))
+      (cond_law (Goes g) (next_name g == 2 ^ 64 - 1) (refused g refusals.NamesSpent) _
+      (stays (replies.Refused refusals.NamesSpent) (λ v e. cc))
+      (added (record { pointers = replicate counts.pointers None; weaks = replicate weaks None; values = replicate counts.values 0 })
+      (register_place g.places m to.number) (λ i n e. fresh_fields counts.pointers weaks i n e)))
 
   act_goes : (m : ℕ) (a : Action) → Goes g (act g m a)
   act_goes m (actions.New to counts) = made_goes m to counts 0
-  act_goes m (actions.Get to object i) = name_law (Goes g) g (root_at g (register_place g.places m object.number)) _ nil_stays (λ n x at. field_law (Goes g) g (slice_get x.pointers i) _ none_stays (λ v e. rooted (replies.Named v) (register_place g.places m to.number) v (pointer_value (n - g.first_name) x i v at e) (λ u q. cc)))
-  act_goes m (actions.Put object i value) = name_law (Goes g) g (root_at g (register_place g.places m object.number)) _ nil_stays (λ n x at. field_law (Goes g) g (slice_get x.pointers i) _ none_stays (λ v e. changed n (record x { pointers = slice_set x.pointers i (stored g m value) }) (fields_set g x.pointers x.weaks i (stored g m value) (values_at (n - g.first_name) x at) (stored_value g k m value))))
-  act_goes m (actions.Read object i) = name_law (Goes g) g (root_at g (register_place g.places m object.number)) _ nil_stays (λ n x at. field_law (Goes g) g (slice_get x.values i) _ none_stays (λ v e. stays (replies.Word v) (λ u q. cc)))
-  act_goes m (actions.Write object i value) = name_law (Goes g) g (root_at g (register_place g.places m object.number)) _ nil_stays (λ n x at. field_law (Goes g) g (slice_get x.values i) _ none_stays (λ v e. changed n (record x { values = slice_set x.values i value }) (values_at (n - g.first_name) x at)))
-  act_goes m (actions.Move to from) = rooted replies.Done (register_place g.places m to.number) (root_at g (register_place g.places m from.number)) (root_value g k (register_place g.places m from.number)) (λ u q. cc)
+  act_goes m (actions.Get to object i) = name_law (Goes g) g (root_at g (register_place g.places m object.number)) _ nil_stays
+      (λ n x at. field_law (Goes g) g (slice_get x.pointers i) _ none_stays
+      (λ v e. rooted (replies.Named v) (register_place g.places m to.number) v (pointer_value (n - g.first_name) x i v at e) (λ u q. cc)))
+  act_goes m (actions.Put object i value) =
+      name_law (Goes g) g (root_at g (register_place g.places m object.number)) _ nil_stays
+      (λ n x at. field_law (Goes g) g (slice_get x.pointers i) _ none_stays
+      (λ v e. changed n (record x { pointers = slice_set x.pointers i (stored g m value) })
+      (fields_set g x.pointers x.weaks i (stored g m value) (values_at (n - g.first_name) x at) (stored_value g k m value))))
+  act_goes m (actions.Read object i) = name_law (Goes g) g (root_at g (register_place g.places m object.number)) _ nil_stays
+      (λ n x at. field_law (Goes g) g (slice_get x.values i) _ none_stays (λ v e. stays (replies.Word v) (λ u q. cc)))
+  act_goes m (actions.Write object i value) =
+      name_law (Goes g) g (root_at g (register_place g.places m object.number)) _ nil_stays
+      (λ n x at. field_law (Goes g) g (slice_get x.values i) _ none_stays
+      (λ v e. changed n (record x { values = slice_set x.values i value }) (values_at (n - g.first_name) x at)))
+  act_goes m (actions.Move to from) = rooted replies.Done (register_place g.places m to.number)
+      (root_at g (register_place g.places m from.number)) (root_value g k (register_place g.places m from.number)) (λ u q. cc)
   act_goes m (actions.Drop register) = rooted replies.Done (register_place g.places m register.number) None (λ n e. cc) (λ u q. cc)
-  act_goes m (actions.Load to from) = rooted (replies.Named (root_at g from.number)) (register_place g.places m to.number) (root_at g from.number) (root_value g k from.number) (λ u q. cc)
-  act_goes m (actions.Save to from) = rooted replies.Done to.number (root_at g (register_place g.places m from.number)) (root_value g k (register_place g.places m from.number)) (λ u q. cc)
-  act_goes m (actions.Shape object) = name_law (Goes g) g (root_at g (register_place g.places m object.number)) _ nil_stays (λ n x at. stays (replies.Shape (length x.pointers) (length x.values)) (λ u q. cc))
+  act_goes m (actions.Load to from) = rooted (replies.Named (root_at g from.number)) (register_place g.places m to.number)
+      (root_at g from.number) (root_value g k from.number) (λ u q. cc)
+  act_goes m (actions.Save to from) = rooted replies.Done to.number (root_at g (register_place g.places m from.number))
+      (root_value g k (register_place g.places m from.number)) (λ u q. cc)
+  act_goes m (actions.Shape object) = name_law (Goes g) g (root_at g (register_place g.places m object.number)) _ nil_stays
+      (λ n x at. stays (replies.Shape (length x.pointers) (length x.values)) (λ u q. cc))
   act_goes m (actions.NewWeak to counts weaks) = made_goes m to counts weaks
-  act_goes m (actions.GetWeak to object i) = name_law (Goes g) g (root_at g (register_place g.places m object.number)) _ nil_stays (λ n x at. field_law (Goes g) g (slice_get x.weaks i) _ none_stays (λ v e. rooted (replies.Named v) (register_place g.places m to.number) v (weak_value (n - g.first_name) x i v at e) (λ u q. cc)))
-  act_goes m (actions.PutWeak object i value) = name_law (Goes g) g (root_at g (register_place g.places m object.number)) _ nil_stays (λ n x at. field_law (Goes g) g (slice_get x.weaks i) _ none_stays (λ v e. changed n (record x { weaks = slice_set x.weaks i (stored g m value) }) (weaks_set g x.pointers x.weaks i (stored g m value) (values_at (n - g.first_name) x at) (stored_value g k m value))))
+  act_goes m (actions.GetWeak to object i) =
+      name_law (Goes g) g (root_at g (register_place g.places m object.number)) _ nil_stays
+      (λ n x at. field_law (Goes g) g (slice_get x.weaks i) _ none_stays
+      (λ v e. rooted (replies.Named v) (register_place g.places m to.number) v (weak_value (n - g.first_name) x i v at e) (λ u q. cc)))
+  act_goes m (actions.PutWeak object i value) =
+      name_law (Goes g) g (root_at g (register_place g.places m object.number)) _ nil_stays
+      (λ n x at. field_law (Goes g) g (slice_get x.weaks i) _ none_stays
+      (λ v e. changed n (record x { weaks = slice_set x.weaks i (stored g m value) })
+      (weaks_set g x.pointers x.weaks i (stored g m value) (values_at (n - g.first_name) x at) (stored_value g k m value))))
   act_goes m (actions.Scope from) = scoped (register_place g.places m from.number) (g.places.registers - from.number)
-  act_goes m (actions.Weaks object) = name_law (Goes g) g (root_at g (register_place g.places m object.number)) _ nil_stays (λ n x at. stays (replies.Word (length x.weaks)) (λ u q. cc))
+  act_goes m (actions.Weaks object) = name_law (Goes g) g (root_at g (register_place g.places m object.number)) _ nil_stays
+      (λ n x at. stays (replies.Word (length x.weaks)) (λ u q. cc))
 
 -- the snapshot stays earlier as the graph goes on
-earlier_on : (s : Option Graph) (g h : Graph) → h.first_name ≡ g.first_name → next_name g ≤ next_name h → ForSnapshot s (λ t. IsEarlier t g) → ForSnapshot s (λ t. IsEarlier t h)
+earlier_on : (s : Option Graph) (g h : Graph) → h.first_name ≡ g.first_name → next_name g ≤ next_name h
+    → ForSnapshot s (λ t. IsEarlier t g) → ForSnapshot s (λ t. IsEarlier t h)
 earlier_on None g h f l k = tt
-earlier_on (Some s) g h f l k = let a = k.next_name in record { holds = k.holds; first_name = k.first_name ∙ sym f; next_name = omega arith }
+earlier_on (Some s) g h f l k = let a = k.next_name in
+    record { holds = k.holds; first_name = k.first_name ∙ sym f; next_name = omega arith }
 
 -- the snapshot after a mutator's step is the one before, or the touched one
-pub after_law : (P : Graph → Type 0) (s : Graph) (a : Action) (r : Reply) → P s → ((v : Option ℕ) → r ≡ replies.Named v → P (touched s v)) → ForSnapshot (snapshot_after (Some s) a r) P
+pub after_law : (P : Graph → Type 0) (s : Graph) (a : Action) (r : Reply) → P s → ((v : Option ℕ) → r ≡ replies.Named v → P (touched s v))
+    → ForSnapshot (snapshot_after (Some s) a r) P
 after_law P s (actions.GetWeak to object i) (replies.Named v) k touch = touch v refl
 after_law P s (actions.GetWeak to object i) replies.Done k touch = k
 after_law P s (actions.GetWeak to object i) (replies.Word w) k touch = k
@@ -264,17 +319,20 @@ after_law P s (actions.PutWeak object i v) r k touch = k
 after_law P s (actions.Scope from) r k touch = k
 after_law P s (actions.Weaks object) r k touch = k
 
-touch_on : (s : Option Graph) (g : Graph) (a : Action) (r : Reply) → ForSnapshot s (λ t. IsEarlier t g) → ((v : Option ℕ) → r ≡ replies.Named v → IsValue g v) → ForSnapshot (snapshot_after s a r) (λ t. IsEarlier t g)
+touch_on : (s : Option Graph) (g : Graph) (a : Action) (r : Reply) → ForSnapshot s (λ t. IsEarlier t g)
+    → ((v : Option ℕ) → r ≡ replies.Named v → IsValue g v) → ForSnapshot (snapshot_after s a r) (λ t. IsEarlier t g)
 touch_on None g a r k value = tt
 touch_on (Some s) g a r k value = after_law (λ t. IsEarlier t g) s a r k (λ v e. touched_earlier s g v k (value v e))
 
-acts_sound : (old new : State) (o : Op) (r : Reply) → IsSoundState old → (r, new.graph) ≡ outcome_of old.graph o → new.snapshot ≡ snapshot_after old.snapshot o.action r → IsSoundState new
+acts_sound : (old new : State) (o : Op) (r : Reply) → IsSoundState old → (r, new.graph) ≡ outcome_of old.graph o
+    → new.snapshot ≡ snapshot_after old.snapshot o.action r → IsSoundState new
 acts_sound old new o r k e s =
     let goes : Goes old.graph (r, new.graph) = subst (Goes old.graph) (sym e) (act_goes old.graph k.graph o.mutator o.action) in
     record {
       graph = goes.holds;
       snapshot = subst (λ (t : Option Graph). ForSnapshot t (λ u. IsEarlier u new.graph)) (sym s)
-          (touch_on old.snapshot new.graph o.action r (earlier_on old.snapshot old.graph new.graph goes.first_name goes.next_name k.snapshot) goes.replied);
+          (touch_on old.snapshot new.graph o.action r
+          (earlier_on old.snapshot old.graph new.graph goes.first_name goes.next_name k.snapshot) goes.replied);
     }
 
 same_sound : (old new : State) → IsSoundState old → new ≡ old → IsSoundState new
@@ -286,7 +344,8 @@ clears_sound (Some s) g h c k = cleared_holds s g h c k
 
 collects_sound : (old new : State) (k : CollectorStep) (r : Reply) → IsSoundState old → Collects old k r new → IsSoundState new
 collects_sound old new k r sound c = elim (kind k r) [
-  | inl t ↦ subst IsSoundState (sym ((t.0 old new).0 c)) (record { graph = sound.graph; snapshot = record { holds = sound.graph; first_name = refl; next_name = omega arith } })
+  | inl t ↦ subst IsSoundState (sym ((t.0 old new).0 c))
+      (record { graph = sound.graph; snapshot = record { holds = sound.graph; first_name = refl; next_name = omega arith } })
   | inr u ↦ elim u [
     | inl g ↦ record {
       graph = clears_sound old.snapshot old.graph new.graph ((g.0 old new).0 c).1 sound.graph;

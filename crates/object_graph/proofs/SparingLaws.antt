@@ -1,5 +1,7 @@
 -- A judge that keeps no snapshot where no object had a weak slot when marking began allows exactly the events of the machine.
-use Rattle.std.proofs.Common.{◌≡◌, ℕ, zero, suc, ◌<◌, Bool, true, false, cond, List, ◌∷◌, [], length, Option, Some, None, refl, sym, ap, ◌∙◌, subst, inl, inr, arith}
+use Rattle.std.proofs.Common.{◌≡◌, ◌<◌, ◌∷◌, ◌∙◌}
+use Rattle.std.proofs.Common.{ℕ, zero, suc, Bool, true, false, cond, List, [], length, Option, Some, None, refl, sym, ap, subst, inl, inr}
+use Rattle.std.proofs.Common.{arith}
 use Rattle.std.specs.Prelude.{slice_get, nat_lt}
 use Rattle.std.specs.List.{AllZip}
 use Rattle.std.proofs.lemmas.Bool.{lt-ltb}
@@ -21,7 +23,8 @@ use Rattle.object_graph.proofs.Sound.{get_in}
 use Rattle.object_graph.proofs.SinceLaws.{op_slots}
 
 -- without weak slots, each holds what you like
-none_slots : (xs : List Object) → have_weaks xs ≡ false → (k i : ℕ) (x : Object) (v : Option ℕ) → slice_get xs k ≡ Some x → slice_get x.weaks i ≡ Some v → ⊥
+none_slots : (xs : List Object) → have_weaks xs ≡ false → (k i : ℕ) (x : Object) (v : Option ℕ) → slice_get xs k ≡ Some x
+    → slice_get x.weaks i ≡ Some v → ⊥
 none_slots [] none k i x v at e = cc
 none_slots (y ∷ xs) none zero i x v at e = by_count (nat_lt 0 (length y.weaks)) refl none
   where
@@ -53,9 +56,13 @@ clears_none s g slots = record {
     words (None ∷ ws) known = (tt, words ws (λ i n e. known (suc i) n e))
     words (Some n ∷ ws) known = ((refl, known 0 n refl), words ws (λ i n e. known (suc i) n e))
 
-    each : (xs : List Object) → ((k i n : ℕ) (x : Object) → slice_get xs k ≡ Some x → slice_get x.weaks i ≡ Some (Some n) → IsKnown s n) → AllZip (ClearsObject s) xs xs
+    each : (xs : List Object) → ((k i n : ℕ) (x : Object) → slice_get xs k ≡ Some x → slice_get x.weaks i ≡ Some (Some n) → IsKnown s n)
+        → AllZip (ClearsObject s) xs xs
     each [] known = tt
-    each (x ∷ xs) known = (record { pointers = refl; weaks = words x.weaks (λ i n e. known 0 i n x refl e); values = refl }, each xs (λ k i n y at e. known (suc k) i n y at e))
+    each (x ∷ xs) known = (
+      record { pointers = refl; weaks = words x.weaks (λ i n e. known 0 i n x refl e); values = refl },
+      each xs (λ k i n y at e. known (suc k) i n y at e),
+    )
 
 spares_same : (g : Graph) (s : Option Graph) → Spares g s s
 spares_same g None = tt
@@ -66,13 +73,16 @@ spares_slots g None k = tt
 spares_slots g (Some s) k = k
 
 -- the snapshots after a mutator's step
-spares_on : (t s : Option Graph) (g g' : Graph) (o : Op) (r : Reply) → HoldsNames g → ForSnapshot s (λ u. IsEarlier u g) → ForSnapshot s (λ u. IsSince u g) → (r, g') ≡ outcome_of g o
+spares_on : (t s : Option Graph) (g g' : Graph) (o : Op) (r : Reply) → HoldsNames g → ForSnapshot s (λ u. IsEarlier u g)
+    → ForSnapshot s (λ u. IsSince u g) → (r, g') ≡ outcome_of g o
     → Spares g t s → Spares g' (snapshot_after t o.action r) (snapshot_after s o.action r)
 spares_on None None g g' o r holds earlier since is k = tt
-spares_on None (Some s) g g' o r holds earlier since is k = spares_slots g' (snapshot_after (Some s) o.action r) (op_slots s g g' o r holds earlier since k is)
+spares_on None (Some s) g g' o r holds earlier since is k =
+    spares_slots g' (snapshot_after (Some s) o.action r) (op_slots s g g' o r holds earlier since k is)
 spares_on (Some t) None g g' o r holds earlier since is k = absurd k
 spares_on (Some t) (Some s) g g' o r holds earlier since is k =
-    subst (λ (u : Graph). Spares g' (snapshot_after (Some u) o.action r) (snapshot_after (Some s) o.action r)) (sym k) (spares_same g' (snapshot_after (Some s) o.action r))
+    subst (λ (u : Graph). Spares g' (snapshot_after (Some u) o.action r) (snapshot_after (Some s) o.action r)) (sym k)
+    (spares_same g' (snapshot_after (Some s) o.action r))
 
 -- the snapshot that is taken
 spares_taken : (g : Graph) → Spares g (kept_snapshot g) (Some g)
@@ -103,20 +113,30 @@ pub record Follows (judge old : State) (k : Step) (r : Reply) (next : State) : T
 stays_so : (judge old next : State) → StandsFor judge old → next ≡ judge → StandsFor next old
 stays_so judge old next stands e = subst (λ (t : State). StandsFor t old) (sym e) stands
 
-collects_follow : (judge old next : State) (c : CollectorStep) (r : Reply) → StandsFor judge old → IsCollectorReply c r → SparingCollects judge c r next → Follows judge old (steps.Collector c) r next
+collects_follow : (judge old next : State) (c : CollectorStep) (r : Reply) → StandsFor judge old → IsCollectorReply c r
+    → SparingCollects judge c r next → Follows judge old (steps.Collector c) r next
 collects_follow judge old next c r stands reply h = elim (kind c r) [
   | inl t ↦ record {
     new = record { graph = old.graph; snapshot = Some old.graph };
     happens = (reply, (t.0 old (record { graph = old.graph; snapshot = Some old.graph })).1 refl);
     stands = subst (λ (u : State). StandsFor u (record { graph = old.graph; snapshot = Some old.graph })) (sym ((t.1 judge next).0 h))
-        (record { graph = stands.graph; snapshot = subst (λ (u : Graph). Spares old.graph (kept_snapshot u) (Some old.graph)) (sym stands.graph) (spares_taken old.graph) });
+        (record {
+          graph = stands.graph;
+          snapshot = subst (λ (u : Graph). Spares old.graph (kept_snapshot u) (Some old.graph))
+              (sym stands.graph) (spares_taken old.graph);
+        });
   }
   | inr u ↦ elim u [
     | inl g ↦ (let gone = (g.1 judge next).0 h in
-        let clears : ClearsBy judge.snapshot old.graph next.graph = subst (λ (u : Graph). ClearsBy judge.snapshot u next.graph) stands.graph gone.1 in
+        let clears : ClearsBy judge.snapshot old.graph next.graph =
+        subst (λ (u : Graph). ClearsBy judge.snapshot u next.graph) stands.graph gone.1 in
         record {
           new = record { graph = next.graph; snapshot = None };
-          happens = (reply, (g.0 old (record { graph = next.graph; snapshot = None })).1 (refl, cleared_back judge.snapshot old.snapshot old.graph next.graph stands.snapshot clears));
+          happens = (
+            reply,
+            (g.0 old (record { graph = next.graph; snapshot = None })).1
+                (refl, cleared_back judge.snapshot old.snapshot old.graph next.graph stands.snapshot clears),
+          );
           stands = record { graph = refl; snapshot = subst (λ (u : Option Graph). Spares next.graph u None) (sym gone.0) tt };
         })
     | inr n ↦ record {
@@ -127,7 +147,8 @@ collects_follow judge old next c r stands reply h = elim (kind c r) [
   ]
 ]
 
-pub follows : (judge old next : State) (k : Step) (r : Reply) → IsSoundState old → IsSinceState old → StandsFor judge old → SparingHappens judge k r next → Follows judge old k r next
+pub follows : (judge old next : State) (k : Step) (r : Reply) → IsSoundState old → IsSinceState old → StandsFor judge old
+    → SparingHappens judge k r next → Follows judge old k r next
 follows judge old next (steps.Mutator o) r sound since stands (inl h) =
     let given : (r, next.graph) ≡ outcome_of old.graph o = h.0 ∙ ap (λ (g : Graph). outcome_of g o) stands.graph in
     record {
@@ -140,16 +161,27 @@ follows judge old next (steps.Mutator o) r sound since stands (inl h) =
       };
     }
 follows judge old next (steps.Mutator o) r sound since stands (inr h) =
-    record { new = old; happens = inr (subst (λ (g : Graph). Creates g o) stands.graph h.0, h.1, refl); stands = stays_so judge old next stands h.2 }
+    record {
+      new = old;
+      happens = inr (subst (λ (g : Graph). Creates g o) stands.graph h.0, h.1, refl);
+      stands = stays_so judge old next stands h.2;
+    }
 follows judge old next (steps.Collector c) r sound since stands h = collects_follow judge old next c r stands h.0 h.1
 
 -- what the machine may do, the judge allows
-pub allowed : (judge old new : State) (k : Step) (r : Reply) → StandsFor judge old → Happens old k r new → (next : State) × SparingHappens judge k r next
-allowed judge old new (steps.Mutator o) r stands (inl h) =
-    (record { graph = new.graph; snapshot = snapshot_after judge.snapshot o.action r }, inl (h.0 ∙ ap (λ (g : Graph). outcome_of g o) (sym stands.graph), refl))
-allowed judge old new (steps.Mutator o) r stands (inr h) = (judge, inr (subst (λ (g : Graph). Creates g o) (sym stands.graph) h.0, h.1, refl))
+pub allowed : (judge old new : State) (k : Step) (r : Reply) → StandsFor judge old → Happens old k r new
+    → (next : State) × SparingHappens judge k r next
+allowed judge old new (steps.Mutator o) r stands (inl h) = (
+  record { graph = new.graph; snapshot = snapshot_after judge.snapshot o.action r },
+  inl (h.0 ∙ ap (λ (g : Graph). outcome_of g o) (sym stands.graph), refl),
+)
+allowed judge old new (steps.Mutator o) r stands (inr h) =
+    (judge, inr (subst (λ (g : Graph). Creates g o) (sym stands.graph) h.0, h.1, refl))
 allowed judge old new (steps.Collector c) r stands h = elim (kind c r) [
-  | inl t ↦ (record { graph = judge.graph; snapshot = kept_snapshot judge.graph }, (h.0, (t.1 judge (record { graph = judge.graph; snapshot = kept_snapshot judge.graph })).1 refl))
+  | inl t ↦ (
+    record { graph = judge.graph; snapshot = kept_snapshot judge.graph },
+    (h.0, (t.1 judge (record { graph = judge.graph; snapshot = kept_snapshot judge.graph })).1 refl),
+  )
   | inr u ↦ elim u [
     | inl g ↦ (let there = cleared_there judge.snapshot old.snapshot old.graph new.graph stands.snapshot ((g.0 old new).0 h.1).1 in
         let next : State = record { graph = there.0; snapshot = None } in
@@ -165,10 +197,12 @@ stands_first c = record { graph = refl; snapshot = tt }
 pub stands_sound : (judge old : State) → IsSoundState old → StandsFor judge old → IsSoundState judge
 stands_sound judge old sound stands = record {
   graph = subst HoldsNames (sym stands.graph) sound.graph;
-  snapshot = subst (λ (g : Graph). ForSnapshot judge.snapshot (λ t. IsEarlier t g)) (sym stands.graph) (by_snapshot judge.snapshot old.snapshot stands.snapshot sound.snapshot);
+  snapshot = subst (λ (g : Graph). ForSnapshot judge.snapshot (λ t. IsEarlier t g)) (sym stands.graph)
+      (by_snapshot judge.snapshot old.snapshot stands.snapshot sound.snapshot);
 }
   where
-    by_snapshot : (t s : Option Graph) → Spares old.graph t s → ForSnapshot s (λ u. IsEarlier u old.graph) → ForSnapshot t (λ u. IsEarlier u old.graph)
+    by_snapshot : (t s : Option Graph) → Spares old.graph t s → ForSnapshot s (λ u. IsEarlier u old.graph)
+        → ForSnapshot t (λ u. IsEarlier u old.graph)
     by_snapshot None s k sound = tt
     by_snapshot (Some t) None k sound = absurd k
     by_snapshot (Some t) (Some s) k sound = subst (λ (u : Graph). IsEarlier u old.graph) (sym k) sound

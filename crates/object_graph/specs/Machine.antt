@@ -64,20 +64,28 @@ act g m (actions.New to counts) = made g m to counts 0
 act g m (actions.Get to object i) = on_object g m object (λ name x.
     on_field g (slice_get x.pointers i) (λ value. (replies.Named value, with_root g (register_place g.places m to.number) value)))
 act g m (actions.Put object i value) = on_object g m object (λ name x.
-    on_field g (slice_get x.pointers i) (λ old. (replies.Done, with_changed g name (record x { pointers = slice_set x.pointers i (stored g m value) }))))
+    on_field g (slice_get x.pointers i) (λ old.
+    (replies.Done, with_changed g name (record x { pointers = slice_set x.pointers i (stored g m value) }))))
 act g m (actions.Read object j) = on_object g m object (λ name x. on_field g (slice_get x.values j) (λ word. (replies.Word word, g)))
 act g m (actions.Write object j value) = on_object g m object (λ name x.
     on_field g (slice_get x.values j) (λ old. (replies.Done, with_changed g name (record x { values = slice_set x.values j value }))))
-act g m (actions.Move to from) = (replies.Done, with_root g (register_place g.places m to.number) (root_at g (register_place g.places m from.number)))
+act g m (actions.Move to from) = (
+  replies.Done,
+  with_root g (register_place g.places m to.number) (root_at g (register_place g.places m from.number)),
+)
 act g m (actions.Drop register) = (replies.Done, with_root g (register_place g.places m register.number) None)
-act g m (actions.Load to from) = (replies.Named (root_at g from.number), with_root g (register_place g.places m to.number) (root_at g from.number))
+act g m (actions.Load to from) = (
+  replies.Named (root_at g from.number),
+  with_root g (register_place g.places m to.number) (root_at g from.number),
+)
 act g m (actions.Save to from) = (replies.Done, with_root g to.number (root_at g (register_place g.places m from.number)))
 act g m (actions.Shape object) = on_object g m object (λ name x. (replies.Shape (length x.pointers) (length x.values), g))
 act g m (actions.NewWeak to counts weaks) = made g m to counts weaks
 act g m (actions.GetWeak to object i) = on_object g m object (λ name x.
     on_field g (slice_get x.weaks i) (λ value. (replies.Named value, with_root g (register_place g.places m to.number) value)))
 act g m (actions.PutWeak object i value) = on_object g m object (λ name x.
-    on_field g (slice_get x.weaks i) (λ old. (replies.Done, with_changed g name (record x { weaks = slice_set x.weaks i (stored g m value) }))))
+    on_field g (slice_get x.weaks i) (λ old.
+    (replies.Done, with_changed g name (record x { weaks = slice_set x.weaks i (stored g m value) }))))
 act g m (actions.Weaks object) = on_object g m object (λ name x. (replies.Word (length x.weaks), g))
 act g m (actions.Scope from) = (replies.Done, with_nil_roots g (register_place g.places m from.number) (g.places.registers - from.number))
 

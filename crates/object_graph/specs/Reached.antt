@@ -1,7 +1,9 @@
 -- Which names are reachable, found by flags and a queue: a name is flagged once, and waits in the queue until the pointers of
 -- its object are looked at.
 use Rattle.heap_model.specs.Graph.{Graph, Object}
-use Rattle.std.specs.Prelude.{ℕ, zero, suc, ◌-◌, List, ◌∷◌, [], ◌++◌, Bool, true, false, Option, Some, None, slice_get, slice_set, slice_index_or, length, replicate, nat_le, if◌then◌else◌}
+use Rattle.std.specs.Prelude.{◌-◌, ◌∷◌, ◌++◌, if◌then◌else◌}
+use Rattle.std.specs.Prelude.{ℕ, zero, suc, List, [], Bool, true, false, Option, Some, None, slice_get, slice_set, slice_index_or, length}
+use Rattle.std.specs.Prelude.{replicate, nat_le}
 
 -- one flag for each object, in the order of names, and the places of those that were flagged, in the order of flagging
 pub record Search : Type 0 where

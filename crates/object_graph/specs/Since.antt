@@ -11,7 +11,8 @@ IsKnown s n = IsReachable s n ⊎ (next_name s ≤ n)
 -- it had then.
 pub record IsSince (s g : Graph) : Type 0 where
   pub roots : (j n : ℕ) → slice_get g.roots j ≡ Some (Some n) → IsKnown s n
-  pub pointers : (k i n : ℕ) (x : Object) → slice_get g.objects k ≡ Some x → IsKnown s (g.first_name + k) → slice_get x.pointers i ≡ Some (Some n) → IsKnown s n
+  pub pointers : (k i n : ℕ) (x : Object) → slice_get g.objects k ≡ Some x → IsKnown s (g.first_name + k)
+      → slice_get x.pointers i ≡ Some (Some n) → IsKnown s n
   pub unreached : (k : ℕ) (x : Object) → slice_get g.objects k ≡ Some x → g.first_name + k < next_name s
       → IsReachable s (g.first_name + k) ⊎ ((p : Object) × (slice_get s.objects k ≡ Some p) × (x.pointers ≡ p.pointers))
 

@@ -1,5 +1,6 @@
 -- The graph of a heap and the snapshot of its marking, and the state of a new heap.
-use Rattle.std.specs.Prelude.{◌≡◌, ℕ, ◌*◌, ◌-◌, ◌<◌, ◌≤◌, ◌^◌, List, Option, Some, None, length, slice_get, slice_index_or, replicate, [], nat_lt, if◌then◌else◌}
+use Rattle.std.specs.Prelude.{◌≡◌, ◌*◌, ◌-◌, ◌<◌, ◌≤◌, ◌^◌, if◌then◌else◌}
+use Rattle.std.specs.Prelude.{ℕ, List, Option, Some, None, length, slice_get, slice_index_or, replicate, [], nat_lt}
 use Rattle.heap_words.specs.declared.config.Config.{Config}
 use Rattle.heap_model.specs.Graph.{Graph, Object, next_name, object_fields}
 use Rattle.root_table.specs.Bounds.{AreBounded}

@@ -29,7 +29,8 @@ fn is_new(action: Action) -> bool
 
 /// What the graph gives for an action to which it replies so.
 pub(crate) fn given_by(action: Action, reply: Reply) -> Given
-    ensures { (g : model.Graph) (m : ℕ) → reply ≡ (act g m action).0 → IsGiven g (Step.Mutator (record { mutator = m; action = action })) result }
+    ensures { (g : model.Graph) (m : ℕ) → reply ≡ (act g m action).0
+        → IsGiven g (Step.Mutator (record { mutator = m; action = action })) result }
 {
     let Reply::Named(name) = reply else {
         return Given::Reply(reply);

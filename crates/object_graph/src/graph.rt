@@ -31,7 +31,13 @@ impl Model for Graph {
 
     ghost Value = { model.Graph };
 
-    ghost view = { λ g. record { room = g.room; first_name = g.first_name; places = g.places; objects = g.objects; roots = g.roots.items } };
+    ghost view = { λ g. record {
+      room = g.room;
+      first_name = g.first_name;
+      places = g.places;
+      objects = g.objects;
+      roots = g.roots.items;
+    } };
 
     ghost invariant = { λ g. IsGraph
         (record { room = g.room; first_name = g.first_name; places = g.places; objects = g.objects; roots = g.roots.items })

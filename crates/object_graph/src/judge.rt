@@ -115,7 +115,8 @@ impl Judge {
         requires known { IsEvent self.old.config event.now }
         requires taken { (es : List events.Event) × HasTaken self.old es }
         ensures config { self.new.config ≡ self.old.config }
-        ensures told { IfOk result (λ told. (es : List events.Event) → HasTaken self.old es → TakesNext self.old self.new es event.now told) }
+        ensures told { IfOk result (λ told. (es : List events.Event) → HasTaken self.old es
+            → TakesNext self.old self.new es event.now told) }
     {
         self.machine.take(event)
     }

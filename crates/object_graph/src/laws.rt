@@ -43,8 +43,10 @@ pub fn sound_law()
 pub fn since_law()
     ensures begins { (c : Config) → IsSinceState (first_state c) }
     ensures step { (old new : State) (k : Step) (r : Reply) → IsSoundState old → IsSinceState old → Happens old k r new → IsSinceState new }
-    ensures reached { (st : State) (s : model.Graph) → IsSinceState st → st.snapshot ≡ Some s → (n : ℕ) → IsReachable st.graph n → IsKnown s n }
-    ensures unreached { (st : State) (s : model.Graph) → IsSoundState st → IsSinceState st → st.snapshot ≡ Some s → KeepsUnreached s st.graph }
+    ensures reached { (st : State) (s : model.Graph) → IsSinceState st → st.snapshot ≡ Some s → (n : ℕ) → IsReachable st.graph n
+        → IsKnown s n }
+    ensures unreached { (st : State) (s : model.Graph) → IsSoundState st → IsSinceState st → st.snapshot ≡ Some s
+        → KeepsUnreached s st.graph }
 {}
 
 /// No name whose weak slots become nil at the end of marking is reachable then.

@@ -197,7 +197,8 @@ impl Objects {
     pub(crate) fn set_weak(&mut self, place: usize, slot: u32, value: Pointer)
         requires place { place < length self.old }
         requires slot { slot < length (object_in self.old place).weaks }
-        ensures { self.new ≡ slice_set self.old place (record (object_in self.old place) { weaks = slice_set (object_in self.old place).weaks slot value }) }
+        ensures { self.new ≡ slice_set self.old place
+            (record (object_in self.old place) { weaks = slice_set (object_in self.old place).weaks slot value }) }
     {
         let entry = self.entries[place];
         self.words[entry.start() + entry.pointers as usize + slot as usize] = value.word();
@@ -207,7 +208,8 @@ impl Objects {
     pub(crate) fn set_value(&mut self, place: usize, field: u32, value: u64)
         requires place { place < length self.old }
         requires field { field < length (object_in self.old place).values }
-        ensures { self.new ≡ slice_set self.old place (record (object_in self.old place) { values = slice_set (object_in self.old place).values field value }) }
+        ensures { self.new ≡ slice_set self.old place
+            (record (object_in self.old place) { values = slice_set (object_in self.old place).values field value }) }
     {
         let entry = self.entries[place];
         let start = entry.start() + entry.pointers as usize + usize::from(entry.weaks());

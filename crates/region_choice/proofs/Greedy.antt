@@ -1,16 +1,20 @@
 -- Of a sorted list, the longest front whose numbers sum to at most a limit is best: no part of the list that is
 -- within the limit lacks more in all of a bound above each number.
-use Rattle.std.proofs.Common.{filter, not, ◌≡◌, ℕ, subst, Bool, true, false, ltb, IsSorted, is_lt, Ordering, ◌+◌, ◌-◌, ◌*◌, ◌<◌, ◌≤◌, List, [], ◌∷◌, ◌++◌, length, take, drop, get_or, sum_by, All, IsPermutation, inl, inr, refl, sym, ◌∙◌, arith}
+use Rattle.std.proofs.Common.{◌≡◌, ◌+◌, ◌-◌, ◌*◌, ◌<◌, ◌≤◌, ◌∷◌, ◌++◌, ◌∙◌}
+use Rattle.std.proofs.Common.{filter, not, ℕ, subst, Bool, true, false, ltb, IsSorted, is_lt, Ordering, List, [], length, take, drop}
+use Rattle.std.proofs.Common.{get_or, sum_by, All, IsPermutation, inl, inr, refl, sym, arith}
 use Rattle.std.specs.Prelude.{Some, slice_get}
 use Rattle.std.specs.List.Sorted.{IsNonDecreasingBy}
 use Rattle.std.specs.Ordering.{nat_cmp, ordering_then}
 use Rattle.std.proofs.Math.Nat.{suc-mul, add-mul, lt_of_mul-lt-mul_right, mul-add}
 use Rattle.std.proofs.Math.Seq.{take-append_seam}
 use Rattle.std.proofs.lemmas.Bool.{ltb-false, false≢true}
-use Rattle.std.proofs.lemmas.List.{get_or-take, get_or-drop, length-take, length-take-le, length-drop, get_or_default, take-append-drop, take_all}
+use Rattle.std.proofs.lemmas.List.{get_or-take, get_or-drop, length-take, length-take-le, length-drop, get_or_default, take-append-drop}
+use Rattle.std.proofs.lemmas.List.{take_all}
 use Rattle.std.proofs.lemmas.List.Elements.{All-head, All-tail, All-take, All-same, All-get_or, All-weaker}
 use Rattle.std.proofs.lemmas.List.Sums.{sum_by-cons, sum_by-append, sum_by-take-drop}
-use Rattle.std.proofs.lemmas.List.Sorted.{sum_by-IsPermutation, IsPermutation-filter_both, All-permutation, IsNonDecreasingBy-from_all_adjacent}
+use Rattle.std.proofs.lemmas.List.Sorted.{sum_by-IsPermutation, IsPermutation-filter_both, All-permutation}
+use Rattle.std.proofs.lemmas.List.Sorted.{IsNonDecreasingBy-from_all_adjacent}
 use Rattle.std.proofs.lemmas.Option.{slice_get_cases}
 use Rattle.region_choice.specs.declared.LiveRow.{LiveRow}
 use Rattle.region_choice.specs.Choice.{IsBestWithin, IsPartOf, live_sum, freed_sum, row_cmp}
@@ -25,7 +29,13 @@ module _ {X : Type 0} (n : X → ℕ) where
   lack_and_sum t [] h = omega arith
   lack_and_sum t (x ∷ xs) h =
       let head : n x ≤ t = All-head (λ x. n x ≤ t) x xs h in
-      omega (arith, sum_by-cons (λ x. t - n x) x xs, sum_by-cons n x xs, suc-mul (length xs) t, lack_and_sum t xs (All-tail (λ x. n x ≤ t) x xs h))
+      omega (
+        arith,
+        sum_by-cons (λ x. t - n x) x xs,
+        sum_by-cons n x xs,
+        suc-mul (length xs) t,
+        lack_and_sum t xs (All-tail (λ x. n x ≤ t) x xs h),
+      )
 
   -- or more, where some are above t
   length_le_lack_and_sum : (t : ℕ) (xs : List X) → length xs * t ≤ lack t xs + sum_by n xs
@@ -67,14 +77,17 @@ count_le m c t sp st lp lt a b s d =
     omega arith
 
 -- and they lack no more of t + u: gp and gt are what the front and the others lack of that
-lack_le : (m e t u sp st lp lt gp gt : ℕ) → sp + lp ≡ (m + e) * t → m * t ≤ st + lt → st ≤ sp → gt + lt ≡ m * (t + u) → gp + lp ≡ (m + e) * (t + u) → gt ≤ gp
+lack_le : (m e t u sp st lp lt gp gt : ℕ) → sp + lp ≡ (m + e) * t → m * t ≤ st + lt → st ≤ sp → gt + lt ≡ m * (t + u)
+    → gp + lp ≡ (m + e) * (t + u) → gt ≤ gp
 lack_le m e t u sp st lp lt gp gt a b s f g =
     omega (arith, add-mul m e t, add-mul m e (t + u), mul-add m t u, mul-add e t u)
 
 module _ {X : Type 0} (n : X → ℕ) where
   -- a front of a sorted list with no room for the next number lacks at least what any part within the limit lacks
-  front_lacks_most : (w limit : ℕ) (xs ys : List X) (c : ℕ) (d : X) → IsPermutation xs ys → IsNonDecreasingBy n ys → All (λ x. n x < w) xs → c < length ys → limit < sum_by n (take c ys) + n (get_or ys c d)
-      → (other rest : List X) → IsPermutation xs (other ++ rest) → sum_by n other ≤ limit → sum_by (λ x. w - n x) other ≤ sum_by (λ x. w - n x) (take c ys)
+  front_lacks_most : (w limit : ℕ) (xs ys : List X) (c : ℕ) (d : X) → IsPermutation xs ys → IsNonDecreasingBy n ys → All (λ x. n x < w) xs
+      → c < length ys → limit < sum_by n (take c ys) + n (get_or ys c d)
+      → (other rest : List X) → IsPermutation xs (other ++ rest) → sum_by n other ≤ limit
+      → sum_by (λ x. w - n x) other ≤ sum_by (λ x. w - n x) (take c ys)
   front_lacks_most w limit xs ys c d p up below in' full other rest q fits =
       let t : ℕ = n (get_or ys c d) in
       let front : List X = take c ys in
@@ -82,12 +95,22 @@ module _ {X : Type 0} (n : X → ℕ) where
       let at_most : All (λ x. n x ≤ w) xs = All-weaker (λ x. n x < w) (λ x. n x ≤ w) (λ x h. omega arith) xs below in
       let t_below : t ≤ w = All-get_or (λ x. n x ≤ w) ys c d in' (All-permutation (λ x. n x ≤ w) xs ys p at_most) in
       let long : length front ≡ c = length-take-le c ys (omega arith) in
-      let a : lack n t front + sum_by n front ≡ c * t = subst (λ k. lack n t front + sum_by n front ≡ k * t) long (lack_and_sum n t front (low_front n ys c d up in')) in
+      let a : lack n t front + sum_by n front ≡ c * t =
+      subst (λ k. lack n t front + sum_by n front ≡ k * t) long (lack_and_sum n t front (low_front n ys c d up in')) in
       let b : m * t ≤ lack n t other + sum_by n other = length_le_lack_and_sum n t other in
-      let s : lack n t other ≤ lack n t front = omega (arith, part_le n (λ x. t - n x) xs other rest q, sum_by-IsPermutation (λ x. t - n x) xs ys p, sum_by-take-drop (λ x. t - n x) ys c, no_lack n t (drop c ys) (high_rest n ys c d up in')) in
+      let s : lack n t other ≤ lack n t front =
+      omega (
+        arith,
+        part_le n (λ x. t - n x) xs other rest q,
+        sum_by-IsPermutation (λ x. t - n x) xs ys p,
+        sum_by-take-drop (λ x. t - n x) ys c,
+        no_lack n t (drop c ys) (high_rest n ys c d up in'),
+      ) in
       let few : m ≤ c = count_le m c t (lack n t front) (lack n t other) (sum_by n front) (sum_by n other) a b s (omega arith) in
       let f : lack n w other + sum_by n other ≡ m * w = lack_and_sum n w other (All-part n (λ x. n x ≤ w) xs other rest q at_most) in
-      let g : lack n w front + sum_by n front ≡ c * w = subst (λ k. lack n w front + sum_by n front ≡ k * w) long (lack_and_sum n w front (All-take (λ x. n x ≤ w) c ys (All-permutation (λ x. n x ≤ w) xs ys p at_most))) in
+      let g : lack n w front + sum_by n front ≡ c * w =
+      subst (λ k. lack n w front + sum_by n front ≡ k * w) long
+      (lack_and_sum n w front (All-take (λ x. n x ≤ w) c ys (All-permutation (λ x. n x ≤ w) xs ys p at_most))) in
       let more : m + (c - m) ≡ c = omega arith in
       let wide : t + (w - t) ≡ w = omega arith in
       lack_le m (c - m) t (w - t) (lack n t front) (lack n t other) (sum_by n front) (sum_by n other) (lack n w front) (lack n w other)
@@ -106,19 +129,26 @@ rows_rise ys up =
     IsNonDecreasingBy-from_all_adjacent (λ row. row.live_bound) ys (λ k d h. le_from_order _ _ _ (up k d (omega arith) h))
 
 -- all rows free at least what any part of them frees
-all_free_most : (w : ℕ) (xs ys : List LiveRow) (c : ℕ) → IsPermutation xs ys → length ys ≤ c → (other rest : List LiveRow) → IsPermutation xs (other ++ rest) → freed_sum w other ≤ freed_sum w (take c ys)
+all_free_most : (w : ℕ) (xs ys : List LiveRow) (c : ℕ) → IsPermutation xs ys → length ys ≤ c → (other rest : List LiveRow)
+    → IsPermutation xs (other ++ rest) → freed_sum w other ≤ freed_sum w (take c ys)
 all_free_most w xs ys c p all other rest q =
     let whole : take c ys ≡ ys = take_all c ys all in
-    rw whole (omega (arith, part_le (λ row. row.live_bound) (λ row. w - row.live_bound) xs other rest q, sum_by-IsPermutation (λ row. w - row.live_bound) xs ys p))
+    rw whole (omega (
+      arith,
+      part_le (λ row. row.live_bound) (λ row. w - row.live_bound) xs other rest q,
+      sum_by-IsPermutation (λ row. w - row.live_bound) xs ys p,
+    ))
 
 -- the front of the sorted rows that is within the limit, and with the next row no more, is best
-pub IsBestWithin-front : (w limit : ℕ) (xs ys : List LiveRow) (c : ℕ) → IsPermutation xs ys → IsSorted row_cmp ys → All (λ row. row.live_bound < w) xs → live_sum (take c ys) ≤ limit
+pub IsBestWithin-front : (w limit : ℕ) (xs ys : List LiveRow) (c : ℕ) → IsPermutation xs ys → IsSorted row_cmp ys
+    → All (λ row. row.live_bound < w) xs → live_sum (take c ys) ≤ limit
     → ((row : LiveRow) → slice_get ys c ≡ Some row → limit < live_sum (take c ys) + row.live_bound) → IsBestWithin w limit xs (take c ys)
 IsBestWithin-front w limit xs ys c p up below within full = record {
   part = record { rest = drop c ys; whole = rw take-append-drop p };
   within = within;
   most = λ other q fits. elim (slice_get_cases ys c).1 [
-    | inl next ↦ front_lacks_most (λ row. row.live_bound) w limit xs ys c next.0 p (rows_rise ys up) below next.1 (rw next.3 (full next.0 next.2)) other q.rest q.whole fits
+    | inl next ↦ front_lacks_most (λ row. row.live_bound) w limit xs ys c next.0 p (rows_rise ys up) below next.1
+        (rw next.3 (full next.0 next.2)) other q.rest q.whole fits
     | inr past ↦ all_free_most w xs ys c p past.0 other q.rest q.whole
   ];
 }

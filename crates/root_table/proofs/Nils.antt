@@ -1,5 +1,7 @@
 -- Places that become nil.
-use Rattle.std.proofs.Common.{◌≡◌, ◌≢◌, ◌⊎◌, ℕ, zero, suc, ◌+◌, ◌-◌, ◌<◌, ◌≤◌, List, Option, None, length, get_or, set, refl, sym, ap, subst, ◌∙◌, arith, inl, inr, get_or-set_same, get_or-set_other, length-set}
+use Rattle.std.proofs.Common.{◌≡◌, ◌≢◌, ◌⊎◌, ◌+◌, ◌-◌, ◌<◌, ◌≤◌, ◌∙◌}
+use Rattle.std.proofs.Common.{ℕ, zero, suc, List, Option, None, length, get_or, set, refl, sym, ap, subst, arith, inl, inr, get_or-set_same}
+use Rattle.std.proofs.Common.{get_or-set_other, length-set}
 use Rattle.std.proofs.lemmas.Bool.{cases_lt, cases_eq}
 use Rattle.std.proofs.lemmas.List.{set-get_or, get_or_past}
 use Rattle.heap_model.specs.Graph.{Places, register_place, with_nils}
@@ -12,7 +14,8 @@ length-nils words first zero = refl
 length-nils words first (suc count) = length-set (with_nils words first count) (first + count) None ∙ length-nils words first count
 
 -- a place before them and one behind them hold what they held
-pub nils_other : (words : List (Option ℕ)) (first count place : ℕ) → (place < first) ⊎ (first + count ≤ place) → get_or (with_nils words first count) place None ≡ get_or words place None
+pub nils_other : (words : List (Option ℕ)) (first count place : ℕ) → (place < first) ⊎ (first + count ≤ place)
+    → get_or (with_nils words first count) place None ≡ get_or words place None
 nils_other words first zero place apart = refl
 nils_other words first (suc count) place apart =
     let ne : place ≢ first + count = λ e. elim apart [ inl l ↦ absurd (omega (arith, l, e)) | inr m ↦ absurd (omega (arith, m, e)) ] in
@@ -27,10 +30,12 @@ last_nil words place = elim (cases_lt place (length words)) [
 ]
 
 -- what was nil is nil
-pub nils_stay : (words : List (Option ℕ)) (first count place : ℕ) → get_or words place None ≡ None → get_or (with_nils words first count) place None ≡ None
+pub nils_stay : (words : List (Option ℕ)) (first count place : ℕ) → get_or words place None ≡ None
+    → get_or (with_nils words first count) place None ≡ None
 nils_stay words first zero place nil = nil
 nils_stay words first (suc count) place nil = elim (cases_eq place (first + count)) [
-  | inl e ↦ subst (λ (q : ℕ). get_or (set (with_nils words first count) (first + count) None) q None ≡ None) (sym e) (last_nil (with_nils words first count) (first + count))
+  | inl e ↦ subst (λ (q : ℕ). get_or (set (with_nils words first count) (first + count) None) q None ≡ None) (sym e)
+      (last_nil (with_nils words first count) (first + count))
   | inr ne ↦ get_or-set_other (with_nils words first count) (first + count) place None None ne ∙ nils_stay words first count place nil
 ]
 
@@ -38,16 +43,20 @@ nils_stay words first (suc count) place nil = elim (cases_eq place (first + coun
 pub nils_inside : (words : List (Option ℕ)) (first count : ℕ) → AreNil (with_nils words first count) first (first + count)
 nils_inside words first zero place low high = absurd (omega (arith, low, high))
 nils_inside words first (suc count) place low high = elim (cases_eq place (first + count)) [
-  | inl e ↦ subst (λ (q : ℕ). get_or (set (with_nils words first count) (first + count) None) q None ≡ None) (sym e) (last_nil (with_nils words first count) (first + count))
-  | inr ne ↦ get_or-set_other (with_nils words first count) (first + count) place None None ne ∙ nils_inside words first count place low (omega (arith, high, ne))
+  | inl e ↦ subst (λ (q : ℕ). get_or (set (with_nils words first count) (first + count) None) q None ≡ None) (sym e)
+      (last_nil (with_nils words first count) (first + count))
+  | inr ne ↦ get_or-set_other (with_nils words first count) (first + count) place None None ne
+      ∙ nils_inside words first count place low (omega (arith, high, ne))
 ]
 
 -- places behind them that are nil may be counted among them
-pub nils_more : (words : List (Option ℕ)) (first count more : ℕ) → AreNil words (first + count) (first + (count + more)) → with_nils words first (count + more) ≡ with_nils words first count
+pub nils_more : (words : List (Option ℕ)) (first count more : ℕ) → AreNil words (first + count) (first + (count + more))
+    → with_nils words first (count + more) ≡ with_nils words first count
 nils_more words first count zero nil = ap (λ (n : ℕ). with_nils words first n) {x = count + zero} {y = count} (omega arith)
 nils_more words first count (suc more) nil =
     let rest = nils_more words first count more (λ place low high. nil place low (omega (arith, high))) in
-    let last : get_or (with_nils words first count) (first + (count + more)) None ≡ None = nils_stay words first count (first + (count + more)) (nil (first + (count + more)) (omega arith) (omega arith)) in
+    let last : get_or (with_nils words first count) (first + (count + more)) None ≡ None =
+    nils_stay words first count (first + (count + more)) (nil (first + (count + more)) (omega arith) (omega arith)) in
     ap (λ (n : ℕ). with_nils words first n) {x = count + suc more} {y = suc (count + more)} (omega arith)
     ∙ ap (λ (ws : List (Option ℕ)). set ws (first + (count + more)) None) rest
     ∙ ap (λ (v : Option ℕ). set (with_nils words first count) (first + (count + more)) v) (sym last)
@@ -55,7 +64,8 @@ nils_more words first count (suc more) nil =
 
 -- ---- a frame that is left
 -- the row's places from k up to its bound are nil, and k is its bound
-pub left_bounded : (p : Places) (words : List (Option ℕ)) (used : List ℕ) (row k : ℕ) → AreBounded p words used → row ≤ p.mutators → k < get_or used row 0
+pub left_bounded : (p : Places) (words : List (Option ℕ)) (used : List ℕ) (row k : ℕ) → AreBounded p words used → row ≤ p.mutators
+    → k < get_or used row 0
     → AreBounded p (with_nils words (row_start p row + k) (get_or used row 0 - k)) (set used row k)
 left_bounded p words used row k b known less =
     let count : ℕ = get_or used row 0 - k in
@@ -71,7 +81,8 @@ left_bounded p words used row k b known less =
       ];
       nil = λ other low place from to. elim (cases_eq other row) [
         | inl e ↦
-            let from' : row_start p row + get_or (set used row k) row 0 ≤ place = subst (λ (r : ℕ). row_start p r + get_or (set used row k) r 0 ≤ place) e from in
+            let from' : row_start p row + get_or (set used row k) row 0 ≤ place =
+            subst (λ (r : ℕ). row_start p r + get_or (set used row k) r 0 ≤ place) e from in
             let to' : place < row_start p row + row_length p row = subst (λ (r : ℕ). place < row_start p r + row_length p r) e to in
             elim (cases_lt place (row_start p row + get_or used row 0)) [
               | inl inside ↦ nils_inside words first count place (omega (arith, from', at)) (omega (arith, inside, less))
@@ -84,7 +95,8 @@ left_bounded p words used row k b known less =
     }
 
 -- the whole rest of the row may be counted
-pub left_rest : (p : Places) (words : List (Option ℕ)) (used : List ℕ) (row k : ℕ) → AreBounded p words used → row ≤ p.mutators → k ≤ get_or used row 0
+pub left_rest : (p : Places) (words : List (Option ℕ)) (used : List ℕ) (row k : ℕ) → AreBounded p words used → row ≤ p.mutators
+    → k ≤ get_or used row 0
     → with_nils words (row_start p row + k) (row_length p row - k) ≡ with_nils words (row_start p row + k) (get_or used row 0 - k)
 left_rest p words used row k b known less =
     let most = b.within row known in
@@ -93,43 +105,55 @@ left_rest p words used row k b known less =
     ap (λ (n : ℕ). with_nils words (row_start p row + k) n) {x = row_length p row - k} {y = (get_or used row 0 - k) + (row_length p row - get_or used row 0)} (omega (arith, less, most)) ∙ more
 
 -- nothing is left to be done where the bound is no higher
-pub left_none : (p : Places) (words : List (Option ℕ)) (used : List ℕ) (row k : ℕ) → AreBounded p words used → row ≤ p.mutators → get_or used row 0 ≤ k → k ≤ row_length p row
+pub left_none : (p : Places) (words : List (Option ℕ)) (used : List ℕ) (row k : ℕ) → AreBounded p words used → row ≤ p.mutators
+    → get_or used row 0 ≤ k → k ≤ row_length p row
     → with_nils words (row_start p row + k) (row_length p row - k) ≡ words
 left_none p words used row k b known less most =
     ap (λ (n : ℕ). with_nils words (row_start p row + k) n) {x = row_length p row - k} {y = 0 + (row_length p row - k)} (omega arith)
-    ∙ nils_more words (row_start p row + k) 0 (row_length p row - k) (λ place low high. b.nil row known place (omega (arith, low, less)) (omega (arith, high, most)))
+    ∙ nils_more words (row_start p row + k) 0 (row_length p row - k)
+    (λ place low high. b.nil row known place (omega (arith, low, less)) (omega (arith, high, most)))
 
 -- the table in which a mutator's registers from k on are nil
 abbrev pub left_from : RootTable → ℕ → ℕ → RootTable
 left_from t m k = record { places = t.places; words = with_nils t.words (register_place t.places m k) (t.places.registers - k) }
 
 -- ---- as the code does it: n is the bound that was read
-pub left_in : (p : Places) (words words' : List (Option ℕ)) (used : List ℕ) (m k n first : ℕ) → AreBounded p words used → m < p.mutators → k < n
-    → first ≡ register_place p m k → words' ≡ with_nils words first (n - k) → n ≡ get_or used (m + 1) n → AreBounded p words' (set used (m + 1) k)
+pub left_in : (p : Places) (words words' : List (Option ℕ)) (used : List ℕ) (m k n first : ℕ) → AreBounded p words used → m < p.mutators
+    → k < n
+    → first ≡ register_place p m k → words' ≡ with_nils words first (n - k) → n ≡ get_or used (m + 1) n
+    → AreBounded p words' (set used (m + 1) k)
 left_in p words words' used m k n first b known less at is =
     subst (λ (row : ℕ). n ≡ get_or used row n → AreBounded p words' (set used row k)) (one_more m) (λ e.
     let bound = bound_read used (suc m) n (omega (arith, known, b.rows)) e in
     let all : words' ≡ with_nils words (row_start p (suc m) + k) (get_or used (suc m) 0 - k) =
-    is ∙ ap (λ (q : ℕ). with_nils words q (n - k)) {x = first} {y = row_start p (suc m) + k} (omega (arith, at)) ∙ ap (λ (q : ℕ). with_nils words (row_start p (suc m) + k) (q - k)) bound in
-    subst (λ (ws : List (Option ℕ)). AreBounded p ws (set used (suc m) k)) (sym all) (left_bounded p words used (suc m) k b (omega (arith, known)) (omega (arith, bound, less))))
+    is ∙ ap (λ (q : ℕ). with_nils words q (n - k)) {x = first} {y = row_start p (suc m) + k} (omega (arith, at))
+    ∙ ap (λ (q : ℕ). with_nils words (row_start p (suc m) + k) (q - k)) bound in
+    subst (λ (ws : List (Option ℕ)). AreBounded p ws (set used (suc m) k)) (sym all)
+    (left_bounded p words used (suc m) k b (omega (arith, known)) (omega (arith, bound, less))))
 
 abbrev pub with_words : RootTable → List (Option ℕ) → RootTable
 with_words t ws = record { places = t.places; words = ws }
 
-pub left_whole : (t : RootTable) (words' : List (Option ℕ)) (used : List ℕ) (m k n first : ℕ) → AreBounded t.places t.words used → m < t.places.mutators → k < n
-    → first ≡ register_place t.places m k → words' ≡ with_nils t.words first (n - k) → n ≡ get_or used (m + 1) n → with_words t words' ≡ left_from t m k
+pub left_whole : (t : RootTable) (words' : List (Option ℕ)) (used : List ℕ) (m k n first : ℕ) → AreBounded t.places t.words used
+    → m < t.places.mutators → k < n
+    → first ≡ register_place t.places m k → words' ≡ with_nils t.words first (n - k) → n ≡ get_or used (m + 1) n
+    → with_words t words' ≡ left_from t m k
 left_whole t words' used m k n first b known less at is e0 =
     let e : n ≡ get_or used (suc m) n = subst (λ (row : ℕ). n ≡ get_or used row n) (sym (one_more m)) e0 in
     let bound = bound_read used (suc m) n (omega (arith, known, b.rows)) e in
     let rest = left_rest t.places t.words used (suc m) k b (omega (arith, known)) (omega (arith, bound, less)) in
     ap (with_words t)
-    (is ∙ ap (λ (q : ℕ). with_nils t.words q (n - k)) {x = first} {y = row_start t.places (suc m) + k} (omega (arith, at)) ∙ ap (λ (q : ℕ). with_nils t.words (row_start t.places (suc m) + k) (q - k)) bound
-    ∙ sym rest ∙ ap (λ (q : ℕ). with_nils t.words q (t.places.registers - k)) {x = row_start t.places (suc m) + k} {y = register_place t.places m k} (omega arith))
+    (is ∙ ap (λ (q : ℕ). with_nils t.words q (n - k)) {x = first} {y = row_start t.places (suc m) + k} (omega (arith, at))
+    ∙ ap (λ (q : ℕ). with_nils t.words (row_start t.places (suc m) + k) (q - k)) bound
+    ∙ sym rest ∙ ap (λ (q : ℕ). with_nils t.words q (t.places.registers - k)) {x = row_start t.places
+    (suc m) + k} {y = register_place t.places m k} (omega arith))
 
-pub left_nothing : (t : RootTable) (used : List ℕ) (m k n : ℕ) → AreBounded t.places t.words used → m < t.places.mutators → k < t.places.registers → n ≤ k → n ≡ get_or used (m + 1) n
+pub left_nothing : (t : RootTable) (used : List ℕ) (m k n : ℕ) → AreBounded t.places t.words used → m < t.places.mutators
+    → k < t.places.registers → n ≤ k → n ≡ get_or used (m + 1) n
     → t ≡ left_from t m k
 left_nothing t used m k n b known inside less e0 =
     let e : n ≡ get_or used (suc m) n = subst (λ (row : ℕ). n ≡ get_or used row n) (sym (one_more m)) e0 in
     let bound = bound_read used (suc m) n (omega (arith, known, b.rows)) e in
     let none = left_none t.places t.words used (suc m) k b (omega (arith, known)) (omega (arith, bound, less)) (omega (arith, inside)) in
-    ap (with_words t) (sym none ∙ ap (λ (q : ℕ). with_nils t.words q (t.places.registers - k)) {x = row_start t.places (suc m) + k} {y = register_place t.places m k} (omega arith))
+    ap (with_words t) (sym none ∙ ap (λ (q : ℕ). with_nils t.words q (t.places.registers - k)) {x = row_start t.places
+    (suc m) + k} {y = register_place t.places m k} (omega arith))

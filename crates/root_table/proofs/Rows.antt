@@ -1,5 +1,7 @@
 -- Rows lie one behind another, and what a store leaves of their bounds.
-use Rattle.std.proofs.Common.{◌≡◌, ◌≢◌, ◌⊎◌, ℕ, zero, suc, ◌+◌, ◌<◌, ◌≤◌, List, Option, None, Some, length, get_or, set, replicate, refl, sym, subst, ◌∙◌, arith, inl, inr, get_or-set_same, get_or-set_other, length-set}
+use Rattle.std.proofs.Common.{◌≡◌, ◌≢◌, ◌⊎◌, ◌+◌, ◌<◌, ◌≤◌, ◌∙◌}
+use Rattle.std.proofs.Common.{ℕ, zero, suc, List, Option, None, Some, length, get_or, set, replicate, refl, sym, subst, arith, inl, inr}
+use Rattle.std.proofs.Common.{get_or-set_same, get_or-set_other, length-set}
 use Rattle.std.specs.Prelude.{IsSome}
 use Rattle.std.proofs.lemmas.Bool.{cases_lt, cases_eq}
 use Rattle.std.proofs.lemmas.Grind.{get_or_default_zero}
@@ -33,9 +35,11 @@ pub row_within : (p : Places) (row : ℕ) → row ≤ p.mutators → row_start p
 row_within p row known = let at = rows_apart p row (suc p.mutators) (omega arith) in let end = all_rows p in omega (arith, at, end)
 
 -- a store into a row, whose bound is above its place
-pub stored_bounded : (p : Places) (words : List (Option ℕ)) (used used' : List ℕ) (row k : ℕ) (v : Option ℕ) → AreBounded p words used → row ≤ p.mutators → k < row_length p row
+pub stored_bounded : (p : Places) (words : List (Option ℕ)) (used used' : List ℕ) (row k : ℕ) (v : Option ℕ) → AreBounded p words used
+    → row ≤ p.mutators → k < row_length p row
     → length used' ≡ length used → ((other : ℕ) → other ≢ row → get_or used' other 0 ≡ get_or used other 0)
-    → get_or used row 0 ≤ get_or used' row 0 → k < get_or used' row 0 → get_or used' row 0 ≤ row_length p row → AreBounded p (set words (row_start p row + k) v) used'
+    → get_or used row 0 ≤ get_or used' row 0 → k < get_or used' row 0 → get_or used' row 0 ≤ row_length p row
+    → AreBounded p (set words (row_start p row + k) v) used'
 stored_bounded p words used used' row k v b known inside len others more above most = record {
   places = length-set words (row_start p row + k) v ∙ b.places;
   rows = len ∙ b.rows;
@@ -53,27 +57,32 @@ stored_bounded p words used used' row k v b known inside len others more above m
         let same = others other ne in
         let apart : place ≢ row_start p row + k = λ q. absurd (elim (cases_lt other row) [
           | inl less ↦ let before = rows_apart p other row less in omega (arith, before, to, q)
-          | inr not_less ↦ let less : row < other = omega (arith, not_less, ne) in let before = rows_apart p row other less in omega (arith, before, from, inside, q)
+          | inr not_less ↦ let less : row < other = omega (arith, not_less, ne) in let before = rows_apart p row other less in
+              omega (arith, before, from, inside, q)
         ]) in
         get_or-set_other words (row_start p row + k) place v None apart ∙ b.nil other low place (omega (arith, from, same)) to
   ];
 }
 
 -- the same where the bound is raised to the place, or was above it
-pub raised : (p : Places) (words : List (Option ℕ)) (used : List ℕ) (row k : ℕ) (v : Option ℕ) → AreBounded p words used → row ≤ p.mutators → k < row_length p row
+pub raised : (p : Places) (words : List (Option ℕ)) (used : List ℕ) (row k : ℕ) (v : Option ℕ) → AreBounded p words used → row ≤ p.mutators
+    → k < row_length p row
     → get_or used row 0 ≤ k → AreBounded p (set words (row_start p row + k) v) (set used row (k + 1))
 raised p words used row k v b known inside below =
     let at : get_or (set used row (k + 1)) row 0 ≡ k + 1 = get_or-set_same used row (k + 1) 0 (omega (arith, known, b.rows)) in
-    stored_bounded p words used (set used row (k + 1)) row k v b known inside (length-set used row (k + 1)) (λ other ne. get_or-set_other used row other (k + 1) 0 ne)
+    stored_bounded p words used (set used row (k + 1)) row k v b known inside (length-set used row (k + 1))
+    (λ other ne. get_or-set_other used row other (k + 1) 0 ne)
     (omega (arith, at, below)) (omega (arith, at)) (omega (arith, at, inside))
 
-pub kept : (p : Places) (words : List (Option ℕ)) (used : List ℕ) (row k : ℕ) (v : Option ℕ) → AreBounded p words used → row ≤ p.mutators → k < row_length p row
+pub kept : (p : Places) (words : List (Option ℕ)) (used : List ℕ) (row k : ℕ) (v : Option ℕ) → AreBounded p words used → row ≤ p.mutators
+    → k < row_length p row
     → k < get_or used row 0 → AreBounded p (set words (row_start p row + k) v) used
 kept p words used row k v b known inside above =
     stored_bounded p words used used row k v b known inside refl (λ other ne. refl) (omega arith) above (b.within row known)
 
 -- a place that isn't nil takes a value
-pub updated : (p : Places) (words : List (Option ℕ)) (used : List ℕ) (place a : ℕ) (v : Option ℕ) → AreBounded p words used → get_or words place None ≡ Some a → AreBounded p (set words place v) used
+pub updated : (p : Places) (words : List (Option ℕ)) (used : List ℕ) (place a : ℕ) (v : Option ℕ) → AreBounded p words used
+    → get_or words place None ≡ Some a → AreBounded p (set words place v) used
 updated p words used place a v b named = record {
   places = length-set words place v ∙ b.places;
   rows = b.rows;
@@ -93,14 +102,18 @@ pub new_bounded : (p : Places) → AreBounded p (replicate {A = Option ℕ} (roo
 new_bounded p = record {
   places = length-replicate {A = Option ℕ} (root_places p) None;
   rows = length-replicate {A = ℕ} (p.mutators + 1) 0;
-  within = λ row low. let at : get_or (replicate (p.mutators + 1) 0) row 0 ≡ 0 = get_or-replicate {A = ℕ} (p.mutators + 1) row 0 0 (omega arith) in omega (arith, at);
-  nil = λ row low place from to. let end = row_within p row low in get_or-replicate {A = Option ℕ} (root_places p) place None None (omega (arith, to, end));
+  within = λ row low. let at : get_or (replicate (p.mutators + 1) 0) row 0 ≡ 0 =
+      get_or-replicate {A = ℕ} (p.mutators + 1) row 0 0 (omega arith) in omega (arith, at);
+  nil = λ row low place from to. let end = row_within p row low in
+      get_or-replicate {A = Option ℕ} (root_places p) place None None (omega (arith, to, end));
 }
 
 -- ---- the look for the next root
 -- nothing is named from one place on up to a row's bound, and before the row: so nothing is before the next row
-pub past_row : (p : Places) (words : List (Option ℕ)) (used : List ℕ) (from row : ℕ) → AreBounded p words used → row ≤ p.mutators → AreNil words from (row_start p row)
-    → ((place : ℕ) → from ≤ place → row_start p row ≤ place → place < row_start p row + get_or used row 0 → get_or words place None ≡ None) → AreNil words from (row_start p (suc row))
+pub past_row : (p : Places) (words : List (Option ℕ)) (used : List ℕ) (from row : ℕ) → AreBounded p words used → row ≤ p.mutators
+    → AreNil words from (row_start p row)
+    → ((place : ℕ) → from ≤ place → row_start p row ≤ place → place < row_start p row + get_or used row 0 → get_or words place None ≡ None)
+    → AreNil words from (row_start p (suc row))
 past_row p words used from row b known before inside place low high =
     let end = row_end p row in
     elim (cases_lt place (row_start p row)) [
@@ -112,7 +125,8 @@ past_row p words used from row b known before inside place low high =
     ]
 
 -- what is named first from a later place on is so from an earlier one on, where nothing between is named
-pub named_before : (words : List (Option ℕ)) (from start later place : ℕ) → AreNil words from start → from ≤ later → ((q : ℕ) → from ≤ q → q < later → q < start) → IsNextNamed words later place → IsNextNamed words from place
+pub named_before : (words : List (Option ℕ)) (from start later place : ℕ) → AreNil words from start → from ≤ later
+    → ((q : ℕ) → from ≤ q → q < later → q < start) → IsNextNamed words later place → IsNextNamed words from place
 named_before words from start later place nil low between n = record {
   from_on = omega (arith, low, n.from_on);
   nil_before = λ q l h. elim (cases_lt q later) [
@@ -128,7 +142,8 @@ pub bound_read : (used : List ℕ) (row x : ℕ) → row < length used → x ≡
 bound_read used row x inside e = e ∙ get_or_default_zero used row x inside
 
 -- a row's bound lies among the places
-pub bound_within : (p : Places) (words : List (Option ℕ)) (used : List ℕ) (row x : ℕ) → AreBounded p words used → row < length used → x ≡ get_or used row x → row_start p row + x ≤ length words
+pub bound_within : (p : Places) (words : List (Option ℕ)) (used : List ℕ) (row x : ℕ) → AreBounded p words used → row < length used
+    → x ≡ get_or used row x → row_start p row + x ≤ length words
 bound_within p words used row x b inside e =
     let known : row ≤ p.mutators = omega (arith, inside, b.rows) in
     let bound = bound_read used row x inside e in
@@ -137,23 +152,28 @@ bound_within p words used row x b inside e =
     omega (arith, most, end, bound, b.places)
 
 -- the same as `past_row`, as the code finds it
-pub past_read : (p : Places) (words : List (Option ℕ)) (used : List ℕ) (from row x from' : ℕ) → AreBounded p words used → row < length used → x ≡ get_or used row x → (from' ≤ from) ⊎ (from' ≤ row_start p row)
+pub past_read : (p : Places) (words : List (Option ℕ)) (used : List ℕ) (from row x from' : ℕ) → AreBounded p words used → row < length used
+    → x ≡ get_or used row x → (from' ≤ from) ⊎ (from' ≤ row_start p row)
     → AreNil words from (row_start p row) → AreNil words from' (row_start p row + x) → AreNil words from (row_start p (row + 1))
 past_read p words used from row x from' b inside e which before here =
     let known : row ≤ p.mutators = omega (arith, inside, b.rows) in
     let bound = bound_read used row x inside e in
     subst (λ (k : ℕ). AreNil words from (row_start p k)) {x = suc row} {y = row + 1} (omega arith)
     (past_row p words used from row b known before
-    (λ place low start high. here place (elim which [ inl l ↦ omega (arith, l, low) | inr l ↦ omega (arith, l, start) ]) (omega (arith, high, bound))))
+    (λ place low start high. here place (elim which [ inl l ↦ omega (arith, l, low) | inr l ↦ omega (arith, l, start) ])
+    (omega (arith, high, bound))))
 
 -- what the code stores: a place of a row, whose bound n was read
-pub stored_in : (p : Places) (words : List (Option ℕ)) (used : List ℕ) (row k place n : ℕ) (v : Option ℕ) → AreBounded p words used → row ≤ p.mutators → k < row_length p row
+pub stored_in : (p : Places) (words : List (Option ℕ)) (used : List ℕ) (row k place n : ℕ) (v : Option ℕ) → AreBounded p words used
+    → row ≤ p.mutators → k < row_length p row
     → place ≡ row_start p row + k → n ≡ get_or used row n → n ≤ k → AreBounded p (set words place v) (set used row (k + 1))
 stored_in p words used row k place n v b known inside at e below =
     let bound = bound_read used row n (omega (arith, known, b.rows)) e in
-    subst (λ (q : ℕ). AreBounded p (set words q v) (set used row (k + 1))) (sym at) (raised p words used row k v b known inside (omega (arith, bound, below)))
+    subst (λ (q : ℕ). AreBounded p (set words q v) (set used row (k + 1))) (sym at)
+    (raised p words used row k v b known inside (omega (arith, bound, below)))
 
-pub kept_in : (p : Places) (words : List (Option ℕ)) (used : List ℕ) (row k place n : ℕ) (v : Option ℕ) → AreBounded p words used → row ≤ p.mutators → k < row_length p row
+pub kept_in : (p : Places) (words : List (Option ℕ)) (used : List ℕ) (row k place n : ℕ) (v : Option ℕ) → AreBounded p words used
+    → row ≤ p.mutators → k < row_length p row
     → place ≡ row_start p row + k → n ≡ get_or used row n → k < n → AreBounded p (set words place v) used
 kept_in p words used row k place n v b known inside at e above =
     let bound = bound_read used row n (omega (arith, known, b.rows)) e in
@@ -163,13 +183,15 @@ kept_in p words used row k place n v b known inside at e above =
 pub one_more : (m : ℕ) → suc m ≡ m + 1
 one_more m = omega arith
 
-pub register_stored : (p : Places) (words : List (Option ℕ)) (used : List ℕ) (m k place n : ℕ) (v : Option ℕ) → AreBounded p words used → m < p.mutators → k < p.registers
+pub register_stored : (p : Places) (words : List (Option ℕ)) (used : List ℕ) (m k place n : ℕ) (v : Option ℕ) → AreBounded p words used
+    → m < p.mutators → k < p.registers
     → place ≡ register_place p m k → n ≡ get_or used (m + 1) n → n ≤ k → AreBounded p (set words place v) (set used (m + 1) (k + 1))
 register_stored p words used m k place n v b known inside at =
     subst (λ (row : ℕ). n ≡ get_or used row n → n ≤ k → AreBounded p (set words place v) (set used row (k + 1))) (one_more m)
     (λ e below. stored_in p words used (suc m) k place n v b (omega (arith, known)) inside (omega (arith, at)) e below)
 
-pub register_kept : (p : Places) (words : List (Option ℕ)) (used : List ℕ) (m k place n : ℕ) (v : Option ℕ) → AreBounded p words used → m < p.mutators → k < p.registers
+pub register_kept : (p : Places) (words : List (Option ℕ)) (used : List ℕ) (m k place n : ℕ) (v : Option ℕ) → AreBounded p words used
+    → m < p.mutators → k < p.registers
     → place ≡ register_place p m k → n ≡ get_or used (m + 1) n → k < n → AreBounded p (set words place v) used
 register_kept p words used m k place n v b known inside at =
     subst (λ (row : ℕ). n ≡ get_or used row n → k < n → AreBounded p (set words place v) used) (one_more m)
@@ -181,10 +203,12 @@ register_within p m k known inside = let end = row_within p (suc m) (omega (arit
 
 -- ---- the starts of rows
 -- a start that was read
-pub start_read : (p : Places) (starts : List ℕ) (row x : ℕ) → AreStarts p starts → row < length starts → x ≡ get_or starts row x → x ≡ row_start p row
+pub start_read : (p : Places) (starts : List ℕ) (row x : ℕ) → AreStarts p starts → row < length starts → x ≡ get_or starts row x
+    → x ≡ row_start p row
 start_read p starts row x s inside e = bound_read starts row x inside e ∙ s.each row (omega (arith, inside, s.rows))
 
 -- the same of a mutator's row, which the code writes as m + 1
-pub register_start : (p : Places) (starts : List ℕ) (m x : ℕ) → AreStarts p starts → m < p.mutators → x ≡ get_or starts (m + 1) x → x ≡ register_place p m 0
+pub register_start : (p : Places) (starts : List ℕ) (m x : ℕ) → AreStarts p starts → m < p.mutators → x ≡ get_or starts (m + 1) x
+    → x ≡ register_place p m 0
 register_start p starts m x s known e =
     start_read p starts (suc m) x s (omega (arith, known, s.rows)) (subst (λ (row : ℕ). x ≡ get_or starts row x) (sym (one_more m)) e)

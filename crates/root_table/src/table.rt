@@ -1,6 +1,7 @@
 //! The table of roots.
 
-ghost use Rattle.std.specs.Prelude.{◌≡◌, ◌<◌, ◌≤◌, ◌+◌, ◌-◌, ◌*◌, ◌^◌, None, IfOk, IfSome, IsSome, length, MatchOption, replicate, slice_get, slice_index_or, slice_set};
+ghost use Rattle.std.specs.Prelude.{◌≡◌, ◌<◌, ◌≤◌, ◌+◌, ◌-◌, ◌*◌, ◌^◌};
+ghost use Rattle.std.specs.Prelude.{None, IfOk, IfSome, IsSome, length, MatchOption, replicate, slice_get, slice_index_or, slice_set};
 ghost use Rattle.heap_model.specs.Graph.{register_place, root_places, with_nils};
 ghost use Rattle.root_table.specs.Roots.{row_start, row_length, AreNil, IsNextNamed};
 ghost use Rattle.root_table.specs.Bounds.{AreStarts};
@@ -166,7 +167,10 @@ impl Roots {
     pub fn leave(&mut self, mutator: u32, register: u32)
         requires mutator { mutator < self.old.places.mutators }
         requires register { register < self.old.places.registers }
-        ensures { self.new ≡ record self.old { words = with_nils self.old.words (register_place self.old.places mutator register) (self.old.places.registers - register) } }
+        ensures { self.new ≡ record self.old {
+          words = with_nils self.old.words (register_place self.old.places mutator register)
+              (self.old.places.registers - register);
+        } }
     {
         let row = mutator as usize + 1;
         let used = self.used[row];

@@ -3,7 +3,8 @@
 //! Over a marking cycle: all logs are empty when marking begins; each mutator's stores fill its own; a full one is
 //! drained within the store that filled it; at the end all are drained.
 
-ghost use Rattle.std.specs.Prelude.{◌≡◌, ◌⊎◌, ℕ, ◌<◌, ◌≤◌, List, [], ◌∷◌, ◌++◌, ◌==◌, Contains, IfOk, length, replicate, slice_get, slice_set, Some};
+ghost use Rattle.std.specs.Prelude.{◌≡◌, ◌⊎◌, ◌<◌, ◌≤◌, ◌∷◌, ◌++◌, ◌==◌};
+ghost use Rattle.std.specs.Prelude.{ℕ, List, [], Contains, IfOk, length, replicate, slice_get, slice_set, Some};
 ghost use Rattle.satb_log.specs.Logs.{log_of, logged};
 
 use crate::log::DeletionLog;

@@ -11,5 +11,9 @@ abbrev spent : Reader
 spent = record { left = None; refused = true }
 
 pub returns-in-Err : goal.returns-in-Err
-returns-in-Err g c =
-    (fresh, spent, rw (← c.task.ensures) (c.conclude_unread.ensures fresh spent _ _ (([], tt), refl) (Keeps-refl c.args.out.now.held, refl)))
+returns-in-Err g c = (
+  fresh,
+  spent,
+  rw (← c.task.ensures) (c.conclude_unread.ensures fresh spent _ _ (([], tt), refl)
+      (Keeps-refl c.args.out.now.held, refl)),
+)

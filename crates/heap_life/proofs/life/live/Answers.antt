@@ -15,7 +15,8 @@ use Rattle.heap_life.proofs.life.live.Goals as goal
 
 pub returns-in-Err-clause-fault : goal.returns-in-Err-clause-fault
 returns-in-Err-clause-fault c =
-    subst (λ (config : Config). IsRunFault config c.run_fault.result) c.config-config.ensures (c.run_fault.ensures c.config-config.result c.in-Err.ensures.fault)
+    subst (λ (config : Config). IsRunFault config c.run_fault.result) c.config-config.ensures
+    (c.run_fault.ensures c.config-config.result c.in-Err.ensures.fault)
 
 pub life_of-requires : goal.life_of-requires
 life_of-requires c =
@@ -40,9 +41,12 @@ returns-in-Ok-life_of-clause-life c =
       last = runs.last;
       run = subst (λ (k : Config). IsRun (first_state k) es runs.last) is (history_is_run _ _ _ _ _ runs.history);
       end = c.life_of.new.core;
-      ends = subst (λ (k : Config). RunsTo k es c.life_of.new.core) is (runs_to config c.in-Ok.core c.life_of.new.core es made.fresh made.core made.stands runs);
-      each = subst (λ (k : Config). All (IsMomentOf k es) ms) is (all_of_new config c.in-Ok.core es ms made.fresh made.core made.stands lived.each);
+      ends = subst (λ (k : Config). RunsTo k es c.life_of.new.core) is
+          (runs_to config c.in-Ok.core c.life_of.new.core es made.fresh made.core made.stands runs);
+      each = subst (λ (k : Config). All (IsMomentOf k es) ms) is
+          (all_of_new config c.in-Ok.core es ms made.fresh made.core made.stands lived.each);
       pace = pace_for c.args.every c.from.result c.most_moments.result config c.args.events.now.config c.events.result.now c.args.events.now.events life.pace c.pace_of-pace.result
           c.pace_of-pace.ensures c.from.ensures c.most_moments.ensures is c.events.ensures.events lived.pace;
-      due = subst (λ (events : List Event). (n : ℕ) → n ≤ length events → IsDue life.pace events n → HasMoment ms n) c.events-2.ensures.events lived.due;
+      due = subst (λ (events : List Event). (n : ℕ) → n ≤ length events → IsDue life.pace events n
+          → HasMoment ms n) c.events-2.ensures.events lived.due;
     }

@@ -7,7 +7,8 @@ use Rattle.step_core.specs.Histories.{Runs, step_in, actor_in}
 use Rattle.step_core.proofs.Cores.Following.{goes_on}
 use Rattle.heap_life.specs.Paces.{counts, one_if, IsShown}
 use Rattle.heap_life.specs.Lives.{moved_in, IsMomentFrom}
-use Rattle.heap_life.proofs.Moments.{grown_at, many_more, counted_at, one_most, moved_next, all_later, all_noted, due_more, due_whole, shown_ahead, stops}
+use Rattle.heap_life.proofs.Moments.{grown_at, many_more, counted_at, one_most, moved_next, all_later, all_noted, due_more, due_whole}
+use Rattle.heap_life.proofs.Moments.{shown_ahead, stops}
 use Rattle.heap_life.proofs.life.live_on.Goals as goal
 
 pub step-reply-requires : goal.step-reply-requires
@@ -27,19 +28,24 @@ loop-index-preserved c =
     let at = c.event_at-event.ensures.at in
     let lt = c.loop-index-test.true in
     let notes = c.in_ok-note_if.ensures in
-    let ahead = λ (shown : IsShown p xs index). c.shows-ahead.ensures ∙ shown_ahead p xs index c.loop-index.counted e at inv.counting shown in
+    let ahead = λ (shown : IsShown p xs index). c.shows-ahead.ensures
+    ∙ shown_ahead p xs index c.loop-index.counted e at inv.counting shown in
     record {
       history = λ s st. subst (λ (es : List Event). Runs s c.args.core.now es c.step-reply.new.self) (sym events)
           (goes_on s c.args.core.now c.loop-index.done.events _ c.loop-index.core c.step-reply.new.self (inv.history s st)
           c.step-reply.ensures.follows c.step-reply.ensures.does c.step-reply.ensures.full c.remembers.ensures.core c.remembers.ensures.cards c.whole.ensures);
       steps = ap (λ (es : List Event). map step_in es) events ∙ grown_at step_in c.loop-index.done.events _ xs index e inv.steps lt at refl;
-      actors = ap (λ (es : List Event). map actor_in es) events ∙ grown_at actor_in c.loop-index.done.events _ xs index e inv.actors lt at refl;
+      actors = ap (λ (es : List Event). map actor_in es) events
+          ∙ grown_at actor_in c.loop-index.done.events _ xs index e inv.actors lt at refl;
       config = c.step-reply.ensures.config ∙ inv.config;
       done = ap (λ (r : EventList). r.config) pushed ∙ inv.done;
       many = ap (λ (es : List Event). length es) events ∙ many_more c.loop-index.done.events _ index inv.many;
-      counting = c.count_on-counted.ensures ∙ ap (λ (n : ℕ). n + one_if (counts p e.step)) inv.counting ∙ sym (counted_at p xs index e lt at);
-      few = let most = one_most (counts p e.step) in let is = c.count_on-counted.ensures in let few = inv.few in omega (arith, most, is, few);
-      copying = c.saturating_add-copied.ensures ∙ moved_next c.loop-index.done.events _ c.loop-index.copied c.words_moved.result inv.copying c.words_moved.ensures
+      counting = c.count_on-counted.ensures ∙ ap (λ (n : ℕ). n + one_if (counts p e.step)) inv.counting
+          ∙ sym (counted_at p xs index e lt at);
+      few = let most = one_most (counts p e.step) in let is = c.count_on-counted.ensures in let few = inv.few in
+          omega (arith, most, is, few);
+      copying = c.saturating_add-copied.ensures
+          ∙ moved_next c.loop-index.done.events _ c.loop-index.copied c.words_moved.result inv.copying c.words_moved.ensures
           ∙ ap (λ (es : List Event). min (moved_in es) 18446744073709551615) (sym events);
       each = subst (λ (es : List Event). All (IsMomentFrom c.args.core.now es) c.note_if.new.moments.items) (sym events)
           (all_later c.args.core.now c.loop-index.done.events _ c.note_if.new.moments.items
@@ -56,11 +62,13 @@ returns-clause-each c =
     let inv = c.loop-index.invariant in
     let many = inv.many in
     let end : length c.args.events.now ≡ length c.loop-index.done.events = omega (arith, many) in
-    all_noted true c.args.core.now c.loop-index.core c.loop-index.done.events (length c.args.events.now) c.loop-index.copied c.loop-index.moments.items c.note_if-2.new.moments.items
+    all_noted true c.args.core.now c.loop-index.core c.loop-index.done.events
+    (length c.args.events.now) c.loop-index.copied c.loop-index.moments.items c.note_if-2.new.moments.items
     c.in_ok-note_if-2.ensures end inv.history inv.copying inv.each
 
 pub returns-clause-due : goal.returns-clause-due
 returns-clause-due c =
     let inv = c.loop-index.invariant in
-    due_whole c.args.pace.now c.args.events.now c.loop-index.core (length c.args.events.now) c.loop-index.copied c.loop-index.moments.items c.note_if-2.new.moments.items
+    due_whole c.args.pace.now c.args.events.now c.loop-index.core
+    (length c.args.events.now) c.loop-index.copied c.loop-index.moments.items c.note_if-2.new.moments.items
     c.in_ok-note_if-2.ensures refl (λ n lt due. inv.due n (omega arith) due)

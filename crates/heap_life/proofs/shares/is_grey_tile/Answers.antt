@@ -6,4 +6,5 @@ use Rattle.heap_life.proofs.shares.is_grey_tile.Goals as goal
 
 pub is_grey-requires : goal.is_grey-requires
 is_grey-requires c =
-    shape_object c.args.core.now.table c.args.at _ _ _ (subst (λ (s : Shape). IsPlacedTile c.args.core.now.table c.args.at s) c.in-Object.is c.requires)
+    shape_object c.args.core.now.table c.args.at _ _ _
+    (subst (λ (s : Shape). IsPlacedTile c.args.core.now.table c.args.at s) c.in-Object.is c.requires)

@@ -9,4 +9,5 @@ get-requires c =
     let known = c.remembers.ensures.core.layers.marker.next.each_word in
     let shaped = subst IsShaped c.table.ensures c.law.ensures in
     let word = object_word c.args.core.now.table c.args.object shaped c.requires in
-    subst (λ (m : Marker). c.args.object < length m.bitmaps.next) (sym c.marker-marker.ensures) (subst (λ (n : ℕ). c.args.object < n) (sym known) word)
+    subst (λ (m : Marker). c.args.object < length m.bitmaps.next) (sym c.marker-marker.ensures)
+    (subst (λ (n : ℕ). c.args.object < n) (sym known) word)

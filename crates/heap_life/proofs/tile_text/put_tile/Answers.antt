@@ -6,4 +6,5 @@ use Rattle.heap_life.proofs.tile_text.put_tile.Goals as goal
 
 pub put_object-requires : goal.put_object-requires
 put_object-requires c =
-    shape_object c.args.core.now.table c.args.at _ _ _ (subst (λ (s : Shape). IsPlacedTile c.args.core.now.table c.args.at s) c.in-Object.is c.requires)
+    shape_object c.args.core.now.table c.args.at _ _ _
+    (subst (λ (s : Shape). IsPlacedTile c.args.core.now.table c.args.at s) c.in-Object.is c.requires)

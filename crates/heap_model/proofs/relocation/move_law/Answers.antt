@@ -6,4 +6,5 @@ pub returns-clause-shows : goal.returns-clause-shows
 returns-clause-shows c = λ place g h h' shows r. relocated_shows place g h h' shows r
 
 pub returns-clause-marking : goal.returns-clause-marking
-returns-clause-marking c = λ place s g h h' m shows r keeps i. relocated_invariant place g h h' shows r (IsReachable s) (next_name s) m i keeps
+returns-clause-marking c = λ place s g h h' m shows r keeps i. relocated_invariant place g h h' shows r (IsReachable s)
+    (next_name s) m i keeps

@@ -1,4 +1,5 @@
-use Rattle.heap_model.proofs.Unreached.{unreached_begins, unreached_root, unreached_object, unreached_changed, unreached_written, unreached_touched}
+use Rattle.heap_model.proofs.Unreached.{unreached_begins, unreached_root, unreached_object, unreached_changed, unreached_written}
+use Rattle.heap_model.proofs.Unreached.{unreached_touched}
 use Rattle.heap_model.proofs.weak.unreached_law.Goals as goal
 
 pub returns-clause-begins : goal.returns-clause-begins

@@ -12,4 +12,5 @@ loop-at-init g c =
     let shaped = subst IsShaped c.table.ensures c.law.ensures in
     let walk = c.into_iter-at-iterator.ensures.into_iter_gives ∙ c.walk-at-items.ensures
     ∙ ap (λ (t : Table). placed (c.args.region * t.words_per_region) (tiles_of t c.args.region)) c.table-2.ensures in
-    subst (λ (l : List (Addr × Shape)). ArePlaced c.args.core.now.table l) (sym walk) (walk_placed c.args.core.now.table c.args.region shaped)
+    subst (λ (l : List (Addr × Shape)). ArePlaced c.args.core.now.table l) (sym walk)
+    (walk_placed c.args.core.now.table c.args.region shaped)

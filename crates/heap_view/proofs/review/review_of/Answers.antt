@@ -12,4 +12,5 @@ core_over-requires c =
     let at = c.args.glance.now.at in
     let events = c.first_of-events.ensures ∙ ap (λ (es : List Event). front at es) c.events.ensures.events in
     let each = all_front (IsEvent history.config) at history.events c.events.ensures.each in
-    subst (λ (es : List Event). All (IsEvent c.config.result) es) (sym events) (subst (λ (config : Config). All (IsEvent config) (front at history.events)) (sym c.config.ensures) each)
+    subst (λ (es : List Event). All (IsEvent c.config.result) es) (sym events)
+    (subst (λ (config : Config). All (IsEvent config) (front at history.events)) (sym c.config.ensures) each)

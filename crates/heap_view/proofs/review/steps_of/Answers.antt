@@ -20,13 +20,16 @@ is_step config actor (steps.Collector k) h = tt
 
 are_steps : (config : Config) (events : List Event) → AreEvents config events → All (IsStep config) (map step_in events)
 are_steps config events known =
-    All-map (IsStep config) step_in events (All-weaker (IsEvent config) (λ (e : Event). IsStep config (step_in e)) (λ e h. is_step config e.actor e.step h) events known)
+    All-map (IsStep config) step_in events
+    (All-weaker (IsEvent config) (λ (e : Event). IsStep config (step_in e)) (λ e h. is_step config e.actor e.step h) events known)
 
 -- the steps of all events, where the loop is at their end
-all_steps : (items : List Step) (events : List Event) (i : ℕ) → items ≡ map step_in (take i events) → length events ≤ i → items ≡ map step_in events
+all_steps : (items : List Step) (events : List Event) (i : ℕ) → items ≡ map step_in (take i events) → length events ≤ i
+    → items ≡ map step_in events
 all_steps items events i is past = is ∙ ap (λ (es : List Event). map step_in es) (take_all i events past)
 
 pub returns-clause-known : goal.returns-clause-known
 returns-clause-known c = λ config known.
-    let items = all_steps c.loop-event.steps.items c.args.events.now c.loop-event.event-index c.loop-event.invariant (let done = c.loop-event-test.false in omega arith) in
+    let items = all_steps c.loop-event.steps.items c.args.events.now c.loop-event.event-index c.loop-event.invariant
+    (let done = c.loop-event-test.false in omega arith) in
     subst (λ (ss : List Step). All (IsStep config) ss) (sym items) (are_steps config c.args.events.now known)

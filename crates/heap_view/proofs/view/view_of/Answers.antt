@@ -19,7 +19,14 @@ returns-in-Ok-clause-run c =
     if_ok c.text_of.result (
       c.in-Ok._record,
       subst (λ (p : StepList). IsRunInOrder p c.in-Ok._record) same
-          (record { config = run.config; steps = run.steps; actors = run.actors; last = last; run = is; history = (c.in-Ok.core, run.history) }),
+          (record {
+            config = run.config;
+            steps = run.steps;
+            actors = run.actors;
+            last = last;
+            run = is;
+            history = (c.in-Ok.core, run.history);
+          }),
     )
 
 pub returns-in-Ok-clause-fault : goal.returns-in-Ok-clause-fault
@@ -34,4 +41,5 @@ run_to_core-requires c =
     let at = c.args.glance.now.at in
     let steps = c.first_of.ensures ∙ ap (λ (ss : List Step). front at ss) c.steps.ensures.steps in
     let each = all_front (IsStep plan.config) at plan.steps c.steps.ensures.each in
-    subst (λ (ss : List Step). All (IsStep c.config.result) ss) (sym steps) (subst (λ (config : Config). All (IsStep config) (front at plan.steps)) (sym c.config.ensures) each)
+    subst (λ (ss : List Step). All (IsStep c.config.result) ss) (sym steps)
+    (subst (λ (config : Config). All (IsStep config) (front at plan.steps)) (sym c.config.ensures) each)

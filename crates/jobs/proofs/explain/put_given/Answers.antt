@@ -8,4 +8,5 @@ three front a b c mid left all p q r = rw (r, q, p) (simp append_assoc)
 
 pub returns-in-Object-clause-put : goal.returns-in-Object-clause-put
 returns-in-Object-clause-put c =
-    rw c.in-Object.is (three (take c.args.at c.args.buffer.now) (codes "#") (decimal c.in-Object.name) (codes " or refused 3 Full") _ _ _ c.put_text-at.ensures.put c.put_number-at.ensures.put c.put_text.ensures.put)
+    rw c.in-Object.is (three (take c.args.at c.args.buffer.now) (codes "#") (decimal c.in-Object.name)
+    (codes " or refused 3 Full") _ _ _ c.put_text-at.ensures.put c.put_number-at.ensures.put c.put_text.ensures.put)

@@ -11,5 +11,6 @@ largest n is =
 
 pub returns-then-number-eq18446744073709551615-clause-put : goal.returns-then-number-eq18446744073709551615-clause-put
 returns-then-number-eq18446744073709551615-clause-put c =
-    c.put_text.ensures.put ∙ ap (λ (t : List ℕ). t ++ 54 ∷ []) c.put_number-at.ensures.put ∙ append_assoc (take c.args.at c.args.buffer.now) (decimal 1844674407370955161) (54 ∷ [])
+    c.put_text.ensures.put ∙ ap (λ (t : List ℕ). t ++ 54 ∷ []) c.put_number-at.ensures.put
+    ∙ append_assoc (take c.args.at c.args.buffer.now) (decimal 1844674407370955161) (54 ∷ [])
     ∙ ap (λ (t : List ℕ). take c.args.at c.args.buffer.now ++ t) (largest c.args.number c.if-number-eq18446744073709551615.true)

@@ -13,11 +13,14 @@ use Rattle.jobs.proofs.Following.{found_yes, found_no, found_wrong, found_unread
 use Rattle.jobs.proofs.follow.follow_events.Goals as goal
 
 -- what a call gave, at the answer that it had
-next_at : (read : List ℕ → Result Event Kind) (waits left : List ℕ) (now next : Reader) (r s : Result (Option Event) NextFault) → r ≡ s → IsNext read waits left now next r → IsNext read waits left now next s
+next_at : (read : List ℕ → Result Event Kind) (waits left : List ℕ) (now next : Reader) (r s : Result (Option Event) NextFault) → r ≡ s
+    → IsNext read waits left now next r → IsNext read waits left now next s
 next_at read waits left now next r s e is = subst (λ (x : Result (Option Event) NextFault). IsNext read waits left now next x) e is
 
-took_at : {E : Type 0} (j k : Judging) (e : Event) (r : Result (Option Given) E) (told : Option Given) → r ≡ Ok told → IfOk r (λ t. (es : List Event) → HasTaken j es → TakesNext j k es e t) → (es : List Event) → HasTaken j es → TakesNext j k es e told
-took_at {E} j k e r told is h = subst (λ (x : Result (Option Given) E). IfOk x (λ t. (es : List Event) → HasTaken j es → TakesNext j k es e t)) is h
+took_at : {E : Type 0} (j k : Judging) (e : Event) (r : Result (Option Given) E) (told : Option Given) → r ≡ Ok told
+    → IfOk r (λ t. (es : List Event) → HasTaken j es → TakesNext j k es e t) → (es : List Event) → HasTaken j es → TakesNext j k es e told
+took_at {E} j k e r told is h = subst (λ (x : Result (Option Given) E). IfOk x
+    (λ t. (es : List Event) → HasTaken j es → TakesNext j k es e t)) is h
 
 pub returns-in-Ok-None : goal.returns-in-Ok-None
 returns-in-Ok-None g c =
@@ -38,7 +41,8 @@ pub returns-in-Ok-Some-take : goal.returns-in-Ok-Some-take
 returns-in-Ok-Some-take g c =
     let next = next_at (event_line_of c.loop-count.count c.args.config.now) c.loop-count.lines c.next_event.new.self c.loop-count.reader c.next_event.new.reader c.next_event.result (Ok (Some c.in-Ok-Some.event)) (c.in-Ok-Some.is ∙ ap Ok c.in-Ok-Some.field-0-is) c.next_event.ensures.next in
     found_no c.args.config.now c.loop-count.judge c.take.new.self c.args.reader.now c.args.lines.now c.loop-count.reader c.next_event.new.reader c.loop-count.lines c.next_event.new.self c.loop-count.count c.in-Ok-Some.event c.in-Ok-Some-take.given c.requires.suits c.loop-count.invariant next
-    (took_at c.loop-count.judge c.take.new.self c.in-Ok-Some.event c.take.result (Some c.in-Ok-Some-take.given) (c.in-Ok-Some-take.is ∙ ap Ok c.in-Ok-Some-take.field-0-is) c.take.ensures.told)
+    (took_at c.loop-count.judge c.take.new.self c.in-Ok-Some.event c.take.result (Some c.in-Ok-Some-take.given)
+    (c.in-Ok-Some-take.is ∙ ap Ok c.in-Ok-Some-take.field-0-is) c.take.ensures.told)
 
 pub returns-in-Err : goal.returns-in-Err
 returns-in-Err g c =
@@ -49,4 +53,5 @@ pub loop-count-preserved : goal.loop-count-preserved
 loop-count-preserved g c =
     let next = next_at (event_line_of c.loop-count.count c.args.config.now) c.loop-count.lines c.next_event.new.self c.loop-count.reader c.next_event.new.reader c.next_event.result (Ok (Some c.in-Ok-Some.event)) (c.in-Ok-Some.is ∙ ap Ok c.in-Ok-Some.field-0-is) c.next_event.ensures.next in
     goes_on c.args.config.now c.loop-count.judge c.take.new.self c.args.reader.now c.args.lines.now c.loop-count.reader c.next_event.new.reader c.loop-count.lines c.next_event.new.self c.loop-count.count c.in-Ok-Some.event c.loop-count.invariant next
-    c.take.ensures.config (took_at c.loop-count.judge c.take.new.self c.in-Ok-Some.event c.take.result None (c.in-Ok-None-take.is ∙ ap Ok c.in-Ok-None-take.field-0-is) c.take.ensures.told)
+    c.take.ensures.config (took_at c.loop-count.judge c.take.new.self c.in-Ok-Some.event c.take.result None
+    (c.in-Ok-None-take.is ∙ ap Ok c.in-Ok-None-take.field-0-is) c.take.ensures.told)

@@ -6,4 +6,5 @@ use Rattle.object_graph.proofs.SinceLaws.{cleared_unreached}
 use Rattle.object_graph.proofs.laws.cleared_law.Goals as goal
 
 pub returns : goal.returns
-returns c = λ st s after since is clears. cleared_unreached s st.graph after (subst (λ (o : Option Graph). ForSnapshot o (λ t. IsSince t st.graph)) is since) clears
+returns c = λ st s after since is clears. cleared_unreached s st.graph after
+    (subst (λ (o : Option Graph). ForSnapshot o (λ t. IsSince t st.graph)) is since) clears

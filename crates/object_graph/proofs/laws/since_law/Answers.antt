@@ -12,8 +12,10 @@ pub returns-clause-step : goal.returns-clause-step
 returns-clause-step c = happens_since
 
 pub returns-clause-reached : goal.returns-clause-reached
-returns-clause-reached c = λ st s since is n r. reaches_known s st.graph (subst (λ (o : Option Graph). ForSnapshot o (λ t. IsSince t st.graph)) is since) n r
+returns-clause-reached c = λ st s since is n r. reaches_known s st.graph
+    (subst (λ (o : Option Graph). ForSnapshot o (λ t. IsSince t st.graph)) is since) n r
 
 pub returns-clause-unreached : goal.returns-clause-unreached
 returns-clause-unreached c = λ st s sound since is.
-    since_unreached s st.graph (subst (λ (o : Option Graph). ForSnapshot o (λ t. IsEarlier t st.graph)) is sound.snapshot) (subst (λ (o : Option Graph). ForSnapshot o (λ t. IsSince t st.graph)) is since)
+    since_unreached s st.graph (subst (λ (o : Option Graph). ForSnapshot o (λ t. IsEarlier t st.graph)) is sound.snapshot)
+    (subst (λ (o : Option Graph). ForSnapshot o (λ t. IsSince t st.graph)) is since)

@@ -12,4 +12,5 @@ loop-index-preserved c =
     ∙ ap (λ (n : ℕ). with_nils c.args.roots.now c.args.first n) {x = suc c.loop-index.index} {y = c.loop-index.index + 1} (omega arith))
 
 pub returns : goal.returns
-returns c = c.loop-index.invariant ∙ ap (λ (n : ℕ). with_nils c.args.roots.now c.args.first n) {x = c.loop-index.index} {y = c.args.count} (omega (arith, c.loop-index-test.false, c.loop-index.auto.index-end))
+returns c = c.loop-index.invariant ∙ ap (λ (n : ℕ). with_nils c.args.roots.now c.args.first n) {x = c.loop-index.index} {y = c.args.count}
+    (omega (arith, c.loop-index-test.false, c.loop-index.auto.index-end))

@@ -6,6 +6,8 @@ use Rattle.alloc_buffers.proofs.buffers.AllocBuffers.retire_all.Goals as goal
 
 pub returns-clause-above : goal.returns-clause-above
 returns-clause-above c = λ t limit tops.
-    let count : length c.forget.new.buffers ≡ length c.deref_mut.result.now = ap (λ (xs : List (Option Buffer)). length xs) c.forget.ensures ∙ length-replicate {A = Option Buffer} (length c.deref_mut.result.now) None in
+    let count : length c.forget.new.buffers ≡ length c.deref_mut.result.now =
+    ap (λ (xs : List (Option Buffer)). length xs) c.forget.ensures
+    ∙ length-replicate {A = Option Buffer} (length c.deref_mut.result.now) None in
     let len : length c.forget.new.buffers ≡ c.self.inside.open_buffers.len = omega (arith, count, c.deref_mut.ensures.len) in
     retired_above t _ _ limit (with_items_is c.self.inside.open_buffers c.forget.new.buffers len ∙ c.forget.ensures) tops

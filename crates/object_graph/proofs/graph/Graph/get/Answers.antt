@@ -7,8 +7,12 @@ returns-in_default c = no_object c.args.self.now c.args.mutator c.args.object _ 
 
 pub returns-in_default-get_pointer : goal.returns-in_default-get_pointer
 returns-in_default-get_pointer c =
-    no_field _ c.args.self.now c.args.mutator c.args.object c.in-Some.place c.args.field (λ x. x.pointers) _ c.self.view_is (sym c.place.ensures ∙ c.in-Some.is) (sym c.get_pointer.ensures ∙ c.in_default-get_pointer.is)
+    no_field _ c.args.self.now c.args.mutator c.args.object c.in-Some.place c.args.field (λ x. x.pointers) _ c.self.view_is
+    (sym c.place.ensures ∙ c.in-Some.is) (sym c.get_pointer.ensures ∙ c.in_default-get_pointer.is)
 
 pub returns : goal.returns
 returns c =
-    rw c.name.ensures (rw c.set_register.ensures (the_field _ c.args.self.now c.args.mutator c.args.object c.in-Some.place c.args.field (λ x. x.pointers) _ c.in-Some-get_pointer.value c.self.view_is (sym c.place.ensures ∙ c.in-Some.is) (sym c.get_pointer.ensures ∙ c.in-Some-get_pointer.is)))
+    rw c.name.ensures (rw c.set_register.ensures
+    (the_field _ c.args.self.now c.args.mutator c.args.object c.in-Some.place c.args.field
+    (λ x. x.pointers) _ c.in-Some-get_pointer.value c.self.view_is (sym c.place.ensures ∙ c.in-Some.is)
+    (sym c.get_pointer.ensures ∙ c.in-Some-get_pointer.is)))

@@ -12,5 +12,14 @@ returns-then-field-pointer_count c = past_fields _ c.args.self.now c.args.mutato
 
 pub returns : goal.returns
 returns c =
-    changed_object _ c.args.self.now c.args.mutator c.args.object c.in-Some.place c.args.field c.pointer_count.result (λ x. x.pointers) (λ x. record x { pointers = slice_set x.pointers c.args.field (stored c.args.self.now c.args.mutator c.args.value) }) _ c.self.view_is (sym c.place.ensures ∙ c.in-Some.is) c.pointer_count.ensures c.if-field-pointer_count.false
-    (c.set_pointer.ensures ∙ ap (λ (v : Option ℕ). slice_set c.self.inside.objects c.in-Some.place (record (object_in c.self.inside.objects c.in-Some.place) { pointers = slice_set (object_in c.self.inside.objects c.in-Some.place).pointers c.args.field v })) c.stored-value.ensures)
+    changed_object _ c.args.self.now c.args.mutator c.args.object c.in-Some.place c.args.field c.pointer_count.result (λ x. x.pointers)
+    (λ x. record x {
+      pointers = slice_set x.pointers c.args.field
+          (stored c.args.self.now c.args.mutator c.args.value);
+    }) _ c.self.view_is
+    (sym c.place.ensures ∙ c.in-Some.is) c.pointer_count.ensures c.if-field-pointer_count.false
+    (c.set_pointer.ensures ∙ ap (λ (v : Option ℕ). slice_set c.self.inside.objects c.in-Some.place
+    (record (object_in c.self.inside.objects c.in-Some.place) {
+      pointers = slice_set
+          (object_in c.self.inside.objects c.in-Some.place).pointers c.args.field v;
+    })) c.stored-value.ensures)

@@ -10,20 +10,42 @@ pub returns-then-used-from : goal.returns-then-used-from
 returns-then-used-from c =
     let mutators = ap (λ (g : Graph). g.places.mutators) c.self.view_is in
     let registers = ap (λ (g : Graph). g.places.registers) c.self.view_is in
-    let nothing = left_nothing (record { places = c.self.inside.places; words = c.self.inside.roots.items }) c.self.inside.used.items c.args.mutator c.args.from.number c.index-used.result.now c.self.invariant.bounds
+    let nothing = left_nothing (record {
+      places = c.self.inside.places;
+      words = c.self.inside.roots.items;
+    }) c.self.inside.used.items c.args.mutator c.args.from.number c.index-used.result.now c.self.invariant.bounds
     (omega (arith, c.requires.mutator, mutators)) (omega (arith, c.requires.from, registers)) c.if-used-from.true c.index-used.ensures in
-    subst (λ (g : Graph). (replies.Done, g) ≡ (replies.Done, with_nil_roots g (register_place g.places c.args.mutator c.args.from.number) (g.places.registers - c.args.from.number))) c.self.view_is
-    (ap (λ (t : RootTable). (replies.Done, record { room = c.self.inside.room; first_name = c.self.inside.first_name; places = c.self.inside.places; objects = c.self.inside.objects; roots = t.words })) nothing)
+    subst (λ (g : Graph). (replies.Done, g)
+    ≡ (
+      replies.Done,
+      with_nil_roots g (register_place g.places c.args.mutator c.args.from.number)
+          (g.places.registers - c.args.from.number),
+    )) c.self.view_is
+    (ap (λ (t : RootTable). (
+      replies.Done,
+      record {
+        room = c.self.inside.room;
+        first_name = c.self.inside.first_name;
+        places = c.self.inside.places;
+        objects = c.self.inside.objects;
+        roots = t.words;
+      },
+    )) nothing)
 
 pub invariant_of-self : goal.invariant_of-self
 invariant_of-self c =
     let mutators = ap (λ (g : Graph). g.places.mutators) c.self.view_is in
-    let filled = c.fill_nil.ensures ∙ ap (λ (ws : List (Option ℕ)). with_nils ws c.register-first.result (c.index-used.result.now - c.args.from.number)) c.deref_mut.ensures.value in
+    let filled = c.fill_nil.ensures ∙ ap (λ (ws : List (Option ℕ)). with_nils ws c.register-first.result
+    (c.index-used.result.now - c.args.from.number)) c.deref_mut.ensures.value in
     let nils = length-nils c.self.inside.roots.items c.register-first.result (c.index-used.result.now - c.args.from.number) in
     let len : length c.fill_nil.new.roots ≡ c.self.inside.roots.len = omega (arith, ap length filled, nils, c.self.inside.roots.ok.0) in
     let is = with_items_is c.self.inside.roots c.fill_nil.new.roots len ∙ filled in
     record {
-      state = record { names = c.self.invariant.state.names; roots = ap (λ (ws : List (Option ℕ)). length ws) is ∙ nils ∙ c.self.invariant.state.roots };
+      state = record {
+        names = c.self.invariant.state.names;
+        roots = ap (λ (ws : List (Option ℕ)). length ws) is ∙ nils
+            ∙ c.self.invariant.state.roots;
+      };
       bounds = left_in c.self.inside.places c.self.inside.roots.items _ c.self.inside.used.items c.args.mutator c.args.from.number c.index-used.result.now c.register-first.result c.self.invariant.bounds
           (omega (arith, c.requires.mutator, mutators)) c.if-used-from.false c.register-first.ensures is c.index-used.ensures;
     }
@@ -31,9 +53,34 @@ invariant_of-self c =
 pub returns : goal.returns
 returns c =
     let mutators = ap (λ (g : Graph). g.places.mutators) c.self.view_is in
-    let filled = c.fill_nil.ensures ∙ ap (λ (ws : List (Option ℕ)). with_nils ws c.register-first.result (c.index-used.result.now - c.args.from.number)) c.deref_mut.ensures.value in
-    let len : length c.fill_nil.new.roots ≡ c.self.inside.roots.len = omega (arith, ap length filled, length-nils c.self.inside.roots.items c.register-first.result (c.index-used.result.now - c.args.from.number), c.self.inside.roots.ok.0) in
-    let whole = left_whole (record { places = c.self.inside.places; words = c.self.inside.roots.items }) _ c.self.inside.used.items c.args.mutator c.args.from.number c.index-used.result.now c.register-first.result c.self.invariant.bounds
-    (omega (arith, c.requires.mutator, mutators)) c.if-used-from.false c.register-first.ensures (with_items_is c.self.inside.roots c.fill_nil.new.roots len ∙ filled) c.index-used.ensures in
-    ap (λ (t : RootTable). (replies.Done, record { room = c.self.inside.room; first_name = c.self.inside.first_name; places = c.self.inside.places; objects = c.self.inside.objects; roots = t.words })) whole
-    ∙ ap (λ (g : Graph). (replies.Done, with_nil_roots g (register_place g.places c.args.mutator c.args.from.number) (g.places.registers - c.args.from.number))) c.self.view_is
+    let filled = c.fill_nil.ensures ∙ ap (λ (ws : List (Option ℕ)). with_nils ws c.register-first.result
+    (c.index-used.result.now - c.args.from.number)) c.deref_mut.ensures.value in
+    let len : length c.fill_nil.new.roots ≡ c.self.inside.roots.len =
+    omega (
+      arith,
+      ap length filled,
+      length-nils c.self.inside.roots.items c.register-first.result
+          (c.index-used.result.now - c.args.from.number),
+      c.self.inside.roots.ok.0,
+    ) in
+    let whole = left_whole (record {
+      places = c.self.inside.places;
+      words = c.self.inside.roots.items;
+    }) _ c.self.inside.used.items c.args.mutator c.args.from.number c.index-used.result.now c.register-first.result c.self.invariant.bounds
+    (omega (arith, c.requires.mutator, mutators)) c.if-used-from.false c.register-first.ensures
+    (with_items_is c.self.inside.roots c.fill_nil.new.roots len ∙ filled) c.index-used.ensures in
+    ap (λ (t : RootTable). (
+      replies.Done,
+      record {
+        room = c.self.inside.room;
+        first_name = c.self.inside.first_name;
+        places = c.self.inside.places;
+        objects = c.self.inside.objects;
+        roots = t.words;
+      },
+    )) whole
+    ∙ ap (λ (g : Graph). (
+      replies.Done,
+      with_nil_roots g (register_place g.places c.args.mutator c.args.from.number)
+          (g.places.registers - c.args.from.number),
+    )) c.self.view_is

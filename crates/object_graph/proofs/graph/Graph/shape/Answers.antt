@@ -6,4 +6,5 @@ pub returns-in_default : goal.returns-in_default
 returns-in_default c = no_object c.args.self.now c.args.mutator c.args.object _ (sym c.place.ensures ∙ c.in_default.is)
 
 pub returns : goal.returns
-returns c = rw c.pointer_count.ensures (rw c.value_count.ensures (the_object _ c.args.self.now c.args.mutator c.args.object c.in-Some.place _ c.self.view_is (sym c.place.ensures ∙ c.in-Some.is)))
+returns c = rw c.pointer_count.ensures (rw c.value_count.ensures
+    (the_object _ c.args.self.now c.args.mutator c.args.object c.in-Some.place _ c.self.view_is (sym c.place.ensures ∙ c.in-Some.is)))

@@ -10,5 +10,7 @@ returns-then-field-value_count c = past_fields _ c.args.self.now c.args.mutator 
 
 pub returns : goal.returns
 returns c =
-    changed_object _ c.args.self.now c.args.mutator c.args.object c.in-Some.place c.args.field c.value_count.result (λ x. x.values) (λ x. record x { values = slice_set x.values c.args.field c.args.value }) _ c.self.view_is (sym c.place.ensures ∙ c.in-Some.is) c.value_count.ensures c.if-field-value_count.false
+    changed_object _ c.args.self.now c.args.mutator c.args.object c.in-Some.place c.args.field c.value_count.result (λ x. x.values)
+    (λ x. record x { values = slice_set x.values c.args.field c.args.value }) _ c.self.view_is
+    (sym c.place.ensures ∙ c.in-Some.is) c.value_count.ensures c.if-field-value_count.false
     c.set_value.ensures

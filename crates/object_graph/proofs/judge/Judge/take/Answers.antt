@@ -19,6 +19,7 @@ take-requires-clause-sound c =
 
 pub returns-clause-told : goal.returns-clause-told
 returns-clause-told c =
-    takes_told c.take.result c.args.self.now (record { config = c.self.inside.config; state = c.take.new.self }) c.args.event.now c.self.inside.machine
+    takes_told c.take.result c.args.self.now
+    (record { config = c.self.inside.config; state = c.take.new.self }) c.args.event.now c.self.inside.machine
     (ap (λ (j : Judging). j.config) c.self.view_is)
     (ap (λ (j : Judging). j.state) c.self.view_is) c.take.ensures

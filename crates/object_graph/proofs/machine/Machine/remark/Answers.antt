@@ -10,6 +10,7 @@ pub returns-clause-cleared : goal.returns-clause-cleared
 returns-clause-cleared c = cleared_by_flags c.args.self.now c.in-Some.snapshot c.self.inside.graph c.clear.new.self c.as_slice.result.now c.next_name-limit.result c.requires
     (ap (λ (t : State). t.snapshot) (sym c.self.view_is) ∙ sym c.take.ensures.value ∙ c.in-Some.is)
     (ap (λ (t : State). t.graph) c.self.view_is)
-    (subst (λ (l : List Bool). AreReached c.in-Some.snapshot (flag_of c.in-Some.snapshot.first_name l)) (sym c.as_slice.ensures.value) c.in_ok-flags.ensures)
+    (subst (λ (l : List Bool). AreReached c.in-Some.snapshot (flag_of c.in-Some.snapshot.first_name l))
+    (sym c.as_slice.ensures.value) c.in_ok-flags.ensures)
     (c.next_name-limit.ensures ∙ ap next_name c.snapshot.view_is)
     c.clear.ensures

@@ -13,7 +13,8 @@ index-word-requires c = let w = entry_of c.self.inside.words.items c.self.inside
 pub returns-then-field-entry : goal.returns-then-field-entry
 returns-then-field-entry c =
     let w = entry_of c.self.inside.words.items c.self.inside.entries.items c.args.self.now c.args.place c.index.result.now c.self.view_is c.self.invariant.0 c.requires c.index.ensures in
-    ap (λ (p : Option ℕ). Some p) c.of_word.ensures ∙ sym (pointer_read c.self.inside.words.items c.args.self.now c.args.place c.args.field c.index-word.result.now c.index.result.now w c.if-field-entry.true (rw (← c.start.ensures) c.index-word.ensures))
+    ap (λ (p : Option ℕ). Some p) c.of_word.ensures
+    ∙ sym (pointer_read c.self.inside.words.items c.args.self.now c.args.place c.args.field c.index-word.result.now c.index.result.now w c.if-field-entry.true (rw (← c.start.ensures) c.index-word.ensures))
 
 pub returns-else-field-entry : goal.returns-else-field-entry
 returns-else-field-entry c =

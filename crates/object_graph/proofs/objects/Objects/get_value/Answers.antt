@@ -11,13 +11,16 @@ pub overflow_add-start : goal.overflow_add-start
 overflow_add-start c = let w = entry_of c.self.inside.words.items c.self.inside.entries.items c.args.self.now c.args.place c.index.result.now c.self.view_is c.self.invariant.0 c.requires c.index.ensures in let long = c.self.inside.words.ok.0 in omega (arith, w.within, c.start.ensures)
 
 pub overflow_add-start-then-field-entry : goal.overflow_add-start-then-field-entry
-overflow_add-start-then-field-entry c = let w = entry_of c.self.inside.words.items c.self.inside.entries.items c.args.self.now c.args.place c.index.result.now c.self.view_is c.self.invariant.0 c.requires c.index.ensures in let long = c.self.inside.words.ok.0 in omega (arith, w.within, c.start.ensures, c.weaks.ensures, c.from.ensures)
+overflow_add-start-then-field-entry c = let w =
+    entry_of c.self.inside.words.items c.self.inside.entries.items c.args.self.now c.args.place c.index.result.now c.self.view_is c.self.invariant.0 c.requires c.index.ensures in let long = c.self.inside.words.ok.0 in omega (arith, w.within, c.start.ensures, c.weaks.ensures, c.from.ensures)
 
 pub overflow_add-start-then-field-entry-2 : goal.overflow_add-start-then-field-entry-2
-overflow_add-start-then-field-entry-2 c = let w = entry_of c.self.inside.words.items c.self.inside.entries.items c.args.self.now c.args.place c.index.result.now c.self.view_is c.self.invariant.0 c.requires c.index.ensures in let long = c.self.inside.words.ok.0 in omega (arith, w.within, c.start.ensures, c.weaks.ensures, c.from.ensures, c.if-field-entry.true)
+overflow_add-start-then-field-entry-2 c = let w =
+    entry_of c.self.inside.words.items c.self.inside.entries.items c.args.self.now c.args.place c.index.result.now c.self.view_is c.self.invariant.0 c.requires c.index.ensures in let long = c.self.inside.words.ok.0 in omega (arith, w.within, c.start.ensures, c.weaks.ensures, c.from.ensures, c.if-field-entry.true)
 
 pub index-requires-then-field-entry : goal.index-requires-then-field-entry
-index-requires-then-field-entry c = let w = entry_of c.self.inside.words.items c.self.inside.entries.items c.args.self.now c.args.place c.index.result.now c.self.view_is c.self.invariant.0 c.requires c.index.ensures in let long = c.self.inside.words.ok.0 in omega (arith, w.within, c.start.ensures, c.weaks.ensures, c.from.ensures, c.if-field-entry.true)
+index-requires-then-field-entry c = let w =
+    entry_of c.self.inside.words.items c.self.inside.entries.items c.args.self.now c.args.place c.index.result.now c.self.view_is c.self.invariant.0 c.requires c.index.ensures in let long = c.self.inside.words.ok.0 in omega (arith, w.within, c.start.ensures, c.weaks.ensures, c.from.ensures, c.if-field-entry.true)
 
 pub returns-then-field-entry : goal.returns-then-field-entry
 returns-then-field-entry c =

@@ -11,4 +11,5 @@ index_mut-requires c = let w = entry_of c.self.inside.words.items c.self.inside.
 pub returns : goal.returns
 returns c =
     let w = entry_of c.self.inside.words.items c.self.inside.entries.items c.args.self.now c.args.place c.index.result.now c.self.view_is c.self.invariant.0 c.requires.place c.index.ensures in
-    rw (← c.word.ensures) (rw c.start.ensures (pointer_set c.self.inside.words.items c.self.inside.entries.items c.args.self.now c.args.place c.args.field c.word.result c.index.result.now c.self.view_is c.self.invariant.0 c.requires.place c.index.ensures w (omega (arith, w.pointers, c.requires.field))))
+    rw (← c.word.ensures) (rw c.start.ensures
+    (pointer_set c.self.inside.words.items c.self.inside.entries.items c.args.self.now c.args.place c.args.field c.word.result c.index.result.now c.self.view_is c.self.invariant.0 c.requires.place c.index.ensures w (omega (arith, w.pointers, c.requires.field))))

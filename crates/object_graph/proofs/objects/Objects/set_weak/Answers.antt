@@ -17,4 +17,5 @@ index_mut-requires c = let w = entry_of c.self.inside.words.items c.self.inside.
 pub returns : goal.returns
 returns c =
     let w = entry_of c.self.inside.words.items c.self.inside.entries.items c.args.self.now c.args.place c.index.result.now c.self.view_is c.self.invariant.0 c.requires.place c.index.ensures in
-    rw (← c.word.ensures) (rw c.start.ensures (weak_set c.self.inside.words.items c.self.inside.entries.items c.args.self.now c.args.place c.args.slot c.word.result c.index.result.now c.self.view_is c.self.invariant.0 c.requires.place c.index.ensures w (omega (arith, w.weaks, c.requires.slot))))
+    rw (← c.word.ensures) (rw c.start.ensures
+    (weak_set c.self.inside.words.items c.self.inside.entries.items c.args.self.now c.args.place c.args.slot c.word.result c.index.result.now c.self.view_is c.self.invariant.0 c.requires.place c.index.ensures w (omega (arith, w.weaks, c.requires.slot))))

@@ -10,26 +10,53 @@ returns-then-used-register c =
     let mutators = ap (λ (t : RootTable). t.places.mutators) c.self.view_is in
     let registers = ap (λ (t : RootTable). t.places.registers) c.self.view_is in
     subst (λ (t : RootTable). t ≡ left_from t c.args.mutator c.args.register) c.self.view_is
-    (left_nothing (record { places = c.self.inside.places; words = c.self.inside.words.items }) c.self.inside.used.items c.args.mutator c.args.register c.index-used.result.now c.self.invariant.0
-    (omega (arith, c.requires.mutator, mutators)) (omega (arith, c.requires.register, registers)) c.if-used-register.true c.index-used.ensures)
+    (left_nothing (record {
+      places = c.self.inside.places;
+      words = c.self.inside.words.items;
+    }) c.self.inside.used.items c.args.mutator c.args.register c.index-used.result.now c.self.invariant.0
+    (omega (arith, c.requires.mutator, mutators))
+    (omega (arith, c.requires.register, registers)) c.if-used-register.true c.index-used.ensures)
 
 pub invariant_of-self : goal.invariant_of-self
 invariant_of-self c =
     let mutators = ap (λ (t : RootTable). t.places.mutators) c.self.view_is in
-    let filled = c.fill_nil.ensures ∙ ap (λ (ws : List (Option ℕ)). with_nils ws c.place_of-first.result (c.index-used.result.now - c.args.register)) c.deref_mut.ensures.value in
-    let len : length c.fill_nil.new.words ≡ c.self.inside.words.len = omega (arith, ap length filled, length-nils c.self.inside.words.items c.place_of-first.result (c.index-used.result.now - c.args.register), c.self.inside.words.ok.0) in
-    let place : c.place_of-first.result ≡ register_place c.self.inside.places c.args.mutator c.args.register = c.place_of-first.ensures ∙ sym (ap (λ (t : RootTable). register_place t.places c.args.mutator c.args.register) c.self.view_is) in (
+    let filled = c.fill_nil.ensures ∙ ap (λ (ws : List (Option ℕ)). with_nils ws c.place_of-first.result
+    (c.index-used.result.now - c.args.register)) c.deref_mut.ensures.value in
+    let len : length c.fill_nil.new.words ≡ c.self.inside.words.len =
+    omega (
+      arith,
+      ap length filled,
+      length-nils c.self.inside.words.items c.place_of-first.result
+          (c.index-used.result.now - c.args.register),
+      c.self.inside.words.ok.0,
+    ) in
+    let place : c.place_of-first.result ≡ register_place c.self.inside.places c.args.mutator c.args.register =
+    c.place_of-first.ensures ∙ sym (ap (λ (t : RootTable). register_place t.places c.args.mutator c.args.register) c.self.view_is) in (
       left_in c.self.inside.places c.self.inside.words.items _ c.self.inside.used.items c.args.mutator c.args.register c.index-used.result.now c.place_of-first.result c.self.invariant.0
-          (omega (arith, c.requires.mutator, mutators)) c.if-used-register.false place (with_items_is c.self.inside.words c.fill_nil.new.words len ∙ filled) c.index-used.ensures,
+          (omega (arith, c.requires.mutator, mutators)) c.if-used-register.false place
+          (with_items_is c.self.inside.words c.fill_nil.new.words len ∙ filled) c.index-used.ensures,
       c.self.invariant.1,
     )
 
 pub returns : goal.returns
 returns c =
     let mutators = ap (λ (t : RootTable). t.places.mutators) c.self.view_is in
-    let filled = c.fill_nil.ensures ∙ ap (λ (ws : List (Option ℕ)). with_nils ws c.place_of-first.result (c.index-used.result.now - c.args.register)) c.deref_mut.ensures.value in
-    let len : length c.fill_nil.new.words ≡ c.self.inside.words.len = omega (arith, ap length filled, length-nils c.self.inside.words.items c.place_of-first.result (c.index-used.result.now - c.args.register), c.self.inside.words.ok.0) in
-    let place : c.place_of-first.result ≡ register_place c.self.inside.places c.args.mutator c.args.register = c.place_of-first.ensures ∙ sym (ap (λ (t : RootTable). register_place t.places c.args.mutator c.args.register) c.self.view_is) in
-    left_whole (record { places = c.self.inside.places; words = c.self.inside.words.items }) _ c.self.inside.used.items c.args.mutator c.args.register c.index-used.result.now c.place_of-first.result c.self.invariant.0
-    (omega (arith, c.requires.mutator, mutators)) c.if-used-register.false place (with_items_is c.self.inside.words c.fill_nil.new.words len ∙ filled) c.index-used.ensures
+    let filled = c.fill_nil.ensures ∙ ap (λ (ws : List (Option ℕ)). with_nils ws c.place_of-first.result
+    (c.index-used.result.now - c.args.register)) c.deref_mut.ensures.value in
+    let len : length c.fill_nil.new.words ≡ c.self.inside.words.len =
+    omega (
+      arith,
+      ap length filled,
+      length-nils c.self.inside.words.items c.place_of-first.result
+          (c.index-used.result.now - c.args.register),
+      c.self.inside.words.ok.0,
+    ) in
+    let place : c.place_of-first.result ≡ register_place c.self.inside.places c.args.mutator c.args.register =
+    c.place_of-first.ensures ∙ sym (ap (λ (t : RootTable). register_place t.places c.args.mutator c.args.register) c.self.view_is) in
+    left_whole (record {
+      places = c.self.inside.places;
+      words = c.self.inside.words.items;
+    }) _ c.self.inside.used.items c.args.mutator c.args.register c.index-used.result.now c.place_of-first.result c.self.invariant.0
+    (omega (arith, c.requires.mutator, mutators)) c.if-used-register.false place
+    (with_items_is c.self.inside.words c.fill_nil.new.words len ∙ filled) c.index-used.ensures
     ∙ ap (λ (t : RootTable). left_from t c.args.mutator c.args.register) c.self.view_is
