@@ -452,7 +452,8 @@ impl Graph {
     /// The search for what is reachable from the graph's roots and from some other names: a flag for each object.
     pub(crate) fn search(&self, alloc: Global, others: &[Pointer]) -> Result<Vec<bool>, AllocError>
         ensures { IfOk result (λ flags. flags.items
-            ≡ (searched (all_found (all_found (started self.now) others.now) self.now.roots) self.now.objects (length self.now.objects)).flags) }
+            ≡ (searched (all_found (all_found (started self.now) others.now) self.now.roots) self.now.objects
+            (length self.now.objects)).flags) }
     {
         let mut search = Search::new(alloc, self.first_name, self.objects.len())?;
         search.find_all(others)?;

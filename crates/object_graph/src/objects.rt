@@ -219,7 +219,11 @@ impl Objects {
     /// One more object, its pointers and weak slots nil and its data words 0. Refused for memory, nothing changes.
     pub(crate) fn push(&mut self, counts: Counts, weaks: u8) -> Result<(), AllocError>
         ensures ok { OnOk result (self.new
-            ≡ self.old ++ record { pointers = replicate counts.pointers None; weaks = replicate weaks None; values = replicate counts.values 0 } ∷ []) }
+            ≡ self.old ++ record {
+              pointers = replicate counts.pointers None;
+              weaks = replicate weaks None;
+              values = replicate counts.values 0;
+            } ∷ []) }
         ensures err { OnErr result (self.new ≡ self.old) }
     {
         let start = self.words.len();

@@ -102,7 +102,9 @@ left_rest p words used row k b known less =
     let most = b.within row known in
     let more = nils_more words (row_start p row + k) (get_or used row 0 - k) (row_length p row - get_or used row 0)
     (λ place low high. b.nil row known place (omega (arith, low, less)) (omega (arith, high, less, most))) in
-    ap (λ (n : ℕ). with_nils words (row_start p row + k) n) {x = row_length p row - k} {y = (get_or used row 0 - k) + (row_length p row - get_or used row 0)} (omega (arith, less, most)) ∙ more
+    ap (λ (n : ℕ). with_nils words (row_start p row + k)
+    n) {x = row_length p row - k} {y = (get_or used row 0 - k) + (row_length p row - get_or used row 0)} (omega (arith, less, most))
+    ∙ more
 
 -- nothing is left to be done where the bound is no higher
 pub left_none : (p : Places) (words : List (Option ℕ)) (used : List ℕ) (row k : ℕ) → AreBounded p words used → row ≤ p.mutators

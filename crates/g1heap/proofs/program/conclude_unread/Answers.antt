@@ -20,7 +20,8 @@ unread_check explained true given left old new err err' status unread kept tells
 
 pub returns-in-Check : goal.returns-in-Check
 returns-in-Check g c = λ given left old new unread kept.
-    rw c.in-Check.is (unread_check _ _ given left old new c.args.err.now c.conclude_verdict.new.err c.conclude_verdict.result unread kept c.conclude_verdict.ensures)
+    rw c.in-Check.is (unread_check _ _ given left old new c.args.err.now c.conclude_verdict.new.err c.conclude_verdict.result unread kept
+    c.conclude_verdict.ensures)
 
 unread_view : (recorded : Bool) (at : Option ℕ) (given left : Reader) (old new err err' : Writer) (status : ℕ)
     → FailsToGive reads.CannotRead given left → Stays old new
@@ -42,7 +43,9 @@ pub returns-in-Script : goal.returns-in-Script
 returns-in-Script g c = λ given left old new unread kept. elim c.in-Script.is [
   | inl script ↦ rw script.1 (record { outcome = Err (faults.Read reads.CannotRead); ends = (unread, kept); tells = c.conclude.ensures })
   | inr other ↦ elim other [
-    | inl view ↦ rw view.4 (unread_view _ _ given left old new c.args.err.now c.conclude.new.err c.conclude.result unread kept c.conclude.ensures)
-    | inr draw ↦ rw draw.2 (unread_draw _ _ given left old new c.args.err.now c.conclude.new.err c.conclude.result unread kept c.conclude.ensures)
+    | inl view ↦ rw view.4 (unread_view _ _ given left old new c.args.err.now c.conclude.new.err c.conclude.result unread kept
+        c.conclude.ensures)
+    | inr draw ↦ rw draw.2 (unread_draw _ _ given left old new c.args.err.now c.conclude.new.err c.conclude.result unread kept
+        c.conclude.ensures)
   ]
 ]

@@ -6,14 +6,16 @@ pub returns-in-Ok-write_bytes : goal.returns-in-Ok-write_bytes
 returns-in-Ok-write_bytes g c =
     let (input, gives, read) = c.in_ok-plan.ensures in
     let page = c.in-Ok.page.items in
-    let taken = subst (λ (bytes : List ℕ). Takes c.args.writer.now c.write_bytes.new.writer bytes) c.as_slice.ensures.value c.in-Ok-write_bytes.ensures.ok in
+    let taken = subst (λ (bytes : List ℕ). Takes c.args.writer.now c.write_bytes.new.writer bytes) c.as_slice.ensures.value
+    c.in-Ok-write_bytes.ensures.ok in
     (input, gives, (page, record { plan = c.in_ok-plan.plan; read = read; drawn = c.in-Ok.ensures.page }, taken))
 
 pub returns : goal.returns
 returns g c =
     let (input, gives, read) = c.in_ok-plan.ensures in
     let page = c.in-Ok.page.items in
-    let taken = subst (λ (bytes : List ℕ). TakesPart c.args.writer.now c.write_bytes.new.writer bytes) c.as_slice.ensures.value c.in-Err-write_bytes.ensures.err in (
+    let taken = subst (λ (bytes : List ℕ). TakesPart c.args.writer.now c.write_bytes.new.writer bytes) c.as_slice.ensures.value
+    c.in-Err-write_bytes.ensures.err in (
       input,
       gives,
       (page, record { plan = c.in_ok-plan.plan; read = read; drawn = c.in-Ok.ensures.page }, taken),

@@ -45,7 +45,8 @@ returns-in-Ok-life_of-clause-life c =
           (runs_to config c.in-Ok.core c.life_of.new.core es made.fresh made.core made.stands runs);
       each = subst (λ (k : Config). All (IsMomentOf k es) ms) is
           (all_of_new config c.in-Ok.core es ms made.fresh made.core made.stands lived.each);
-      pace = pace_for c.args.every c.from.result c.most_moments.result config c.args.events.now.config c.events.result.now c.args.events.now.events life.pace c.pace_of-pace.result
+      pace = pace_for c.args.every c.from.result c.most_moments.result config c.args.events.now.config c.events.result.now
+          c.args.events.now.events life.pace c.pace_of-pace.result
           c.pace_of-pace.ensures c.from.ensures c.most_moments.ensures is c.events.ensures.events lived.pace;
       due = subst (λ (events : List Event). (n : ℕ) → n ≤ length events → IsDue life.pace events n
           → HasMoment ms n) c.events-2.ensures.events lived.due;

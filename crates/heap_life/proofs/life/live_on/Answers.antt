@@ -33,7 +33,8 @@ loop-index-preserved c =
     record {
       history = λ s st. subst (λ (es : List Event). Runs s c.args.core.now es c.step-reply.new.self) (sym events)
           (goes_on s c.args.core.now c.loop-index.done.events _ c.loop-index.core c.step-reply.new.self (inv.history s st)
-          c.step-reply.ensures.follows c.step-reply.ensures.does c.step-reply.ensures.full c.remembers.ensures.core c.remembers.ensures.cards c.whole.ensures);
+          c.step-reply.ensures.follows c.step-reply.ensures.does c.step-reply.ensures.full c.remembers.ensures.core
+          c.remembers.ensures.cards c.whole.ensures);
       steps = ap (λ (es : List Event). map step_in es) events ∙ grown_at step_in c.loop-index.done.events _ xs index e inv.steps lt at refl;
       actors = ap (λ (es : List Event). map actor_in es) events
           ∙ grown_at actor_in c.loop-index.done.events _ xs index e inv.actors lt at refl;
@@ -49,9 +50,11 @@ loop-index-preserved c =
           ∙ ap (λ (es : List Event). min (moved_in es) 18446744073709551615) (sym events);
       each = subst (λ (es : List Event). All (IsMomentFrom c.args.core.now es) c.note_if.new.moments.items) (sym events)
           (all_later c.args.core.now c.loop-index.done.events _ c.note_if.new.moments.items
-          (all_noted c.is_due-due.result c.args.core.now c.loop-index.core c.loop-index.done.events index c.loop-index.copied c.loop-index.moments.items c.note_if.new.moments.items
+          (all_noted c.is_due-due.result c.args.core.now c.loop-index.core c.loop-index.done.events index c.loop-index.copied
+          c.loop-index.moments.items c.note_if.new.moments.items
           notes (sym inv.many) inv.history inv.copying inv.each));
-      due = due_more p xs index c.is_due-due.result c.loop-index.behind c.shows-ahead.result _ c.loop-index.core c.loop-index.copied c.loop-index.moments.items c.note_if.new.moments.items
+      due = due_more p xs index c.is_due-due.result c.loop-index.behind c.shows-ahead.result _ c.loop-index.core c.loop-index.copied
+          c.loop-index.moments.items c.note_if.new.moments.items
           lt notes c.is_due-due.ensures inv.due inv.first inv.behind ahead (stops index p.every);
       first = λ none. absurd (omega (arith, none));
       behind = λ i is shown. let same : i ≡ index = omega (arith, is) in ahead (subst (λ (n : ℕ). IsShown p xs n) same shown);

@@ -11,8 +11,10 @@ loop-step-preserved c =
     let events = ap (λ (r : EventList). r.events) pushed in
     record {
       steps = ap (λ (es : List Event). map step_in es) events
-          ∙ grown step_in c.loop-step.events.events _ c.steps-steps.result.now c.loop-step.step-index _ c.loop-step.invariant.steps c.loop-step-test.true refl;
+          ∙ grown step_in c.loop-step.events.events _ c.steps-steps.result.now c.loop-step.step-index _ c.loop-step.invariant.steps
+          c.loop-step-test.true refl;
       actors = ap (λ (es : List Event). map actor_in es) events
-          ∙ grown_by actor_in actor_of c.loop-step.events.events _ c.steps-steps.result.now c.loop-step.step-index _ c.loop-step.invariant.actors c.loop-step-test.true c.actor_of.ensures.actor;
+          ∙ grown_by actor_in actor_of c.loop-step.events.events _ c.steps-steps.result.now c.loop-step.step-index _
+          c.loop-step.invariant.actors c.loop-step-test.true c.actor_of.ensures.actor;
       config = ap (λ (r : EventList). r.config) pushed ∙ c.loop-step.invariant.config;
     }

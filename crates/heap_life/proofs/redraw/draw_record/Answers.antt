@@ -6,7 +6,8 @@ pub returns : goal.returns
 returns g c =
     let (input, gives, read) = c.in_ok-history.ensures in
     let page = c.in-Ok.page.items in
-    let taken = subst (λ (bytes : List ℕ). TakesPart c.args.writer.now c.write_bytes.new.writer bytes) c.as_slice.ensures.value c.in-Err-write_bytes.ensures.err in (
+    let taken = subst (λ (bytes : List ℕ). TakesPart c.args.writer.now c.write_bytes.new.writer bytes) c.as_slice.ensures.value
+    c.in-Err-write_bytes.ensures.err in (
       input,
       gives,
       (page, record { history = c.in_ok-history.history; read = read; drawn = c.in-Ok.ensures.page }, taken),

@@ -24,34 +24,52 @@ took_at {E} j k e r told is h = subst (λ (x : Result (Option Given) E). IfOk x
 
 pub returns-in-Ok-None : goal.returns-in-Ok-None
 returns-in-Ok-None g c =
-    let next = next_at (event_line_of c.loop-count.count c.args.config.now) c.loop-count.lines c.next_event.new.self c.loop-count.reader c.next_event.new.reader c.next_event.result (Ok None) (c.in-Ok-None.is ∙ ap Ok c.in-Ok-None.field-0-is) c.next_event.ensures.next in
-    found_yes c.args.config.now c.loop-count.judge c.args.reader.now c.args.lines.now c.loop-count.reader c.next_event.new.reader c.loop-count.lines c.next_event.new.self c.loop-count.count c.requires.suits c.loop-count.invariant next
+    let next = next_at (event_line_of c.loop-count.count c.args.config.now) c.loop-count.lines c.next_event.new.self c.loop-count.reader
+    c.next_event.new.reader c.next_event.result (Ok None) (c.in-Ok-None.is ∙ ap Ok c.in-Ok-None.field-0-is) c.next_event.ensures.next in
+    found_yes c.args.config.now c.loop-count.judge c.args.reader.now c.args.lines.now c.loop-count.reader c.next_event.new.reader
+    c.loop-count.lines c.next_event.new.self c.loop-count.count c.requires.suits c.loop-count.invariant next
 
 pub returns-in-Err-Line : goal.returns-in-Err-Line
 returns-in-Err-Line g c =
-    let next = next_at (event_line_of c.loop-count.count c.args.config.now) c.loop-count.lines c.next_event.new.self c.loop-count.reader c.next_event.new.reader c.next_event.result (Err (nexts.Line c.in-Err-Line.kind)) (c.in-Err-Line.is ∙ ap Err c.in-Err-Line.field-0-is) c.next_event.ensures.next in
-    found_wrong c.args.config.now c.loop-count.judge c.args.reader.now c.args.lines.now c.loop-count.reader c.next_event.new.reader c.loop-count.lines c.next_event.new.self c.loop-count.count c.in-Err-Line.kind c.loop-count.invariant next
+    let next = next_at (event_line_of c.loop-count.count c.args.config.now) c.loop-count.lines c.next_event.new.self c.loop-count.reader
+    c.next_event.new.reader c.next_event.result (Err (nexts.Line c.in-Err-Line.kind))
+    (c.in-Err-Line.is ∙ ap Err c.in-Err-Line.field-0-is) c.next_event.ensures.next in
+    found_wrong c.args.config.now c.loop-count.judge c.args.reader.now c.args.lines.now c.loop-count.reader c.next_event.new.reader
+    c.loop-count.lines c.next_event.new.self c.loop-count.count c.in-Err-Line.kind c.loop-count.invariant next
 
 pub returns-in-Err-Read : goal.returns-in-Err-Read
 returns-in-Err-Read g c =
-    let next = next_at (event_line_of c.loop-count.count c.args.config.now) c.loop-count.lines c.next_event.new.self c.loop-count.reader c.next_event.new.reader c.next_event.result (Err (nexts.Read c.in-Err-Read.fault)) (c.in-Err-Read.is ∙ ap Err c.in-Err-Read.field-0-is) c.next_event.ensures.next in
-    found_unread c.args.config.now c.loop-count.judge c.args.reader.now c.args.lines.now c.loop-count.reader c.next_event.new.reader c.loop-count.lines c.loop-count.count c.in-Err-Read.fault c.loop-count.invariant next
+    let next = next_at (event_line_of c.loop-count.count c.args.config.now) c.loop-count.lines c.next_event.new.self c.loop-count.reader
+    c.next_event.new.reader c.next_event.result (Err (nexts.Read c.in-Err-Read.fault))
+    (c.in-Err-Read.is ∙ ap Err c.in-Err-Read.field-0-is) c.next_event.ensures.next in
+    found_unread c.args.config.now c.loop-count.judge c.args.reader.now c.args.lines.now c.loop-count.reader c.next_event.new.reader
+    c.loop-count.lines c.loop-count.count c.in-Err-Read.fault c.loop-count.invariant next
 
 pub returns-in-Ok-Some-take : goal.returns-in-Ok-Some-take
 returns-in-Ok-Some-take g c =
-    let next = next_at (event_line_of c.loop-count.count c.args.config.now) c.loop-count.lines c.next_event.new.self c.loop-count.reader c.next_event.new.reader c.next_event.result (Ok (Some c.in-Ok-Some.event)) (c.in-Ok-Some.is ∙ ap Ok c.in-Ok-Some.field-0-is) c.next_event.ensures.next in
-    found_no c.args.config.now c.loop-count.judge c.take.new.self c.args.reader.now c.args.lines.now c.loop-count.reader c.next_event.new.reader c.loop-count.lines c.next_event.new.self c.loop-count.count c.in-Ok-Some.event c.in-Ok-Some-take.given c.requires.suits c.loop-count.invariant next
+    let next = next_at (event_line_of c.loop-count.count c.args.config.now) c.loop-count.lines c.next_event.new.self c.loop-count.reader
+    c.next_event.new.reader c.next_event.result (Ok (Some c.in-Ok-Some.event))
+    (c.in-Ok-Some.is ∙ ap Ok c.in-Ok-Some.field-0-is) c.next_event.ensures.next in
+    found_no c.args.config.now c.loop-count.judge c.take.new.self c.args.reader.now c.args.lines.now c.loop-count.reader
+    c.next_event.new.reader c.loop-count.lines c.next_event.new.self c.loop-count.count c.in-Ok-Some.event c.in-Ok-Some-take.given
+    c.requires.suits c.loop-count.invariant next
     (took_at c.loop-count.judge c.take.new.self c.in-Ok-Some.event c.take.result (Some c.in-Ok-Some-take.given)
     (c.in-Ok-Some-take.is ∙ ap Ok c.in-Ok-Some-take.field-0-is) c.take.ensures.told)
 
 pub returns-in-Err : goal.returns-in-Err
 returns-in-Err g c =
-    let next = next_at (event_line_of c.loop-count.count c.args.config.now) c.loop-count.lines c.next_event.new.self c.loop-count.reader c.next_event.new.reader c.next_event.result (Ok (Some c.in-Ok-Some.event)) (c.in-Ok-Some.is ∙ ap Ok c.in-Ok-Some.field-0-is) c.next_event.ensures.next in
-    found_short c.args.config.now c.loop-count.judge c.args.reader.now c.args.lines.now c.loop-count.reader c.next_event.new.reader c.loop-count.lines c.next_event.new.self c.loop-count.count c.in-Ok-Some.event c.requires.suits c.loop-count.invariant next
+    let next = next_at (event_line_of c.loop-count.count c.args.config.now) c.loop-count.lines c.next_event.new.self c.loop-count.reader
+    c.next_event.new.reader c.next_event.result (Ok (Some c.in-Ok-Some.event))
+    (c.in-Ok-Some.is ∙ ap Ok c.in-Ok-Some.field-0-is) c.next_event.ensures.next in
+    found_short c.args.config.now c.loop-count.judge c.args.reader.now c.args.lines.now c.loop-count.reader c.next_event.new.reader
+    c.loop-count.lines c.next_event.new.self c.loop-count.count c.in-Ok-Some.event c.requires.suits c.loop-count.invariant next
 
 pub loop-count-preserved : goal.loop-count-preserved
 loop-count-preserved g c =
-    let next = next_at (event_line_of c.loop-count.count c.args.config.now) c.loop-count.lines c.next_event.new.self c.loop-count.reader c.next_event.new.reader c.next_event.result (Ok (Some c.in-Ok-Some.event)) (c.in-Ok-Some.is ∙ ap Ok c.in-Ok-Some.field-0-is) c.next_event.ensures.next in
-    goes_on c.args.config.now c.loop-count.judge c.take.new.self c.args.reader.now c.args.lines.now c.loop-count.reader c.next_event.new.reader c.loop-count.lines c.next_event.new.self c.loop-count.count c.in-Ok-Some.event c.loop-count.invariant next
+    let next = next_at (event_line_of c.loop-count.count c.args.config.now) c.loop-count.lines c.next_event.new.self c.loop-count.reader
+    c.next_event.new.reader c.next_event.result (Ok (Some c.in-Ok-Some.event))
+    (c.in-Ok-Some.is ∙ ap Ok c.in-Ok-Some.field-0-is) c.next_event.ensures.next in
+    goes_on c.args.config.now c.loop-count.judge c.take.new.self c.args.reader.now c.args.lines.now c.loop-count.reader
+    c.next_event.new.reader c.loop-count.lines c.next_event.new.self c.loop-count.count c.in-Ok-Some.event c.loop-count.invariant next
     c.take.ensures.config (took_at c.loop-count.judge c.take.new.self c.in-Ok-Some.event c.take.result None
     (c.in-Ok-None-take.is ∙ ap Ok c.in-Ok-None-take.field-0-is) c.take.ensures.told)

@@ -17,4 +17,5 @@ same_more given ran i a b long within given_at ran_at same before =
     before (get_or_from_slice_get (map reply_in ran) i b a ran_at ∙ same ∙ sym (get_or_from_slice_get (map reply_in given) i a a given_at))
 
 pub loop-index-preserved : goal.loop-index-preserved
-loop-index-preserved c = same_more c.args.given.now c.args.ran.now c.loop-index.index _ _ c.requires c.loop-index-test.true c.reply_at.ensures c.reply_at-in-loop-index.ensures (c.is_other.ensures.same c.if-is_other.false) c.loop-index.invariant
+loop-index-preserved c = same_more c.args.given.now c.args.ran.now c.loop-index.index _ _ c.requires c.loop-index-test.true
+    c.reply_at.ensures c.reply_at-in-loop-index.ensures (c.is_other.ensures.same c.if-is_other.false) c.loop-index.invariant

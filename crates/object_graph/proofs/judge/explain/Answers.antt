@@ -14,7 +14,8 @@ returns-in-Some c =
     let before = take i c.args.history.now.events in
     let told = subst (λ (o : Option Given). TakesNext c.loop-index.judge c.take.new.self before e o) c.in-Some.is
     (c.in_ok-given.ensures.told before c.loop-index.invariant.taken) in
-    found_there (first_state c.args.history.now.config) c.args.history.now.events c.events-events.result.now i e c.in-Some.given c.events-events.ensures.events c.loop-index-test.true
+    found_there (first_state c.args.history.now.config) c.args.history.now.events c.events-events.result.now i e c.in-Some.given
+    c.events-events.ensures.events c.loop-index-test.true
     (event_there c.events-events.result.now i c.loop-index-test.true)
     (subst (λ (k : Config). Refuses (first_state k) before e c.in-Some.given) c.loop-index.invariant.config told)
 
@@ -26,7 +27,8 @@ loop-index-preserved c =
     let told = subst (λ (o : Option Given). TakesNext c.loop-index.judge c.take.new.self before e o) c.in_default.is
     (c.in_ok-given.ensures.told before c.loop-index.invariant.taken) in
     record {
-      taken = taken_more c.take.new.self c.args.history.now.events c.events-events.result.now i e c.events-events.ensures.events c.loop-index-test.true
+      taken = taken_more c.take.new.self c.args.history.now.events c.events-events.result.now i e c.events-events.ensures.events
+          c.loop-index-test.true
           (event_there c.events-events.result.now i c.loop-index-test.true) told;
       config = c.in_ok-given.ensures.config ∙ c.loop-index.invariant.config;
     }

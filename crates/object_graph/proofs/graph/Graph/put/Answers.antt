@@ -8,7 +8,9 @@ pub returns-in_default : goal.returns-in_default
 returns-in_default c = no_object c.args.self.now c.args.mutator c.args.object _ (sym c.place.ensures ∙ c.in_default.is)
 
 pub returns-then-field-pointer_count : goal.returns-then-field-pointer_count
-returns-then-field-pointer_count c = past_fields _ c.args.self.now c.args.mutator c.args.object c.in-Some.place c.args.field c.pointer_count.result (λ x. x.pointers) _ c.self.view_is (sym c.place.ensures ∙ c.in-Some.is) c.pointer_count.ensures c.if-field-pointer_count.true
+returns-then-field-pointer_count c = past_fields _ c.args.self.now c.args.mutator c.args.object c.in-Some.place c.args.field
+    c.pointer_count.result (λ x. x.pointers) _ c.self.view_is
+    (sym c.place.ensures ∙ c.in-Some.is) c.pointer_count.ensures c.if-field-pointer_count.true
 
 pub returns : goal.returns
 returns c =

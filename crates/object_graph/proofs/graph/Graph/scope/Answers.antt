@@ -46,7 +46,8 @@ invariant_of-self c =
         roots = ap (λ (ws : List (Option ℕ)). length ws) is ∙ nils
             ∙ c.self.invariant.state.roots;
       };
-      bounds = left_in c.self.inside.places c.self.inside.roots.items _ c.self.inside.used.items c.args.mutator c.args.from.number c.index-used.result.now c.register-first.result c.self.invariant.bounds
+      bounds = left_in c.self.inside.places c.self.inside.roots.items _ c.self.inside.used.items c.args.mutator c.args.from.number
+          c.index-used.result.now c.register-first.result c.self.invariant.bounds
           (omega (arith, c.requires.mutator, mutators)) c.if-used-from.false c.register-first.ensures is c.index-used.ensures;
     }
 

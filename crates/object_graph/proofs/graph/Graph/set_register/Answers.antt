@@ -12,7 +12,8 @@ invariant_of-self c =
         names = c.self.invariant.state.names;
         roots = length-set c.self.inside.roots.items c.register-place.result c.args.value ∙ c.self.invariant.state.roots;
       };
-      bounds = register_stored c.self.inside.places c.self.inside.roots.items c.self.inside.used.items c.args.mutator c.args.register.number c.register-place.result c.index.result.now c.args.value c.self.invariant.bounds
+      bounds = register_stored c.self.inside.places c.self.inside.roots.items c.self.inside.used.items c.args.mutator
+          c.args.register.number c.register-place.result c.index.result.now c.args.value c.self.invariant.bounds
           (omega (arith, c.requires.mutator, mutators))
           (omega (arith, c.requires.register, registers)) c.register-place.ensures c.index.ensures c.if-index-register.true;
     }
@@ -26,7 +27,8 @@ invariant_of-self-else-index-register c =
         names = c.self.invariant.state.names;
         roots = length-set c.self.inside.roots.items c.register-place.result c.args.value ∙ c.self.invariant.state.roots;
       };
-      bounds = register_kept c.self.inside.places c.self.inside.roots.items c.self.inside.used.items c.args.mutator c.args.register.number c.register-place.result c.index.result.now c.args.value c.self.invariant.bounds
+      bounds = register_kept c.self.inside.places c.self.inside.roots.items c.self.inside.used.items c.args.mutator c.args.register.number
+          c.register-place.result c.index.result.now c.args.value c.self.invariant.bounds
           (omega (arith, c.requires.mutator, mutators))
           (omega (arith, c.requires.register, registers)) c.register-place.ensures c.index.ensures c.if-index-register.false;
     }

@@ -9,4 +9,5 @@ loop-name-preserved c =
     let there = slice_get-get_or c.args.names.now c.loop-name.name-index c.name-item.result c.loop-name-test.true
     ∙ ap (λ (v : Option ℕ). Some v) (sym c.name-item.is) in
     let read = get_or_from_slice_get c.args.names.now c.loop-name.name-index c.name-item.result None there in
-    found_more c.args.self.now c.args.names.now c.loop-name.name-index c.loop-name.self c.find.new.self c.loop-name-test.true c.loop-name.invariant (c.in_ok-find.ensures ∙ ap (found c.loop-name.self) (sym read))
+    found_more c.args.self.now c.args.names.now c.loop-name.name-index c.loop-name.self c.find.new.self c.loop-name-test.true
+    c.loop-name.invariant (c.in_ok-find.ensures ∙ ap (found c.loop-name.self) (sym read))

@@ -32,7 +32,8 @@ invariant_of-self c =
     ) in
     let place : c.place_of-first.result ≡ register_place c.self.inside.places c.args.mutator c.args.register =
     c.place_of-first.ensures ∙ sym (ap (λ (t : RootTable). register_place t.places c.args.mutator c.args.register) c.self.view_is) in (
-      left_in c.self.inside.places c.self.inside.words.items _ c.self.inside.used.items c.args.mutator c.args.register c.index-used.result.now c.place_of-first.result c.self.invariant.0
+      left_in c.self.inside.places c.self.inside.words.items _ c.self.inside.used.items c.args.mutator c.args.register
+          c.index-used.result.now c.place_of-first.result c.self.invariant.0
           (omega (arith, c.requires.mutator, mutators)) c.if-used-register.false place
           (with_items_is c.self.inside.words c.fill_nil.new.words len ∙ filled) c.index-used.ensures,
       c.self.invariant.1,

@@ -11,8 +11,10 @@ first_named-requires c =
     let counted : c.loop-row.row < length c.self.inside.starts.items =
     omega (arith, inside, c.self.invariant.0.rows, c.self.invariant.1.rows) in
     let start : c.index-start.result.now ≡ row_start c.self.inside.places c.loop-row.row =
-    start_read c.self.inside.places c.self.inside.starts.items c.loop-row.row c.index-start.result.now c.self.invariant.1 counted c.index-start.ensures in
-    let bound = bound_within c.self.inside.places c.self.inside.words.items c.self.inside.used.items c.loop-row.row c.index.result.now c.self.invariant.0 inside c.index.ensures in
+    start_read c.self.inside.places c.self.inside.starts.items c.loop-row.row c.index-start.result.now c.self.invariant.1 counted
+    c.index-start.ensures in
+    let bound = bound_within c.self.inside.places c.self.inside.words.items c.self.inside.used.items c.loop-row.row c.index.result.now
+    c.self.invariant.0 inside c.index.ensures in
     omega (arith, bound, start, ap length c.deref.ensures.value)
 
 pub loop-row-preserved : goal.loop-row-preserved
@@ -22,13 +24,15 @@ loop-row-preserved c =
     let counted : c.loop-row.row < length c.self.inside.starts.items =
     omega (arith, inside, c.self.invariant.0.rows, c.self.invariant.1.rows) in
     let start : c.index-start.result.now ≡ row_start c.self.inside.places c.loop-row.row =
-    start_read c.self.inside.places c.self.inside.starts.items c.loop-row.row c.index-start.result.now c.self.invariant.1 counted c.index-start.ensures in
+    start_read c.self.inside.places c.self.inside.starts.items c.loop-row.row c.index-start.result.now c.self.invariant.1 counted
+    c.index-start.ensures in
     let which : (c.max.result ≤ c.args.from) ⊎ (c.max.result ≤ row_start c.self.inside.places c.loop-row.row) =
     elim (cases_lt c.args.from c.index-start.result.now) [
       | inl less ↦ inr (omega (arith, less, c.max.ensures, start))
       | inr more ↦ inl (omega (arith, more, c.max.ensures))
     ] in
-    past_read c.self.inside.places c.self.inside.words.items c.self.inside.used.items c.args.from c.loop-row.row c.index.result.now c.max.result c.self.invariant.0 inside c.index.ensures which c.loop-row.invariant
+    past_read c.self.inside.places c.self.inside.words.items c.self.inside.used.items c.args.from c.loop-row.row c.index.result.now
+    c.max.result c.self.invariant.0 inside c.index.ensures which c.loop-row.invariant
     (λ place low high. ap (λ (ws : List (Option ℕ)). get_or ws place None) (sym c.deref.ensures.value)
     ∙ c.in_default.ensures.lowest place low (omega (arith, high, start)))
 
@@ -39,6 +43,8 @@ overflow_add-end c =
     let counted : c.loop-row.row < length c.self.inside.starts.items =
     omega (arith, inside, c.self.invariant.0.rows, c.self.invariant.1.rows) in
     let start : c.index-start.result.now ≡ row_start c.self.inside.places c.loop-row.row =
-    start_read c.self.inside.places c.self.inside.starts.items c.loop-row.row c.index-start.result.now c.self.invariant.1 counted c.index-start.ensures in
-    let bound = bound_within c.self.inside.places c.self.inside.words.items c.self.inside.used.items c.loop-row.row c.index.result.now c.self.invariant.0 inside c.index.ensures in
+    start_read c.self.inside.places c.self.inside.starts.items c.loop-row.row c.index-start.result.now c.self.invariant.1 counted
+    c.index-start.ensures in
+    let bound = bound_within c.self.inside.places c.self.inside.words.items c.self.inside.used.items c.loop-row.row c.index.result.now
+    c.self.invariant.0 inside c.index.ensures in
     omega (arith, bound, start, c.self.inside.words.ok.0)

@@ -10,7 +10,8 @@ invariant_of-self c =
     let registers = ap (λ (t : RootTable). t.places.registers) c.self.view_is in
     let place : c.place_of-place.result ≡ register_place c.self.inside.places c.args.mutator c.args.register =
     c.place_of-place.ensures ∙ sym (ap (λ (t : RootTable). register_place t.places c.args.mutator c.args.register) c.self.view_is) in (
-      register_stored c.self.inside.places c.self.inside.words.items c.self.inside.used.items c.args.mutator c.args.register c.place_of-place.result c.index.result.now c.args.value c.self.invariant.0
+      register_stored c.self.inside.places c.self.inside.words.items c.self.inside.used.items c.args.mutator c.args.register
+          c.place_of-place.result c.index.result.now c.args.value c.self.invariant.0
           (omega (arith, c.requires.mutator, mutators))
           (omega (arith, c.requires.register, registers)) place c.index.ensures c.if-index-register.true,
       c.self.invariant.1,
@@ -22,7 +23,8 @@ invariant_of-self-else-index-register c =
     let registers = ap (λ (t : RootTable). t.places.registers) c.self.view_is in
     let place : c.place_of-place.result ≡ register_place c.self.inside.places c.args.mutator c.args.register =
     c.place_of-place.ensures ∙ sym (ap (λ (t : RootTable). register_place t.places c.args.mutator c.args.register) c.self.view_is) in (
-      register_kept c.self.inside.places c.self.inside.words.items c.self.inside.used.items c.args.mutator c.args.register c.place_of-place.result c.index.result.now c.args.value c.self.invariant.0
+      register_kept c.self.inside.places c.self.inside.words.items c.self.inside.used.items c.args.mutator c.args.register
+          c.place_of-place.result c.index.result.now c.args.value c.self.invariant.0
           (omega (arith, c.requires.mutator, mutators))
           (omega (arith, c.requires.register, registers)) place c.index.ensures c.if-index-register.false,
       c.self.invariant.1,
