@@ -1,23 +1,31 @@
 -- Marking has begun: what is kept lies below the next tops, and what roots name is marked.
-use Rattle.std.proofs.Common.{inl, inr, ◌≡◌, ℕ, zero, suc, ◌+◌, ◌-◌, ◌*◌, ◌/◌, ◌%◌, ◌<◌, ◌≤◌, Bool, true, false, List, [], ◌∷◌, Option, Some, length, get_or, ap, ◌∙◌, arith}
-use Rattle.std.specs.Prelude.{slice_get}
+use Rattle.std.proofs.Common.{inl, inr, ◌≡◌, ℕ, zero, suc, ◌+◌, ◌-◌, ◌*◌, ◌/◌, ◌%◌, ◌<◌, ◌≤◌, Bool, true, false, cond, List, [], ◌∷◌, Option, Some, length, get_or, replicate, sym, ap, ◌∙◌, subst, arith}
+use Rattle.std.specs.Prelude.{Contains, slice_get}
 use Rattle.std.proofs.lemmas.Bool.{cases_lt, lt-ltb}
+use Rattle.std.proofs.lemmas.List.{get_or_past, length-replicate}
+use Rattle.std.proofs.lemmas.List.Folds.{sum_by-replicate}
 use Rattle.root_table.specs.Roots.{AreNil}
 use Rattle.std.proofs.lemmas.Option.{slice_get_within}
-use Rattle.heap_model.specs.Heap.{Stored}
+use Rattle.heap_model.specs.Heap.{Stored, IsClosed}
 use Rattle.heap_model.specs.Marking.{Begins}
 use Rattle.regions.specs.Tiles.{Tile, Object, tile_size, tile_at, total_size}
 use Rattle.regions.specs.Table.{Region, Free, Ordinary, First, Rest, Table, region_tile, region_at, nth_region, region_used, used_of, top_of, tile_in, object_at}
 use Rattle.regions.proofs.Words.Parse.{past}
 use Rattle.regions.proofs.Tiles.Laws.{object_tile, known_region}
-use Rattle.mark_bitmap.specs.Marks.{is_marked}
+use Rattle.mark_bitmap.specs.Marks.{is_marked, marked_count}
 use Rattle.mark_bitmap.specs.Tops.{is_below, below_next}
+use Rattle.mark_bitmap.specs.Grey.{Scans, HasFingers}
+use Rattle.mark_bitmap.specs.Kept.{MarksObjects}
+use Rattle.mark_bitmap.proofs.ObjectLaws.{none_marked}
 use Rattle.satb_log.specs.Logs.{logged}
 use Rattle.marker.specs.Views.{heap_of, marking_of}
-use Rattle.marker.specs.Stands.{IsKept}
+use Rattle.marker.specs.Stands.{IsKept, MarkerStands}
+use Rattle.marker.specs.Counts.{ScanTotals, restarted}
+use Rattle.marker.specs.Live.{CountsWords}
 use Rattle.marker.specs.Steps.{IsAmong}
 use Rattle.marker.specs.declared.marker.Marker.{Marker}
-use Rattle.marker.proofs.Views.{kept_object}
+use Rattle.marker.proofs.Views.{kept_object, previous_heap}
+use Rattle.marker.proofs.LiveCounts.{counts_none}
 use Rattle.marker.proofs.Reached.{Reached, among_past}
 
 -- an object starts below the end of its region's tiles
@@ -81,3 +89,50 @@ rest_begun t roots m m' n z nil run tops unmarked unscanned none kept p = elim (
   | inl less ↦ all_begun t roots m m' (length roots) z (omega arith) run tops unmarked unscanned none kept (among_past t roots n (length roots) m m' (omega (arith, less)) nil p)
   | inr more ↦ all_begun t roots m m' n z more run tops unmarked unscanned none kept p
 ]
+
+-- marking begins with nothing marked: all that is there is old
+pub started_stands : (t : Table) (m m' : Marker) → MarkerStands t m → m.running ≡ false → IsClosed (heap_of t [] m) → m'.running ≡ true
+    → m'.bitmaps.previous ≡ m.bitmaps.previous → m'.bitmaps.next ≡ replicate (length m.bitmaps.next) false
+    → m'.tams.previous ≡ m.tams.previous → length m'.tams.next ≡ length m.tams.next → ((k : ℕ) → k < length t.regions → get_or m'.tams.next k 0 ≡ top_of t k)
+    → m'.grey ≡ record { scanned = replicate (length m.grey.scanned) false; fingers = replicate (length m.grey.fingers) false }
+    → ((marks : List Bool) → ((a : ℕ) → is_marked marks a ≡ false) → HasFingers marks m'.grey) → m'.logs ≡ m.logs → m'.scans ≡ restarted m.scans
+    → m'.live.previous ≡ m.live.previous → m'.live.next ≡ replicate (length m.live.next) 0 → MarkerStands t m'
+started_stands t m m' st off closed on previous next low len high grey fingers logs scans live live_next =
+    let unmarked : (a : ℕ) → is_marked m'.bitmaps.next a ≡ false = λ a. ap (λ (b : List Bool). get_or b a false) next ∙ none_marked (length m.bitmaps.next) a in
+    let unscanned : (a : ℕ) → is_marked m'.grey.scanned a ≡ false = λ a. ap (λ (g : Scans). get_or g.scanned a false) grey ∙ none_marked (length m.grey.scanned) a in
+    let nothing : logged m'.logs ≡ [] = ap logged logs ∙ st.idle off in
+    record {
+      previous = subst (λ (b : List Bool). MarksObjects t m'.tams.previous b) (sym previous) (subst (λ (l : List ℕ). MarksObjects t l m.bitmaps.previous) (sym low) st.previous);
+      next = record {
+        each_region = len ∙ st.next.each_region;
+        each_word = ap length next ∙ length-replicate (length m.bitmaps.next) false ∙ st.next.each_word;
+        bottom = λ k h. omega (arith, high k h);
+        top = λ k h. omega (arith, high k h);
+        object = λ a h. absurd (let e = unmarked a in cc);
+        below = λ a h. absurd (let e = unmarked a in cc);
+      };
+      scanned = ap (λ (g : Scans). length g.scanned) grey ∙ length-replicate (length m.grey.scanned) false ∙ st.scanned ∙ sym (ap length next ∙ length-replicate (length m.bitmaps.next) false);
+      finger = λ _. fingers m'.bitmaps.next unmarked;
+      newer = λ _ k. elim (cases_lt k (length t.regions)) [
+        | inl known ↦ omega (arith, ap (λ (l : List ℕ). get_or l k 0) low, high k known, st.previous.top k known)
+        | inr past ↦ omega (arith, ap (λ (l : List ℕ). get_or l k 0) low, get_or_past m.tams.previous k 0 (omega (arith, past, st.previous.each_region)))
+      ];
+      follows = λ _. record {
+        closed = subst IsClosed (sym (previous_heap t [] m m' low previous)) closed;
+        marked = λ a h. absurd (let e = unmarked a in cc);
+        logged_kept = λ a l. absurd (none_in a (subst (λ (xs : List ℕ). Contains xs a) nothing l));
+        logged_below = λ a l. absurd (none_in a (subst (λ (xs : List ℕ). Contains xs a) nothing l));
+      };
+      idle = λ no. absurd (let e = on in cc);
+      scanned_marked = λ _ a h. absurd (let e = unscanned a in cc);
+      counted = λ _. ap (λ (s : ScanTotals). s.since) scans ∙ sym (ap (λ (g : Scans). marked_count g.scanned) grey ∙ none_counted (length m.grey.scanned));
+      live = subst (λ (b : List Bool). CountsWords t b m'.live.previous) (sym previous) (subst (λ (l : List ℕ). CountsWords t m.bitmaps.previous l) (sym live) st.live);
+      live_next = λ no. absurd (let e = on in cc);
+      live_scanned = λ _. counts_none t m'.grey.scanned m'.live.next (length m.live.next) live_next (st.live_next off).each_region unscanned;
+    }
+  where
+    none_in : (a : ℕ) → Contains [] a → ⊥
+    none_in a (place, inside, is) = omega (arith, inside)
+
+    none_counted : (n : ℕ) → marked_count (replicate n false) ≡ 0
+    none_counted n = omega (arith, sum_by-replicate (λ (b : Bool). cond b 1 0) n false)

@@ -1,11 +1,12 @@
 -- Marking has ended: it is exact, and what is kept from then on shows the same graph.
 use Rattle.std.proofs.Common.{inl, inr, Some, ◌≡◌, ℕ, suc, ◌+◌, ◌-◌, ◌^◌, ◌<◌, Bool, true, false, not, List, [], ◌∷◌, Option, length, refl, sym, ap, ◌∙◌, subst, arith}
 use Rattle.std.specs.Prelude.{◌&&◌}
+use Rattle.std.proofs.lemmas.List.{length-map}
 use Rattle.std.proofs.lemmas.List.Sums.{count_by-le-length}
 use Rattle.heap_model.specs.Graph.{Graph}
 use Rattle.heap_model.specs.Heap.{Heap, Stored, Shows}
 use Rattle.heap_model.specs.Marking.{Marking, KeepsSnapshot, IsDone, MarksExactly}
-use Rattle.heap_model.specs.Weak.{cleared, cleared_object, cleared_after}
+use Rattle.heap_model.specs.Weak.{cleared, cleared_word, cleared_object, cleared_after}
 use Rattle.heap_model.specs.Count.{IsReachableCount}
 use Rattle.heap_model.proofs.Finish.{exact, kept_before_here}
 use Rattle.heap_model.proofs.Cleared.{shows_cleared, clears_exists, cleared_was, cleared_all, cleared_only, cleared_quiet}
@@ -13,7 +14,7 @@ use Rattle.heap_model.proofs.Touched.{reached_known}
 use Rattle.heap_model.proofs.Counted.{counted}
 use Rattle.heap_model.proofs.Names.{bool_cases}
 use Rattle.heap_model.proofs.Changed.{same_shows}
-use Rattle.regions.specs.Table.{Table, object_at}
+use Rattle.regions.specs.Table.{Table, object_at, stored_size, object_words}
 use Rattle.regions.specs.Shaped.{IsShaped}
 use Rattle.mark_bitmap.specs.Marks.{is_marked, marked_count, HasNone}
 use Rattle.mark_bitmap.specs.Tops.{Tops, exchanged}
@@ -25,12 +26,14 @@ use Rattle.satb_log.specs.Logs.{logged, log_of}
 use Rattle.satb_log.proofs.Logged.{none_logged}
 use Rattle.marker.specs.Views.{heap_of, marking_of, with_roles_exchanged}
 use Rattle.marker.specs.Stands.{MarkerStands}
+use Rattle.marker.specs.Live.{LiveCounts, CountsWords, counts_exchanged}
 use Rattle.marker.specs.Steps.{KeepsSnapshots, SameRoles}
 use Rattle.marker.specs.Clears.{ClearsTable}
 use Rattle.marker.specs.Ends.{EndsMarking, EndsExactly, WasKept}
 use Rattle.marker.specs.declared.marker.Marker.{Marker}
 use Rattle.marker.proofs.Views.{same_heap}
 use Rattle.marker.proofs.Forgotten.{role_stays}
+use Rattle.marker.proofs.LiveCounts.{counts_same}
 use Rattle.marker.proofs.Reached.{same_trans}
 use Rattle.marker.proofs.Marking.{snapshots_trans}
 
@@ -96,6 +99,7 @@ pub record IsExchanged (m m' : Marker) : Type 0 where
   pub tams : m'.tams ≡ exchanged m.tams
   pub grey : m'.grey ≡ m.grey
   pub logs : m'.logs ≡ m.logs
+  pub live : m'.live ≡ counts_exchanged m.live
   pub off : m'.running ≡ false
 
 pub exchanged_marking : (t : Table) (m m' : Marker) → IsExchanged m m' → marking_of t (with_roles_exchanged m') ≡ marking_of t m
@@ -118,8 +122,28 @@ cleared_has t t' m a x c at = elim (bool_cases (m.marked a)) [
 cleared_marks : (t t' : Table) (m : Marking) (tops : List ℕ) (marks : List Bool) → ClearsTable m t t' → MarksObjects t tops marks → MarksObjects t' tops marks
 cleared_marks t t' m tops marks c o = role_stays t t' tops marks o c.count c.size (λ k h. let top = o.top k h in let same = c.tops k in omega arith) (λ a x k at. cleared_has t t' m a x c at)
 
-pub exchanged_stands : (t t' : Table) (k : Marking) (m m' : Marker) → MarkerStands t m → IsDone (marking_of t m) → ClearsTable k t t' → IsExchanged m m' → MarkerStands t' m'
-exchanged_stands t t' k m m' st done c e = record {
+-- an object has as many words as before
+cleared_words : (t t' : Table) (m : Marking) (a : ℕ) (x : Stored) → ClearsTable m t t' → object_at t a ≡ Some x → object_words t' a ≡ object_words t a
+unfolding object_words
+cleared_words t t' m a x c at = elim (bool_cases (m.marked a)) [
+  | inl k ↦ ap stored_size (c.kept a (inl k)) ∙ size
+  | inr k ↦ elim (bool_cases (m.old a)) [
+    | inl o ↦ ap stored_size (c.dead a k o)
+    | inr o ↦ ap stored_size (c.kept a (inr o)) ∙ size
+  ]
+]
+  where
+    size : stored_size (cleared_object m (object_at t a)) ≡ stored_size (object_at t a)
+    size = ap (λ (o : Option Stored). stored_size (cleared_object m o)) at ∙ ap (λ (n : ℕ). 2 + length x.pointers + n + length x.values) (length-map x.weaks (cleared_word m)) ∙ sym (ap stored_size at)
+
+-- what is counted of marked objects holds of the cleared table too
+cleared_counts : (t t' : Table) (m : Marking) (tops : List ℕ) (marks marks' : List Bool) (counts : List ℕ) → ClearsTable m t t' → MarksObjects t tops marks → CountsWords t marks' counts
+    → ((a : ℕ) → is_marked marks a ≡ is_marked marks' a) → CountsWords t' marks counts
+cleared_counts t t' m tops marks marks' counts c o counted same =
+    counts_same t t' marks' marks counts counted c.count c.size same (λ a h. let x = o.object a (same a ∙ h) in cleared_words t t' m a x.0 c x.1)
+
+pub exchanged_stands : (t t' : Table) (k : Marking) (m m' : Marker) → MarkerStands t m → m.running ≡ true → IsDone (marking_of t m) → ClearsTable k t t' → IsExchanged m m' → MarkerStands t' m'
+exchanged_stands t t' k m m' st run done c e = record {
   previous = subst (λ (x : Tops). MarksObjects t' x.previous m'.bitmaps.previous) (sym e.tams) (subst (λ (b : List Bool). MarksObjects t' m.tams.next b) (sym e.previous) (cleared_marks t t' k m.tams.next m.bitmaps.next c st.next));
   next = subst (λ (x : Tops). MarksObjects t' x.next m'.bitmaps.next) (sym e.tams) (subst (λ (b : List Bool). MarksObjects t' m.tams.previous b) (sym e.next) (cleared_marks t t' k m.tams.previous m.bitmaps.previous c st.previous));
   scanned = ap (λ (g : Scans). length g.scanned) e.grey ∙ st.scanned ∙ st.next.each_word ∙ sym st.previous.each_word ∙ sym (ap length e.next);
@@ -129,6 +153,11 @@ exchanged_stands t t' k m m' st done c e = record {
   idle = λ _. ap logged e.logs ∙ done.logged;
   scanned_marked = λ on. absurd (let f = e.off in cc);
   counted = λ on. absurd (let f = e.off in cc);
+  live = subst (λ (l : LiveCounts). CountsWords t' m'.bitmaps.previous l.previous) (sym e.live) (subst (λ (b : List Bool). CountsWords t' b m.live.next) (sym e.previous)
+      (cleared_counts t t' k m.tams.next m.bitmaps.next m.grey.scanned m.live.next c st.next (st.live_scanned run) (λ a. sym (agree (is_marked m.grey.scanned a) (is_marked m.bitmaps.next a) (st.scanned_marked run a) (done.grey a)))));
+  live_next = λ _. subst (λ (l : LiveCounts). CountsWords t' m'.bitmaps.next l.next) (sym e.live) (subst (λ (b : List Bool). CountsWords t' b m.live.previous) (sym e.next)
+      (cleared_counts t t' k m.tams.previous m.bitmaps.previous m.bitmaps.previous m.live.previous c st.previous st.live (λ a. refl)));
+  live_scanned = λ on. absurd (let f = e.off in cc);
 }
 
 module _ (t t' : Table) (m m' m'' : Marker) (count : ℕ) (p : IsOver t m m') (c : ClearsTable (marking_of t m') t t') (e : IsExchanged m' m'') (counts : count ≡ marked_count m'.bitmaps.next) where

@@ -3,7 +3,7 @@ use Rattle.std.proofs.Common.{inl, inr, ◌≡◌, ◌≢◌, ℕ, ◌+◌, ◌*
 use Rattle.std.specs.Prelude.{if◌then◌else◌}
 use Rattle.std.proofs.lemmas.Bool.{cases_eq, cases_Bool}
 use Rattle.heap_model.specs.Heap.{Stored}
-use Rattle.regions.specs.Table.{Table, Region, Free, Ordinary, First, Rest, nth_region, region_kind, kind_of, region_at, tile_in, object_at, used_of, top_of, with_region, released_as, released}
+use Rattle.regions.specs.Table.{Table, Region, Free, Ordinary, First, Rest, nth_region, region_kind, kind_of, region_at, tile_in, object_at, stored_size, object_words, used_of, top_of, with_region, released_as, released}
 use Rattle.regions.specs.declared.row.Kind.TheVariants as kinds
 use Rattle.mark_bitmap.specs.Marks.{is_between, is_marked}
 use Rattle.mark_bitmap.specs.Tops.{Tops, is_in_region, with_bottom}
@@ -11,7 +11,9 @@ use Rattle.mark_bitmap.specs.Kept.{MarksObjects}
 use Rattle.mark_bitmap.proofs.ObjectLaws.{reset_objects}
 use Rattle.mark_bitmap.proofs.Ranges.{other_region}
 use Rattle.marker.specs.Stands.{MarkerStands, CanFollow}
+use Rattle.marker.specs.Live.{LiveCounts, CountsWords, with_none}
 use Rattle.marker.specs.declared.marker.Marker.{Marker}
+use Rattle.marker.proofs.LiveCounts.{counts_same, counts_forgotten}
 
 was_marked : (inside was now : Bool) → now ≡ (if inside then false else was) → now ≡ true → was ≡ true
 was_marked true was now e h = cc
@@ -39,16 +41,16 @@ role_forgotten t tops marks marks' k from to z m low high len cleared =
     subst (λ (n : ℕ). MarksObjects t (set tops k n) marks') (sym low)
     (reset_objects t tops marks' k z fewer (λ a i. each a ∙ ap (λ b. if b then false else is_marked marks a) i))
 
--- the marker with other marks and tops
-abbrev pub with_roles : Marker → List Bool → List Bool → Tops → Marker
-with_roles m previous next tops = record { bitmaps = record { previous = previous; next = next }; tams = tops; grey = m.grey; logs = m.logs; running = m.running; scans = m.scans }
+-- the marker with other marks, tops and counts
+abbrev pub with_roles : Marker → List Bool → List Bool → Tops → LiveCounts → Marker
+with_roles m previous next tops live = record { bitmaps = record { previous = previous; next = next }; tams = tops; grey = m.grey; logs = m.logs; running = m.running; scans = m.scans; live = live }
 
-pub forgotten_stands : (t : Table) (m : Marker) (k from to : ℕ) (previous next : List Bool) (tops : Tops) → 0 < t.words_per_region → MarkerStands t m → m.running ≡ false
+pub forgotten_stands : (t : Table) (m : Marker) (k from to : ℕ) (previous next : List Bool) (tops : Tops) (live : LiveCounts) → 0 < t.words_per_region → MarkerStands t m → m.running ≡ false → k < length t.regions
     → from ≡ k * t.words_per_region → to ≡ k * t.words_per_region + t.words_per_region
     → length previous ≡ length m.bitmaps.previous → Clears from to m.bitmaps.previous previous
     → length next ≡ length m.bitmaps.next → Clears from to m.bitmaps.next next
-    → tops ≡ with_bottom m.tams k from → MarkerStands t (with_roles m previous next tops)
-forgotten_stands t m k from to previous next tops z st off low high len cleared len' cleared' lowered =
+    → tops ≡ with_bottom m.tams k from → live ≡ with_none m.live k → MarkerStands t (with_roles m previous next tops live)
+forgotten_stands t m k from to previous next tops live z st off known low high len cleared len' cleared' lowered none =
     record {
       previous = subst (λ (x : Tops). MarksObjects t x.previous previous) (sym lowered) (role_forgotten t m.tams.previous m.bitmaps.previous previous k from to z st.previous low high len cleared);
       next = subst (λ (x : Tops). MarksObjects t x.next next) (sym lowered) (role_forgotten t m.tams.next m.bitmaps.next next k from to z st.next low high len' cleared');
@@ -59,6 +61,9 @@ forgotten_stands t m k from to previous next tops z st off low high len cleared 
       idle = λ _. st.idle off;
       scanned_marked = λ on. absurd (let e = off in cc);
       counted = λ on. absurd (let e = off in cc);
+      live = subst (λ (l : LiveCounts). CountsWords t previous l.previous) (sym none) (counts_forgotten t m.bitmaps.previous previous m.live.previous k st.live known z (rw (low, high) at cleared));
+      live_next = λ _. subst (λ (l : LiveCounts). CountsWords t next l.next) (sym none) (counts_forgotten t m.bitmaps.next next m.live.next k (st.live_next off) known z (rw (low, high) at cleared'));
+      live_scanned = λ on. absurd (let e = off in cc);
     }
 
 pub role_stays : (t t' : Table) (tops : List ℕ) (marks : List Bool) → MarksObjects t tops marks → length t'.regions ≡ length t.regions → t'.words_per_region ≡ t.words_per_region
@@ -74,13 +79,14 @@ role_stays t t' tops marks m count size tops_are stays = record {
   below = λ a h. rw size (m.below a h);
 }
 
--- no top falls below one at mark start, and marked objects stay
+-- no top falls below one at mark start, and marked objects stay, with as many words
 pub table_stands : (t t' : Table) (m : Marker) → MarkerStands t m → length t'.regions ≡ length t.regions → t'.words_per_region ≡ t.words_per_region
     → ((k : ℕ) → k < length t.regions → get_or m.tams.previous k 0 ≤ top_of t' k) → ((k : ℕ) → k < length t.regions → get_or m.tams.next k 0 ≤ top_of t' k)
     → ((a : ℕ) (x : Stored) → is_marked m.bitmaps.previous a ≡ true → object_at t a ≡ Some x → (y : Stored) × (object_at t' a ≡ Some y))
     → ((a : ℕ) (x : Stored) → is_marked m.bitmaps.next a ≡ true → object_at t a ≡ Some x → (y : Stored) × (object_at t' a ≡ Some y))
+    → ((a : ℕ) → is_marked m.bitmaps.previous a ≡ true → object_words t' a ≡ object_words t a) → ((a : ℕ) → is_marked m.bitmaps.next a ≡ true → object_words t' a ≡ object_words t a)
     → (m.running ≡ true → CanFollow t' m) → MarkerStands t' m
-table_stands t t' m st count size low high stays stays' follows = record {
+table_stands t t' m st count size low high stays stays' words words' follows = record {
   previous = role_stays t t' m.tams.previous m.bitmaps.previous st.previous count size low stays;
   next = role_stays t t' m.tams.next m.bitmaps.next st.next count size high stays';
   scanned = st.scanned;
@@ -90,6 +96,9 @@ table_stands t t' m st count size low high stays stays' follows = record {
   idle = st.idle;
   scanned_marked = st.scanned_marked;
   counted = st.counted;
+  live = counts_same t t' m.bitmaps.previous m.bitmaps.previous m.live.previous st.live count size (λ a. refl) words;
+  live_next = λ off. counts_same t t' m.bitmaps.next m.bitmaps.next m.live.next (st.live_next off) count size (λ a. refl) words';
+  live_scanned = λ run. counts_same t t' m.grey.scanned m.grey.scanned m.live.next (st.live_scanned run) count size (λ a. refl) (λ a h. words' a (st.scanned_marked run a h));
 }
 
 released_is : (t : Table) (k : ℕ) → kind_of t k ≡ kinds.Ordinary → released t k ≡ with_region t k Free
@@ -125,6 +134,14 @@ stays_marked t marks k z none a x marked o = elim (cases_Bool (is_in_region t.wo
   | inr outside ↦ (x, same_object t k a (other_region t.words_per_region k a z outside) ∙ o)
 ]
 
+words_marked : (t : Table) (marks : List Bool) (k : ℕ) → 0 < t.words_per_region → ((a : ℕ) → is_in_region t.words_per_region k a ≡ true → is_marked marks a ≡ false)
+    → (a : ℕ) → is_marked marks a ≡ true → object_words (with_region t k Free) a ≡ object_words t a
+unfolding object_words
+words_marked t marks k z none a marked = elim (cases_Bool (is_in_region t.words_per_region k a)) [
+  | inl inside ↦ absurd (let e = none a inside in let f = marked in cc)
+  | inr outside ↦ ap stored_size (same_object t k a (other_region t.words_per_region k a z outside))
+]
+
 pub released_stands : (t : Table) (m : Marker) (k : ℕ) → 0 < t.words_per_region → MarkerStands t m → m.running ≡ false → kind_of t k ≡ kinds.Ordinary
     → ((a : ℕ) → is_in_region t.words_per_region k a ≡ true → is_marked m.bitmaps.previous a ≡ false)
     → ((a : ℕ) → is_in_region t.words_per_region k a ≡ true → is_marked m.bitmaps.next a ≡ false)
@@ -133,4 +150,4 @@ released_stands t m k z st off ordinary none none' low low' =
     subst (λ (u : Table). MarkerStands u m) (sym (released_is t k ordinary))
     (table_stands t (with_region t k Free) m st (length-set t.regions k Free) refl
     (low_tops t m.tams.previous m.bitmaps.previous k st.previous low) (low_tops t m.tams.next m.bitmaps.next k st.next low')
-    (stays_marked t m.bitmaps.previous k z none) (stays_marked t m.bitmaps.next k z none') (λ on. absurd (let e = off in cc)))
+    (stays_marked t m.bitmaps.previous k z none) (stays_marked t m.bitmaps.next k z none') (words_marked t m.bitmaps.previous k z none) (words_marked t m.bitmaps.next k z none') (λ on. absurd (let e = off in cc)))

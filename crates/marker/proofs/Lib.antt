@@ -1,4 +1,5 @@
 pub mod Views
+pub mod LiveCounts
 pub mod Follow
 pub mod Reached
 pub mod Scanned

@@ -67,13 +67,13 @@ all_marks t log n m m' all p = record {
 }
 
 abbrev pub with_logs : Marker → List (List ℕ) → Marker
-with_logs m ls = record { bitmaps = m.bitmaps; tams = m.tams; grey = m.grey; logs = ls; running = m.running; scans = m.scans }
+with_logs m ls = record { bitmaps = m.bitmaps; tams = m.tams; grey = m.grey; logs = ls; running = m.running; scans = m.scans; live = m.live }
 
 -- a log is drained
 pub drained_stands : (t : Table) (m : Marker) (k : ℕ) (ls : List (List ℕ)) → MarkerStands t m → m.running ≡ true → ls ≡ set m.logs k [] → MarkerStands t (with_logs m ls)
 drained_stands t m k ls st run e =
     stands_step t m (with_logs m ls) st run (record { previous = refl; tams = refl; running = refl }) refl (ap length e ∙ length-set m.logs k [])
-    (λ a l. only_rest m.logs k a (subst (λ (x : List (List ℕ)). Contains (logged x) a) e l)) st.next (st.finger run) (λ a marked. inl marked) (st.scanned_marked run) (st.counted run)
+    (λ a l. only_rest m.logs k a (subst (λ (x : List (List ℕ)). Contains (logged x) a) e l)) st.next (st.finger run) (λ a marked. inl marked) (st.scanned_marked run) (st.counted run) refl (st.live_scanned run)
 
 pub drained_kept : (t : Table) (m : Marker) (k : ℕ) (ls : List (List ℕ)) (log : List ℕ) (a : ℕ) → MarkerStands t m → m.running ≡ true → log ≡ log_of m.logs k → Contains log a → IsKept t (with_logs m ls) a
 drained_kept t m k ls log a st run e l =
@@ -146,6 +146,9 @@ saved_stands t m k at ls st run below kept e =
       idle = λ off. absurd (let g = run in cc);
       scanned_marked = st.scanned_marked;
       counted = st.counted;
+      live = st.live;
+      live_next = st.live_next;
+      live_scanned = st.live_scanned;
     }
 
 pub is_saved : (t : Table) (m : Marker) (k at : ℕ) (w : Option ℕ) (ls : List (List ℕ)) → k < length m.logs → w ≡ Some at → below_next t m.tams at ≡ true

@@ -10,7 +10,9 @@ use Rattle.mark_bitmap.proofs.ObjectLaws.{none_marked}
 use Rattle.satb_log.specs.Logs.{logged}
 use Rattle.satb_log.proofs.Logged.{none_logged}
 use Rattle.marker.specs.Stands.{MarkerStands}
+use Rattle.marker.specs.Live.{LiveCounts, nothing_counted}
 use Rattle.marker.specs.declared.marker.Marker.{Marker}
+use Rattle.marker.proofs.LiveCounts.{counts_none}
 
 abbrev none : List ℕ
 none = []
@@ -39,9 +41,9 @@ new_objects t regions words tops marks count size low none =
 pub new_stands : (regions words mutators : ℕ) (m : Marker) → m.running ≡ false
     → m.bitmaps.previous ≡ replicate (regions * words) false → m.bitmaps.next ≡ replicate (regions * words) false
     → m.tams.previous ≡ bottoms regions words → m.tams.next ≡ bottoms regions words
-    → m.grey.scanned ≡ replicate (regions * words) false → m.logs ≡ replicate mutators []
+    → m.grey.scanned ≡ replicate (regions * words) false → m.logs ≡ replicate mutators [] → m.live ≡ nothing_counted regions
     → (t : Table) → length t.regions ≡ regions → t.words_per_region ≡ words → MarkerStands t m
-new_stands regions words mutators m off previous next low high scanned logs t count size =
+new_stands regions words mutators m off previous next low high scanned logs none t count size =
     record {
       previous = new_objects t regions words m.tams.previous m.bitmaps.previous count size low previous;
       next = new_objects t regions words m.tams.next m.bitmaps.next count size high next;
@@ -52,6 +54,9 @@ new_stands regions words mutators m off previous next low high scanned logs t co
       idle = λ _. ap logged logs ∙ none_in mutators;
       scanned_marked = λ on. absurd (let e = off in cc);
       counted = λ on. absurd (let e = off in cc);
+      live = counts_none t m.bitmaps.previous m.live.previous regions (ap (λ (l : LiveCounts). l.previous) none) (sym count) (λ a. ap (λ (b : List Bool). get_or b a false) previous ∙ none_marked (regions * words) a);
+      live_next = λ _. counts_none t m.bitmaps.next m.live.next regions (ap (λ (l : LiveCounts). l.next) none) (sym count) (λ a. ap (λ (b : List Bool). get_or b a false) next ∙ none_marked (regions * words) a);
+      live_scanned = λ on. absurd (let e = off in cc);
     }
 
 -- nothing lies below a bottom

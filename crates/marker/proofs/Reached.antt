@@ -14,6 +14,7 @@ use Rattle.mark_bitmap.specs.Kept.{MarksObjects}
 use Rattle.mark_bitmap.proofs.ObjectLaws.{set_objects, within}
 use Rattle.satb_log.specs.Logs.{logged}
 use Rattle.marker.specs.Stands.{MarkerStands, IsKept}
+use Rattle.marker.specs.Live.{CountsWords}
 use Rattle.marker.specs.Steps.{SameRoles, IsAmong, MarksWanted}
 use Rattle.marker.specs.declared.marker.Marker.{Marker}
 use Rattle.marker.proofs.Views.{same_heap, kept_object, same_kept}
@@ -25,8 +26,8 @@ pub stands_step : (t : Table) (m m' : Marker) → MarkerStands t m → m.running
     → MarksObjects t m.tams.next m'.bitmaps.next → HasFingers m'.bitmaps.next m'.grey
     → ((a : ℕ) → is_marked m'.bitmaps.next a ≡ true → (is_marked m.bitmaps.next a ≡ true) ⊎ IsKept t m a)
     → ((a : ℕ) → is_marked m'.grey.scanned a ≡ true → is_marked m'.bitmaps.next a ≡ true) → m'.scans.since ≡ marked_count m'.grey.scanned
-    → MarkerStands t m'
-stands_step t m m' st run same scanned len logs next finger came scanned_marked counted =
+    → m'.live.previous ≡ m.live.previous → CountsWords t m'.grey.scanned m'.live.next → MarkerStands t m'
+stands_step t m m' st run same scanned len logs next finger came scanned_marked counted before now =
     let f = st.follows run in
     let tams : m.tams ≡ m'.tams = sym same.tams in
     let kept : (a : ℕ) → IsKept t m a → IsKept t m' a = λ a. same_kept t m m' a same in
@@ -45,6 +46,9 @@ stands_step t m m' st run same scanned len logs next finger came scanned_marked 
       idle = λ off. absurd (let e = same.running in cc);
       scanned_marked = λ _. scanned_marked;
       counted = λ _. counted;
+      live = subst (λ (b : List Bool). CountsWords t b m'.live.previous) (sym same.previous) (subst (λ (l : List ℕ). CountsWords t m.bitmaps.previous l) (sym before) st.live);
+      live_next = λ off. absurd (let e = same.running in cc);
+      live_scanned = λ _. now;
     }
 
 pub marked_set : (marks : List Bool) (a b : ℕ) → is_marked (set marks a true) b ≡ true → (is_marked marks b ≡ true) ⊎ (b ≡ a)
@@ -71,7 +75,7 @@ old_within t m a z st h = within t m.tams.next m.bitmaps.next a z st.next h
 
 -- the marker with other marks and another grey set
 abbrev pub with_next : Marker → List Bool → Scans → Marker
-with_next m n g = record { bitmaps = record { previous = m.bitmaps.previous; next = n }; tams = m.tams; grey = g; logs = m.logs; running = m.running; scans = m.scans }
+with_next m n g = record { bitmaps = record { previous = m.bitmaps.previous; next = n }; tams = m.tams; grey = g; logs = m.logs; running = m.running; scans = m.scans; live = m.live }
 
 pub set_stands : (t : Table) (m : Marker) (a : ℕ) (n : List Bool) (g : Scans) → MarkerStands t m → m.running ≡ true
     → below_next t m.tams a ≡ true → IsKept t m a → n ≡ set m.bitmaps.next a true → g.scanned ≡ m.grey.scanned
@@ -84,6 +88,7 @@ set_stands t m a n g st run below k e scanned finger =
     (λ b h. elim (marked_set m.bitmaps.next a b (ap (λ (l : List Bool). is_marked l b) (sym e) ∙ h)) [ inl old ↦ inl old | inr same ↦ inr (subst (λ (x : ℕ). IsKept t m x) (sym same) k) ])
     (λ b h. ap (λ (l : List Bool). is_marked l b) e ∙ set_more m.bitmaps.next a b (st.scanned_marked run b (ap (λ (l : List Bool). is_marked l b) (sym scanned) ∙ h)))
     (st.counted run ∙ ap marked_count (sym scanned))
+    refl (subst (λ (b : List Bool). CountsWords t b m.live.next) (sym scanned) (st.live_scanned run))
 
 pub set_marks : (t : Table) (m : Marker) (a : ℕ) (target : Option ℕ) (n : List Bool) (g : Scans) → target ≡ Some a → a < length m.bitmaps.next
     → n ≡ set m.bitmaps.next a true → MarksWanted t (λ b. target ≡ Some b) m (with_next m n g)

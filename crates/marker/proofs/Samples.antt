@@ -9,11 +9,11 @@ use Rattle.heap_model.specs.Heap.{Stored, IsClosed, fields, with_field}
 use Rattle.heap_model.proofs.Fields.{field_set}
 use Rattle.heap_model.proofs.Lists.{get-set_cases, get-append_cases}
 use Rattle.regions.specs.Tiles.{Tile, Object, Filler, tile_size, tile_at}
-use Rattle.regions.specs.Table.{Region, Free, Table, region_tile, region_at, tile_in, tile_object, object_at, free_table, taken, first_free, set_field, push_tile, replace_tile, new_object, remainder, used_of, top_of, kind_of, HasObject}
+use Rattle.regions.specs.Table.{Region, Free, Table, region_tile, region_at, tile_in, tile_object, object_at, stored_size, object_words, free_table, taken, first_free, set_field, push_tile, replace_tile, new_object, remainder, used_of, top_of, kind_of, HasObject}
 use Rattle.regions.specs.declared.row.Kind.TheVariants as kinds
 use Rattle.regions.specs.Shaped.{IsShaped}
 use Rattle.regions.specs.Walks.{IsHolder}
-use Rattle.regions.proofs.Tiles.Changes.{WritesObject, field_put, object_same}
+use Rattle.regions.proofs.Tiles.Changes.{WritesObject, field_put, field_size, object_same}
 use Rattle.regions.proofs.Tiles.Placing.{region_taken, Pushed, filler_push, Replaces, filler_replaced}
 use Rattle.mark_bitmap.specs.Tops.{is_below, below_previous}
 use Rattle.marker.specs.Views.{heap_of}
@@ -36,14 +36,18 @@ unfolding free_table
 free_size t count size e = (ap (λ (u : Table). length u.regions) e ∙ length-replicate count Free, ap (λ (u : Table). u.words_per_region) e)
 
 pub keeps_refl : (t : Table) → Keeps t t
-keeps_refl t = record { count = refl; size = refl; linked = λ l. l; tops = λ k. omega arith; stays = λ a o. o }
+keeps_refl t = record { count = refl; size = refl; linked = λ l. l; tops = λ k. omega arith; stays = λ a o. o; words = λ a o. refl }
 
 pub keeps_trans : (t u v : Table) → Keeps t u → Keeps u v → Keeps t v
-keeps_trans t u v p q = record { count = q.count ∙ p.count; size = q.size ∙ p.size; linked = λ l. q.linked (p.linked l); tops = λ k. omega (arith, p.tops k, q.tops k); stays = λ a h. q.stays a (p.stays a h) }
+keeps_trans t u v p q = record { count = q.count ∙ p.count; size = q.size ∙ p.size; linked = λ l. q.linked (p.linked l); tops = λ k. omega (arith, p.tops k, q.tops k); stays = λ a h. q.stays a (p.stays a h); words = λ a h. q.words a (p.stays a h) ∙ p.words a h }
 
 -- where a region's words handed out are as many as before, or more, its top doesn't fall
 top_stays : (t t' : Table) (k : ℕ) → t'.words_per_region ≡ t.words_per_region → used_of t k ≤ used_of t' k → top_of t k ≤ top_of t' k
 top_stays t t' k size used = let same : k * t'.words_per_region ≡ k * t.words_per_region = ap (λ (n : ℕ). k * n) size in omega (arith, same, used)
+
+same_size : (t t' : Table) (a b : ℕ) → object_at t' b ≡ object_at t a → object_words t' b ≡ object_words t a
+unfolding object_words
+same_size t t' a b e = ap stored_size e
 
 same_objects : (t t' : Table) → length t'.regions ≡ length t.regions → t'.words_per_region ≡ t.words_per_region → ((k : ℕ) → used_of t' k ≡ used_of t k) → ((a : ℕ) → object_at t' a ≡ object_at t a) → Keeps t t'
 same_objects t t' count size used same = record {
@@ -52,6 +56,7 @@ same_objects t t' count size used same = record {
   tops = λ k. top_stays t t' k size (omega (arith, used k));
   linked = λ l a i b x o f. let h = l a i b x (sym (same a) ∙ o) f in record { object = h.object; is = same b ∙ h.is };
   stays = λ a h. record { object = h.object; is = same a ∙ h.is };
+  words = λ a h. same_size t t' a a (same a);
 }
 
 pub take_keeps : (t t' : Table) (o : Option ℕ) → first_free t ≡ o → t' ≡ taken t o → Keeps t t'
@@ -76,6 +81,13 @@ module _ (t : Table) (x i b : ℕ) (z : 0 < t.words_per_region) (from : HasObjec
     | inr other ↦ record { object = h.object; is = object_same t u a (w.others a other) ∙ h.is }
   ]
 
+  link_words : (a : ℕ) → HasObject t a → object_words u a ≡ object_words t a
+  unfolding object_words
+  link_words a h = elim (cases_eq a x) [
+    | inl same ↦ ap (object_words u) same ∙ ap stored_size w.is ∙ field_size s i (Some b) ∙ sym (ap stored_size from.is) ∙ sym (ap (object_words t) same)
+    | inr other ↦ ap stored_size (object_same t u a (w.others a other))
+  ]
+
   linked : IsLinked t → IsLinked u
   linked l a j c y o f = elim (cases_eq a x) [
     | inl same ↦
@@ -89,7 +101,7 @@ module _ (t : Table) (x i b : ℕ) (z : 0 < t.words_per_region) (from : HasObjec
   ]
 
   pub link_keeps : (t' : Table) → t' ≡ set_field t x i (Some b) → Keeps t t'
-  link_keeps t' e = subst (λ (v : Table). Keeps t v) (sym e) (record { count = w.count; size = w.size; linked = linked; tops = λ k. top_stays t u k w.size (omega (arith, w.used k)); stays = link_stays })
+  link_keeps t' e = subst (λ (v : Table). Keeps t v) (sym e) (record { count = w.count; size = w.size; linked = linked; tops = λ k. top_stays t u k w.size (omega (arith, w.used k)); stays = link_stays; words = link_words })
 
 nil_alone : (n i b : ℕ) → slice_get (replicate n None) i ≡ Some (Some b) → ⊥
 nil_alone n i b e =
@@ -197,6 +209,10 @@ module _ (t t' t'' : Table) (k a n p weak name : ℕ) (shape : IsShaped t) (shap
       | inr apart ↦ omega (arith, push.used_others j apart, replaced.used j)
     ]);
     stays = add_stays;
+    words = λ y h. elim (cases_eq y a) [
+      | inl same ↦ absurd (let o = sym (ap (object_at t) same) ∙ h.is in let none = was in cc)
+      | inr apart ↦ same_size t t'' y y (other y apart)
+    ];
   }
 
   pub add_made : HasObject t'' a
@@ -234,10 +250,13 @@ kept_back t m a none k = let below = none a in record { object = k.object; is = 
 pub grown_stands : (t t' : Table) (m : Marker) → MarkerStands t m → IsLinked t → ((a : ℕ) → below_previous t m.tams a ≡ false) → Keeps t t' → MarkerStands t' m
 grown_stands t t' m st linked none k =
     table_stands t t' m st k.count k.size (λ j h. let top = st.previous.top j h in omega (arith, top, k.tops j)) (λ j h. let top = st.next.top j h in omega (arith, top, k.tops j))
-    (λ a x _ o. stays a x o) (λ a x _ o. stays a x o) follows
+    (λ a x _ o. stays a x o) (λ a x _ o. stays a x o) (λ a h. let o = st.previous.object a h in words a o.0 o.1) (λ a h. let o = st.next.object a h in words a o.0 o.1) follows
   where
     stays : (a : ℕ) (x : Stored) → object_at t a ≡ Some x → (y : Stored) × (object_at t' a ≡ Some y)
     stays a x o = let h = k.stays a (record { object = x; is = o }) in (h.object, h.is)
+
+    words : (a : ℕ) (x : Stored) → object_at t a ≡ Some x → object_words t' a ≡ object_words t a
+    words a x o = k.words a (record { object = x; is = o })
 
     none' : (a : ℕ) → below_previous t' m.tams a ≡ false
     none' a = ap (λ (n : ℕ). is_below n m.tams.previous a) k.size ∙ none a

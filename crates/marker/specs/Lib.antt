@@ -1,4 +1,5 @@
 pub mod Counts
+pub mod Live
 pub mod Views
 pub mod Stands
 pub mod Steps

@@ -8,6 +8,7 @@ use Rattle.mark_bitmap.specs.Tops.{exchanged, bottoms}
 use Rattle.mark_bitmap.specs.Grey.{nothing_scanned}
 use Rattle.mark_bitmap.specs.Kept.{heap_in, marking_in}
 use Rattle.satb_log.specs.Logs.{logged}
+use Rattle.marker.specs.Live.{nothing_counted}
 use Rattle.marker.specs.declared.marker.Marker.{Marker}
 
 -- the objects that the previous marks and tops keep, and the root words
@@ -31,4 +32,5 @@ fresh_marker c = record {
   logs = replicate c.mutators [];
   running = false;
   scans = record { since = 0; total = 0 };
+  live = nothing_counted c.regions;
 }

@@ -55,6 +55,7 @@ impl Marker {
         self.grey.clear();
         set_tops(&mut self.tams, table);
         self.scans.restart();
+        self.live.restart();
         self.running = true;
     }
 
@@ -189,6 +190,7 @@ impl Marker {
         let count = self.scans.since();
         self.bitmaps.swap_roles();
         self.tams.swap_roles();
+        self.live.swap_roles();
         self.running = false;
         count
     }
@@ -218,5 +220,6 @@ impl Marker {
         self.bitmaps.previous.clear_range(from, to);
         self.bitmaps.next.clear_range(from, to);
         self.tams.reset(region, from);
+        self.live.forget(region);
     }
 }

@@ -5,7 +5,7 @@ ghost use Rattle.std.specs.Prelude.{◌≡◌, ℕ, ◌*◌, ◌<◌, ◌≤◌,
 ghost use Rattle.heap_model.specs.Graph.{Graph};
 ghost use Rattle.heap_model.specs.Heap.{Stored, Shows};
 ghost use Rattle.heap_model.specs.Marking.{KeepsSnapshot};
-ghost use Rattle.regions.specs.Table.{Table, kind_of, object_at, top_of, released};
+ghost use Rattle.regions.specs.Table.{Table, kind_of, object_at, object_words, top_of, released};
 ghost use Rattle.regions.specs.Shaped.{IsShaped};
 ghost use Rattle.regions.specs.declared.row.Kind.TheVariants as kinds;
 ghost use Rattle.mark_bitmap.specs.Marks.{is_marked};
@@ -22,13 +22,14 @@ pub fn follow_law()
 {}
 
 /// The table changes beneath the marker: no top falls below one at mark start, and where an object was there still is
-/// one.
+/// one, of as many words.
 pub fn table_law()
     ensures { (t t' : Table) (m : Marker)
         → MarkerStands t m → length t'.regions ≡ length t.regions → t'.words_per_region ≡ t.words_per_region
         → ((k : ℕ) → k < length t.regions → slice_index m.tams.previous k ≤ top_of t' k)
         → ((k : ℕ) → k < length t.regions → slice_index m.tams.next k ≤ top_of t' k)
         → ((a : ℕ) (x : Stored) → object_at t a ≡ Some x → (y : Stored) × (object_at t' a ≡ Some y))
+        → ((a : ℕ) (x : Stored) → object_at t a ≡ Some x → object_words t' a ≡ object_words t a)
         → (m.running ≡ true → CanFollow t' m) → MarkerStands t' m }
 {}
 

@@ -8,6 +8,7 @@ ghost use Rattle.marker.specs.Stands.{MarkerStands};
 ghost use Rattle.marker.specs.Views.{fresh_marker};
 
 use crate::counts::ScanCount;
+use crate::live::LiveWords;
 use heap_words::config::Config;
 use mark_bitmap::bitmaps::Bitmaps;
 use mark_bitmap::grey::Grey;
@@ -29,6 +30,8 @@ pub struct Marker {
     pub running: bool,
     /// How many objects were scanned since marking began.
     pub scans: ScanCount,
+    /// How many words of each region are marked.
+    pub live: LiveWords,
 }
 
 /// Where it is let go there is one call, and not a drop for each of its parts.
@@ -41,6 +44,7 @@ impl Drop for Marker {
             logs: _,
             running: _,
             scans: _,
+            live: _,
         } = self;
     }
 }
@@ -66,6 +70,7 @@ impl Marker {
             logs: DeletionLogs::new(alloc, config.mutators)?,
             running: false,
             scans: ScanCount::new(),
+            live: LiveWords::new(alloc, config.regions)?,
         })
     }
 

@@ -57,12 +57,14 @@ impl Marker {
     {
         table.law();
         let count = table.pointer_count(object);
+        let size = table.object_size(object);
         for field in 0..count {
             let target = table.get_ptr(object, field);
             self.reach(table, target);
         }
         self.grey.remove(&self.bitmaps.next, object);
         self.scans.add();
+        self.live.add(table.region_of(object), size);
     }
 
     /// Scans up to `units` grey objects, and says how many: fewer only if none is left. Which ones, no clause says: the lowest first.

@@ -305,10 +305,11 @@ fn exchange(marker: &mut Marker, _table: &RegionTable)
 {
     marker.bitmaps.swap_roles();
     marker.tams.swap_roles();
+    marker.live.swap_roles();
 }
 
-/// Two marked objects in two regions. Once the first region is forgotten, its mark is gone and its top is at its bottom; the
-/// other region's mark stays.
+/// Two marked objects of three words in two regions. Once the first region is forgotten, its mark is gone, its top is at its bottom and
+/// nothing is counted of it; the other region's mark and count stay.
 #[test]
 fn forgets_a_region(rt: HostRuntime) -> Result<(), Fail> {
     let mut made = build(rt.alloc(), &[(1, 0), (1, 0)], &[(0, 0, 1)])?;
@@ -319,9 +320,12 @@ fn forgets_a_region(rt: HostRuntime) -> Result<(), Fail> {
     assert_eq!(rt; marker.finish(&mut made.table), 2);
     assert_eq!(rt; marker.bitmaps.previous.next(bottom), Some(bottom));
     assert_eq!(rt; marker.tams.previous(region), Addr::new(3));
+    assert_eq!(rt; marker.live.previous(region), 3);
     marker.forget(&made.table, region);
     assert_eq!(rt; marker.bitmaps.previous.next(bottom), Some(Addr::new(16)));
     assert_eq!(rt; marker.tams.previous(region), bottom);
+    assert_eq!(rt; marker.live.previous(region), 0);
+    assert_eq!(rt; marker.live.previous(RegionNo::new(1)), 3);
     Ok(())
 }
 

@@ -1,5 +1,5 @@
 -- What a policy asks: what is live of a run, and whether anything is grey.
-use Rattle.std.proofs.Common.{◌≡◌, ℕ, ◌≤◌, Bool, true, false, Option, Some, None, refl, sym, ◌∙◌, ap, arith}
+use Rattle.std.proofs.Common.{◌≡◌, ℕ, true, false, Option, Some, None, refl, sym, ◌∙◌, ap, arith}
 use Rattle.std.specs.Prelude.{◌↔◌, IsTrue, IsSome, is_some, MatchOption}
 use Rattle.heap_model.specs.Heap.{Stored}
 use Rattle.heap_words.specs.Bits.{HasNone, IsLowest}

@@ -19,7 +19,7 @@ IsDeadHead c k = IsDeadRegion c k ⊎ ((kind_of c.table k ≡ kinds.First) × (k
 -- m regions from k on are forgotten: they have no marks, and their tops at mark start are their bottoms; those of other
 -- regions stay
 pub record HasForgotten (words k m : ℕ) (was now : Marker) : Type 0 where
-  pub same : now ≡ record was { tams = now.tams; bitmaps = now.bitmaps }
+  pub same : now ≡ record was { tams = now.tams; bitmaps = now.bitmaps; live = now.live }
   pub no_previous : (a : ℕ) → k ≤ a / words → a / words < k + m → is_marked now.bitmaps.previous a ≡ false
   pub no_next : (a : ℕ) → k ≤ a / words → a / words < k + m → is_marked now.bitmaps.next a ≡ false
   pub previous : (a : ℕ) → IsOther k m (a / words) → is_marked now.bitmaps.previous a ≡ is_marked was.bitmaps.previous a

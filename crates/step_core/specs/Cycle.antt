@@ -121,7 +121,7 @@ pub record IsAsBefore (c c' : CoreState) (k : ℕ) : Type 0 where
 -- regions change, with their sets, tops and marks, and else nothing does; and what is kept stays
 pub record ChangesRegions (c c' : CoreState) : Type 0 where
   pub same : c' ≡ record c { table = c'.table; marker = c'.marker; sets = c'.sets }
-  pub marker : c'.marker ≡ record c.marker { tams = c'.marker.tams; bitmaps = c'.marker.bitmaps }
+  pub marker : c'.marker ≡ record c.marker { tams = c'.marker.tams; bitmaps = c'.marker.bitmaps; live = c'.marker.live }
   pub size : c'.table.words_per_region ≡ c.table.words_per_region
   pub kept : (a : ℕ) → kept_of c' a ≡ kept_of c a
 

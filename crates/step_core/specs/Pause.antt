@@ -1,5 +1,5 @@
 -- What a pause does to a core, exactly.
-use Rattle.std.specs.Prelude.{◌≡◌, ◌↔◌, ℕ, ◌==◌, ◌+◌, ◌*◌, ◌<◌, ◌≤◌, All, Bool, true, Option, None, List, [], ◌∷◌, ◌++◌, IsSorted, Some, length, take, count_by, slice_get, slice_index}
+use Rattle.std.specs.Prelude.{◌≡◌, ◌↔◌, ℕ, ◌==◌, ◌+◌, ◌*◌, ◌<◌, ◌≤◌, All, Bool, true, Option, None, List, [], ◌∷◌, ◌++◌, IsSorted, Some, if◌then◌else◌, length, take, count_by, slice_get, slice_index}
 use Rattle.heap_words.specs.Sizes.{size_of}
 use Rattle.heap_words.specs.Configs.{card_words}
 use Rattle.heap_model.specs.Graph.{Graph, Object, object_named}
@@ -10,6 +10,7 @@ use Rattle.regions.specs.declared.row.Kind.TheVariants as kinds
 use Rattle.alloc_buffers.specs.Placement.{closed}
 use Rattle.mark_bitmap.specs.Tops.{Tops}
 use Rattle.mark_bitmap.specs.Live.{live_bound_of}
+use Rattle.marker.specs.Live.{LiveCounts}
 use Rattle.cards.specs.Cards.{clean_cards, flushed}
 use Rattle.region_choice.specs.declared.LiveRow.{LiveRow}
 use Rattle.region_choice.specs.Choice.{copy_limit, live_sum, row_cmp, IsBestWithin}
@@ -102,6 +103,13 @@ pub record AreCopiedNames (g : Graph) (set : ℕ → Bool) (h : Heap) (w : ℕ) 
   pub each : (n : ℕ) → IsCopied set h n → (i : ℕ) × (slice_get names i ≡ Some n)
   pub total : words_of g names ≡ w
 
+-- nothing is counted of the rows' regions, and of the others what was
+pub record AreForgotten (rows : List LiveRow) (l l' : LiveCounts) : Type 0 where
+  pub previous : (k : ℕ) → slice_index l'.previous k ≡ (if is_chosen rows k then 0 else slice_index l.previous k)
+  pub next : (k : ℕ) → slice_index l'.next k ≡ (if is_chosen rows k then 0 else slice_index l.next k)
+  pub each_previous : length l'.previous ≡ length l.previous
+  pub each_next : length l'.next ≡ length l.next
+
 -- the layers of a core that evacuation works on
 abbrev pub layers_of : CoreState → Layers
 layers_of c = record {
@@ -124,7 +132,8 @@ pub record EvacuatesBest (budget n w : ℕ) (c ready c' : CoreState) : Type 0 wh
   pub names : (g : Graph) → ShowsGraph g c → AreCopiedNames g (set_in c.table.words_per_region chosen) (heap_of c) w
   pub reclaimed : (k : ℕ) → IsReclaimed c.table c'.table k ↔ (is_chosen chosen k ≡ true)
   pub same : c' ≡ record ready { table = c'.table; marker = c'.marker; cards = c'.cards; sets = c'.sets; roots = c'.roots }
-  pub marker : c'.marker ≡ record ready.marker { tams = c'.marker.tams; bitmaps = c'.marker.bitmaps }
+  pub marker : c'.marker ≡ record ready.marker { tams = c'.marker.tams; bitmaps = c'.marker.bitmaps; live = c'.marker.live }
+  pub counts : AreForgotten chosen ready.marker.live c'.marker.live
   pub evacuated : HasEvacuated chosen (card_words c.config) w (layers_of ready) (layers_of c')
 
 -- a pause: all is made ready, then the best regions are evacuated

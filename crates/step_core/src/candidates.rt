@@ -10,35 +10,26 @@
 ghost use Rattle.std.specs.Prelude.{◌≡◌, ◌⊎◌, ℕ, ◌<◌, ◌≤◌, All, Bool, IfNone, IfSome, IsTrue, Some, length, take, count_by, slice_get, ◌+◌, IsPermutation, IsSorted};
 ghost use Rattle.std.specs.Vec.{vec_capacity};
 ghost use Rattle.regions.specs.Table.{is_free, kind_of, nth_region};
-ghost use Rattle.mark_bitmap.specs.Kept.{MarksObjects};
 ghost use Rattle.mark_bitmap.specs.Live.{live_bound_of};
+ghost use Rattle.marker.specs.Stands.{MarkerStands};
 ghost use Rattle.region_choice.specs.Choice.{copy_limit, live_sum, row_cmp, IsBestWithin};
 ghost use Rattle.step_core.specs.Pause.{IsCandidate, AreCandidatesWithin, IsChosen};
 
 use heap_words::addr::RegionNo;
-use mark_bitmap::live::live_bound_within;
-use mark_bitmap::marks::Marks;
-use mark_bitmap::tams::Tams;
+use marker::Marker;
 use region_choice::{LiveRow, choose, limit_of};
 use regions::{Kind, RegionTable};
 
-/// The live bound of a region that is a candidate, where it is at most the limit.
-fn candidate(
-    table: &RegionTable,
-    tams: &Tams,
-    previous: &Marks,
-    running: bool,
-    limit: u32,
-    region: RegionNo,
-) -> Option<u32>
+/// The live bound of a region that is a candidate, where it is at most the limit. It is looked up, and costs no walk.
+fn candidate(table: &RegionTable, marker: &Marker, limit: u32, region: RegionNo) -> Option<u32>
     requires known { region < length table.now.regions }
-    requires marks { MarksObjects table.now tams.now.previous previous.now }
-    requires tops { length tams.now.next ≡ length table.now.regions }
-    ensures bound { IfSome result (λ n. n ≡ live_bound_of table.now tams.now.previous previous.now region) }
-    ensures some { IfSome result (λ n. IsCandidate table.now tams.now previous.now running region) }
+    requires stands { MarkerStands table.now marker.now }
+    ensures bound { IfSome result (λ n. n ≡ live_bound_of table.now marker.now.tams.previous marker.now.bitmaps.previous region) }
+    ensures some { IfSome result (λ n. IsCandidate table.now marker.now.tams marker.now.bitmaps.previous marker.now.running region) }
     ensures within { IfSome result (λ n. n ≤ limit) }
-    ensures none { IfNone result ((IsCandidate table.now tams.now previous.now running region → ⊥)
-        ⊎ (IsCandidate table.now tams.now previous.now running region × (limit < live_bound_of table.now tams.now.previous previous.now region))) }
+    ensures none { IfNone result ((IsCandidate table.now marker.now.tams marker.now.bitmaps.previous marker.now.running region → ⊥)
+        ⊎ (IsCandidate table.now marker.now.tams marker.now.bitmaps.previous marker.now.running region
+        × (limit < live_bound_of table.now marker.now.tams.previous marker.now.bitmaps.previous region))) }
 {
     table.law();
     match table.kind(region) {
@@ -46,34 +37,35 @@ fn candidate(
         Kind::Free | Kind::First | Kind::Rest => return None,
     }
     let words = table.words_per_region();
-    if running && tams.next(region).word() != region.number() * words {
+    if marker.running && marker.tams.next(region).word() != region.number() * words {
         return None;
     }
     let most = limit.min(words - 1);
-    live_bound_within(table, tams, previous, region, most)
+    let live = marker.live_bound(table, region);
+    if live > most {
+        return None;
+    }
+    Some(live)
 }
 
-/// Writes a row for each candidate whose live bound is within the limit. A region's marked objects are looked at as far as they
-/// are within it.
+/// Writes a row for each candidate whose live bound is within the limit.
 pub(crate) fn find_candidates(
     table: &RegionTable,
-    tams: &Tams,
-    previous: &Marks,
-    running: bool,
+    marker: &Marker,
     limit: u32,
     rows: &mut Vec<LiveRow>,
 )
-    requires marks { MarksObjects table.now tams.now.previous previous.now }
-    requires tops { length tams.now.next ≡ length table.now.regions }
+    requires stands { MarkerStands table.now marker.now }
     requires room { length table.now.regions ≤ vec_capacity rows.old }
-    ensures candidates { AreCandidatesWithin table.now tams.now previous.now running limit (length table.now.regions) rows.new.items }
+    ensures candidates { AreCandidatesWithin table.now marker.now.tams marker.now.bitmaps.previous marker.now.running limit (length table.now.regions)
+        rows.new.items }
     ensures few { length rows.new.items ≤ length table.now.regions }
     ensures room { vec_capacity rows.new ≡ vec_capacity rows.old }
 {
     rows.clear();
     for number in 0..table.region_count() {
         let region = RegionNo::new(number);
-        if let Some(live_bound) = candidate(table, tams, previous, running, limit, region) {
+        if let Some(live_bound) = candidate(table, marker, limit, region) {
             rows.push_reserved(LiveRow { region, live_bound });
         }
     }
@@ -97,24 +89,21 @@ fn choose_rows(rows: &mut Vec<LiveRow>, words: u32, budget: u32, free: u32) -> u
 /// Finds the candidates within the copy limit, and puts the collection set to the front of the rows. The result is how many regions it has.
 pub(crate) fn choose_regions(
     table: &RegionTable,
-    tams: &Tams,
-    previous: &Marks,
-    running: bool,
+    marker: &Marker,
     rows: &mut Vec<LiveRow>,
     budget: u32,
 ) -> usize
-    requires marks { MarksObjects table.now tams.now.previous previous.now }
-    requires tops { length tams.now.next ≡ length table.now.regions }
+    requires stands { MarkerStands table.now marker.now }
     requires room { length table.now.regions ≤ vec_capacity rows.old }
     ensures count { result ≤ length rows.new.items }
     ensures few { result ≤ length table.now.regions }
-    ensures chosen { IsChosen table.now tams.now previous.now running budget (take result rows.new.items) }
+    ensures chosen { IsChosen table.now marker.now.tams marker.now.bitmaps.previous marker.now.running budget (take result rows.new.items) }
     ensures room { vec_capacity rows.new ≡ vec_capacity rows.old }
 {
     table.law();
     let words = table.words_per_region();
     let free = table.free_count();
     let limit = limit_of(words, u64::from(budget), free) as u32;
-    find_candidates(table, tams, previous, running, limit, rows);
+    find_candidates(table, marker, limit, rows);
     choose_rows(rows, words, budget, free)
 }

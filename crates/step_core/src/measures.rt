@@ -7,8 +7,7 @@
 //!   live          5          0          0        25, if it's kept     3             live_words: 33
 //! ```
 //!
-//! A count of words looks at each region, and that of live words at each marked object too: they are for when a policy asks, and no step
-//! asks them.
+//! A count of words looks at each region: it is for when a policy asks, and no step asks it.
 
 ghost use Rattle.std.specs.Prelude.{◌≡◌, ◌↔◌, ◌<◌, ◌*◌, IsTrue, length};
 ghost use Rattle.heap_words.specs.Configs.{globals_of, registers_of};
@@ -24,7 +23,6 @@ ghost use Rattle.step_core.specs.Measures.{used_words, live_in, live_words, HasG
 use crate::heap::Core;
 use heap_steps::Register;
 use heap_words::addr::{Addr, RegionNo};
-use mark_bitmap::live;
 use regions::Kind;
 
 impl Core {
@@ -85,12 +83,7 @@ impl Core {
         ensures { result ≡ live_in self.now region }
     {
         match self.table.kind(region) {
-            Kind::Ordinary => live::live_bound(
-                &self.table,
-                &self.marker.tams,
-                &self.marker.bitmaps.previous,
-                region,
-            ),
+            Kind::Ordinary => self.marker.live_bound(&self.table, region),
             Kind::First => self.live_in_run(region),
             Kind::Free | Kind::Rest => 0,
         }

@@ -7,16 +7,29 @@
 //!   evacuate       what is reached in them is copied into free regions, and they are released
 //! ```
 
-ghost use Rattle.std.specs.Prelude.{◌≡◌, ℕ, ◌<◌, ◌^◌, false, length};
+ghost use Rattle.std.specs.Prelude.{◌≡◌, ℕ, ◌<◌, ◌^◌, false, length, All};
 ghost use Rattle.heap_model.specs.Graph.{Graph};
 ghost use Rattle.alloc_buffers.specs.Placement.{closed};
 ghost use Rattle.cards.specs.Cards.{is_dirty};
 ghost use Rattle.step_core.specs.Stands.{ShowsGraph, KeepsFrom};
-ghost use Rattle.step_core.specs.Pause.{IsReady, EvacuatesBest, HasPaused};
+ghost use Rattle.step_core.specs.Pause.{AreForgotten, IsReady, EvacuatesBest, HasPaused};
 
 use crate::candidates::choose_regions;
 use crate::heap::Core;
 use evacuation::{Moved, evacuate};
+use marker::live::LiveWords;
+use region_choice::LiveRow;
+
+/// Nothing is counted any more of the regions of the collection set: their marks go with the evacuation.
+fn forget_counts(live: &mut LiveWords, rows: &[LiveRow])
+    requires previous { All (λ row. row.region < length live.old.previous) rows.now }
+    requires next { All (λ row. row.region < length live.old.next) rows.now }
+    ensures { AreForgotten rows.now live.old live.new }
+{
+    for row in rows {
+        live.forget(row.region);
+    }
+}
 
 impl Core {
     /// No buffer is open and no region current, and no card is dirty.
@@ -42,14 +55,8 @@ impl Core {
         ensures few { result.regions < 2 ^ 32 }
     {
         self.table.law();
-        let count = choose_regions(
-            &self.table,
-            &self.marker.tams,
-            &self.marker.bitmaps.previous,
-            self.marker.running,
-            &mut self.rows,
-            budget,
-        );
+        let count = choose_regions(&self.table, &self.marker, &mut self.rows, budget);
+        forget_counts(&mut self.marker.live, &self.rows[..count]);
         evacuate(
             &mut self.table,
             &mut self.marker.tams,

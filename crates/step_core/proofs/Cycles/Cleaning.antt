@@ -83,7 +83,7 @@ dead_head c i k shaped head low high (inr d) = elim (cases_eq d.first i) [
 changes_twice : (c0 c c' : CoreState) → ChangesRegions c0 c → ChangesRegions c c' → ChangesRegions c0 c'
 changes_twice c0 c c' p r = record {
   same = r.same ∙ ap (λ (d : CoreState). record d { table = c'.table; marker = c'.marker; sets = c'.sets }) p.same;
-  marker = r.marker ∙ ap (λ (x : Marker). record x { tams = c'.marker.tams; bitmaps = c'.marker.bitmaps }) p.marker;
+  marker = r.marker ∙ ap (λ (x : Marker). record x { tams = c'.marker.tams; bitmaps = c'.marker.bitmaps; live = c'.marker.live }) p.marker;
   size = r.size ∙ p.size;
   kept = λ a. r.kept a ∙ p.kept a;
 }

@@ -11,7 +11,7 @@ use Rattle.remembered_sets.specs.Sets.{Sets, cleared, set_of, empty_set}
 use Rattle.step_core.specs.Cleaning.{HasForgotten, HasCleared}
 
 -- a marker is the one before with other tops and marks, if the rest is the same
-pub marker_is : (m0 m : Marker) → m.grey ≡ m0.grey → m.logs ≡ m0.logs → m.running ≡ m0.running → m.scans ≡ m0.scans → m ≡ record m0 { tams = m.tams; bitmaps = m.bitmaps }
+pub marker_is : (m0 m : Marker) → m.grey ≡ m0.grey → m.logs ≡ m0.logs → m.running ≡ m0.running → m.scans ≡ m0.scans → m ≡ record m0 { tams = m.tams; bitmaps = m.bitmaps; live = m.live }
 marker_is m0 m grey logs running scans = rw (sym grey, sym logs, sym running, sym scans) refl
 
 -- what the marks of one role are once one more region is forgotten
@@ -30,9 +30,9 @@ marks_out words q a marks marks' e ne =
 pub one_forgotten : (words k i q : ℕ) (m0 m m' : Marker) → 0 < words → HasForgotten words k i m0 m → q ≡ k + i → q < length m.tams.previous → q < length m.tams.next
     → ((a : ℕ) → is_marked m'.bitmaps.previous a ≡ (if is_in_region words q a then false else is_marked m.bitmaps.previous a))
     → ((a : ℕ) → is_marked m'.bitmaps.next a ≡ (if is_in_region words q a then false else is_marked m.bitmaps.next a))
-    → m'.tams ≡ with_bottom m.tams q (q * words) → m' ≡ record m { tams = m'.tams; bitmaps = m'.bitmaps } → HasForgotten words k (i + 1) m0 m'
+    → m'.tams ≡ with_bottom m.tams q (q * words) → m' ≡ record m { tams = m'.tams; bitmaps = m'.bitmaps; live = m'.live } → HasForgotten words k (i + 1) m0 m'
 one_forgotten words k i q m0 m m' z f at known known' previous next tops same = record {
-  same = same ∙ ap (λ (x : Marker). record x { tams = m'.tams; bitmaps = m'.bitmaps }) f.same;
+  same = same ∙ ap (λ (x : Marker). record x { tams = m'.tams; bitmaps = m'.bitmaps; live = m'.live }) f.same;
   no_previous = λ a low high. elim (cases_eq (a / words) q) [
     | inl same ↦ marks_in words q a m.bitmaps.previous m'.bitmaps.previous z previous same
     | inr ne ↦ marks_out words q a m.bitmaps.previous m'.bitmaps.previous previous ne ∙ f.no_previous a low (omega arith)

@@ -140,6 +140,14 @@ module _ (k : CoreState) (core : IsCore k) (shaped : IsShaped k.table) (n m : �
         | inl out ↦ (x, object_near k.table (released k.table n) a frees.size (frees.others (a / size) out) ∙ o)
         | inr q ↦ absurd (let no = f.no_next a q.0 q.1 in cc)
       ])
+      (λ a marked. elim (block_cases n m (a / size)) [
+        | inl out ↦ words_by k.table (released k.table n) a (object_near k.table (released k.table n) a frees.size (frees.others (a / size) out))
+        | inr q ↦ absurd (let no = f.no_previous a q.0 q.1 in cc)
+      ])
+      (λ a marked. elim (block_cases n m (a / size)) [
+        | inl out ↦ words_by k.table (released k.table n) a (object_near k.table (released k.table n) a frees.size (frees.others (a / size) out))
+        | inr q ↦ absurd (let no = f.no_next a q.0 q.1 in cc)
+      ])
       (λ on. absurd (let e = idle in cc))
 
   -- what lay above the tops at mark start still does

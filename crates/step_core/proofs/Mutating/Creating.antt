@@ -13,7 +13,7 @@ use Rattle.heap_model.specs.Marking.{Marking, KeepsSnapshot}
 use Rattle.heap_model.proofs.Mutate.{object_added}
 use Rattle.heap_model.proofs.Changed.{object_added_shows}
 use Rattle.heap_model.proofs.Unreached.{object_sound, unreached_object}
-use Rattle.regions.specs.Table.{Table, new_object, object_at}
+use Rattle.regions.specs.Table.{Table, new_object, object_at, object_words}
 use Rattle.object_graph.specs.State.{register_place, places_of}
 use Rattle.object_graph.specs.Machine.{made}
 use Rattle.heap_steps.specs.declared.step.Action.TheVariants as actions
@@ -27,7 +27,7 @@ use Rattle.step_core.specs.Cycle.{LeavesRegions}
 use Rattle.step_core.specs.Answers.{Acts}
 use Rattle.step_core.proofs.Mutating.Acting.{acts_by}
 use Rattle.step_core.proofs.Mutating.Fields.{nil_get, nil_fields}
-use Rattle.step_core.proofs.Mutating.Small.{halves_added, ends_added}
+use Rattle.step_core.proofs.Mutating.Small.{halves_added, ends_added, words_by}
 use Rattle.step_core.proofs.Cores.Added.{Creates}
 use Rattle.step_core.proofs.Cores.Sizes.{some_words}
 use Rattle.step_core.proofs.Mutating.Written.{kept_is, kept_above, kept_same, marking_same}
@@ -147,7 +147,7 @@ module _ (k : CoreState) (m : ℕ) (to : Register) (t2 : Table) (b1 : Buffers) (
           buffers = makes.stand;
           unmoved = makes.unmoved;
           marker = stands_over k.table t2 k.marker core.layers.marker makes.region_count words
-              (λ j lt. previous.tops j (rw makes.region_count lt)) (λ j lt. next.tops j (rw makes.region_count lt)) still
+              (λ j lt. previous.tops j (rw makes.region_count lt)) (λ j lt. next.tops j (rw makes.region_count lt)) still still_words
               (follows_of (new (register_place (places_of k.config) m to.number)) _ core.footing.snapshot shows keeps);
           above_previous = previous;
           above_next = next;
@@ -175,4 +175,10 @@ module _ (k : CoreState) (m : ℕ) (to : Register) (t2 : Table) (b1 : Buffers) (
       still y x e = elim (cases_eq y a) [
         | inl q ↦ (new_object k.next p weak d, ap (object_at t2) q ∙ makes.is)
         | inr ne ↦ (x, makes.others y ne ∙ e)
+      ]
+
+      still_words : (y : ℕ) (x : Stored) → object_at k.table y ≡ Some x → object_words t2 y ≡ object_words k.table y
+      still_words y x e = elim (cases_eq y a) [
+        | inl q ↦ absurd (let before = makes.was in let some = sym (ap (object_at k.table) q) ∙ e in cc)
+        | inr ne ↦ words_by k.table t2 y (makes.others y ne)
       ]

@@ -186,7 +186,7 @@ module _ (k : CoreState) (core : IsCore k) (a i : ℕ) (w : Option ℕ) (t : Tab
     pub mid_stands : MarkerStands t m
     mid_stands =
         let tams = same.tams in
-        marker_writes k.table t k.buffers m a x (with_pointer x i w) writes (rw tams core.layers.above_previous) (rw tams core.layers.above_next) st mid_follows
+        marker_writes k.table t k.buffers m a x (with_pointer x i w) writes (rw tams core.layers.above_previous) (rw tams core.layers.above_next) st mid_follows (ap (λ (n : ℕ). 2 + n + length x.weaks + length x.values) (length-set x.pointers i w))
 
     unreached_after : k.marker.running ≡ true → KeepsUnreached core.footing.snapshot graph_after
     unreached_after run =

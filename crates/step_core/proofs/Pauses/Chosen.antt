@@ -1,7 +1,7 @@
 -- What is known of the chosen regions.
-use Rattle.std.proofs.Common.{◌≡◌, ℕ, zero, suc, ◌*◌, ◌<◌, ◌≤◌, Bool, true, cond, eqb, List, [], ◌∷◌, ◌++◌, Some, length, refl, sym, ◌∙◌, ap, subst, arith}
-use Rattle.std.specs.Prelude.{All, count_by, ◌==◌, slice_get, slice_index}
-use Rattle.std.proofs.lemmas.Bool.{eq-eqb, eqb-true}
+use Rattle.std.proofs.Common.{◌≡◌, ℕ, zero, suc, ◌*◌, ◌+◌, ◌<◌, ◌≤◌, Bool, true, false, cond, eqb, List, [], ◌∷◌, ◌++◌, Some, length, get_or, set, take, refl, sym, ◌∙◌, ap, subst, arith, inl, inr, get_or-set_same, get_or-set_other, length-set}
+use Rattle.std.specs.Prelude.{All, count_by, ◌==◌, ◌||◌, if◌then◌else◌, slice_get, slice_index}
+use Rattle.std.proofs.lemmas.Bool.{cases_eq, eq-eqb, eqb-true, ne_eqb}
 use Rattle.std.proofs.lemmas.List.{get_or_append_left, length-append}
 use Rattle.std.proofs.lemmas.List.Sums.{sum_by-cons, sum_by-append}
 use Rattle.std.proofs.lemmas.List.Sorted.{All-permutation, sum_by-IsPermutation}
@@ -11,8 +11,10 @@ use Rattle.regions.specs.declared.row.Kind.TheVariants as kinds
 use Rattle.mark_bitmap.specs.Tops.{Tops}
 use Rattle.region_choice.specs.declared.LiveRow.{LiveRow}
 use Rattle.region_choice.specs.Choice.{live_sum}
+use Rattle.marker.specs.Live.{LiveCounts, with_none}
 use Rattle.evacuation.specs.Evacuates.{is_chosen, AreDistinct}
-use Rattle.step_core.specs.Pause.{IsRowOf, IsCandidate, IsCandidateRow, IsChosen}
+use Rattle.evacuation.proofs.WholePause.ChosenReleased.{chosen_more}
+use Rattle.step_core.specs.Pause.{IsRowOf, IsCandidate, IsCandidateRow, IsChosen, AreForgotten}
 
 -- the first of two lists
 All_left : (P : LiveRow → Type 0) (xs ys : List LiveRow) → All P (xs ++ ys) → All P xs
@@ -100,3 +102,34 @@ module _ (t : Table) (tams : Tops) (previous : List Bool) (running : Bool) (budg
   chosen_new k run e =
       let r = chosen_row k e in
       ap (λ (j : ℕ). slice_index tams.next j) (sym r.region) ∙ r.candidate.all_new run ∙ ap (λ (j : ℕ). j * t.words_per_region) r.region
+
+-- one region more is forgotten
+more_cases : (xs ys : List LiveRow) (q j : ℕ) (was now old : List ℕ) → is_chosen ys j ≡ (is_chosen xs j || (q == j)) → now ≡ set was q 0 → q < length was
+    → slice_index was j ≡ (if is_chosen xs j then 0 else slice_index old j) → slice_index now j ≡ (if is_chosen ys j then 0 else slice_index old j)
+more_cases xs ys q j was now old more is known before = elim (cases_eq j q) [
+  | inl same ↦
+      let here : is_chosen ys j ≡ true = more ∙ ap (λ (b : Bool). is_chosen xs j || b) (eq-eqb q j (sym same)) ∙ or_true (is_chosen xs j) in
+      ap (λ (l : List ℕ). slice_index l j) is ∙ ap (slice_index (set was q 0)) same ∙ get_or-set_same was q 0 0 known ∙ sym (ap (λ (b : Bool). if b then 0 else slice_index old j) here)
+  | inr apart ↦
+      let there : is_chosen ys j ≡ is_chosen xs j = more ∙ ap (λ (b : Bool). is_chosen xs j || b) (ne_eqb q j (λ e. apart (sym e))) ∙ or_false (is_chosen xs j) in
+      ap (λ (l : List ℕ). slice_index l j) is ∙ get_or-set_other was q j 0 0 apart ∙ before ∙ sym (ap (λ (b : Bool). if b then 0 else slice_index old j) there)
+]
+  where
+    or_true : (b : Bool) → (b || true) ≡ true
+    or_true true = refl
+    or_true false = refl
+
+    or_false : (b : Bool) → (b || false) ≡ b
+    or_false true = refl
+    or_false false = refl
+
+pub one_more_forgotten : (rows : List LiveRow) (n : ℕ) (row : LiveRow) (l0 l l' : LiveCounts) → n < length rows → get_or rows n row ≡ row → row.region < length l.previous → row.region < length l.next
+    → l' ≡ with_none l row.region → AreForgotten (take n rows) l0 l → AreForgotten (take (n + 1) rows) l0 l'
+one_more_forgotten rows n row l0 l l' inside is known known' e f =
+    let more = λ (j : ℕ). chosen_more rows n row j inside is in
+    record {
+      previous = λ j. more_cases (take n rows) (take (n + 1) rows) row.region j l.previous l'.previous l0.previous (more j) (ap (λ (x : LiveCounts). x.previous) e) known (f.previous j);
+      next = λ j. more_cases (take n rows) (take (n + 1) rows) row.region j l.next l'.next l0.next (more j) (ap (λ (x : LiveCounts). x.next) e) known' (f.next j);
+      each_previous = ap (λ (x : LiveCounts). length x.previous) e ∙ length-set l.previous row.region 0 ∙ f.each_previous;
+      each_next = ap (λ (x : LiveCounts). length x.next) e ∙ length-set l.next row.region 0 ∙ f.each_next;
+    }

@@ -1,5 +1,5 @@
 -- The chosen regions are evacuated in a core: k is the core by its fields before that.
-use Rattle.std.proofs.Common.{◌≡◌, ◌≢◌, ℕ, ◌*◌, ◌/◌, ◌≤◌, Bool, true, false, not, ◌&&◌, List, Option, length, get_or, refl, sym, ◌∙◌, ap, subst, arith, inl, inr}
+use Rattle.std.proofs.Common.{◌≡◌, ◌≢◌, ℕ, ◌+◌, ◌*◌, ◌/◌, ◌<◌, ◌≤◌, Bool, true, false, not, ◌&&◌, List, Option, Some, length, get_or, refl, sym, ◌∙◌, ap, subst, arith, inl, inr}
 use Rattle.std.specs.Prelude.{All, ◌↔◌, slice_index, nat_lt, if◌then◌else◌}
 use Rattle.std.proofs.lemmas.Bool.{cases_lt, cases_Bool}
 use Rattle.std.proofs.lemmas.Grind.{common_steps}
@@ -24,10 +24,13 @@ use Rattle.mark_bitmap.specs.Tops.{Tops, is_below, is_in_region, below_next, Are
 use Rattle.mark_bitmap.specs.Kept.{MarksObjects}
 use Rattle.mark_bitmap.specs.declared.bitmaps.Bitmaps.{Bitmaps}
 use Rattle.mark_bitmap.proofs.Ranges as ranges
-use Rattle.mark_bitmap.proofs.LiveWords.{region_low}
+use Rattle.mark_bitmap.specs.Live.{marked_words}
+use Rattle.mark_bitmap.proofs.LiveWords.{region_low, none_words}
 use Rattle.cards.specs.Cards.{Cards, is_dirty}
 use Rattle.remembered_sets.specs.Sets.{Sets, card_count}
 use Rattle.marker.specs.Stands.{MarkerStands}
+use Rattle.marker.specs.Live.{LiveCounts, CountsWords}
+use Rattle.marker.proofs.LiveCounts.{marked_words_same}
 use Rattle.marker.specs.declared.marker.Marker.{Marker}
 use Rattle.region_choice.specs.declared.LiveRow.{LiveRow}
 use Rattle.evacuation.specs.Rooms.{RoomSizes}
@@ -36,7 +39,7 @@ use Rattle.heap_words.specs.Configs.{card_words}
 use Rattle.step_core.proofs.Mutating.Noting.{cards_a_region}
 use Rattle.step_core.specs.Stands.{places_of, CoreState, kept_of, heap_of, marking_of, EndsBelow, ShowsGraph, KeepsFrom, LayersFit, IsCore}
 use Rattle.step_core.specs.Reclaimed.{IsReclaimed}
-use Rattle.step_core.specs.Pause.{IsChosen, IsRowOf, IsCandidateRow, IsReady, EvacuatesBest, HasPaused, layers_of}
+use Rattle.step_core.specs.Pause.{IsChosen, IsRowOf, IsCandidateRow, IsReady, AreForgotten, EvacuatesBest, HasPaused, layers_of}
 use Rattle.heap_words.specs.declared.config.Config.{Config}
 use Rattle.step_core.proofs.Pauses.CopiedNames.{copied_names}
 use Rattle.step_core.proofs.Cores.Layers.{follows_of}
@@ -85,10 +88,22 @@ module _ (k : CoreState) (core : IsCore k) (budget : ℕ) (chosen : List LiveRow
     room = chosen_room k.table k.marker.tams k.marker.bitmaps.previous k.marker.running budget chosen choice;
   }
 
-  module _ (t : Table) (tams : Tops) (bm : Bitmaps) (cs : Cards) (ss : Sets) (roots : List (Option ℕ)) (w : ℕ) (r : RoomSizes) (n : ℕ)
-      (ev : HasEvacuated chosen (card_words k.config) w (layers_of k) (record { table = t; tams = tams; previous = bm.previous; next = bm.next; cards = cs; sets = ss; roots = roots })) where
+  -- each chosen region is one of which words are counted
+  pub chosen_known : (counts : List ℕ) → length counts ≡ length k.table.regions → All (λ row. row.region < length counts) chosen
+  chosen_known counts count = All_to (IsRowOf k.table k.marker.tams.previous k.marker.bitmaps.previous) (λ row. row.region < length counts) (λ x r. omega (arith, r.known, count)) chosen
+      (chosen_rows k.table k.marker.tams k.marker.bitmaps.previous k.marker.running budget chosen choice)
+
+  pub next_count : length k.marker.live.next ≡ length k.table.regions
+  next_count = elim (cases_Bool k.marker.running) [
+    | inl on ↦ (core.layers.marker.live_scanned on).each_region
+    | inr off ↦ (core.layers.marker.live_next off).each_region
+  ]
+
+  module _ (t : Table) (tams : Tops) (bm : Bitmaps) (cs : Cards) (ss : Sets) (roots : List (Option ℕ)) (w : ℕ) (r : RoomSizes) (n : ℕ) (live : LiveCounts)
+      (ev : HasEvacuated chosen (card_words k.config) w (layers_of k) (record { table = t; tams = tams; previous = bm.previous; next = bm.next; cards = cs; sets = ss; roots = roots }))
+      (forgets : AreForgotten chosen k.marker.live live) where
     abbrev marker : Marker
-    marker = record { bitmaps = bm; tams = tams; grey = k.marker.grey; logs = k.marker.logs; running = k.marker.running; scans = k.marker.scans }
+    marker = record { bitmaps = bm; tams = tams; grey = k.marker.grey; logs = k.marker.logs; running = k.marker.running; scans = k.marker.scans; live = live }
 
     abbrev after : CoreState
     after = record k { table = t; marker = marker; cards = cs; sets = ss; room = r; row_room = n; roots = roots }
@@ -187,6 +202,48 @@ module _ (k : CoreState) (core : IsCore k) (budget : ℕ) (chosen : List LiveRow
               omega (arith, p, q, core.layers.marker.newer run j)
         ]
 
+    -- an object outside of the set has as many words as before
+    same_long : (x y : Stored) → IsSameBut x y → tile_size (Object y) ≡ tile_size (Object x)
+    same_long x y s = let pointers = s.pointers in let weaks = s.weaks in let values = ap (λ (vs : List ℕ). length vs) s.values in omega (arith, pointers, weaks, values)
+
+    words_stay : (a : ℕ) (x : Stored) → set_in k.table.words_per_region chosen a ≡ false → object_at k.table a ≡ Some x → object_words t a ≡ object_words k.table a
+    words_stay a x outside o =
+        let (y, is, same) = ev.regions.objects a x outside o in
+        words_are t a y is ∙ same_long x y same ∙ sym (words_are k.table a x o)
+
+    -- what is counted of marks from which those of the set go
+    counts_after : (marks marks' : List Bool) (counts counts' : List ℕ) → CountsWords k.table marks counts → ((a : ℕ) → is_marked marks a ≡ true → (x : Stored) × (object_at k.table a ≡ Some x))
+        → ((a : ℕ) → is_marked marks' a ≡ (if set_in k.table.words_per_region chosen a then false else is_marked marks a))
+        → ((j : ℕ) → slice_index counts' j ≡ (if is_chosen chosen j then 0 else slice_index counts j)) → length counts' ≡ length counts → CountsWords t marks' counts'
+    counts_after marks marks' counts counts' c object each now len = record {
+      each_region = len ∙ c.each_region ∙ sym ev.regions.count;
+      each = λ j lt. count_at j (omega (arith, lt, ev.regions.count)) ∙ ap (λ (v : ℕ). marked_words t marks' (j * v) v) (sym ev.regions.size);
+    }
+      where
+        here : (j a : ℕ) → j * k.table.words_per_region ≤ a → a < j * k.table.words_per_region + k.table.words_per_region → set_in k.table.words_per_region chosen a ≡ is_chosen chosen j
+        here j a low high = ap (is_chosen chosen) (ranges.div_is a k.table.words_per_region j low high)
+
+        count_at : (j : ℕ) → j < length k.table.regions → slice_index counts' j ≡ marked_words t marks' (j * k.table.words_per_region) k.table.words_per_region
+        count_at j known = elim (cases_Bool (is_chosen chosen j)) [
+          | inl inside ↦
+              now j ∙ ap (λ (b : Bool). if b then 0 else slice_index counts j) inside
+              ∙ sym (none_words t marks' k.table.words_per_region (j * k.table.words_per_region) (λ a low high. each a ∙ ap (λ (b : Bool). if b then false else is_marked marks a) (here j a low high ∙ inside)))
+          | inr out ↦
+              now j ∙ ap (λ (b : Bool). if b then 0 else slice_index counts j) out ∙ c.each j known
+              ∙ sym (marked_words_same k.table t marks marks' k.table.words_per_region (j * k.table.words_per_region) (λ a low high. each a ∙ ap (λ (b : Bool). if b then false else is_marked marks a) (here j a low high ∙ out))
+              (λ a low high marked. let o = object a marked in words_stay a o.0 (here j a low high ∙ out) o.1))
+        ]
+
+    -- nothing of the set is scanned while marking runs
+    scanned_after : k.marker.running ≡ true → (a : ℕ) → is_marked k.marker.grey.scanned a ≡ (if set_in k.table.words_per_region chosen a then false else is_marked k.marker.grey.scanned a)
+    scanned_after run a = elim (cases_Bool (set_in k.table.words_per_region chosen a)) [
+      | inl inside ↦ elim (cases_Bool (is_marked k.marker.grey.scanned a)) [
+        | inl scanned ↦ absurd (let marked = core.layers.marker.scanned_marked run a scanned in let none = none_marked run a inside in cc)
+        | inr unscanned ↦ unscanned ∙ sym (ap (λ (b : Bool). if b then false else is_marked k.marker.grey.scanned a) inside)
+      ]
+      | inr out ↦ sym (ap (λ (b : Bool). if b then false else is_marked k.marker.grey.scanned a) out)
+    ]
+
     marker_stands : MarkerStands t marker
     marker_stands = record {
       previous = ev.previous_stands;
@@ -198,6 +255,10 @@ module _ (k : CoreState) (core : IsCore k) (budget : ℕ) (chosen : List LiveRow
       idle = core.layers.marker.idle;
       scanned_marked = λ run a e. marks_same run a ∙ core.layers.marker.scanned_marked run a e;
       counted = core.layers.marker.counted;
+      live = counts_after k.marker.bitmaps.previous bm.previous k.marker.live.previous live.previous core.layers.marker.live core.layers.marker.previous.object ev.previous.each_mark forgets.previous forgets.each_previous;
+      live_next = λ off. counts_after k.marker.bitmaps.next bm.next k.marker.live.next live.next (core.layers.marker.live_next off) core.layers.marker.next.object ev.next.each_mark forgets.next forgets.each_next;
+      live_scanned = λ run. counts_after k.marker.grey.scanned k.marker.grey.scanned k.marker.live.next live.next (core.layers.marker.live_scanned run)
+          (λ a e. core.layers.marker.next.object a (core.layers.marker.scanned_marked run a e)) (scanned_after run) forgets.next forgets.each_next;
     }
 
     -- the objects of a region that stays have the sizes that they had
@@ -206,14 +267,9 @@ module _ (k : CoreState) (core : IsCore k) (budget : ℕ) (chosen : List LiveRow
         let row : a / k.table.words_per_region ≡ j = ranges.nth_region k.table.words_per_region j a inside in
         let outside : set_in k.table.words_per_region chosen a ≡ false = ap (is_chosen chosen) row ∙ out in
         elim (option_is (object_at k.table a)) [
-          | inl some ↦
-              let (y, is, same) = ev.regions.objects a some.0 outside some.1 in
-              words_are t a y is ∙ size some.0 y same ∙ sym (words_are k.table a some.0 some.1)
+          | inl some ↦ words_stay a some.0 outside some.1
           | inr none ↦ words_none t a (ev.regions.none a outside (λ e. used (ap (kind_of k.table) (sym row) ∙ e)) none) ∙ sym (words_none k.table a none)
         ]
-      where
-        size : (x y : Stored) → IsSameBut x y → tile_size (Object y) ≡ tile_size (Object x)
-        size x y s = let pointers = s.pointers in let weaks = s.weaks in let values = ap (λ (vs : List ℕ). length vs) s.values in omega (arith, pointers, weaks, values)
 
     ends_after : (tops tops' : List ℕ) (marks marks' : List Bool) → MarksAfter k.table.words_per_region chosen tops tops' marks marks' → MarksObjects k.table tops marks
         → EndsBelow k.table tops → EndsBelow t tops'
@@ -296,6 +352,7 @@ module _ (k : CoreState) (core : IsCore k) (budget : ℕ) (chosen : List LiveRow
         reclaimed = reclaimed;
         same = rw (room_same, rows_same) refl;
         marker = refl;
+        counts = forgets;
         evacuated = ev;
       }
 
@@ -327,6 +384,7 @@ paused_ready c k c' budget n w ready p = record {
     reclaimed = λ j. rw (ready_table c k ready) at (p.reclaimed j);
     same = p.same;
     marker = p.marker;
+    counts = p.counts;
     evacuated = subst (λ (g : Config). HasEvacuated p.chosen (card_words g) w (layers_of k) (layers_of c')) (ready_config c k ready) p.evacuated;
   };
 }

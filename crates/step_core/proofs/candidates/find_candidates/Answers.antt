@@ -10,8 +10,8 @@ use Rattle.step_core.proofs.candidates.find_candidates.Goals as goal
 
 pub loop-number-init : goal.loop-number-init
 loop-number-init c = record {
-  candidates = subst (λ (xs : List LiveRow). AreCandidatesWithin c.args.table.now c.args.tams.now c.args.previous.now c.args.running c.args.limit 0 xs) (sym c.clear.ensures.items)
-      (within_none c.args.table.now c.args.tams.now c.args.previous.now c.args.running c.args.limit);
+  candidates = subst (λ (xs : List LiveRow). AreCandidatesWithin c.args.table.now c.args.marker.now.tams c.args.marker.now.bitmaps.previous c.args.marker.now.running c.args.limit 0 xs) (sym c.clear.ensures.items)
+      (within_none c.args.table.now c.args.marker.now.tams c.args.marker.now.bitmaps.previous c.args.marker.now.running c.args.limit);
   room = c.clear.ensures.capacity;
   few = omega (arith, c.clear.ensures.len);
   len = ap (λ (xs : List LiveRow). length xs) c.clear.ensures.items ∙ sym c.clear.ensures.len;
@@ -25,11 +25,11 @@ loop-number-preserved c =
       | in-Some w ↦
           let p = w.push_reserved.ensures in
           let cand = w.in-Some.ensures in
-          let written = within_written c.args.table.now c.args.tams.now c.args.previous.now c.args.running c.args.limit c.loop-number.number c.loop-number.rows.items _ c.loop-number.invariant.candidates known at
-          (cand.bound ∙ ap (live_bound_of c.args.table.now c.args.tams.now.previous c.args.previous.now) at) cand.within
-          (subst (λ (k : ℕ). IsCandidate c.args.table.now c.args.tams.now c.args.previous.now c.args.running k) at cand.some) in
+          let written = within_written c.args.table.now c.args.marker.now.tams c.args.marker.now.bitmaps.previous c.args.marker.now.running c.args.limit c.loop-number.number c.loop-number.rows.items _ c.loop-number.invariant.candidates known at
+          (cand.bound ∙ ap (live_bound_of c.args.table.now c.args.marker.now.tams.previous c.args.marker.now.bitmaps.previous) at) cand.within
+          (subst (λ (k : ℕ). IsCandidate c.args.table.now c.args.marker.now.tams c.args.marker.now.bitmaps.previous c.args.marker.now.running k) at cand.some) in
           record {
-            candidates = subst (λ (xs : List LiveRow). AreCandidatesWithin c.args.table.now c.args.tams.now c.args.previous.now c.args.running c.args.limit (c.loop-number.number + 1) xs)
+            candidates = subst (λ (xs : List LiveRow). AreCandidatesWithin c.args.table.now c.args.marker.now.tams c.args.marker.now.bitmaps.previous c.args.marker.now.running c.args.limit (c.loop-number.number + 1) xs)
                 (sym (ap (λ (v : Vec LiveRow Global). v.items) w.rows-is ∙ p.items)) written;
             room = ap (λ (v : Vec LiveRow Global). vec_capacity v) w.rows-is ∙ p.capacity ∙ c.loop-number.invariant.room;
             few = (let few = c.loop-number.invariant.few in omega (arith, ap (λ (v : Vec LiveRow Global). vec_len v) w.rows-is, p.len, few));
@@ -37,15 +37,15 @@ loop-number-preserved c =
           }
       | in_default w ↦
           let i = c.loop-number.invariant.candidates in
-          let passed : AreCandidatesWithin c.args.table.now c.args.tams.now c.args.previous.now c.args.running c.args.limit (c.loop-number.number + 1) c.loop-number.rows.items = elim w.in_default.ensures.none [
-            | inl other ↦ within_passed c.args.table.now c.args.tams.now c.args.previous.now c.args.running c.args.limit c.loop-number.number c.loop-number.rows.items i
-                (λ cand. other (subst (λ (k : ℕ). IsCandidate c.args.table.now c.args.tams.now c.args.previous.now c.args.running k) (sym at) cand))
-            | inr far ↦ within_beyond c.args.table.now c.args.tams.now c.args.previous.now c.args.running c.args.limit c.loop-number.number c.loop-number.rows.items i known
-                (subst (λ (k : ℕ). IsCandidate c.args.table.now c.args.tams.now c.args.previous.now c.args.running k) at far.0)
-                (subst (λ (k : ℕ). c.args.limit < live_bound_of c.args.table.now c.args.tams.now.previous c.args.previous.now k) at far.1)
+          let passed : AreCandidatesWithin c.args.table.now c.args.marker.now.tams c.args.marker.now.bitmaps.previous c.args.marker.now.running c.args.limit (c.loop-number.number + 1) c.loop-number.rows.items = elim w.in_default.ensures.none [
+            | inl other ↦ within_passed c.args.table.now c.args.marker.now.tams c.args.marker.now.bitmaps.previous c.args.marker.now.running c.args.limit c.loop-number.number c.loop-number.rows.items i
+                (λ cand. other (subst (λ (k : ℕ). IsCandidate c.args.table.now c.args.marker.now.tams c.args.marker.now.bitmaps.previous c.args.marker.now.running k) (sym at) cand))
+            | inr far ↦ within_beyond c.args.table.now c.args.marker.now.tams c.args.marker.now.bitmaps.previous c.args.marker.now.running c.args.limit c.loop-number.number c.loop-number.rows.items i known
+                (subst (λ (k : ℕ). IsCandidate c.args.table.now c.args.marker.now.tams c.args.marker.now.bitmaps.previous c.args.marker.now.running k) at far.0)
+                (subst (λ (k : ℕ). c.args.limit < live_bound_of c.args.table.now c.args.marker.now.tams.previous c.args.marker.now.bitmaps.previous k) at far.1)
           ] in
           record {
-            candidates = subst (λ (v : Vec LiveRow Global). AreCandidatesWithin c.args.table.now c.args.tams.now c.args.previous.now c.args.running c.args.limit (c.loop-number.number + 1) v.items) (sym w.rows-is) passed;
+            candidates = subst (λ (v : Vec LiveRow Global). AreCandidatesWithin c.args.table.now c.args.marker.now.tams c.args.marker.now.bitmaps.previous c.args.marker.now.running c.args.limit (c.loop-number.number + 1) v.items) (sym w.rows-is) passed;
             room = ap (λ (v : Vec LiveRow Global). vec_capacity v) w.rows-is ∙ c.loop-number.invariant.room;
             few = (let few = c.loop-number.invariant.few in omega (arith, ap (λ (v : Vec LiveRow Global). vec_len v) w.rows-is, few));
             len = ap (λ (v : Vec LiveRow Global). length v.items) w.rows-is ∙ c.loop-number.invariant.len ∙ sym (ap (λ (v : Vec LiveRow Global). vec_len v) w.rows-is);

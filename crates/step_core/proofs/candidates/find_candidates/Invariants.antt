@@ -5,7 +5,7 @@ use Rattle.step_core.proofs.candidates.find_candidates.Given as goal
 
 abbrev pub invariant-loop-number : goal.invariant-loop-number
 invariant-loop-number l = record {
-  candidates : AreCandidatesWithin l.table l.tams l.previous l.running l.limit l.number l.rows.items;
+  candidates : AreCandidatesWithin l.table l.marker.tams l.marker.bitmaps.previous l.marker.running l.limit l.number l.rows.items;
   room : vec_capacity l.rows ≡ vec_capacity l.fn.rows;
   few : vec_len l.rows ≤ l.number;
   len : length l.rows.items ≡ vec_len l.rows;

@@ -1,12 +1,11 @@
-use Rattle.std.proofs.Common.{◌≡◌, ℕ, ◌∙◌, Some, Option, None, List, length, get_or, refl, ap, sym, subst, arith}
-use Rattle.std.proofs.lemmas.Option.{slice_get-get_or}
+use Rattle.std.proofs.Common.{◌∙◌, Some, ap, sym, subst}
 use Rattle.heap_model.specs.Heap.{Heap, Shows}
 use Rattle.heap_model.proofs.Begin.{begins}
 use Rattle.satb_log.specs.Logs.{logged}
 use Rattle.marker.specs.Views.{heap_of, marking_of}
 use Rattle.marker.proofs.Views.{previous_heap, same_heap, kept_before, same_kept}
 use Rattle.marker.proofs.Reached.{among_next, named_word}
-use Rattle.marker.proofs.Begun.{all_begun, rest_begun}
+use Rattle.marker.proofs.Begun.{rest_begun}
 use Rattle.marker.proofs.marker.Marker.begin.Goals as goal
 
 pub reach-requires-clause-kept : goal.reach-requires-clause-kept

@@ -4,7 +4,7 @@ use Rattle.regions.specs.Table.{Table}
 use Rattle.marker.specs.Steps.{IsAmong}
 use Rattle.marker.specs.declared.marker.Marker.{Marker}
 use Rattle.marker.proofs.Reached.{Reached, among_more}
-use Rattle.marker.proofs.Scanned.{all_pointers, grey_is, target_kept, scan_stands, scan_keeps}
+use Rattle.marker.proofs.Scanned.{all_pointers, grey_is, target_kept, scan_fits, scan_stands, scan_keeps}
 use Rattle.marker.proofs.marker.Marker.scan.Goals as goal
 
 pub reach-requires-clause-kept : goal.reach-requires-clause-kept
@@ -23,16 +23,21 @@ loop-field-preserved c =
 all_reached : (t : Table) (m m' : Marker) (object n count : ℕ) → count ≡ length (pointers_at t object) → count ≤ n → n ≤ count → Reached t (IsAmong (pointers_at t object) n) m m' → Reached t (all_pointers t object) m m'
 all_reached t m m' object n count e low high p = subst (λ (k : ℕ). Reached t (IsAmong (pointers_at t object) k) m m') (let same : n ≡ length (pointers_at t object) = omega (arith, e, low, high) in same) p
 
+pub add-requires-2-clause-room : goal.add-requires-2-clause-room
+add-requires-2-clause-room c =
+    let p = all_reached c.args.table.now c.args.self.now c.loop-field.self c.args.object c.loop-field.field c.pointer_count-count.result c.pointer_count-count.ensures c.loop-field-test.false c.loop-field.auto.field-end c.loop-field.invariant in
+    (scan_fits c.args.table.now c.args.self.now c.loop-field.self c.args.object c.region_of.result c.object_size-size.result c.law.ensures c.requires.stands c.requires.running c.requires.grey p c.region_of.ensures c.object_size-size.ensures).1
+
 pub returns-clause-stands : goal.returns-clause-stands
 returns-clause-stands c =
     let p = all_reached c.args.table.now c.args.self.now c.loop-field.self c.args.object c.loop-field.field c.pointer_count-count.result c.pointer_count-count.ensures c.loop-field-test.false c.loop-field.auto.field-end c.loop-field.invariant in
-    rw c.add.ensures (scan_stands c.args.table.now c.args.self.now c.loop-field.self c.args.object c.remove.new.self c.requires.stands c.requires.running c.requires.grey p c.remove.ensures.scanned
-    (c.remove.ensures.fingers (p.stands.finger (p.same.running ∙ c.requires.running))))
+    rw c.add.ensures (scan_stands c.args.table.now c.args.self.now c.loop-field.self c.args.object c.remove.new.self c.add-2.new.self c.region_of.result c.object_size-size.result c.law.ensures.positive c.requires.stands c.requires.running c.requires.grey p c.remove.ensures.scanned
+    (c.remove.ensures.fingers (p.stands.finger (p.same.running ∙ c.requires.running))) c.add-2.ensures c.region_of.ensures c.object_size-size.ensures)
 
 pub returns-clause-snapshots : goal.returns-clause-snapshots
 returns-clause-snapshots c =
     let p = all_reached c.args.table.now c.args.self.now c.loop-field.self c.args.object c.loop-field.field c.pointer_count-count.result c.pointer_count-count.ensures c.loop-field-test.false c.loop-field.auto.field-end c.loop-field.invariant in
-    scan_keeps c.args.table.now c.args.self.now c.loop-field.self c.args.object c.remove.new.self c.requires.stands c.requires.running c.requires.grey p c.remove.ensures.scanned
+    scan_keeps c.args.table.now c.args.self.now c.loop-field.self c.args.object c.remove.new.self c.add-2.new.self c.requires.stands c.requires.running c.requires.grey p c.remove.ensures.scanned
 
 pub returns-clause-marks : goal.returns-clause-marks
 returns-clause-marks c =

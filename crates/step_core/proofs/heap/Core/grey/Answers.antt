@@ -1,4 +1,4 @@
-use Rattle.std.proofs.Common.{ℕ, Bool, Option, ap, sym, ◌∙◌, subst, not, true}
+use Rattle.std.proofs.Common.{Bool, sym, subst}
 use Rattle.std.specs.Prelude.{◌↔◌, IsTrue, is_some}
 use Rattle.step_core.specs.Stands.{CoreState}
 use Rattle.step_core.specs.Measures.{HasGrey}
