@@ -1,6 +1,6 @@
 //! The heap with the scripts of its actors, and the events so far.
 
-ghost use Rattle.std.specs.Prelude.{◌≡◌, false, Some, ℕ, ◌+◌, ◌<◌, ◌≤◌, ◌↔◌, ◌++◌, ◌∷◌, [], length, IsTrue, IsFalse, IfOk, IfErr, OnErr, MatchResult, OnOk, map, slice_index, slice_index_or, slice_set, replicate};
+ghost use Rattle.std.specs.Prelude.{◌≡◌, false, Some, ℕ, ◌+◌, ◌<◌, ◌≤◌, ◌↔◌, ◌++◌, ◌∷◌, [], length, IsTrue, IsFalse, IfOk, IfErr, OnErr, MatchResult, OnOk, vec_len, vec_capacity, map, slice_index, slice_index_or, slice_set, replicate};
 ghost use Rattle.heap_words.specs.Configs.{Suits, IsNewFault};
 ghost use Rattle.heap_words.specs.declared.config.Config.{Config};
 ghost use Rattle.step_core.specs.Cycle.{Does};
@@ -69,13 +69,26 @@ fn place_of(config: &Config, step: Step) -> usize
     }
 }
 
-/// So many scripts of no lines.
-fn no_lines(alloc: Global, count: usize) -> Result<Vec<Vec<Step>>, AllocError>
-    ensures { IfOk result (λ v. map (λ s. s.items) v.items ≡ replicate count []) }
+/// How many lines each script is to have, for its room alone.
+fn rooms_of(alloc: Global, config: &Config, steps: &[Step]) -> Result<Vec<usize>, AllocError>
+    requires { AreSteps config.now steps.now }
+    ensures { IfOk result (λ v. length v.items ≡ config.now.mutators + 1) }
+{
+    let mut rooms = first_places(alloc, config.mutators as usize + 1)?;
+    for step in steps {
+        let place = place_of(config, *step);
+        rooms[place] = rooms[place].wrapping_add(1);
+    }
+    Ok(rooms)
+}
+
+/// Scripts of no lines, each with its room.
+fn no_lines(alloc: Global, rooms: &[usize]) -> Result<Vec<Vec<Step>>, AllocError>
+    ensures { IfOk result (λ v. map (λ s. s.items) v.items ≡ replicate (length rooms.now) []) }
 {
     let mut scripts = Vec::new(alloc);
-    for _place in 0..count {
-        scripts.push(Vec::new(alloc))?;
+    for room in rooms {
+        scripts.push(Vec::with_capacity(alloc, *room)?)?;
     }
     Ok(scripts)
 }
@@ -98,7 +111,8 @@ fn scripts_of(alloc: Global, config: &Config, steps: &[Step]) -> Result<Vec<Vec<
     ensures each { IfOk result (λ v. (k : ℕ) → k ≤ config.now.mutators
         → slice_index_or (map (λ s. s.items) v.items) k [] ≡ lines_of (scripted config.now.mutators k) steps.now) }
 {
-    let mut scripts = no_lines(alloc, config.mutators as usize + 1)?;
+    let rooms = rooms_of(alloc, config, steps)?;
+    let mut scripts = no_lines(alloc, &rooms)?;
     for step in steps {
         add_line(&mut scripts, place_of(config, *step), *step)?;
     }
@@ -137,28 +151,41 @@ fn rows_of(alloc: Global, config: &Config, steps: &[Step]) -> Result<Rows, Alloc
     })
 }
 
+/// Adds an event, for which there is room. It stands alone, so that a step is copied as a whole.
+#[inline(never)]
+fn note(events: &mut Vec<Event>, actor: Actor, step: &Step, reply: Reply)
+    requires { vec_len events.old < vec_capacity events.old }
+    ensures { events.new.items ≡ events.old.items ++ event_of actor step.now reply ∷ [] }
+{
+    events.push_reserved(Event {
+        actor,
+        step: *step,
+        reply,
+    });
+}
+
 /// Does a step and notes it as an event, for which room is made before. Refused for memory, nothing has changed.
 #[inline(always)]
 fn record(
     core: &mut Core,
     events: &mut Vec<Event>,
     actor: Actor,
-    step: Step,
+    step: &Step,
 ) -> Result<Reply, AllocError>
-    requires { IsStep core.old.config step }
+    requires { IsStep core.old.config step.now }
     ensures config { core.new.config ≡ core.old.config }
-    ensures does { IfOk result (λ r. Does step r core.old core.new) }
-    ensures events { IfOk result (λ r. events.new.items ≡ events.old.items ++ event_of actor step r ∷ []) }
+    ensures does { IfOk result (λ r. Does step.now r core.old core.new) }
+    ensures events { IfOk result (λ r. events.new.items ≡ events.old.items ++ event_of actor step.now r ∷ []) }
     ensures runs { IfOk result (λ r. (config : Config) → RunsTo config events.old.items core.old
-        → RunsTo config (events.old.items ++ event_of actor step r ∷ []) core.new) }
+        → RunsTo config (events.old.items ++ event_of actor step.now r ∷ []) core.new) }
     ensures same_core { OnErr result (core.new ≡ core.old) }
     ensures same_events { OnErr result (events.new.items ≡ events.old.items) }
 {
     events.reserve(1)?;
-    let reply = core.step(step);
+    let reply = core.step(*step);
     core.whole();
     core.remembers();
-    events.push_reserved(Event { actor, step, reply });
+    note(events, actor, step, reply);
     Ok(reply)
 }
 
@@ -251,6 +278,7 @@ impl Journal {
     /// assert_eq!(rt; journal.turn(Actor::Marker(0))?, Turn::Done);
     /// assert_eq!(rt; journal.turn(Actor::Collector)?, Turn::End);
     /// ```
+    #[inline(always)]
     pub fn turn(&mut self, actor: Actor) -> Result<Turn, AllocError>
         requires { IsCast (mutators_of self.old) actor }
         ensures plan { SamePlan self.old self.new }
@@ -289,7 +317,7 @@ impl Journal {
         if place >= script.len() {
             return Ok(Turn::End);
         }
-        let step = script[place];
+        let step = &script[place];
         record(&mut self.core, &mut self.events, actor, step)?;
         self.places[k] = place + 1;
         Ok(Turn::Done)
@@ -303,7 +331,7 @@ impl Journal {
         ensures plan { SamePlan self.old self.new }
         ensures turn { MatchResult result (λ t. TurnIs t self.old self.new actor) (λ _. self.new ≡ self.old) }
     {
-        record(&mut self.core, &mut self.events, actor, step)?;
+        record(&mut self.core, &mut self.events, actor, &step)?;
         Ok(Turn::Done)
     }
 

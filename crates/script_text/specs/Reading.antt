@@ -191,11 +191,14 @@ action_of (verb ∷ a ∷ b ∷ []) = pair_action_of verb a b
 action_of (verb ∷ a ∷ []) = lone_action_of verb a
 action_of _ = None
 
--- an action that heaps of these sizes have: each root that it names is there, and their format knows it
-unfoldable pub allowed_of : Config → List (List ℕ) → Option Action
-allowed_of c ws = do
-  a ← action_of ws
+-- what was read, where heaps of these sizes have it: each root that it names is there, and their format knows it
+abbrev pub allowed_in : Config → Option Action → Option Action
+allowed_in c read = do
+  a ← read
   if allows c a then Some a else None
+
+unfoldable pub allowed_of : Config → List (List ℕ) → Option Action
+allowed_of c ws = allowed_in c (action_of ws)
 
 unfoldable pub collection_of : List (List ℕ) → Option CollectorStep
 collection_of (verb ∷ []) =

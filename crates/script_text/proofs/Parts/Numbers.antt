@@ -104,24 +104,12 @@ pub number_of_fits : (limit : ℕ) (word : List ℕ) (r : Option ℕ) → IfSome
 number_of_fits limit word (Some n) some = some.1
 number_of_fits limit word None some = tt
 
--- a word of one byte is a number where that is a digit
-pub one_byte : (word : List ℕ) → length word ≡ 1 → word ≡ get_or word 0 0 ∷ []
-one_byte [] one = absurd (omega (arith, one))
-one_byte (b ∷ []) one = refl
-one_byte (b ∷ d ∷ word) one = absurd (omega (arith, one))
-
+-- a digit is a number's word
 pub digit_read : (b : ℕ) → 48 ≤ b → b ≤ 57 → Some (b - 48) ≡ number_of small (b ∷ [])
 digit_read b low high =
     let back : 48 + (b - 48) ≡ b = omega arith in
     let word : b ∷ [] ≡ decimal (b - 48) = rw (decimal_digit (b - 48) (omega arith), back) refl in
     sym (number_of_some small (b ∷ []) (b - 48) (omega arith) word (omega arith))
-
-pub no_digit : (b : ℕ) → (48 ≤ b → b ≤ 57 → ⊥) → None ≡ number_of small (b ∷ [])
-no_digit b other =
-    sym (none_by (number_of small (b ∷ [])) (λ n e.
-    let is = number_of_is small (b ∷ []) n e in
-    let digit = first_is_digit (b ∷ []) n (omega (arith, is.1)) is.0 in
-    other digit.0 digit.1))
 
 -- a number behind a letter
 lettered : (b letter : ℕ) (digits rest : List ℕ) → b ≡ letter → digits ≡ rest → b ∷ digits ≡ letter ∷ rest

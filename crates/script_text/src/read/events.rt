@@ -74,7 +74,7 @@ fn taken(config: &Config, actor: Actor, words: &[&[u8]]) -> Option<Step>
 {
     match actor {
         Actor::Mutator(mutator) => {
-            let action = allowed(config, words)?;
+            let action = allowed::<1>(config, words)?;
             Some(Step::Mutator(Op { mutator, action }))
         }
         Actor::Collector => {

@@ -1,11 +1,11 @@
 //! Steps, read from the words of their lines.
 
-ghost use Rattle.std.specs.Prelude.{◌≡◌, ◌<◌, ◌∷◌, [], map, IfOk};
+ghost use Rattle.std.specs.Prelude.{◌≡◌, ◌<◌, ◌∷◌, [], Some, map, IfOk};
 ghost use Rattle.script_text.specs.Reading.{number_of, small, register_of, global_of, value_of};
 ghost use Rattle.script_text.specs.Reading.{new_of, get_of, put_of, write_of, read_of, move_of, drop_of, load_of, save_of, shape_of};
 ghost use Rattle.script_text.specs.Reading.{new_weak_of, get_weak_of, put_weak_of, weaks_of, scope_of};
 ghost use Rattle.script_text.specs.Reading.{longest_action_of, long_action_of, pair_action_of, lone_action_of, action_of};
-ghost use Rattle.script_text.specs.Reading.{allowed_of, collection_of};
+ghost use Rattle.script_text.specs.Reading.{allowed_in, allowed_of, collection_of};
 ghost use Rattle.script_text.specs.Lines.{mutator_of, step_of};
 ghost use Rattle.heap_steps.specs.Actors.{IsStep};
 
@@ -14,170 +14,223 @@ use crate::read::words::{global, is_word, number, register, small_number, value}
 use heap_steps::{Action, CollectorStep, Counts, Op, Step};
 use heap_words::config::Config;
 
+/// The action, where heaps of these sizes have it. Each action asks it where it is made, so that one test of its own is left of this.
+#[inline(always)]
+fn within(config: &Config, action: Action) -> Option<Action>
+    ensures { result ≡ allowed_in config.now (Some action) }
+{
+    if action.is_in(config) {
+        Some(action)
+    } else {
+        None
+    }
+}
+
 #[tactic(auto, unfolding(crate::specs::Reading::new_of))]
-fn new_action(to: &[u8], pointers: &[u8], values: &[u8]) -> Option<Action>
-    ensures { result ≡ new_of to.now pointers.now values.now }
+#[inline(always)]
+fn new_action(config: &Config, to: &[u8], pointers: &[u8], values: &[u8]) -> Option<Action>
+    ensures { result ≡ allowed_in config.now (new_of to.now pointers.now values.now) }
 {
     let to = register(to)?;
     let pointers = small_number(pointers)?;
     let values = small_number(values)?;
     let counts = Counts { pointers, values };
-    Some(Action::New { to, counts })
+    within(config, Action::New { to, counts })
 }
 
 #[tactic(auto, unfolding(crate::specs::Reading::get_of))]
-fn get_action(to: &[u8], object: &[u8], field: &[u8]) -> Option<Action>
-    ensures { result ≡ get_of to.now object.now field.now }
+#[inline(always)]
+fn get_action(config: &Config, to: &[u8], object: &[u8], field: &[u8]) -> Option<Action>
+    ensures { result ≡ allowed_in config.now (get_of to.now object.now field.now) }
 {
     let to = register(to)?;
     let object = register(object)?;
     let field = small_number(field)?;
-    Some(Action::Get { to, object, field })
+    within(config, Action::Get { to, object, field })
 }
 
 #[tactic(auto, unfolding(crate::specs::Reading::put_of))]
-fn put_action(object: &[u8], field: &[u8], stored: &[u8]) -> Option<Action>
-    ensures { result ≡ put_of object.now field.now stored.now }
+#[inline(always)]
+fn put_action(config: &Config, object: &[u8], field: &[u8], stored: &[u8]) -> Option<Action>
+    ensures { result ≡ allowed_in config.now (put_of object.now field.now stored.now) }
 {
     let object = register(object)?;
     let field = small_number(field)?;
     let value = value(stored)?;
-    Some(Action::Put {
-        object,
-        field,
-        value,
-    })
+    within(
+        config,
+        Action::Put {
+            object,
+            field,
+            value,
+        },
+    )
 }
 
 #[tactic(auto, unfolding(crate::specs::Reading::write_of))]
-fn write_action(object: &[u8], field: &[u8], word: &[u8]) -> Option<Action>
-    ensures { result ≡ write_of object.now field.now word.now }
+#[inline(always)]
+fn write_action(config: &Config, object: &[u8], field: &[u8], word: &[u8]) -> Option<Action>
+    ensures { result ≡ allowed_in config.now (write_of object.now field.now word.now) }
 {
     let object = register(object)?;
     let field = small_number(field)?;
     let value = number(word, u64::MAX)?;
-    Some(Action::Write {
-        object,
-        field,
-        value,
-    })
+    within(
+        config,
+        Action::Write {
+            object,
+            field,
+            value,
+        },
+    )
 }
 
 #[tactic(auto, unfolding(crate::specs::Reading::read_of))]
-fn read_action(object: &[u8], field: &[u8]) -> Option<Action>
-    ensures { result ≡ read_of object.now field.now }
+#[inline(always)]
+fn read_action(config: &Config, object: &[u8], field: &[u8]) -> Option<Action>
+    ensures { result ≡ allowed_in config.now (read_of object.now field.now) }
 {
     let object = register(object)?;
     let field = small_number(field)?;
-    Some(Action::Read { object, field })
+    within(config, Action::Read { object, field })
 }
 
 #[tactic(auto, unfolding(crate::specs::Reading::move_of))]
-fn move_action(to: &[u8], from: &[u8]) -> Option<Action>
-    ensures { result ≡ move_of to.now from.now }
+#[inline(always)]
+fn move_action(config: &Config, to: &[u8], from: &[u8]) -> Option<Action>
+    ensures { result ≡ allowed_in config.now (move_of to.now from.now) }
 {
     let to = register(to)?;
     let from = register(from)?;
-    Some(Action::Move { to, from })
+    within(config, Action::Move { to, from })
 }
 
 #[tactic(auto, unfolding(crate::specs::Reading::drop_of))]
-fn drop_action(word: &[u8]) -> Option<Action>
-    ensures { result ≡ drop_of word.now }
+#[inline(always)]
+fn drop_action(config: &Config, word: &[u8]) -> Option<Action>
+    ensures { result ≡ allowed_in config.now (drop_of word.now) }
 {
     let register = register(word)?;
-    Some(Action::Drop { register })
+    within(config, Action::Drop { register })
 }
 
 #[tactic(auto, unfolding(crate::specs::Reading::load_of))]
-fn load_action(to: &[u8], from: &[u8]) -> Option<Action>
-    ensures { result ≡ load_of to.now from.now }
+#[inline(always)]
+fn load_action(config: &Config, to: &[u8], from: &[u8]) -> Option<Action>
+    ensures { result ≡ allowed_in config.now (load_of to.now from.now) }
 {
     let to = register(to)?;
     let from = global(from)?;
-    Some(Action::Load { to, from })
+    within(config, Action::Load { to, from })
 }
 
 #[tactic(auto, unfolding(crate::specs::Reading::save_of))]
-fn save_action(to: &[u8], from: &[u8]) -> Option<Action>
-    ensures { result ≡ save_of to.now from.now }
+#[inline(always)]
+fn save_action(config: &Config, to: &[u8], from: &[u8]) -> Option<Action>
+    ensures { result ≡ allowed_in config.now (save_of to.now from.now) }
 {
     let to = global(to)?;
     let from = register(from)?;
-    Some(Action::Save { to, from })
+    within(config, Action::Save { to, from })
 }
 
 #[tactic(auto, unfolding(crate::specs::Reading::shape_of))]
-fn shape_action(word: &[u8]) -> Option<Action>
-    ensures { result ≡ shape_of word.now }
+#[inline(always)]
+fn shape_action(config: &Config, word: &[u8]) -> Option<Action>
+    ensures { result ≡ allowed_in config.now (shape_of word.now) }
 {
     let object = register(word)?;
-    Some(Action::Shape { object })
+    within(config, Action::Shape { object })
 }
 
 #[tactic(auto, unfolding(crate::specs::Reading::new_weak_of))]
-fn new_weak_action(to: &[u8], pointers: &[u8], weaks: &[u8], values: &[u8]) -> Option<Action>
-    ensures { result ≡ new_weak_of to.now pointers.now weaks.now values.now }
+#[inline(always)]
+fn new_weak_action(
+    config: &Config,
+    to: &[u8],
+    pointers: &[u8],
+    weaks: &[u8],
+    values: &[u8],
+) -> Option<Action>
+    ensures { result ≡ allowed_in config.now (new_weak_of to.now pointers.now weaks.now values.now) }
 {
     let to = register(to)?;
     let pointers = small_number(pointers)?;
     let weaks = number(weaks, 255)?;
     let values = small_number(values)?;
     let counts = Counts { pointers, values };
-    Some(Action::NewWeak {
-        to,
-        counts,
-        weaks: weaks as u8,
-    })
+    within(
+        config,
+        Action::NewWeak {
+            to,
+            counts,
+            weaks: weaks as u8,
+        },
+    )
 }
 
 #[tactic(auto, unfolding(crate::specs::Reading::get_weak_of))]
-fn get_weak_action(to: &[u8], object: &[u8], slot: &[u8]) -> Option<Action>
-    ensures { result ≡ get_weak_of to.now object.now slot.now }
+#[inline(always)]
+fn get_weak_action(config: &Config, to: &[u8], object: &[u8], slot: &[u8]) -> Option<Action>
+    ensures { result ≡ allowed_in config.now (get_weak_of to.now object.now slot.now) }
 {
     let to = register(to)?;
     let object = register(object)?;
     let slot = small_number(slot)?;
-    Some(Action::GetWeak { to, object, slot })
+    within(config, Action::GetWeak { to, object, slot })
 }
 
 #[tactic(auto, unfolding(crate::specs::Reading::put_weak_of))]
-fn put_weak_action(object: &[u8], slot: &[u8], stored: &[u8]) -> Option<Action>
-    ensures { result ≡ put_weak_of object.now slot.now stored.now }
+#[inline(always)]
+fn put_weak_action(config: &Config, object: &[u8], slot: &[u8], stored: &[u8]) -> Option<Action>
+    ensures { result ≡ allowed_in config.now (put_weak_of object.now slot.now stored.now) }
 {
     let object = register(object)?;
     let slot = small_number(slot)?;
     let value = value(stored)?;
-    Some(Action::PutWeak {
-        object,
-        slot,
-        value,
-    })
+    within(
+        config,
+        Action::PutWeak {
+            object,
+            slot,
+            value,
+        },
+    )
 }
 
 #[tactic(auto, unfolding(crate::specs::Reading::weaks_of))]
-fn weaks_action(word: &[u8]) -> Option<Action>
-    ensures { result ≡ weaks_of word.now }
+#[inline(always)]
+fn weaks_action(config: &Config, word: &[u8]) -> Option<Action>
+    ensures { result ≡ allowed_in config.now (weaks_of word.now) }
 {
     let object = register(word)?;
-    Some(Action::Weaks { object })
+    within(config, Action::Weaks { object })
 }
 
 #[tactic(auto, unfolding(crate::specs::Reading::scope_of))]
-fn scope_action(word: &[u8]) -> Option<Action>
-    ensures { result ≡ scope_of word.now }
+#[inline(always)]
+fn scope_action(config: &Config, word: &[u8]) -> Option<Action>
+    ensures { result ≡ allowed_in config.now (scope_of word.now) }
 {
     let from = register(word)?;
-    Some(Action::Scope { from })
+    within(config, Action::Scope { from })
 }
 
 /// A verb and four words.
 #[tactic(auto, unfolding(crate::specs::Reading::longest_action_of))]
-fn longest_action(verb: &[u8], a: &[u8], b: &[u8], c: &[u8], d: &[u8]) -> Option<Action>
-    ensures { result ≡ longest_action_of verb.now a.now b.now c.now d.now }
+#[inline(always)]
+fn longest_action(
+    config: &Config,
+    verb: &[u8],
+    a: &[u8],
+    b: &[u8],
+    c: &[u8],
+    d: &[u8],
+) -> Option<Action>
+    ensures { result ≡ allowed_in config.now (longest_action_of verb.now a.now b.now c.now d.now) }
 {
     if is_word(verb, b"newweak") {
-        new_weak_action(a, b, c, d)
+        new_weak_action(config, a, b, c, d)
     } else {
         None
     }
@@ -185,21 +238,28 @@ fn longest_action(verb: &[u8], a: &[u8], b: &[u8], c: &[u8], d: &[u8]) -> Option
 
 /// A verb and three words.
 #[tactic(auto, unfolding(crate::specs::Reading::long_action_of))]
-fn long_action(verb: &[u8], a: &[u8], b: &[u8], c: &[u8]) -> Option<Action>
-    ensures { result ≡ long_action_of verb.now a.now b.now c.now }
+#[inline(always)]
+fn long_action<const CALLER: usize>(
+    config: &Config,
+    verb: &[u8],
+    a: &[u8],
+    b: &[u8],
+    c: &[u8],
+) -> Option<Action>
+    ensures { result ≡ allowed_in config.now (long_action_of verb.now a.now b.now c.now) }
 {
     if is_word(verb, b"new") {
-        new_action(a, b, c)
+        new_action(config, a, b, c)
     } else if is_word(verb, b"get") {
-        get_action(a, b, c)
+        get_action(config, a, b, c)
     } else if is_word(verb, b"put") {
-        put_action(a, b, c)
+        put_action(config, a, b, c)
     } else if is_word(verb, b"write") {
-        write_action(a, b, c)
+        write_action(config, a, b, c)
     } else if is_word(verb, b"getweak") {
-        get_weak_action(a, b, c)
+        get_weak_action(config, a, b, c)
     } else if is_word(verb, b"putweak") {
-        put_weak_action(a, b, c)
+        put_weak_action(config, a, b, c)
     } else {
         None
     }
@@ -207,17 +267,18 @@ fn long_action(verb: &[u8], a: &[u8], b: &[u8], c: &[u8]) -> Option<Action>
 
 /// A verb and two words.
 #[tactic(auto, unfolding(crate::specs::Reading::pair_action_of))]
-fn pair_action(verb: &[u8], a: &[u8], b: &[u8]) -> Option<Action>
-    ensures { result ≡ pair_action_of verb.now a.now b.now }
+#[inline(always)]
+fn pair_action(config: &Config, verb: &[u8], a: &[u8], b: &[u8]) -> Option<Action>
+    ensures { result ≡ allowed_in config.now (pair_action_of verb.now a.now b.now) }
 {
     if is_word(verb, b"read") {
-        read_action(a, b)
+        read_action(config, a, b)
     } else if is_word(verb, b"move") {
-        move_action(a, b)
+        move_action(config, a, b)
     } else if is_word(verb, b"load") {
-        load_action(a, b)
+        load_action(config, a, b)
     } else if is_word(verb, b"save") {
-        save_action(a, b)
+        save_action(config, a, b)
     } else {
         None
     }
@@ -225,47 +286,35 @@ fn pair_action(verb: &[u8], a: &[u8], b: &[u8]) -> Option<Action>
 
 /// A verb and a word.
 #[tactic(auto, unfolding(crate::specs::Reading::lone_action_of))]
-fn lone_action(verb: &[u8], a: &[u8]) -> Option<Action>
-    ensures { result ≡ lone_action_of verb.now a.now }
+#[inline(always)]
+fn lone_action(config: &Config, verb: &[u8], a: &[u8]) -> Option<Action>
+    ensures { result ≡ allowed_in config.now (lone_action_of verb.now a.now) }
 {
     if is_word(verb, b"drop") {
-        drop_action(a)
+        drop_action(config, a)
     } else if is_word(verb, b"shape") {
-        shape_action(a)
+        shape_action(config, a)
     } else if is_word(verb, b"weaks") {
-        weaks_action(a)
+        weaks_action(config, a)
     } else if is_word(verb, b"scope") {
-        scope_action(a)
+        scope_action(config, a)
     } else {
         None
     }
 }
 
-/// A mutator's step, of any sizes.
-#[tactic(auto, unfolding(crate::specs::Reading::action_of))]
-fn action(words: &[&[u8]]) -> Option<Action>
-    ensures { result ≡ action_of (map (λ w. w.now) words.now) }
-{
-    match words {
-        [verb, a, b, c, d] => longest_action(verb, a, b, c, d),
-        [verb, a, b, c] => long_action(verb, a, b, c),
-        [verb, a, b] => pair_action(verb, a, b),
-        [verb, a] => lone_action(verb, a),
-        _ => None,
-    }
-}
-
-/// A mutator's step that heaps of these sizes have: each root that it names is there, and their format knows it.
-#[tactic(auto, unfolding(crate::specs::Reading::allowed_of))]
-#[inline(always)]
-pub(crate) fn allowed(config: &Config, words: &[&[u8]]) -> Option<Action>
+/// A mutator's step that heaps of these sizes have: each root that it names is there, and their format knows it. A caller gives a number of
+/// its own, and so gets a copy of its own, which stands within it.
+#[tactic(auto, unfolding(crate::specs::Reading::action_of, crate::specs::Reading::allowed_of))]
+pub(crate) fn allowed<const CALLER: usize>(config: &Config, words: &[&[u8]]) -> Option<Action>
     ensures { result ≡ allowed_of config.now (map (λ w. w.now) words.now) }
 {
-    let action = action(words)?;
-    if action.is_in(config) {
-        Some(action)
-    } else {
-        None
+    match words {
+        [verb, a, b, c, d] => longest_action(config, verb, a, b, c, d),
+        [verb, a, b, c] => long_action::<CALLER>(config, verb, a, b, c),
+        [verb, a, b] => pair_action(config, verb, a, b),
+        [verb, a] => lone_action(config, verb, a),
+        _ => None,
     }
 }
 
@@ -348,7 +397,7 @@ pub(crate) fn step(config: &Config, words: &[&[u8]]) -> Result<Step, Kind>
         return Ok(Step::Collector(collection));
     }
     let mutator = mutator(config, actor)?;
-    let Some(action) = allowed(config, rest) else {
+    let Some(action) = allowed::<0>(config, rest) else {
         return Err(Kind::BadStep);
     };
     Ok(Step::Mutator(Op { mutator, action }))

@@ -1,6 +1,6 @@
 //! Words of a line: numbers, registers, globals.
 
-ghost use Rattle.std.specs.Prelude.{◌≡◌, ◌≤◌, ◌<◌, ◌+◌, ◌∷◌, [], ℕ, IfSome, IfNone, IsTrue, false, length, map, take, drop};
+ghost use Rattle.std.specs.Prelude.{◌≡◌, ◌≤◌, ◌<◌, ◌+◌, ◌∷◌, [], ℕ, Some, IfSome, IfNone, IsTrue, false, length, map, take, drop};
 ghost use Rattle.std.specs.Fmt.{decimal};
 ghost use Rattle.std.specs.Str.{bytes_eq};
 ghost use Rattle.script_text.specs.Reading.{number_of, small, number_behind, register_of, global_of, value_of};
@@ -155,25 +155,24 @@ pub(crate) fn number(word: &[u8], limit: u64) -> Option<u64>
     spelled_number(word, limit)
 }
 
-/// The number that a word of one byte spells.
+/// A byte's distance from the digit 0: a number below 10 for a digit alone.
 #[inline(always)]
-fn digit(byte: u8) -> Option<u32>
-    ensures { result ≡ number_of small (byte ∷ []) }
+fn digit(byte: u8) -> u32
+    ensures { result < 10 → Some result ≡ number_of small (byte ∷ []) }
 {
-    let value = byte.wrapping_sub(b'0');
-    if value > 9 {
-        return None;
-    }
-    Some(value as u32)
+    byte.wrapping_sub(b'0') as u32
 }
 
-/// The number that a word spells, where it fits 32 bits. Most have one digit.
+/// The number that a word spells, where it fits 32 bits. Most have one digit; all else goes the longer way, so the short one has one end.
 #[inline(always)]
 pub(crate) fn small_number(word: &[u8]) -> Option<u32>
     ensures { result ≡ number_of small word.now }
 {
     if word.len() == 1 {
-        return digit(word[0]);
+        let value = digit(word[0]);
+        if value < 10 {
+            return Some(value);
+        }
     }
     let value = number(word, 0xffff_ffff)?;
     Some(value as u32)
@@ -196,6 +195,7 @@ fn number_behind(letter: u8, word: &[u8]) -> Option<u32>
 
 /// The register that a word spells, `r` and its number.
 #[tactic(auto, unfolding(crate::specs::Reading::register_of))]
+#[inline(always)]
 pub(crate) fn register(word: &[u8]) -> Option<Register>
     ensures { result ≡ register_of word.now }
 {
@@ -205,6 +205,7 @@ pub(crate) fn register(word: &[u8]) -> Option<Register>
 
 /// The global that a word spells, `g` and its number.
 #[tactic(auto, unfolding(crate::specs::Reading::global_of))]
+#[inline(always)]
 pub(crate) fn global(word: &[u8]) -> Option<GlobalRoot>
     ensures { result ≡ global_of word.now }
 {
@@ -214,6 +215,7 @@ pub(crate) fn global(word: &[u8]) -> Option<GlobalRoot>
 
 /// Nil, or the register that a word spells.
 #[tactic(auto, unfolding(crate::specs::Reading::value_of))]
+#[inline(always)]
 pub(crate) fn value(word: &[u8]) -> Option<Option<Register>>
     ensures { result ≡ value_of word.now }
 {
