@@ -120,7 +120,7 @@ fn redirect(
     let to = new_place(table, destinations, target);
     table.law();
     table.set_field(at, field, Some(to));
-    note(table, noted, card_words, at.word() + 2 + field, to);
+    note(table, noted, card_words, at.field(field) as u32, to);
 }
 
 /// A field of an object outside the set names the new place of its target, and its card is noted if it leads into another
@@ -188,5 +188,5 @@ pub(crate) fn settle_field(
         redirect(table, destinations, noted, card_words, at, field, target);
         return;
     }
-    note(table, noted, card_words, at.word() + 2 + field, target);
+    note(table, noted, card_words, at.field(field) as u32, target);
 }

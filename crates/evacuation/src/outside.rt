@@ -109,7 +109,7 @@ fn update_tiles(
     }
 }
 
-/// The fields of one card.
+/// The fields of one card. A card of a region of the set has none of an object outside, so none of its tiles is looked at.
 fn update_card(
     table: &mut RegionTable,
     destinations: &mut Destinations,
@@ -135,7 +135,11 @@ fn update_card(
     ensures clean { (visited : List Bool) → IsCardClean pause visited table.new card }
 {
     table.law();
-    if let Some(first) = table.first_tile(Addr::new(card * card_words)) {
+    let bottom = Addr::new(card * card_words);
+    if is_inside(table, set, bottom) {
+        return;
+    }
+    if let Some(first) = table.first_tile(bottom) {
         update_tiles(
             table,
             destinations,

@@ -7,10 +7,10 @@
 //!   | header: p, w, d   | name | p pointers | w weak slots | d data words |
 //! ```
 
-ghost use Rattle.std.specs.Prelude.{◌≡◌, ◌+◌, ◌<◌, ◌≤◌, ◌∷◌, length, replicate, slice_index, slice_set, take, drop, IfOk, IsSome};
+ghost use Rattle.std.specs.Prelude.{◌≡◌, ◌+◌, ◌^◌, ◌<◌, ◌≤◌, ◌⊎◌, ◌∷◌, true, length, replicate, slice_index, slice_set, take, drop, IfOk, IsSome, Some};
 ghost use Rattle.heap_words.specs.Sizes.{field_word, size_of};
 ghost use Rattle.heap_words.specs.Headers.{header_of, header_word, pointer_of, pointer_word};
-ghost use Rattle.heap_words.specs.Contents.{put, header_at, counts_of, pointer_count, pointer_count_at, field_count_at};
+ghost use Rattle.heap_words.specs.Contents.{put, header_at, counts_of, pointer_count, pointer_count_at, field_count, field_count_at};
 ghost use Rattle.heap_words.specs.declared.header.Header.TheVariants as headers;
 
 use crate::addr::{Addr, Ptr};
@@ -47,13 +47,46 @@ fn write_fresh(words: &mut [u64], at: usize, header: u64, name: u64, fields: usi
     }
 }
 
+/// Whether two places of so many words have none in common.
+fn are_apart(from: usize, to: usize, size: usize) -> bool
+    requires source { from + size < 2 ^ 64 }
+    requires target { to + size < 2 ^ 64 }
+    ensures { result ≡ true → (to + size ≤ from) ⊎ (from + size ≤ to) }
+{
+    to + size <= from || from + size <= to
+}
+
+/// Copies words within a slice to a place apart from theirs, two at a time.
+fn copy_apart(words: &mut [u64], from: usize, to: usize, size: usize)
+    requires source { from + size ≤ length words.old }
+    requires target { to + size ≤ length words.old }
+    requires apart { (to + size ≤ from) ⊎ (from + size ≤ to) }
+    ensures { words.new ≡ put words.old to (take size (drop from words.old)) }
+{
+    let mut done = 0;
+    while done + 1 < size {
+        let first = words[from + done];
+        let second = words[from + done + 1];
+        words[to + done] = first;
+        words[to + done + 1] = second;
+        done += 2;
+    }
+    if done < size {
+        words[to + done] = words[from + done];
+    }
+}
+
 /// Copies words within a slice.
 fn copy_within(words: &mut [u64], from: usize, to: usize, size: usize)
     requires source { from + size ≤ length words.old }
     requires target { to + size ≤ length words.old }
     ensures { words.new ≡ put words.old to (take size (drop from words.old)) }
 {
-    words.copy_within(from..from + size, to);
+    if are_apart(from, to, size) {
+        copy_apart(words, from, to, size);
+    } else {
+        words.copy_within(from..from + size, to);
+    }
 }
 
 /// The counts of an object's header, none of another one's.
@@ -84,6 +117,28 @@ fn pointers_in(word: u64) -> u32
     ensures { result ≡ pointer_count (header_of word) }
 {
     ((word >> 8) & 0xff_ffff) as u32
+}
+
+/// The counts of a header that is an object's: by shifts, and no test.
+#[tactic(auto, unfolding(crate::specs::Headers::header_of))]
+fn object_counts(word: u64) -> HeaderCounts
+    requires { IsSome (counts_of (header_of word)) }
+    ensures { counts_of (header_of word) ≡ Some result }
+{
+    HeaderCounts {
+        pointers: Count::new(pointers_in(word)),
+        weaks: (word >> 56) as u8,
+        values: Count::new((word >> 32 & 0xff_ffff) as u32),
+    }
+}
+
+/// How many pointers and weak slots a header that is an object's counts together.
+#[tactic(auto, unfolding(crate::specs::Headers::header_of))]
+fn fields_in(word: u64) -> u32
+    requires { IsSome (counts_of (header_of word)) }
+    ensures { result ≡ field_count (header_of word) }
+{
+    pointers_in(word) + (word >> 56) as u32
 }
 
 impl Words {
@@ -126,6 +181,15 @@ impl Words {
         ensures { result ≡ pointer_count_at self.now object }
     {
         pointers_in(self.items[object.word() as usize])
+    }
+
+    /// How many pointers, weak slots and data words the object at an address has. One is there, so its header isn't looked at for that.
+    pub fn counts(&self, object: Addr) -> HeaderCounts
+        requires within { object < length self.now }
+        requires object { IsSome (counts_of (header_at self.now object)) }
+        ensures { counts_of (header_at self.now object) ≡ Some result }
+    {
+        object_counts(self.items[object.word() as usize])
     }
 
     /// The name of the object at an address, which stands behind its header.
@@ -172,6 +236,16 @@ impl Words {
         ensures { result ≡ slice_index self.now (field_word object (field_count_at self.now object) + field) }
     {
         self.items[self.data_place(object, field)]
+    }
+
+    /// A data word of the object at an address, as `get_value` reads it. One is there, so its header isn't looked at for that.
+    pub fn value(&self, object: Addr, field: u32) -> u64
+        requires within { field_word object (field_count_at self.now object) + field < length self.now }
+        requires object { IsSome (counts_of (header_at self.now object)) }
+        ensures { result ≡ slice_index self.now (field_word object (field_count_at self.now object) + field) }
+    {
+        let fields = fields_in(self.items[object.word() as usize]);
+        self.items[object.field(fields) + field as usize]
     }
 
     /// Sets a data word of the object at an address.

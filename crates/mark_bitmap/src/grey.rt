@@ -97,8 +97,12 @@ impl Grey {
         ensures lowest { MatchOption result (HasNone (is_grey marks.now self.now) 0) (IsLowest (is_grey marks.now self.now) 0) }
         ensures within { IfSome result (λ found. found < length marks.now) }
     {
-        let end = Addr::new(marks.len());
         let finger = self.fingers.lowest()?;
+        // Mostly it stands among the finger's own addresses.
+        if let Some(found) = marks.lowest_without(&self.scanned, finger) {
+            return Some(found);
+        }
+        let end = Addr::new(marks.len());
         marks.next_without(&self.scanned, Addr::new(64 * finger), end)
     }
 

@@ -77,7 +77,7 @@ fn scan_field(
     ensures last { (region : ℕ) → result ≡ Some region → covers sets.new region card ≡ true }
 {
     table.law();
-    let home = object.word() + 2 + field;
+    let home = object.field(field) as u32;
     let Some(target) = table.get_field(object, field) else {
         return last;
     };

@@ -2,9 +2,9 @@
 ghost use Rattle.std.specs.Prelude.{◌≡◌, ◌<◌, length, slice_get, Some, IsSome, IfSome};
 ghost use Rattle.heap_words.specs.Contents.{header_at, counts_of, pointer_count_at, field_count_at};
 ghost use Rattle.regions.specs.Table.{object_at, object_words, pointers_at, weaks_at, fields_at, values_at, set_pointer, set_weak, set_field, set_value, tile_in, moved_to};
-ghost use Rattle.regions.specs.Rows.{header_target, weak_count, value_count};
+ghost use Rattle.regions.specs.Rows.{header_target, sizes_in, weak_count, value_count};
 
-use crate::table::{RegionTable, size_at};
+use crate::table::RegionTable;
 use heap_words::addr::{Addr, Ptr};
 use heap_words::header::Header;
 use heap_words::words::Words;
@@ -24,10 +24,8 @@ fn fields_in(words: &Words, at: Addr) -> u32
     requires object { IsSome (counts_of (header_at words.now at)) }
     ensures { result ≡ field_count_at words.now at }
 {
-    match words.object_at(at) {
-        Some(counts) => counts.pointers.get() + u32::from(counts.weaks),
-        None => unreachable!(),
-    }
+    let counts = words.counts(at);
+    counts.pointers.get() + u32::from(counts.weaks)
 }
 
 /// How many weak slots the object at an address has.
@@ -36,10 +34,7 @@ fn weaks_in(words: &Words, at: Addr) -> u32
     requires object { IsSome (counts_of (header_at words.now at)) }
     ensures { result ≡ weak_count (header_at words.now at) }
 {
-    match words.object_at(at) {
-        Some(counts) => u32::from(counts.weaks),
-        None => unreachable!(),
-    }
+    u32::from(words.counts(at).weaks)
 }
 
 /// How many data words the object at an address has.
@@ -48,10 +43,16 @@ fn values_in(words: &Words, at: Addr) -> u32
     requires object { IsSome (counts_of (header_at words.now at)) }
     ensures { result ≡ value_count (header_at words.now at) }
 {
-    match words.object_at(at) {
-        Some(counts) => counts.values.get(),
-        None => unreachable!(),
-    }
+    words.counts(at).values.get()
+}
+
+/// How many words the object at an address has.
+fn size_in(words: &Words, at: Addr) -> u32
+    requires within { at < length words.now }
+    requires object { IsSome (counts_of (header_at words.now at)) }
+    ensures { result ≡ sizes_in words.now at }
+{
+    words.counts(at).size()
 }
 
 /// Where the object at an address went, if it is forwarded.
@@ -114,7 +115,7 @@ impl RegionTable {
         requires { IsSome (object_at self.now object) }
         ensures { result ≡ object_words self.now object }
     {
-        size_at(&self.words, object)
+        size_in(&self.words, object)
     }
 
     /// A pointer of the object at an address.
@@ -172,7 +173,7 @@ impl RegionTable {
         requires { field < length (values_at self.now object) }
         ensures { slice_get (values_at self.now object) field ≡ Some result }
     {
-        self.words.get_value(object, field)
+        self.words.value(object, field)
     }
 
     /// Stores a data word in the object at an address.

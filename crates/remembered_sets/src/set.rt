@@ -58,7 +58,7 @@ impl RememberedSet {
         requires { source < length self.now.sources }
         ensures { result ≡ set_covers self.now card source }
     {
-        self.inline.as_slice().contains(&card.number()) || self.sources.get(source)
+        self.sources.get(source) || self.inline.as_slice().contains(&card.number())
     }
 
     /// How many cards stand one by one.

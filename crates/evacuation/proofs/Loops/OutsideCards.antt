@@ -1,5 +1,5 @@
 -- Scans of the fields outside the set, card by card.
-use Rattle.std.proofs.Common.{◌≡◌, ℕ, ◌+◌, ◌*◌, ◌/◌, ◌<◌, ◌≤◌, Bool, false, List, [], ◌∷◌, Option, Some, length, refl, sym, ap, ◌∙◌, subst, inl, inr, arith}
+use Rattle.std.proofs.Common.{◌≡◌, ℕ, ◌+◌, ◌*◌, ◌/◌, ◌<◌, ◌≤◌, Bool, true, false, List, [], ◌∷◌, Option, Some, length, refl, sym, ap, ◌∙◌, subst, inl, inr, arith}
 use Rattle.std.specs.Prelude.{IsSome}
 use Rattle.std.specs.List.{AllZip}
 use Rattle.std.proofs.lemmas.Bool.{cases_eq, cases_lt}
@@ -7,11 +7,12 @@ use Rattle.std.proofs.lemmas.List.{length-append}
 use Rattle.heap_model.specs.Heap.{Stored, fields}
 use Rattle.heap_model.specs.Evacuation.{IsWord, place_after}
 use Rattle.regions.specs.Tiles.{Object}
-use Rattle.regions.specs.Table.{Table, tile_in, top_of}
+use Rattle.regions.specs.Table.{Table, kind_of, tile_in, top_of}
+use Rattle.regions.specs.declared.row.Kind.TheVariants as kinds
 use Rattle.regions.specs.Walks.{IsHolder}
 use Rattle.regions.specs.Shaped.{IsShaped}
 use Rattle.regions.proofs.Words.Divides.{card_has_words, card_within, card_region, div_low, div_high}
-use Rattle.regions.proofs.Tiles.Holders.{holder_onward, holder_below}
+use Rattle.regions.proofs.Tiles.Holders.{holder_onward, holder_below, holder_start}
 use Rattle.object_copy.specs.Copies.{Places}
 use Rattle.object_copy.proofs.Copied.{tile_of_object}
 use Rattle.refinement.specs.Remembering.{field_word}
@@ -71,6 +72,22 @@ module _ (p : Pause) (q : IsPause p) (card : ℕ) where
         let l = low (field_word b i) e in
         none (omega arith)
         )
+
+    -- a card of a region of the set has no word of an object outside: such a region is ordinary, so the tiles of its words start in it
+    pub none_inside : in_set p (card * p.card_words) ≡ true → (visited : List Bool) → IsCardClean p visited t card
+    none_inside inside visited b i v e =
+        let w : ℕ = field_word b i in
+        let s = holder_start t b w g (visited_holder p t d visited b i turn v) in
+        let there : w / t.words_per_region ≡ card * p.card_words / p.start.words_per_region = region w e ∙ ap (λ (n : ℕ). card * p.card_words / n) turn.table.size in
+        let ordinary : kind_of t (w / t.words_per_region) ≡ kinds.Ordinary = ap (kind_of t) there ∙ turn.table.chosen (card * p.card_words / p.start.words_per_region) inside in
+        elim (cases_lt (b / t.words_per_region) (w / t.words_per_region)) [
+          | inl lt ↦ absurd (let q : kinds.Ordinary ≡ kinds.Rest = sym ordinary ∙ s.run.rest (w / t.words_per_region) lt (omega arith) in cc)
+          | inr ge ↦ absurd (
+              let below = s.run.below in
+              let same : b / t.words_per_region ≡ w / t.words_per_region = omega arith in
+              let at : b / p.start.words_per_region ≡ card * p.card_words / p.start.words_per_region = ap (λ (n : ℕ). b / n) (sym turn.table.size) ∙ same ∙ there in
+              let q : true ≡ false = sym inside ∙ ap (flag p.chosen) (sym at) ∙ v.outside in cc)
+        ]
 
     -- the objects of the card's visited fields start at the first tile or behind it, in its region
     pub onward : (first : ℕ) → IsHolder t first (card * p.card_words) → (visited : List Bool) (b i : ℕ) → IsVisited (layout p) (plan p) visited b i → field_word b i / p.card_words ≡ card → (first ≤ b) × (b / t.words_per_region ≡ first / t.words_per_region)

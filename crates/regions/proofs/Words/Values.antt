@@ -8,7 +8,8 @@ use Rattle.heap_model.specs.Heap.{Stored}
 use Rattle.regions.specs.Tiles.{Object, tile_size, stored_of}
 use Rattle.regions.specs.Table.{Table, object_at, values_at, object_values, set_value, put_object}
 use Rattle.regions.specs.Rows.{sizes_in, table_of, IsTable}
-use Rattle.heap_words.specs.Contents.{field_count}
+use Rattle.std.specs.Prelude.{IsSome}
+use Rattle.heap_words.specs.Contents.{counts_of, field_count}
 use Rattle.regions.specs.declared.row.Row.{Row}
 use Rattle.regions.proofs.Words.Places.{IsIn, object_place}
 use Rattle.regions.proofs.Words.Fields.{Turns, take_set}
@@ -48,6 +49,7 @@ value_word_at words x i s g h =
 
 pub record IsValueRead (words : List ℕ) (t : Table) (x i : ℕ) : Type 0 where
   pub at : x < length words
+  pub object : IsSome (counts_of (header_of (get_or words x 0)))
   pub in_words : x + 2 + field_count (header_of (get_or words x 0)) + i < length words
   pub value : slice_get (values_at t x) i ≡ Some (get_or words (x + 2 + field_count (header_of (get_or words x 0)) + i) 0)
 
@@ -59,6 +61,7 @@ value_read size words rows t x i g e h =
     let count : field_count (header_of (get_or words x 0)) ≡ length p.object.pointers + length p.object.weaks = ap field_count o.is_in.header_is in
     record {
       at = omega (arith, o.is_in.fits);
+      object = rw o.is_in.header_is refl;
       in_words = omega (arith, o.is_in.fits, p.within);
       value = rw (p.object_is, count) (value_word_at words x i p.object o.is_in p.within);
     }

@@ -20,25 +20,18 @@ redirect-requires g c =
     let (premises, (turn, (flags, (card, (each, (outside, (field, taken))))))) = c.requires in
     (premises, (turn, (card, (each, (outside, (field, (c.in-Some.ensures, sym c.is_inside.ensures ∙ c.if-is_inside.true)))))))
 
-pub overflow_add-word : goal.overflow_add-word
-overflow_add-word g c =
+pub overflow_cast-field : goal.overflow_cast-field
+overflow_cast-field g c =
     let (premises, (turn, (flags, (card, (each, (outside, (field, taken))))))) = c.requires in
     let w = word_within g.pause c.args.table.now c.args.at c.args.field c.law.ensures turn.table field in
     let n = all_small g.pause premises in
-    rw c.word.ensures (omega (arith, w, n))
-
-pub overflow_add-word-2 : goal.overflow_add-word-2
-overflow_add-word-2 g c =
-    let (premises, (turn, (flags, (card, (each, (outside, (field, taken))))))) = c.requires in
-    let w = word_within g.pause c.args.table.now c.args.at c.args.field c.law.ensures turn.table field in
-    let n = all_small g.pause premises in
-    rw c.word.ensures (omega (arith, w, n))
+    rw c.field.ensures (omega (arith, w, n))
 
 pub note-requires : goal.note-requires
 note-requires g c =
     let (premises, (turn, (flags, (card, (each, (outside, (field, taken))))))) = c.requires in
     let w = word_within g.pause c.args.table.now c.args.at c.args.field c.law.ensures turn.table field in
-    (premises, (turn.table.size, (card, (each, rw c.word.ensures w))))
+    (premises, (turn.table.size, (card, (each, rw c.field.ensures w))))
 
 pub returns-clause-after : goal.returns-clause-after
 returns-clause-after g c =
@@ -56,8 +49,8 @@ returns-clause-after g c =
             outside = outside;
             field = pointer_is g.pause c.args.table.now c.args.at c.args.field field.object (Some c.in-Some.target) field.at c.in-Some.ensures;
             clean = sym c.is_inside.ensures ∙ c.if-is_inside.false;
-            in_card = sym (o.0 ∙ ap (λ (n : ℕ). (n + 2 + c.args.field) / g.pause.card_words) c.word.ensures);
-            leaves = subst (λ (n : ℕ). c.in-Some.target / g.pause.start.words_per_region ≢ (n + 2 + c.args.field) / g.pause.start.words_per_region) c.word.ensures o.1;
+            in_card = sym (o.0 ∙ ap (λ (n : ℕ). n / g.pause.card_words) c.field.ensures);
+            leaves = subst (λ (n : ℕ). c.in-Some.target / g.pause.start.words_per_region ≢ n / g.pause.start.words_per_region) c.field.ensures o.1;
             is_new = inl taken;
           })
     ])
@@ -67,4 +60,4 @@ returns-clause-settled g c =
     let (premises, (turn, (flags, (card, (each, (outside, (field, taken))))))) = c.requires in
     updates.noted_settled g.pause c.args.table.now c.args.at c.args.field c.note.new.noted (Some c.in-Some.target) c.in-Some.ensures
     (updates.unchanged g.pause premises c.args.table.now c.args.destinations.now turn c.args.at c.args.field outside field (Some c.in-Some.target) c.in-Some.ensures (sym c.is_inside.ensures ∙ c.if-is_inside.false))
-    (subst (λ (n : ℕ). IsNoted (layout g.pause) c.note.new.noted (n + 2 + c.args.field) (Some c.in-Some.target)) c.word.ensures c.note.ensures.noted)
+    (subst (λ (n : ℕ). IsNoted (layout g.pause) c.note.new.noted n (Some c.in-Some.target)) c.field.ensures c.note.ensures.noted)

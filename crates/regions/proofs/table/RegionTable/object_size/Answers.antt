@@ -1,13 +1,18 @@
 use Rattle.std.proofs.Common.{arith, ◌∙◌}
-use Rattle.regions.proofs.Words.ObjectWords.{object_there}
+use Rattle.regions.proofs.Words.ObjectWords.{object_there, is_counted}
 use Rattle.regions.proofs.table.RegionTable.object_size.Goals as goal
 
-pub size_at-requires : goal.size_at-requires
-size_at-requires c =
+pub size_in-requires-clause-within : goal.size_in-requires-clause-within
+size_in-requires-clause-within c =
     let o = object_there _ _ _ _ _ c.self.invariant.table c.self.view_is c.requires in
     omega (arith, o.1.fits, o.1.large)
+
+pub size_in-requires-clause-object : goal.size_in-requires-clause-object
+size_in-requires-clause-object c =
+    let o = object_there _ _ _ _ _ c.self.invariant.table c.self.view_is c.requires in
+    is_counted _ _ _ _ o.1
 
 pub returns : goal.returns
 returns c =
     let o = object_there _ _ _ _ _ c.self.invariant.table c.self.view_is c.requires in
-    c.size_at.ensures ∙ o.1.size_is
+    c.size_in.ensures ∙ o.1.size_is
