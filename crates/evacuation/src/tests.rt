@@ -12,7 +12,7 @@ use cards::CardTable;
 use heap_words::addr::{Addr, Card, Ptr, RegionNo};
 use heap_words::bounded::BoundedBits;
 use heap_words::config::{Config, Format};
-use heap_words::header::{Count, HeaderCounts, FillerSize};
+use heap_words::header::{Count, FillerSize, HeaderCounts};
 use mark_bitmap::bitmaps::Bitmaps;
 use mark_bitmap::tams::Tams;
 use region_choice::LiveRow;

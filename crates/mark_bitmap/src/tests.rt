@@ -11,7 +11,7 @@ use crate::marks::Marks;
 use crate::tams::Tams;
 use heap_words::addr::{Addr, RegionNo};
 use heap_words::config::{Config, Format};
-use heap_words::header::{Count, HeaderCounts, FillerSize};
+use heap_words::header::{Count, FillerSize, HeaderCounts};
 use regions::{Kind, RegionTable, Shape};
 use std::alloc::Global;
 use std::test::Fail;

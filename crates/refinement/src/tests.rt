@@ -17,7 +17,7 @@ use crate::{refine_one, scan_card};
 use cards::CardTable;
 use heap_words::addr::{Addr, Card, RegionNo};
 use heap_words::config::{Config, Format};
-use heap_words::header::{Count, HeaderCounts, FillerSize};
+use heap_words::header::{Count, FillerSize, HeaderCounts};
 use mark_bitmap::marks::Marks;
 use mark_bitmap::tams::Tams;
 use regions::{Kind, RegionTable, Shape};
