@@ -72,7 +72,7 @@ fn marked_within(
 }
 
 /// A region's live bound, if it is at most `most`. It costs what `live_bound` does as far as the marked objects have so many
-/// words, and ends there: a pause of a small budget looks at few objects of a region that it can't take.
+/// words, and ends there.
 pub fn live_bound_within(
     table: &RegionTable,
     tams: &Tams,

@@ -224,11 +224,9 @@ fn record_faults(rt: HostRuntime) -> Result<(), Fail> {
 
 #[test]
 fn an_empty_record(rt: HostRuntime) -> Result<(), Fail> {
-    let empty = LineFault {
-        line: 1,
-        kind: Kind::BadHeap,
-    };
-    assert_eq!(rt; record_fault_of(rt.alloc(), b""), Some(empty));
+    let fault = record_fault_of(rt.alloc(), b"");
+    let (line, kind) = (1, Kind::BadHeap);
+    assert_eq!(rt; fault, Some(LineFault { line, kind }));
     Ok(())
 }
 
