@@ -14,6 +14,7 @@ actors and of the third format, have 1,024 regions of 1,024 words, the largest t
 | long_pause | 50 pauses, each copies 341,348 words in 10,688 objects, 31 of 32 of them of 32 words, the others of 30 |
 | long_pause_base | the same without its pauses: the difference of the two is the pauses' time |
 | covered_cards_N | pauses whose one chosen region of 56 words is named from N outside cards, up to 20,000 pauses |
+| source_regions_N, _N_base | 12 and 2 pauses that move one object, which N full regions of 16,384 words name by one field each |
 | candidates_N | 5,000 pauses with N candidates, of which the first, of 100 words, is taken and copied |
 | roots_16 | 2,000 pauses with 16 mutators, where each register and each global names an object of its own |
 | cleanups_256, _512, _1024 | 20 times: all regions but one are filled with garbage, which a marking cycle finds and `cleanup` reclaims |
@@ -207,6 +208,20 @@ def covered_cards(count):
     return lines + ["gc pause 100"] * min(20000, 4000000 // count)
 
 
+def source_regions(count, pauses):
+    lines = [f"heap2 {REGIONS} 16384 512 1 0 64"]
+    # The object that is moved; what stands beside it in its region at first isn't reached.
+    lines += [f"0 new r1 {shape(16, 1)}"] + [f"0 new r2 {shape(16, 0)}"] * 1023
+    # A list of 1,024 objects of 16 words a region; the first one of each region names the object too.
+    for region in range(count):
+        for place in range(1024):
+            lines += [f"0 new r2 {shape(16, 2)}", "0 put r2 0 r0", "0 move r0 r2"]
+            if place == 0:
+                lines.append("0 put r2 1 r1")
+    lines += ["0 drop r2", "gc begin", "gc mark 1000000", "gc remark"]
+    return lines + ["gc pause 16"] * pauses
+
+
 def candidates(count):
     chosen = random.Random(3)
     lines = [heap(8)]
@@ -358,6 +373,8 @@ SCRIPTS = {
     "long_pause": lambda: long_pause(LONG_PAUSES),
     "long_pause_base": lambda: long_pause(0),
     **{f"covered_cards_{count}": lambda count=count: covered_cards(count) for count in (16, 100, 1000, 10000, 50000)},
+    **{f"source_regions_{count}{ending}": lambda count=count, pauses=pauses: source_regions(count, pauses)
+       for count in (10, 17, 100, 900) for ending, pauses in (("", 12), ("_base", 2))},
     **{f"candidates_{count}": lambda count=count: candidates(count) for count in (16, 64, 256, 1000)},
     "roots_16": roots_16,
     **{f"cleanups_{regions}": lambda regions=regions: cleanups(regions) for regions in (256, 512, 1024)},

@@ -15,7 +15,7 @@ use Rattle.mark_bitmap.proofs.ObjectLaws.{none_marked}
 use Rattle.mark_bitmap.proofs.Samples.{fresh_objects}
 use Rattle.mark_bitmap.specs.Marks.{is_marked}
 use Rattle.cards.specs.Cards.{Cards, is_dirty}
-use Rattle.remembered_sets.specs.Sets.{Sets, added, card_count, covers, empty_set, empty_sets}
+use Rattle.remembered_sets.specs.Sets.{Sets, added, card_count, may_lead, empty_set, empty_sets}
 use Rattle.region_choice.specs.Choice.{live_sum}
 use Rattle.region_choice.specs.declared.LiveRow.{LiveRow}
 use Rattle.refinement.specs.Remembering.{Remembers, field_card, field_word}
@@ -50,7 +50,7 @@ pub record IsSuited (t : Table) (s : Sets) (row : LiveRow) : Type 0 where
   pub low : (a : ℕ) (x : Stored) → object_at t a ≡ Some x → is_below 16 (bottoms 4 16) a ≡ false
   pub inside : (b i a : ℕ) (y : Stored) → object_at t b ≡ Some y → slice_get (fields y) i ≡ Some (Some a) → (x : Stored) × (object_at t a ≡ Some x)
   pub halves : (a : ℕ) (x : Stored) → object_at t a ≡ Some x → 2 * tile_size (Object x) ≤ 16
-  pub remembered : (a i b : ℕ) (y : Stored) → object_at t a ≡ Some y → slice_get (fields y) i ≡ Some (Some b) → (b / 16 ≡ field_word a i / 16) ⊎ (covers s (b / 16) (field_card 8 a i) ≡ true)
+  pub remembered : (a i b : ℕ) (y : Stored) → object_at t a ≡ Some y → slice_get (fields y) i ≡ Some (Some b) → (b / 16 ≡ field_word a i / 16) ⊎ (may_lead s (b / 16) (field_card 8 a i) ≡ true)
   pub known : row.region < 4
   pub ordinary : kind_of t row.region ≡ kinds.Ordinary
   pub bound : (marks : List Bool) → row.live_bound ≡ live_bound_of t (bottoms 4 16) marks row.region
@@ -93,10 +93,10 @@ module _ (t : Table) (s : Sets) (row : LiveRow) (u : IsSuited t s row) (h : Laye
     };
     each_card = ap (λ (c : Cards). length c.dirty) f.cards ∙ length-replicate 8 false ∙ sym (ap card_count f.sets_are ∙ (let c = u.cards in let e = u.each in rw (c, e) refl));
     clean = λ card. ap (λ (c : Cards). is_dirty c card) f.cards ∙ none_marked 8 card;
-    remembers = subst (λ (n : ℕ). Remembers n (kept_of h) 8 (is_dirty h.cards) (covers h.sets)) (sym words) (record {
+    remembers = subst (λ (n : ℕ). Remembers n (kept_of h) 8 (is_dirty h.cards) (may_lead h.sets)) (sym words) (record {
       each = λ a i b x. elim (u.remembered a i b x.object (there a x.object x.kept_is) x.field_is) [
         | inl same ↦ absurd (x.leaves same)
-        | inr c ↦ inr (ap (λ (v : Sets). covers v (b / 16) (field_card 8 a i)) f.sets_are ∙ c)
+        | inr c ↦ inr (ap (λ (v : Sets). may_lead v (b / 16) (field_card 8 a i)) f.sets_are ∙ c)
       ];
     });
     each_row = the_row row (IsRow h) (record {
@@ -229,8 +229,8 @@ weak_ordinary = refl
 abbrev pub one_card : Sets
 one_card = added (empty_sets 4 2) 1 0
 
-covered : (a i b : ℕ) → (a ≡ 0) × (i ≡ 0) × (16 ≡ b) → covers one_card (b / 16) (field_card 8 a i) ≡ true
-covered a i b k = subst (λ (n : ℕ). covers one_card (n / 16) (field_card 8 a i) ≡ true) k.2 (rw (k.0, k.1) refl)
+covered : (a i b : ℕ) → (a ≡ 0) × (i ≡ 0) × (16 ≡ b) → may_lead one_card (b / 16) (field_card 8 a i) ≡ true
+covered a i b k = subst (λ (n : ℕ). may_lead one_card (n / 16) (field_card 8 a i) ≡ true) k.2 (rw (k.0, k.1) refl)
 
 pub weak_suited : IsSuited by_weak_slot one_card (record { region = 1; live_bound = 2 })
 weak_suited = record {

@@ -14,7 +14,8 @@ use Rattle.mark_bitmap.specs.Tops.{Tops, below_next}
 use Rattle.mark_bitmap.specs.Kept.{MarksObjects, kept_in}
 use Rattle.mark_bitmap.specs.Live.{live_bound_of}
 use Rattle.cards.specs.Cards.{Cards, is_dirty}
-use Rattle.remembered_sets.specs.Sets.{Sets, card_count, covers, empty_set, set_of}
+use Rattle.heap_words.specs.Bits.{has}
+use Rattle.remembered_sets.specs.Sets.{Sets, card_count, may_lead, empty_set, set_of}
 use Rattle.refinement.specs.Remembering.{Remembers, field_card, field_word}
 use Rattle.refinement.specs.Refining.{SetsFit}
 use Rattle.region_choice.specs.Choice.{live_sum}
@@ -59,7 +60,7 @@ pub record IsRow (h : Layers) (row : LiveRow) : Type 0 where
 abbrev pub AreDistinct : List LiveRow → Type 0
 AreDistinct rows = (i j : ℕ) (row other : LiveRow) → slice_get rows i ≡ Some row → slice_get rows j ≡ Some other → row.region ≡ other.region → i ≡ j
 
--- No card is dirty, so all crossing fields are covered; each root and each field of a kept object is nil or leads to one; and
+-- No card is dirty, so all crossing fields are in cards that may lead where they do; each root and each field of a kept object is nil or leads to one; and
 -- the live objects of the rows' regions find room in the free regions, even if each destination is filled by half
 pub record CanEvacuate (h : Layers) (rows : List LiveRow) (card_words : ℕ) : Type 0 where
   pub unmoved : HasNoForwarded h.table
@@ -70,7 +71,7 @@ pub record CanEvacuate (h : Layers) (rows : List LiveRow) (card_words : ℕ) : T
   pub fit : SetsFit h.table card_words h.sets
   pub each_card : length h.cards.dirty ≡ card_count h.sets
   pub clean : (card : ℕ) → is_dirty h.cards card ≡ false
-  pub remembers : Remembers h.table.words_per_region (kept_of h) card_words (is_dirty h.cards) (covers h.sets)
+  pub remembers : Remembers h.table.words_per_region (kept_of h) card_words (is_dirty h.cards) (may_lead h.sets)
   pub each_row : All (IsRow h) rows
   pub distinct : AreDistinct rows
   pub room : 2 * live_sum rows ≤ free_count h.table * h.table.words_per_region
@@ -157,7 +158,7 @@ pub record HasEvacuated (rows : List LiveRow) (card_words words : ℕ) (h h' : L
   pub next : MarksAfter h.table.words_per_region rows h.tams.next h'.tams.next h.next h'.next
   pub previous_stands : MarksObjects h'.table h'.tams.previous h'.previous
   pub next_stands : MarksObjects h'.table h'.tams.next h'.next
-  pub remembers : Remembers h'.table.words_per_region (kept_of h') card_words (is_dirty h'.cards) (covers h'.sets)
+  pub remembers : Remembers h'.table.words_per_region (kept_of h') card_words (is_dirty h'.cards) (may_lead h'.sets)
   pub fit : SetsFit h'.table card_words h'.sets
   pub each_card : length h'.cards.dirty ≡ card_count h'.sets
   pub logs : h'.cards.logs ≡ h.cards.logs
@@ -167,3 +168,5 @@ pub record HasEvacuated (rows : List LiveRow) (card_words words : ℕ) (h h' : L
   pub dirty : (card : ℕ) → is_dirty h'.cards card ≡ true → IsNewCrossing h h' card_words card
   pub cleared : (k : ℕ) → is_chosen rows k ≡ true → set_of h'.sets k ≡ empty_set (length h.sets.sets)
   pub sets_same : (k : ℕ) → is_chosen rows k ≡ false → set_of h'.sets k ≡ set_of h.sets k
+  -- no card of a chosen region has entered a set, and the other cards have as they had
+  pub entered : (card : ℕ) → has h'.sets.entered card ≡ (if is_chosen rows (card / h.sets.cards_per_region) then false else has h.sets.entered card)

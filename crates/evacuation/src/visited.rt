@@ -1,9 +1,9 @@
-//! The cards that a pause visits: those that the remembered sets of the chosen regions cover, but for cards of regions that
-//! are free. Copies come there, and a copy's fields are settled where it stands.
+//! The cards that a pause visits: those in which a field may lead into a chosen region, as the remembered sets tell, but for cards of regions
+//! that are free. Copies come there, and a copy's fields are settled where it stands.
 
 ghost use Rattle.std.specs.Prelude.{◌≡◌, ◌≢◌, ◌<◌, ◌≤◌, ◌*◌, ◌/◌, ℕ, All, true, false, length};
 ghost use Rattle.std.specs.List.{list_any};
-ghost use Rattle.remembered_sets.specs.Sets.{card_count, covers};
+ghost use Rattle.remembered_sets.specs.Sets.{card_count, may_lead};
 ghost use Rattle.regions.specs.Table.{kind_of};
 ghost use Rattle.regions.specs.declared.row.Kind.TheVariants as kinds;
 ghost use Rattle.refinement.specs.Refining.{SetsFit};
@@ -16,11 +16,11 @@ use region_choice::LiveRow;
 use regions::{Kind, RegionTable};
 use remembered_sets::RememberedSets;
 
-/// Flags the cards that the rows' regions cover, and no others.
+/// Flags the cards in which a field may lead into the rows' regions, and no others.
 fn flag_covered(visited: &mut BoundedBits, sets: &RememberedSets, rows: &[LiveRow])
     requires rows { All (λ row. row.region < length sets.now.sets) rows.now }
     requires cards { length visited.old ≡ card_count sets.now }
-    ensures flags { (card : ℕ) → flag visited.new card ≡ list_any (λ row. covers sets.now row.region card) rows.now }
+    ensures flags { (card : ℕ) → flag visited.new card ≡ list_any (λ row. may_lead sets.now row.region card) rows.now }
     ensures len { length visited.new ≡ length visited.old }
 {
     visited.clear();
@@ -60,7 +60,7 @@ fn clear_free(visited: &mut BoundedBits, table: &RegionTable, cards_per_region: 
     }
 }
 
-/// Flags the cards of regions in use that the rows' regions cover, and no others.
+/// Flags the cards of regions in use in which a field may lead into the rows' regions, and no others.
 pub(crate) fn flag_visited(
     visited: &mut BoundedBits,
     table: &RegionTable,
@@ -72,7 +72,7 @@ pub(crate) fn flag_visited(
     requires cards { length visited.old ≡ card_count sets.now }
     requires fit { SetsFit table.now card_words sets.now }
     ensures flags { (card : ℕ) → kind_of table.now (card * card_words / table.now.words_per_region) ≢ kinds.Free
-        → flag visited.new card ≡ list_any (λ row. covers sets.now row.region card) rows.now }
+        → flag visited.new card ≡ list_any (λ row. may_lead sets.now row.region card) rows.now }
     ensures free { (card : ℕ) → kind_of table.now (card * card_words / table.now.words_per_region) ≡ kinds.Free
         → flag visited.new card ≡ false }
     ensures len { length visited.new ≡ length visited.old }

@@ -1,13 +1,14 @@
 -- What is covered once a card was added to the sets of some regions.
-use Rattle.std.proofs.Common.{inl, inr, ◌≡◌, ◌⊎◌, ℕ, ◌/◌, ◌<◌, true, Option, Some, None, List, [], ◌∷◌, ◌++◌, length, All, ⊎_elim, refl, sym, ap, subst, ◌∙◌, length-set}
+use Rattle.std.proofs.Common.{inl, inr, ◌≡◌, ◌⊎◌, ℕ, ◌/◌, ◌<◌, true, false, Option, Some, None, List, [], ◌∷◌, ◌++◌, length, All, ⊎_elim, refl, sym, ap, subst, ◌∙◌, length-set}
 use Rattle.std.specs.Prelude.{slice_get, slice_set, nat_lt, Bool, if◌then◌else◌}
 use Rattle.std.proofs.lemmas.Bool.{cases_eq}
 use Rattle.std.proofs.lemmas.List.{set-get_or}
 use Rattle.std.proofs.lemmas.Bool.Decides.{eqb_tells}
 use Rattle.std.proofs.lemmas.List.Elements.{All-nil, All-cons, All-head, All-tail, All-append}
 use Rattle.heap_model.specs.Heap.{Stored, fields}
-use Rattle.remembered_sets.specs.Sets.{Sets, CardSet, empty_set, added, covers, set_of, set_covers, set_with}
-use Rattle.remembered_sets.proofs.Laws.{covers_grows, covers_only, added_other}
+use Rattle.heap_words.specs.Bits.{has}
+use Rattle.remembered_sets.specs.Sets.{Sets, CardSet, empty_set, added, covers, may_lead, set_of, set_covers, set_with}
+use Rattle.remembered_sets.proofs.Laws.{covers_grows, covers_only, added_other, leads_grow, left_true, right_true}
 use Rattle.refinement.specs.Remembering.{IsCrossing, LeadsInto, LeadsInside, Gains, field_word, field_card}
 use Rattle.refinement.specs.Refining.{added_to, AddsCard, with_field}
 
@@ -60,6 +61,14 @@ all_grows words kept len card (x ∷ xs) s r c inside asked was =
     let inside' = subst (λ (n : ℕ). LeadsInside words n kept) (sym (added_sets s x card)) inside in
     all_grows words kept len card xs (added s x card) r c inside' (All-tail (LeadsInto words kept len card) x xs asked) (covers_grows s x card r c known was)
 
+all_lead : (words : ℕ) (kept : ℕ → Option Stored) (len card : ℕ) (regions : List ℕ) (s : Sets) (r c : ℕ) → LeadsInside words (length s.sets) kept
+    → All (LeadsInto words kept len card) regions → may_lead s r c ≡ true → may_lead (added_to regions card s) r c ≡ true
+all_lead words kept len card [] s r c inside asked was = was
+all_lead words kept len card (x ∷ xs) s r c inside asked was =
+    let known = leads_known words (length s.sets) kept len card x inside (All-head (LeadsInto words kept len card) x xs asked) in
+    let inside' = subst (λ (n : ℕ). LeadsInside words n kept) (sym (added_sets s x card)) inside in
+    all_lead words kept len card xs (added s x card) r c inside' (All-tail (LeadsInto words kept len card) x xs asked) (leads_grow s x card r c known was)
+
 -- what a card newly covers in region r
 abbrev pub IsNew : ℕ → (ℕ → Option Stored) → ℕ → ℕ → Sets → ℕ → ℕ → Type 0
 IsNew words kept len card s r c = LeadsInto words kept len card r × (c / s.cards_per_region ≡ card / s.cards_per_region)
@@ -90,6 +99,11 @@ pub adds_grows : (words : ℕ) (kept : ℕ → Option Stored) (len card : ℕ) (
 adds_grows words kept len card old new inside a r c was =
     ap (λ (s : Sets). covers s r c) a.new_is ∙ all_grows words kept len card a.regions old r c inside a.asked was
 
+pub adds_lead : (words : ℕ) (kept : ℕ → Option Stored) (len card : ℕ) (old new : Sets) → LeadsInside words (length old.sets) kept
+    → AddsCard words kept len card old new → (r c : ℕ) → may_lead old r c ≡ true → may_lead new r c ≡ true
+adds_lead words kept len card old new inside a r c was =
+    ap (λ (s : Sets). may_lead s r c) a.new_is ∙ all_lead words kept len card a.regions old r c inside a.asked was
+
 pub adds_gains : (words : ℕ) (kept : ℕ → Option Stored) (len card : ℕ) (old new : Sets) → LeadsInside words (length old.sets) kept → AddsCard words kept len card old new → Gains words kept len old.cards_per_region card (covers old) (covers new)
 adds_gains words kept len card old new inside a = record {
   stays = adds_grows words kept len card old new inside a;
@@ -111,20 +125,25 @@ field_adds words kept len card a i o (Some v) s u k f c e =
           subst (λ (x : Sets). AddsCard words kept len card s x) (sym more) (adds_one words kept len card (v / words) s (record { at = a; index = i; target = v; crossing = crossing; in_card = c; into = refl }))
     ]
 
-pub field_grows : (words card word n : ℕ) (target : Option ℕ) (s u : Sets) → ((v : ℕ) → target ≡ Some v → v / words < length s.sets) → u ≡ with_field words card word target s → (r c : ℕ) → covers s r c ≡ true → covers u r c ≡ true
-field_grows words card word n None s u known e r c was = ap (λ (v : Sets). covers v r c) e ∙ was
+pub field_grows : (words card word n : ℕ) (target : Option ℕ) (s u : Sets) → ((v : ℕ) → target ≡ Some v → v / words < length s.sets) → u ≡ with_field words card word target s → (r c : ℕ) → may_lead s r c ≡ true → may_lead u r c ≡ true
+field_grows words card word n None s u known e r c was = ap (λ (v : Sets). may_lead v r c) e ∙ was
 field_grows words card word n (Some v) s u known e r c was =
     elim (eqb_tells (v / words) (word / words)) [
-      | inl q ↦ ap (λ (x : Sets). covers x r c) (e ∙ ap (λ b. if b then s else added s (v / words) card) q.0) ∙ was
-      | inr q ↦ ap (λ (x : Sets). covers x r c) (e ∙ ap (λ b. if b then s else added s (v / words) card) q.0) ∙ covers_grows s (v / words) card r c (known v refl) was
+      | inl q ↦ ap (λ (x : Sets). may_lead x r c) (e ∙ ap (λ b. if b then s else added s (v / words) card) q.0) ∙ was
+      | inr q ↦ ap (λ (x : Sets). may_lead x r c) (e ∙ ap (λ b. if b then s else added s (v / words) card) q.0) ∙ leads_grow s (v / words) card r c (known v refl) was
     ]
 
--- a card that is covered already changes nothing
-pub added_covered : (s : Sets) (region card : ℕ) → covers s region card ≡ true → added s region card ≡ s
+-- a card that the set covers, and that entered one, changes nothing
+pub added_covered : (s : Sets) (region card : ℕ) → may_lead s region card ≡ true → added s region card ≡ s
 added_covered s region card e =
     let set : CardSet = set_of s region in
+    let covered : covers s region card ≡ true = left_true (covers s region card) (has s.entered card) e in
+    let is_in : has s.entered card ≡ true = right_true (covers s region card) (has s.entered card) e in
     let same : set_with set card (card / s.cards_per_region) ≡ set =
-    ap (λ (b : Bool). if b then set else if nat_lt (length set.inline) 16 then record { inline = set.inline ++ card ∷ []; sources = set.sources } else record { inline = set.inline; sources = slice_set set.sources (card / s.cards_per_region) true }) e in
+    ap (λ (b : Bool). if b then set else if nat_lt (length set.inline) 16 then record { inline = set.inline ++ card ∷ []; sources = set.sources } else record { inline = set.inline; sources = slice_set set.sources (card / s.cards_per_region) true }) covered in
     let sets : slice_set s.sets region (set_with set card (card / s.cards_per_region)) ≡ s.sets =
     ap (λ (x : CardSet). slice_set s.sets region x) same ∙ set-get_or s.sets region (empty_set 0) in
-    ap (λ (ss : List CardSet). record { sets = ss; cards_per_region = s.cards_per_region }) sets
+    let entered : slice_set s.entered card true ≡ s.entered =
+    ap (λ (b : Bool). slice_set s.entered card b) (sym is_in) ∙ set-get_or s.entered card false in
+    ap (λ (ss : List CardSet). record { sets = ss; cards_per_region = s.cards_per_region; entered = slice_set s.entered card true }) sets
+    ∙ ap (λ (flags : List Bool). record { sets = s.sets; cards_per_region = s.cards_per_region; entered = flags }) entered

@@ -3,24 +3,25 @@ use Rattle.std.proofs.Common.{inl, inr, ◌≡◌, ◌≢◌, ℕ, ◌+◌, ◌-
 use Rattle.std.specs.Prelude.{slice_get}
 use Rattle.std.proofs.lemmas.Bool.{cases_lt}
 use Rattle.std.proofs.lemmas.Option.{slice_get_within, slice_get-get_or}
+use Rattle.std.proofs.Math.Nat.{mul-div-mul_right}
 use Rattle.heap_model.specs.Heap.{Stored, fields}
 use Rattle.regions.specs.Table.{Table, object_at, fields_at}
-use Rattle.remembered_sets.specs.Sets.{Sets, covers, card_count}
+use Rattle.remembered_sets.specs.Sets.{Sets, may_lead, card_count}
 use Rattle.refinement.specs.Remembering.{field_word, field_card, IsCrossing}
 use Rattle.refinement.specs.Refining.{AddsCard, IsScanned, FieldsInside, SetsFit, with_field}
-use Rattle.regions.proofs.Words.Divides.{card_within, div_is, div_low, div_high}
+use Rattle.regions.proofs.Words.Divides.{card_has_words, card_region, card_within, div_is, div_low, div_high}
 use Rattle.refinement.proofs.Entered.{adds_more, adds_sets, field_adds, field_grows}
 use Rattle.refinement.proofs.Holders.{field_at, fields_of}
 
 -- the fields of an object from one on up to another are done
 pub record IsPartly (words : ℕ) (kept : ℕ → Option Stored) (len card at start field : ℕ) (old new : Sets) : Type 0 where
   pub adds : AddsCard words kept len card old new
-  pub done : (i v : ℕ) → start ≤ i → i < field → IsCrossing words kept at i v → covers new (v / words) card ≡ true
+  pub done : (i v : ℕ) → start ≤ i → i < field → IsCrossing words kept at i v → may_lead new (v / words) card ≡ true
 
 pub partly_next : (t : Table) (kept : ℕ → Option Stored) (len card at start field next : ℕ) (old mid new : Sets) → kept at ≡ object_at t at → FieldsInside t at → length mid.sets ≡ length t.regions
     → field < length (fields_at t at) → field_card len at field ≡ card → next ≡ field + 1
     → ((target : Option ℕ) → slice_get (fields_at t at) field ≡ Some target → new ≡ with_field t.words_per_region card (field_word at field) target mid)
-    → ((target : ℕ) → slice_get (fields_at t at) field ≡ Some (Some target) → target / t.words_per_region ≢ field_word at field / t.words_per_region → covers new (target / t.words_per_region) card ≡ true)
+    → ((target : ℕ) → slice_get (fields_at t at) field ≡ Some (Some target) → target / t.words_per_region ≢ field_word at field / t.words_per_region → may_lead new (target / t.words_per_region) card ≡ true)
     → IsPartly t.words_per_region kept len card at start field old mid → IsPartly t.words_per_region kept len card at start next old new
 partly_next t kept len card at start field next old mid new same inside count known in_card n after covered p =
     let f = field_at t at field known in
@@ -44,6 +45,12 @@ partly_next t kept len card at start field next old mid new same inside count kn
             covered v now (subst (λ (j : ℕ). v / t.words_per_region ≢ field_word at j / t.words_per_region) e x.leaves)
       ];
     }
+
+-- the region of a word's card is the word's
+pub region_of_card : (words len cards w : ℕ) → 0 < words → words ≡ cards * len → w / len / cards ≡ w / words
+region_of_card words len cards w z e =
+    let some : 0 < len = card_has_words len words cards z e in
+    sym (mul-div-mul_right (w / len) cards some) ∙ ap (λ (n : ℕ). w / len * len / n) (sym e) ∙ sym (card_region w len words cards (w / len) z e refl)
 
 -- the fields from start up to end are those in the card
 pub record AreInCard (len card at count start end : ℕ) : Type 0 where

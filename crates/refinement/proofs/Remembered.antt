@@ -79,10 +79,12 @@ remembers_set words len at index value kept kept' dirty dirty' covered s n g =
         (cases_eq i index)
 
 pub remembers_cleared : (words len region : ℕ) (kept kept' : ℕ → Option Stored) (dirty : ℕ → Bool) (covered covered' : ℕ → ℕ → Bool)
-    → KeepsFields kept kept' → NoneLeadsInto words kept' region → ((r c : ℕ) → r ≢ region → covered r c ≡ true → covered' r c ≡ true)
+    → KeepsFields kept kept' → NoneLeadsInto words kept' region
+    → ((a i v : ℕ) → IsCrossing words kept' a i v → v / words ≢ region → covered (v / words) (field_card len a i) ≡ true → covered' (v / words) (field_card len a i) ≡ true)
     → Remembers words kept len dirty covered → Remembers words kept' len dirty covered'
-remembers_cleared words len region kept kept' dirty covered covered' f none g =
-    remembers_on words len kept kept' dirty dirty covered covered' (λ a i v x. inl (crossing_kept words kept kept' a i v f x)) (λ c d. d) (λ a i v c x d. g (v / words) c (none a i v x) d)
+remembers_cleared words len region kept kept' dirty covered covered' f none g r = record {
+  each = λ a i v x. ⊎_elim (λ d. inl d) (λ c. inr (g a i v x (none a i v x) c)) (r.each a i v (crossing_kept words kept kept' a i v f x));
+}
 
 -- ---- what keeps the fields of what is kept
 pub keeps_same : (kept kept' : ℕ → Option Stored) → ((a : ℕ) → kept' a ≡ kept a) → KeepsFields kept kept'

@@ -5,7 +5,7 @@ use Rattle.regions.specs.Table.{Table, fields_at}
 use Rattle.mark_bitmap.specs.Tops.{Tops}
 use Rattle.mark_bitmap.specs.Kept.{kept_in}
 use Rattle.cards.specs.Cards.{Cards}
-use Rattle.remembered_sets.specs.Sets.{Sets, added, covers}
+use Rattle.remembered_sets.specs.Sets.{Sets, added, may_lead}
 use Rattle.refinement.specs.Remembering.{field_card, IsCrossing, LeadsInto, IsCovered, LeadsInside}
 
 -- a region is a whole number of cards, and has a remembered set
@@ -42,7 +42,7 @@ pub record IsRefined (words : ℕ) (kept : ℕ → Option Stored) (card_words : 
   pub card : ℕ
   pub taken : IsTaken card cards cards'
   pub adds : AddsCard words kept card_words card sets sets'
-  pub covered : IsCovered words kept card_words card (covers sets')
+  pub covered : IsCovered words kept card_words card (may_lead sets')
 
 -- what is done where there was a card in the queue, and that nothing is where there was none
 abbrev pub Refines : Bool → ℕ → (ℕ → Option Stored) → ℕ → Cards → Cards → Sets → Sets → Type 0
@@ -71,4 +71,4 @@ with_field words card word (Some target) sets = if target / words == word / word
 -- once the fields of an object that lie in the card were looked at
 pub record IsScanned (words : ℕ) (kept : ℕ → Option Stored) (card_words card at : ℕ) (old new : Sets) : Type 0 where
   pub adds : AddsCard words kept card_words card old new
-  pub covered : IsObjectCovered words kept card_words card (covers new) at
+  pub covered : IsObjectCovered words kept card_words card (may_lead new) at

@@ -17,7 +17,7 @@ ghost use Rattle.heap_model.specs.Weak.{cleared_after};
 ghost use Rattle.regions.specs.Table.{Table};
 ghost use Rattle.mark_bitmap.specs.Tops.{Tops, is_in_region};
 ghost use Rattle.mark_bitmap.specs.Kept.{heap_in, kept_in};
-ghost use Rattle.remembered_sets.specs.Sets.{Sets, covers};
+ghost use Rattle.remembered_sets.specs.Sets.{Sets, covers, may_lead};
 ghost use Rattle.refinement.specs.Remembering.{field_card, field_word, AddsNil, ClearsFields, Gains, IsCrossing, IsNoted, KeepsFields, LeadsInside, NoneLeadsInto, Remembers, SetsField};
 ghost use Rattle.refinement.specs.Refining.{AddsCard};
 
@@ -80,7 +80,8 @@ pub fn clean_law()
 pub fn release_law()
     ensures cleared { (words card_words region : ℕ) (kept kept' : ℕ → Option Stored) (dirty : ℕ → Bool) (covered covered' : ℕ → ℕ → Bool)
         → KeepsFields kept kept' → NoneLeadsInto words kept' region
-        → ((r card : ℕ) → r ≢ region → covered r card ≡ true → covered' r card ≡ true)
+        → ((at index target : ℕ) → IsCrossing words kept' at index target → target / words ≢ region
+        → covered (target / words) (field_card card_words at index) ≡ true → covered' (target / words) (field_card card_words at index) ≡ true)
         → Remembers words kept card_words dirty covered → Remembers words kept' card_words dirty covered' }
     ensures empty { (words region : ℕ) (h : Heap)
         → 0 < words → IsClosed h → ((a : ℕ) → is_in_region words region a ≡ true → h.kept a ≡ None) → NoneLeadsInto words h.kept region }
@@ -92,9 +93,13 @@ pub fn inside_law()
         → IsClosed (heap_in t tops previous roots) → LeadsInside t.words_per_region (length t.regions) (kept_in t tops previous) }
 {}
 
-/// What adding a card covers: what was covered, and else only cards of its own region, in the sets that were asked for.
+/// What adding a card covers: what was covered, and else only cards of its own region, in the sets that were asked for. Cards in which a
+/// field may lead into a region are such cards still.
 pub fn gains_law()
-    ensures { (words card_words card : ℕ) (kept : ℕ → Option Stored) (old new : Sets)
+    ensures gains { (words card_words card : ℕ) (kept : ℕ → Option Stored) (old new : Sets)
         → LeadsInside words (length old.sets) kept → AddsCard words kept card_words card old new
         → Gains words kept card_words old.cards_per_region card (covers old) (covers new) }
+    ensures leads { (words card_words card : ℕ) (kept : ℕ → Option Stored) (old new : Sets) (region c : ℕ)
+        → LeadsInside words (length old.sets) kept → AddsCard words kept card_words card old new
+        → may_lead old region c ≡ true → may_lead new region c ≡ true }
 {}

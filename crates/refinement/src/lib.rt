@@ -3,7 +3,7 @@
 //!
 //! A card is a row of words, and a region is a whole number of cards. A field is crossing if it is one of a kept object
 //! and leads into another region than the field's word lies in. Crossing fields are remembered: the card of each is
-//! dirty, or the region that it leads into covers the card.
+//! dirty, or the set of the region that it leads into covers the card, and the card has entered a set.
 //!
 //! ```text
 //!             region 0               region 1        region 2

@@ -3,7 +3,7 @@
 ghost use Rattle.std.specs.Prelude.{◌≡◌, ◌↔◌, [], IsTrue, length};
 ghost use Rattle.mark_bitmap.specs.Kept.{kept_in};
 ghost use Rattle.cards.specs.Cards.{is_dirty};
-ghost use Rattle.remembered_sets.specs.Sets.{card_count, covers};
+ghost use Rattle.remembered_sets.specs.Sets.{card_count, may_lead};
 ghost use Rattle.refinement.specs.Remembering.{Remembers};
 ghost use Rattle.refinement.specs.Refining.{CanScan, Refines};
 
@@ -27,8 +27,8 @@ pub fn refine_one(
     requires stands { CanScan table.now tams.now marks.now card_words sets.old }
     requires cards { length cards.old.dirty ≡ card_count sets.old }
     ensures refines { Refines result table.now.words_per_region (kept_in table.now tams.now marks.now) card_words cards.old cards.new sets.old sets.new }
-    ensures remembers { Remembers table.now.words_per_region (kept_in table.now tams.now marks.now) card_words (is_dirty cards.old) (covers sets.old)
-        → Remembers table.now.words_per_region (kept_in table.now tams.now marks.now) card_words (is_dirty cards.new) (covers sets.new) }
+    ensures remembers { Remembers table.now.words_per_region (kept_in table.now tams.now marks.now) card_words (is_dirty cards.old) (may_lead sets.old)
+        → Remembers table.now.words_per_region (kept_in table.now tams.now marks.now) card_words (is_dirty cards.new) (may_lead sets.new) }
     ensures stands { CanScan table.now tams.now marks.now card_words sets.new }
     ensures cards { length cards.new.dirty ≡ card_count sets.new }
 {

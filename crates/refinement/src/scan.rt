@@ -16,7 +16,7 @@ ghost use Rattle.heap_model.specs.Heap.{Stored};
 ghost use Rattle.regions.specs.Table.{object_at, fields_at};
 ghost use Rattle.regions.specs.Walks.{IsHolder, IsPlacedTile};
 ghost use Rattle.mark_bitmap.specs.Kept.{kept_in};
-ghost use Rattle.remembered_sets.specs.Sets.{card_count, covers};
+ghost use Rattle.remembered_sets.specs.Sets.{card_count, covers, may_lead};
 ghost use Rattle.refinement.specs.Remembering.{field_word, Gains, IsCovered};
 ghost use Rattle.refinement.specs.Refining.{with_field, AddsCard, AreObjectsCovered, CanScan, IsScanned, FieldsInside, SetsFit};
 
@@ -69,12 +69,12 @@ fn scan_field(
     requires inside { FieldsInside table.now object }
     requires regions { length sets.old.sets ≡ length table.now.regions }
     requires card { card < card_count sets.old }
-    requires last { (region : ℕ) → last ≡ Some region → covers sets.old region card ≡ true }
+    requires last { (region : ℕ) → last ≡ Some region → may_lead sets.old region card ≡ true }
     ensures after { (target : Option ℕ) → slice_get (fields_at table.now object) field ≡ Some target
         → sets.new ≡ with_field table.now.words_per_region card (field_word object field) target sets.old }
     ensures covered { (target : ℕ) → slice_get (fields_at table.now object) field ≡ Some (Some target)
-        → target / table.now.words_per_region ≢ field_word object field / table.now.words_per_region → covers sets.new (target / table.now.words_per_region) card ≡ true }
-    ensures last { (region : ℕ) → result ≡ Some region → covers sets.new region card ≡ true }
+        → target / table.now.words_per_region ≢ field_word object field / table.now.words_per_region → may_lead sets.new (target / table.now.words_per_region) card ≡ true }
+    ensures last { (region : ℕ) → result ≡ Some region → may_lead sets.new region card ≡ true }
 {
     table.law();
     let home = object.field(field) as u32;
@@ -105,10 +105,10 @@ fn scan_object(
     requires inside { FieldsInside table.now object }
     requires fit { SetsFit table.now card_words sets.old }
     requires card { card < card_count sets.old }
-    requires last { (region : ℕ) → before ≡ Some region → covers sets.old region card ≡ true }
+    requires last { (region : ℕ) → before ≡ Some region → may_lead sets.old region card ≡ true }
     ensures scanned { (kept : ℕ → Option Stored) → kept object ≡ object_at table.now object
         → IsScanned table.now.words_per_region kept card_words card object sets.old sets.new }
-    ensures last { (region : ℕ) → result ≡ Some region → covers sets.new region card ≡ true }
+    ensures last { (region : ℕ) → result ≡ Some region → may_lead sets.new region card ≡ true }
 {
     table.law();
     let first = object.word() + 2;
@@ -140,7 +140,7 @@ fn scan_tiles(
     requires holder { IsHolder table.now first (card * card_words) }
     ensures looked { result ≤ card_words }
     ensures adds { AddsCard table.now.words_per_region (kept_in table.now tams.now marks.now) card_words card sets.old sets.new }
-    ensures covered { AreObjectsCovered table.now (kept_in table.now tams.now marks.now) card_words card (covers sets.new) first }
+    ensures covered { AreObjectsCovered table.now (kept_in table.now tams.now marks.now) card_words card (may_lead sets.new) first }
 {
     table.law();
     let end = card.number() * card_words + card_words;
@@ -172,9 +172,10 @@ pub fn scan_card(
     requires stands { CanScan table.now tams.now marks.now card_words sets.old }
     requires card { card < card_count sets.old }
     ensures looked { result ≤ card_words }
-    ensures covered { IsCovered table.now.words_per_region (kept_in table.now tams.now marks.now) card_words card (covers sets.new) }
+    ensures covered { IsCovered table.now.words_per_region (kept_in table.now tams.now marks.now) card_words card (may_lead sets.new) }
     ensures adds { AddsCard table.now.words_per_region (kept_in table.now tams.now marks.now) card_words card sets.old sets.new }
     ensures gains { Gains table.now.words_per_region (kept_in table.now tams.now marks.now) card_words sets.old.cards_per_region card (covers sets.old) (covers sets.new) }
+    ensures leads { (region c : ℕ) → may_lead sets.old region c ≡ true → may_lead sets.new region c ≡ true }
     ensures stands { CanScan table.now tams.now marks.now card_words sets.new }
     ensures count { card_count sets.new ≡ card_count sets.old }
 {

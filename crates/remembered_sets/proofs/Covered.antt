@@ -64,7 +64,7 @@ inline_only s card c k h =
     (or_cases (list_any (λ x. eqb x c) (s.inline ++ card ∷ [])) source h)
 
 -- ---- a region marked whole
-marks_grow : (flags : List Bool) (i k : ℕ) → get_or flags k false ≡ true → get_or (set flags i true) k false ≡ true
+pub marks_grow : (flags : List Bool) (i k : ℕ) → get_or flags k false ≡ true → get_or (set flags i true) k false ≡ true
 marks_grow flags i k e =
     let inside : k < length flags = ⊎_elim (λ h. h) (λ h. absurd (false≢true (sym (get_or_past flags k false h) ∙ e))) (cases_lt k (length flags)) in
     ⊎_elim

@@ -1,12 +1,19 @@
 -- What the sets of all regions cover, as cards are added and sets are emptied.
-use Rattle.std.proofs.Common.{inl, inr, ◌≡◌, ◌≢◌, ◌⊎◌, ℕ, ◌*◌, ◌/◌, ◌<◌, true, false, List, [], ◌∷◌, length, set, All, replicate, subst, ⊎_elim, sym, ap, ◌∙◌, arith, get_or-set_same, get_or-set_other, length-set}
-use Rattle.std.proofs.Math.Nat.{lt_of_mul-lt-mul_right}
-use Rattle.std.proofs.lemmas.Bool.{cases_eq}
-use Rattle.std.proofs.lemmas.List.Elements.{All-head, All-tail, All-set, All-replicate}
-use Rattle.std.proofs.lemmas.List.{length-replicate}
-use Rattle.remembered_sets.specs.Sets.{Sets, CardSet, set_of, set_with, set_covers, empty_set, empty_sets, covers, added, cleared, card_count, IsSet, AreSets, Change, changed, after_all, LeavesSet}
+use Rattle.std.proofs.Common.{inl, inr, ◌≡◌, ◌≢◌, ◌⊎◌, ℕ, ◌+◌, ◌-◌, ◌*◌, ◌/◌, ◌%◌, ◌<◌, ◌≤◌, Bool, true, false, eqb, if◌then◌else◌, refl, sym, subst, ap, ◌∙◌, ⊎_elim, arith}
+use Rattle.std.proofs.Common.{List, [], ◌∷◌, length, set, All, get_or-set_same, get_or-set_other, length-set}
+use Rattle.std.specs.Prelude.{◌&&◌}
+use Rattle.std.proofs.Math.Nat.{lt_of_mul-lt-mul_right, lt_irrefl}
+use Rattle.std.proofs.lemmas.Nat.{div-mul-add}
+use Rattle.std.proofs.lemmas.Bool.{cases_eq, cases_lt, eq-eqb, ne_eqb, false≢true}
+use Rattle.std.proofs.lemmas.List.Elements.{All-head, All-tail, All-set}
+use Rattle.std.proofs.lemmas.List.{get_or_past}
+use Rattle.std.proofs.lemmas.List.FromFn.{fill_by_all, length-map-range_with_len, get_or-map-range_with_len}
+use Rattle.heap_words.specs.Bits.{has, is_between}
+use Rattle.heap_words.proofs.BitRanges.{between_yes, between_no_below, between_no_above}
+use Rattle.remembered_sets.specs.Sets.{Sets, CardSet, set_of, set_with, set_covers, empty_set, covers, may_lead, added, cleared}
+use Rattle.remembered_sets.specs.Sets.{without_region, card_count, IsSet, AreSets, Change, changed, after_all, LeavesSet}
 use Rattle.remembered_sets.specs.Sets.Change.{Add, Clear}
-use Rattle.remembered_sets.proofs.Covered.{set_grows, set_covers-with, set_only, set_only_card, empty_covers, IsSet-with, IsSet-empty}
+use Rattle.remembered_sets.proofs.Covered.{marks_grow, set_grows, set_covers-with, set_only, set_only_card, empty_covers, IsSet-with, IsSet-empty}
 
 -- a card lies in one of the regions
 pub source_known : (card w n : ℕ) → 0 < w → card < n * w → card / w < n
@@ -18,20 +25,102 @@ source_marked : (s : Sets) (region card : ℕ) → AreSets s → region < length
 source_marked s region card shaped known h =
     omega (arith, source_known card s.cards_per_region (length s.sets) shaped.some_cards h, (shaped.each region (empty_set 0) known).marks)
 
--- ---- what all sets are
-all_sets : (l : List CardSet) (w n : ℕ) → length l ≡ n → 0 < w → All (IsSet n (n * w)) l → AreSets (record { sets = l; cards_per_region = w })
-all_sets l w n e some h = record { some_cards = some; each = subst (λ m. All (IsSet m (m * w)) l) (sym e) h }
+-- ---- the cards that entered a set
+pub length-without : (w region : ℕ) (flags : List Bool) → length (without_region w region flags) ≡ length flags
+length-without w region flags = length-map-range_with_len (λ card. if eqb (card / w) region then false else has flags card) 0 (length flags)
 
-with_set : (s : Sets) (region : ℕ) (new : CardSet) → AreSets s → IsSet (length s.sets) (card_count s) new → AreSets (record { sets = set s.sets region new; cards_per_region = s.cards_per_region })
-with_set s region new all h =
-    all_sets (set s.sets region new) s.cards_per_region (length s.sets) (length-set s.sets region new) all.some_cards (All-set (IsSet (length s.sets) (card_count s)) s.sets region new h all.each)
+pub has-without : (w region : ℕ) (flags : List Bool) (card : ℕ)
+    → has (without_region w region flags) card ≡ (if eqb (card / w) region then false else has flags card)
+has-without w region flags card = elim (cases_lt card (length flags)) [
+  | inl below ↦ get_or-map-range_with_len (λ c. if eqb (c / w) region then false else has flags c) 0 (length flags) card card false below (omega arith)
+  | inr past ↦
+      get_or_past (without_region w region flags) card false (omega (arith, past, length-without w region flags))
+      ∙ sym (elim (eqb (card / w) region) as (λ b. (if b then false else has flags card) ≡ false) [ true ↦ refl | false ↦ get_or_past flags card false past ])
+]
+
+-- a card lies in the region where it is between the region's first card and the next region's
+pub in_region_is : (w region card : ℕ) → 0 < w → is_between (region * w) (region * w + w) card ≡ eqb (card / w) region
+in_region_is w region card some = elim (cases_lt card (region * w)) [
+  | inl low ↦
+      let ne : card / w ≢ region = λ e. lt_irrefl card (omega (arith, low, starts e)) in
+      between_no_below (region * w) (region * w + w) card low ∙ sym (ne_eqb (card / w) region ne)
+  | inr from ↦ elim (cases_lt card (region * w + w)) [
+    | inl below ↦ between_yes (region * w) (region * w + w) card from below ∙ sym (eq-eqb (card / w) region (row_is from below))
+    | inr past ↦
+        let ne : card / w ≢ region = λ e. lt_irrefl card (omega (arith, past, ends e)) in
+        between_no_above (region * w) (region * w + w) card past ∙ sym (ne_eqb (card / w) region ne)
+  ]
+]
+  where
+    starts : card / w ≡ region → region * w ≤ card
+    starts e =
+        let f : card / w * w + card % w ≡ card = omega arith in
+        let r : card / w * w ≤ card = omega arith in
+        subst (λ (k : ℕ). k * w ≤ card) e r
+
+    ends : card / w ≡ region → card < region * w + w
+    ends e =
+        let f : card / w * w + card % w ≡ card = omega arith in
+        let r : card < card / w * w + w = omega arith in
+        subst (λ (k : ℕ). card < k * w + w) e r
+
+    row_is : region * w ≤ card → card < region * w + w → card / w ≡ region
+    row_is low high =
+        let e : region * w + (card - region * w) ≡ card = omega arith in
+        ap (λ (x : ℕ). x / w) (sym e) ∙ div-mul-add region w (card - region * w) (omega arith)
+
+-- flags that agree are the ones without the region's
+pub without_is : (w region : ℕ) (flags after : List Bool) → length after ≡ length flags
+    → ((card : ℕ) → has after card ≡ (if eqb (card / w) region then false else has flags card)) → after ≡ without_region w region flags
+without_is w region flags after len each = fill_by_all (λ card. if eqb (card / w) region then false else has flags card) after (length flags) false len (λ card h. each card)
+
+pub cleared_by : (w region : ℕ) (flags after : List Bool) → 0 < w → length after ≡ length flags
+    → ((card : ℕ) → has after card ≡ (if is_between (region * w) (region * w + w) card then false else has flags card)) → after ≡ without_region w region flags
+cleared_by w region flags after some len each =
+    without_is w region flags after len (λ card. each card ∙ ap (λ (b : Bool). if b then false else has flags card) (in_region_is w region card some))
+
+pub own_gone : (w region : ℕ) (flags : List Bool) (card : ℕ) → card / w ≡ region → has (without_region w region flags) card ≡ false
+own_gone w region flags card e = has-without w region flags card ∙ rw (eq-eqb (card / w) region e) refl
+
+pub others_left : (w region : ℕ) (flags : List Bool) (card : ℕ) → card / w ≢ region → has (without_region w region flags) card ≡ has flags card
+others_left w region flags card ne = has-without w region flags card ∙ rw (ne_eqb (card / w) region ne) refl
+
+pub entered_here : (s : Sets) (card : ℕ) → AreSets s → card < card_count s → has (set s.entered card true) card ≡ true
+entered_here s card all h = get_or-set_same s.entered card true false (omega (arith, h, all.each_card))
+
+pub entered_still : (flags : List Bool) (card c : ℕ) → has flags c ≡ true → has (set flags card true) c ≡ true
+entered_still flags card c h = marks_grow flags card c h
+
+pub entered_only : (flags : List Bool) (card c : ℕ) → has (set flags card true) c ≡ true → (has flags c ≡ true) ⊎ (c ≡ card)
+entered_only flags card c h = elim (cases_eq c card) [
+  | inl same ↦ inr same
+  | inr ne ↦ inl (sym (get_or-set_other flags card c true false ne) ∙ h)
+]
+
+-- ---- what all sets are
+all_sets : (l : List CardSet) (w n : ℕ) (entered : List Bool) → length l ≡ n → 0 < w → All (IsSet n (n * w)) l → length entered ≡ n * w
+    → AreSets (record { sets = l; cards_per_region = w; entered = entered })
+all_sets l w n entered e some h each = record {
+  some_cards = some;
+  each = subst (λ m. All (IsSet m (m * w)) l) (sym e) h;
+  each_card = each ∙ ap (λ (m : ℕ). m * w) (sym e);
+}
+
+with_set : (s : Sets) (region : ℕ) (new : CardSet) (entered : List Bool) → AreSets s → IsSet (length s.sets) (card_count s) new → length entered ≡ length s.entered
+    → AreSets (record { sets = set s.sets region new; cards_per_region = s.cards_per_region; entered = entered })
+with_set s region new entered all h len =
+    all_sets (set s.sets region new) s.cards_per_region (length s.sets) entered (length-set s.sets region new) all.some_cards
+    (All-set (IsSet (length s.sets) (card_count s)) s.sets region new h all.each) (len ∙ all.each_card)
 
 pub AreSets-added : (s : Sets) (region card : ℕ) → AreSets s → region < length s.sets → card < card_count s → AreSets (added s region card)
 AreSets-added s region card all known h =
-    with_set s region (set_with (set_of s region) card (card / s.cards_per_region)) all (IsSet-with (length s.sets) (card_count s) (set_of s region) card (card / s.cards_per_region) (all.each region (empty_set 0) known) h)
+    with_set s region (set_with (set_of s region) card (card / s.cards_per_region)) (set s.entered card true) all
+    (IsSet-with (length s.sets) (card_count s) (set_of s region) card (card / s.cards_per_region) (all.each region (empty_set 0) known) h) (length-set s.entered card true)
 
 pub AreSets-cleared : (s : Sets) (region : ℕ) → AreSets s → AreSets (cleared s region)
-AreSets-cleared s region all = with_set s region (empty_set (length s.sets)) all (IsSet-empty (length s.sets) (card_count s))
+AreSets-cleared s region all =
+    with_set s region (empty_set (length s.sets)) (without_region s.cards_per_region region s.entered) all
+    (IsSet-empty (length s.sets) (card_count s)) (length-without s.cards_per_region region s.entered)
 
 -- ---- a card is added
 same_set : (s : Sets) (region card : ℕ) → region < length s.sets → set_of (added s region card) region ≡ set_with (set_of s region) card (card / s.cards_per_region)
@@ -53,6 +142,28 @@ covers_grows s region card r c known was =
     ap (λ i. set_covers (set_of (added s region card) i) c k) same ∙ ap (λ (t : CardSet). set_covers t c k) (same_set s region card known) ∙ set_grows (set_of s region) card (card / s.cards_per_region) c k here)
     (λ differs. ap (λ (t : CardSet). set_covers t c k) (added_other s region card r differs) ∙ was)
     (cases_eq r region)
+
+-- ---- where a field may lead
+pub both_true : (a b : Bool) → a ≡ true → b ≡ true → (a && b) ≡ true
+both_true a b e f = rw (e, f) refl
+
+pub left_true : (a b : Bool) → (a && b) ≡ true → a ≡ true
+left_true true b e = refl
+left_true false b e = e
+
+pub right_true : (a b : Bool) → (a && b) ≡ true → b ≡ true
+right_true true b e = e
+right_true false b e = absurd (false≢true e)
+
+pub leads-added : (s : Sets) (region card : ℕ) → AreSets s → region < length s.sets → card < card_count s → may_lead (added s region card) region card ≡ true
+leads-added s region card all known h =
+    both_true (covers (added s region card) region card) (has (set s.entered card true) card) (covers-added s region card all known h) (entered_here s card all h)
+
+pub leads_grow : (s : Sets) (region card r c : ℕ) → region < length s.sets → may_lead s r c ≡ true → may_lead (added s region card) r c ≡ true
+leads_grow s region card r c known was =
+    both_true (covers (added s region card) r c) (has (set s.entered card true) c)
+    (covers_grows s region card r c known (left_true (covers s r c) (has s.entered c) was))
+    (entered_still s.entered card c (right_true (covers s r c) (has s.entered c) was))
 
 -- what is covered anew is the card, or lies in its region
 pub covers_only : (s : Sets) (region card c : ℕ) → region < length s.sets → covers (added s region card) region c ≡ true → (covers s region c ≡ true) ⊎ (c / s.cards_per_region ≡ card / s.cards_per_region)
@@ -83,6 +194,21 @@ change_keeps s (Add r c) region card known leaves was = ⊎_elim
 change_keeps s (Clear r) region card known leaves was =
     ap (λ (t : CardSet). set_covers t card (card / s.cards_per_region)) (cleared_other s r region (λ e. leaves (sym e))) ∙ was
 
+-- a card that entered a set stays among those until its own region's set is emptied
+entered_keeps : (s : Sets) (change : Change) (card : ℕ) → LeavesSet (card / s.cards_per_region) change → has s.entered card ≡ true → has (changed s change).entered card ≡ true
+entered_keeps s (Add r c) card leaves was = entered_still s.entered c card was
+entered_keeps s (Clear r) card leaves was = others_left s.cards_per_region r s.entered card (λ e. leaves (sym e)) ∙ was
+
+same_size : (s : Sets) (change : Change) → (changed s change).cards_per_region ≡ s.cards_per_region
+same_size s (Add r c) = refl
+same_size s (Clear r) = refl
+
+pub run_entered : (changes : List Change) (s : Sets) (w card : ℕ) → s.cards_per_region ≡ w → All (LeavesSet (card / w)) changes → has s.entered card ≡ true → has (after_all changes s).entered card ≡ true
+run_entered [] s w card e leave was = was
+run_entered (change ∷ changes) s w card e leave was =
+    run_entered changes (changed s change) w card (same_size s change ∙ e) (All-tail (LeavesSet (card / w)) change changes leave)
+    (entered_keeps s change card (subst (λ (n : ℕ). LeavesSet (card / n) change) (sym e) (All-head (LeavesSet (card / w)) change changes leave)) was)
+
 length-changed : (s : Sets) (change : Change) → length (changed s change).sets ≡ length s.sets
 length-changed s (Add r c) = length-set s.sets r (set_with (set_of s r) c (c / s.cards_per_region))
 length-changed s (Clear r) = length-set s.sets r (empty_set (length s.sets))
@@ -96,3 +222,10 @@ run_keeps (change ∷ changes) s region card known leave was =
 pub added_stays : (changes : List Change) (s : Sets) (region card : ℕ) → AreSets s → region < length s.sets → card < card_count s → All (LeavesSet region) changes → covers (after_all changes (added s region card)) region card ≡ true
 added_stays changes s region card shaped known h leave =
     run_keeps changes (added s region card) region card (omega (arith, known, length-set s.sets region (set_with (set_of s region) card (card / s.cards_per_region)))) leave (covers-added s region card shaped known h)
+
+pub leads_stays : (changes : List Change) (s : Sets) (region card : ℕ) → AreSets s → region < length s.sets → card < card_count s
+    → All (LeavesSet region) changes → All (LeavesSet (card / s.cards_per_region)) changes → may_lead (after_all changes (added s region card)) region card ≡ true
+leads_stays changes s region card shaped known h leave leave_own =
+    both_true (covers (after_all changes (added s region card)) region card) (has (after_all changes (added s region card)).entered card)
+    (added_stays changes s region card shaped known h leave)
+    (run_entered changes (added s region card) s.cards_per_region card refl leave_own (entered_here s card shaped h))

@@ -9,7 +9,7 @@ abbrev pub set_of : SetInside → CardSet
 set_of s = record { inline = s.inline.items; sources = s.sources }
 
 abbrev pub sets_of : Inside → Sets
-sets_of s = record { sets = s.sets.items; cards_per_region = s.cards_per_region }
+sets_of s = record { sets = s.sets.items; cards_per_region = s.cards_per_region; entered = s.entered }
 
 -- no more than sixteen cards, and room for them
 pub record IsSoundSet (s : SetInside) : Type 0 where

@@ -1,6 +1,6 @@
 //! One remembered set, that of one region: `RememberedSet`. `sets` has all of them.
 
-ghost use Rattle.std.specs.Prelude.{◌≡◌, ◌||◌, ◌<◌, ◌*◌, ◌/◌, ℕ, false, All, IfOk, Some, length, slice_get, slice_index_or};
+ghost use Rattle.std.specs.Prelude.{◌≡◌, ◌||◌, ◌&&◌, ◌<◌, ◌*◌, ◌/◌, ℕ, false, All, IfOk, Some, length, slice_get, slice_index_or};
 ghost use Rattle.heap_words.specs.Bits.{has};
 ghost use Rattle.remembered_sets.specs.Sets.{empty_set, set_covers, set_with};
 
@@ -100,16 +100,17 @@ impl RememberedSet {
         }
     }
 
-    /// Flags the cards that the set covers, and leaves the other flags.
-    pub(crate) fn mark(&self, cards_per_region: u32, flags: &mut BoundedBits)
+    /// Flags the cards that the set covers and that are in `entered`, and leaves the other flags.
+    pub(crate) fn mark(&self, cards_per_region: u32, entered: &Bits, flags: &mut BoundedBits)
         requires some_cards { 0 < cards_per_region }
         requires known { All (λ c. c < length flags.old) self.now.inline }
         requires each { length flags.old ≡ length self.now.sources * cards_per_region }
-        ensures flags { (c : ℕ) → has flags.new c ≡ (has flags.old c || set_covers self.now c (c / cards_per_region)) }
+        requires even { length entered.now ≡ length flags.old }
+        ensures flags { (c : ℕ) → has flags.new c ≡ (has flags.old c || (set_covers self.now c (c / cards_per_region) && has entered.now c)) }
         ensures len { length flags.new ≡ length flags.old }
     {
-        flag_each(flags, self.inline.as_slice());
-        flag_sources(flags, &self.sources, cards_per_region);
+        flag_each(flags, self.inline.as_slice(), entered);
+        flag_sources(flags, &self.sources, entered, cards_per_region);
     }
 
     /// The set is empty.

@@ -1,26 +1,35 @@
-//! The remembered sets of all regions: `RememberedSets`, a `RememberedSet` of `set` for each.
+//! The remembered sets of all regions: `RememberedSets`, a `RememberedSet` of `set` for each, and beside them one flag for each card.
 //!
 //! ```text
 //!   region      0     1            2     3
 //!   inline      -     6 9 .. 40    0     -
 //!   sources     -     3            -     -        card c lies in region c / cards_per_region
+//!   entered     0     -            -     6 7      region 1 covers all cards of region 3, of which 6 and 7 alone entered a set
 //! ```
+//!
+//! A set that marks a region whole covers cards in which no field ever led into it. `entered` has the cards that were added to a set,
+//! whichever it was, since the set of their own region was last emptied: a pause visits the cards of a marked region that are in it,
+//! and no others. A region's set is emptied when the region is freed, and no object in it is kept then.
 
 ghost use Rattle.std.specs.Prelude.{◌≡◌, ◌≢◌, ◌⊎◌, ◌||◌, ◌/◌, ◌<◌, All, ℕ, false, true, IfOk, Some, length, slice_get, slice_index_or, List};
 ghost use Rattle.heap_words.specs.Bits.{has};
-ghost use Rattle.remembered_sets.specs.Sets.{added, after_all, card_count, cleared, covers, empty_sets, set_of, Change, AreSets, LeavesSet, Sets};
+ghost use Rattle.remembered_sets.specs.Sets.{added, after_all, card_count, cleared, covers, empty_sets, may_lead, set_of};
+ghost use Rattle.remembered_sets.specs.Sets.{Change, AreSets, LeavesSet, Sets};
 
 use crate::set::RememberedSet;
 use heap_words::addr::{Card, RegionNo};
+use heap_words::bits::Bits;
 use heap_words::bounded::BoundedBits;
 use heap_words::powers::quotient;
 use std::alloc::{AllocError, Global};
 use std::marker::Model;
 
-/// A remembered set for each region. Clauses see the list of the sets, and how many cards a region has.
+/// A remembered set for each region, and the cards that entered one. Clauses see the list of the sets, how many cards a region has, and
+/// a flag for each card.
 pub struct RememberedSets {
     sets: Vec<RememberedSet>,
     cards_per_region: u32,
+    entered: Bits,
 }
 
 impl Model for RememberedSets {
@@ -41,12 +50,14 @@ impl Drop for RememberedSets {
         let RememberedSets {
             sets: _,
             cards_per_region: _,
+            entered: _,
         } = self;
     }
 }
 
 impl RememberedSets {
-    /// An empty set for each region. No call takes memory afterwards.
+    /// An empty set for each region, and no card that entered one. No call takes memory afterwards. It takes 16 cards and a bit for each
+    /// region a set, and a bit for each card; where the cards are 2 to the 32nd or more there is no memory for them.
     pub fn new(
         alloc: Global,
         regions: u32,
@@ -55,6 +66,10 @@ impl RememberedSets {
         requires { 0 < cards_per_region }
         ensures { IfOk result (λ sets. sets ≡ empty_sets regions cards_per_region) }
     {
+        let Some(cards) = regions.checked_mul(cards_per_region) else {
+            return Err(AllocError);
+        };
+        let entered = Bits::new(alloc, cards)?;
         let mut sets = Vec::with_capacity(alloc, regions as usize)?;
         for _ in 0..regions {
             sets.push(RememberedSet::new(alloc, regions)?)?;
@@ -62,11 +77,12 @@ impl RememberedSets {
         Ok(RememberedSets {
             sets,
             cards_per_region,
+            entered,
         })
     }
 
     /// Tells a proof what is known of all sets: a region has cards; no set has more than sixteen cards inline, nor one
-    /// twice; and each has a mark for each region. It does nothing.
+    /// twice; each has a mark for each region; and there is a flag for each card. It does nothing.
     pub fn law(&self)
         ensures { AreSets self.now }
     {
@@ -113,42 +129,49 @@ impl RememberedSets {
         set.is_whole(source.number())
     }
 
-    /// Adds a card to the region's set. A card that it covers changes nothing.
+    /// Adds a card to the region's set, and to those that entered one. Where the set covers it, the set stays.
     pub fn add(&mut self, region: RegionNo, card: Card)
         requires region { region < length self.old.sets }
         requires card { card < card_count self.old }
         ensures after { self.new ≡ added self.old region card }
         ensures covered { covers self.new region card ≡ true }
+        ensures leads { may_lead self.new region card ≡ true }
     {
         let source = quotient(card.number(), self.cards_per_region);
         let set = &mut self.sets[region.number() as usize];
         set.add(card, source);
+        self.entered.set(card.number());
     }
 
-    /// Flags the cards that the region's set covers, and leaves the other flags. It costs the set's own cards and the regions
-    /// that it marks, and for both a look at words that hold 64 flags each.
+    /// Flags the cards in which a field may lead into the region: those that its set covers and that entered a set. The other flags stay. It
+    /// costs the set's own cards, the regions that it marks and the cards of these that entered a set, and for each region a look at
+    /// words that hold 64 flags each.
     pub fn mark_cards(&self, region: RegionNo, flags: &mut BoundedBits)
         requires region { region < length self.now.sets }
         requires each { length flags.old ≡ card_count self.now }
-        ensures flags { (c : ℕ) → has flags.new c ≡ (has flags.old c || covers self.now region c) }
+        ensures flags { (c : ℕ) → has flags.new c ≡ (has flags.old c || may_lead self.now region c) }
         ensures len { length flags.new ≡ length flags.old }
     {
         let set = &self.sets[region.number() as usize];
-        set.mark(self.cards_per_region, flags);
+        set.mark(self.cards_per_region, &self.entered, flags);
     }
 
-    /// The region's set is empty.
+    /// The region's set is empty, and none of the region's own cards has entered a set.
     pub fn clear(&mut self, region: RegionNo)
         requires { region < length self.old.sets }
         ensures { self.new ≡ cleared self.old region }
     {
+        self.entered.law();
+        let from = region.number() * self.cards_per_region;
+        self.entered.clear_range(from, from + self.cards_per_region);
         let set = &mut self.sets[region.number() as usize];
         set.clear();
     }
 }
 
 /// What a set covers after a card is added: the card, all that it covered, and else nothing but cards of the card's own
-/// region, or the card alone where there was room inline. The other sets stay.
+/// region, or the card alone where there was room inline. The other sets stay. The card has entered a set then, and no other that
+/// hadn't; what may have led into a region still may.
 pub fn add_law()
     ensures covered { (s : Sets) (region card : ℕ) → AreSets s → region < length s.sets → card < card_count s
         → covers (added s region card) region card ≡ true }
@@ -159,16 +182,28 @@ pub fn add_law()
         → covers (added s region card) region c ≡ true
         → (covers s region c ≡ true) ⊎ (c ≡ card) }
     ensures others { (s : Sets) (region card other : ℕ) → other ≢ region → set_of (added s region card) other ≡ set_of s other }
+    ensures leads { (s : Sets) (region card : ℕ) → AreSets s → region < length s.sets → card < card_count s
+        → may_lead (added s region card) region card ≡ true }
+    ensures leads_still { (s : Sets) (region card other c : ℕ) → region < length s.sets → may_lead s other c ≡ true
+        → may_lead (added s region card) other c ≡ true }
+    ensures entered_only { (s : Sets) (region card c : ℕ) → has (added s region card).entered c ≡ true → (has s.entered c ≡ true) ⊎ (c ≡ card) }
 {}
 
-/// A cleared set covers nothing, and the other sets stay.
+/// A cleared set covers nothing, no card of its own region has entered a set, and the other sets and cards stay.
 pub fn clear_law()
     ensures nothing { (s : Sets) (region card : ℕ) → region < length s.sets → covers (cleared s region) region card ≡ false }
     ensures others { (s : Sets) (region other : ℕ) → other ≢ region → set_of (cleared s region) other ≡ set_of s other }
+    ensures own { (s : Sets) (region card : ℕ) → card / s.cards_per_region ≡ region → has (cleared s region).entered card ≡ false }
+    ensures other_cards { (s : Sets) (region card : ℕ) → card / s.cards_per_region ≢ region → has (cleared s region).entered card ≡ has s.entered card }
 {}
 
-/// A card that is added is covered until the region's set is cleared, whatever else is added and cleared.
+/// A card that is added is covered until the region's set is cleared, whatever else is added and cleared. Until its own region's set is
+/// cleared too, a field in it may lead there.
 pub fn run_law()
-    ensures { (s : Sets) (region card : ℕ) (changes : List Change) → AreSets s → region < length s.sets → card < card_count s → All (LeavesSet region) changes
+    ensures covered { (s : Sets) (region card : ℕ) (changes : List Change) → AreSets s → region < length s.sets → card < card_count s
+        → All (LeavesSet region) changes
         → covers (after_all changes (added s region card)) region card ≡ true }
+    ensures leads { (s : Sets) (region card : ℕ) (changes : List Change) → AreSets s → region < length s.sets → card < card_count s
+        → All (LeavesSet region) changes → All (LeavesSet (card / s.cards_per_region)) changes
+        → may_lead (after_all changes (added s region card)) region card ≡ true }
 {}

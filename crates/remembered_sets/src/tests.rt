@@ -85,8 +85,8 @@ fn keeps_sets_apart(rt: HostRuntime) -> Result<(), Fail> {
     Ok(())
 }
 
-/// Marking flags what the set covers, inline and by whole regions, beside what was flagged before. Another region's set
-/// flags nothing.
+/// Marking flags what the set covers and what entered a set, beside what was flagged before: of a region that is marked whole the one
+/// card that was added. Another region's set flags nothing.
 #[test]
 fn marks_cards(rt: HostRuntime) -> Result<(), Fail> {
     let mut sets = filled(rt.alloc())?;
@@ -106,9 +106,40 @@ fn marks_cards(rt: HostRuntime) -> Result<(), Fail> {
     for card in 0..128 {
         assert_eq!(rt;
             flags.get(card),
-            card % 3 == 0 && card < 48 || card / 16 == 3 || card == 127,
+            card % 3 == 0 && card < 48 || card == 50 || card == 127,
             "{card}"
         );
+    }
+    Ok(())
+}
+
+/// Of a region that two sets mark whole, each is led to by the cards that entered either. Once the region's own set is emptied, none of
+/// them is, though the sets cover them still; what enters anew is.
+#[test]
+fn forgets_the_cards_of_a_freed_region(rt: HostRuntime) -> Result<(), Fail> {
+    let mut sets = filled(rt.alloc())?;
+    let region = RegionNo::new(7);
+    sets.add(region, Card::new(50));
+    sets.add(RegionNo::new(6), Card::new(60));
+    sets.clear(RegionNo::new(0));
+    sets.clear(RegionNo::new(1));
+    sets.clear(RegionNo::new(2));
+    let mut flags = BoundedBits::new(rt.alloc(), 128)?;
+    assert!(rt; flags.len() == 128);
+    sets.mark_cards(region, &mut flags);
+    assert!(rt; flags.len() == 128);
+    for card in 0..128 {
+        assert_eq!(rt; flags.get(card), card == 50 || card == 60, "{card}");
+    }
+    sets.clear(RegionNo::new(3));
+    assert!(rt; sets.covers(region, Card::new(50)));
+    flags.clear();
+    assert!(rt; flags.len() == 128);
+    sets.add(region, Card::new(51));
+    sets.mark_cards(region, &mut flags);
+    assert!(rt; flags.len() == 128);
+    for card in 0..128 {
+        assert_eq!(rt; flags.get(card), card == 51, "{card}");
     }
     Ok(())
 }

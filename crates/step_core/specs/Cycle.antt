@@ -1,5 +1,5 @@
 -- What each step of the collector does to a core.
-use Rattle.std.specs.Prelude.{◌≡◌, ◌≢◌, ◌⊎◌, ℕ, ◌+◌, ◌-◌, ◌*◌, ◌<◌, ◌≤◌, ◌↔◌, true, false, Some, None, List, length, slice_get, slice_index}
+use Rattle.std.specs.Prelude.{◌≡◌, ◌≢◌, ◌⊎◌, ℕ, ◌+◌, ◌-◌, ◌*◌, ◌/◌, ◌<◌, ◌≤◌, ◌↔◌, true, false, Some, None, List, length, slice_get, slice_index}
 use Rattle.heap_model.specs.Graph.{Graph, IsReachable}
 use Rattle.heap_model.specs.Heap.{Stored}
 use Rattle.heap_model.specs.Marking.{Begins}
@@ -17,6 +17,7 @@ use Rattle.marker.specs.Ends.{EndsMarking}
 use Rattle.marker.specs.Views as views
 use Rattle.marker.specs.Counts.{IsMore, restarted}
 use Rattle.marker.specs.Steps.{Grows, SameRoles, ScansMore}
+use Rattle.heap_words.specs.Bits.{has}
 use Rattle.remembered_sets.specs.Sets.{empty_set, set_of}
 use Rattle.heap_steps.specs.declared.step.CollectorStep.{CollectorStep}
 use Rattle.heap_steps.specs.declared.step.CollectorStep.TheVariants as collector
@@ -99,19 +100,23 @@ pub record HasRemarked (n : ℕ) (c c' : CoreState) : Type 0 where
   pub tops : c'.marker.tams ≡ exchanged c.marker.tams
   pub marks : c'.marker.bitmaps.next ≡ c.marker.bitmaps.previous
 
--- a free region as in a new heap: its set is empty, its tops at mark start are its bottom, and it has no marks
+-- a free region as in a new heap: its set is empty, no card of its own has entered a set, its tops at mark start are its bottom, and it has
+-- no marks
 pub record IsAsNew (c : CoreState) (k : ℕ) : Type 0 where
   pub free : nth_region c.table k ≡ Free
   pub set : set_of c.sets k ≡ empty_set (length c.sets.sets)
+  pub entered : (card : ℕ) → card / c.sets.cards_per_region ≡ k → has c.sets.entered card ≡ false
   pub previous_top : slice_index c.marker.tams.previous k ≡ k * c.table.words_per_region
   pub next_top : slice_index c.marker.tams.next k ≡ k * c.table.words_per_region
   pub previous_marks : (a : ℕ) → is_in_region c.table.words_per_region k a ≡ true → is_marked c.marker.bitmaps.previous a ≡ false
   pub next_marks : (a : ℕ) → is_in_region c.table.words_per_region k a ≡ true → is_marked c.marker.bitmaps.next a ≡ false
 
--- a region is as it was, with its set, its tops at mark start and its marks
+-- a region is as it was, with its set, its cards that entered one, its tops at mark start and its marks
 pub record IsAsBefore (c c' : CoreState) (k : ℕ) : Type 0 where
   pub region : nth_region c'.table k ≡ nth_region c.table k
   pub set : set_of c'.sets k ≡ set_of c.sets k
+  pub cards : c'.sets.cards_per_region ≡ c.sets.cards_per_region
+  pub entered : (card : ℕ) → card / c.sets.cards_per_region ≡ k → has c'.sets.entered card ≡ has c.sets.entered card
   pub previous_top : slice_index c'.marker.tams.previous k ≡ slice_index c.marker.tams.previous k
   pub next_top : slice_index c'.marker.tams.next k ≡ slice_index c.marker.tams.next k
   pub previous_marks : (a : ℕ) → is_in_region c.table.words_per_region k a ≡ true

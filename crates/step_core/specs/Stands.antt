@@ -20,7 +20,7 @@ use Rattle.marker.specs.declared.marker.Marker.{Marker}
 use Rattle.marker.specs.Stands.{MarkerStands}
 use Rattle.marker.specs.Views as views
 use Rattle.cards.specs.Cards.{Cards, is_dirty}
-use Rattle.remembered_sets.specs.Sets.{Sets, card_count, covers}
+use Rattle.remembered_sets.specs.Sets.{Sets, card_count, may_lead}
 use Rattle.refinement.specs.Remembering.{Remembers}
 use Rattle.evacuation.specs.Rooms.{RoomSizes}
 pub use Rattle.root_table.specs.Roots.{places_of}
@@ -58,9 +58,9 @@ abbrev pub marking_of : CoreState → Marking
 marking_of c = views.marking_of c.table c.marker
 
 -- cross-region pointers are remembered: the card of each field of a kept object that leads into another region than
--- its word's is dirty, or the other region's set covers it
+-- its word's is dirty, or it may lead into the other region: that one's set covers it, and it has entered a set
 abbrev pub RemembersFields : CoreState → Type 0
-RemembersFields c = Remembers c.table.words_per_region (kept_of c) (card_words c.config) (is_dirty c.cards) (covers c.sets)
+RemembersFields c = Remembers c.table.words_per_region (kept_of c) (card_words c.config) (is_dirty c.cards) (may_lead c.sets)
 
 -- the heap shows the graph, whose next name is the core's
 pub record ShowsGraph (g : Graph) (c : CoreState) : Type 0 where

@@ -2,7 +2,7 @@
 use Rattle.std.proofs.Common.{◌≡◌, ◌≢◌, ℕ, suc, zero, ◌+◌, ◌*◌, ◌/◌, ◌<◌, ◌≤◌, ◌^◌, Bool, true, false, List, [], ◌∷◌, Option, Some, None, length, get_or, refl, sym, ap, ◌∙◌, subst, inl, inr, arith}
 use Rattle.std.specs.Prelude.{slice_get, count_by, ◌||◌, ◌==◌}
 use Rattle.std.specs.List.{list_any}
-use Rattle.std.proofs.lemmas.Bool.{cases_lt}
+use Rattle.std.proofs.lemmas.Bool.{cases_lt, cases_Bool}
 use Rattle.std.proofs.lemmas.Bool.Decides.{eqb_tells}
 use Rattle.std.proofs.lemmas.List.{length-append}
 use Rattle.std.proofs.lemmas.List.Sums.{count_by-le-length}
@@ -20,7 +20,7 @@ use Rattle.mark_bitmap.proofs.LiveBounds as live
 use Rattle.region_choice.specs.Choice.{live_sum}
 use Rattle.region_choice.specs.declared.LiveRow.{LiveRow}
 use Rattle.regions.specs.Walks.{IsHolder}
-use Rattle.remembered_sets.specs.Sets.{card_count, covers}
+use Rattle.remembered_sets.specs.Sets.{card_count, may_lead}
 use Rattle.refinement.specs.Remembering.{IsCrossing, field_word}
 use Rattle.regions.proofs.Words.Divides.{card_has_words, card_region, div_is, div_low, div_high}
 use Rattle.regions.proofs.Tiles.Holders.{holder_start}
@@ -172,7 +172,26 @@ module _ (h : Layers) (rows : List LiveRow) (cw : ℕ) (can : CanEvacuate h rows
   pub cards_are : (n : ℕ) → n ≡ card_count h.sets → n ≡ length h.table.regions * (words / cw)
   cards_are n e = e ∙ ap (λ (m : ℕ). m * h.sets.cards_per_region) can.fit.each_region ∙ ap (λ (m : ℕ). length h.table.regions * m) (sym per_region)
 
-  module _ (visited : List Bool) (marked : (card : ℕ) → kind_of h.table (card * cw / words) ≢ kinds.Free → flag visited card ≡ list_any (λ row. covers h.sets row.region card) rows) where
+  apart : (c w : ℕ) → IsHolder h.table c w → flag flags (c / words) ≡ false → flag flags (w / words) ≡ true → ⊥
+  apart c w holder out' in' =
+      let s = holder_start h.table c w shaped holder in
+      let o = ordinary (w / words) in' in
+      elim (cases_lt (c / words) (w / words)) [
+        | inl lt ↦ (let r = s.run.rest (w / words) lt (omega arith) in let n : kinds.Ordinary ≡ kinds.Rest = sym o ∙ r in absurd cc)
+        | inr ge ↦ (let low = s.run.below in let same : c / words ≡ w / words = omega arith in let f = ap (flag flags) same in absurd cc)
+      ]
+
+  -- a field of an object outside the set lies outside of it too
+  pub field_outside : (b i : ℕ) (x : Stored) (v : Option ℕ) → kept b ≡ Some x → slice_get (fields x) i ≡ Some v → flag flags (b / words) ≡ false
+      → flag flags (field_word b i / words) ≡ false
+  field_outside b i x v at e out =
+      let o = object b x at in
+      let n = get_below (fields x) i v e in
+      let big = object_within h.table b x shaped o in
+      let holder : IsHolder h.table b (field_word b i) = record { tile = Object x; tile_is = tile_of_object h.table b x o; low = omega arith; high = omega (arith, length-append x.pointers x.weaks) } in
+      elim (cases_Bool (flag flags (field_word b i / words))) [ inl q ↦ absurd (apart b (field_word b i) holder out q) | inr q ↦ q ]
+
+  module _ (visited : List Bool) (marked : (card : ℕ) → kind_of h.table (card * cw / words) ≢ kinds.Free → flag visited card ≡ list_any (λ row. may_lead h.sets row.region card) rows) where
     pub all_visited : AllVisited (layout pause) (plan pause) visited
     all_visited b i a x at out e inside =
         let o = object b x at in
@@ -184,10 +203,10 @@ module _ (h : Layers) (rows : List LiveRow) (cw : ℕ) (can : CanEvacuate h rows
         let (j, row, f, g, r) = row_of (a / words) inside in
         let same_region = card_region (field_word b i) cw words h.sets.cards_per_region (field_word b i / cw) shaped.positive can.fit.whole_cards refl in
         let in_use : kind_of h.table (field_word b i / cw * cw / words) ≢ kinds.Free = λ f. used b (field_word b i) holder (ap (kind_of h.table) same_region ∙ f) in
-        marked (field_word b i / cw) in_use ∙ any_of (λ r'. covers h.sets r'.region (field_word b i / cw)) rows j row f
+        marked (field_word b i / cw) in_use ∙ any_of (λ r'. may_lead h.sets r'.region (field_word b i / cw)) rows j row f
         (elim (can.remembers.each b i a crossing) [
           | inl d ↦ absurd (let c = can.clean (field_word b i / cw) in cc)
-          | inr d ↦ ap (λ (k : ℕ). covers h.sets k (field_word b i / cw)) g ∙ d
+          | inr d ↦ ap (λ (k : ℕ). may_lead h.sets k (field_word b i / cw)) g ∙ d
         ])
       where
         used : (c w : ℕ) → IsHolder h.table c w → kind_of h.table (w / words) ≡ kinds.Free → ⊥
@@ -196,13 +215,4 @@ module _ (h : Layers) (rows : List LiveRow) (cw : ℕ) (can : CanEvacuate h rows
             elim (cases_lt (c / words) (w / words)) [
               | inl lt ↦ (let r = s.run.rest (w / words) lt (omega arith) in let n : kinds.Free ≡ kinds.Rest = sym f ∙ r in absurd cc)
               | inr ge ↦ (let low = s.run.below in let same : c / words ≡ w / words = omega arith in let g = no_tile h.table c (ap (kind_of h.table) same ∙ f) in let e = holder.tile_is in absurd cc)
-            ]
-
-        apart : (c w : ℕ) → IsHolder h.table c w → flag flags (c / words) ≡ false → flag flags (w / words) ≡ true → ⊥
-        apart c w holder out' in' =
-            let s = holder_start h.table c w shaped holder in
-            let o = ordinary (w / words) in' in
-            elim (cases_lt (c / words) (w / words)) [
-              | inl lt ↦ (let r = s.run.rest (w / words) lt (omega arith) in let n : kinds.Ordinary ≡ kinds.Rest = sym o ∙ r in absurd cc)
-              | inr ge ↦ (let low = s.run.below in let same : c / words ≡ w / words = omega arith in let f = ap (flag flags) same in absurd cc)
             ]

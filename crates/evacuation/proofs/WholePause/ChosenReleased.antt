@@ -12,7 +12,9 @@ use Rattle.regions.proofs.Tiles.Released.{region_released, released_one}
 use Rattle.regions.proofs.Words.Sizes.{EachForwardedIn-set}
 use Rattle.mark_bitmap.specs.Marks.{is_marked}
 use Rattle.mark_bitmap.specs.Tops.{is_in_region}
+use Rattle.heap_words.specs.Bits.{has}
 use Rattle.remembered_sets.specs.Sets.{Sets, cleared, empty_set}
+use Rattle.remembered_sets.proofs.Laws.{has-without}
 use Rattle.region_choice.specs.declared.LiveRow.{LiveRow}
 use Rattle.mark_bitmap.proofs.Ranges as ranges
 use Rattle.std.proofs.lemmas.Bool.{eq-eqb, eqb-true, eqb-false}
@@ -64,6 +66,18 @@ module _ (xs ys : List LiveRow) (r : ℕ) (more : (k : ℕ) → is_chosen ys k �
         others = λ k e. let (a, b) = old_both k e in w.others k b ∙ done.others k a;
       }
 
+  eqb_turned : (a b : ℕ) → eqb a b ≡ eqb b a
+  eqb_turned a b = elim (eqb_tells a b) [
+    | inl q ↦ q.0 ∙ sym (eq-eqb b a (sym q.1))
+    | inr q ↦ elim (eqb_tells b a) [ inl r ↦ absurd (q.1 (sym r.1)) | inr r ↦ q.0 ∙ sym r.0 ]
+  ]
+
+  if_both : {A : Type 0} (a b : Bool) (x y : A) → (if b then x else (if a then x else y)) ≡ (if a || b then x else y)
+  if_both true true x y = refl
+  if_both true false x y = refl
+  if_both false true x y = refl
+  if_both false false x y = refl
+
   pub step_cleared : (s0 s1 s2 : Sets) → r < length s1.sets → s2 ≡ cleared s1 r → AreCleared xs s0 s1 → AreCleared ys s0 s2
   step_cleared s0 s1 s2 known is done = subst (AreCleared ys s0) (sym is) (record {
     cards = done.cards;
@@ -73,13 +87,14 @@ module _ (xs ys : List LiveRow) (r : ℕ) (more : (k : ℕ) → is_chosen ys k �
       | inr q ↦ get_or-set_other s1.sets r k (empty_set (length s1.sets)) (empty_set 0) q ∙ elim (new_cases k e) [ inl g ↦ done.cleared k g | inr g ↦ absurd (q (sym g)) ]
     ];
     others = λ k e. let (a, b) = old_both k e in get_or-set_other s1.sets r k (empty_set (length s1.sets)) (empty_set 0) b ∙ done.others k a;
+    entered = λ card.
+        has-without s1.cards_per_region r s1.entered card
+        ∙ ap (λ (n : ℕ). if eqb (card / n) r then false else has s1.entered card) done.cards
+        ∙ ap (λ (b : Bool). if b then false else has s1.entered card) (eqb_turned (card / s0.cards_per_region) r)
+        ∙ ap (λ (b : Bool). if eqb r (card / s0.cards_per_region) then false else b) (done.entered card)
+        ∙ if_both (is_chosen xs (card / s0.cards_per_region)) (eqb r (card / s0.cards_per_region)) false (has s0.entered card)
+        ∙ ap (λ (b : Bool). if b then false else has s0.entered card) (sym (more (card / s0.cards_per_region)));
   })
-
-  if_both : {A : Type 0} (a b : Bool) (x y : A) → (if b then x else (if a then x else y)) ≡ (if a || b then x else y)
-  if_both true true x y = refl
-  if_both true false x y = refl
-  if_both false true x y = refl
-  if_both false false x y = refl
 
   pub step_marks : (words : ℕ) (tops0 tops1 tops2 : List ℕ) (marks0 marks1 marks2 : List Bool) → 0 < words → r < length tops1 → tops2 ≡ set tops1 r (r * words) → length marks2 ≡ length marks1
       → ((a : ℕ) → is_marked marks2 a ≡ (if is_in_region words r a then false else is_marked marks1 a)) → MarksAfter words xs tops0 tops1 marks0 marks1 → MarksAfter words ys tops0 tops2 marks0 marks2

@@ -1,10 +1,11 @@
 -- The heap after a pause.
 use Rattle.evacuation.proofs.WholePause.Beginning.{no_tile}
 use Rattle.std.proofs.Common.{◌≡◌, ◌≢◌, ℕ, suc, zero, ◌+◌, ◌-◌, ◌*◌, ◌/◌, ◌%◌, ◌<◌, ◌≤◌, Bool, true, false, List, [], ◌∷◌, Option, Some, None, length, get_or, refl, sym, ap, ◌∙◌, subst, inl, inr, arith}
-use Rattle.std.specs.Prelude.{nat_lt, ◌↔◌, if◌then◌else◌}
+use Rattle.std.specs.Prelude.{nat_lt, slice_get, ◌↔◌, ◌&&◌, if◌then◌else◌}
 use Rattle.std.specs.List.Sorted.{IsStrictlyIncreasing}
 use Rattle.std.proofs.lemmas.Bool.{cases_lt, cases_Bool}
 use Rattle.heap_model.specs.Heap.{Stored}
+use Rattle.heap_model.specs.Heap as stored
 use Rattle.heap_model.specs.Relocation.{Relocates}
 use Rattle.heap_model.specs.Evacuation.{IsReached, place_after, released}
 use Rattle.regions.specs.Tiles.{Tile, Object, Filler, Forwarded, tile_size, tile_at}
@@ -21,7 +22,7 @@ use Rattle.mark_bitmap.specs.Kept.{MarksObjects, kept_in}
 use Rattle.mark_bitmap.proofs.KeptLaws.{gone_kept}
 use Rattle.region_choice.specs.declared.LiveRow.{LiveRow}
 use Rattle.object_copy.specs.Copies.{Places}
-use Rattle.evacuation.specs.Evacuates.{AreReachedWords, CanEvacuate, Layers, MarksAfter, RegionsAfter, heap_of, is_chosen, set_by, IsNewCrossing}
+use Rattle.evacuation.specs.Evacuates.{AreReachedWords, CanEvacuate, Layers, MarksAfter, RegionsAfter, heap_of, kept_of, is_chosen, set_by, IsNewCrossing}
 use Rattle.evacuation.specs.Space.{flag, NewCrossing}
 use Rattle.evacuation.specs.Turns.{Pause, IsTurn, in_set, kept_now, plan, space, layout}
 use Rattle.evacuation.specs.Releasing.{AreReleased}
@@ -29,7 +30,8 @@ use Rattle.heap_model.specs.Marking.{Marking}
 use Rattle.heap_model.specs.Relocation.{KeepsOld}
 use Rattle.mark_bitmap.specs.Tops.{below_next}
 use Rattle.cards.specs.Cards.{Cards, is_dirty}
-use Rattle.remembered_sets.specs.Sets.{CardSet, Sets, covers, set_covers, set_of}
+use Rattle.heap_words.specs.Bits.{has}
+use Rattle.remembered_sets.specs.Sets.{CardSet, Sets, covers, may_lead, set_covers, set_of}
 use Rattle.refinement.specs.Remembering.{Remembers, field_card, field_word}
 use Rattle.evacuation.specs.Evacuates.{HasEvacuated, IsNewSet}
 use Rattle.evacuation.specs.Space.{IsTaken}
@@ -37,6 +39,7 @@ use Rattle.evacuation.specs.Turns.{AreFieldsClean, AreFieldsNoted}
 use Rattle.evacuation.specs.Releasing.{AreCleared}
 use Rattle.evacuation.proofs.Turns.AllCopied.{reached_inside}
 use Rattle.evacuation.proofs.Turns.KeptObjects.{not_below, kept_object, cases_free, free_used, object_of}
+use Rattle.refinement.proofs.Fields.{region_of_card}
 use Rattle.evacuation.proofs.WholePause.Asked as asked
 use Rattle.evacuation.proofs.WholePause.ChosenReleased.{kind_by}
 
@@ -268,15 +271,30 @@ module _ (h : Layers) (rows : List LiveRow) (cw : ℕ) (can : CanEvacuate h rows
     same_cover : (k card : ℕ) → is_chosen rows k ≡ false → covers sets' k card ≡ covers h.sets k card
     same_cover k card e = ap (λ (n : ℕ). set_covers (set_of sets' k) card (card / n)) cleared.cards ∙ ap (λ (s : CardSet). set_covers s card (card / h.sets.cards_per_region)) (cleared.others k e)
 
-    remembers : Remembers t2.words_per_region (kept_in t2 tams' previous') cw (is_dirty cards') (covers sets')
-    remembers = subst (λ (n : ℕ). Remembers n (kept_in t2 tams' previous') cw (is_dirty cards') (covers sets')) (sym size) (record {
+    same_lead : (k card : ℕ) → is_chosen rows k ≡ false → is_chosen rows (card / h.sets.cards_per_region) ≡ false → may_lead sets' k card ≡ may_lead h.sets k card
+    same_lead k card e own =
+        ap (λ (b : Bool). b && has sets'.entered card) (same_cover k card e)
+        ∙ ap (λ (b : Bool). covers h.sets k card && b) (cleared.entered card ∙ ap (λ (b : Bool). if b then false else has h.sets.entered card) own)
+
+    -- the region of a field's card is the one of the field's word
+    own_region : (b i : ℕ) → field_card cw b i / h.sets.cards_per_region ≡ field_word b i / words
+    own_region b i = region_of_card words cw h.sets.cards_per_region (field_word b i) shaped.positive can.fit.whole_cards
+
+    own_stays : (b i : ℕ) (x : Stored) (v : Option ℕ) → kept_of h b ≡ Some x → slice_get (stored.fields x) i ≡ Some v → in_set p b ≡ false
+        → is_chosen rows (field_card cw b i / h.sets.cards_per_region) ≡ false
+    own_stays b i x v at e out =
+        ap (is_chosen rows) (own_region b i) ∙ sym (flags_are (field_word b i / words))
+        ∙ asked.field_outside h rows cw can shaped flags flags_are len b i x v at e out
+
+    remembers : Remembers t2.words_per_region (kept_in t2 tams' previous') cw (is_dirty cards') (may_lead sets')
+    remembers = subst (λ (n : ℕ). Remembers n (kept_in t2 tams' previous') cw (is_dirty cards') (may_lead sets')) (sym size) (record {
       each = λ b i a x.
           let (out, here) = kept_there b x.object x.kept_is in
           let outside' = clean b i a x.object here out x.field_is in
           elim (fields.field b i x.object (Some a) here out x.field_is) [
             | inl was ↦ (let (y, at, f) = was in elim (can.remembers.each b i a (record { object = y; kept_is = at; field_is = f; leaves = x.leaves })) [
               | inl d ↦ absurd (let c = can.clean (field_card cw b i) in cc)
-              | inr d ↦ inr (same_cover (a / words) (field_card cw b i) (sym (flags_are (a / words)) ∙ outside') ∙ d)
+              | inr d ↦ inr (same_lead (a / words) (field_card cw b i) (sym (flags_are (a / words)) ∙ outside') (own_stays b i y (Some a) at f out) ∙ d)
             ])
             | inr s ↦ elim s.1 [ inl same ↦ absurd (x.leaves same) | inr n ↦ inl (dirty (field_card cw b i) ∙ n) ]
           ];
@@ -371,4 +389,5 @@ module _ (h : Layers) (rows : List LiveRow) (cw : ℕ) (can : CanEvacuate h rows
       dirty = new_crossing;
       cleared = cleared.cleared;
       sets_same = cleared.others;
+      entered = cleared.entered;
     }

@@ -19,7 +19,7 @@ use Rattle.satb_log.specs.Logs.{log_of}
 use Rattle.marker.specs.Stands.{MarkerStands}
 use Rattle.marker.specs.declared.marker.Marker.{Marker}
 use Rattle.cards.specs.Cards.{clean_cards, is_dirty}
-use Rattle.remembered_sets.specs.Sets.{empty_sets, empty_set, covers}
+use Rattle.remembered_sets.specs.Sets.{empty_sets, empty_set, may_lead}
 use Rattle.refinement.proofs.Remembered.{remembers_none}
 use Rattle.evacuation.specs.Rooms.{RoomSizes}
 use Rattle.heap_words.specs.Configs.{card_words}
@@ -126,7 +126,7 @@ first_is g m d r stand suits to rows names idle logs stands =
         ends_next = λ k a o i lt. let none = words_none t a (nothing_at g.regions g.words a) in omega (arith, none, lt);
       };
       cards = first_cards g suits;
-      remembers = remembers_none (first_core g m d r).table.words_per_region (card_words g) (kept_of (first_core g m d r)) (is_dirty (first_core g m d r).cards) (covers (first_core g m d r).sets) (first_none g m d r);
+      remembers = remembers_none (first_core g m d r).table.words_per_region (card_words g) (kept_of (first_core g m d r)) (is_dirty (first_core g m d r).cards) (may_lead (first_core g m d r).sets) (first_none g m d r);
       room = to;
       rows = rows;
       placed = refl;

@@ -1,5 +1,5 @@
 -- What is dead is released, one region or run after another.
-use Rattle.std.proofs.Common.{◌≡◌, ◌≢◌, ℕ, zero, suc, ◌+◌, ◌-◌, ◌*◌, ◌<◌, ◌≤◌, Bool, true, false, not, List, [], ◌∷◌, Option, Some, None, length, refl, sym, ◌∙◌, ap, subst, arith, inl, inr}
+use Rattle.std.proofs.Common.{◌≡◌, ◌≢◌, ℕ, zero, suc, ◌+◌, ◌-◌, ◌*◌, ◌/◌, ◌<◌, ◌≤◌, Bool, true, false, not, List, [], ◌∷◌, Option, Some, None, length, refl, sym, ◌∙◌, ap, subst, arith, inl, inr}
 use Rattle.std.specs.Prelude.{◌↔◌, IsTrue, slice_get}
 use Rattle.std.proofs.lemmas.Bool.{cases_lt, cases_eq}
 use Rattle.std.proofs.lemmas.List.{get_or_past}
@@ -92,6 +92,8 @@ before_twice : (c0 c c' : CoreState) (k : ℕ) → c.table.words_per_region ≡ 
 before_twice c0 c c' k size p r = record {
   region = r.region ∙ p.region;
   set = r.set ∙ p.set;
+  cards = r.cards ∙ p.cards;
+  entered = λ card own. r.entered card (ap (λ (n : ℕ). card / n) p.cards ∙ own) ∙ p.entered card own;
   previous_top = r.previous_top ∙ p.previous_top;
   next_top = r.next_top ∙ p.next_top;
   previous_marks = λ a i. r.previous_marks a (subst (λ (w : ℕ). is_in_region w k a ≡ true) (sym size) i) ∙ p.previous_marks a i;
@@ -102,6 +104,7 @@ new_still : (c c' : CoreState) (k : ℕ) → c'.table.words_per_region ≡ c.tab
 new_still c c' k size sets p r = record {
   free = r.region ∙ p.free;
   set = r.set ∙ p.set ∙ ap empty_set (sym sets);
+  entered = λ card own. let own' = ap (λ (n : ℕ). card / n) (sym r.cards) ∙ own in r.entered card own' ∙ p.entered card own';
   previous_top = r.previous_top ∙ p.previous_top ∙ ap (λ (w : ℕ). k * w) (sym size);
   next_top = r.next_top ∙ p.next_top ∙ ap (λ (w : ℕ). k * w) (sym size);
   previous_marks = λ a i. let inside = subst (λ (w : ℕ). is_in_region w k a ≡ true) size i in r.previous_marks a inside ∙ p.previous_marks a inside;
@@ -109,7 +112,7 @@ new_still c c' k size sets p r = record {
 }
 
 before_self : (c : CoreState) (k : ℕ) → IsAsBefore c c k
-before_self c k = record { region = refl; set = refl; previous_top = refl; next_top = refl; previous_marks = λ a i. refl; next_marks = λ a i. refl }
+before_self c k = record { region = refl; set = refl; cards = refl; entered = λ card own. refl; previous_top = refl; next_top = refl; previous_marks = λ a i. refl; next_marks = λ a i. refl }
 
 -- the dead ones among the first i regions
 pub record DeadBelow (i n : ℕ) (c : CoreState) : Type 0 where

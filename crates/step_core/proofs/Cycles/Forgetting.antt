@@ -7,7 +7,9 @@ use Rattle.mark_bitmap.specs.Marks.{is_marked}
 use Rattle.mark_bitmap.specs.Tops.{Tops, is_in_region, with_bottom}
 use Rattle.mark_bitmap.proofs.Ranges as ranges
 use Rattle.marker.specs.declared.marker.Marker.{Marker}
+use Rattle.heap_words.specs.Bits.{has}
 use Rattle.remembered_sets.specs.Sets.{Sets, cleared, set_of, empty_set}
+use Rattle.remembered_sets.proofs.Laws.{own_gone, others_left}
 use Rattle.step_core.specs.Cleaning.{HasForgotten, HasCleared}
 
 -- a marker is the one before with other tops and marks, if the rest is the same
@@ -72,6 +74,12 @@ one_cleared k i q s0 s s' f at known e = record {
     | inr ne ↦ ap (λ (x : Sets). set_of x r) e ∙ get_or-set_other s.sets q r (empty_set (length s.sets)) (empty_set 0) ne ∙ f.empty r low (omega arith)
   ];
   others = λ r out. ap (λ (x : Sets). set_of x r) e ∙ get_or-set_other s.sets q r (empty_set (length s.sets)) (empty_set 0) (λ same. off r out same) ∙ f.others r (less r out);
+  own_cards = λ card low high. let near : card / s.cards_per_region ≡ card / s0.cards_per_region = ap (λ (n : ℕ). card / n) f.cards in elim (cases_eq (card / s0.cards_per_region) q) [
+    | inl same ↦ ap (λ (x : Sets). has x.entered card) e ∙ own_gone s.cards_per_region q s.entered card (near ∙ same)
+    | inr ne ↦ ap (λ (x : Sets). has x.entered card) e ∙ others_left s.cards_per_region q s.entered card (λ g. ne (sym near ∙ g)) ∙ f.own_cards card low (omega arith)
+  ];
+  other_cards = λ card out. let near : card / s.cards_per_region ≡ card / s0.cards_per_region = ap (λ (n : ℕ). card / n) f.cards in
+      ap (λ (x : Sets). has x.entered card) e ∙ others_left s.cards_per_region q s.entered card (λ g. off (card / s0.cards_per_region) out (sym near ∙ g)) ∙ f.other_cards card (less (card / s0.cards_per_region) out);
 }
   where
     off : (j : ℕ) → (j < k) ⊎ (k + (i + 1) ≤ j) → j ≡ q → ⊥

@@ -1,14 +1,14 @@
 -- A dead region, or a dead run, is released.
 use Rattle.std.proofs.Common.{◌≡◌, ℕ, ◌+◌, ◌-◌, ◌*◌, ◌/◌, ◌<◌, ◌≤◌, ◌⊎◌, Bool, true, false, cond, List, Option, Some, None, length, refl, sym, ◌∙◌, ap, subst, arith, inl, inr}
-use Rattle.std.specs.Prelude.{◌↔◌, slice_index, nat_lt}
+use Rattle.std.specs.Prelude.{◌↔◌, slice_get, slice_index, nat_lt}
 use Rattle.std.proofs.lemmas.Bool.{cases_eq}
 use Rattle.heap_model.specs.Graph.{Graph}
-use Rattle.heap_model.specs.Heap.{Stored}
+use Rattle.heap_model.specs.Heap.{Stored, fields}
 use Rattle.heap_model.proofs.Changed.{same_shows}
 use Rattle.heap_model.proofs.Shown.{closed}
 use Rattle.heap_words.specs.Configs.{card_words}
-use Rattle.regions.specs.Tiles.{Filler}
-use Rattle.regions.specs.Table.{Free, First, nth_region, kind_of, object_at, object_words, tile_in, run_length, released}
+use Rattle.regions.specs.Tiles.{Filler, Object}
+use Rattle.regions.specs.Table.{Table, Free, First, nth_region, kind_of, object_at, object_words, tile_in, run_length, released}
 use Rattle.regions.specs.Shaped.{IsShaped}
 use Rattle.regions.specs.declared.row.Kind.TheVariants as kinds
 use Rattle.alloc_buffers.specs.Placement.{BuffersStand, AreAbove, IsAbove}
@@ -24,8 +24,17 @@ use Rattle.marker.specs.Stands.{MarkerStands}
 use Rattle.marker.specs.declared.marker.Marker.{Marker}
 use Rattle.marker.proofs.Forgotten.{table_stands}
 use Rattle.cards.specs.Cards.{is_dirty}
-use Rattle.remembered_sets.specs.Sets.{Sets, CardSet, covers, set_covers, set_of, empty_set}
-use Rattle.refinement.specs.Remembering.{Remembers, field_card}
+use Rattle.heap_words.specs.Bits.{has}
+use Rattle.remembered_sets.specs.Sets.{Sets, CardSet, covers, may_lead, set_covers, set_of, empty_set}
+use Rattle.remembered_sets.proofs.Laws.{both_true, left_true, right_true}
+use Rattle.refinement.specs.Remembering.{Remembers, field_card, field_word}
+use Rattle.refinement.proofs.Fields.{region_of_card}
+use Rattle.refinement.proofs.Holders.{kept_object}
+use Rattle.regions.specs.Walks.{IsHolder}
+use Rattle.regions.proofs.Tiles.Holders.{holder_start}
+use Rattle.regions.proofs.Tiles.Laws.{object_tile}
+use Rattle.evacuation.proofs.Lists.{get_below}
+use Rattle.std.proofs.lemmas.List.{length-append}
 use Rattle.step_core.proofs.Mutating.Small.{halves_left, ends_left, words_by}
 use Rattle.step_core.specs.Stands.{CoreState, kept_of, heap_of, RemembersFields, CardsFit, ShowsGraph, KeepsFrom, IsCore}
 use Rattle.step_core.specs.Cycle.{IsDeadRegion, IsDeadRun, IsDead, IsAsNew, IsAsBefore}
@@ -43,6 +52,10 @@ keeps_none false marked = refl
 pub kept_by_parts : (c : CoreState) (a : ℕ) → kept_of c a ≡ keeps (is_below c.table.words_per_region c.marker.tams.previous a) (is_marked c.marker.bitmaps.previous a) (object_at c.table a)
 unfolding kept_of
 kept_by_parts c a = refl
+
+object_there : (t : Table) (a : ℕ) (x : Stored) → object_at t a ≡ Some x → tile_in t a ≡ Some (Object x)
+unfolding object_at
+object_there t a x e = object_tile (tile_in t a) x e
 
 kept_void : (c : CoreState) (a : ℕ) → object_at c.table a ≡ None → kept_of c a ≡ None
 kept_void c a e = kept_by_parts c a ∙ ap (keeps (is_below c.table.words_per_region c.marker.tams.previous a) (is_marked c.marker.bitmaps.previous a)) e ∙ keeps_none (is_below c.table.words_per_region c.marker.tams.previous a) (is_marked c.marker.bitmaps.previous a)
@@ -202,6 +215,44 @@ module _ (k : CoreState) (core : IsCore k) (shaped : IsShaped k.table) (n m : �
         | inr ne ↦ (let void = rest_void k.table a (behind (a / size) (omega arith) high) in cc)
       ]
 
+  -- a field of a kept object lies in a region that stays
+  field_stays : (at index : ℕ) (x : Stored) (v : Option ℕ) → kept_of after at ≡ Some x → slice_get (fields x) index ≡ Some v → IsOutside n m (field_word at index / size)
+  unfolding kept_of
+  field_stays at index x v kept_is field_is =
+      let here : kept_of k at ≡ Some x = sym (kept_same at) ∙ kept_is in
+      let o = kept_object k.table k.marker.tams k.marker.bitmaps.previous at x here in
+      let few = get_below (fields x) index v field_is in
+      let holder : IsHolder k.table at (field_word at index) = record {
+        tile = Object x;
+        tile_is = object_there k.table at x o;
+        low = omega arith;
+        high = omega (arith, few, length-append x.pointers x.weaks);
+      } in
+      let s = holder_start k.table at (field_word at index) shaped holder in
+      let below = s.run.below in
+      elim (block_cases n m (field_word at index / size)) [
+        | inl out ↦ out
+        | inr q ↦ absurd (elim (block_cases n m (at / size)) [
+          | inl away ↦ elim away [
+            | inl lt ↦ not_behind kind_now (s.run.rest n lt q.0)
+            | inr past ↦ absurd (omega (arith, past, below, q.1))
+          ]
+          | inr inside ↦ (let none = none_there at inside.0 inside.1 in let no : None ≡ Some x = sym none ∙ kept_is in cc)
+        ])
+      ]
+    where
+      not_behind : (kind_of k.table n ≡ kinds.Ordinary) ⊎ (kind_of k.table n ≡ kinds.First) → kind_of k.table n ≡ kinds.Rest → ⊥
+      not_behind (inl o) r = let no : kinds.Ordinary ≡ kinds.Rest = sym o ∙ r in cc
+      not_behind (inr f) r = let no : kinds.First ≡ kinds.Rest = sym f ∙ r in cc
+
+  -- the card of such a field has entered a set as before
+  field_entered : (at index : ℕ) (x : Stored) (v : Option ℕ) → kept_of after at ≡ Some x → slice_get (fields x) index ≡ Some v
+      → has ss.entered (field_card (card_words k.config) at index) ≡ has k.sets.entered (field_card (card_words k.config) at index)
+  field_entered at index x v kept_is field_is =
+      let whole : size ≡ k.sets.cards_per_region * card_words k.config = core.layers.region_size ∙ core.cards.whole_cards in
+      let own = region_of_card size (card_words k.config) k.sets.cards_per_region (field_word at index) shaped.positive whole in
+      empty.other_cards (field_card (card_words k.config) at index) (subst (λ (q : ℕ). IsOutside n m q) (sym own) (field_stays at index x v kept_is field_is))
+
   covers_others : (r card : ℕ) → IsOutside n m r → covers k.sets r card ≡ true → covers ss r card ≡ true
   covers_others r card out e = ap (λ (x : CardSet). set_covers x card (card / ss.cards_per_region)) (empty.others r out) ∙ ap (λ (c : ℕ). set_covers (set_of k.sets r) card (card / c)) empty.cards ∙ e
 
@@ -209,14 +260,19 @@ module _ (k : CoreState) (core : IsCore k) (shaped : IsShaped k.table) (n m : �
   remembers_after =
       let shows = release_shows core.footing.graph core.rests.shows in
       let field = closed core.footing.graph (heap_of after) shows.shows in
-      subst (λ (w : ℕ). Remembers w (kept_of after) (card_words k.config) (is_dirty k.cards) (covers ss)) (sym frees.size) (record {
+      subst (λ (w : ℕ). Remembers w (kept_of after) (card_words k.config) (is_dirty k.cards) (may_lead ss)) (sym frees.size) (record {
         each = λ at index target x.
             let old = core.remembers.each at index target (record { object = x.object; kept_is = sym (kept_same at) ∙ x.kept_is; field_is = x.field_is; leaves = x.leaves }) in
             let there = field.field at index target x.object x.kept_is x.field_is in
             elim old [
               | inl dirty ↦ inl dirty
               | inr covered ↦ elim (block_cases n m (target / size)) [
-                | inl out ↦ inr (covers_others (target / size) (field_card (card_words k.config) at index) out covered)
+                | inl out ↦
+                    let card : ℕ = field_card (card_words k.config) at index in
+                    let is_in = right_true (covers k.sets (target / size) card) (has k.sets.entered card) covered in
+                    inr (both_true (covers ss (target / size) card) (has ss.entered card)
+                    (covers_others (target / size) card out (left_true (covers k.sets (target / size) card) (has k.sets.entered card) covered))
+                    (field_entered at index x.object (Some target) x.kept_is x.field_is ∙ is_in))
                 | inr q ↦ absurd (let none = none_there target q.0 q.1 in let kept = there.1 in cc)
               ]
             ];
@@ -335,6 +391,9 @@ module _ (k : CoreState) (core : IsCore k) (shaped : IsShaped k.table) (n m : �
   as_new j low high = record {
     free = frees.free j low high;
     set = empty.empty j low high ∙ ap empty_set (sym empty.count);
+    entered = λ card own.
+        let at : card / k.sets.cards_per_region ≡ j = ap (λ (c : ℕ). card / c) (sym empty.cards) ∙ own in
+        empty.own_cards card (omega (arith, at, low)) (omega (arith, at, high));
     previous_top = f.low_previous j low high ∙ sym (bottom_same j);
     next_top = f.low_next j low high ∙ sym (bottom_same j);
     previous_marks = λ a i. let at = region_is j a i in f.no_previous a (omega (arith, at, low)) (omega (arith, at, high));
@@ -348,6 +407,8 @@ module _ (k : CoreState) (core : IsCore k) (shaped : IsShaped k.table) (n m : �
   as_before j out = record {
     region = frees.others j out;
     set = empty.others j out;
+    cards = empty.cards;
+    entered = λ card own. empty.other_cards card (subst (λ (q : ℕ). IsOutside n m q) (sym own) out);
     previous_top = f.previous_tops j out;
     next_top = f.next_tops j out;
     previous_marks = λ a i. f.previous a (subst (λ (q : ℕ). IsOutside n m q) (sym (ranges.nth_region size j a i)) out);

@@ -23,7 +23,7 @@ use Rattle.marker.specs.Ends.{EndsMarking, EndsExactly}
 use Rattle.marker.specs.declared.marker.Marker.{Marker}
 use Rattle.heap_words.specs.Configs.{card_words}
 use Rattle.cards.specs.Cards.{is_dirty}
-use Rattle.remembered_sets.specs.Sets.{covers}
+use Rattle.remembered_sets.specs.Sets.{may_lead}
 use Rattle.refinement.specs.Remembering.{Remembers, IsCrossing}
 use Rattle.object_graph.specs.State.{ForSnapshot}
 use Rattle.step_core.specs.Stands.{CoreState, kept_of, RemembersFields, ShowsGraph, KeepsFrom, KeepsFor, IsCore}
@@ -167,7 +167,7 @@ module _ (k : CoreState) (core : IsCore k) (run : k.marker.running ≡ true) (t 
       }
 
   remarked_remembers : RemembersFields after
-  remarked_remembers = subst (λ (words : ℕ). Remembers words (kept_of after) (card_words k.config) (is_dirty k.cards) (covers k.sets)) (sym clears.size)
+  remarked_remembers = subst (λ (words : ℕ). Remembers words (kept_of after) (card_words k.config) (is_dirty k.cards) (may_lead k.sets)) (sym clears.size)
       (record { each = λ a i v x. core.remembers.each a i v (was_crossing a i v x) })
 
   module _ (scans : m.scans.since ≡ n) (counted : m.scans.since ≡ marked_count m.grey.scanned) (work : ScansMore k.marker m) (scanned : (a : ℕ) → is_marked k.marker.grey.scanned a ≡ true → is_marked m.grey.scanned a ≡ true)

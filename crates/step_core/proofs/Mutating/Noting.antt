@@ -12,7 +12,7 @@ use Rattle.heap_model.specs.Graph.{Graph}
 use Rattle.std.proofs.lemmas.Grind.{common_steps}
 use Rattle.std.proofs.lemmas.List.{length-append}
 use Rattle.std.proofs.lemmas.Bool.Decides.{nat_tests}
-use Rattle.remembered_sets.specs.Sets.{covers}
+use Rattle.remembered_sets.specs.Sets.{may_lead}
 use Rattle.refinement.specs.Remembering.{field_word, IsNoted}
 use Rattle.refinement.proofs.Remembered as remembered
 use Rattle.heap_words.specs.Configs.{card_words}
@@ -87,7 +87,7 @@ module _ (k : CoreState) (core : IsCore k) (m card : ℕ) (cs : Cards) (known : 
       each_card = cards ∙ core.cards.each_card;
       each_mutator = mutators ∙ core.cards.each_mutator;
     };
-    remembers = remembered.remembers_on k.table.words_per_region (card_words k.config) (kept_of k) (kept_of k) (is_dirty k.cards) (is_dirty cs) (covers k.sets) (covers k.sets)
+    remembers = remembered.remembers_on k.table.words_per_region (card_words k.config) (kept_of k) (kept_of k) (is_dirty k.cards) (is_dirty cs) (may_lead k.sets) (may_lead k.sets)
         (λ a i v x. inl x) stays (λ a i v c x e. e) core.remembers;
     room = core.room;
     rows = core.rows;

@@ -10,7 +10,7 @@ use Rattle.regions.specs.Table.{Table, top_of}
 use Rattle.alloc_buffers.specs.Placement.{Buffers, BuffersStand, AreAbove, closed}
 use Rattle.alloc_buffers.specs.declared.buffers.Buffer.{Buffer}
 use Rattle.cards.specs.Cards.{Cards, clean_cards, is_dirty, flushed, times_in, ListsDirtyOnce}
-use Rattle.remembered_sets.specs.Sets.{covers}
+use Rattle.remembered_sets.specs.Sets.{may_lead}
 use Rattle.refinement.specs.Remembering.{Remembers, LeadsInto}
 use Rattle.heap_words.specs.Configs.{card_words}
 use Rattle.step_core.proofs.Mutating.Noting.{cards_a_region}
@@ -34,7 +34,7 @@ module _ (k : CoreState) (b : Buffers) (cs : Cards) where
       (above : (t : Table) (limit : ℕ → ℕ) → ((n : ℕ) → n < length t.regions → limit n ≤ top_of t n) → AreAbove t b limit) (flush : cs ≡ flushed k.cards) where
     closed_remembers : RemembersFields (with_closed k b cs)
     unfolding kept_of
-    closed_remembers = subst (λ (x : Cards). Remembers k.table.words_per_region (kept_of k) (card_words k.config) (is_dirty x) (covers k.sets)) (sym flush) core.remembers
+    closed_remembers = subst (λ (x : Cards). Remembers k.table.words_per_region (kept_of k) (card_words k.config) (is_dirty x) (may_lead k.sets)) (sym flush) core.remembers
 
     pub closed_kept : IsCore (with_closed k b cs)
     closed_kept = record {

@@ -5,7 +5,7 @@ use Rattle.heap_model.specs.Graph.{Graph}
 use Rattle.heap_model.proofs.Shown.{closed}
 use Rattle.mark_bitmap.specs.Kept.{kept_in}
 use Rattle.cards.specs.Cards.{Cards, is_dirty}
-use Rattle.remembered_sets.specs.Sets.{Sets, covers, card_count}
+use Rattle.remembered_sets.specs.Sets.{Sets, covers, may_lead, card_count}
 use Rattle.refinement.specs.Remembering.{Remembers, LeadsInto, LeadsInside}
 use Rattle.refinement.specs.Refining.{CanScan, Refines, AddsCard}
 use Rattle.refinement.proofs.Entered.{adds_gains}
@@ -34,8 +34,8 @@ can_scan k core = record {
 
 module _ (k : CoreState) (core : IsCore k) (result : Bool) (cs : Cards) (ss : Sets) (scan : CanScan k.table k.marker.tams k.marker.bitmaps.previous (card_words k.config) ss) (count : length cs.dirty ≡ card_count ss)
     (refines : Refines result k.table.words_per_region (kept_in k.table k.marker.tams k.marker.bitmaps.previous) (card_words k.config) k.cards cs k.sets ss)
-    (remembers : Remembers k.table.words_per_region (kept_in k.table k.marker.tams k.marker.bitmaps.previous) (card_words k.config) (is_dirty k.cards) (covers k.sets)
-    → Remembers k.table.words_per_region (kept_in k.table k.marker.tams k.marker.bitmaps.previous) (card_words k.config) (is_dirty cs) (covers ss)) where
+    (remembers : Remembers k.table.words_per_region (kept_in k.table k.marker.tams k.marker.bitmaps.previous) (card_words k.config) (is_dirty k.cards) (may_lead k.sets)
+    → Remembers k.table.words_per_region (kept_in k.table k.marker.tams k.marker.bitmaps.previous) (card_words k.config) (is_dirty cs) (may_lead ss)) where
   pub cards_show : (g : Graph) → ShowsGraph g k → ShowsGraph g (with_cards k cs ss)
   unfolding kept_of
   cards_show g s = record { room = s.room; places = s.places; next = s.next; shows = s.shows }

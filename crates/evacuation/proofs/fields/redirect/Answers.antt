@@ -1,4 +1,4 @@
-use Rattle.std.proofs.Common.{◌≢◌, ◌⊎◌, ◌/◌, ◌∙◌, ℕ, sym, subst, arith, Some, ◌+◌, ◌≡◌, true}
+use Rattle.std.proofs.Common.{◌≢◌, ◌⊎◌, ◌/◌, ◌∙◌, ℕ, sym, subst, arith, Some, ◌≡◌, true}
 use Rattle.refinement.specs.Remembering.{field_word}
 use Rattle.evacuation.specs.Space.{IsNoted, flag}
 use Rattle.evacuation.specs.Turns.{layout}

@@ -1,4 +1,4 @@
-use Rattle.std.proofs.Common.{◌∙◌, ℕ, sym, subst, arith, Some, None, ◌+◌, ◌≢◌, ◌/◌, ap, inl, inr}
+use Rattle.std.proofs.Common.{◌∙◌, ℕ, sym, subst, arith, Some, None, ◌≢◌, ◌/◌, ap, inl, inr}
 use Rattle.evacuation.specs.Space.{IsNoted}
 use Rattle.evacuation.specs.Turns.{layout, space}
 use Rattle.evacuation.proofs.Turns.Following.{noted_after}

@@ -3,10 +3,10 @@ use Rattle.std.proofs.lemmas.Bool.{cases_lt}
 use Rattle.regions.specs.Table.{top_of}
 use Rattle.regions.specs.Walks.{IsHolder}
 use Rattle.mark_bitmap.specs.Kept.{kept_in}
-use Rattle.remembered_sets.specs.Sets.{covers}
+use Rattle.remembered_sets.specs.Sets.{may_lead}
 use Rattle.refinement.specs.Remembering.{LeadsInside}
 use Rattle.regions.proofs.Words.Divides.{card_has_words}
-use Rattle.refinement.proofs.Entered.{adds_gains}
+use Rattle.refinement.proofs.Entered.{adds_gains, adds_lead}
 use Rattle.refinement.proofs.Fields.{adds_fit, card_end}
 use Rattle.refinement.proofs.Holders.{kept_object}
 use Rattle.refinement.proofs.Scanned.{card_covered, card_empty}
@@ -30,12 +30,17 @@ returns-clause-covered c =
     let from : c.new-from.result ≡ c.args.card * c.args.card_words = c.new-from.ensures ∙ ap (λ (n : ℕ). n * c.args.card_words) c.number.ensures in
     let holder = subst (λ (w : ℕ). IsHolder c.args.table.now c.in-Some.first w) from c.in-Some.ensures.holder in
     card_covered c.args.table.now c.law.ensures (kept_in c.args.table.now c.args.tams.now c.args.marks.now) (kept_object c.args.table.now c.args.tams.now c.args.marks.now)
-    c.args.card_words c.args.card c.in-Some.first c.args.sets.now.cards_per_region c.requires.stands.fit.whole_cards (covers c.scan_tiles.new.sets) holder c.scan_tiles.ensures.covered
+    c.args.card_words c.args.card c.in-Some.first c.args.sets.now.cards_per_region c.requires.stands.fit.whole_cards (may_lead c.scan_tiles.new.sets) holder c.scan_tiles.ensures.covered
 
 pub returns-clause-gains : goal.returns-clause-gains
 returns-clause-gains c =
     let inside = subst (λ (n : ℕ). LeadsInside c.args.table.now.words_per_region n (kept_in c.args.table.now c.args.tams.now c.args.marks.now)) (sym c.requires.stands.fit.each_region) c.requires.stands.inside in
     adds_gains c.args.table.now.words_per_region (kept_in c.args.table.now c.args.tams.now c.args.marks.now) c.args.card_words c.args.card c.args.sets.now c.scan_tiles.new.sets inside c.scan_tiles.ensures.adds
+
+pub returns-clause-leads : goal.returns-clause-leads
+returns-clause-leads c =
+    let inside = subst (λ (n : ℕ). LeadsInside c.args.table.now.words_per_region n (kept_in c.args.table.now c.args.tams.now c.args.marks.now)) (sym c.requires.stands.fit.each_region) c.requires.stands.inside in
+    adds_lead c.args.table.now.words_per_region (kept_in c.args.table.now c.args.tams.now c.args.marks.now) c.args.card_words c.args.card c.args.sets.now c.scan_tiles.new.sets inside c.scan_tiles.ensures.adds
 
 pub returns-clause-stands : goal.returns-clause-stands
 returns-clause-stands c = record {
@@ -56,4 +61,4 @@ returns-in_default-clause-covered c =
       | inr ge ↦ ge
     ]) in
     card_empty c.args.table.now c.law.ensures (kept_in c.args.table.now c.args.tams.now c.args.marks.now) (kept_object c.args.table.now c.args.tams.now c.args.marks.now)
-    c.args.card_words c.args.card 0 c.args.sets.now.cards_per_region c.requires.stands.fit.whole_cards (covers c.args.sets.now) high
+    c.args.card_words c.args.card 0 c.args.sets.now.cards_per_region c.requires.stands.fit.whole_cards (may_lead c.args.sets.now) high

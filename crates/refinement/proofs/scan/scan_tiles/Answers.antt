@@ -1,10 +1,10 @@
 use Rattle.std.proofs.Common.{◌≡◌, ◌∙◌, ◌*◌, ◌<◌, ℕ, ap, sym, subst, arith}
 use Rattle.mark_bitmap.specs.Kept.{kept_in}
-use Rattle.remembered_sets.specs.Sets.{covers}
+use Rattle.remembered_sets.specs.Sets.{may_lead}
 use Rattle.refinement.specs.Remembering.{LeadsInside}
 use Rattle.regions.proofs.Words.Divides.{card_has_words}
 use Rattle.refinement.proofs.Counted.{count_first, count_next}
-use Rattle.refinement.proofs.Entered.{adds_none, adds_more, adds_grows}
+use Rattle.refinement.proofs.Entered.{adds_none, adds_more, adds_lead}
 use Rattle.refinement.proofs.Fields.{adds_fit, card_end}
 use Rattle.refinement.proofs.Holders.{kept_object, not_kept, fields_inside, same_object}
 use Rattle.refinement.proofs.Scanned.{covered_dead, turn_first, turn_last, turn_next, turn_past, turn_placed}
@@ -30,7 +30,7 @@ loop-at-init c =
     record {
       adds = adds_none c.args.table.now.words_per_region (kept_in c.args.table.now c.args.tams.now c.args.marks.now) c.args.card_words c.args.card c.args.sets.now;
       turn = turn_first c.args.table.now c.law.ensures (kept_in c.args.table.now c.args.tams.now c.args.marks.now) (kept_object c.args.table.now c.args.tams.now c.args.marks.now)
-          c.args.card_words c.args.card c.args.first (covers c.args.sets.now) c.into_iter-at-iterator.result h.tile h.tile_is walk;
+          c.args.card_words c.args.card c.args.first (may_lead c.args.sets.now) c.into_iter-at-iterator.result h.tile h.tile_is walk;
       count = count_first c.args.table.now c.args.card_words c.args.card c.args.first c.into_iter-at-iterator.result c.law.ensures z h walk;
       last = λ region e. absurd (cc);
     }
@@ -42,13 +42,13 @@ pub returns-then-word-end-clause-covered : goal.returns-then-word-end-clause-cov
 returns-then-word-end-clause-covered c =
     let z = card_has_words c.args.card_words c.args.table.now.words_per_region c.args.sets.now.cards_per_region c.law.ensures.positive c.requires.stands.fit.whole_cards in
     turn_past c.args.table.now c.law.ensures (kept_in c.args.table.now c.args.tams.now c.args.marks.now) (kept_object c.args.table.now c.args.tams.now c.args.marks.now)
-    c.args.card_words c.args.card c.args.first (covers c.loop-at.sets) c.loop-at.at-iterator c.next.new.self c.in-Some.at c.in-Some.shape z c.loop-at.invariant.turn c.in-Some.ensures.steps
+    c.args.card_words c.args.card c.args.first (may_lead c.loop-at.sets) c.loop-at.at-iterator c.next.new.self c.in-Some.at c.in-Some.shape z c.loop-at.invariant.turn c.in-Some.ensures.steps
     (let end : c.number.result * c.args.card_words ≡ c.args.card * c.args.card_words = ap (λ (n : ℕ). n * c.args.card_words) c.number.ensures in omega (arith, end, c.word.ensures, c.if-word-end.true))
 
 pub is_kept-requires-clause-tile : goal.is_kept-requires-clause-tile
 is_kept-requires-clause-tile c =
     turn_placed c.args.table.now c.law.ensures (kept_in c.args.table.now c.args.tams.now c.args.marks.now) (kept_object c.args.table.now c.args.tams.now c.args.marks.now)
-    c.args.card_words c.args.card c.args.first (covers c.loop-at.sets) c.loop-at.at-iterator c.next.new.self c.in-Some.at c.in-Some.shape c.loop-at.invariant.turn c.in-Some.ensures.steps
+    c.args.card_words c.args.card c.args.first (may_lead c.loop-at.sets) c.loop-at.at-iterator c.next.new.self c.in-Some.at c.in-Some.shape c.loop-at.invariant.turn c.in-Some.ensures.steps
 
 pub scan_object-last-requires-clause-inside : goal.scan_object-last-requires-clause-inside
 scan_object-last-requires-clause-inside c =
@@ -75,8 +75,8 @@ loop-at-preserved-then-is_kept c =
     let inside = subst (λ (n : ℕ). LeadsInside words n kept) (sym fit.each_region) c.requires.stands.inside in
     record {
       adds = adds_more words kept c.args.card_words c.args.card c.args.sets.now c.loop-at.sets c.scan_object-last.new.sets p.adds q.adds;
-      turn = turn_next c.args.table.now c.law.ensures kept stands c.args.card_words c.args.card c.args.first (covers c.loop-at.sets) (covers c.scan_object-last.new.sets) c.loop-at.at-iterator c.next.new.self c.in-Some.at c.in-Some.shape
-          p.turn c.in-Some.ensures.steps (adds_grows words kept c.args.card_words c.args.card c.loop-at.sets c.scan_object-last.new.sets inside q.adds) q.covered;
+      turn = turn_next c.args.table.now c.law.ensures kept stands c.args.card_words c.args.card c.args.first (may_lead c.loop-at.sets) (may_lead c.scan_object-last.new.sets) c.loop-at.at-iterator c.next.new.self c.in-Some.at c.in-Some.shape
+          p.turn c.in-Some.ensures.steps (adds_lead words kept c.args.card_words c.args.card c.loop-at.sets c.scan_object-last.new.sets inside q.adds) q.covered;
       count = count_next c.args.card_words c.args.card c.loop-at.looked c.in-Some.at c.in-Some.shape c.loop-at.at-iterator c.next.new.self p.count c.in-Some.ensures.steps c.word.result c.number.result c.word.ensures c.number.ensures c.if-word-end.false;
       last = c.scan_object-last.ensures.last;
     }
@@ -88,8 +88,8 @@ loop-at-preserved c =
     let none = not_kept kept c.in-Some.at c.is_kept.result c.is_kept.ensures.1 c.if-is_kept.false in
     record {
       adds = p.adds;
-      turn = turn_next c.args.table.now c.law.ensures kept (kept_object c.args.table.now c.args.tams.now c.args.marks.now) c.args.card_words c.args.card c.args.first (covers c.loop-at.sets) (covers c.loop-at.sets) c.loop-at.at-iterator c.next.new.self c.in-Some.at c.in-Some.shape
-          p.turn c.in-Some.ensures.steps (λ r card was. was) (covered_dead c.args.table.now.words_per_region kept c.args.card_words c.args.card c.in-Some.at (covers c.loop-at.sets) none);
+      turn = turn_next c.args.table.now c.law.ensures kept (kept_object c.args.table.now c.args.tams.now c.args.marks.now) c.args.card_words c.args.card c.args.first (may_lead c.loop-at.sets) (may_lead c.loop-at.sets) c.loop-at.at-iterator c.next.new.self c.in-Some.at c.in-Some.shape
+          p.turn c.in-Some.ensures.steps (λ r card was. was) (covered_dead c.args.table.now.words_per_region kept c.args.card_words c.args.card c.in-Some.at (may_lead c.loop-at.sets) none);
       count = count_next c.args.card_words c.args.card c.loop-at.looked c.in-Some.at c.in-Some.shape c.loop-at.at-iterator c.next.new.self p.count c.in-Some.ensures.steps c.word.result c.number.result c.word.ensures c.number.ensures c.if-word-end.false;
       last = p.last;
     }
@@ -100,4 +100,4 @@ returns-clause-adds c = c.loop-at.invariant.adds
 pub returns-clause-covered : goal.returns-clause-covered
 returns-clause-covered c =
     turn_last c.args.table.now c.law.ensures (kept_in c.args.table.now c.args.tams.now c.args.marks.now) (kept_object c.args.table.now c.args.tams.now c.args.marks.now)
-    c.args.card_words c.args.card c.args.first (covers c.loop-at.sets) c.loop-at.at-iterator c.loop-at.invariant.turn c.in-None.ensures.steps.0
+    c.args.card_words c.args.card c.args.first (may_lead c.loop-at.sets) c.loop-at.at-iterator c.loop-at.invariant.turn c.in-None.ensures.steps.0

@@ -1,6 +1,6 @@
 use Rattle.std.proofs.Common.{◌≡◌, ℕ, Some, true}
 use Rattle.mark_bitmap.specs.Kept.{kept_in}
-use Rattle.remembered_sets.specs.Sets.{covers}
+use Rattle.remembered_sets.specs.Sets.{may_lead}
 use Rattle.refinement.specs.Refining.{AddsCard}
 use Rattle.refinement.proofs.Counted.{IsCount}
 use Rattle.refinement.proofs.Scanned.{IsTurn}
@@ -9,7 +9,7 @@ use Rattle.refinement.proofs.scan.scan_tiles.Given as goal
 abbrev pub invariant-loop-at : goal.invariant-loop-at
 invariant-loop-at l = record {
   adds : AddsCard l.table.words_per_region (kept_in l.table l.tams l.marks) l.card_words l.card l.fn.sets l.sets;
-  turn : IsTurn l.table (kept_in l.table l.tams l.marks) l.card_words l.card l.fn.first (covers l.sets) l.at-iterator;
+  turn : IsTurn l.table (kept_in l.table l.tams l.marks) l.card_words l.card l.fn.first (may_lead l.sets) l.at-iterator;
   count : IsCount l.card_words l.card l.looked l.at-iterator;
-  last : (region : ℕ) → l.last ≡ Some region → covers l.sets region l.card ≡ true;
+  last : (region : ℕ) → l.last ≡ Some region → may_lead l.sets region l.card ≡ true;
 }
