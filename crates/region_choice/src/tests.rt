@@ -131,3 +131,47 @@ fn no_set_frees_more(rt: HostRuntime) -> Result<(), Fail> {
     }
     Ok(())
 }
+
+/// A hundred rows of regions below 64, some of them the same, and live bounds below 1024 in steps.
+fn many_rows(from: u32, step: u32) -> [LiveRow; 100]
+    requires { 0 < step }
+    ensures { All (λ row. row.live_bound < 1024) result }
+{
+    let mut seed = from;
+    let mut rows = [row(0, 0); 100];
+    for place in 0..100 {
+        seed = draw(seed);
+        let live = (seed >> 16) % 1024;
+        rows[place] = row(seed >> 8 & 63, live - live % step);
+    }
+    rows
+}
+
+/// Of many rows those are chosen, in the same order, that stand in front of them sorted.
+#[test]
+fn chooses_what_sorting_puts_in_front(rt: HostRuntime) -> Result<(), Fail> {
+    let mut seed = 1;
+    for round in 0u32..300 {
+        seed = draw(seed);
+        let step = 1 + round % 5 * 100;
+        let mut rows = many_rows(seed, step);
+        let mut sorted = many_rows(seed, step);
+        sorted.sort_unstable_by_key(|row| (row.live_bound, row.region.number()));
+        let budget = u64::from((draw(seed) >> 8) % 60000 >> round % 12);
+        let chosen = choose(&mut rows, 1024, budget, 200);
+        let mut count = 0usize;
+        let mut sum = 0u64;
+        for row in sorted.iter() {
+            sum = sum.wrapping_add(u64::from(row.live_bound));
+            if budget < sum {
+                break;
+            }
+            count = count.wrapping_add(1);
+        }
+        assert_eq!(rt; chosen.count, count, "round {round}");
+        for (row, other) in rows.iter().zip(sorted.iter()).take(count) {
+            assert_eq!(rt; *row, *other, "round {round}");
+        }
+    }
+    Ok(())
+}

@@ -1,5 +1,5 @@
 -- What a pause does to a core, exactly.
-use Rattle.std.specs.Prelude.{◌≡◌, ◌↔◌, ℕ, ◌==◌, ◌+◌, ◌*◌, ◌<◌, ◌≤◌, All, Bool, true, Option, None, List, [], ◌∷◌, ◌++◌, IsSorted, Some, if◌then◌else◌, length, take, count_by, slice_get, slice_index}
+use Rattle.std.specs.Prelude.{◌≡◌, ◌↔◌, ℕ, ◌==◌, ◌+◌, ◌*◌, ◌<◌, ◌≤◌, All, Bool, true, Option, None, List, [], ◌∷◌, ◌++◌, IsSorted, Some, if◌then◌else◌, length, drop, take, count_by, slice_get, slice_index}
 use Rattle.heap_words.specs.Sizes.{size_of}
 use Rattle.heap_words.specs.Configs.{card_words}
 use Rattle.heap_model.specs.Graph.{Graph, Object, object_named}
@@ -13,7 +13,7 @@ use Rattle.mark_bitmap.specs.Live.{live_bound_of}
 use Rattle.marker.specs.Live.{LiveCounts}
 use Rattle.cards.specs.Cards.{clean_cards, flushed}
 use Rattle.region_choice.specs.declared.LiveRow.{LiveRow}
-use Rattle.region_choice.specs.Choice.{copy_limit, live_sum, row_cmp, IsBestWithin}
+use Rattle.region_choice.specs.Choice.{copy_limit, live_sum, row_cmp, ComeFirst, IsBestWithin}
 use Rattle.evacuation.specs.Evacuates.{Layers, HasEvacuated, is_chosen, set_in}
 use Rattle.step_core.specs.Stands.{CoreState, heap_of, ShowsGraph}
 use Rattle.step_core.specs.Reclaimed.{IsReclaimed}
@@ -48,24 +48,23 @@ pub record AreCandidates (t : Table) (tams : Tops) (previous : List Bool) (runni
   pub each : All (IsCandidateRow t tams previous running n) rows
   pub all : (k : ℕ) → k < n → IsCandidate t tams previous running k → is_chosen rows k ≡ true
 
--- the rows are those of the candidates whose live bounds are within a limit. The others have rows too, in their order, which stand
--- nowhere
+-- the rows are those of the candidates whose live bounds are within a limit. The others have rows too, which stand nowhere
 pub record AreCandidatesWithin (t : Table) (tams : Tops) (previous : List Bool) (running : Bool) (limit n : ℕ) (rows : List LiveRow) : Type 0 where
   pub others : List LiveRow
   pub all : AreCandidates t tams previous running n (rows ++ others)
   pub within : All (λ row. row.live_bound ≤ limit) rows
   pub beyond : All (λ row. limit < row.live_bound) others
-  pub sorted : IsSorted row_cmp others
 
--- the rows of the chosen regions: of all candidates, by live bound and then by number, as many from the front as the copy limit allows. No
--- others within the limit free more
+-- the rows of the chosen regions: those of all candidates that come first, by live bound and then by number, as many as the copy limit
+-- allows. None of the others would fit as well, and no others within the limit free more
 pub record IsChosen (t : Table) (tams : Tops) (previous : List Bool) (running : Bool) (budget : ℕ) (chosen : List LiveRow) : Type 0 where
   pub rows : List LiveRow
   pub candidates : AreCandidates t tams previous running (length t.regions) rows
-  pub sorted : IsSorted row_cmp rows
   pub front : chosen ≡ take (length chosen) rows
-  pub next : (row : LiveRow) → slice_get rows (length chosen) ≡ Some row
-      → copy_limit t.words_per_region budget (count_by is_free t.regions) < live_sum chosen + row.live_bound
+  pub sorted : IsSorted row_cmp chosen
+  pub first : ComeFirst chosen (drop (length chosen) rows)
+  pub next : All (λ row. copy_limit t.words_per_region budget (count_by is_free t.regions) < live_sum chosen + row.live_bound)
+      (drop (length chosen) rows)
   pub best : IsBestWithin t.words_per_region (copy_limit t.words_per_region budget (count_by is_free t.regions)) rows chosen
 
 -- No buffer is open and no region current. Every listed card is refined: no card is dirty, and the sets gained what these cards lead into.

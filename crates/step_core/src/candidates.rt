@@ -7,12 +7,12 @@
 //!   next top     5        22        32, its bottom
 //! ```
 
-ghost use Rattle.std.specs.Prelude.{◌≡◌, ◌⊎◌, ℕ, ◌<◌, ◌≤◌, All, Bool, IfNone, IfSome, IsTrue, Some, length, take, count_by, slice_get, ◌+◌, IsPermutation, IsSorted};
+ghost use Rattle.std.specs.Prelude.{◌≡◌, ◌⊎◌, ℕ, ◌<◌, ◌≤◌, All, Bool, IfNone, IfSome, IsTrue, drop, length, take, count_by, ◌+◌, IsPermutation, IsSorted};
 ghost use Rattle.std.specs.Vec.{vec_capacity};
 ghost use Rattle.regions.specs.Table.{is_free, kind_of, nth_region};
 ghost use Rattle.mark_bitmap.specs.Live.{live_bound_of};
 ghost use Rattle.marker.specs.Stands.{MarkerStands};
-ghost use Rattle.region_choice.specs.Choice.{copy_limit, live_sum, row_cmp, IsBestWithin};
+ghost use Rattle.region_choice.specs.Choice.{copy_limit, live_sum, row_cmp, ComeFirst, IsBestWithin};
 ghost use Rattle.step_core.specs.Pause.{IsCandidate, AreCandidatesWithin, IsChosen};
 
 use heap_words::addr::RegionNo;
@@ -76,10 +76,11 @@ fn choose_rows(rows: &mut Vec<LiveRow>, words: u32, budget: u32, free: u32) -> u
     requires { All (λ row. row.live_bound < words) rows.old.items }
     ensures same { IsPermutation rows.old.items rows.new.items }
     ensures len { length rows.new.items ≡ length rows.old.items }
-    ensures sorted { IsSorted row_cmp rows.new.items }
+    ensures sorted { IsSorted row_cmp (take result rows.new.items) }
+    ensures first { ComeFirst (take result rows.new.items) (drop result rows.new.items) }
     ensures count { result ≤ length rows.new.items }
-    ensures next { (row : LiveRow) → slice_get rows.new.items result ≡ Some row
-        → copy_limit words budget free < live_sum (take result rows.new.items) + row.live_bound }
+    ensures next { All (λ row. copy_limit words budget free < live_sum (take result rows.new.items) + row.live_bound)
+        (drop result rows.new.items) }
     ensures best { IsBestWithin words (copy_limit words budget free) rows.old.items (take result rows.new.items) }
     ensures room { vec_capacity rows.new ≡ vec_capacity rows.old }
 {
