@@ -91,7 +91,8 @@ impl Action {
     #[inline(always)]
     pub fn is_in(self, config: &Config) -> bool
         ensures allows { result ≡ allows config.now self }
-        ensures op { (mutator : ℕ) → mutator < config.now.mutators → IsTrue result ↔ IsOp config.now (record { mutator = mutator; action = self }) }
+        ensures op { (mutator : ℕ) → mutator < config.now.mutators
+            → IsTrue result ↔ IsOp config.now (record { mutator = mutator; action = self }) }
     {
         self.names_roots(&Places::of(config)) && self.is_known(config.format)
     }

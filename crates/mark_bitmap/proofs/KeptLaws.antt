@@ -1,5 +1,6 @@
 -- What is kept when regions lose their objects, and when marking is over.
-use Rattle.std.proofs.Common.{inl, inr, ◌≡◌, ◌⊎◌, ℕ, ◌/◌, ◌<◌, ◌≤◌, Bool, true, false, List, Option, None, get_or, refl, ap, ◌∙◌, arith, ⊎_elim}
+use Rattle.std.proofs.Common.{◌≡◌, ◌⊎◌, ◌/◌, ◌<◌, ◌≤◌, ◌∙◌}
+use Rattle.std.proofs.Common.{inl, inr, ℕ, Bool, true, false, List, Option, None, get_or, refl, ap, arith, ⊎_elim}
 use Rattle.std.specs.Prelude.{if◌then◌else◌}
 use Rattle.std.proofs.lemmas.Bool.{cases_lt, cases_Bool, le-ltb, lt-ltb}
 use Rattle.heap_model.specs.Graph.{Graph, IsReachable, next_name}
@@ -14,7 +15,8 @@ use Rattle.mark_bitmap.specs.Grey.{Scans}
 use Rattle.mark_bitmap.specs.Kept.{kept_in, heap_in, marking_in}
 use Rattle.mark_bitmap.proofs.Ranges.{below_set_other}
 
-none_either_way : (object : Option Stored) (below marked : Bool) → object ≡ None → (if below then (if marked then object else None) else object) ≡ None
+none_either_way : (object : Option Stored) (below marked : Bool) → object ≡ None
+    → (if below then (if marked then object else None) else object) ≡ None
 none_either_way object true true e = e
 none_either_way object true false e = refl
 none_either_way object false marked e = e
@@ -38,11 +40,13 @@ pub region_kept : (t t' : Table) (tops : Tops) (previous previous' : List Bool) 
     → 0 < t.words_per_region → t'.words_per_region ≡ t.words_per_region
     → ((a : ℕ) → object_at t' a ≡ (if is_in_region t.words_per_region k a then None else object_at t a))
     → ((a : ℕ) → is_marked previous' a ≡ (if is_in_region t.words_per_region k a then false else is_marked previous a))
-    → (a : ℕ) → kept_in t' (with_bottom tops k bottom) previous' a ≡ (if is_in_region t.words_per_region k a then None else kept_in t tops previous a)
+    → (a : ℕ)
+    → kept_in t' (with_bottom tops k bottom) previous' a ≡ (if is_in_region t.words_per_region k a then None else kept_in t tops previous a)
 region_kept t t' tops previous previous' k bottom z words objects marks a =
     let words' : ℕ = t.words_per_region in
     gone_kept t t' tops (with_bottom tops k bottom) previous previous' (is_in_region words' k) objects
-    (λ b out. ap (λ (n : ℕ). is_below n (with_bottom tops k bottom).previous b) words ∙ below_set_other words' tops.previous k bottom b z out)
+    (λ b out.
+    ap (λ (n : ℕ). is_below n (with_bottom tops k bottom).previous b) words ∙ below_set_other words' tops.previous k bottom b z out)
     (λ b out. marks b ∙ ap (λ x. if x then false else is_marked previous b) out) a
 
 -- where no next top lies below the previous one
@@ -53,12 +57,14 @@ newer_below t tops a newer h =
     let far : next ≤ a = ⊎_elim (λ b. let e = lt-ltb a next b in absurd (let f = h in cc)) (λ b. b) (cases_lt a next) in
     le-ltb a (get_or tops.previous (a / t.words_per_region) 0) (omega (arith, far, newer (a / t.words_per_region)))
 
-pub swap_kept : (s : Graph) (t t' : Table) (tops : Tops) (previous next : List Bool) (scans : Scans) (logged : List ℕ) (roots : List (Option ℕ))
-    → AreNewer tops → KeepsSnapshot s (heap_in t tops previous roots) (marking_in t tops next scans logged)
+pub swap_kept : (s : Graph) (t t' : Table) (tops : Tops) (previous next : List Bool) (scans : Scans)
+    (logged : List ℕ) (roots : List (Option ℕ)) → AreNewer tops
+    → KeepsSnapshot s (heap_in t tops previous roots) (marking_in t tops next scans logged)
     → t'.words_per_region ≡ t.words_per_region
-    → ((a : ℕ) → (is_marked next a ≡ true) ⊎ (below_next t tops a ≡ false) → object_at t' a ≡ cleared_object (marking_in t tops next scans logged) (object_at t a))
+    → ((a : ℕ) → (is_marked next a ≡ true) ⊎ (below_next t tops a ≡ false)
+    → object_at t' a ≡ cleared_object (marking_in t tops next scans logged) (object_at t a))
     → (a : ℕ) → kept_in t' (exchanged tops) next a ≡ cleared_after (heap_in t tops previous roots) (marking_in t tops next scans logged) a
 swap_kept s t t' tops previous next scans logged roots newer i words clears a =
     ap (λ (w : ℕ). if is_below w tops.next a then (if is_marked next a then object_at t' a else None) else object_at t' a) words
-    ∙ (kept_by_marks (IsReachable s) (next_name s) (object_at t) (object_at t') (below_previous t tops) (is_marked previous) roots (marking_in t tops next scans logged) i
-    (λ b h. newer_below t tops b newer h) clears a)
+    ∙ (kept_by_marks (IsReachable s) (next_name s) (object_at t) (object_at t') (below_previous t tops) (is_marked previous)
+    roots (marking_in t tops next scans logged) i (λ b h. newer_below t tops b newer h) clears a)

@@ -25,7 +25,8 @@ only_marked (true ∷ marks) i (suc j) a (suc k) e h = only_marked marks (i + 1)
 only_marked (false ∷ marks) i j a zero e h = absurd (omega (arith, e, at_least marks (i + 1) j a h))
 only_marked (false ∷ marks) i j a (suc k) e h = only_marked marks (i + 1) j a k (omega (arith, e)) h
 
-each_marked : (marks : List Bool) (i k a : ℕ) → i + k ≡ a → is_marked marks k ≡ true → (j : ℕ) × (slice_get (marked_from i marks) j ≡ Some a)
+each_marked : (marks : List Bool) (i k a : ℕ) → i + k ≡ a → is_marked marks k ≡ true
+    → (j : ℕ) × (slice_get (marked_from i marks) j ≡ Some a)
 each_marked [] i k a e h = cc
 each_marked (true ∷ marks) i zero a e h = (zero, ap Some (omega (arith, e)))
 each_marked (true ∷ marks) i (suc k) a e h =
@@ -34,7 +35,8 @@ each_marked (true ∷ marks) i (suc k) a e h =
 each_marked (false ∷ marks) i zero a e h = cc
 each_marked (false ∷ marks) i (suc k) a e h = each_marked marks (i + 1) k a (omega (arith, e)) h
 
-distinct : (marks : List Bool) (i j l a : ℕ) → slice_get (marked_from i marks) j ≡ Some a → slice_get (marked_from i marks) l ≡ Some a → j ≡ l
+distinct : (marks : List Bool) (i j l a : ℕ) → slice_get (marked_from i marks) j ≡ Some a
+    → slice_get (marked_from i marks) l ≡ Some a → j ≡ l
 distinct [] i j l a h k = cc
 distinct (true ∷ marks) i zero zero a h k = refl
 distinct (true ∷ marks) i zero (suc l) a h k = absurd (let e : i ≡ a = cc in omega (arith, e, at_least marks (i + 1) l a k))

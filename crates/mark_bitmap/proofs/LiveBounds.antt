@@ -1,6 +1,7 @@
 -- How large live bounds are, and how they are summed.
 use Rattle.heap_words.specs.Configs.{max_region_words}
-use Rattle.std.proofs.Common.{◌≡◌, ℕ, zero, suc, ◌+◌, ◌-◌, ◌*◌, ◌<◌, ◌≤◌, Bool, true, false, List, Option, Some, None, length, get_or, refl, sym, ap, ◌∙◌, arith}
+use Rattle.std.proofs.Common.{◌≡◌, ◌+◌, ◌-◌, ◌*◌, ◌<◌, ◌≤◌, ◌∙◌}
+use Rattle.std.proofs.Common.{ℕ, zero, suc, Bool, true, false, List, Option, Some, None, length, get_or, refl, sym, ap, arith}
 use Rattle.std.specs.Prelude.{if◌then◌else◌}
 use Rattle.std.proofs.lemmas.Bool.{lt-ltb}
 use Rattle.heap_model.specs.Heap.{Stored}
@@ -29,7 +30,8 @@ unfolding object_words
 marked_chosen t marks zero a = refl
 marked_chosen t marks (suc n) a = omega (arith, size_if (is_marked marks a) (object_at t a), marked_chosen t marks n (suc a))
 
-kept_chosen : (t : Table) (tops : Tops) (previous : List Bool) (n a : ℕ) → kept_words t tops previous a n ≡ chosen_words (kept_in t tops previous) a n
+kept_chosen : (t : Table) (tops : Tops) (previous : List Bool) (n a : ℕ)
+    → kept_words t tops previous a n ≡ chosen_words (kept_in t tops previous) a n
 kept_chosen t tops previous zero a = refl
 kept_chosen t tops previous (suc n) a = omega (arith, kept_chosen t tops previous n (suc a))
 
@@ -37,30 +39,40 @@ if_some : (b : Bool) (o : Option Stored) (s : Stored) → (if b then o else None
 if_some true o s e = (refl, e)
 if_some false o s e = cc
 
-kept_some : (below marked : Bool) (o : Option Stored) (s : Stored) → (if below then (if marked then o else None) else o) ≡ Some s → o ≡ Some s
+kept_some : (below marked : Bool) (o : Option Stored) (s : Stored)
+    → (if below then (if marked then o else None) else o) ≡ Some s → o ≡ Some s
 kept_some true marked o s e = (if_some marked o s e).1
 kept_some false marked o s e = e
 
 -- the marked objects of a region lie between its bottom and its top, and below a top at mark start over which none reaches
 marked_le : (t : Table) (marks : List Bool) (k limit a n : ℕ) → Spans t k
-    → ((x : ℕ) (s : Stored) → k * t.words_per_region ≤ x → x < k * t.words_per_region + t.words_per_region → is_marked marks x ≡ true → object_at t x ≡ Some s → x + tile_size (Object s) ≤ limit)
+    → ((x : ℕ) (s : Stored) → k * t.words_per_region ≤ x → x < k * t.words_per_region + t.words_per_region → is_marked marks x ≡ true
+    → object_at t x ≡ Some s → x + tile_size (Object s) ≤ limit)
     → k * t.words_per_region ≤ a → a + n ≤ k * t.words_per_region + t.words_per_region → marked_words t marks a n ≤ limit - a
 marked_le t marks k limit a n p ends low high =
-    let is : (x : ℕ) (s : Stored) → marked_in t marks x ≡ Some s → (is_marked marks x ≡ true) × (object_at t x ≡ Some s) = λ x s e. if_some (is_marked marks x) (object_at t x) s e in
-    let choice : IsChoice t k limit (marked_in t marks) = record { object = λ x s e. (is x s e).1; ends = λ x s l h e. ends x s l h (is x s e).0 (is x s e).1 } in
+    let is : (x : ℕ) (s : Stored) → marked_in t marks x ≡ Some s → (is_marked marks x ≡ true) × (object_at t x ≡ Some s) =
+    λ x s e. if_some (is_marked marks x) (object_at t x) s e in
+    let choice : IsChoice t k limit (marked_in t marks) = record {
+      object = λ x s e. (is x s e).1;
+      ends = λ x s l h e. ends x s l h (is x s e).0 (is x s e).1;
+    } in
     omega (arith, marked_chosen t marks n a, chosen_le t k limit (marked_in t marks) p choice a n low high)
 
-pub marked_used : (t : Table) (marks : List Bool) (k a n : ℕ) → Spans t k → k * t.words_per_region ≤ a → a + n ≤ k * t.words_per_region + t.words_per_region → marked_words t marks a n ≤ top_of t k - a
+pub marked_used : (t : Table) (marks : List Bool) (k a n : ℕ) → Spans t k → k * t.words_per_region ≤ a
+    → a + n ≤ k * t.words_per_region + t.words_per_region → marked_words t marks a n ≤ top_of t k - a
 marked_used t marks k a n p low high = marked_le t marks k (top_of t k) a n p (λ x s l h _ e. p.ends x s l h e) low high
 
-marked_below_top : (t : Table) (tops : List ℕ) (marks : List Bool) (k n : ℕ) → Spans t k → MarksEndBelow t tops marks k → n ≤ t.words_per_region
+marked_below_top : (t : Table) (tops : List ℕ) (marks : List Bool) (k n : ℕ) → Spans t k
+    → MarksEndBelow t tops marks k → n ≤ t.words_per_region
     → marked_words t marks (k * t.words_per_region) n ≤ get_or tops k 0 - k * t.words_per_region
 unfolding object_words
 marked_below_top t tops marks k n p below small =
     marked_le t marks k (get_or tops k 0) (k * t.words_per_region) n p
-    (λ x s l h marked e. omega (arith, below x (in_region t.words_per_region k x l h) marked, ap stored_size e)) (omega arith) (omega (arith, small))
+    (λ x s l h marked e. omega (arith, below x (in_region t.words_per_region k x l h) marked, ap stored_size e)) (omega arith)
+    (omega (arith, small))
 
-pub bound_le : (t : Table) (tops : List ℕ) (marks : List Bool) (k : ℕ) → IsShaped t → MarksObjects t tops marks → k < length t.regions → kind_of t k ≡ kinds.Ordinary → MarksEndBelow t tops marks k
+pub bound_le : (t : Table) (tops : List ℕ) (marks : List Bool) (k : ℕ) → IsShaped t → MarksObjects t tops marks → k < length t.regions
+    → kind_of t k ≡ kinds.Ordinary → MarksEndBelow t tops marks k
     → live_bound_of t tops marks k ≤ t.words_per_region
 unfolding live_bound_of
 bound_le t tops marks k shape m known ordinary below =
@@ -69,42 +81,54 @@ bound_le t tops marks k shape m known ordinary below =
     let marked = marked_below_top t tops marks k (get_or tops k 0 - k * t.words_per_region) p below (omega (arith, top)) in
     omega (arith, marked, m.bottom k known, m.top k known, p.top_le)
 
-pub bound_le_twice : (t : Table) (tops : List ℕ) (marks : List Bool) (k : ℕ) → IsShaped t → MarksObjects t tops marks → k < length t.regions → kind_of t k ≡ kinds.Ordinary
-    → live_bound_of t tops marks k ≤ 2 * t.words_per_region
+pub bound_le_twice : (t : Table) (tops : List ℕ) (marks : List Bool) (k : ℕ) → IsShaped t → MarksObjects t tops marks
+    → k < length t.regions → kind_of t k ≡ kinds.Ordinary → live_bound_of t tops marks k ≤ 2 * t.words_per_region
 unfolding live_bound_of
 bound_le_twice t tops marks k shape m known ordinary =
     let p = spans t k shape ordinary in
     let top = tops_le t tops marks k shape m in
-    let marked = marked_used t marks k (k * t.words_per_region) (get_or tops k 0 - k * t.words_per_region) p (omega arith) (omega (arith, top)) in
+    let marked =
+    marked_used t marks k (k * t.words_per_region) (get_or tops k 0 - k * t.words_per_region) p (omega arith) (omega (arith, top)) in
     omega (arith, marked, m.bottom k known, m.top k known, p.top_le)
 
-kept_split : (t : Table) (tops : Tops) (previous : List Bool) (n m whole a b : ℕ) → whole ≡ n + m → b ≡ a + n → kept_words t tops previous a whole ≡ kept_words t tops previous a n + kept_words t tops previous b m
+kept_split : (t : Table) (tops : Tops) (previous : List Bool) (n m whole a b : ℕ) → whole ≡ n + m → b ≡ a + n
+    → kept_words t tops previous a whole ≡ kept_words t tops previous a n + kept_words t tops previous b m
 kept_split t tops previous zero m whole a b e f =
     let same : whole ≡ m = omega (arith, e) in
     let here : b ≡ a = omega (arith, f) in
     omega (arith, ap (kept_words t tops previous a) same, ap (λ (x : ℕ). kept_words t tops previous x m) here)
 kept_split t tops previous (suc n) m zero a b e f = absurd (omega (arith, e))
-kept_split t tops previous (suc n) m (suc whole) a b e f = omega (arith, kept_split t tops previous n m whole (suc a) b (omega (arith, e)) (omega (arith, f)))
+kept_split t tops previous (suc n) m (suc whole) a b e f =
+    omega (arith, kept_split t tops previous n m whole (suc a) b (omega (arith, e)) (omega (arith, f)))
 
-size_kept : (below marked : Bool) (o : Option Stored) → below ≡ true → stored_size (if below then (if marked then o else None) else o) ≡ (if marked then stored_size o else 0)
+size_kept : (below marked : Bool) (o : Option Stored) → below ≡ true
+    → stored_size (if below then (if marked then o else None) else o) ≡ (if marked then stored_size o else 0)
 size_kept true marked o e = sym (size_if marked o)
 size_kept false marked o e = cc
 
 -- below a top at mark start what is kept is what is marked
-kept_low : (t : Table) (tops : Tops) (previous : List Bool) (n a : ℕ) → ((x : ℕ) → a ≤ x → x < a + n → below_previous t tops x ≡ true) → kept_words t tops previous a n ≡ marked_words t previous a n
+kept_low : (t : Table) (tops : Tops) (previous : List Bool) (n a : ℕ) → ((x : ℕ) → a ≤ x → x < a + n → below_previous t tops x ≡ true)
+    → kept_words t tops previous a n ≡ marked_words t previous a n
 unfolding object_words
 kept_low t tops previous zero a below = refl
 kept_low t tops previous (suc n) a below =
-    let here : stored_size (kept_in t tops previous a) ≡ (if is_marked previous a then stored_size (object_at t a) else 0) = size_kept (below_previous t tops a) (is_marked previous a) (object_at t a) (below a (omega arith) (omega arith)) in
+    let here : stored_size (kept_in t tops previous a) ≡ (if is_marked previous a then stored_size (object_at t a) else 0) =
+    size_kept (below_previous t tops a) (is_marked previous a) (object_at t a) (below a (omega arith) (omega arith)) in
     omega (arith, here, kept_low t tops previous n (suc a) (λ x l h. below x (omega (arith, l)) (omega (arith, h))))
 
-kept_high : (t : Table) (tops : Tops) (previous : List Bool) (k a n : ℕ) → Spans t k → k * t.words_per_region ≤ a → a + n ≤ k * t.words_per_region + t.words_per_region → kept_words t tops previous a n ≤ top_of t k - a
+kept_high : (t : Table) (tops : Tops) (previous : List Bool) (k a n : ℕ) → Spans t k → k * t.words_per_region ≤ a
+    → a + n ≤ k * t.words_per_region + t.words_per_region → kept_words t tops previous a n ≤ top_of t k - a
 kept_high t tops previous k a n p low high =
-    let is : (x : ℕ) (s : Stored) → kept_in t tops previous x ≡ Some s → object_at t x ≡ Some s = λ x s e. kept_some (below_previous t tops x) (is_marked previous x) (object_at t x) s e in
-    let choice : IsChoice t k (top_of t k) (kept_in t tops previous) = record { object = is; ends = λ x s l h e. p.ends x s l h (is x s e) } in
+    let is : (x : ℕ) (s : Stored) → kept_in t tops previous x ≡ Some s → object_at t x ≡ Some s =
+    λ x s e. kept_some (below_previous t tops x) (is_marked previous x) (object_at t x) s e in
+    let choice : IsChoice t k (top_of t k) (kept_in t tops previous) = record {
+      object = is;
+      ends = λ x s l h e. p.ends x s l h (is x s e);
+    } in
     omega (arith, kept_chosen t tops previous n a, chosen_le t k (top_of t k) (kept_in t tops previous) p choice a n low high)
 
-pub kept_le : (t : Table) (tops : Tops) (previous : List Bool) (k : ℕ) → IsShaped t → MarksObjects t tops.previous previous → k < length t.regions → kind_of t k ≡ kinds.Ordinary
+pub kept_le : (t : Table) (tops : Tops) (previous : List Bool) (k : ℕ) → IsShaped t → MarksObjects t tops.previous previous
+    → k < length t.regions → kind_of t k ≡ kinds.Ordinary
     → kept_words t tops previous (k * t.words_per_region) t.words_per_region ≤ live_bound_of t tops.previous previous k
 unfolding live_bound_of
 kept_le t tops previous k shape m known ordinary =
@@ -116,18 +140,21 @@ kept_le t tops previous k shape m known ordinary =
     let low = m.bottom k known in
     let below : (x : ℕ) → bottom ≤ x → x < bottom + (start - bottom) → below_previous t tops x ≡ true = λ x l h.
     below_in words tops.previous k x (in_region words k x l (omega (arith, h, top))) ∙ lt-ltb x start (omega (arith, h, low)) in
-    let split = kept_split t tops previous (start - bottom) (words - (start - bottom)) words bottom start (omega (arith, top, low)) (omega (arith, low)) in
+    let split = kept_split t tops previous (start - bottom) (words - (start - bottom)) words bottom start
+    (omega (arith, top, low)) (omega (arith, low)) in
     let marked = kept_low t tops previous (start - bottom) bottom below in
     let rest = kept_high t tops previous k start (words - (start - bottom)) p low (omega (arith, top, low)) in
     omega (arith, split, marked, rest)
 
-marked_split : (t : Table) (marks : List Bool) (n m whole a b : ℕ) → whole ≡ n + m → b ≡ a + n → marked_words t marks a whole ≡ marked_words t marks a n + marked_words t marks b m
+marked_split : (t : Table) (marks : List Bool) (n m whole a b : ℕ) → whole ≡ n + m → b ≡ a + n
+    → marked_words t marks a whole ≡ marked_words t marks a n + marked_words t marks b m
 marked_split t marks zero m whole a b e f =
     let same : whole ≡ m = omega (arith, e) in
     let here : b ≡ a = omega (arith, f) in
     omega (arith, ap (marked_words t marks a) same, ap (λ (x : ℕ). marked_words t marks x m) here)
 marked_split t marks (suc n) m zero a b e f = absurd (omega (arith, e))
-marked_split t marks (suc n) m (suc whole) a b e f = omega (arith, marked_split t marks n m whole (suc a) b (omega (arith, e)) (omega (arith, f)))
+marked_split t marks (suc n) m (suc whole) a b e f =
+    omega (arith, marked_split t marks n m whole (suc a) b (omega (arith, e)) (omega (arith, f)))
 
 -- the words of what is marked from one address up to another
 abbrev pub words_between : Table → List Bool → ℕ → ℕ → ℕ
@@ -136,25 +163,31 @@ words_between t marks from to = marked_words t marks from (to - from)
 pub words_start : (t : Table) (marks : List Bool) (from at : ℕ) → at ≡ from → 0 ≡ words_between t marks from at
 words_start t marks from at e = let none : at - from ≡ 0 = omega (arith, e) in sym (ap (marked_words t marks from) none)
 
-pub words_stay : (t : Table) (marks : List Bool) (from at to : ℕ) → from ≤ at → at ≤ to → ((a : ℕ) → at ≤ a → a < to → is_marked marks a ≡ false) → words_between t marks from to ≡ words_between t marks from at
+pub words_stay : (t : Table) (marks : List Bool) (from at to : ℕ) → from ≤ at → at ≤ to
+    → ((a : ℕ) → at ≤ a → a < to → is_marked marks a ≡ false) → words_between t marks from to ≡ words_between t marks from at
 words_stay t marks from at to low high none =
     let split = marked_split t marks (at - from) (to - at) (to - from) from at (omega (arith, low, high)) (omega (arith, low)) in
     omega (arith, split, none_words t marks (to - at) at (λ x l h. none x l (omega (arith, h, high))))
 
-pub words_more : (t : Table) (marks : List Bool) (from at found next : ℕ) → from ≤ at → IsLowest (is_marked marks) at found → next ≡ found + 1 → words_between t marks from next ≡ words_between t marks from at + object_words t found
+pub words_more : (t : Table) (marks : List Bool) (from at found next : ℕ) → from ≤ at → IsLowest (is_marked marks) at found
+    → next ≡ found + 1 → words_between t marks from next ≡ words_between t marks from at + object_words t found
 words_more t marks from at found next low l e =
-    let split = marked_split t marks (found - from) 1 (next - from) from found (omega (arith, low, l.at_least, e)) (omega (arith, low, l.at_least)) in
-    let here : (if is_marked marks found then object_words t found else 0) ≡ object_words t found = ap (λ b. if b then object_words t found else 0) l.is_in in
+    let split =
+    marked_split t marks (found - from) 1 (next - from) from found (omega (arith, low, l.at_least, e)) (omega (arith, low, l.at_least)) in
+    let here : (if is_marked marks found then object_words t found else 0) ≡ object_words t found =
+    ap (λ b. if b then object_words t found else 0) l.is_in in
     omega (arith, split, here, words_stay t marks from at found low l.at_least l.lowest)
 
 -- they grow with the addresses
-pub words_grow : (t : Table) (marks : List Bool) (from at to : ℕ) → from ≤ at → at ≤ to → words_between t marks from at ≤ words_between t marks from to
+pub words_grow : (t : Table) (marks : List Bool) (from at to : ℕ) → from ≤ at → at ≤ to
+    → words_between t marks from at ≤ words_between t marks from to
 words_grow t marks from at to low high =
     let split = marked_split t marks (at - from) (to - at) (to - from) from at (omega (arith, low, high)) (omega (arith, low)) in
     omega (arith, split)
 
 -- in a region it is no more than the region's words
-pub words_small : (t : Table) (marks : List Bool) (k from to : ℕ) → IsShaped t → kind_of t k ≡ kinds.Ordinary → from ≡ k * t.words_per_region → from ≤ to → to ≤ k * t.words_per_region + t.words_per_region
+pub words_small : (t : Table) (marks : List Bool) (k from to : ℕ) → IsShaped t → kind_of t k ≡ kinds.Ordinary
+    → from ≡ k * t.words_per_region → from ≤ to → to ≤ k * t.words_per_region + t.words_per_region
     → words_between t marks from to ≤ max_region_words
 words_small t marks k from to shape ordinary e low high =
     let p = spans t k shape ordinary in
@@ -162,20 +195,29 @@ words_small t marks k from to shape ordinary e low high =
 
 -- a search from one address to the next: the marks found so far, and what follows
 module _ (t : Table) (marks : List Bool) (from at live : ℕ) (low : from ≤ at) (so_far : live ≡ words_between t marks from at) where
-  pub words_all : (to bottom top : ℕ) → at ≤ to → from ≡ bottom → to ≡ top → ((a : ℕ) → at ≤ a → a < to → is_marked marks a ≡ false) → live ≡ marked_words t marks bottom (top - bottom)
+  pub words_all : (to bottom top : ℕ) → at ≤ to → from ≡ bottom → to ≡ top → ((a : ℕ) → at ≤ a → a < to → is_marked marks a ≡ false)
+      → live ≡ marked_words t marks bottom (top - bottom)
   words_all to bottom top high e f none =
-      so_far ∙ sym (words_stay t marks from at to low high none) ∙ ap (λ (x : ℕ). words_between t marks x to) e ∙ ap (words_between t marks bottom) f
+      so_far ∙ sym (words_stay t marks from at to low high none)
+      ∙ ap (λ (x : ℕ). words_between t marks x to) e ∙ ap (words_between t marks bottom) f
 
-  pub words_next : (found next size : ℕ) → IsLowest (is_marked marks) at found → next ≡ found + 1 → size ≡ object_words t found → live + size ≡ words_between t marks from next
+  pub words_next : (found next size : ℕ) → IsLowest (is_marked marks) at found → next ≡ found + 1 → size ≡ object_words t found
+      → live + size ≡ words_between t marks from next
   words_next found next size l e s = omega (arith, so_far, s, words_more t marks from at found next low l e)
 
-  pub words_fit : (k found size : ℕ) → IsShaped t → kind_of t k ≡ kinds.Ordinary → from ≡ k * t.words_per_region → found < k * t.words_per_region + t.words_per_region
-      → IsLowest (is_marked marks) at found → size ≡ object_words t found → live + size ≤ max_region_words
+  pub words_fit : (k found size : ℕ) → IsShaped t → kind_of t k ≡ kinds.Ordinary → from ≡ k * t.words_per_region
+      → found < k * t.words_per_region + t.words_per_region → IsLowest (is_marked marks) at found
+      → size ≡ object_words t found → live + size ≤ max_region_words
   words_fit k found size shape ordinary e high l s =
-      omega (arith, words_next found (found + 1) size l refl s, words_small t marks k from (found + 1) shape ordinary e (omega (arith, low, l.at_least)) (omega (arith, high)))
+      omega (
+        arith,
+        words_next found (found + 1) size l refl s,
+        words_small t marks k from (found + 1) shape ordinary e (omega (arith, low, l.at_least)) (omega (arith, high)),
+      )
 
 -- the live bound in its two parts
-pub bound_is : (t : Table) (tops : List ℕ) (marks : List Bool) (k below top start : ℕ) → below ≡ marked_words t marks (k * t.words_per_region) (get_or tops k 0 - k * t.words_per_region)
+pub bound_is : (t : Table) (tops : List ℕ) (marks : List Bool) (k below top start : ℕ)
+    → below ≡ marked_words t marks (k * t.words_per_region) (get_or tops k 0 - k * t.words_per_region)
     → top ≡ top_of t k → start ≡ get_or tops k 0 → below + (top - start) ≡ live_bound_of t tops marks k
 unfolding live_bound_of
 bound_is t tops marks k below top start e f g = omega (arith, e, f, g)

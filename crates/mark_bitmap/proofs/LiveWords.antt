@@ -1,11 +1,14 @@
 -- The words of marked and of kept objects.
-use Rattle.std.proofs.Common.{inl, inr, ◌≡◌, ◌≢◌, ◌↔◌, ℕ, zero, suc, ◌+◌, ◌-◌, ◌*◌, ◌/◌, ◌%◌, ◌<◌, ◌≤◌, Bool, true, false, not, eqb, List, Option, Some, None, length, get_or, refl, sym, ap, ◌∙◌, arith}
+use Rattle.std.proofs.Common.{◌≡◌, ◌≢◌, ◌↔◌, ◌+◌, ◌-◌, ◌*◌, ◌/◌, ◌%◌, ◌<◌, ◌≤◌, ◌∙◌}
+use Rattle.std.proofs.Common.{inl, inr, ℕ, zero, suc, Bool, true, false, not, eqb, List, Option}
+use Rattle.std.proofs.Common.{Some, None, length, get_or, refl, sym, ap, arith}
 use Rattle.std.specs.Prelude.{if◌then◌else◌, MatchOption, IfSome, IsTrue}
 use Rattle.std.specs.Option.{is_some}
 use Rattle.std.proofs.lemmas.Bool.{cases_lt, cases_eq, cases_Bool, eq-eqb, ne_eqb, le-leb, lt-ltb, le-ltb, and_parts, ltb-true, leb-true}
 use Rattle.std.proofs.lemmas.List.{get_or_past}
 use Rattle.regions.specs.Tiles.{total_size}
-use Rattle.regions.specs.Table.{Table, Region, Free, Ordinary, First, Rest, region_tile, region_at, nth_region, region_kind, kind_of, region_used, used_of, top_of, tile_in, tile_object, object_at, stored_size, object_words}
+use Rattle.regions.specs.Table.{Table, Region, Free, Ordinary, First, Rest, region_tile, region_at, nth_region, region_kind, kind_of}
+use Rattle.regions.specs.Table.{region_used, used_of, top_of, tile_in, tile_object, object_at, stored_size, object_words}
 use Rattle.regions.specs.Walks.{region_tiles, tiles_of}
 use Rattle.regions.specs.Shaped.{IsShaped}
 use Rattle.regions.specs.declared.row.Kind.TheVariants as kinds
@@ -26,17 +29,21 @@ pub region_high : (words k a : ℕ) → is_in_region words k a ≡ true → a < 
 region_high words k a h = ltb-true a (k * words + words) (and_parts _ _ h).1
 
 -- a marked address has words
-pub marked_positive : (t : Table) (tops : List ℕ) (marks : List Bool) (a : ℕ) → MarksObjects t tops marks → is_marked marks a ≡ true → 2 ≤ object_words t a
+pub marked_positive : (t : Table) (tops : List ℕ) (marks : List Bool) (a : ℕ) → MarksObjects t tops marks
+    → is_marked marks a ≡ true → 2 ≤ object_words t a
 unfolding object_words
 marked_positive t tops marks a m h = let o = m.object a h in omega (arith, ap stored_size o.1)
 
-pub none_words : (t : Table) (marks : List Bool) (n a : ℕ) → ((x : ℕ) → a ≤ x → x < a + n → is_marked marks x ≡ false) → marked_words t marks a n ≡ 0
+pub none_words : (t : Table) (marks : List Bool) (n a : ℕ)
+    → ((x : ℕ) → a ≤ x → x < a + n → is_marked marks x ≡ false) → marked_words t marks a n ≡ 0
 none_words t marks zero a none = refl
 none_words t marks (suc n) a none =
-    let here : (if is_marked marks a then object_words t a else 0) ≡ 0 = ap (λ b. if b then object_words t a else 0) (none a (omega arith) (omega arith)) in
+    let here : (if is_marked marks a then object_words t a else 0) ≡ 0 =
+    ap (λ b. if b then object_words t a else 0) (none a (omega arith) (omega arith)) in
     omega (arith, here, none_words t marks n (suc a) (λ x l h. none x (omega (arith, l)) (omega (arith, h))))
 
-pub words_none : (t : Table) (tops : List ℕ) (marks : List Bool) (n a x : ℕ) → MarksObjects t tops marks → marked_words t marks a n ≡ 0 → a ≤ x → x < a + n → is_marked marks x ≡ false
+pub words_none : (t : Table) (tops : List ℕ) (marks : List Bool) (n a x : ℕ) → MarksObjects t tops marks → marked_words t marks a n ≡ 0
+    → a ≤ x → x < a + n → is_marked marks x ≡ false
 words_none t tops marks zero a x m e low high = absurd (omega (arith, low, high))
 words_none t tops marks (suc n) a x m e low high =
     elim (cases_lt a x) [
@@ -44,17 +51,25 @@ words_none t tops marks (suc n) a x m e low high =
       | inr before ↦
           let same : x ≡ a = omega (arith, low, before) in
           ap (is_marked marks) same ∙ elim (cases_Bool (is_marked marks a)) [
-            | inl marked ↦ absurd (omega (arith, e, ap (λ b. if b then object_words t a else 0) marked, marked_positive t tops marks a m marked))
+            | inl marked ↦
+                absurd (omega (arith, e, ap (λ b. if b then object_words t a else 0) marked, marked_positive t tops marks a m marked))
             | inr unmarked ↦ unmarked
           ]
     ]
 
-pub same_words : (t t' : Table) (marks marks' : List Bool) (n a : ℕ) → ((x : ℕ) → a ≤ x → x < a + n → is_marked marks' x ≡ is_marked marks x)
+pub same_words : (t t' : Table) (marks marks' : List Bool) (n a : ℕ)
+    → ((x : ℕ) → a ≤ x → x < a + n → is_marked marks' x ≡ is_marked marks x)
     → ((x : ℕ) → a ≤ x → x < a + n → object_words t' x ≡ object_words t x) → marked_words t' marks' a n ≡ marked_words t marks a n
 same_words t t' marks marks' zero a marked words = refl
 same_words t t' marks marks' (suc n) a marked words =
-    let here : (if is_marked marks' a then object_words t' a else 0) ≡ (if is_marked marks a then object_words t a else 0) = rw (marked a (omega arith) (omega arith), words a (omega arith) (omega arith)) refl in
-    omega (arith, here, same_words t t' marks marks' n (suc a) (λ x l h. marked x (omega (arith, l)) (omega (arith, h))) (λ x l h. words x (omega (arith, l)) (omega (arith, h))))
+    let here : (if is_marked marks' a then object_words t' a else 0) ≡ (if is_marked marks a then object_words t a else 0) =
+    rw (marked a (omega arith) (omega arith), words a (omega arith) (omega arith)) refl in
+    omega (
+      arith,
+      here,
+      same_words t t' marks marks' n (suc a) (λ x l h. marked x (omega (arith, l)) (omega (arith, h)))
+          (λ x l h. words x (omega (arith, l)) (omega (arith, h))),
+    )
 
 -- what is handed out of a region fits into it
 pub used_le : (t : Table) (k : ℕ) → IsShaped t → used_of t k ≤ t.words_per_region
@@ -63,12 +78,18 @@ used_le t k shape = go (nth_region t k) refl
   where
     go : (r : Region) → nth_region t k ≡ r → region_used t.words_per_region (nth_region t k) ≤ t.words_per_region
     go Free e = rw e (omega arith)
-    go (Ordinary ts) e = omega (arith, ap (region_used t.words_per_region) e, ap (λ (r : Region). total_size (region_tiles r)) e, (shape.fitting k).fits (ap region_kind e))
+    go (Ordinary ts) e = omega (
+      arith,
+      ap (region_used t.words_per_region) e,
+      ap (λ (r : Region). total_size (region_tiles r)) e,
+      (shape.fitting k).fits (ap region_kind e),
+    )
     go (First s) e = rw e (omega arith)
     go (Rest n) e = let l = shape.later k n e in rw e (omega (arith, l.words))
 
 -- a top at mark start lies in its region
-pub tops_le : (t : Table) (tops : List ℕ) (marks : List Bool) (k : ℕ) → IsShaped t → MarksObjects t tops marks → get_or tops k 0 ≤ k * t.words_per_region + t.words_per_region
+pub tops_le : (t : Table) (tops : List ℕ) (marks : List Bool) (k : ℕ) → IsShaped t → MarksObjects t tops marks
+    → get_or tops k 0 ≤ k * t.words_per_region + t.words_per_region
 tops_le t tops marks k shape m = elim (cases_lt k (length t.regions)) [
   | inl known ↦ omega (arith, m.top k known, used_le t k shape)
   | inr past ↦ omega (arith, get_or_past tops k 0 (omega (arith, past, m.each_region)))
@@ -84,12 +105,14 @@ same_region_words t t' k a size same low high =
     ∙ ap (λ (r : Region). stored_size (tile_object (region_tile r (a % t.words_per_region)))) same
     ∙ ap (λ (n : ℕ). stored_size (tile_object (region_tile (get_or t.regions n Free) (a % t.words_per_region)))) (sym row)
 
-same_region_top : (t t' : Table) (k : ℕ) → t'.words_per_region ≡ t.words_per_region → nth_region t' k ≡ nth_region t k → top_of t' k ≡ top_of t k
+same_region_top : (t t' : Table) (k : ℕ) → t'.words_per_region ≡ t.words_per_region
+    → nth_region t' k ≡ nth_region t k → top_of t' k ≡ top_of t k
 unfolding used_of nth_region
 same_region_top t t' k size same = rw (size, same) refl
 
 -- a region's live bound is told by its tiles, its marks and its top at mark start
-pub same_bound : (t t' : Table) (tops tops' : List ℕ) (marks marks' : List Bool) (k : ℕ) → IsShaped t → t'.words_per_region ≡ t.words_per_region → nth_region t' k ≡ nth_region t k
+pub same_bound : (t t' : Table) (tops tops' : List ℕ) (marks marks' : List Bool) (k : ℕ) → IsShaped t
+    → t'.words_per_region ≡ t.words_per_region → nth_region t' k ≡ nth_region t k
     → get_or tops' k 0 ≡ get_or tops k 0 → ((a : ℕ) → is_in_region t.words_per_region k a ≡ true → is_marked marks' a ≡ is_marked marks a)
     → MarksObjects t tops marks → live_bound_of t' tops' marks' k ≡ live_bound_of t tops marks k
 unfolding live_bound_of
@@ -100,9 +123,12 @@ same_bound t t' tops tops' marks marks' k shape size same top each m =
     let at : get_or tops' k 0 - k * t'.words_per_region ≡ n = rw (top, size) refl in
     let bottom : k * t'.words_per_region ≡ k * words = ap (λ (w : ℕ). k * w) size in
     let inside : (x : ℕ) → x < k * words + n → x < k * words + words = λ x h. omega (arith, h, le) in
-    let below : marked_words t' marks' (k * t'.words_per_region) (get_or tops' k 0 - k * t'.words_per_region) ≡ marked_words t marks (k * words) n =
-    ap (λ (b : ℕ). marked_words t' marks' b (get_or tops' k 0 - k * t'.words_per_region)) bottom ∙ ap (marked_words t' marks' (k * words)) at
-    ∙ same_words t t' marks marks' n (k * words) (λ x l h. each x (in_region words k x l (inside x h))) (λ x l h. same_region_words t t' k x size same l (inside x h)) in
+    let below : marked_words t' marks' (k * t'.words_per_region) (get_or tops' k 0 - k * t'.words_per_region)
+    ≡ marked_words t marks (k * words) n =
+    ap (λ (b : ℕ). marked_words t' marks' b (get_or tops' k 0 - k * t'.words_per_region)) bottom
+    ∙ ap (marked_words t' marks' (k * words)) at
+    ∙ same_words t t' marks marks' n (k * words) (λ x l h. each x (in_region words k x l (inside x h)))
+    (λ x l h. same_region_words t t' k x size same l (inside x h)) in
     omega (arith, below, same_region_top t t' k size same, top)
 
 -- a live bound of zero says that the top at mark start is the top, and that nothing below it is marked
@@ -110,21 +136,25 @@ pub record IsDead (t : Table) (tops : List ℕ) (marks : List Bool) (k : ℕ) : 
   pub top : get_or tops k 0 ≡ top_of t k
   pub none : (a : ℕ) → k * t.words_per_region ≤ a → a < get_or tops k 0 → is_marked marks a ≡ false
 
-pub dead_of_zero : (t : Table) (tops : List ℕ) (marks : List Bool) (k : ℕ) → MarksObjects t tops marks → k < length t.regions → live_bound_of t tops marks k ≡ 0 → IsDead t tops marks k
+pub dead_of_zero : (t : Table) (tops : List ℕ) (marks : List Bool) (k : ℕ) → MarksObjects t tops marks → k < length t.regions
+    → live_bound_of t tops marks k ≡ 0 → IsDead t tops marks k
 unfolding live_bound_of
 dead_of_zero t tops marks k m known e = record {
   top = omega (arith, m.top k known, e);
-  none = λ a low high. words_none t tops marks (get_or tops k 0 - k * t.words_per_region) (k * t.words_per_region) a m (omega (arith, e)) low (omega (arith, low, high));
+  none = λ a low high. words_none t tops marks (get_or tops k 0 - k * t.words_per_region) (k * t.words_per_region) a m
+      (omega (arith, e)) low (omega (arith, low, high));
 }
 
 pub zero_of_dead : (t : Table) (tops : List ℕ) (marks : List Bool) (k : ℕ) → IsDead t tops marks k → live_bound_of t tops marks k ≡ 0
 unfolding live_bound_of
 zero_of_dead t tops marks k d =
-    let none = none_words t marks (get_or tops k 0 - k * t.words_per_region) (k * t.words_per_region) (λ x l h. d.none x l (omega (arith, l, h))) in
+    let none =
+    none_words t marks (get_or tops k 0 - k * t.words_per_region) (k * t.words_per_region) (λ x l h. d.none x l (omega (arith, l, h))) in
     omega (arith, none, d.top)
 
 -- and nothing of the region is kept then
-pub dead_kept : (t : Table) (tops : Tops) (previous : List Bool) (k a : ℕ) → IsShaped t → kind_of t k ≡ kinds.Ordinary → IsDead t tops.previous previous k
+pub dead_kept : (t : Table) (tops : Tops) (previous : List Bool) (k a : ℕ) → IsShaped t
+    → kind_of t k ≡ kinds.Ordinary → IsDead t tops.previous previous k
     → is_in_region t.words_per_region k a ≡ true → kept_in t tops previous a ≡ None
 dead_kept t tops previous k a shape ordinary d inside =
     let words : ℕ = t.words_per_region in
@@ -143,8 +173,8 @@ dead_kept t tops previous k a shape ordinary d inside =
     ]
 
 -- the top at mark start isn't the top
-pub not_dead : (t : Table) (tops : List ℕ) (marks : List Bool) (k top start : ℕ) → MarksObjects t tops marks → k < length t.regions → top ≡ top_of t k → start ≡ get_or tops k 0
-    → not (eqb top start) ≡ true → live_bound_of t tops marks k ≢ 0
+pub not_dead : (t : Table) (tops : List ℕ) (marks : List Bool) (k top start : ℕ) → MarksObjects t tops marks → k < length t.regions
+    → top ≡ top_of t k → start ≡ get_or tops k 0 → not (eqb top start) ≡ true → live_bound_of t tops marks k ≢ 0
 not_dead t tops marks k top start m known top_is start_is differ zero_is =
     let d = dead_of_zero t tops marks k m known zero_is in
     let same : top ≡ start = omega (arith, top_is, start_is, d.top) in
@@ -152,8 +182,10 @@ not_dead t tops marks k top start m known top_is start_is differ zero_is =
     cc
 
 -- a search below the top at mark start decides
-pub dead_found : (t : Table) (tops : List ℕ) (marks : List Bool) (k bottom start : ℕ) (found : Option ℕ) (is_none : Bool) → MarksObjects t tops marks → k < length t.regions → get_or tops k 0 ≡ top_of t k
-    → bottom ≡ k * t.words_per_region → start ≡ get_or tops k 0 → MatchOption found (HasNoneBelow (is_marked marks) bottom start) (IsLowest (is_marked marks) bottom) → IfSome found (λ x. x < start)
+pub dead_found : (t : Table) (tops : List ℕ) (marks : List Bool) (k bottom start : ℕ) (found : Option ℕ) (is_none : Bool)
+    → MarksObjects t tops marks → k < length t.regions → get_or tops k 0 ≡ top_of t k
+    → bottom ≡ k * t.words_per_region → start ≡ get_or tops k 0
+    → MatchOption found (HasNoneBelow (is_marked marks) bottom start) (IsLowest (is_marked marks) bottom) → IfSome found (λ x. x < start)
     → is_some found ≡ not is_none → IsTrue is_none ↔ (live_bound_of t tops marks k ≡ 0)
 dead_found t tops marks k bottom start None true m known top low end none below e = (
   λ yes. zero_of_dead t tops marks k (record { top = top; none = λ a h under. none a (omega (arith, h, low)) (omega (arith, under, end)) }),
@@ -163,10 +195,14 @@ dead_found t tops marks k bottom start None false m known top low end none below
 dead_found t tops marks k bottom start (Some found) true m known top low end l below e = absurd (cc)
 dead_found t tops marks k bottom start (Some found) false m known top low end l below e = (
   λ yes. absurd (cc),
-  λ zero_is. absurd (let f = (dead_of_zero t tops marks k m known zero_is).none found (omega (arith, low, l.at_least)) (omega (arith, below, end)) in let g = l.is_in in cc),
+  λ zero_is. absurd (let f =
+      (dead_of_zero t tops marks k m known zero_is).none found (omega (arith, low, l.at_least)) (omega (arith, below, end)) in
+      let g = l.is_in in
+      cc),
 )
 
-pub same_tops : (t : Table) (tops : List ℕ) (k top start : ℕ) → top ≡ top_of t k → start ≡ get_or tops k 0 → not (eqb top start) ≡ false → get_or tops k 0 ≡ top_of t k
+pub same_tops : (t : Table) (tops : List ℕ) (k top start : ℕ) → top ≡ top_of t k → start ≡ get_or tops k 0
+    → not (eqb top start) ≡ false → get_or tops k 0 ≡ top_of t k
 same_tops t tops k top start top_is start_is e = elim (cases_eq top start) [
   | inl same ↦ omega (arith, same, top_is, start_is)
   | inr apart ↦ absurd (let f = ne_eqb top start apart in cc)

@@ -1,5 +1,7 @@
 -- What keeps marks at objects, and tops at mark start in their regions.
-use Rattle.std.proofs.Common.{inl, inr, ◌≡◌, ◌≢◌, ℕ, suc, ◌*◌, ◌<◌, ◌≤◌, Bool, true, false, List, Some, length, get_or, set, replicate, ltb, sym, ap, ◌∙◌, arith, ⊎_elim, get_or-set_same, get_or-set_other, length-set}
+use Rattle.std.proofs.Common.{◌≡◌, ◌≢◌, ◌*◌, ◌<◌, ◌≤◌, ◌∙◌}
+use Rattle.std.proofs.Common.{inl, inr, ℕ, suc, Bool, true, false, List, Some, length, get_or, set, replicate, ltb, sym, ap, arith}
+use Rattle.std.proofs.Common.{⊎_elim, get_or-set_same, get_or-set_other, length-set}
 use Rattle.std.proofs.lemmas.Bool.{cases_lt, cases_eq, cases_Bool, ltb-true, lt-ltb}
 use Rattle.std.proofs.lemmas.List.{get_or-replicate, length-replicate, get_or_past}
 use Rattle.std.proofs.lemmas.List.FromFn.{length-map-range_with_len, get_or-map-range_with_len}
@@ -21,7 +23,8 @@ pub new_objects : (count words : ℕ) → MarksObjects (free_table count words) 
 unfolding free_table
 new_objects count words =
     let regions : length (replicate count Free) ≡ count = length-replicate count Free in
-    let at : (k : ℕ) → k < count → get_or (bottoms count words) k 0 ≡ k * words = λ k h. get_or-map-range_with_len (λ n. n * words) 0 count k k 0 h (omega arith) in
+    let at : (k : ℕ) → k < count → get_or (bottoms count words) k 0 ≡ k * words =
+    λ k h. get_or-map-range_with_len (λ n. n * words) 0 count k k 0 h (omega arith) in
     let unmarked : (a : ℕ) → is_marked (replicate (count * words) false) a ≡ false = none_marked (count * words) in
     record {
       each_region = length-map-range_with_len (λ n. n * words) 0 count ∙ sym regions;
@@ -33,7 +36,8 @@ new_objects count words =
     }
 
 pub set_objects : (t : Table) (tops : List ℕ) (marks : List Bool) (a : ℕ) (s : Stored)
-    → MarksObjects t tops marks → object_at t a ≡ Some s → is_below t.words_per_region tops a ≡ true → MarksObjects t tops (set marks a true)
+    → MarksObjects t tops marks → object_at t a ≡ Some s → is_below t.words_per_region tops a ≡ true
+    → MarksObjects t tops (set marks a true)
 set_objects t tops marks a s m o h = record {
   each_region = m.each_region;
   each_word = length-set marks a true ∙ m.each_word;
@@ -75,7 +79,8 @@ top_objects t tops marks k top z m low high above =
       below = λ a h. elim (cases_Bool (is_in_region words k a)) [
         | inl i ↦ elim (cases_lt k (length tops)) [
           | inl known ↦ below_set_in words tops k top a known i ∙ lt-ltb a top (above a known i h)
-          | inr past ↦ absurd (let p = ltb-true a (get_or tops k 0) (sym (below_in words tops k a i) ∙ m.below a h) in omega (arith, p, get_or_past tops k 0 past))
+          | inr past ↦ absurd (let p = ltb-true a (get_or tops k 0) (sym (below_in words tops k a i) ∙ m.below a h) in
+              omega (arith, p, get_or_past tops k 0 past))
         ]
         | inr o ↦ below_set_other words tops k top a z o ∙ m.below a h
       ];
@@ -85,16 +90,19 @@ pub set_next_objects : (t : Table) (tops : List ℕ) (marks : List Bool) (k : �
     → 0 < t.words_per_region → MarksObjects t tops marks → k < length t.regions → MarksObjects t (set tops k (top_of t k)) marks
 set_next_objects t tops marks k z m known =
     top_objects t tops marks k (top_of t k) z m (omega arith) (omega arith)
-    (λ a _ i h. let p = ltb-true a (get_or tops k 0) (sym (below_in t.words_per_region tops k a i) ∙ m.below a h) in omega (arith, p, m.top k known))
+    (λ a _ i h. let p = ltb-true a (get_or tops k 0) (sym (below_in t.words_per_region tops k a i) ∙ m.below a h) in
+    omega (arith, p, m.top k known))
 
 pub reset_objects : (t : Table) (tops : List ℕ) (marks : List Bool) (k : ℕ)
-    → 0 < t.words_per_region → MarksObjects t tops marks → ((a : ℕ) → is_in_region t.words_per_region k a ≡ true → is_marked marks a ≡ false)
+    → 0 < t.words_per_region → MarksObjects t tops marks
+    → ((a : ℕ) → is_in_region t.words_per_region k a ≡ true → is_marked marks a ≡ false)
     → MarksObjects t (set tops k (k * t.words_per_region)) marks
 reset_objects t tops marks k z m none =
     top_objects t tops marks k (k * t.words_per_region) z m (omega arith) (omega arith) (λ a _ i h. absurd (let e = none a i in cc))
 
 pub free_unmarked : (t : Table) (tops : List ℕ) (marks : List Bool) (k a : ℕ)
-    → MarksObjects t tops marks → k < length t.regions → used_of t k ≡ 0 → is_in_region t.words_per_region k a ≡ true → is_marked marks a ≡ false
+    → MarksObjects t tops marks → k < length t.regions → used_of t k ≡ 0
+    → is_in_region t.words_per_region k a ≡ true → is_marked marks a ≡ false
 free_unmarked t tops marks k a m known free i =
     elim (cases_Bool (is_marked marks a)) [
       | inl h ↦
@@ -111,5 +119,6 @@ within t tops marks a z m h =
     let words : ℕ = t.words_per_region in
     let b = lies_below words tops a z h in
     let known : suc b.region ≤ length t.regions = omega (arith, b.known, m.each_region) in
-    let whole : suc b.region * words ≤ length t.regions * words = mul-le (suc b.region) words (length t.regions) words known (omega arith) in
+    let whole : suc b.region * words ≤ length t.regions * words =
+    mul-le (suc b.region) words (length t.regions) words known (omega arith) in
     omega (arith, whole, b.less, m.each_word)

@@ -1,5 +1,7 @@
 -- Which addresses lie in a region, and below its top.
-use Rattle.std.proofs.Common.{◌≡◌, ◌≢◌, ℕ, ◌+◌, ◌-◌, ◌*◌, ◌/◌, ◌%◌, ◌<◌, ◌≤◌, true, false, List, length, get_or, set, ltb, leb, refl, sym, ap, ◌∙◌, arith, ⊎_elim, get_or-set_same, get_or-set_other}
+use Rattle.std.proofs.Common.{◌≡◌, ◌≢◌, ◌+◌, ◌-◌, ◌*◌, ◌/◌, ◌%◌, ◌<◌, ◌≤◌, ◌∙◌}
+use Rattle.std.proofs.Common.{ℕ, true, false, List, length, get_or, set, ltb, leb, refl, sym, ap}
+use Rattle.std.proofs.Common.{arith, ⊎_elim, get_or-set_same, get_or-set_other}
 use Rattle.std.proofs.lemmas.Bool.{cases_lt, and_parts, ltb-true, leb-true, le-leb, lt-ltb}
 use Rattle.std.proofs.lemmas.List.{get_or_past}
 use Rattle.std.proofs.lemmas.Nat.{div-mul-add}
@@ -24,7 +26,8 @@ nth_region words k a h =
     div_is a words k (leb-true (k * words) a p.0) (ltb-true a (k * words + words) p.1)
 
 pub in_own_region : (words a : ℕ) → 0 < words → is_in_region words (a / words) a ≡ true
-in_own_region words a z = rw (le-leb (a / words * words) a (div_low a words z), lt-ltb a (a / words * words + words) (div_high a words z)) refl
+in_own_region words a z =
+    rw (le-leb (a / words * words) a (div_low a words z), lt-ltb a (a / words * words + words) (div_high a words z)) refl
 
 pub other_region : (words k a : ℕ) → 0 < words → is_in_region words k a ≡ false → a / words ≢ k
 other_region words k a z h e =
@@ -47,10 +50,13 @@ lies_below words tops a z h =
       below = below;
     }
 
-pub below_set_in : (words : ℕ) (tops : List ℕ) (k top a : ℕ) → k < length tops → is_in_region words k a ≡ true → is_below words (set tops k top) a ≡ ltb a top
-below_set_in words tops k top a inside h = below_in words (set tops k top) k a h ∙ ap (λ (n : ℕ). ltb a n) (get_or-set_same tops k top 0 inside)
+pub below_set_in : (words : ℕ) (tops : List ℕ) (k top a : ℕ) → k < length tops → is_in_region words k a ≡ true
+    → is_below words (set tops k top) a ≡ ltb a top
+below_set_in words tops k top a inside h =
+    below_in words (set tops k top) k a h ∙ ap (λ (n : ℕ). ltb a n) (get_or-set_same tops k top 0 inside)
 
-pub below_set_other : (words : ℕ) (tops : List ℕ) (k top a : ℕ) → 0 < words → is_in_region words k a ≡ false → is_below words (set tops k top) a ≡ is_below words tops a
+pub below_set_other : (words : ℕ) (tops : List ℕ) (k top a : ℕ) → 0 < words → is_in_region words k a ≡ false
+    → is_below words (set tops k top) a ≡ is_below words tops a
 unfolding is_below
 below_set_other words tops k top a z h = ap (λ (n : ℕ). ltb a n) (get_or-set_other tops k (a / words) top 0 (other_region words k a z h))
 
@@ -59,4 +65,5 @@ pub not_below_bottom : (words k a : ℕ) → is_in_region words k a ≡ true →
 not_below_bottom words k a h =
     let p = and_parts (leb (k * words) a) (ltb a (k * words + words)) h in
     let low : k * words ≤ a = leb-true (k * words) a p.0 in
-    elim (ltb a (k * words)) as (λ b. ltb a (k * words) ≡ b → b ≡ false) [ true ↦ λ e. absurd (omega (arith, ltb-true a (k * words) e)) | false ↦ λ e. refl ] refl
+    elim (ltb a (k * words)) as (λ b. ltb a (k * words) ≡ b → b ≡ false)
+    [ true ↦ λ e. absurd (omega (arith, ltb-true a (k * words) e)) | false ↦ λ e. refl ] refl

@@ -1,10 +1,12 @@
 -- Where the objects of an ordinary region end, and that none starts within another.
-use Rattle.std.proofs.Common.{inl, inr, ◌≡◌, ◌⊎◌, ℕ, zero, suc, ◌+◌, ◌-◌, ◌*◌, ◌/◌, ◌%◌, ◌<◌, ◌≤◌, Option, Some, None, List, [], ◌∷◌, get_or, refl, sym, ap, ◌∙◌, arith}
+use Rattle.std.proofs.Common.{◌≡◌, ◌⊎◌, ◌+◌, ◌-◌, ◌*◌, ◌/◌, ◌%◌, ◌<◌, ◌≤◌, ◌∷◌, ◌∙◌}
+use Rattle.std.proofs.Common.{inl, inr, ℕ, zero, suc, Option, Some, None, List, [], get_or, refl, sym, ap, arith}
 use Rattle.std.proofs.lemmas.Bool.{le-leb}
 use Rattle.std.proofs.lemmas.Bool.Decides.{leb_tells}
 use Rattle.heap_model.specs.Heap.{Stored}
 use Rattle.regions.specs.Tiles.{Tile, Object, tile_size, total_size, tile_at}
-use Rattle.regions.specs.Table.{Table, Region, Free, Ordinary, First, Rest, region_tile, region_at, nth_region, region_kind, kind_of, region_used, used_of, top_of, tile_in, tile_object, object_at, stored_size}
+use Rattle.regions.specs.Table.{Table, Region, Free, Ordinary, First, Rest, region_tile, region_at, nth_region, region_kind, kind_of}
+use Rattle.regions.specs.Table.{region_used, used_of, top_of, tile_in, tile_object, object_at, stored_size}
 use Rattle.regions.specs.Walks.{region_tiles, tiles_of}
 use Rattle.regions.specs.Shaped.{IsShaped}
 use Rattle.regions.specs.declared.row.Kind.TheVariants as kinds
@@ -25,16 +27,20 @@ none_inside (t ∷ ts) zero (suc p) u e low high =
     ]
 none_inside (t ∷ ts) (suc o) (suc p) u e low high =
     let before = past (tile_size t) (suc o) _ u e in
-    rw (le-leb (tile_size t) (suc p) (omega (arith, before.0, low))) (none_inside ts (suc o - tile_size t) (suc p - tile_size t) u before.1 (omega (arith, before.0, low)) (omega (arith, before.0, low, high)))
+    rw (le-leb (tile_size t) (suc p) (omega (arith, before.0, low)))
+    (none_inside ts (suc o - tile_size t) (suc p - tile_size t) u before.1
+    (omega (arith, before.0, low)) (omega (arith, before.0, low, high)))
 
 -- what is known of the objects that start in region k
 pub record Spans (t : Table) (k : ℕ) : Type 0 where
   pub top_le : top_of t k ≤ k * t.words_per_region + t.words_per_region
-  pub ends : (x : ℕ) (s : Stored) → k * t.words_per_region ≤ x → x < k * t.words_per_region + t.words_per_region → object_at t x ≡ Some s → x + tile_size (Object s) ≤ top_of t k
+  pub ends : (x : ℕ) (s : Stored) → k * t.words_per_region ≤ x → x < k * t.words_per_region + t.words_per_region
+      → object_at t x ≡ Some s → x + tile_size (Object s) ≤ top_of t k
   pub alone : (x y : ℕ) (s : Stored) → k * t.words_per_region ≤ x → x < k * t.words_per_region + t.words_per_region → object_at t x ≡ Some s
       → x < y → y < x + tile_size (Object s) → object_at t y ≡ None
 
-object_here : (t : Table) (k o x : ℕ) (ts : List Tile) → nth_region t k ≡ Ordinary ts → o < t.words_per_region → k * t.words_per_region + o ≡ x → object_at t x ≡ tile_object (tile_at o ts)
+object_here : (t : Table) (k o x : ℕ) (ts : List Tile) → nth_region t k ≡ Ordinary ts → o < t.words_per_region
+    → k * t.words_per_region + o ≡ x → object_at t x ≡ tile_object (tile_at o ts)
 unfolding object_at tile_in region_at nth_region
 object_here t k o x ts is less at =
     let words : ℕ = t.words_per_region in
@@ -42,7 +48,8 @@ object_here t k o x ts is less at =
     let whole : x / words * words + x % words ≡ x = omega (arith, less) in
     let same : x / words * words ≡ k * words = ap (λ (n : ℕ). n * words) row in
     let place : x % words ≡ o = omega (arith, whole, same, at) in
-    ap (λ (n : ℕ). tile_object (region_tile (get_or t.regions n Free) (x % words))) row ∙ ap (λ (r : Region). tile_object (region_tile r (x % words))) is ∙ ap (λ (n : ℕ). tile_object (tile_at n ts)) place
+    ap (λ (n : ℕ). tile_object (region_tile (get_or t.regions n Free) (x % words))) row
+    ∙ ap (λ (r : Region). tile_object (region_tile r (x % words))) is ∙ ap (λ (n : ℕ). tile_object (tile_at n ts)) place
 
 tiles_fit : (t : Table) (k : ℕ) (ts : List Tile) → IsShaped t → nth_region t k ≡ Ordinary ts → total_size ts ≤ t.words_per_region
 unfolding tiles_of kind_of
@@ -59,9 +66,13 @@ spans_by t k ts shape is =
     let words : ℕ = t.words_per_region in
     let fits = tiles_fit t k ts shape is in
     let top = tiles_top t k ts is in
-    let tile : (x : ℕ) (s : Stored) → k * words ≤ x → x < k * words + words → object_at t x ≡ Some s → tile_at (x - k * words) ts ≡ Some (Object s) = λ x s low high e.
+    let tile : (x : ℕ) (s : Stored) → k * words ≤ x → x < k * words + words → object_at t x ≡ Some s
+    → tile_at (x - k * words) ts ≡ Some (Object s) =
+    λ x s low high e.
     object_tile _ s (sym (object_here t k (x - k * words) x ts is (omega (arith, low, high)) (omega (arith, low))) ∙ e) in
-    let end : (x : ℕ) (s : Stored) → k * words ≤ x → x < k * words + words → object_at t x ≡ Some s → x + tile_size (Object s) ≤ k * words + total_size ts = λ x s low high e.
+    let end : (x : ℕ) (s : Stored) → k * words ≤ x → x < k * words + words → object_at t x ≡ Some s
+    → x + tile_size (Object s) ≤ k * words + total_size ts =
+    λ x s low high e.
     omega (arith, low, tile_at-end ts (x - k * words) (Object s) (tile x s low high e)) in
     record {
       top_le = omega (arith, fits, top);
@@ -69,7 +80,8 @@ spans_by t k ts shape is =
       alone = λ x y s low high e after before.
           let inside : y < k * words + words = omega (arith, before, end x s low high e, fits) in
           object_here t k (y - k * words) y ts is (omega (arith, inside, low, after)) (omega (arith, low, after))
-          ∙ ap tile_object (none_inside ts (x - k * words) (y - k * words) (Object s) (tile x s low high e) (omega (arith, low, after)) (omega (arith, low, after, before)));
+          ∙ ap tile_object (none_inside ts (x - k * words) (y - k * words) (Object s) (tile x s low high e)
+          (omega (arith, low, after)) (omega (arith, low, after, before)));
     }
 
 pub spans : (t : Table) (k : ℕ) → IsShaped t → kind_of t k ≡ kinds.Ordinary → Spans t k
@@ -94,7 +106,8 @@ chosen_words g a (suc n) = stored_size (g a) + chosen_words g (suc a) n
 -- chosen objects are objects of region k that end at or below a limit
 pub record IsChoice (t : Table) (k limit : ℕ) (g : ℕ → Option Stored) : Type 0 where
   pub object : (x : ℕ) (s : Stored) → g x ≡ Some s → object_at t x ≡ Some s
-  pub ends : (x : ℕ) (s : Stored) → k * t.words_per_region ≤ x → x < k * t.words_per_region + t.words_per_region → g x ≡ Some s → x + tile_size (Object s) ≤ limit
+  pub ends : (x : ℕ) (s : Stored) → k * t.words_per_region ≤ x → x < k * t.words_per_region + t.words_per_region
+      → g x ≡ Some s → x + tile_size (Object s) ≤ limit
 
 module _ (t : Table) (k limit : ℕ) (g : ℕ → Option Stored) (p : Spans t k) (c : IsChoice t k limit g) where
   not_chosen : (y : ℕ) → object_at t y ≡ None → g y ≡ None
@@ -104,12 +117,13 @@ module _ (t : Table) (k limit : ℕ) (g : ℕ → Option Stored) (p : Spans t k)
   ]
 
   -- so they have no more words than there are up to the limit
-  chosen_after : (n a skip : ℕ) → k * t.words_per_region ≤ a → a + n ≤ k * t.words_per_region + t.words_per_region → ((y : ℕ) → a ≤ y → y < a + skip → g y ≡ None)
-      → chosen_words g a n ≤ limit - (a + skip)
+  chosen_after : (n a skip : ℕ) → k * t.words_per_region ≤ a → a + n ≤ k * t.words_per_region + t.words_per_region
+      → ((y : ℕ) → a ≤ y → y < a + skip → g y ≡ None) → chosen_words g a n ≤ limit - (a + skip)
   chosen_after zero a skip low high none = omega arith
   chosen_after (suc n) a (suc skip) low high none =
       let here : g a ≡ None = none a (omega arith) (omega arith) in
-      let rest = chosen_after n (suc a) skip (omega (arith, low)) (omega (arith, high)) (λ y l h. none y (omega (arith, l)) (omega (arith, h))) in
+      let rest =
+      chosen_after n (suc a) skip (omega (arith, low)) (omega (arith, high)) (λ y l h. none y (omega (arith, l)) (omega (arith, h))) in
       omega (arith, rest, ap stored_size here)
   chosen_after (suc n) a zero low high none = elim (option_cases (g a)) [
     | inl here ↦
@@ -120,9 +134,11 @@ module _ (t : Table) (k limit : ℕ) (g : ℕ → Option Stored) (p : Spans t k)
         let e : object_at t a ≡ Some s = c.object a s some.1 in
         let size : ℕ = tile_size (Object s) in
         let end : a + size ≤ limit = c.ends a s low (omega (arith, high)) some.1 in
-        let rest = chosen_after n (suc a) (size - 1) (omega (arith, low)) (omega (arith, high)) (λ y l h. not_chosen y (p.alone a y s low (omega (arith, high)) e (omega (arith, l)) (omega (arith, h)))) in
+        let rest = chosen_after n (suc a) (size - 1) (omega (arith, low)) (omega (arith, high))
+        (λ y l h. not_chosen y (p.alone a y s low (omega (arith, high)) e (omega (arith, l)) (omega (arith, h)))) in
         omega (arith, rest, end, ap stored_size some.1)
   ]
 
-  pub chosen_le : (a n : ℕ) → k * t.words_per_region ≤ a → a + n ≤ k * t.words_per_region + t.words_per_region → chosen_words g a n ≤ limit - a
+  pub chosen_le : (a n : ℕ) → k * t.words_per_region ≤ a
+      → a + n ≤ k * t.words_per_region + t.words_per_region → chosen_words g a n ≤ limit - a
   chosen_le a n low high = let le = chosen_after n a 0 low high (λ y l h. absurd (omega (arith, l, h))) in omega (arith, le)

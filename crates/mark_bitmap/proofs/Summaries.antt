@@ -1,5 +1,7 @@
 -- Sets with a summary above them.
-use Rattle.std.proofs.Common.{◌≡◌, ◌≢◌, ℕ, ◌*◌, ◌/◌, ◌<◌, Bool, true, false, List, length, set, replicate, refl, sym, ap, ◌∙◌, arith, ⊎_elim, Option, Some, None, get_or-set_same, get_or-set_other, length-set}
+use Rattle.std.proofs.Common.{◌≡◌, ◌≢◌, ◌*◌, ◌/◌, ◌<◌, ◌∙◌}
+use Rattle.std.proofs.Common.{ℕ, Bool, true, false, List, length, set, replicate, refl, sym, ap, arith, ⊎_elim, Option, Some}
+use Rattle.std.proofs.Common.{None, get_or-set_same, get_or-set_other, length-set}
 use Rattle.std.specs.Prelude.{MatchOption, IfSome}
 use Rattle.std.proofs.lemmas.Bool.{cases_eq, cases_lt}
 use Rattle.std.proofs.lemmas.List.{get_or-replicate, length-replicate}
@@ -23,7 +25,8 @@ has_set_true flags n i h e = ⊎_elim (λ same. has_set_here flags n i true h sa
 
 pub has_none : (n a : ℕ) → has (replicate n false) a ≡ false
 has_none n a =
-    ⊎_elim (λ h. get_or-replicate n a false false h) (λ h. has_past (replicate n false) a (omega (arith, length-replicate {A = Bool} n false))) (cases_lt a n)
+    ⊎_elim (λ h. get_or-replicate n a false false h)
+    (λ h. has_past (replicate n false) a (omega (arith, length-replicate {A = Bool} n false))) (cases_lt a n)
 
 -- ---- the summary of no numbers, of one more, and of one less
 pub empty_summary : (n k : ℕ) → IsSummary (has (replicate n false)) (replicate k false)
@@ -32,42 +35,58 @@ empty_summary n k = record {
   only = λ i e. let f = has_none k i in absurd (cc);
 }
 
-module _ (members groups : List Bool) (n : ℕ) (inside : n < length members) (group : n / 64 < length groups) (s : IsSummary (has members) groups) where
+module _ (members groups : List Bool) (n : ℕ) (inside : n < length members) (group : n / 64 < length groups)
+    (s : IsSummary (has members) groups) where
   pub set_summary : IsSummary (has (set members n true)) (set groups (n / 64) true)
   set_summary = record {
     each = λ a e. ⊎_elim (λ same. has_set_here groups (n / 64) (a / 64) true group (ap (λ (k : ℕ). k / 64) same))
         (λ ne. has_set_true groups (n / 64) (a / 64) group (s.each a (sym (has_set_there members n a true ne) ∙ e))) (cases_eq a n);
     only = λ i e. ⊎_elim (λ same. record { number = n; inside = sym same; is_in = has_set_here members n n true inside refl })
-        (λ ne. let m = s.only i (sym (has_set_there groups (n / 64) i true ne) ∙ e) in record { number = m.number; inside = m.inside; is_in = has_set_true members n m.number inside m.is_in }) (cases_eq i (n / 64));
+        (λ ne. let m = s.only i (sym (has_set_there groups (n / 64) i true ne) ∙ e) in
+        record { number = m.number; inside = m.inside; is_in = has_set_true members n m.number inside m.is_in }) (cases_eq i (n / 64));
   }
 
 module _ (test less : ℕ → Bool) (groups : List Bool) (n : ℕ) (s : IsSummary test groups) where
   pub leave_others : ((a : ℕ) → a ≢ n → less a ≡ test a) → (i : ℕ) → i ≢ n / 64 → has groups i ≡ true → HasMember less i
   leave_others others i ne e =
       let m = s.only i e in
-      record { number = m.number; inside = m.inside; is_in = others m.number (λ same. ne (sym m.inside ∙ ap (λ (k : ℕ). k / 64) same)) ∙ m.is_in }
+      record {
+        number = m.number;
+        inside = m.inside;
+        is_in = others m.number (λ same. ne (sym m.inside ∙ ap (λ (k : ℕ). k / 64) same)) ∙ m.is_in;
+      }
 
 -- ---- the lowest number
 -- of the lowest group
-pub lowest_member : (test : ℕ → Bool) (groups : List Bool) (group : ℕ) (found : Option ℕ) → IsSummary test groups → IsLowest (has groups) 0 group → MatchOption found (HasNoMember test group) (IsMember test group)
+pub lowest_member : (test : ℕ → Bool) (groups : List Bool) (group : ℕ) (found : Option ℕ) → IsSummary test groups
+    → IsLowest (has groups) 0 group → MatchOption found (HasNoMember test group) (IsMember test group)
     → MatchOption found (HasNone test 0) (IsLowest test 0)
-lowest_member test groups group None s l none = let m = s.only group l.is_in in let f = none m.number m.inside in let e = m.is_in in absurd (cc)
+lowest_member test groups group None s l none =
+    let m = s.only group l.is_in in
+    let f = none m.number m.inside in
+    let e = m.is_in in
+    absurd (cc)
 lowest_member test groups group (Some x) s l m = record {
   at_least = omega arith;
   is_in = m.lowest.is_in;
-  lowest = λ a h k. ⊎_elim (λ b. false_by (test a) (has groups (a / 64)) (s.each a) (l.lowest (a / 64) (omega arith) (omega arith))) (λ b. m.lowest.lowest a b k) (cases_lt a (64 * group));
+  lowest = λ a h k. ⊎_elim (λ b. false_by (test a) (has groups (a / 64)) (s.each a) (l.lowest (a / 64) (omega arith) (omega arith)))
+      (λ b. m.lowest.lowest a b k) (cases_lt a (64 * group));
 }
 
-pub found_within : (flags : List Bool) (found : Option ℕ) → MatchOption found (HasNone (has flags) 0) (IsLowest (has flags) 0) → IfSome found (λ x. x < length flags)
+pub found_within : (flags : List Bool) (found : Option ℕ)
+    → MatchOption found (HasNone (has flags) 0) (IsLowest (has flags) 0) → IfSome found (λ x. x < length flags)
 found_within flags None none = tt
-found_within flags (Some x) l = ⊎_elim (λ h. h) (λ h. let f = has_past flags x h in let e = l.is_in in absurd (cc)) (cases_lt x (length flags))
+found_within flags (Some x) l =
+    ⊎_elim (λ h. h) (λ h. let f = has_past flags x h in let e = l.is_in in absurd (cc)) (cases_lt x (length flags))
 
 -- ---- where the view is the lowest level
 pub levels_clear : (members groups blocks : List Bool) → AreLevels members groups blocks
     → AreLevels (replicate (length members) false) (replicate (length groups) false) (replicate (length blocks) false)
 levels_clear members groups blocks l = record {
-  group_count = length-replicate (length groups) false ∙ l.group_count ∙ ap (λ (x : ℕ). div_ceil x 64) (sym (length-replicate (length members) false));
-  block_count = length-replicate (length blocks) false ∙ l.block_count ∙ ap (λ (x : ℕ). div_ceil x 64) (sym (length-replicate (length groups) false));
+  group_count = length-replicate (length groups) false ∙ l.group_count
+      ∙ ap (λ (x : ℕ). div_ceil x 64) (sym (length-replicate (length members) false));
+  block_count =
+      length-replicate (length blocks) false ∙ l.block_count ∙ ap (λ (x : ℕ). div_ceil x 64) (sym (length-replicate (length groups) false));
   group_summary = empty_summary (length members) (length groups);
   block_summary = empty_summary (length groups) (length blocks);
 }
@@ -79,7 +98,8 @@ levels_set members groups blocks n inside l =
     let block : n / 64 / 64 < length blocks = omega (arith, l.block_count) in
     record {
       group_count = length-set groups (n / 64) true ∙ l.group_count ∙ ap (λ (x : ℕ). div_ceil x 64) (sym (length-set members n true));
-      block_count = length-set blocks (n / 64 / 64) true ∙ l.block_count ∙ ap (λ (x : ℕ). div_ceil x 64) (sym (length-set groups (n / 64) true));
+      block_count =
+          length-set blocks (n / 64 / 64) true ∙ l.block_count ∙ ap (λ (x : ℕ). div_ceil x 64) (sym (length-set groups (n / 64) true));
       group_summary = set_summary members groups n inside group l.group_summary;
       block_summary = set_summary groups blocks (n / 64) group block l.block_summary;
     }

@@ -18,8 +18,10 @@ kept_words t tops previous a (suc n) = stored_size (kept_in t tops previous a) +
 -- the live bound of region k: the words of its marked objects below its previous top at mark start, and all words from
 -- there to its top
 unfoldable pub live_bound_of : Table → List ℕ → List Bool → ℕ → ℕ
-live_bound_of t tops marks k = marked_words t marks (k * t.words_per_region) (slice_index tops k - k * t.words_per_region) + (top_of t k - slice_index tops k)
+live_bound_of t tops marks k =
+    marked_words t marks (k * t.words_per_region) (slice_index tops k - k * t.words_per_region) + (top_of t k - slice_index tops k)
 
 -- no marked object of region k reaches over the region's top at mark start
 abbrev pub MarksEndBelow : Table → List ℕ → List Bool → ℕ → Type 0
-MarksEndBelow t tops marks k = (a : ℕ) → is_in_region t.words_per_region k a ≡ true → is_marked marks a ≡ true → a + object_words t a ≤ slice_index tops k
+MarksEndBelow t tops marks k =
+    (a : ℕ) → is_in_region t.words_per_region k a ≡ true → is_marked marks a ≡ true → a + object_words t a ≤ slice_index tops k

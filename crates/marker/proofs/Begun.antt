@@ -1,5 +1,7 @@
 -- Marking has begun: what is kept lies below the next tops, and what roots name is marked.
-use Rattle.std.proofs.Common.{inl, inr, ◌≡◌, ℕ, zero, suc, ◌+◌, ◌-◌, ◌*◌, ◌/◌, ◌%◌, ◌<◌, ◌≤◌, Bool, true, false, cond, List, [], ◌∷◌, Option, Some, length, get_or, replicate, sym, ap, ◌∙◌, subst, arith}
+use Rattle.std.proofs.Common.{◌≡◌, ◌+◌, ◌-◌, ◌*◌, ◌/◌, ◌%◌, ◌<◌, ◌≤◌, ◌∷◌, ◌∙◌}
+use Rattle.std.proofs.Common.{inl, inr, ℕ, zero, suc, Bool, true, false, cond, List, [], Option, Some}
+use Rattle.std.proofs.Common.{length, get_or, replicate, sym, ap, subst, arith}
 use Rattle.std.specs.Prelude.{Contains, slice_get}
 use Rattle.std.proofs.lemmas.Bool.{cases_lt, lt-ltb}
 use Rattle.std.proofs.lemmas.List.{get_or_past, length-replicate}
@@ -9,7 +11,8 @@ use Rattle.std.proofs.lemmas.Option.{slice_get_within}
 use Rattle.heap_model.specs.Heap.{Stored, IsClosed}
 use Rattle.heap_model.specs.Marking.{Begins}
 use Rattle.regions.specs.Tiles.{Tile, Object, tile_size, tile_at, total_size}
-use Rattle.regions.specs.Table.{Region, Free, Ordinary, First, Rest, Table, region_tile, region_at, nth_region, region_used, used_of, top_of, tile_in, object_at}
+use Rattle.regions.specs.Table.{Region, Free, Ordinary, First, Rest, Table, region_tile, region_at, nth_region}
+use Rattle.regions.specs.Table.{region_used, used_of, top_of, tile_in, object_at}
 use Rattle.regions.proofs.Words.Parse.{past}
 use Rattle.regions.proofs.Tiles.Laws.{object_tile, known_region}
 use Rattle.mark_bitmap.specs.Marks.{is_marked, marked_count}
@@ -63,8 +66,10 @@ pub all_begun : (t : Table) (roots : List (Option ℕ)) (m m' : Marker) (n : ℕ
     → ((j a : ℕ) → slice_get roots j ≡ Some (Some a) → IsKept t m a)
     → Reached t (IsAmong roots n) m m' → Begins (heap_of t roots m') (marking_of t m')
 all_begun t roots m m' n z all run tops unmarked unscanned none kept p =
-    let tops' : (k : ℕ) → k < length t.regions → get_or m'.tams.next k 0 ≡ top_of t k = λ k h. ap (λ x. get_or x.next k 0) p.same.tams ∙ tops k h in
-    let old : (a : ℕ) (x : Stored) → object_at t a ≡ Some x → below_next t m'.tams a ≡ true = λ a x e. object_below t m'.tams.next a x z tops' e in
+    let tops' : (k : ℕ) → k < length t.regions → get_or m'.tams.next k 0 ≡ top_of t k =
+    λ k h. ap (λ x. get_or x.next k 0) p.same.tams ∙ tops k h in
+    let old : (a : ℕ) (x : Stored) → object_at t a ≡ Some x → below_next t m'.tams a ≡ true =
+    λ a x e. object_below t m'.tams.next a x z tops' e in
     record {
       old = λ a x e. old a x (kept_object t m'.tams m'.bitmaps.previous a x e);
       marked = λ a k. elim (p.marks.only a k) [
@@ -74,35 +79,42 @@ all_begun t roots m m' n z all run tops unmarked unscanned none kept p =
       roots = λ a r.
           let k = kept r.place a r.is in
           let below = object_below t m.tams.next a k.object z tops (kept_object t m.tams m.bitmaps.previous a k.object k.is) in
-          p.marks.each a (record { place = r.place; front = omega (arith, all, slice_get_within roots r.place (Some a) r.is); is = r.is }) below;
+          p.marks.each a (record { place = r.place; front = omega (arith, all, slice_get_within roots r.place (Some a) r.is); is = r.is })
+          below;
       scanned = λ a. ap (λ (b : List Bool). is_marked b a) p.scanned ∙ unscanned a;
       logged = ap logged p.logs ∙ none;
     }
 
 -- the same, where only nil stands behind
-pub rest_begun : (t : Table) (roots : List (Option ℕ)) (m m' : Marker) (n : ℕ) → 0 < t.words_per_region → AreNil roots n (length roots) → m.running ≡ true
-    → ((k : ℕ) → k < length t.regions → get_or m.tams.next k 0 ≡ top_of t k)
+pub rest_begun : (t : Table) (roots : List (Option ℕ)) (m m' : Marker) (n : ℕ) → 0 < t.words_per_region
+    → AreNil roots n (length roots) → m.running ≡ true → ((k : ℕ) → k < length t.regions → get_or m.tams.next k 0 ≡ top_of t k)
     → ((a : ℕ) → is_marked m.bitmaps.next a ≡ false) → ((a : ℕ) → is_marked m.grey.scanned a ≡ false) → logged m.logs ≡ []
     → ((j a : ℕ) → slice_get roots j ≡ Some (Some a) → IsKept t m a)
     → Reached t (IsAmong roots n) m m' → Begins (heap_of t roots m') (marking_of t m')
 rest_begun t roots m m' n z nil run tops unmarked unscanned none kept p = elim (cases_lt n (length roots)) [
-  | inl less ↦ all_begun t roots m m' (length roots) z (omega arith) run tops unmarked unscanned none kept (among_past t roots n (length roots) m m' (omega (arith, less)) nil p)
+  | inl less ↦ all_begun t roots m m' (length roots) z (omega arith) run tops unmarked unscanned none kept
+      (among_past t roots n (length roots) m m' (omega (arith, less)) nil p)
   | inr more ↦ all_begun t roots m m' n z more run tops unmarked unscanned none kept p
 ]
 
 -- marking begins with nothing marked: all that is there is old
 pub started_stands : (t : Table) (m m' : Marker) → MarkerStands t m → m.running ≡ false → IsClosed (heap_of t [] m) → m'.running ≡ true
     → m'.bitmaps.previous ≡ m.bitmaps.previous → m'.bitmaps.next ≡ replicate (length m.bitmaps.next) false
-    → m'.tams.previous ≡ m.tams.previous → length m'.tams.next ≡ length m.tams.next → ((k : ℕ) → k < length t.regions → get_or m'.tams.next k 0 ≡ top_of t k)
+    → m'.tams.previous ≡ m.tams.previous → length m'.tams.next ≡ length m.tams.next
+    → ((k : ℕ) → k < length t.regions → get_or m'.tams.next k 0 ≡ top_of t k)
     → m'.grey ≡ record { scanned = replicate (length m.grey.scanned) false; fingers = replicate (length m.grey.fingers) false }
-    → ((marks : List Bool) → ((a : ℕ) → is_marked marks a ≡ false) → HasFingers marks m'.grey) → m'.logs ≡ m.logs → m'.scans ≡ restarted m.scans
-    → m'.live.previous ≡ m.live.previous → m'.live.next ≡ replicate (length m.live.next) 0 → MarkerStands t m'
+    → ((marks : List Bool) → ((a : ℕ) → is_marked marks a ≡ false) → HasFingers marks m'.grey)
+    → m'.logs ≡ m.logs → m'.scans ≡ restarted m.scans → m'.live.previous ≡ m.live.previous
+    → m'.live.next ≡ replicate (length m.live.next) 0 → MarkerStands t m'
 started_stands t m m' st off closed on previous next low len high grey fingers logs scans live live_next =
-    let unmarked : (a : ℕ) → is_marked m'.bitmaps.next a ≡ false = λ a. ap (λ (b : List Bool). get_or b a false) next ∙ none_marked (length m.bitmaps.next) a in
-    let unscanned : (a : ℕ) → is_marked m'.grey.scanned a ≡ false = λ a. ap (λ (g : Scans). get_or g.scanned a false) grey ∙ none_marked (length m.grey.scanned) a in
+    let unmarked : (a : ℕ) → is_marked m'.bitmaps.next a ≡ false =
+    λ a. ap (λ (b : List Bool). get_or b a false) next ∙ none_marked (length m.bitmaps.next) a in
+    let unscanned : (a : ℕ) → is_marked m'.grey.scanned a ≡ false =
+    λ a. ap (λ (g : Scans). get_or g.scanned a false) grey ∙ none_marked (length m.grey.scanned) a in
     let nothing : logged m'.logs ≡ [] = ap logged logs ∙ st.idle off in
     record {
-      previous = subst (λ (b : List Bool). MarksObjects t m'.tams.previous b) (sym previous) (subst (λ (l : List ℕ). MarksObjects t l m.bitmaps.previous) (sym low) st.previous);
+      previous = subst (λ (b : List Bool). MarksObjects t m'.tams.previous b) (sym previous)
+          (subst (λ (l : List ℕ). MarksObjects t l m.bitmaps.previous) (sym low) st.previous);
       next = record {
         each_region = len ∙ st.next.each_region;
         each_word = ap length next ∙ length-replicate (length m.bitmaps.next) false ∙ st.next.each_word;
@@ -111,11 +123,16 @@ started_stands t m m' st off closed on previous next low len high grey fingers l
         object = λ a h. absurd (let e = unmarked a in cc);
         below = λ a h. absurd (let e = unmarked a in cc);
       };
-      scanned = ap (λ (g : Scans). length g.scanned) grey ∙ length-replicate (length m.grey.scanned) false ∙ st.scanned ∙ sym (ap length next ∙ length-replicate (length m.bitmaps.next) false);
+      scanned = ap (λ (g : Scans). length g.scanned) grey ∙ length-replicate (length m.grey.scanned) false ∙ st.scanned
+          ∙ sym (ap length next ∙ length-replicate (length m.bitmaps.next) false);
       finger = λ _. fingers m'.bitmaps.next unmarked;
       newer = λ _ k. elim (cases_lt k (length t.regions)) [
         | inl known ↦ omega (arith, ap (λ (l : List ℕ). get_or l k 0) low, high k known, st.previous.top k known)
-        | inr past ↦ omega (arith, ap (λ (l : List ℕ). get_or l k 0) low, get_or_past m.tams.previous k 0 (omega (arith, past, st.previous.each_region)))
+        | inr past ↦ omega (
+          arith,
+          ap (λ (l : List ℕ). get_or l k 0) low,
+          get_or_past m.tams.previous k 0 (omega (arith, past, st.previous.each_region)),
+        )
       ];
       follows = λ _. record {
         closed = subst IsClosed (sym (previous_heap t [] m m' low previous)) closed;
@@ -125,10 +142,13 @@ started_stands t m m' st off closed on previous next low len high grey fingers l
       };
       idle = λ no. absurd (let e = on in cc);
       scanned_marked = λ _ a h. absurd (let e = unscanned a in cc);
-      counted = λ _. ap (λ (s : ScanTotals). s.since) scans ∙ sym (ap (λ (g : Scans). marked_count g.scanned) grey ∙ none_counted (length m.grey.scanned));
-      live = subst (λ (b : List Bool). CountsWords t b m'.live.previous) (sym previous) (subst (λ (l : List ℕ). CountsWords t m.bitmaps.previous l) (sym live) st.live);
+      counted = λ _. ap (λ (s : ScanTotals). s.since) scans
+          ∙ sym (ap (λ (g : Scans). marked_count g.scanned) grey ∙ none_counted (length m.grey.scanned));
+      live = subst (λ (b : List Bool). CountsWords t b m'.live.previous) (sym previous)
+          (subst (λ (l : List ℕ). CountsWords t m.bitmaps.previous l) (sym live) st.live);
       live_next = λ no. absurd (let e = on in cc);
-      live_scanned = λ _. counts_none t m'.grey.scanned m'.live.next (length m.live.next) live_next (st.live_next off).each_region unscanned;
+      live_scanned =
+          λ _. counts_none t m'.grey.scanned m'.live.next (length m.live.next) live_next (st.live_next off).each_region unscanned;
     }
   where
     none_in : (a : ℕ) → Contains [] a → ⊥

@@ -9,7 +9,8 @@ use Rattle.marker.specs.Views.{heap_of, marking_of}
 use Rattle.marker.specs.Stands.{CanFollow}
 use Rattle.marker.specs.declared.marker.Marker.{Marker}
 
-pub can_follow : (s g : Graph) (t : Table) (roots : List (Option ℕ)) (m : Marker) → Shows g (heap_of t roots m) → KeepsSnapshot s (heap_of t roots m) (marking_of t m) → CanFollow t m
+pub can_follow : (s g : Graph) (t : Table) (roots : List (Option ℕ)) (m : Marker) → Shows g (heap_of t roots m)
+    → KeepsSnapshot s (heap_of t roots m) (marking_of t m) → CanFollow t m
 can_follow s g t roots m shows keeps =
     let all = closed g (heap_of t roots m) shows in
     record {

@@ -1,9 +1,12 @@
 -- A region is forgotten or released, and the table changes beneath the marker.
-use Rattle.std.proofs.Common.{inl, inr, ◌≡◌, ◌≢◌, ℕ, ◌+◌, ◌*◌, ◌/◌, ◌<◌, ◌≤◌, Bool, true, false, List, Some, length, get_or, set, refl, sym, ap, ◌∙◌, subst, arith, get_or-set_other, length-set}
+use Rattle.std.proofs.Common.{◌≡◌, ◌≢◌, ◌+◌, ◌*◌, ◌/◌, ◌<◌, ◌≤◌, ◌∙◌}
+use Rattle.std.proofs.Common.{inl, inr, ℕ, Bool, true, false, List, Some, length, get_or, set, refl, sym}
+use Rattle.std.proofs.Common.{ap, subst, arith, get_or-set_other, length-set}
 use Rattle.std.specs.Prelude.{if◌then◌else◌}
 use Rattle.std.proofs.lemmas.Bool.{cases_eq, cases_Bool}
 use Rattle.heap_model.specs.Heap.{Stored}
-use Rattle.regions.specs.Table.{Table, Region, Free, Ordinary, First, Rest, nth_region, region_kind, kind_of, region_at, tile_in, object_at, stored_size, object_words, used_of, top_of, with_region, released_as, released}
+use Rattle.regions.specs.Table.{Table, Region, Free, Ordinary, First, Rest, nth_region, region_kind, kind_of, region_at, tile_in, object_at}
+use Rattle.regions.specs.Table.{stored_size, object_words, used_of, top_of, with_region, released_as, released}
 use Rattle.regions.specs.declared.row.Kind.TheVariants as kinds
 use Rattle.mark_bitmap.specs.Marks.{is_between, is_marked}
 use Rattle.mark_bitmap.specs.Tops.{Tops, is_in_region, with_bottom}
@@ -28,8 +31,10 @@ role_forgotten : (t : Table) (tops : List ℕ) (marks marks' : List Bool) (k fro
     → from ≡ k * t.words_per_region → to ≡ k * t.words_per_region + t.words_per_region
     → length marks' ≡ length marks → Clears from to marks marks' → MarksObjects t (set tops k from) marks'
 role_forgotten t tops marks marks' k from to z m low high len cleared =
-    let each : (a : ℕ) → is_marked marks' a ≡ (if is_in_region t.words_per_region k a then false else is_marked marks a) = rw (low, high) at cleared in
-    let was : (a : ℕ) → is_marked marks' a ≡ true → is_marked marks a ≡ true = λ a h. was_marked (is_in_region t.words_per_region k a) (is_marked marks a) (is_marked marks' a) (each a) h in
+    let each : (a : ℕ) → is_marked marks' a ≡ (if is_in_region t.words_per_region k a then false else is_marked marks a) =
+    rw (low, high) at cleared in
+    let was : (a : ℕ) → is_marked marks' a ≡ true → is_marked marks a ≡ true =
+    λ a h. was_marked (is_in_region t.words_per_region k a) (is_marked marks a) (is_marked marks' a) (each a) h in
     let fewer : MarksObjects t tops marks' = record {
       each_region = m.each_region;
       each_word = len ∙ m.each_word;
@@ -43,17 +48,28 @@ role_forgotten t tops marks marks' k from to z m low high len cleared =
 
 -- the marker with other marks, tops and counts
 abbrev pub with_roles : Marker → List Bool → List Bool → Tops → LiveCounts → Marker
-with_roles m previous next tops live = record { bitmaps = record { previous = previous; next = next }; tams = tops; grey = m.grey; logs = m.logs; running = m.running; scans = m.scans; live = live }
+with_roles m previous next tops live = record {
+  bitmaps = record { previous = previous; next = next };
+  tams = tops;
+  grey = m.grey;
+  logs = m.logs;
+  running = m.running;
+  scans = m.scans;
+  live = live;
+}
 
-pub forgotten_stands : (t : Table) (m : Marker) (k from to : ℕ) (previous next : List Bool) (tops : Tops) (live : LiveCounts) → 0 < t.words_per_region → MarkerStands t m → m.running ≡ false → k < length t.regions
+pub forgotten_stands : (t : Table) (m : Marker) (k from to : ℕ) (previous next : List Bool) (tops : Tops) (live : LiveCounts)
+    → 0 < t.words_per_region → MarkerStands t m → m.running ≡ false → k < length t.regions
     → from ≡ k * t.words_per_region → to ≡ k * t.words_per_region + t.words_per_region
     → length previous ≡ length m.bitmaps.previous → Clears from to m.bitmaps.previous previous
     → length next ≡ length m.bitmaps.next → Clears from to m.bitmaps.next next
     → tops ≡ with_bottom m.tams k from → live ≡ with_none m.live k → MarkerStands t (with_roles m previous next tops live)
 forgotten_stands t m k from to previous next tops live z st off known low high len cleared len' cleared' lowered none =
     record {
-      previous = subst (λ (x : Tops). MarksObjects t x.previous previous) (sym lowered) (role_forgotten t m.tams.previous m.bitmaps.previous previous k from to z st.previous low high len cleared);
-      next = subst (λ (x : Tops). MarksObjects t x.next next) (sym lowered) (role_forgotten t m.tams.next m.bitmaps.next next k from to z st.next low high len' cleared');
+      previous = subst (λ (x : Tops). MarksObjects t x.previous previous) (sym lowered)
+          (role_forgotten t m.tams.previous m.bitmaps.previous previous k from to z st.previous low high len cleared);
+      next = subst (λ (x : Tops). MarksObjects t x.next next) (sym lowered)
+          (role_forgotten t m.tams.next m.bitmaps.next next k from to z st.next low high len' cleared');
       scanned = st.scanned ∙ sym len';
       finger = λ on. absurd (let e = off in cc);
       newer = λ on. absurd (let e = off in cc);
@@ -61,13 +77,15 @@ forgotten_stands t m k from to previous next tops live z st off known low high l
       idle = λ _. st.idle off;
       scanned_marked = λ on. absurd (let e = off in cc);
       counted = λ on. absurd (let e = off in cc);
-      live = subst (λ (l : LiveCounts). CountsWords t previous l.previous) (sym none) (counts_forgotten t m.bitmaps.previous previous m.live.previous k st.live known z (rw (low, high) at cleared));
-      live_next = λ _. subst (λ (l : LiveCounts). CountsWords t next l.next) (sym none) (counts_forgotten t m.bitmaps.next next m.live.next k (st.live_next off) known z (rw (low, high) at cleared'));
+      live = subst (λ (l : LiveCounts). CountsWords t previous l.previous) (sym none)
+          (counts_forgotten t m.bitmaps.previous previous m.live.previous k st.live known z (rw (low, high) at cleared));
+      live_next = λ _. subst (λ (l : LiveCounts). CountsWords t next l.next) (sym none)
+          (counts_forgotten t m.bitmaps.next next m.live.next k (st.live_next off) known z (rw (low, high) at cleared'));
       live_scanned = λ on. absurd (let e = off in cc);
     }
 
-pub role_stays : (t t' : Table) (tops : List ℕ) (marks : List Bool) → MarksObjects t tops marks → length t'.regions ≡ length t.regions → t'.words_per_region ≡ t.words_per_region
-    → ((k : ℕ) → k < length t.regions → get_or tops k 0 ≤ top_of t' k)
+pub role_stays : (t t' : Table) (tops : List ℕ) (marks : List Bool) → MarksObjects t tops marks → length t'.regions ≡ length t.regions
+    → t'.words_per_region ≡ t.words_per_region → ((k : ℕ) → k < length t.regions → get_or tops k 0 ≤ top_of t' k)
     → ((a : ℕ) (x : Stored) → is_marked marks a ≡ true → object_at t a ≡ Some x → (y : Stored) × (object_at t' a ≡ Some y))
     → MarksObjects t' tops marks
 role_stays t t' tops marks m count size tops_are stays = record {
@@ -80,11 +98,13 @@ role_stays t t' tops marks m count size tops_are stays = record {
 }
 
 -- no top falls below one at mark start, and marked objects stay, with as many words
-pub table_stands : (t t' : Table) (m : Marker) → MarkerStands t m → length t'.regions ≡ length t.regions → t'.words_per_region ≡ t.words_per_region
-    → ((k : ℕ) → k < length t.regions → get_or m.tams.previous k 0 ≤ top_of t' k) → ((k : ℕ) → k < length t.regions → get_or m.tams.next k 0 ≤ top_of t' k)
+pub table_stands : (t t' : Table) (m : Marker) → MarkerStands t m → length t'.regions ≡ length t.regions
+    → t'.words_per_region ≡ t.words_per_region → ((k : ℕ) → k < length t.regions → get_or m.tams.previous k 0 ≤ top_of t' k)
+    → ((k : ℕ) → k < length t.regions → get_or m.tams.next k 0 ≤ top_of t' k)
     → ((a : ℕ) (x : Stored) → is_marked m.bitmaps.previous a ≡ true → object_at t a ≡ Some x → (y : Stored) × (object_at t' a ≡ Some y))
     → ((a : ℕ) (x : Stored) → is_marked m.bitmaps.next a ≡ true → object_at t a ≡ Some x → (y : Stored) × (object_at t' a ≡ Some y))
-    → ((a : ℕ) → is_marked m.bitmaps.previous a ≡ true → object_words t' a ≡ object_words t a) → ((a : ℕ) → is_marked m.bitmaps.next a ≡ true → object_words t' a ≡ object_words t a)
+    → ((a : ℕ) → is_marked m.bitmaps.previous a ≡ true → object_words t' a ≡ object_words t a)
+    → ((a : ℕ) → is_marked m.bitmaps.next a ≡ true → object_words t' a ≡ object_words t a)
     → (m.running ≡ true → CanFollow t' m) → MarkerStands t' m
 table_stands t t' m st count size low high stays stays' words words' follows = record {
   previous = role_stays t t' m.tams.previous m.bitmaps.previous st.previous count size low stays;
@@ -98,7 +118,8 @@ table_stands t t' m st count size low high stays stays' words words' follows = r
   counted = st.counted;
   live = counts_same t t' m.bitmaps.previous m.bitmaps.previous m.live.previous st.live count size (λ a. refl) words;
   live_next = λ off. counts_same t t' m.bitmaps.next m.bitmaps.next m.live.next (st.live_next off) count size (λ a. refl) words';
-  live_scanned = λ run. counts_same t t' m.grey.scanned m.grey.scanned m.live.next (st.live_scanned run) count size (λ a. refl) (λ a h. words' a (st.scanned_marked run a h));
+  live_scanned = λ run. counts_same t t' m.grey.scanned m.grey.scanned m.live.next (st.live_scanned run) count size (λ a. refl)
+      (λ a h. words' a (st.scanned_marked run a h));
 }
 
 released_is : (t : Table) (k : ℕ) → kind_of t k ≡ kinds.Ordinary → released t k ≡ with_region t k Free
@@ -127,14 +148,17 @@ low_tops t tops marks k m low j h = elim (cases_eq j k) [
   | inr e ↦ omega (arith, same_top t k j e, m.top j h)
 ]
 
-stays_marked : (t : Table) (marks : List Bool) (k : ℕ) → 0 < t.words_per_region → ((a : ℕ) → is_in_region t.words_per_region k a ≡ true → is_marked marks a ≡ false)
-    → (a : ℕ) (x : Stored) → is_marked marks a ≡ true → object_at t a ≡ Some x → (y : Stored) × (object_at (with_region t k Free) a ≡ Some y)
+stays_marked : (t : Table) (marks : List Bool) (k : ℕ) → 0 < t.words_per_region
+    → ((a : ℕ) → is_in_region t.words_per_region k a ≡ true → is_marked marks a ≡ false)
+    → (a : ℕ) (x : Stored) → is_marked marks a ≡ true → object_at t a ≡ Some x
+    → (y : Stored) × (object_at (with_region t k Free) a ≡ Some y)
 stays_marked t marks k z none a x marked o = elim (cases_Bool (is_in_region t.words_per_region k a)) [
   | inl inside ↦ absurd (let e = none a inside in let f = marked in cc)
   | inr outside ↦ (x, same_object t k a (other_region t.words_per_region k a z outside) ∙ o)
 ]
 
-words_marked : (t : Table) (marks : List Bool) (k : ℕ) → 0 < t.words_per_region → ((a : ℕ) → is_in_region t.words_per_region k a ≡ true → is_marked marks a ≡ false)
+words_marked : (t : Table) (marks : List Bool) (k : ℕ) → 0 < t.words_per_region
+    → ((a : ℕ) → is_in_region t.words_per_region k a ≡ true → is_marked marks a ≡ false)
     → (a : ℕ) → is_marked marks a ≡ true → object_words (with_region t k Free) a ≡ object_words t a
 unfolding object_words
 words_marked t marks k z none a marked = elim (cases_Bool (is_in_region t.words_per_region k a)) [
@@ -142,7 +166,8 @@ words_marked t marks k z none a marked = elim (cases_Bool (is_in_region t.words_
   | inr outside ↦ ap stored_size (same_object t k a (other_region t.words_per_region k a z outside))
 ]
 
-pub released_stands : (t : Table) (m : Marker) (k : ℕ) → 0 < t.words_per_region → MarkerStands t m → m.running ≡ false → kind_of t k ≡ kinds.Ordinary
+pub released_stands : (t : Table) (m : Marker) (k : ℕ) → 0 < t.words_per_region → MarkerStands t m
+    → m.running ≡ false → kind_of t k ≡ kinds.Ordinary
     → ((a : ℕ) → is_in_region t.words_per_region k a ≡ true → is_marked m.bitmaps.previous a ≡ false)
     → ((a : ℕ) → is_in_region t.words_per_region k a ≡ true → is_marked m.bitmaps.next a ≡ false)
     → get_or m.tams.previous k 0 ≡ k * t.words_per_region → get_or m.tams.next k 0 ≡ k * t.words_per_region → MarkerStands (released t k) m
@@ -150,4 +175,5 @@ released_stands t m k z st off ordinary none none' low low' =
     subst (λ (u : Table). MarkerStands u m) (sym (released_is t k ordinary))
     (table_stands t (with_region t k Free) m st (length-set t.regions k Free) refl
     (low_tops t m.tams.previous m.bitmaps.previous k st.previous low) (low_tops t m.tams.next m.bitmaps.next k st.next low')
-    (stays_marked t m.bitmaps.previous k z none) (stays_marked t m.bitmaps.next k z none') (words_marked t m.bitmaps.previous k z none) (words_marked t m.bitmaps.next k z none') (λ on. absurd (let e = off in cc)))
+    (stays_marked t m.bitmaps.previous k z none) (stays_marked t m.bitmaps.next k z none') (words_marked t m.bitmaps.previous k z none)
+    (words_marked t m.bitmaps.next k z none') (λ on. absurd (let e = off in cc)))

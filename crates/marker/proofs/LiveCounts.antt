@@ -1,11 +1,14 @@
 -- The counts of marked words: what changes them, and how large they are.
-use Rattle.std.proofs.Common.{inl, inr, ◌≡◌, ◌≢◌, ℕ, zero, suc, ◌+◌, ◌-◌, ◌*◌, ◌/◌, ◌%◌, ◌^◌, ◌<◌, ◌≤◌, Bool, true, false, List, Some, None, length, get_or, set, replicate, refl, sym, ap, ◌∙◌, subst, arith, get_or-set_same, get_or-set_other, length-set}
+use Rattle.std.proofs.Common.{◌≡◌, ◌≢◌, ◌+◌, ◌-◌, ◌*◌, ◌/◌, ◌%◌, ◌^◌, ◌<◌, ◌≤◌, ◌∙◌}
+use Rattle.std.proofs.Common.{inl, inr, ℕ, zero, suc, Bool, true, false, List, Some, None, length, get_or, set, replicate, refl, sym, ap}
+use Rattle.std.proofs.Common.{subst, arith, get_or-set_same, get_or-set_other, length-set}
 use Rattle.std.specs.Prelude.{if◌then◌else◌}
 use Rattle.std.proofs.lemmas.Bool.{cases_eq, cases_Bool, ltb-true}
 use Rattle.std.proofs.lemmas.List.{get_or-replicate, length-replicate}
 use Rattle.heap_words.specs.Configs.{max_words}
 use Rattle.regions.specs.Tiles.{Object}
-use Rattle.regions.specs.Table.{Table, Region, Free, Ordinary, First, Rest, region_tile, region_at, nth_region, region_kind, kind_of, tile_in, tile_object, object_at, stored_size, object_words, top_of}
+use Rattle.regions.specs.Table.{Table, Region, Free, Ordinary, First, Rest, region_tile, region_at, nth_region, region_kind, kind_of}
+use Rattle.regions.specs.Table.{tile_in, tile_object, object_at, stored_size, object_words, top_of}
 use Rattle.regions.specs.Shaped.{IsShaped}
 use Rattle.regions.specs.declared.row.Kind.TheVariants as kinds
 use Rattle.regions.proofs.Tiles.Laws.{object_tile}
@@ -24,16 +27,26 @@ if_words true x y e = e refl
 if_words false x y e = refl
 
 -- the same addresses are marked, and each marked object has as many words
-pub marked_words_same : (t t' : Table) (marks marks' : List Bool) (n a : ℕ) → ((x : ℕ) → a ≤ x → x < a + n → is_marked marks' x ≡ is_marked marks x)
-    → ((x : ℕ) → a ≤ x → x < a + n → is_marked marks x ≡ true → object_words t' x ≡ object_words t x) → marked_words t' marks' a n ≡ marked_words t marks a n
+pub marked_words_same : (t t' : Table) (marks marks' : List Bool) (n a : ℕ)
+    → ((x : ℕ) → a ≤ x → x < a + n → is_marked marks' x ≡ is_marked marks x)
+    → ((x : ℕ) → a ≤ x → x < a + n → is_marked marks x ≡ true → object_words t' x ≡ object_words t x)
+    → marked_words t' marks' a n ≡ marked_words t marks a n
 marked_words_same t t' marks marks' zero a marked words = refl
 marked_words_same t t' marks marks' (suc n) a marked words =
     let here : (if is_marked marks' a then object_words t' a else 0) ≡ (if is_marked marks a then object_words t a else 0) =
-    ap (λ (b : Bool). if b then object_words t' a else 0) (marked a (omega arith) (omega arith)) ∙ if_words (is_marked marks a) (object_words t' a) (object_words t a) (words a (omega arith) (omega arith)) in
-    omega (arith, here, marked_words_same t t' marks marks' n (suc a) (λ x l h. marked x (omega (arith, l)) (omega (arith, h))) (λ x l h. words x (omega (arith, l)) (omega (arith, h))))
+    ap (λ (b : Bool). if b then object_words t' a else 0) (marked a (omega arith) (omega arith))
+    ∙ if_words (is_marked marks a) (object_words t' a) (object_words t a) (words a (omega arith) (omega arith)) in
+    omega (
+      arith,
+      here,
+      marked_words_same t t' marks marks' n (suc a) (λ x l h. marked x (omega (arith, l)) (omega (arith, h)))
+          (λ x l h. words x (omega (arith, l)) (omega (arith, h))),
+    )
 
-pub counts_same : (t t' : Table) (marks marks' : List Bool) (counts : List ℕ) → CountsWords t marks counts → length t'.regions ≡ length t.regions → t'.words_per_region ≡ t.words_per_region
-    → ((x : ℕ) → is_marked marks' x ≡ is_marked marks x) → ((x : ℕ) → is_marked marks x ≡ true → object_words t' x ≡ object_words t x) → CountsWords t' marks' counts
+pub counts_same : (t t' : Table) (marks marks' : List Bool) (counts : List ℕ) → CountsWords t marks counts
+    → length t'.regions ≡ length t.regions → t'.words_per_region ≡ t.words_per_region
+    → ((x : ℕ) → is_marked marks' x ≡ is_marked marks x)
+    → ((x : ℕ) → is_marked marks x ≡ true → object_words t' x ≡ object_words t x) → CountsWords t' marks' counts
 counts_same t t' marks marks' counts c count size marked words = record {
   each_region = c.each_region ∙ sym count;
   each = λ k h.
@@ -48,18 +61,32 @@ words_added : (t : Table) (marks : List Bool) (a n from : ℕ) → a < length ma
 words_added t marks a zero from inside unmarked low high = absurd (omega (arith, low, high))
 words_added t marks a (suc n) from inside unmarked low high = elim (cases_eq a from) [
   | inl same ↦
-      let now : is_marked (set marks a true) from ≡ true = ap (is_marked (set marks a true)) (sym same) ∙ get_or-set_same marks a true false inside in
+      let now : is_marked (set marks a true) from ≡ true =
+      ap (is_marked (set marks a true)) (sym same) ∙ get_or-set_same marks a true false inside in
       let was : is_marked marks from ≡ false = ap (is_marked marks) (sym same) ∙ unmarked in
-      let rest = marked_words_same t t marks (set marks a true) n (suc from) (λ x l h. get_or-set_other marks a x true false (λ e. absurd (omega (arith, l, same, e)))) (λ x l h m. refl) in
-      omega (arith, ap (λ (b : Bool). if b then object_words t from else 0) now, ap (λ (b : Bool). if b then object_words t from else 0) was, ap (object_words t) same, rest)
+      let rest = marked_words_same t t marks (set marks a true) n (suc from)
+      (λ x l h. get_or-set_other marks a x true false (λ e. absurd (omega (arith, l, same, e)))) (λ x l h m. refl) in
+      omega (
+        arith,
+        ap (λ (b : Bool). if b then object_words t from else 0) now,
+        ap (λ (b : Bool). if b then object_words t from else 0) was,
+        ap (object_words t) same,
+        rest,
+      )
   | inr apart ↦
       let here : is_marked (set marks a true) from ≡ is_marked marks from = get_or-set_other marks a from true false (λ e. apart (sym e)) in
-      omega (arith, ap (λ (b : Bool). if b then object_words t from else 0) here, words_added t marks a n (suc from) inside unmarked (omega (arith, low, apart)) (omega (arith, high)))
+      omega (
+        arith,
+        ap (λ (b : Bool). if b then object_words t from else 0) here,
+        words_added t marks a n (suc from) inside unmarked (omega (arith, low, apart)) (omega (arith, high)),
+      )
 ]
 
 -- an object of a region is scanned: its words are counted there
-pub counts_added : (t : Table) (marks marks' : List Bool) (counts : List ℕ) (a k size : ℕ) → 0 < t.words_per_region → CountsWords t marks counts → a < length marks → is_marked marks a ≡ false
-    → marks' ≡ set marks a true → k ≡ a / t.words_per_region → k < length t.regions → size ≡ object_words t a → CountsWords t marks' (set counts k (get_or counts k 0 + size))
+pub counts_added : (t : Table) (marks marks' : List Bool) (counts : List ℕ) (a k size : ℕ) → 0 < t.words_per_region
+    → CountsWords t marks counts → a < length marks → is_marked marks a ≡ false
+    → marks' ≡ set marks a true → k ≡ a / t.words_per_region → k < length t.regions → size ≡ object_words t a
+    → CountsWords t marks' (set counts k (get_or counts k 0 + size))
 counts_added t marks marks' counts a k size z c inside unmarked now own known words =
     let w : ℕ = t.words_per_region in
     let bottom : k * w ≡ a / w * w = ap (λ (n : ℕ). n * w) own in
@@ -75,7 +102,8 @@ counts_added t marks marks' counts a k size z c inside unmarked now own known wo
             ∙ omega (arith, c.each k known, words, added, ap (λ (m : List Bool). marked_words t m (k * w) w) now))
         | inr apart ↦
             get_or-set_other counts k j (get_or counts k 0 + size) 0 apart ∙ c.each j h
-            ∙ sym (marked_words_same t t marks (set marks a true) w (j * w) (λ x l g. get_or-set_other marks a x true false (λ e. apart (other j x a k w l g e low high))) (λ x l g m. refl))
+            ∙ sym (marked_words_same t t marks (set marks a true) w (j * w)
+            (λ x l g. get_or-set_other marks a x true false (λ e. apart (other j x a k w l g e low high))) (λ x l g m. refl))
             ∙ ap (λ (m : List Bool). marked_words t m (j * w) w) (sym now)
       ];
     }
@@ -85,8 +113,10 @@ counts_added t marks marks' counts a k size z c inside unmarked now own known wo
         sym (ranges.div_is x w j low high) ∙ ap (λ (y : ℕ). y / w) e ∙ ranges.div_is a w k low' high'
 
 -- a region's marks go, and with them its count
-pub counts_forgotten : (t : Table) (marks marks' : List Bool) (counts : List ℕ) (k : ℕ) → CountsWords t marks counts → k < length t.regions → 0 < t.words_per_region
-    → ((a : ℕ) → is_marked marks' a ≡ (if is_in_region t.words_per_region k a then false else is_marked marks a)) → CountsWords t marks' (set counts k 0)
+pub counts_forgotten : (t : Table) (marks marks' : List Bool) (counts : List ℕ) (k : ℕ) → CountsWords t marks counts
+    → k < length t.regions → 0 < t.words_per_region
+    → ((a : ℕ) → is_marked marks' a ≡ (if is_in_region t.words_per_region k a then false else is_marked marks a))
+    → CountsWords t marks' (set counts k 0)
 counts_forgotten t marks marks' counts k c known z now =
     let w : ℕ = t.words_per_region in
     record {
@@ -94,21 +124,25 @@ counts_forgotten t marks marks' counts k c known z now =
       each = λ j h. elim (cases_eq j k) [
         | inl same ↦ subst (λ (i : ℕ). get_or (set counts k 0) i 0 ≡ marked_words t marks' (i * w) w) (sym same)
             (get_or-set_same counts k 0 0 (omega (arith, known, c.each_region))
-            ∙ sym (none_words t marks' w (k * w) (λ x l g. now x ∙ ap (λ (b : Bool). if b then false else is_marked marks x) (in_region w k x l g))))
+            ∙ sym (none_words t marks' w (k * w)
+            (λ x l g. now x ∙ ap (λ (b : Bool). if b then false else is_marked marks x) (in_region w k x l g))))
         | inr apart ↦
             get_or-set_other counts k j 0 0 apart ∙ c.each j h
-            ∙ sym (marked_words_same t t marks marks' w (j * w) (λ x l g. now x ∙ ap (λ (b : Bool). if b then false else is_marked marks x) (out j x l g apart)) (λ x l g m. refl))
+            ∙ sym (marked_words_same t t marks marks' w (j * w)
+            (λ x l g. now x ∙ ap (λ (b : Bool). if b then false else is_marked marks x) (out j x l g apart)) (λ x l g m. refl))
       ];
     }
   where
-    out : (j x : ℕ) → j * t.words_per_region ≤ x → x < j * t.words_per_region + t.words_per_region → j ≢ k → is_in_region t.words_per_region k x ≡ false
+    out : (j x : ℕ) → j * t.words_per_region ≤ x → x < j * t.words_per_region + t.words_per_region → j ≢ k
+        → is_in_region t.words_per_region k x ≡ false
     out j x low high apart = elim (cases_Bool (is_in_region t.words_per_region k x)) [
       | inl inside ↦ absurd (apart (sym (ranges.div_is x t.words_per_region j low high) ∙ ranges.nth_region t.words_per_region k x inside))
       | inr outside ↦ outside
     ]
 
 -- nothing is marked, and nothing counted
-pub counts_none : (t : Table) (marks : List Bool) (counts : List ℕ) (n : ℕ) → counts ≡ replicate n 0 → n ≡ length t.regions → ((a : ℕ) → is_marked marks a ≡ false) → CountsWords t marks counts
+pub counts_none : (t : Table) (marks : List Bool) (counts : List ℕ) (n : ℕ) → counts ≡ replicate n 0 → n ≡ length t.regions
+    → ((a : ℕ) → is_marked marks a ≡ false) → CountsWords t marks counts
 counts_none t marks counts n zero_all count none = record {
   each_region = ap length zero_all ∙ length-replicate {A = ℕ} n 0 ∙ count;
   each = λ k h.
@@ -118,7 +152,8 @@ counts_none t marks counts n zero_all count none = record {
 
 -- ---- how large a count is
 -- in a region that isn't ordinary an object starts at the bottom alone
-void_words : (t : Table) (k x : ℕ) → kind_of t k ≢ kinds.Ordinary → k * t.words_per_region < x → x < k * t.words_per_region + t.words_per_region → object_words t x ≡ 0
+void_words : (t : Table) (k x : ℕ) → kind_of t k ≢ kinds.Ordinary → k * t.words_per_region < x
+    → x < k * t.words_per_region + t.words_per_region → object_words t x ≡ 0
 unfolding object_words object_at tile_in region_at kind_of nth_region
 void_words t k x other low high =
     let w : ℕ = t.words_per_region in
@@ -135,10 +170,15 @@ void_words t k x other low high =
     go (First s) (suc o) apart z = refl
     go (Rest n) o apart z = refl
 
-void_marked : (t : Table) (marks : List Bool) (n a : ℕ) → ((x : ℕ) → a ≤ x → x < a + n → object_words t x ≡ 0) → marked_words t marks a n ≡ 0
+void_marked : (t : Table) (marks : List Bool) (n a : ℕ)
+    → ((x : ℕ) → a ≤ x → x < a + n → object_words t x ≡ 0) → marked_words t marks a n ≡ 0
 void_marked t marks zero a none = refl
 void_marked t marks (suc n) a none =
-    omega (arith, most (is_marked marks a) (object_words t a) (none a (omega arith) (omega arith)), void_marked t marks n (suc a) (λ x l h. none x (omega (arith, l)) (omega (arith, h))))
+    omega (
+      arith,
+      most (is_marked marks a) (object_words t a) (none a (omega arith) (omega arith)),
+      void_marked t marks n (suc a) (λ x l h. none x (omega (arith, l)) (omega (arith, h))),
+    )
   where
     most : (b : Bool) (x : ℕ) → x ≡ 0 → (if b then x else 0) ≡ 0
     most true x e = e
@@ -153,14 +193,21 @@ object_small t a shape = go (object_at t a) refl
     go (Some s) e = omega (arith, ap stored_size e, shape.within a (Object s) (object_tile _ s e), shape.in_all)
 
 -- the marked objects that start in a region have no more words than a heap can have
-pub region_small : (t : Table) (marks : List Bool) (k : ℕ) → IsShaped t → marked_words t marks (k * t.words_per_region) t.words_per_region ≤ max_words
+pub region_small : (t : Table) (marks : List Bool) (k : ℕ) → IsShaped t
+    → marked_words t marks (k * t.words_per_region) t.words_per_region ≤ max_words
 region_small t marks k shape = go (kind_of t k) refl
   where
     others : kind_of t k ≢ kinds.Ordinary → (n : ℕ) → n ≡ t.words_per_region → marked_words t marks (k * t.words_per_region) n ≤ max_words
     others other zero e = omega arith
     others other (suc n) e =
-        let rest = void_marked t marks n (suc (k * t.words_per_region)) (λ x l h. void_words t k x other (omega (arith, l)) (omega (arith, h, e))) in
-        omega (arith, rest, at_most (is_marked marks (k * t.words_per_region)) (object_words t (k * t.words_per_region)), object_small t (k * t.words_per_region) shape)
+        let rest =
+        void_marked t marks n (suc (k * t.words_per_region)) (λ x l h. void_words t k x other (omega (arith, l)) (omega (arith, h, e))) in
+        omega (
+          arith,
+          rest,
+          at_most (is_marked marks (k * t.words_per_region)) (object_words t (k * t.words_per_region)),
+          object_small t (k * t.words_per_region) shape,
+        )
       where
         at_most : (b : Bool) (x : ℕ) → (if b then x else 0) ≤ x
         at_most true x = omega arith
@@ -169,7 +216,12 @@ region_small t marks k shape = go (kind_of t k) refl
     go : (kind : _) → kind_of t k ≡ kind → marked_words t marks (k * t.words_per_region) t.words_per_region ≤ max_words
     go kinds.Ordinary e =
         let p = spans t k shape e in
-        omega (arith, marked_used t marks k (k * t.words_per_region) t.words_per_region p (omega arith) (omega arith), p.top_le, shape.small)
+        omega (
+          arith,
+          marked_used t marks k (k * t.words_per_region) t.words_per_region p (omega arith) (omega arith),
+          p.top_le,
+          shape.small,
+        )
     go kinds.Free e = others (λ o. (let f = e in cc)) t.words_per_region refl
     go kinds.First e = others (λ o. (let f = e in cc)) t.words_per_region refl
     go kinds.Rest e = others (λ o. (let f = e in cc)) t.words_per_region refl
@@ -177,7 +229,8 @@ region_small t marks k shape = go (kind_of t k) refl
 -- ---- the live bound
 -- no mark stands at or above its region's top at mark start, so all that is marked in a region is marked below it
 all_below : (t : Table) (tops : List ℕ) (marks : List Bool) (k : ℕ) → IsShaped t → MarksObjects t tops marks → k < length t.regions
-    → marked_words t marks (k * t.words_per_region) t.words_per_region ≡ marked_words t marks (k * t.words_per_region) (get_or tops k 0 - k * t.words_per_region)
+    → marked_words t marks (k * t.words_per_region) t.words_per_region
+    ≡ marked_words t marks (k * t.words_per_region) (get_or tops k 0 - k * t.words_per_region)
 all_below t tops marks k shape m known =
     let w : ℕ = t.words_per_region in
     let whole : k * w + w - k * w ≡ w = omega arith in
@@ -194,11 +247,13 @@ all_below t tops marks k shape m known =
       | inr no_mark ↦ no_mark
     ]
 
-pub look_is : (t : Table) (tops : List ℕ) (marks : List Bool) (counts : List ℕ) (k count above top start : ℕ) → IsShaped t → MarksObjects t tops marks → CountsWords t marks counts → k < length t.regions
-    → count ≡ get_or counts k 0 → top ≡ top_of t k → start ≡ get_or tops k 0 → above ≡ top - start → count + above ≡ live_bound_of t tops marks k
+pub look_is : (t : Table) (tops : List ℕ) (marks : List Bool) (counts : List ℕ) (k count above top start : ℕ) → IsShaped t
+    → MarksObjects t tops marks → CountsWords t marks counts → k < length t.regions
+    → count ≡ get_or counts k 0 → top ≡ top_of t k → start ≡ get_or tops k 0 → above ≡ top - start
+    → count + above ≡ live_bound_of t tops marks k
 look_is t tops marks counts k count above top start shape m c known e f g h =
     omega (arith, h, bound_is t tops marks k count top start (e ∙ c.each k known ∙ all_below t tops marks k shape m known) f g)
 
-pub look_small : (t : Table) (tops : List ℕ) (marks : List Bool) (k : ℕ) → IsShaped t → MarksObjects t tops marks → k < length t.regions → kind_of t k ≡ kinds.Ordinary
-    → live_bound_of t tops marks k < 2 ^ 32
+pub look_small : (t : Table) (tops : List ℕ) (marks : List Bool) (k : ℕ) → IsShaped t → MarksObjects t tops marks
+    → k < length t.regions → kind_of t k ≡ kinds.Ordinary → live_bound_of t tops marks k < 2 ^ 32
 look_small t tops marks k shape m known ordinary = omega (arith, bound_le_twice t tops marks k shape m known ordinary, shape.small)

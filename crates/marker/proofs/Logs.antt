@@ -1,5 +1,7 @@
 -- Taking deletion logs.
-use Rattle.std.proofs.Common.{inl, inr, ◌≡◌, ◌⊎◌, ℕ, ◌+◌, ◌<◌, ◌≤◌, Bool, true, List, [], ◌∷◌, ◌++◌, Option, Some, length, set, refl, sym, ap, ◌∙◌, subst, arith, get_or-set_same, get_or-set_other, length-set}
+use Rattle.std.proofs.Common.{◌≡◌, ◌⊎◌, ◌+◌, ◌<◌, ◌≤◌, ◌∷◌, ◌++◌, ◌∙◌}
+use Rattle.std.proofs.Common.{inl, inr, ℕ, Bool, true, List, [], Option, Some, length, set, refl, sym, ap, subst}
+use Rattle.std.proofs.Common.{arith, get_or-set_same, get_or-set_other, length-set}
 use Rattle.std.specs.Prelude.{Contains, slice_get}
 use Rattle.std.proofs.lemmas.Bool.{cases_eq}
 use Rattle.std.proofs.lemmas.Option.{slice_get_within, slice_get_read, get_or_from_slice_get}
@@ -57,9 +59,14 @@ pub contained : (log : List ℕ) (place a : ℕ) → slice_get log place ≡ Som
 contained log place a e = (place, slice_get_within log place a e, get_or_from_slice_get log place a a e)
 
 pub all_early : (log : List ℕ) (n a : ℕ) → length log ≤ n → Contains log a → IsEarly log n a
-all_early log n a all k = record { place = k.0; front = omega (arith, all, k.1); is = slice_get_read log (length log) k.0 a refl k.1 (sym k.2) }
+all_early log n a all k = record {
+  place = k.0;
+  front = omega (arith, all, k.1);
+  is = slice_get_read log (length log) k.0 a refl k.1 (sym k.2);
+}
 
-pub all_marks : (t : Table) (log : List ℕ) (n : ℕ) (m m' : Marker) → length log ≤ n → Reached t (IsEarly log n) m m' → MarksWanted t (Contains log) m m'
+pub all_marks : (t : Table) (log : List ℕ) (n : ℕ) (m m' : Marker) → length log ≤ n
+    → Reached t (IsEarly log n) m m' → MarksWanted t (Contains log) m m'
 all_marks t log n m m' all p = record {
   stays = p.marks.stays;
   only = λ a k. elim (p.marks.only a k) [ inl was ↦ inl was | inr w ↦ inr (early_contained log n a w) ];
@@ -67,15 +74,26 @@ all_marks t log n m m' all p = record {
 }
 
 abbrev pub with_logs : Marker → List (List ℕ) → Marker
-with_logs m ls = record { bitmaps = m.bitmaps; tams = m.tams; grey = m.grey; logs = ls; running = m.running; scans = m.scans; live = m.live }
+with_logs m ls = record {
+  bitmaps = m.bitmaps;
+  tams = m.tams;
+  grey = m.grey;
+  logs = ls;
+  running = m.running;
+  scans = m.scans;
+  live = m.live;
+}
 
 -- a log is drained
-pub drained_stands : (t : Table) (m : Marker) (k : ℕ) (ls : List (List ℕ)) → MarkerStands t m → m.running ≡ true → ls ≡ set m.logs k [] → MarkerStands t (with_logs m ls)
+pub drained_stands : (t : Table) (m : Marker) (k : ℕ) (ls : List (List ℕ)) → MarkerStands t m → m.running ≡ true
+    → ls ≡ set m.logs k [] → MarkerStands t (with_logs m ls)
 drained_stands t m k ls st run e =
-    stands_step t m (with_logs m ls) st run (record { previous = refl; tams = refl; running = refl }) refl (ap length e ∙ length-set m.logs k [])
-    (λ a l. only_rest m.logs k a (subst (λ (x : List (List ℕ)). Contains (logged x) a) e l)) st.next (st.finger run) (λ a marked. inl marked) (st.scanned_marked run) (st.counted run) refl (st.live_scanned run)
+    stands_step t m (with_logs m ls) st run (record { previous = refl; tams = refl; running = refl })
+    refl (ap length e ∙ length-set m.logs k []) (λ a l. only_rest m.logs k a (subst (λ (x : List (List ℕ)). Contains (logged x) a) e l))
+    st.next (st.finger run) (λ a marked. inl marked) (st.scanned_marked run) (st.counted run) refl (st.live_scanned run)
 
-pub drained_kept : (t : Table) (m : Marker) (k : ℕ) (ls : List (List ℕ)) (log : List ℕ) (a : ℕ) → MarkerStands t m → m.running ≡ true → log ≡ log_of m.logs k → Contains log a → IsKept t (with_logs m ls) a
+pub drained_kept : (t : Table) (m : Marker) (k : ℕ) (ls : List (List ℕ)) (log : List ℕ) (a : ℕ) → MarkerStands t m → m.running ≡ true
+    → log ≡ log_of m.logs k → Contains log a → IsKept t (with_logs m ls) a
 drained_kept t m k ls log a st run e l =
     same_kept t m (with_logs m ls) a (record { previous = refl; tams = refl; running = refl })
     ((st.follows run).logged_kept a (of_one m.logs k a (subst (λ (x : List ℕ). Contains x a) e l)))
@@ -99,10 +117,12 @@ taken_more t m m' k roots st run same scanned logs marks =
 
 pub taken_keeps : (t : Table) (m m' : Marker) (k : ℕ) → MarkerStands t m → m.running ≡ true → SameRoles m m'
     → m'.grey.scanned ≡ m.grey.scanned → m'.logs ≡ set m.logs k [] → MarksWanted t (Contains (log_of m.logs k)) m m' → KeepsSnapshots t m m'
-taken_keeps t m m' k st run same scanned logs marks = same_snapshots t m m' same (λ roots. taken_more t m m' k roots st run same scanned logs marks)
+taken_keeps t m m' k st run same scanned logs marks =
+    same_snapshots t m m' same (λ roots. taken_more t m m' k roots st run same scanned logs marks)
 
-pub one_taken : (t : Table) (m m' m'' : Marker) (n : ℕ) → HasTaken t m m' n → n < length m'.logs → MarkerStands t m'' → KeepsSnapshots t m' m''
-    → m''.logs ≡ set m'.logs n [] → m''.scans ≡ m'.scans → SameRoles m' m'' → m''.grey.scanned ≡ m'.grey.scanned → HasTaken t m m'' (n + 1)
+pub one_taken : (t : Table) (m m' m'' : Marker) (n : ℕ) → HasTaken t m m' n → n < length m'.logs
+    → MarkerStands t m'' → KeepsSnapshots t m' m'' → m''.logs ≡ set m'.logs n [] → m''.scans ≡ m'.scans → SameRoles m' m''
+    → m''.grey.scanned ≡ m'.grey.scanned → HasTaken t m m'' (n + 1)
 one_taken t m m' m'' n p known st keeps logs scans same scanned = record {
   stands = st;
   running = same.running ∙ p.running;
@@ -125,12 +145,13 @@ drained_keeps t m m' k ls log st run drained own same scanned logs marks =
     (subst (λ (x : List ℕ). MarksWanted t (Contains x) m m') own (record { stays = marks.stays; only = marks.only; each = marks.each }))
 
 -- an old address enters a log
-pub saved_stands : (t : Table) (m : Marker) (k at : ℕ) (ls : List (List ℕ)) → MarkerStands t m → m.running ≡ true → below_next t m.tams at ≡ true → IsKept t m at
-    → ls ≡ set m.logs k (log_of m.logs k ++ at ∷ []) → MarkerStands t (with_logs m ls)
+pub saved_stands : (t : Table) (m : Marker) (k at : ℕ) (ls : List (List ℕ)) → MarkerStands t m → m.running ≡ true
+    → below_next t m.tams at ≡ true → IsKept t m at → ls ≡ set m.logs k (log_of m.logs k ++ at ∷ []) → MarkerStands t (with_logs m ls)
 saved_stands t m k at ls st run below kept e =
     let f = st.follows run in
     let same : SameRoles m (with_logs m ls) = record { previous = refl; tams = refl; running = refl } in
-    let came : (a : ℕ) → Contains (logged ls) a → Contains (logged m.logs) a ⊎ (a ≡ at) = λ a l. only_logged m.logs k at a (subst (λ (x : List (List ℕ)). Contains (logged x) a) e l) in
+    let came : (a : ℕ) → Contains (logged ls) a → Contains (logged m.logs) a ⊎ (a ≡ at) =
+    λ a l. only_logged m.logs k at a (subst (λ (x : List (List ℕ)). Contains (logged x) a) e l) in
     record {
       previous = st.previous;
       next = st.next;
@@ -140,8 +161,12 @@ saved_stands t m k at ls st run below kept e =
       follows = λ _. record {
         closed = f.closed;
         marked = λ a h. same_kept t m (with_logs m ls) a same (f.marked a h);
-        logged_kept = λ a l. same_kept t m (with_logs m ls) a same (elim (came a l) [ inl was ↦ f.logged_kept a was | inr new ↦ subst (λ (x : ℕ). IsKept t m x) (sym new) kept ]);
-        logged_below = λ a l. elim (came a l) [ inl was ↦ f.logged_below a was | inr new ↦ ap (λ (x : ℕ). below_next t m.tams x) new ∙ below ];
+        logged_kept = λ a l. same_kept t m (with_logs m ls) a same
+            (elim (came a l) [ inl was ↦ f.logged_kept a was | inr new ↦ subst (λ (x : ℕ). IsKept t m x) (sym new) kept ]);
+        logged_below = λ a l. elim (came a l) [
+          | inl was ↦ f.logged_below a was
+          | inr new ↦ ap (λ (x : ℕ). below_next t m.tams x) new ∙ below
+        ];
       };
       idle = λ off. absurd (let g = run in cc);
       scanned_marked = st.scanned_marked;
@@ -151,14 +176,17 @@ saved_stands t m k at ls st run below kept e =
       live_scanned = st.live_scanned;
     }
 
-pub is_saved : (t : Table) (m : Marker) (k at : ℕ) (w : Option ℕ) (ls : List (List ℕ)) → k < length m.logs → w ≡ Some at → below_next t m.tams at ≡ true
-    → ls ≡ set m.logs k (log_of m.logs k ++ at ∷ []) → IsSaved (marking_of t m) (marking_of t (with_logs m ls)) w
+pub is_saved : (t : Table) (m : Marker) (k at : ℕ) (w : Option ℕ) (ls : List (List ℕ)) → k < length m.logs
+    → w ≡ Some at → below_next t m.tams at ≡ true → ls ≡ set m.logs k (log_of m.logs k ++ at ∷ [])
+    → IsSaved (marking_of t m) (marking_of t (with_logs m ls)) w
 is_saved t m k at w ls known is below e = record {
   old = λ a. refl;
   marked = λ a. refl;
   scanned = λ a. refl;
   kept = λ a l. subst (λ (x : List (List ℕ)). Contains (logged x) a) (sym e) (stays_logged m.logs k at a known l);
-  saved = λ a h _. let same : at ≡ a = cc in subst (λ (x : ℕ). Contains (logged ls) x) same (subst (λ (x : List (List ℕ)). Contains (logged x) at) (sym e) (new_logged m.logs k at known));
+  saved = λ a h _. let same : at ≡ a = cc in
+      subst (λ (x : ℕ). Contains (logged ls) x) same
+      (subst (λ (x : List (List ℕ)). Contains (logged x) at) (sym e) (new_logged m.logs k at known));
   only = λ a l. elim (only_logged m.logs k at a (subst (λ (x : List (List ℕ)). Contains (logged x) a) e l)) [
     | inl was ↦ inl was
     | inr new ↦ inr (is ∙ ap Some (sym new), ap (λ (x : ℕ). below_next t m.tams x) new ∙ below)

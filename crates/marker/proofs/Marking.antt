@@ -26,12 +26,15 @@ pub record HasScanned (t : Table) (m m' : Marker) (n : ℕ) : Type 0 where
   pub logs : m'.logs ≡ m.logs
   pub grows : Grows m m'
 
-pub snapshots_trans : (t : Table) (m m' m'' : Marker) → SameRoles m m' → KeepsSnapshots t m m' → KeepsSnapshots t m' m'' → KeepsSnapshots t m m''
-snapshots_trans t m m' m'' same p q = λ s g roots shows keeps. q s g roots (subst (λ (h : Heap). Shows g h) (sym (same_heap t roots m m' same)) shows) (p s g roots shows keeps)
+pub snapshots_trans : (t : Table) (m m' m'' : Marker) → SameRoles m m' → KeepsSnapshots t m m'
+    → KeepsSnapshots t m' m'' → KeepsSnapshots t m m''
+snapshots_trans t m m' m'' same p q = λ s g roots shows keeps.
+    q s g roots (subst (λ (h : Heap). Shows g h) (sym (same_heap t roots m m' same)) shows) (p s g roots shows keeps)
 
 more_one : (s s' s'' : ScanTotals) (n : ℕ) → IsMore s s' n → s'' ≡ added s' → IsMore s s'' (n + 1)
 more_one s s' s'' n p is = record {
-  since = ap (λ (x : ScanTotals). x.since) is ∙ ap (λ (k : ℕ). k + 1) p.since ∙ (let same : s.since + n + 1 ≡ s.since + (n + 1) = omega arith in same);
+  since = ap (λ (x : ScanTotals). x.since) is ∙ ap (λ (k : ℕ). k + 1) p.since
+      ∙ (let same : s.since + n + 1 ≡ s.since + (n + 1) = omega arith in same);
   total = (let now = ap (λ (x : ScanTotals). x.total) is in omega (arith, now, p.total));
 }
 
@@ -49,15 +52,23 @@ more_marked b n a k = elim (cases_eq a n) [
     ]
 
 -- one object more
-pub one_scanned : (t : Table) (m m' m'' : Marker) (n object : ℕ) → HasScanned t m m' n → is_grey m'.bitmaps.next m'.grey object ≡ true → object < length m'.bitmaps.next
-    → MarkerStands t m'' → KeepsSnapshots t m' m'' → m''.grey.scanned ≡ set m'.grey.scanned object true → m''.scans ≡ added m'.scans → SameRoles m' m'' → m''.logs ≡ m'.logs → ((a : ℕ) → is_marked m'.bitmaps.next a ≡ true → is_marked m''.bitmaps.next a ≡ true) → HasScanned t m m'' (n + 1)
+pub one_scanned : (t : Table) (m m' m'' : Marker) (n object : ℕ) → HasScanned t m m' n
+    → is_grey m'.bitmaps.next m'.grey object ≡ true → object < length m'.bitmaps.next
+    → MarkerStands t m'' → KeepsSnapshots t m' m'' → m''.grey.scanned ≡ set m'.grey.scanned object true
+    → m''.scans ≡ added m'.scans → SameRoles m' m'' → m''.logs ≡ m'.logs
+    → ((a : ℕ) → is_marked m'.bitmaps.next a ≡ true → is_marked m''.bitmaps.next a ≡ true) → HasScanned t m m'' (n + 1)
 one_scanned t m m' m'' n object p grey inside st keeps scanned counted same logs marked =
     let is = grey_is m'.bitmaps.next m'.grey object grey in
     record {
       stands = st;
       running = same.running ∙ p.running;
       snapshots = snapshots_trans t m m' m'' p.same p.snapshots keeps;
-      count = omega (arith, ap marked_count scanned, marked_count-set m'.grey.scanned object (omega (arith, inside, p.stands.scanned)) is.1, p.count);
+      count = omega (
+        arith,
+        ap marked_count scanned,
+        marked_count-set m'.grey.scanned object (omega (arith, inside, p.stands.scanned)) is.1,
+        p.count,
+      );
       scans = more_one m.scans m'.scans m''.scans n p.scans counted;
       same = same_trans m m' m'' p.same same;
       logs = logs ∙ p.logs;

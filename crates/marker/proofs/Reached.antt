@@ -1,5 +1,7 @@
 -- Marks come, and marks still stand at kept objects.
-use Rattle.std.proofs.Common.{inl, inr, ◌≡◌, ◌⊎◌, ℕ, ◌+◌, ◌<◌, ◌≤◌, Bool, true, false, List, [], Option, None, Some, length, get_or, set, refl, sym, ap, ◌∙◌, subst, arith, get_or-set_same, get_or-set_other}
+use Rattle.std.proofs.Common.{◌≡◌, ◌⊎◌, ◌+◌, ◌<◌, ◌≤◌, ◌∙◌}
+use Rattle.std.proofs.Common.{inl, inr, ℕ, Bool, true, false, List, [], Option, None, Some, length, get_or, set, refl, sym, ap}
+use Rattle.std.proofs.Common.{subst, arith, get_or-set_same, get_or-set_other}
 use Rattle.std.specs.Prelude.{Contains, slice_get}
 use Rattle.std.proofs.lemmas.Bool.{cases_eq, cases_lt}
 use Rattle.std.proofs.lemmas.List.{get_or_past}
@@ -32,7 +34,8 @@ stands_step t m m' st run same scanned len logs next finger came scanned_marked 
     let tams : m.tams ≡ m'.tams = sym same.tams in
     let kept : (a : ℕ) → IsKept t m a → IsKept t m' a = λ a. same_kept t m m' a same in
     record {
-      previous = subst (λ (b : List Bool). MarksObjects t m'.tams.previous b) (sym same.previous) (subst (λ (x : Tops). MarksObjects t x.previous m.bitmaps.previous) tams st.previous);
+      previous = subst (λ (b : List Bool). MarksObjects t m'.tams.previous b) (sym same.previous)
+          (subst (λ (x : Tops). MarksObjects t x.previous m.bitmaps.previous) tams st.previous);
       next = subst (λ (x : Tops). MarksObjects t x.next m'.bitmaps.next) tams next;
       scanned = scanned ∙ st.scanned ∙ st.next.each_word ∙ sym next.each_word;
       finger = λ _. finger;
@@ -46,7 +49,8 @@ stands_step t m m' st run same scanned len logs next finger came scanned_marked 
       idle = λ off. absurd (let e = same.running in cc);
       scanned_marked = λ _. scanned_marked;
       counted = λ _. counted;
-      live = subst (λ (b : List Bool). CountsWords t b m'.live.previous) (sym same.previous) (subst (λ (l : List ℕ). CountsWords t m.bitmaps.previous l) (sym before) st.live);
+      live = subst (λ (b : List Bool). CountsWords t b m'.live.previous) (sym same.previous)
+          (subst (λ (l : List ℕ). CountsWords t m.bitmaps.previous l) (sym before) st.live);
       live_next = λ off. absurd (let e = same.running in cc);
       live_scanned = λ _. now;
     }
@@ -70,12 +74,21 @@ set_more marks a b k = elim (cases_lt a (length marks)) [
   ]
 ]
 
-pub old_within : (t : Table) (m : Marker) (a : ℕ) → 0 < t.words_per_region → MarkerStands t m → below_next t m.tams a ≡ true → a < length m.bitmaps.next
+pub old_within : (t : Table) (m : Marker) (a : ℕ) → 0 < t.words_per_region → MarkerStands t m
+    → below_next t m.tams a ≡ true → a < length m.bitmaps.next
 old_within t m a z st h = within t m.tams.next m.bitmaps.next a z st.next h
 
 -- the marker with other marks and another grey set
 abbrev pub with_next : Marker → List Bool → Scans → Marker
-with_next m n g = record { bitmaps = record { previous = m.bitmaps.previous; next = n }; tams = m.tams; grey = g; logs = m.logs; running = m.running; scans = m.scans; live = m.live }
+with_next m n g = record {
+  bitmaps = record { previous = m.bitmaps.previous; next = n };
+  tams = m.tams;
+  grey = g;
+  logs = m.logs;
+  running = m.running;
+  scans = m.scans;
+  live = m.live;
+}
 
 pub set_stands : (t : Table) (m : Marker) (a : ℕ) (n : List Bool) (g : Scans) → MarkerStands t m → m.running ≡ true
     → below_next t m.tams a ≡ true → IsKept t m a → n ≡ set m.bitmaps.next a true → g.scanned ≡ m.grey.scanned
@@ -83,15 +96,20 @@ pub set_stands : (t : Table) (m : Marker) (a : ℕ) (n : List Bool) (g : Scans) 
 set_stands t m a n g st run below k e scanned finger =
     let object = kept_object t m.tams m.bitmaps.previous a k.object k.is in
     stands_step t m (with_next m n g) st run (record { previous = refl; tams = refl; running = refl }) (ap length scanned) refl (λ b l. l)
-    (subst (λ (b : List Bool). MarksObjects t m.tams.next b) (sym e) (set_objects t m.tams.next m.bitmaps.next a k.object st.next object below))
+    (subst (λ (b : List Bool). MarksObjects t m.tams.next b) (sym e)
+    (set_objects t m.tams.next m.bitmaps.next a k.object st.next object below))
     finger
-    (λ b h. elim (marked_set m.bitmaps.next a b (ap (λ (l : List Bool). is_marked l b) (sym e) ∙ h)) [ inl old ↦ inl old | inr same ↦ inr (subst (λ (x : ℕ). IsKept t m x) (sym same) k) ])
-    (λ b h. ap (λ (l : List Bool). is_marked l b) e ∙ set_more m.bitmaps.next a b (st.scanned_marked run b (ap (λ (l : List Bool). is_marked l b) (sym scanned) ∙ h)))
+    (λ b h. elim (marked_set m.bitmaps.next a b (ap (λ (l : List Bool). is_marked l b) (sym e) ∙ h)) [
+      | inl old ↦ inl old
+      | inr same ↦ inr (subst (λ (x : ℕ). IsKept t m x) (sym same) k)
+    ])
+    (λ b h. ap (λ (l : List Bool). is_marked l b) e
+    ∙ set_more m.bitmaps.next a b (st.scanned_marked run b (ap (λ (l : List Bool). is_marked l b) (sym scanned) ∙ h)))
     (st.counted run ∙ ap marked_count (sym scanned))
     refl (subst (λ (b : List Bool). CountsWords t b m.live.next) (sym scanned) (st.live_scanned run))
 
-pub set_marks : (t : Table) (m : Marker) (a : ℕ) (target : Option ℕ) (n : List Bool) (g : Scans) → target ≡ Some a → a < length m.bitmaps.next
-    → n ≡ set m.bitmaps.next a true → MarksWanted t (λ b. target ≡ Some b) m (with_next m n g)
+pub set_marks : (t : Table) (m : Marker) (a : ℕ) (target : Option ℕ) (n : List Bool) (g : Scans)
+    → target ≡ Some a → a < length m.bitmaps.next → n ≡ set m.bitmaps.next a true → MarksWanted t (λ b. target ≡ Some b) m (with_next m n g)
 set_marks t m a target n g is h e =
     let now : (b : ℕ) → is_marked n b ≡ is_marked (set m.bitmaps.next a true) b = λ b. ap (λ (l : List Bool). is_marked l b) e in
     record {
@@ -139,7 +157,8 @@ more_reached t first then both m m' m'' split left right p q = record {
 }
 
 -- one word more
-pub among_split : (words : List (Option ℕ)) (n a : ℕ) (w : Option ℕ) → slice_get words n ≡ Some w → IsAmong words (n + 1) a → IsAmong words n a ⊎ (w ≡ Some a)
+pub among_split : (words : List (Option ℕ)) (n a : ℕ) (w : Option ℕ) → slice_get words n ≡ Some w
+    → IsAmong words (n + 1) a → IsAmong words n a ⊎ (w ≡ Some a)
 among_split words n a w e i =
     elim (cases_eq i.place n) [
       | inl same ↦ inr (let f : slice_get words n ≡ Some (Some a) = ap (slice_get words) (sym same) ∙ i.is in cc)
@@ -160,7 +179,8 @@ among_more t words n w m m' m'' e p q =
 
 -- ---- roots, of which those that hold nil are passed over
 -- what is wanted may be said otherwise
-pub reached_as : (t : Table) (wanted other : ℕ → Type 0) (m m' : Marker) → ((a : ℕ) → wanted a → other a) → ((a : ℕ) → other a → wanted a) → Reached t wanted m m' → Reached t other m m'
+pub reached_as : (t : Table) (wanted other : ℕ → Type 0) (m m' : Marker) → ((a : ℕ) → wanted a → other a) → ((a : ℕ) → other a → wanted a)
+    → Reached t wanted m m' → Reached t other m m'
 reached_as t wanted other m m' to from r = record {
   stands = r.stands;
   marks = record {
@@ -184,18 +204,22 @@ among_same words n k a nil i = elim (cases_lt i.place n) [
 ]
 
 -- up to a place further on, where only nil stands between
-pub among_past : (t : Table) (words : List (Option ℕ)) (n k : ℕ) (m m' : Marker) → n ≤ k → AreNil words n k → Reached t (IsAmong words n) m m' → Reached t (IsAmong words k) m m'
-among_past t words n k m m' le nil r = reached_as t (IsAmong words n) (IsAmong words k) m m' (λ a. among_wider words n k a le) (λ a. among_same words n k a nil) r
+pub among_past : (t : Table) (words : List (Option ℕ)) (n k : ℕ) (m m' : Marker) → n ≤ k → AreNil words n k
+    → Reached t (IsAmong words n) m m' → Reached t (IsAmong words k) m m'
+among_past t words n k m m' le nil r =
+    reached_as t (IsAmong words n) (IsAmong words k) m m' (λ a. among_wider words n k a le) (λ a. among_same words n k a nil) r
 
 -- the word that stands in the next place that is named
-pub named_word : (words : List (Option ℕ)) (from place : ℕ) (w : Option ℕ) → IsNextNamed words from place → w ≡ get_or words place None → slice_get words place ≡ Some w
+pub named_word : (words : List (Option ℕ)) (from place : ℕ) (w : Option ℕ) → IsNextNamed words from place
+    → w ≡ get_or words place None → slice_get words place ≡ Some w
 named_word words from place w n e = elim (cases_lt place (length words)) [
   | inl within ↦ slice_get-get_or words place None within ∙ ap Some (sym e)
   | inr past ↦ absurd (let none : get_or words place None ≡ None = get_or_past words place None past in let some = n.holds in cc)
 ]
 
 -- all up to the next place that is named were reached, and then what it names
-pub among_next : (t : Table) (words : List (Option ℕ)) (from place : ℕ) (w : Option ℕ) (m m' m'' : Marker) → IsNextNamed words from place → w ≡ get_or words place None
+pub among_next : (t : Table) (words : List (Option ℕ)) (from place : ℕ) (w : Option ℕ) (m m' m'' : Marker)
+    → IsNextNamed words from place → w ≡ get_or words place None
     → Reached t (IsAmong words from) m m' → Reached t (λ a. w ≡ Some a) m' m'' → Reached t (IsAmong words (place + 1)) m m''
 among_next t words from place w m m' m'' n e p q =
     among_more t words place w m m' m'' (named_word words from place w n e) (among_past t words from place m m' n.from_on n.nil_before p) q

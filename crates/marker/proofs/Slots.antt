@@ -1,5 +1,7 @@
 -- Weak slots of an object, cleared one after another.
-use Rattle.std.proofs.Common.{◌≡◌, ℕ, zero, suc, ◌+◌, ◌*◌, ◌<◌, ◌≤◌, Bool, true, Option, Some, None, List, [], ◌∷◌, length, map, set, refl, sym, ap, subst, ◌∙◌, arith, inl, inr}
+use Rattle.std.proofs.Common.{◌≡◌, ◌+◌, ◌*◌, ◌<◌, ◌≤◌, ◌∷◌, ◌∙◌}
+use Rattle.std.proofs.Common.{ℕ, zero, suc, Bool, true, Option, Some, None, List, [], length}
+use Rattle.std.proofs.Common.{map, set, refl, sym, ap, subst, arith, inl, inr}
 use Rattle.std.specs.Prelude.{slice_get, IsSome}
 use Rattle.std.proofs.lemmas.Bool.{cases_eq}
 use Rattle.heap_model.specs.Heap.{Stored}
@@ -27,7 +29,8 @@ partly_get f zero xs = refl
 partly_get f (suc i) [] = refl
 partly_get f (suc i) (x ∷ xs) = partly_get f i xs
 
-partly_set : (f : Option ℕ → Option ℕ) (i : ℕ) (xs : List (Option ℕ)) (x : Option ℕ) → slice_get xs i ≡ Some x → set (partly f i xs) i (f x) ≡ partly f (suc i) xs
+partly_set : (f : Option ℕ → Option ℕ) (i : ℕ) (xs : List (Option ℕ)) (x : Option ℕ) → slice_get xs i ≡ Some x
+    → set (partly f i xs) i (f x) ≡ partly f (suc i) xs
 partly_set f zero [] x e = cc
 partly_set f zero (y ∷ xs) x e = let same : y ≡ x = cc in rw same refl
 partly_set f (suc i) [] x e = cc
@@ -46,7 +49,12 @@ length_partly f (suc i) (x ∷ xs) = ap suc (length_partly f i xs)
 
 -- marking sees of a table the size of its regions alone
 pub same_marking : (t u : Table) (m : Marker) → u.words_per_region ≡ t.words_per_region → marking_of u m ≡ marking_of t m
-same_marking t u m e = ap (λ (w : ℕ). record { old = λ a. is_below w m.tams.next a; marked = is_marked m.bitmaps.next; scanned = is_marked m.grey.scanned; logged = logged m.logs }) e
+same_marking t u m e = ap (λ (w : ℕ). record {
+  old = λ a. is_below w m.tams.next a;
+  marked = is_marked m.bitmaps.next;
+  scanned = is_marked m.grey.scanned;
+  logged = logged m.logs;
+}) e
 
 -- the object at x once i of its slots are cleared
 abbrev pub with_slots : Marking → Stored → ℕ → Stored
@@ -63,22 +71,38 @@ some_object (Some s) h = (s, refl)
 pub partly_first : (m : Marking) (t : Table) (x : ℕ) → IsSome (object_at t x) → IsPartly m t t x 0
 partly_first m t x h =
     let (s, e) = some_object (object_at t x) h in
-    record { object = s; writes = record { size = refl; count = refl; was = e; is = e; others = λ y n. refl; kinds = λ k. refl; unmoved = λ n. n; used = λ k. refl } }
+    record {
+      object = s;
+      writes = record {
+        size = refl;
+        count = refl;
+        was = e;
+        is = e;
+        others = λ y n. refl;
+        kinds = λ k. refl;
+        unmoved = λ n. n;
+        used = λ k. refl;
+      };
+    }
 
 weaks_are : (t : Table) (x : ℕ) (s : Stored) → object_at t x ≡ Some s → weaks_at t x ≡ s.weaks
 unfolding weaks_at
 weaks_are t x s e = ap object_weaks e
 
 pub partly_room : (m : Marking) (t u : Table) (x i : ℕ) → IsPartly m t u x i → length (weaks_at u x) ≡ length (weaks_at t x)
-partly_room m t u x i p = ap length (weaks_are u x _ p.writes.is) ∙ length_partly (cleared_word m) i p.object.weaks ∙ sym (ap length (weaks_are t x _ p.writes.was))
+partly_room m t u x i p = ap length (weaks_are u x _ p.writes.is) ∙ length_partly (cleared_word m) i p.object.weaks
+    ∙ sym (ap length (weaks_are t x _ p.writes.was))
 
-next_slot : (m : Marking) (t u : Table) (x i : ℕ) (target target' : Option ℕ) → 0 < t.words_per_region → IsPartly m t u x i → slice_get (weaks_at u x) i ≡ Some target → target' ≡ cleared_word m target → IsPartly m t (set_weak u x i target') x (suc i)
+next_slot : (m : Marking) (t u : Table) (x i : ℕ) (target target' : Option ℕ) → 0 < t.words_per_region → IsPartly m t u x i
+    → slice_get (weaks_at u x) i ≡ Some target → target' ≡ cleared_word m target → IsPartly m t (set_weak u x i target') x (suc i)
 next_slot m t u x i target target' z p read is =
     let w = p.writes in
     let s1 : Stored = with_slots m p.object i in
     let v = weak_put u x i target' s1 (rw w.size z) w.is in
-    let there : slice_get p.object.weaks i ≡ Some target = sym (partly_get (cleared_word m) i p.object.weaks) ∙ sym (ap (λ l. slice_get l i) (weaks_are u x s1 w.is)) ∙ read in
-    let slots : set (partly (cleared_word m) i p.object.weaks) i target' ≡ partly (cleared_word m) (suc i) p.object.weaks = ap (λ q. set (partly (cleared_word m) i p.object.weaks) i q) is ∙ partly_set (cleared_word m) i p.object.weaks target there in
+    let there : slice_get p.object.weaks i ≡ Some target =
+    sym (partly_get (cleared_word m) i p.object.weaks) ∙ sym (ap (λ l. slice_get l i) (weaks_are u x s1 w.is)) ∙ read in
+    let slots : set (partly (cleared_word m) i p.object.weaks) i target' ≡ partly (cleared_word m) (suc i) p.object.weaks =
+    ap (λ q. set (partly (cleared_word m) i p.object.weaks) i q) is ∙ partly_set (cleared_word m) i p.object.weaks target there in
     record {
       object = p.object;
       writes = record {
@@ -93,13 +117,18 @@ next_slot m t u x i target target' z p read is =
       };
     }
 
-pub partly_next : (m : Marking) (t u : Table) (x i j : ℕ) (target target' : Option ℕ) → j ≡ i + 1 → 0 < t.words_per_region → IsPartly m t u x i → slice_get (weaks_at u x) i ≡ Some target → target' ≡ cleared_word m target → IsPartly m t (set_weak u x i target') x j
-partly_next m t u x i j target target' e z p read is = let same : j ≡ suc i = omega arith in subst (λ (n : ℕ). IsPartly m t (set_weak u x i target') x n) (sym same) (next_slot m t u x i target target' z p read is)
+pub partly_next : (m : Marking) (t u : Table) (x i j : ℕ) (target target' : Option ℕ) → j ≡ i + 1 → 0 < t.words_per_region
+    → IsPartly m t u x i → slice_get (weaks_at u x) i ≡ Some target → target' ≡ cleared_word m target
+    → IsPartly m t (set_weak u x i target') x j
+partly_next m t u x i j target target' e z p read is =
+    let same : j ≡ suc i = omega arith in
+    subst (λ (n : ℕ). IsPartly m t (set_weak u x i target') x n) (sym same) (next_slot m t u x i target target' z p read is)
 
 pub partly_last : (m : Marking) (t u : Table) (x i : ℕ) → IsPartly m t u x i → i ≡ length (weaks_at t x) → HasCleared m t u x
 partly_last m t u x i p e =
     let w = p.writes in
-    let all : partly (cleared_word m) i p.object.weaks ≡ map (cleared_word m) p.object.weaks = partly_all (cleared_word m) i p.object.weaks (omega (arith, e, ap length (weaks_are t x _ w.was))) in
+    let all : partly (cleared_word m) i p.object.weaks ≡ map (cleared_word m) p.object.weaks =
+    partly_all (cleared_word m) i p.object.weaks (omega (arith, e, ap length (weaks_are t x _ w.was))) in
     record {
       object = p.object;
       was = w.was;
@@ -112,7 +141,8 @@ partly_last m t u x i p e =
       others = w.others;
     }
 
-pub partly_marks : (m : Marking) (t u : Table) (x i : ℕ) (tops : List ℕ) (marks : List Bool) → IsPartly m t u x i → MarksObjects t tops marks → MarksObjects u tops marks
+pub partly_marks : (m : Marking) (t u : Table) (x i : ℕ) (tops : List ℕ) (marks : List Bool) → IsPartly m t u x i
+    → MarksObjects t tops marks → MarksObjects u tops marks
 partly_marks m t u x i tops marks p o =
     let w = p.writes in
     role_stays t u tops marks o w.count w.size (λ k h. let top = o.top k h in let same = top_same k in omega arith) stays

@@ -1,5 +1,6 @@
 -- The clearing of one object with weak slots after another.
-use Rattle.std.proofs.Common.{◌≡◌, ℕ, ◌+◌, ◌-◌, ◌^◌, ◌<◌, ◌≤◌, ◌⊎◌, Bool, Option, Some, None, List, [], ◌∷◌, length, map, refl, sym, ap, subst, ◌∙◌, arith, inl, inr}
+use Rattle.std.proofs.Common.{◌≡◌, ◌+◌, ◌-◌, ◌^◌, ◌<◌, ◌≤◌, ◌⊎◌, ◌∷◌, ◌∙◌}
+use Rattle.std.proofs.Common.{ℕ, Bool, Option, Some, None, List, [], length, map, refl, sym, ap, subst, arith, inl, inr}
 use Rattle.std.specs.Prelude.{⊤, IsSome, IfSome}
 use Rattle.std.proofs.lemmas.Bool.{cases_eq, cases_lt}
 use Rattle.heap_model.specs.Heap.{Stored}
@@ -44,14 +45,25 @@ module _ (m : Marking) (t u : Table) (d : ℕ → Type 0) (c : ClearsSome m t u 
   stays_object a s e = elim (c.each a) [ inl same ↦ (s, same ∙ e) | inr k ↦ (cleared m s, k.1 ∙ ap (cleared_object m) e) ]
 
   pub marks_stay : (tops : List ℕ) (marks : List Bool) → MarksObjects t tops marks → MarksObjects u tops marks
-  marks_stay tops marks o = role_stays t u tops marks o c.count c.size (λ k h. let top = o.top k h in let same = c.tops k in omega arith) (λ a s k e. stays_object a s e)
+  marks_stay tops marks o = role_stays t u tops marks o c.count c.size
+      (λ k h. let top = o.top k h in let same = c.tops k in omega arith) (λ a s k e. stays_object a s e)
 
 -- nothing is cleared yet
 pub swept_first : (m : Marking) (t : Table) → ClearsSome m t t (λ a. ⊥)
-swept_first m t = record { size = refl; count = refl; kinds = λ k. refl; tops = λ k. refl; unmoved = λ n. n; each = λ a. inl refl; done_is = λ a n s. absurd n; tiles = λ a e. refl }
+swept_first m t = record {
+  size = refl;
+  count = refl;
+  kinds = λ k. refl;
+  tops = λ k. refl;
+  unmoved = λ n. n;
+  each = λ a. inl refl;
+  done_is = λ a n s. absurd n;
+  tiles = λ a e. refl;
+}
 
 -- one after the other
-pub swept_trans : (m : Marking) (t u v : Table) (d e f : ℕ → Type 0) → ClearsSome m t u d → ClearsSome m u v e → ((a : ℕ) → f a → d a ⊎ e a) → ClearsSome m t v f
+pub swept_trans : (m : Marking) (t u v : Table) (d e f : ℕ → Type 0) → ClearsSome m t u d → ClearsSome m u v e
+    → ((a : ℕ) → f a → d a ⊎ e a) → ClearsSome m t v f
 swept_trans m t u v d e f p q cases = record {
   size = q.size ∙ p.size;
   count = q.count ∙ p.count;
@@ -65,7 +77,10 @@ swept_trans m t u v d e f p q cases = record {
         elim (q.each a) [ inl same ↦ same ∙ first | inr y ↦ y.1 ∙ ap (cleared_object m) first ∙ twice m (object_at t a) ]
     | inr x ↦
         let second = q.done_is a x s in
-        elim (p.each a) [ inl same ↦ second ∙ ap (cleared_object m) same | inr y ↦ second ∙ ap (cleared_object m) y.1 ∙ twice m (object_at t a) ]
+        elim (p.each a) [
+          | inl same ↦ second ∙ ap (cleared_object m) same
+          | inr y ↦ second ∙ ap (cleared_object m) y.1 ∙ twice m (object_at t a)
+        ]
   ];
   tiles = λ a none. q.tiles a (none_now a none) ∙ p.tiles a none;
 }
@@ -76,7 +91,10 @@ swept_trans m t u v d e f p q cases = record {
     each : (a : ℕ) → (object_at v a ≡ object_at t a) ⊎ (IsStaying m a × (object_at v a ≡ cleared_object m (object_at t a)))
     each a = elim (q.each a) [
       | inl same ↦ elim (p.each a) [ inl same' ↦ inl (same ∙ same') | inr y ↦ inr (y.0, same ∙ y.1) ]
-      | inr y ↦ elim (p.each a) [ inl same ↦ inr (y.0, y.1 ∙ ap (cleared_object m) same) | inr z ↦ inr (y.0, y.1 ∙ ap (cleared_object m) z.1 ∙ twice m (object_at t a)) ]
+      | inr y ↦ elim (p.each a) [
+        | inl same ↦ inr (y.0, y.1 ∙ ap (cleared_object m) same)
+        | inr z ↦ inr (y.0, y.1 ∙ ap (cleared_object m) z.1 ∙ twice m (object_at t a))
+      ]
     ]
 
 -- one object
@@ -88,7 +106,10 @@ swept_object m t u x (inl c) = record {
   kinds = h.kinds;
   tops = h.tops;
   unmoved = h.unmoved;
-  each = λ a. elim (cases_eq a x) [ inl e ↦ inr (subst (IsStaying m) (sym e) c.0, here a e) | inr ne ↦ inl (ap tile_object (h.others a ne)) ];
+  each = λ a. elim (cases_eq a x) [
+    | inl e ↦ inr (subst (IsStaying m) (sym e) c.0, here a e)
+    | inr ne ↦ inl (ap tile_object (h.others a ne))
+  ];
   done_is = λ a e s. here a e;
   tiles = λ a none. elim (cases_eq a x) [ inl e ↦ gone a e none | inr ne ↦ h.others a ne ];
 }
@@ -151,7 +172,8 @@ abbrev pub left_over : Option ℕ → ℕ
 left_over None = 0
 left_over (Some a) = 2 ^ 32 - a
 
-sweep_done : (m : Marking) (t u : Table) (from : ℕ) (left : Option ℕ) → ClearsSome m t u (λ a. a < from) → ((a : ℕ) → from ≤ a → IsBefore left a → HasWeaks u a → ⊥) → ClearsSome m t u (IsBefore left)
+sweep_done : (m : Marking) (t u : Table) (from : ℕ) (left : Option ℕ) → ClearsSome m t u (λ a. a < from)
+    → ((a : ℕ) → from ≤ a → IsBefore left a → HasWeaks u a → ⊥) → ClearsSome m t u (IsBefore left)
 sweep_done m t u from left c none = record {
   size = c.size;
   count = c.count;
@@ -159,16 +181,24 @@ sweep_done m t u from left c none = record {
   tops = c.tops;
   unmoved = c.unmoved;
   each = c.each;
-  done_is = λ a before s. elim (cases_lt a from) [ inl low ↦ c.done_is a low s | inr high ↦ passed m t u (λ a. a < from) c a (none a high before) ];
+  done_is = λ a before s. elim (cases_lt a from) [
+    | inl low ↦ c.done_is a low s
+    | inr high ↦ passed m t u (λ a. a < from) c a (none a high before)
+  ];
   tiles = c.tiles;
 }
 
-sweep_on : (m : Marking) (t u : Table) (from : ℕ) (left : Option ℕ) → ClearsSome m t u (λ a. a < from) → IsNextWithWeaks u from left → IsSweep m t u left
+sweep_on : (m : Marking) (t u : Table) (from : ℕ) (left : Option ℕ) → ClearsSome m t u (λ a. a < from)
+    → IsNextWithWeaks u from left → IsSweep m t u left
 sweep_on m t u from None c next = record { some = sweep_done m t u from None c (λ a low before h. next a low h); next = tt }
-sweep_on m t u from (Some n) c next = record { some = sweep_done m t u from (Some n) c (λ a low before h. next.2 a low before h); next = next.1 }
+sweep_on m t u from (Some n) c next = record {
+  some = sweep_done m t u from (Some n) c (λ a low before h. next.2 a low before h);
+  next = next.1;
+}
 
 pub sweep_first : (m : Marking) (t : Table) (left : Option ℕ) → IsNextWithWeaks t 0 left → IsSweep m t t left
-sweep_first m t left next = sweep_on m t t 0 left (swept_trans m t t t (λ a. ⊥) (λ a. ⊥) (λ a. a < 0) (swept_first m t) (swept_first m t) (λ a s. absurd (omega arith))) next
+sweep_first m t left next = sweep_on m t t 0 left
+    (swept_trans m t t t (λ a. ⊥) (λ a. ⊥) (λ a. a < 0) (swept_first m t) (swept_first m t) (λ a s. absurd (omega arith))) next
 
 module _ (m : Marking) (t u : Table) (left : Option ℕ) (n : ℕ) (is : left ≡ Some n) (p : IsSweep m t u left) where
   here : IsSweep m t u (Some n)
@@ -180,14 +210,21 @@ module _ (m : Marking) (t u : Table) (left : Option ℕ) (n : ℕ) (is : left �
   -- the address behind it is one
   pub sweep_small : IsShaped u → n < max_words
   unfolding object_at
-  sweep_small shaped = let tile = object_tile (tile_in u n) here.next.object here.next.is in let w = shaped.within n (Object here.next.object) tile in let all = shaped.in_all in omega arith
+  sweep_small shaped =
+      let tile = object_tile (tile_in u n) here.next.object here.next.is in
+      let w = shaped.within n (Object here.next.object) tile in
+      let all = shaped.in_all in
+      omega arith
 
   pub sweep_marks : (tops : List ℕ) (marks : List Bool) → MarksObjects t tops marks → MarksObjects u tops marks
   sweep_marks tops marks o = marks_stay m t u _ p.some tops marks o
 
-  pub sweep_next : (m' : Marking) (v : Table) (behind : ℕ) (next : Option ℕ) → m' ≡ m → behind ≡ n + 1 → ClearsStaying m' u v n → IsNextWithWeaks v behind next → IsSweep m t v next
+  pub sweep_next : (m' : Marking) (v : Table) (behind : ℕ) (next : Option ℕ) → m' ≡ m → behind ≡ n + 1 → ClearsStaying m' u v n
+      → IsNextWithWeaks v behind next → IsSweep m t v next
   sweep_next m' v behind next e f c w =
-      let now = swept_trans m t u v (λ a. a < n) (λ a. a ≡ n) (λ a. a < behind) here.some (swept_object m u v n (subst (λ k. ClearsStaying k u v n) e c)) (λ a low. elim (cases_lt a n) [ inl lt ↦ inl lt | inr ge ↦ inr (omega arith) ]) in
+      let now = swept_trans m t u v (λ a. a < n) (λ a. a ≡ n) (λ a. a < behind) here.some
+      (swept_object m u v n (subst (λ k. ClearsStaying k u v n) e c))
+      (λ a low. elim (cases_lt a n) [ inl lt ↦ inl lt | inr ge ↦ inr (omega arith) ]) in
       sweep_on m t v behind next now w
 
 pub sweep_last : (m : Marking) (t u : Table) (left : Option ℕ) → left ≡ None → IsSweep m t u left → ClearsTable m t u
@@ -206,12 +243,14 @@ sweep_last m t u None e p =
 sweep_last m t u (Some n) e p = cc
 
 -- ---- what a tile's shape tells
-shaped : (o : Option Tile) (shape : Shape) (p weak d : ℕ) → IsSome o → IfSome o (λ u. shape ≡ tile_shape u) → shape ≡ shapes.Object p weak d → IsSome (tile_object o)
+shaped : (o : Option Tile) (shape : Shape) (p weak d : ℕ) → IsSome o → IfSome o (λ u. shape ≡ tile_shape u)
+    → shape ≡ shapes.Object p weak d → IsSome (tile_object o)
 shaped None shape p weak d h e f = cc
 shaped (Some (Object s)) shape p weak d h e f = refl
 shaped (Some (Filler k)) shape p weak d h e f = cc
 shaped (Some (Forwarded to k)) shape p weak d h e f = cc
 
-pub tile_is_object : (t : Table) (a : ℕ) (shape : Shape) (p weak d : ℕ) → IsSome (tile_in t a) → IfSome (tile_in t a) (λ u. shape ≡ tile_shape u) → shape ≡ shapes.Object p weak d → IsSome (object_at t a)
+pub tile_is_object : (t : Table) (a : ℕ) (shape : Shape) (p weak d : ℕ) → IsSome (tile_in t a)
+    → IfSome (tile_in t a) (λ u. shape ≡ tile_shape u) → shape ≡ shapes.Object p weak d → IsSome (object_at t a)
 unfolding object_at
 tile_is_object t a shape p weak d h e f = shaped (tile_in t a) shape p weak d h e f

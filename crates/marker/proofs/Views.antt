@@ -14,12 +14,14 @@ use Rattle.marker.specs.declared.marker.Marker.{Marker}
 pub same_heap : (t : Table) (roots : List (Option ℕ)) (m m' : Marker) → SameRoles m m' → heap_of t roots m' ≡ heap_of t roots m
 same_heap t roots m m' same = rw (same.tams, same.previous) refl
 
-was_some : (below marked : Bool) (object : Option Stored) (s : Stored) → (if below then (if marked then object else None) else object) ≡ Some s → object ≡ Some s
+was_some : (below marked : Bool) (object : Option Stored) (s : Stored)
+    → (if below then (if marked then object else None) else object) ≡ Some s → object ≡ Some s
 was_some true true object s e = e
 was_some true false object s e = cc
 was_some false marked object s e = e
 
-pub kept_object : (t : Table) (tops : Tops) (previous : List Bool) (a : ℕ) (s : Stored) → kept_in t tops previous a ≡ Some s → object_at t a ≡ Some s
+pub kept_object : (t : Table) (tops : Tops) (previous : List Bool) (a : ℕ) (s : Stored)
+    → kept_in t tops previous a ≡ Some s → object_at t a ≡ Some s
 kept_object t tops previous a s e = was_some (below_previous t tops a) (is_marked previous a) (object_at t a) s e
 
 pub object_pointers_at : (t : Table) (a : ℕ) (s : Stored) → object_at t a ≡ Some s → pointers_at t a ≡ s.pointers
@@ -30,9 +32,13 @@ pub same_kept : (t : Table) (m m' : Marker) (a : ℕ) → SameRoles m m' → IsK
 same_kept t m m' a same k = record { object = k.object; is = ap (λ h. Heap.kept h a) (same_heap t (List.[]) m m' same) ∙ k.is }
 
 -- what is kept is told by the previous marks and tops alone
-pub previous_heap : (t : Table) (roots : List (Option ℕ)) (m m' : Marker) → m'.tams.previous ≡ m.tams.previous → m'.bitmaps.previous ≡ m.bitmaps.previous → heap_of t roots m' ≡ heap_of t roots m
+pub previous_heap : (t : Table) (roots : List (Option ℕ)) (m m' : Marker) → m'.tams.previous ≡ m.tams.previous
+    → m'.bitmaps.previous ≡ m.bitmaps.previous → heap_of t roots m' ≡ heap_of t roots m
 previous_heap t roots m m' tops marks = rw (tops, marks) refl
 
-pub kept_before : (t : Table) (roots : List (Option ℕ)) (m m' : Marker) (a : ℕ) → m'.tams.previous ≡ m.tams.previous → m'.bitmaps.previous ≡ m.bitmaps.previous
-    → (x : Stored) × ((heap_of t roots m).kept a ≡ Some x) → IsKept t m' a
-kept_before t roots m m' a tops marks k = record { object = k.0; is = ap (λ (h : Heap). h.kept a) (previous_heap t roots m m' tops marks) ∙ k.1 }
+pub kept_before : (t : Table) (roots : List (Option ℕ)) (m m' : Marker) (a : ℕ) → m'.tams.previous ≡ m.tams.previous
+    → m'.bitmaps.previous ≡ m.bitmaps.previous → (x : Stored) × ((heap_of t roots m).kept a ≡ Some x) → IsKept t m' a
+kept_before t roots m m' a tops marks k = record {
+  object = k.0;
+  is = ap (λ (h : Heap). h.kept a) (previous_heap t roots m m' tops marks) ∙ k.1;
+}

@@ -1,5 +1,6 @@
 -- A new journal keeps what every journal keeps.
-use Rattle.std.proofs.Common.{◌≡◌, ℕ, ◌+◌, ◌≤◌, Bool, true, false, cond, List, [], ◌∷◌, length, map, get_or, refl, sym, ap, ◌∙◌, subst, arith, zero, suc}
+use Rattle.std.proofs.Common.{◌≡◌, ◌+◌, ◌≤◌, ◌∷◌, ◌∙◌}
+use Rattle.std.proofs.Common.{ℕ, Bool, true, false, cond, List, [], length, map, get_or, refl, sym, ap, subst, arith, zero, suc}
 use Rattle.std.specs.Prelude.{All, slice_index}
 use Rattle.std.proofs.lemmas.Bool.{eqb-true}
 use Rattle.std.proofs.lemmas.List.{length-map}
@@ -49,13 +50,15 @@ lines_are config a (s ∷ ss) yet =
     cons s ls one rest zero d below = one
     cons s ls one rest (suc k) d below = rest k d (omega arith)
 
-    both : (b : Bool) → same_actor a (actor_of s) ≡ b → All (IsLineOf config a) (lines_of a ss) → All (IsLineOf config a) (cond b (s ∷ lines_of a ss) (lines_of a ss))
+    both : (b : Bool) → same_actor a (actor_of s) ≡ b → All (IsLineOf config a) (lines_of a ss)
+        → All (IsLineOf config a) (cond b (s ∷ lines_of a ss) (lines_of a ss))
     both true e rest = cons s (lines_of a ss) (yet 0 s (omega arith), same_is a (actor_of s) e) rest
     both false e rest = rest
 
 keeps_none : {V : Type 0} (f : V → List Step) (xs : List V) (config : Config) (steps : List Step) (c : CoreState) (places : List ℕ)
     → c.config ≡ config → Suits config → c ≡ fresh_core config → IsCore c → Stands (first_state config) c → All (IsStep config) steps
-    → length xs ≡ config.mutators + 1 → ((k : ℕ) → k ≤ config.mutators → get_or (map f xs) k [] ≡ lines_of (scripted config.mutators k) steps)
+    → length xs ≡ config.mutators + 1
+    → ((k : ℕ) → k ≤ config.mutators → get_or (map f xs) k [] ≡ lines_of (scripted config.mutators k) steps)
     → length places ≡ config.mutators + 1 → ((k : ℕ) → slice_index places k ≡ 0)
     → Keeps (record { core = c; scripts = map f xs; places = places; events = [] })
 keeps_none {V} f xs config steps c places same suits fresh core stands yet rows each spots zeros =
@@ -71,10 +74,12 @@ keeps_none {V} f xs config steps c places same suits fresh core stands yet rows 
       few = let few = few_mutators config suits in rw m few;
     }
 
-pub keeps_new : {V : Type 0} (f : V → List Step) (xs : List V) (config : Config) (steps : List Step) (c : CoreState) (places : List ℕ) (events : List Event) → events ≡ []
-    → c.config ≡ config → Suits config → c ≡ fresh_core config → IsCore c → Stands (first_state config) c → All (IsStep config) steps
-    → length xs ≡ config.mutators + 1 → ((k : ℕ) → k ≤ config.mutators → get_or (map f xs) k [] ≡ lines_of (scripted config.mutators k) steps)
+pub keeps_new : {V : Type 0} (f : V → List Step) (xs : List V) (config : Config) (steps : List Step) (c : CoreState)
+    (places : List ℕ) (events : List Event) → events ≡ [] → c.config ≡ config → Suits config → c ≡ fresh_core config → IsCore c
+    → Stands (first_state config) c → All (IsStep config) steps → length xs ≡ config.mutators + 1
+    → ((k : ℕ) → k ≤ config.mutators → get_or (map f xs) k [] ≡ lines_of (scripted config.mutators k) steps)
     → length places ≡ config.mutators + 1 → ((k : ℕ) → slice_index places k ≡ 0)
     → Keeps (record { core = c; scripts = map f xs; places = places; events = events })
 keeps_new {V} f xs config steps c places events none same suits fresh core stands yet rows each spots zeros =
-    subst (λ (es : List Event). Keeps (record { core = c; scripts = map f xs; places = places; events = es })) (sym none) (keeps_none f xs config steps c places same suits fresh core stands yet rows each spots zeros)
+    subst (λ (es : List Event). Keeps (record { core = c; scripts = map f xs; places = places; events = es })) (sym none)
+    (keeps_none f xs config steps c places same suits fresh core stands yet rows each spots zeros)

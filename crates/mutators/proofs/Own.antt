@@ -38,9 +38,10 @@ runs_none config c fresh core st = record {
 }
 
 -- one event more
-pub runs_on : (config : Config) (es : List Event) (e : Event) (c c' : CoreState) → RunsTo config es c → ((s : State) → Stands s c → Follows s e.step e.reply c')
-    → Does e.step e.reply c c' → ((s : State) → Stands s c → (e.reply ≡ replies.Refused refusals.Full) ↔ IsFullStep s.graph e.step c) → IsCore c' → ListsDirtyOnce c'.cards
-    → ((s : State) → Stands s c' → IsWhole s.graph c') → RunsTo config (es ++ e ∷ []) c'
+pub runs_on : (config : Config) (es : List Event) (e : Event) (c c' : CoreState) → RunsTo config es c
+    → ((s : State) → Stands s c → Follows s e.step e.reply c') → Does e.step e.reply c c'
+    → ((s : State) → Stands s c → (e.reply ≡ replies.Refused refusals.Full) ↔ IsFullStep s.graph e.step c) → IsCore c'
+    → ListsDirtyOnce c'.cards → ((s : State) → Stands s c' → IsWhole s.graph c') → RunsTo config (es ++ e ∷ []) c'
 runs_on config es e c c' r follows does full core listed whole = record {
   core = r.core;
   stands = r.stands;

@@ -14,7 +14,8 @@ use Rattle.mutators.specs.Draws.{open_places, lefts_of}
 use Rattle.mutators.proofs.Draws.{lefts_at, none_open}
 use Rattle.mutators.specs.Interleavings.{AreAsked, IsOf, IsInterleaving, IsRunOf}
 
-pub same_plan : (plan : StepList) (markers refiners : ℕ) (j j' : JournalState) → SamePlan j j' → AreAsked markers refiners j'.events → IsOf plan markers refiners j → IsOf plan markers refiners j'
+pub same_plan : (plan : StepList) (markers refiners : ℕ) (j j' : JournalState) → SamePlan j j' → AreAsked markers refiners j'.events
+    → IsOf plan markers refiners j → IsOf plan markers refiners j'
 same_plan plan markers refiners j j' same asked was = record {
   config = same.0 ∙ was.config;
   scripts = λ k within. ap (λ (l : List (List Step)). get_or l k []) same.1 ∙ was.scripts k within;
@@ -29,15 +30,19 @@ past_all (x ∷ xs) (suc n) over = ap (λ l. x ∷ l) (past_all xs n (omega arit
 
 -- what a journal holds at its end
 pub whole_run : (plan : StepList) (markers refiners : ℕ) (d : JournalState) (r : EventList) → IsOf plan markers refiners d → Keeps d
-    → ((k : ℕ) → k ≤ mutators_of d → length (script_at d k) ≤ slice_index d.places k) → r.config ≡ d.core.config → r.events ≡ d.events → IsRunOf plan markers refiners r
+    → ((k : ℕ) → k ≤ mutators_of d → length (script_at d k) ≤ slice_index d.places k) → r.config ≡ d.core.config
+    → r.events ≡ d.events → IsRunOf plan markers refiners r
 whole_run plan markers refiners d r is keeps end config events =
     let m : mutators_of d ≡ plan.config.mutators = ap (λ (c : Config). c.mutators) is.config in
-    let whole : (k : ℕ) → k ≤ plan.config.mutators → steps_of (scripted plan.config.mutators k) d.events ≡ lines_of (scripted plan.config.mutators k) plan.steps =
+    let whole : (k : ℕ) → k ≤ plan.config.mutators
+    → steps_of (scripted plan.config.mutators k) d.events ≡ lines_of (scripted plan.config.mutators k) plan.steps =
     λ k within.
     let within' : k ≤ mutators_of d = omega (arith, m) in
-    ap (λ (n : ℕ). steps_of (scripted n k) d.events) (sym m) ∙ (keeps.begins k within').0 ∙ past_all (script_at d k) (slice_index d.places k) (end k within')
+    ap (λ (n : ℕ). steps_of (scripted n k) d.events) (sym m) ∙ (keeps.begins k within').0
+    ∙ past_all (script_at d k) (slice_index d.places k) (end k within')
     ∙ is.scripts k within in
-    let runs : RunsTo plan.config r.events d.core = subst (λ (x : Config × List Event). RunsTo x.0 x.1 d.core) (λ i. (is.config i, sym events i)) keeps.runs in
+    let runs : RunsTo plan.config r.events d.core =
+    subst (λ (x : Config × List Event). RunsTo x.0 x.1 d.core) (λ i. (is.config i, sym events i)) keeps.runs in
     record {
       config = config ∙ is.config;
       whole = subst (λ (es : List Event). IsInterleaving plan.config markers refiners plan.steps es) (sym events) (record {
@@ -51,7 +56,8 @@ whole_run plan markers refiners d r is keeps end config events =
     }
 
 -- with no line left, each script is at its end
-pub none_left : (d : JournalState) → Keeps d → length (open_places (lefts_of d)) ≡ 0 → (k : ℕ) → k ≤ mutators_of d → length (script_at d k) ≤ slice_index d.places k
+pub none_left : (d : JournalState) → Keeps d → length (open_places (lefts_of d)) ≡ 0 → (k : ℕ) → k ≤ mutators_of d
+    → length (script_at d k) ≤ slice_index d.places k
 none_left d keeps over k within =
     let row : k < length d.scripts = omega (arith, keeps.each_script) in
     let left = lefts_at d.scripts d.places k row in

@@ -1,5 +1,7 @@
 -- The rounds of a schedule.
-use Rattle.std.proofs.Common.{◌≡◌, ℕ, zero, suc, ◌+◌, ◌<◌, ◌≤◌, Bool, true, false, cond, List, [], ◌∷◌, ◌++◌, Some, None, length, map, refl, ap, sym, ◌∙◌, subst, arith, get_or, take, drop, add-one, ◌==◌, ◌%◌, append_assoc}
+use Rattle.std.proofs.Common.{◌≡◌, ◌+◌, ◌<◌, ◌≤◌, ◌∷◌, ◌++◌, ◌∙◌, ◌==◌, ◌%◌}
+use Rattle.std.proofs.Common.{ℕ, zero, suc, Bool, true, false, cond, List, [], Some, None, length, map, refl, ap, sym, subst}
+use Rattle.std.proofs.Common.{arith, get_or, take, drop, add-one, append_assoc}
 use Rattle.std.specs.Prelude.{slice_set, slice_index, slice_get, filter, All}
 use Rattle.std.proofs.lemmas.List.{map-append}
 use Rattle.std.proofs.lemmas.List.Elements.{filter-append, All-append}
@@ -16,14 +18,17 @@ use Rattle.mutators.specs.Scripts.{scripted, lines_of, is_scripted, mark_4}
 use Rattle.mutators.specs.Journals.{JournalState, Keeps, mutators_of, script_at, event_of}
 use Rattle.mutators.specs.Turns.{TurnIs, SamePlan, next_step, next_at, moved}
 use Rattle.mutators.specs.Interleavings.{IsAsked, AreAsked}
-use Rattle.mutators.specs.Draws.{lefts, lefts_of, one_less, scripted_actors, Picks, open_places, pick, IsRound, rest_of, drawn, total, after_round, counts_of, drawn_actors}
+use Rattle.mutators.specs.Draws.{lefts, lefts_of, one_less, scripted_actors, Picks, open_places, pick, IsRound, rest_of}
+use Rattle.mutators.specs.Draws.{drawn, total, after_round, counts_of, drawn_actors}
 use Rattle.mutators.proofs.Rows.{next_row, place_is}
 use Rattle.mutators.proofs.Drops.{open_after}
 use Rattle.mutators.proofs.Draws.{lefts_at, length-lefts, lefts_moved, open_is, drawn_more, drawn_none, none_open, total_less}
 
-pub actors_push : (es : List Event) (e : Event) → is_scripted e.actor ≡ true → scripted_actors (es ++ e ∷ []) ≡ scripted_actors es ++ e.actor ∷ []
+pub actors_push : (es : List Event) (e : Event) → is_scripted e.actor ≡ true
+    → scripted_actors (es ++ e ∷ []) ≡ scripted_actors es ++ e.actor ∷ []
 actors_push es e is =
-    ap (λ l. filter is_scripted l) (map-append (λ (x : Event). x.actor) es (e ∷ [])) ∙ filter-append is_scripted (map (λ (x : Event). x.actor) es) (e.actor ∷ []) ∙ rw is refl
+    ap (λ l. filter is_scripted l) (map-append (λ (x : Event). x.actor) es (e ∷ []))
+    ∙ filter-append is_scripted (map (λ (x : Event). x.actor) es) (e.actor ∷ []) ∙ rw is refl
 
 -- a place with a line left is a place of a script
 row_is : (ns : List ℕ) (k : ℕ) → 0 < get_or ns k 0 → k < length ns
@@ -35,17 +40,22 @@ line_is : (d : JournalState) (k : ℕ) → k < length d.scripts → 0 < get_or (
 line_is d k row some none =
     let at = lefts_at d.scripts d.places k row in
     let below : slice_index d.places k < length (script_at d k) = omega arith in
-    let some' : (s : Step) → slice_get (script_at d k) (slice_index d.places k) ≡ Some (get_or (script_at d k) (slice_index d.places k) s) = λ s. slice_get-get_or (script_at d k) (slice_index d.places k) s below in
+    let some' : (s : Step) → slice_get (script_at d k) (slice_index d.places k) ≡ Some (get_or (script_at d k) (slice_index d.places k) s) =
+    λ s. slice_get-get_or (script_at d k) (slice_index d.places k) s below in
     cc (some' mark_4, none)
 
 asked_row : (markers refiners m k : ℕ) → IsAsked markers refiners (scripted m k)
-asked_row markers refiners m k = elim (k == m) as (λ b. IsAsked markers refiners (cond b Collector (Mutator k))) [ true ↦ refl | false ↦ refl ]
+asked_row markers refiners m k = elim (k == m) as (λ b. IsAsked markers refiners (cond b Collector (Mutator k))) [
+  | true ↦ refl
+  | false ↦ refl
+]
 
 only : (P : Event → Type 0) (e : Event) → P e → All P (e ∷ [])
 only P e h zero d below = h
 only P e h (suc k) d below = absurd (omega arith)
 
-pub takes_row : (d e : JournalState) (t : Turn) (a : Actor) (k : ℕ) → Keeps d → TurnIs t d e a → a ≡ scripted (mutators_of d) k → 0 < get_or (lefts_of d) k 0 → SamePlan d e
+pub takes_row : (d e : JournalState) (t : Turn) (a : Actor) (k : ℕ) → Keeps d → TurnIs t d e a → a ≡ scripted (mutators_of d) k
+    → 0 < get_or (lefts_of d) k 0 → SamePlan d e
     → Picks d e k × ((markers refiners : ℕ) → AreAsked markers refiners d.events → AreAsked markers refiners e.events)
 takes_row d e Done a k keeps takes actor some same =
     let h = next_row d k in
@@ -54,11 +64,13 @@ takes_row d e Done a k keeps takes actor some same =
     let row : k < length d.scripts = omega (arith, length-lefts d.scripts d.places) in
     let spot : k < length d.places = omega (arith, keeps.each_script, keeps.each_place) in
     let x : Event = event_of (scripted m k) takes.step takes.reply in
-    let events : e.events ≡ d.events ++ x ∷ [] = takes.event ∙ ap (λ (y : Actor). d.events ++ event_of y takes.step takes.reply ∷ []) actor in
+    let events : e.events ≡ d.events ++ x ∷ [] =
+    takes.event ∙ ap (λ (y : Actor). d.events ++ event_of y takes.step takes.reply ∷ []) actor in
     let places : e.places ≡ slice_set d.places k (slice_index d.places k + 1) = takes.place ∙ ap (λ (y : Actor). moved d y) actor ∙ h.1 in (
       record {
         actors = ap (λ (l : List Event). scripted_actors l) events ∙ actors_push d.events x h.2;
-        left = ap (λ (p : List (List Step) × List ℕ). lefts p.0 p.1) (λ i. (same.1 i, places i)) ∙ lefts_moved d.scripts d.places k row spot;
+        left =
+            ap (λ (p : List (List Step) × List ℕ). lefts p.0 p.1) (λ i. (same.1 i, places i)) ∙ lefts_moved d.scripts d.places k row spot;
         some = some;
       },
       λ markers refiners was.
@@ -74,27 +86,35 @@ takes_row d e End a k keeps turn actor some same =
     absurd (line_is d k row some (sym h.0 ∙ ap (λ (y : Actor). next_step d y) (sym actor) ∙ turn.1))
 
 -- a word picks a place with a line left
-pub picks_open : (d : JournalState) (word : ℕ) → Keeps d → 0 < length (open_places (lefts_of d)) → (pick word (lefts_of d) ≤ mutators_of d) × (0 < get_or (lefts_of d) (pick word (lefts_of d)) 0)
+pub picks_open : (d : JournalState) (word : ℕ) → Keeps d → 0 < length (open_places (lefts_of d))
+    → (pick word (lefts_of d) ≤ mutators_of d) × (0 < get_or (lefts_of d) (pick word (lefts_of d)) 0)
 picks_open d word keeps some =
     let h = open_is 0 (lefts_of d) (word % length (open_places (lefts_of d))) (omega arith) in
     let at : pick word (lefts_of d) ≡ h.0 = omega (arith, h.1) in
     (omega (arith, at, h.2, length-lefts d.scripts d.places, keeps.each_script), rw at h.3)
 
 -- the code reads the place that the word picks
-pub picked : (d : JournalState) (word len p : ℕ) (items : List ℕ) → items ≡ open_places (lefts_of d) → 0 < length items → len ≡ length items → p ≡ get_or items (word % len) p → p ≡ pick word (lefts_of d)
+pub picked : (d : JournalState) (word len p : ℕ) (items : List ℕ) → items ≡ open_places (lefts_of d) → 0 < length items → len ≡ length items
+    → p ≡ get_or items (word % len) p → p ≡ pick word (lefts_of d)
 picked d word len p items is some count here =
     let within : word % len < length items = omega (arith, count, some) in
-    sym (place_is items (word % len) p within here) ∙ ap (λ (x : List ℕ × ℕ). get_or x.0 (word % x.1) 0) (λ i. (is i, (count ∙ ap (λ (l : List ℕ). length l) is) i))
+    sym (place_is items (word % len) p within here)
+    ∙ ap (λ (x : List ℕ × ℕ). get_or x.0 (word % x.1) 0) (λ i. (is i, (count ∙ ap (λ (l : List ℕ). length l) is) i))
 
 -- the places that are kept after the turn are the open ones
-pub kept : (ns ns' items : List ℕ) (n p : ℕ) (left : Bool) (after : List ℕ) → items ≡ open_places ns → n < length items → get_or items n 0 ≡ p → ns' ≡ one_less ns p → 0 < get_or ns p 0 → p < length ns
-    → (left ≡ true → 0 < get_or ns' p 0) → (left ≡ false → get_or ns' p 0 ≡ 0) → after ≡ cond left items (take n items ++ drop (n + 1) items) → after ≡ open_places ns'
-kept ns ns' items n p true after is below at less some within more none same = same ∙ (open_after ns ns' items n p is below at less some within).0 (more refl)
+pub kept : (ns ns' items : List ℕ) (n p : ℕ) (left : Bool) (after : List ℕ) → items ≡ open_places ns → n < length items
+    → get_or items n 0 ≡ p → ns' ≡ one_less ns p → 0 < get_or ns p 0 → p < length ns
+    → (left ≡ true → 0 < get_or ns' p 0) → (left ≡ false → get_or ns' p 0 ≡ 0)
+    → after ≡ cond left items (take n items ++ drop (n + 1) items) → after ≡ open_places ns'
+kept ns ns' items n p true after is below at less some within more none same =
+    same ∙ (open_after ns ns' items n p is below at less some within).0 (more refl)
 kept ns ns' items n p false after is below at less some within more none same =
-    same ∙ ap (λ (k : ℕ). take n items ++ drop k items) (add-one n) ∙ (open_after ns ns' items n p is below at less some within).1 (none refl)
+    same ∙ ap (λ (k : ℕ). take n items ++ drop k items) (add-one n)
+    ∙ (open_after ns ns' items n p is below at less some within).1 (none refl)
 
 -- after a round the same actors are done or still to come
-pub round_keeps : (next : Lcg → ℕ × Lcg) (b : Bool) (d e : JournalState) (g h : Lcg) (before : List Actor) → IsRound next b d g e h → SamePlan d e
+pub round_keeps : (next : Lcg → ℕ × Lcg) (b : Bool) (d e : JournalState) (g h : Lcg)
+    (before : List Actor) → IsRound next b d g e h → SamePlan d e
     → scripted_actors d.events ++ rest_of next b g d ≡ before → scripted_actors e.events ++ rest_of next b h e ≡ before
 round_keeps next b d e g h before round same was =
     let k = pick (next g).0 (lefts_of d) in
@@ -103,18 +123,26 @@ round_keeps next b d e g h before round same was =
     let m' : mutators_of e ≡ m = ap (λ c. c.mutators) same.0 in
     let tail : List ℕ = drawn next b (total (one_less (lefts_of d) k)) (after_round next b g) (one_less (lefts_of d) k) in
     let now : rest_of next b h e ≡ map to tail =
-    ap (λ (x : ℕ × List ℕ × Lcg). map (λ j. scripted x.0 j) (drawn next b (total x.1) x.2 x.1)) (λ i. (m' i, round.picks.left i, round.words i)) in
-    let then : rest_of next b g d ≡ to k ∷ map to tail = ap (λ l. map to l) (drawn_more next b g (lefts_of d) (total (lefts_of d)) refl round.picks.some) in
-    ap (λ (x : List Actor × List Actor). x.0 ++ x.1) (λ i. (round.picks.actors i, now i)) ∙ append_assoc (scripted_actors d.events) (to k ∷ []) (map to tail)
+    ap (λ (x : ℕ × List ℕ × Lcg). map (λ j. scripted x.0 j) (drawn next b (total x.1) x.2 x.1))
+    (λ i. (m' i, round.picks.left i, round.words i)) in
+    let then : rest_of next b g d ≡ to k ∷ map to tail =
+    ap (λ l. map to l) (drawn_more next b g (lefts_of d) (total (lefts_of d)) refl round.picks.some) in
+    ap (λ (x : List Actor × List Actor). x.0 ++ x.1) (λ i. (round.picks.actors i, now i))
+    ∙ append_assoc (scripted_actors d.events) (to k ∷ []) (map to tail)
     ∙ ap (λ l. scripted_actors d.events ++ l) (sym then) ∙ was
 
 -- the lines left get fewer
-pub round_less : (next : Lcg → ℕ × Lcg) (b : Bool) (d e : JournalState) (g h : Lcg) → IsRound next b d g e h → total (lefts_of e) < total (lefts_of d)
-round_less next b d e g h round = let less = total_less (lefts_of d) (pick (next g).0 (lefts_of d)) round.picks.some in omega (arith, less, ap total round.picks.left)
+pub round_less : (next : Lcg → ℕ × Lcg) (b : Bool) (d e : JournalState) (g h : Lcg) → IsRound next b d g e h
+    → total (lefts_of e) < total (lefts_of d)
+round_less next b d e g h round =
+    let less = total_less (lefts_of d) (pick (next g).0 (lefts_of d)) round.picks.some in
+    omega (arith, less, ap total round.picks.left)
 
 -- at the end no actor is still to come
-pub rest_none : (next : Lcg → ℕ × Lcg) (b : Bool) (d : JournalState) (g : Lcg) → length (open_places (lefts_of d)) ≡ 0 → rest_of next b g d ≡ []
-rest_none next b d g none = ap (λ l. map (λ j. scripted (mutators_of d) j) l) (drawn_none next b g (lefts_of d) (total (lefts_of d)) (none_open 0 (lefts_of d) none).0)
+pub rest_none : (next : Lcg → ℕ × Lcg) (b : Bool) (d : JournalState) (g : Lcg)
+    → length (open_places (lefts_of d)) ≡ 0 → rest_of next b g d ≡ []
+rest_none next b d g none = ap (λ l. map (λ j. scripted (mutators_of d) j) l)
+    (drawn_none next b g (lefts_of d) (total (lefts_of d)) (none_open 0 (lefts_of d) none).0)
 
 pub none_asked : (markers refiners : ℕ) (d : JournalState) → d.events ≡ [] → AreAsked markers refiners d.events
 none_asked markers refiners d none =
@@ -146,7 +174,7 @@ lefts_first d m lines keeps is zeros scripts =
     let lines' = ap (λ (l : List Step). length l) (scripts k within) in
     omega (arith, here, there, lines', zeros k))
 
-pub picked_first : (next : Lcg → ℕ × Lcg) (b : Bool) (g g' : Lcg) (d : JournalState) (m : ℕ) (lines : List Step) → g ≡ g' → mutators_of d ≡ m → lefts_of d ≡ counts_of m lines
-    → rest_of next b g d ≡ drawn_actors next b g' m lines
+pub picked_first : (next : Lcg → ℕ × Lcg) (b : Bool) (g g' : Lcg) (d : JournalState) (m : ℕ) (lines : List Step) → g ≡ g'
+    → mutators_of d ≡ m → lefts_of d ≡ counts_of m lines → rest_of next b g d ≡ drawn_actors next b g' m lines
 picked_first next b g g' d m lines same is lefts =
     ap (λ (x : ℕ × List ℕ × Lcg). map (λ k. scripted x.0 k) (drawn next b (total x.1) x.2 x.1)) (λ i. (is i, lefts i, same i))

@@ -1,5 +1,7 @@
 -- A turn keeps what the journal keeps.
-use Rattle.std.proofs.Common.{◌≡◌, ◌≢◌, ℕ, ◌+◌, ◌<◌, ◌≤◌, ◌==◌, Bool, true, false, cond, List, [], ◌∷◌, ◌++◌, Some, None, length, take, refl, ap, sym, ◌∙◌, subst, arith, get_or, get_or-set_same, get_or-set_other, ⊎_elim, zero, suc, length-set, eqb, map}
+use Rattle.std.proofs.Common.{◌≡◌, ◌≢◌, ◌+◌, ◌<◌, ◌≤◌, ◌==◌, ◌∷◌, ◌++◌, ◌∙◌}
+use Rattle.std.proofs.Common.{ℕ, Bool, true, false, cond, List, [], Some, None, length, take, refl, ap, sym, subst, arith, get_or}
+use Rattle.std.proofs.Common.{get_or-set_same, get_or-set_other, ⊎_elim, zero, suc, length-set, eqb, map}
 use Rattle.std.specs.Prelude.{◌↔◌, IsTrue, All, slice_index, slice_index_or, slice_get, slice_set}
 use Rattle.std.proofs.lemmas.List.{take_more, get_or-map, length-map}
 use Rattle.std.proofs.lemmas.Option.{get_or_from_slice_get, slice_get-get_or}
@@ -25,7 +27,10 @@ use Rattle.mutators.proofs.Lines.{steps_push_same, steps_push_other}
 
 -- the same actor only at the same place
 pub same_scripted : (m k : ℕ) → same_actor (scripted m k) (scripted m k) ≡ true
-same_scripted m k = elim (k == m) as (λ b. same_actor (cond b Collector (Mutator k)) (cond b Collector (Mutator k)) ≡ true) [ true ↦ refl | false ↦ grind (arith, nat_tests) ]
+same_scripted m k = elim (k == m) as (λ b. same_actor (cond b Collector (Mutator k)) (cond b Collector (Mutator k)) ≡ true) [
+  | true ↦ refl
+  | false ↦ grind (arith, nat_tests)
+]
 
 pub other_scripted : (m j k : ℕ) → j ≢ k → same_actor (scripted m j) (scripted m k) ≡ false
 other_scripted m j k apart = grind (arith, nat_tests)
@@ -49,12 +54,18 @@ begins_row m scripts places events k s r was below spots here j within =
     let p = slice_index places k in
     let e : Event = event_of (scripted m k) s r in
     let next = take_next (slice_index_or scripts k []) p s here in
-    let P : ℕ → Type 0 = λ q. (steps_of (scripted m j) (events ++ e ∷ []) ≡ take q (slice_index_or scripts j [])) × (q ≤ length (slice_index_or scripts j [])) in
+    let P : ℕ → Type 0 =
+    λ q. (steps_of (scripted m j) (events ++ e ∷ []) ≡ take q (slice_index_or scripts j [])) × (q ≤ length (slice_index_or scripts j [])) in
     ⊎_elim
     (λ (is : j ≡ k).
-    let Q : ℕ → Type 0 = λ i. (steps_of (scripted m i) (events ++ e ∷ []) ≡ take (slice_index (slice_set places k (p + 1)) i) (slice_index_or scripts i [])) × (slice_index (slice_set places k (p + 1)) i ≤ length (slice_index_or scripts i [])) in
+    let Q : ℕ → Type 0 =
+    λ i. (steps_of (scripted m i) (events ++ e ∷ []) ≡ take (slice_index (slice_set places k (p + 1)) i) (slice_index_or scripts i []))
+    × (slice_index (slice_set places k (p + 1)) i ≤ length (slice_index_or scripts i [])) in
     let here' : slice_index (slice_set places k (p + 1)) k ≡ p + 1 = get_or-set_same places k (p + 1) 0 (omega arith) in
-    subst Q (sym is) (rw here' (steps_push_same (scripted m k) events e (same_scripted m k) ∙ ap (λ l. l ++ s ∷ []) (was k below).0 ∙ sym next.1, omega arith)))
+    subst Q (sym is) (rw here' (
+      steps_push_same (scripted m k) events e (same_scripted m k) ∙ ap (λ l. l ++ s ∷ []) (was k below).0 ∙ sym next.1,
+      omega arith,
+    )))
     (λ (apart : j ≢ k).
     let there : slice_index (slice_set places k (p + 1)) j ≡ slice_index places j = get_or-set_other places k j (p + 1) 0 apart in
     subst P (sym there) (steps_push_other (scripted m j) events e (other_scripted m j k apart) ∙ (was j within).0, (was j within).1))
@@ -68,8 +79,14 @@ begins_other m scripts places events a s r was background j within =
     not_scripted : (m j : ℕ) (a : Actor) → is_scripted a ≡ false → same_actor (scripted m j) a ≡ false
     not_scripted m j (Mutator i) b = absurd (cc)
     not_scripted m j Collector b = absurd (cc)
-    not_scripted m j (Marker i) b = elim (j == m) as (λ x. same_actor (cond x Collector (Mutator j)) (Marker i) ≡ false) [ true ↦ refl | false ↦ refl ]
-    not_scripted m j (Refiner i) b = elim (j == m) as (λ x. same_actor (cond x Collector (Mutator j)) (Refiner i) ≡ false) [ true ↦ refl | false ↦ refl ]
+    not_scripted m j (Marker i) b = elim (j == m) as (λ x. same_actor (cond x Collector (Mutator j)) (Marker i) ≡ false) [
+      | true ↦ refl
+      | false ↦ refl
+    ]
+    not_scripted m j (Refiner i) b = elim (j == m) as (λ x. same_actor (cond x Collector (Mutator j)) (Refiner i) ≡ false) [
+      | true ↦ refl
+      | false ↦ refl
+    ]
 
 -- what a step of the core gives: whatever the events lead to, they lead to it with one event more
 abbrev pub Records : CoreState → List Event → CoreState → Event → Type 0
@@ -91,7 +108,8 @@ keeps_event d c places a s r was runs same len begins own =
     record {
       runs = subst (λ (n : Config). RunsTo n (d.events ++ e ∷ []) c) (sym same) (runs d.core.config was.runs);
       begins = subst (λ (n : ℕ). Begins n d.scripts places (d.events ++ e ∷ [])) (sym m) begins;
-      own = subst (λ (n : Config). All (Own n) (d.events ++ e ∷ [])) (sym same) (All-append (Own d.core.config) d.events (e ∷ []) was.own (only (Own d.core.config) e own));
+      own = subst (λ (n : Config). All (Own n) (d.events ++ e ∷ [])) (sym same)
+          (All-append (Own d.core.config) d.events (e ∷ []) was.own (only (Own d.core.config) e own));
       each_script = was.each_script ∙ ap (λ n. n + 1) (sym m);
       each_place = len ∙ was.each_place ∙ ap (λ n. n + 1) (sym m);
       lines = subst (λ (n : Config). (k : ℕ) → k ≤ n.mutators → All (IsLine n k) (script_at d k)) (sym same) was.lines;
@@ -109,22 +127,31 @@ own_line config k s line = subst (λ (a : Actor). IsOwn config a s) line.1 (own 
 pub line_at : (d : JournalState) (k : ℕ) (s : Step) → Keeps d → k ≤ mutators_of d → next_at d k ≡ Some s → IsLine d.core.config k s
 line_at d k s was below next =
     let at = inside (script_at d k) (slice_index d.places k) s next in
-    subst (IsLine d.core.config k) (get_or_from_slice_get (script_at d k) (slice_index d.places k) s s next) (was.lines k below (slice_index d.places k) s at)
+    subst (IsLine d.core.config k) (get_or_from_slice_get (script_at d k) (slice_index d.places k) s s next)
+    (was.lines k below (slice_index d.places k) s at)
 
 pub keeps_row : (d : JournalState) (c : CoreState) (k : ℕ) (s : Step) (r : Reply) → Keeps d → k ≤ mutators_of d → next_at d k ≡ Some s
     → Records d.core d.events c (event_of (scripted (mutators_of d) k) s r) → c.config ≡ d.core.config
-    → Keeps (record { core = c; scripts = d.scripts; places = slice_set d.places k (slice_index d.places k + 1); events = d.events ++ event_of (scripted (mutators_of d) k) s r ∷ [] })
+    → Keeps (record {
+      core = c;
+      scripts = d.scripts;
+      places = slice_set d.places k (slice_index d.places k + 1);
+      events = d.events ++ event_of (scripted (mutators_of d) k) s r ∷ [];
+    })
 keeps_row d c k s r was below next step same =
     let own : IsOwn d.core.config (scripted (mutators_of d) k) s = own_line d.core.config k s (line_at d k s was below next) in
-    keeps_event d c (slice_set d.places k (slice_index d.places k + 1)) (scripted (mutators_of d) k) s r was step same (simp length-set) (begins_row (mutators_of d) d.scripts d.places d.events k s r was.begins below was.each_place next) own
+    keeps_event d c (slice_set d.places k (slice_index d.places k + 1)) (scripted (mutators_of d) k) s r was step same (simp length-set)
+    (begins_row (mutators_of d) d.scripts d.places d.events k s r was.begins below was.each_place next) own
 
-pub keeps_other : (d : JournalState) (c : CoreState) (a : Actor) (s : Step) (r : Reply) → Keeps d → IsCast (mutators_of d) a → is_scripted a ≡ false → next_step d a ≡ Some s
-    → Records d.core d.events c (event_of a s r) → c.config ≡ d.core.config
+pub keeps_other : (d : JournalState) (c : CoreState) (a : Actor) (s : Step) (r : Reply) → Keeps d → IsCast (mutators_of d) a
+    → is_scripted a ≡ false → next_step d a ≡ Some s → Records d.core d.events c (event_of a s r) → c.config ≡ d.core.config
     → Keeps (record { core = c; scripts = d.scripts; places = d.places; events = d.events ++ event_of a s r ∷ [] })
 keeps_other d c a s r was cast background next step same =
-    keeps_event d c d.places a s r was step same refl (begins_other (mutators_of d) d.scripts d.places d.events a s r was.begins background) (own_other d a s cast background next)
+    keeps_event d c d.places a s r was step same refl
+    (begins_other (mutators_of d) d.scripts d.places d.events a s r was.begins background) (own_other d a s cast background next)
   where
-    own_other : (d : JournalState) (a : Actor) (s : Step) → IsCast (mutators_of d) a → is_scripted a ≡ false → next_step d a ≡ Some s → IsOwn d.core.config a s
+    own_other : (d : JournalState) (a : Actor) (s : Step) → IsCast (mutators_of d) a → is_scripted a ≡ false
+        → next_step d a ≡ Some s → IsOwn d.core.config a s
     own_other d (Mutator i) s cast b n = absurd (cc)
     own_other d Collector s cast b n = absurd (cc)
     own_other d (Marker i) s cast b n = (cast, marks d.core.marker.running s n)
@@ -139,10 +166,16 @@ keeps_other d c a s r was cast background next step same =
         refines false s n = cc
 
 -- the scripted actor at a place takes the next line of its script
-pub next_row : (d : JournalState) (k : ℕ) → (next_step d (scripted (mutators_of d) k) ≡ next_at d k) × (moved d (scripted (mutators_of d) k) ≡ slice_set d.places k (slice_index d.places k + 1)) × (is_scripted (scripted (mutators_of d) k) ≡ true)
+pub next_row : (d : JournalState) (k : ℕ)
+    → (next_step d (scripted (mutators_of d) k) ≡ next_at d k)
+    × (moved d (scripted (mutators_of d) k) ≡ slice_set d.places k (slice_index d.places k + 1))
+    × (is_scripted (scripted (mutators_of d) k) ≡ true)
 next_row d k =
-    let P : Bool → Type 0 = λ b. (next_step d (cond b Collector (Mutator k)) ≡ next_at d k) × (moved d (cond b Collector (Mutator k)) ≡ slice_set d.places k (slice_index d.places k + 1)) × (is_scripted (cond b Collector (Mutator k)) ≡ true) in
-    ⊎_elim (λ (h : (eqb k (mutators_of d) ≡ true) × (k ≡ mutators_of d)). subst P (sym h.0) (ap (λ j. next_at d j) (sym h.1), ap (λ j. slice_set d.places j (slice_index d.places j + 1)) (sym h.1), refl))
+    let P : Bool → Type 0 = λ b. (next_step d (cond b Collector (Mutator k)) ≡ next_at d k)
+    × (moved d (cond b Collector (Mutator k)) ≡ slice_set d.places k (slice_index d.places k + 1))
+    × (is_scripted (cond b Collector (Mutator k)) ≡ true) in
+    ⊎_elim (λ (h : (eqb k (mutators_of d) ≡ true) × (k ≡ mutators_of d)).
+    subst P (sym h.0) (ap (λ j. next_at d j) (sym h.1), ap (λ j. slice_set d.places j (slice_index d.places j + 1)) (sym h.1), refl))
     (λ (h : (eqb k (mutators_of d) ≡ false) × (k ≢ mutators_of d)). subst P (sym h.0) (refl, refl, refl)) (eqb_tells k (mutators_of d))
 
 -- what the code read is the next line, or there is none
@@ -172,8 +205,8 @@ none_is {V} f xs places k v p row spot place script over =
     past (x ∷ xs) (suc i) over = past xs i (omega arith)
 
 -- each of the scripts that the code read is at its end just where each of the journal's is
-pub each_ended : {V : Type 0} (f : V → List Step) (xs ys : List V) (places qs : List ℕ) (m : ℕ) (b : Bool) → ys ≡ xs → qs ≡ places → length (map f xs) ≡ m + 1
-    → (IsTrue b ↔ ((k : ℕ) → k < length ys → length (get_or (map f ys) k []) ≤ get_or qs k 0))
+pub each_ended : {V : Type 0} (f : V → List Step) (xs ys : List V) (places qs : List ℕ) (m : ℕ) (b : Bool) → ys ≡ xs
+    → qs ≡ places → length (map f xs) ≡ m + 1 → (IsTrue b ↔ ((k : ℕ) → k < length ys → length (get_or (map f ys) k []) ≤ get_or qs k 0))
     → IsTrue b ↔ ((k : ℕ) → k ≤ m → length (get_or (map f xs) k []) ≤ get_or places k 0)
 each_ended {V} f xs ys places qs m b same same' len is =
     let n : length xs ≡ m + 1 = sym (length-map xs f) ∙ len in
@@ -194,11 +227,15 @@ row_turn d w c a k p s r events same was below actor next place step does config
     let actor' : a ≡ scripted (mutators_of w) k = actor ∙ ap (λ (x : JournalState). scripted (mutators_of x) k) (sym same) in
     let below' : k ≤ mutators_of w = rw same below in
     let a' : Actor = scripted (mutators_of w) k in
-    let step' : Records w.core w.events c (event_of a' s r) = subst (λ (x : Actor). Records w.core w.events c (event_of x s r)) actor' step in
+    let step' : Records w.core w.events c (event_of a' s r) =
+    subst (λ (x : Actor). Records w.core w.events c (event_of x s r)) actor' step in
     let h = next_row w k in
-    let here : Goal w a' (slice_index w.places k) (w.events ++ event_of a' s r ∷ []) =
-    (keeps_row w c k s r was below' next step' config, record { step = s; reply = r; next = h.0 ∙ next; does = does; event = refl; place = sym h.1 }) in
-    let pushed' : w.events ++ event_of a' s r ∷ [] ≡ events = ap (λ (x : Actor). w.events ++ event_of x s r ∷ []) (sym actor') ∙ sym pushed in
+    let here : Goal w a' (slice_index w.places k) (w.events ++ event_of a' s r ∷ []) = (
+      keeps_row w c k s r was below' next step' config,
+      record { step = s; reply = r; next = h.0 ∙ next; does = does; event = refl; place = sym h.1 },
+    ) in
+    let pushed' : w.events ++ event_of a' s r ∷ [] ≡ events =
+    ap (λ (x : Actor). w.events ++ event_of x s r ∷ []) (sym actor') ∙ sym pushed in
     subst (λ (x : JournalState × Actor × ℕ × List Event). Goal x.0 x.1 x.2 x.3) (λ i. (same i, sym actor' i, place i, pushed' i)) here
 
 -- the whole turn of a background actor
@@ -213,8 +250,10 @@ other_turn d w c a s r events same was cast background next step does config pus
     × Takes d (record { core = c; scripts = w.scripts; places = w.places; events = es }) a in
     let next' : next_step w a ≡ Some s = ap (λ (x : JournalState). next_step x a) same ∙ next in
     let cast' : IsCast (mutators_of w) a = subst (λ (x : JournalState). IsCast (mutators_of x) a) (sym same) cast in
-    let here : Goal w (w.events ++ event_of a s r ∷ []) =
-    (keeps_other w c a s r was cast' background next' step config, record { step = s; reply = r; next = next'; does = does; event = refl; place = stays w a background }) in
+    let here : Goal w (w.events ++ event_of a s r ∷ []) = (
+      keeps_other w c a s r was cast' background next' step config,
+      record { step = s; reply = r; next = next'; does = does; event = refl; place = stays w a background },
+    ) in
     subst (λ (x : JournalState × List Event). Goal x.0 x.1) (λ i. (same i, sym pushed i)) here
   where
     stays : (d : JournalState) (a : Actor) → is_scripted a ≡ false → d.places ≡ moved d a

@@ -1,5 +1,6 @@
 -- The schedule that a generator draws.
-use Rattle.std.specs.Prelude.{◌≡◌, ℕ, zero, suc, ◌+◌, ◌-◌, ◌%◌, Bool, List, [], ◌∷◌, length, map, filter, slice_set, slice_index, if◌then◌else◌, nat_lt, ◌++◌, ◌<◌}
+use Rattle.std.specs.Prelude.{◌≡◌, ◌+◌, ◌-◌, ◌%◌, ◌∷◌, if◌then◌else◌, ◌++◌, ◌<◌}
+use Rattle.std.specs.Prelude.{ℕ, zero, suc, Bool, List, [], length, map, filter, slice_set, slice_index, nat_lt}
 use Rattle.std.specs.List.{range_with_len}
 use Rattle.heap_steps.specs.declared.step.Actor.{Actor}
 use Rattle.heap_steps.specs.declared.step.Step.{Step}
@@ -88,4 +89,5 @@ rest_of next background g d = map (λ k. scripted (mutators_of d) k) (drawn next
 -- the scripted actors that the words of a seed pick for a plan, in order
 abbrev pub drawn_by : ℕ → ℕ → ℕ → StepList → List Actor
 drawn_by seed markers refiners plan =
-    drawn_actors pcg32 (has_background markers refiners) (started 64 multiplier_64 seed (increment_of 64 54)) plan.config.mutators plan.steps
+    drawn_actors pcg32 (has_background markers refiners)
+    (started 64 multiplier_64 seed (increment_of 64 54)) plan.config.mutators plan.steps

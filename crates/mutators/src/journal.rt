@@ -1,6 +1,8 @@
 //! The heap with the scripts of its actors, and the events so far.
 
-ghost use Rattle.std.specs.Prelude.{◌≡◌, false, Some, ℕ, ◌+◌, ◌<◌, ◌≤◌, ◌↔◌, ◌++◌, ◌∷◌, [], length, IsTrue, IsFalse, IfOk, IfErr, OnErr, MatchResult, OnOk, vec_len, vec_capacity, map, slice_index, slice_index_or, slice_set, replicate};
+ghost use Rattle.std.specs.Prelude.{◌≡◌, ◌+◌, ◌<◌, ◌≤◌, ◌↔◌, ◌++◌, ◌∷◌};
+ghost use Rattle.std.specs.Prelude.{false, Some, ℕ, [], length, IsTrue, IsFalse, IfOk, IfErr, OnErr, MatchResult, OnOk, vec_len};
+ghost use Rattle.std.specs.Prelude.{vec_capacity, map, slice_index, slice_index_or, slice_set, replicate};
 ghost use Rattle.heap_words.specs.Configs.{Suits, IsNewFault};
 ghost use Rattle.heap_words.specs.declared.config.Config.{Config};
 ghost use Rattle.step_core.specs.Cycle.{Does};
@@ -40,9 +42,19 @@ impl Model for Journal {
 
     ghost Value = { JournalState };
 
-    ghost view = { λ j. record { core = j.core; scripts = map (λ s. s.items) j.scripts.items; places = j.places.items; events = j.events.items } };
+    ghost view = { λ j. record {
+      core = j.core;
+      scripts = map (λ s. s.items) j.scripts.items;
+      places = j.places.items;
+      events = j.events.items;
+    } };
 
-    ghost invariant = { λ j. Keeps (record { core = j.core; scripts = map (λ s. s.items) j.scripts.items; places = j.places.items; events = j.events.items }) };
+    ghost invariant = { λ j. Keeps (record {
+      core = j.core;
+      scripts = map (λ s. s.items) j.scripts.items;
+      places = j.places.items;
+      events = j.events.items;
+    }) };
 }
 
 /// Where a journal is let go there is one call, and not a drop for each of its parts.
@@ -97,7 +109,8 @@ fn no_lines(alloc: Global, rooms: &[usize]) -> Result<Vec<Vec<Step>>, AllocError
 fn add_line(scripts: &mut Vec<Vec<Step>>, place: usize, step: Step) -> Result<(), AllocError>
     requires { place < length scripts.old.items }
     ensures { OnOk result (map (λ s. s.items) scripts.new.items
-        ≡ slice_set (map (λ s. s.items) scripts.old.items) place (slice_index_or (map (λ s. s.items) scripts.old.items) place [] ++ step ∷ [])) }
+        ≡ slice_set (map (λ s. s.items) scripts.old.items) place
+        (slice_index_or (map (λ s. s.items) scripts.old.items) place [] ++ step ∷ [])) }
 {
     scripts[place].push(step)?;
     Ok(())
@@ -192,7 +205,8 @@ fn record(
 /// Whether each script is at its end.
 fn are_ended(scripts: &[Vec<Step>], places: &[usize]) -> bool
     requires { length scripts.now ≤ length places.now }
-    ensures { IsTrue result ↔ ((k : ℕ) → k < length scripts.now → length (slice_index_or (map (λ s. s.items) scripts.now) k []) ≤ slice_index places.now k) }
+    ensures { IsTrue result ↔ ((k : ℕ) → k < length scripts.now
+        → length (slice_index_or (map (λ s. s.items) scripts.now) k []) ≤ slice_index places.now k) }
 {
     for k in 0..scripts.len() {
         if places[k] < scripts[k].len() {

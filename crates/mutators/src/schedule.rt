@@ -5,12 +5,14 @@
 //!                0: 2  1: 0  gc: 0     word 4   mutator 0
 //! ```
 
-ghost use Rattle.std.specs.Prelude.{◌≡◌, ℕ, ◌+◌, ◌<◌, ◌≤◌, ◌↔◌, ◌≢◌, ◌⊎◌, false, OnOk, IfOk, IfErr, length, take, drop, ◌++◌, if◌then◌else◌};
+ghost use Rattle.std.specs.Prelude.{◌≡◌, ◌+◌, ◌<◌, ◌≤◌, ◌↔◌, ◌≢◌, ◌⊎◌, ◌++◌, if◌then◌else◌};
+ghost use Rattle.std.specs.Prelude.{ℕ, false, OnOk, IfOk, IfErr, length, take, drop};
 ghost use Rattle.rand_pcg.specs.Pcg.{pcg32};
 ghost use Rattle.heap_steps.specs.Faults.{IsRunFault};
 ghost use Rattle.mutators.specs.Scripts.{scripted, is_scripted};
 ghost use Rattle.mutators.specs.Turns.{SamePlan, IsCast};
-ghost use Rattle.mutators.specs.Draws.{open_places, lefts_of, pick, Picks, LeavesScripts, IsRound, has_background, scripted_actors, drawn_by, rest_of};
+ghost use Rattle.mutators.specs.Draws.{open_places, lefts_of, pick, Picks, LeavesScripts, IsRound};
+ghost use Rattle.mutators.specs.Draws.{has_background, scripted_actors, drawn_by, rest_of};
 ghost use Rattle.mutators.specs.Interleavings.{IsAsked, AreAsked, IsRunOf};
 
 use crate::journal::Journal;
@@ -88,7 +90,8 @@ fn scripted_round(
     ensures plan { SamePlan journal.old journal.new }
     ensures picks { OnOk result (Picks journal.old journal.new (pick word (lefts_of journal.old))) }
     ensures unfinished { OnOk result (unfinished.new.items ≡ open_places (lefts_of journal.new)) }
-    ensures asked { (markers refiners : ℕ) → OnOk result (AreAsked markers refiners journal.old.events → AreAsked markers refiners journal.new.events) }
+    ensures asked { (markers refiners : ℕ)
+        → OnOk result (AreAsked markers refiners journal.old.events → AreAsked markers refiners journal.new.events) }
 {
     let n = word as usize % unfinished.len();
     let place = unfinished[n];

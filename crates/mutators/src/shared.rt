@@ -25,7 +25,10 @@ pub trait Crew: Ledger {
 }
 
 impl Crew for Brand {
-    ghost plan = { record { config = record { format = V1; regions = 0; words = 0; buffer = 0; mutators = 0; first_name = 0 }; steps = [] } };
+    ghost plan = { record {
+      config = record { format = V1; regions = 0; words = 0; buffer = 0; mutators = 0; first_name = 0 };
+      steps = [];
+    } };
 
     ghost markers = { 0 };
 

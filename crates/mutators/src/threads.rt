@@ -11,7 +11,9 @@
 //! Each worker counts its done turns in its share of a ledger, whose book lies under the lock and has the number of events: so the
 //! counts that the workers hand back sum to it.
 
-ghost use Rattle.std.specs.Prelude.{◌≡◌, ℕ, ◌+◌, ◌≤◌, ◌<◌, [], length, sum, slice_index, vec_capacity, vec_len, IfOk, IfErr, IfSome, IsFalse, IsTrue, None, true, ◌≢◌, ◌↔◌, ◌⊎◌};
+ghost use Rattle.std.specs.Prelude.{◌≡◌, ◌+◌, ◌≤◌, ◌<◌, ◌≢◌, ◌↔◌, ◌⊎◌};
+ghost use Rattle.std.specs.Prelude.{ℕ, [], length, sum, slice_index, vec_capacity, vec_len};
+ghost use Rattle.std.specs.Prelude.{IfOk, IfErr, IfSome, IsFalse, IsTrue, None, true};
 ghost use Rattle.crossbeam_queue.specs.Passes.{IsPassOf};
 ghost use Rattle.heap_words.specs.Configs.{Suits};
 ghost use Rattle.heap_words.specs.declared.config.Config.{Config};
@@ -218,7 +220,8 @@ fn start_all<'x, C: Crew + Send + Sync, F: Fn(u32) + Sync, R: Threads + Wait + S
         move |scope| -> Gathered<C>
             requires { (workers ≤ 32) × IsPassOf hall.now.places.now pass × ((all.parts ≡ workers + 1) × (all.amount ≡ 0))
                 × ((hands.items ≡ []) × (workers ≤ vec_capacity hands)) × ((w : ℕ) → w < 32 → F.pre hall.now.seen.now w) }
-            ensures { (result.all.parts ≡ workers + 1) × (sum result.done ≡ result.all.amount) × ((w : ℕ) → workers ≤ w → slice_index result.done w ≡ 0) }
+            ensures { (result.all.parts ≡ workers + 1) × (sum result.done ≡ result.all.amount)
+                × ((w : ℕ) → workers ≤ w → slice_index result.done w ≡ 0) }
         {
             let mut all = all;
             let mut pass = pass;
@@ -398,7 +401,8 @@ fn begin(
 ) -> Result<Start, RunFault>
     ensures of { IfOk result (λ s. IsOf plan.now markers refiners s.journal) }
     ensures empty { IfOk result (λ s. length s.journal.events ≡ 0) }
-    ensures cast { IfOk result (λ s. (s.cast.mutators ≡ plan.now.config.mutators) × (s.cast.markers ≡ markers) × (s.cast.refiners ≡ refiners)) }
+    ensures cast { IfOk result (λ s. (s.cast.mutators ≡ plan.now.config.mutators)
+        × (s.cast.markers ≡ markers) × (s.cast.refiners ≡ refiners)) }
     ensures suits { IfOk result (λ s. Suits plan.now.config) }
     ensures few { IfOk result (λ s. workers ≤ 32) }
     ensures bad { (result ≡ Err RunFault.BadWorkers) ↔ ((workers ≡ 0) ⊎ (32 < workers) ⊎ (8 < refiners) ⊎ (8 < markers)) }

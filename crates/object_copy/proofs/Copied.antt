@@ -1,10 +1,13 @@
 -- An object is copied to the top of a region and forwarded to its copy.
-use Rattle.std.proofs.Common.{◌≡◌, ◌≢◌, ℕ, ◌+◌, ◌*◌, ◌/◌, ◌%◌, ◌<◌, ◌≤◌, [], ◌∷◌, Option, Some, None, length, get_or, refl, sym, ap, ◌∙◌, subst, arith}
+use Rattle.std.proofs.Common.{◌≡◌, ◌≢◌, ◌+◌, ◌*◌, ◌/◌, ◌%◌, ◌<◌, ◌≤◌, ◌∷◌, ◌∙◌}
+use Rattle.std.proofs.Common.{ℕ, [], Option, Some, None, length, get_or, refl, sym, ap, subst, arith}
 use Rattle.std.specs.Prelude.{IsSome, IfSome}
 use Rattle.regions.specs.Shaped.{IsShaped}
 use Rattle.heap_model.specs.Heap.{Stored}
 use Rattle.regions.specs.Tiles.{Tile, Object, Forwarded, tile_size}
-use Rattle.regions.specs.Table.{Region, Free, Ordinary, First, Rest, Table, region_at, nth_region, region_tile, region_used, region_replaced, region_with_tile, tile_in, tile_object, object_at, object_words, stored_size, kind_of, used_of, top_of, push_tile, replace_tile, IsOrdinary, EachForwardedIn, free_count}
+use Rattle.regions.specs.Table.{Region, Free, Ordinary, First, Rest, Table, region_at, nth_region, region_tile, region_used}
+use Rattle.regions.specs.Table.{region_replaced, region_with_tile, tile_in, tile_object, object_at, object_words, stored_size, kind_of}
+use Rattle.regions.specs.Table.{used_of, top_of, push_tile, replace_tile, IsOrdinary, EachForwardedIn, free_count}
 use Rattle.regions.specs.Walks.{AreFitting}
 use Rattle.regions.specs.declared.row.Kind.TheVariants as kinds
 use Rattle.regions.proofs.Tiles.Laws.{object_tile}
@@ -20,25 +23,32 @@ pub ordinary_region : (t : Table) (a : ℕ) → kind_of t (a / t.words_per_regio
 unfolding kind_of nth_region region_at
 ordinary_region t a e = let q = ordinary_at (get_or t.regions (a / t.words_per_region) Free) e in subst IsOrdinary (sym q.is) tt
 
-replaced_used : (size o : ℕ) (r : Region) (u n : Tile) → region_tile r o ≡ Some u → tile_size n ≡ tile_size u → region_used size (region_replaced r o (n ∷ [])) ≡ region_used size r
+replaced_used : (size o : ℕ) (r : Region) (u n : Tile) → region_tile r o ≡ Some u → tile_size n ≡ tile_size u
+    → region_used size (region_replaced r o (n ∷ [])) ≡ region_used size r
 replaced_used size o Free u n h e = absurd cc
 replaced_used size o (Ordinary ts) u n h e = total-replace ts (n ∷ []) o u h (omega arith)
 replaced_used size o (First s) u n h e = refl
 replaced_used size o (Rest m) u n h e = refl
 
-tile_of : (t : Table) (a : ℕ) (u : Tile) → tile_in t a ≡ Some u → region_tile (nth_region t (a / t.words_per_region)) (a % t.words_per_region) ≡ Some u
+tile_of : (t : Table) (a : ℕ) (u : Tile) → tile_in t a ≡ Some u
+    → region_tile (nth_region t (a / t.words_per_region)) (a % t.words_per_region) ≡ Some u
 unfolding tile_in region_at nth_region
 tile_of t a u h = h
 
-used_replaced : (t : Table) (a : ℕ) (u n : Tile) → tile_in t a ≡ Some u → tile_size n ≡ tile_size u → (j : ℕ) → used_of (replace_tile t a (n ∷ [])) j ≡ used_of t j
+used_replaced : (t : Table) (a : ℕ) (u n : Tile) → tile_in t a ≡ Some u → tile_size n ≡ tile_size u → (j : ℕ)
+    → used_of (replace_tile t a (n ∷ [])) j ≡ used_of t j
 unfolding replace_tile region_at nth_region used_of
 used_replaced t a u n h e j =
-    used_same t (a / t.words_per_region) (region_replaced (get_or t.regions (a / t.words_per_region) Free) (a % t.words_per_region) (n ∷ [])) (a % t.words_per_region) u (tile_of t a u h)
+    used_same t (a / t.words_per_region)
+    (region_replaced (get_or t.regions (a / t.words_per_region) Free) (a % t.words_per_region) (n ∷ []))
+    (a % t.words_per_region) u (tile_of t a u h)
     (replaced_used t.words_per_region (a % t.words_per_region) (get_or t.regions (a / t.words_per_region) Free) u n (tile_of t a u h) e) j
 
-pub pushed_moved : (P : ℕ → Type 0) (t : Table) (k : ℕ) (x : Stored) → EachForwardedIn P t.regions → EachForwardedIn P (push_tile t k (Object x)).regions
+pub pushed_moved : (P : ℕ → Type 0) (t : Table) (k : ℕ) (x : Stored) → EachForwardedIn P t.regions
+    → EachForwardedIn P (push_tile t k (Object x)).regions
 unfolding push_tile nth_region
-pushed_moved P t k x m = EachForwardedIn-set P t.regions k (region_with_tile (get_or t.regions k Free) (Object x)) (one (get_or t.regions k Free) (EachForwardedIn-at P t.regions k m)) m
+pushed_moved P t k x m = EachForwardedIn-set P t.regions k (region_with_tile (get_or t.regions k Free) (Object x))
+    (one (get_or t.regions k Free) (EachForwardedIn-at P t.regions k m)) m
   where
     one : (r : Region) → EachForwardedIn P (r ∷ []) → EachForwardedIn P (region_with_tile r (Object x) ∷ [])
     one Free h = tt
@@ -63,7 +73,8 @@ unfolding object_words
 words_of t a x e = ap stored_size e
 
 module _ (t o : Table) (k from : ℕ) (x : Stored) (w : Opened t o k) (z : 0 < t.words_per_region) (fitting : AreFitting o)
-    (at : object_at t from ≡ Some x) (ordinary : kind_of t (from / t.words_per_region) ≡ kinds.Ordinary) (room : used_of o k + tile_size (Object x) ≤ o.words_per_region) where
+    (at : object_at t from ≡ Some x) (ordinary : kind_of t (from / t.words_per_region) ≡ kinds.Ordinary)
+    (room : used_of o k + tile_size (Object x) ≤ o.words_per_region) where
   positive : 0 < o.words_per_region
   positive = let e = w.size in omega arith
 
@@ -97,7 +108,8 @@ module _ (t o : Table) (k from : ℕ) (x : Stored) (w : Opened t o k) (z : 0 < t
   pub region : IsOrdinary (region_at p from)
   region = ordinary_region p from (
       let e : p.words_per_region ≡ t.words_per_region = pushed.size ∙ w.size in
-      subst (λ (n : ℕ). kind_of p (from / n) ≡ kinds.Ordinary) (sym e) (pushed.kinds_same (from / t.words_per_region) ∙ w.stays (from / t.words_per_region) ordinary)
+      subst (λ (n : ℕ). kind_of p (from / n) ≡ kinds.Ordinary) (sym e)
+      (pushed.kinds_same (from / t.words_per_region) ∙ w.stays (from / t.words_per_region) ordinary)
       )
 
   abbrev after : Table
@@ -147,8 +159,10 @@ pub record CanForward (u : Table) (from to : ℕ) : Type 0 where
 is_some : (o : Option Stored) (x : Stored) → o ≡ Some x → IsSome o
 is_some o x e = rw e refl
 
-module _ (t o : Table) (d e : Places) (k from size : ℕ) (known : IfSome d.last (λ j. j < length t.regions)) (last : IfSome d.last (λ j. kind_of t j ≡ kinds.Ordinary)) (opens : Opens t o d e size k)
-    (shaped : IsShaped o) (size_is : size ≡ object_words t from) (some : IsSome (object_at t from)) (ordinary : kind_of t (from / t.words_per_region) ≡ kinds.Ordinary) where
+module _ (t o : Table) (d e : Places) (k from size : ℕ) (known : IfSome d.last (λ j. j < length t.regions))
+    (last : IfSome d.last (λ j. kind_of t j ≡ kinds.Ordinary)) (opens : Opens t o d e size k)
+    (shaped : IsShaped o) (size_is : size ≡ object_words t from) (some : IsSome (object_at t from))
+    (ordinary : kind_of t (from / t.words_per_region) ≡ kinds.Ordinary) where
   w : Opened t o k
   w = opened t o d e size k known last opens
 
@@ -166,7 +180,8 @@ module _ (t o : Table) (d e : Places) (k from size : ℕ) (known : IfSome d.last
       let r = room_for x at in
       record { object = is_some (object_at o from) x there; room = omega arith }
 
-  module _ (u : Table) (to : ℕ) (at_is : to ≡ top_of o k) (pushed_is : (s : Stored) → object_at o from ≡ Some s → u ≡ push_tile o k (Object s)) where
+  module _ (u : Table) (to : ℕ) (at_is : to ≡ top_of o k)
+      (pushed_is : (s : Stored) → object_at o from ≡ Some s → u ≡ push_tile o k (Object s)) where
     pub can_forward : EachForwardedIn (λ a. a ≢ from) t.regions → CanForward u from to
     can_forward m =
         let (x, at) = some_of (object_at t from) some in
@@ -174,7 +189,8 @@ module _ (t o : Table) (d e : Places) (k from size : ℕ) (known : IfSome d.last
         let there = object_there t o k from x w z shaped.fitting at ordinary r in
         let ob = object t o k from x w z shaped.fitting at ordinary r in
         let co = copy t o k from x w z shaped.fitting at ordinary r in
-        subst (λ (v : Table). CanForward v from to) (sym (pushed_is x there)) (subst (λ (n : ℕ). CanForward (push_tile o k (Object x)) from n) (sym at_is) (record {
+        subst (λ (v : Table). CanForward v from to) (sym (pushed_is x there))
+        (subst (λ (n : ℕ). CanForward (push_tile o k (Object x)) from n) (sym at_is) (record {
           object = is_some (object_at (push_tile o k (Object x)) from) x ob;
           ordinary = region t o k from x w z shaped.fitting at ordinary r;
           copy = words_of (push_tile o k (Object x)) (top_of o k) x co ∙ sym (words_of (push_tile o k (Object x)) from x ob);
@@ -184,7 +200,8 @@ module _ (t o : Table) (d e : Places) (k from size : ℕ) (known : IfSome d.last
 
     module _ (v : Table) (f : Places) (forward_is : v ≡ replace_tile u from (Forwarded to (object_words u from) ∷ []))
         (places_are : f ≡ record { regions = e.regions; last = e.last; room = e.room; words = e.words + size }) where
-      table_is : (x : Stored) → object_at t from ≡ Some x → v ≡ replace_tile (push_tile o k (Object x)) from (Forwarded to (tile_size (Object x)) ∷ [])
+      table_is : (x : Stored) → object_at t from ≡ Some x
+          → v ≡ replace_tile (push_tile o k (Object x)) from (Forwarded to (tile_size (Object x)) ∷ [])
       table_is x at =
           let r = room_for x at in
           let there = object_there t o k from x w z shaped.fitting at ordinary r in
@@ -209,21 +226,33 @@ module _ (t o : Table) (d e : Places) (k from size : ℕ) (known : IfSome d.last
       changed x j at l =
           let r = room_for x at in
           let same : k ≡ j = (let a = opens.last in let b = ap (λ (y : Places). y.last) places_are in cc) in
-          subst (λ (n : ℕ). CopiesObject t v n from to x) same (subst (λ (y : Table). CopiesObject t y k from to x) (sym (table_is x at ∙ ap (λ (n : ℕ). replace_tile (push_tile o k (Object x)) from (Forwarded n (tile_size (Object x)) ∷ [])) at_is)) (subst (λ (n : ℕ). CopiesObject t (replace_tile (push_tile o k (Object x)) from (Forwarded (top_of o k) (tile_size (Object x)) ∷ [])) k from n x) (sym at_is) (copies t o k from x w z shaped.fitting at ordinary r)))
+          subst (λ (n : ℕ). CopiesObject t v n from to x) same
+          (subst (λ (y : Table). CopiesObject t y k from to x)
+          (sym (table_is x at
+          ∙ ap (λ (n : ℕ). replace_tile (push_tile o k (Object x)) from (Forwarded n (tile_size (Object x)) ∷ [])) at_is))
+          (subst (λ (n : ℕ).
+          CopiesObject t (replace_tile (push_tile o k (Object x)) from (Forwarded (top_of o k) (tile_size (Object x)) ∷ [])) k from n x)
+          (sym at_is) (copies t o k from x w z shaped.fitting at ordinary r)))
 
-replaced_moved : (P : ℕ → Type 0) (t : Table) (a to n : ℕ) → P to → EachForwardedIn P t.regions → EachForwardedIn P (replace_tile t a (Forwarded to n ∷ [])).regions
+replaced_moved : (P : ℕ → Type 0) (t : Table) (a to n : ℕ) → P to → EachForwardedIn P t.regions
+    → EachForwardedIn P (replace_tile t a (Forwarded to n ∷ [])).regions
 unfolding replace_tile region_at
 replaced_moved P t a to n h m =
-    EachForwardedIn-set P t.regions (a / t.words_per_region) (region_replaced (get_or t.regions (a / t.words_per_region) Free) (a % t.words_per_region) (Forwarded to n ∷ [])) (one (get_or t.regions (a / t.words_per_region) Free) (EachForwardedIn-at P t.regions (a / t.words_per_region) m)) m
+    EachForwardedIn-set P t.regions (a / t.words_per_region)
+    (region_replaced (get_or t.regions (a / t.words_per_region) Free) (a % t.words_per_region) (Forwarded to n ∷ []))
+    (one (get_or t.regions (a / t.words_per_region) Free) (EachForwardedIn-at P t.regions (a / t.words_per_region) m)) m
   where
-    one : (r : Region) → EachForwardedIn P (r ∷ []) → EachForwardedIn P (region_replaced r (a % t.words_per_region) (Forwarded to n ∷ []) ∷ [])
+    one : (r : Region) → EachForwardedIn P (r ∷ [])
+        → EachForwardedIn P (region_replaced r (a % t.words_per_region) (Forwarded to n ∷ []) ∷ [])
     one Free q = tt
     one (Ordinary ts) q = (EachForwarded-replace P (a % t.words_per_region) (Forwarded to n ∷ []) ts (h, tt) q.0, tt)
     one (First s) q = tt
     one (Rest k) q = tt
 
 -- what holds of each moved tile still does, where it holds of the new place
-pub copied_moved : (P : ℕ → Type 0) (t t' : Table) (d d' : Places) (from to : ℕ) (x : Stored) → Copies t t' d d' from to x → P to → EachForwardedIn P t.regions → EachForwardedIn P t'.regions
+pub copied_moved : (P : ℕ → Type 0) (t t' : Table) (d d' : Places) (from to : ℕ) (x : Stored) → Copies t t' d d' from to x → P to
+    → EachForwardedIn P t.regions → EachForwardedIn P t'.regions
 copied_moved P t t' d d' from to x c h m =
     subst (λ (u : Table). EachForwardedIn P u.regions) (sym c.table_is)
-    (replaced_moved P (push_tile c.table c.region (Object x)) from to (tile_size (Object x)) h (pushed_moved P c.table c.region x (opened_moved P t c.table d c.places (tile_size (Object x)) c.region c.opens m)))
+    (replaced_moved P (push_tile c.table c.region (Object x)) from to (tile_size (Object x)) h
+    (pushed_moved P c.table c.region x (opened_moved P t c.table d c.places (tile_size (Object x)) c.region c.opens m)))

@@ -5,7 +5,8 @@ use Rattle.std.proofs.lemmas.Bool.{lt-ltb}
 use Rattle.std.proofs.lemmas.List.Quantifiers.{position-Some}
 use Rattle.std.proofs.lemmas.List.Recursion.{is_count_by, is_position_or_len}
 use Rattle.std.proofs.lemmas.List.Sums.{sum_by-set}
-use Rattle.regions.specs.Table.{Region, Free, Ordinary, First, Rest, Table, is_free, first_free, taken, kind_of, region_kind, nth_region, free_count}
+use Rattle.regions.specs.Table.{Region, Free, Ordinary, First, Rest, Table, is_free, first_free}
+use Rattle.regions.specs.Table.{taken, kind_of, region_kind, nth_region, free_count}
 use Rattle.regions.specs.Rows.{kind_is_free}
 
 abbrev frees : List Region → ℕ
@@ -61,7 +62,8 @@ pub free_by_kind : (t : Table) (k : ℕ) → is_free (nth_region t k) ≡ kind_i
 unfolding kind_of
 free_by_kind t k = by_kind (nth_region t k)
 
-same_frees : (rs rs' : List Region) → length rs' ≡ length rs → ((k : ℕ) → region_kind (get_or rs' k Free) ≡ region_kind (get_or rs k Free)) → frees rs' ≡ frees rs
+same_frees : (rs rs' : List Region) → length rs' ≡ length rs
+    → ((k : ℕ) → region_kind (get_or rs' k Free) ≡ region_kind (get_or rs k Free)) → frees rs' ≡ frees rs
 same_frees [] [] n f = refl
 same_frees [] (r ∷ rs) n f = absurd (omega arith)
 same_frees (r ∷ rs) [] n f = absurd (omega arith)
@@ -71,7 +73,8 @@ same_frees (r ∷ rs) (r' ∷ rs') n f =
     rw (b, e) refl
 
 -- as many are free where all are of the same kinds
-pub same_free : (t t' : Table) → length t'.regions ≡ length t.regions → ((k : ℕ) → kind_of t' k ≡ kind_of t k) → free_count t' ≡ free_count t
+pub same_free : (t t' : Table) → length t'.regions ≡ length t.regions
+    → ((k : ℕ) → kind_of t' k ≡ kind_of t k) → free_count t' ≡ free_count t
 unfolding kind_of nth_region
 same_free t t' n f =
     let c = is_count_by frees is_free refl count_step t.regions in

@@ -2,7 +2,8 @@
 use Rattle.std.proofs.Common.{◌≡◌, ◌≢◌, ℕ, ◌+◌, ◌<◌, ◌≤◌, ◌⊎◌, [], Some, length, refl, sym, ap, ◌∙◌, subst, inl, inr, arith}
 use Rattle.std.specs.Prelude.{IfSome}
 use Rattle.std.proofs.lemmas.List.{get_or-set_other}
-use Rattle.regions.specs.Table.{Region, Free, Ordinary, Table, first_free, taken, tile_in, kind_of, region_kind, nth_region, used_of, EachForwardedIn, with_region, free_count}
+use Rattle.regions.specs.Table.{Region, Free, Ordinary, Table, first_free, taken, tile_in, kind_of, region_kind, nth_region}
+use Rattle.regions.specs.Table.{used_of, EachForwardedIn, with_region, free_count}
 use Rattle.regions.specs.declared.row.Kind.TheVariants as kinds
 use Rattle.regions.proofs.Tiles.Placing.{region_taken}
 use Rattle.regions.proofs.Words.Sizes.{EachForwardedIn-set}
@@ -24,7 +25,19 @@ pub record Opened (t t' : Table) (k : ℕ) : Type 0 where
   pub free_less : kind_of t k ≡ kinds.Free → free_count t' + 1 ≡ free_count t
 
 same_opened : (t : Table) (k : ℕ) → k < length t.regions → kind_of t k ≡ kinds.Ordinary → Opened t t k
-same_opened t k known o = record { size = refl; count = refl; known = known; ordinary = o; was_free = inl o; kinds_same = λ j n. refl; stays = λ j e. e; tiles = λ y. refl; used = λ j. refl; free_same = λ e. refl; free_less = λ e. absurd (let n : kinds.Ordinary ≡ kinds.Free = sym o ∙ e in cc) }
+same_opened t k known o = record {
+  size = refl;
+  count = refl;
+  known = known;
+  ordinary = o;
+  was_free = inl o;
+  kinds_same = λ j n. refl;
+  stays = λ j e. e;
+  tiles = λ y. refl;
+  used = λ j. refl;
+  free_same = λ e. refl;
+  free_less = λ e. absurd (let n : kinds.Ordinary ≡ kinds.Free = sym o ∙ e in cc);
+}
 
 kind_other : (t : Table) (k j : ℕ) (r : Region) → j ≢ k → kind_of (with_region t k r) j ≡ kind_of t j
 unfolding kind_of nth_region
@@ -47,7 +60,8 @@ taken_opened t k e =
       free_less = λ o. fewer_free t k e;
     }
 
-pub opened : (t t' : Table) (d d' : Places) (size k : ℕ) → IfSome d.last (λ j. j < length t.regions) → IfSome d.last (λ j. kind_of t j ≡ kinds.Ordinary) → Opens t t' d d' size k → Opened t t' k
+pub opened : (t t' : Table) (d d' : Places) (size k : ℕ) → IfSome d.last (λ j. j < length t.regions)
+    → IfSome d.last (λ j. kind_of t j ≡ kinds.Ordinary) → Opens t t' d d' size k → Opened t t' k
 opened t t' d d' size k known o w = elim w.how [
   | inl q ↦
       let e : d.last ≡ Some k = ap (λ (u : Places). u.last) (sym q.1) ∙ w.last in
@@ -58,17 +72,20 @@ opened t t' d d' size k known o w = elim w.how [
 ]
 
 -- what holds of each moved tile still does
-pub opened_moved : (P : ℕ → Type 0) (t t' : Table) (d d' : Places) (size k : ℕ) → Opens t t' d d' size k → EachForwardedIn P t.regions → EachForwardedIn P t'.regions
+pub opened_moved : (P : ℕ → Type 0) (t t' : Table) (d d' : Places) (size k : ℕ) → Opens t t' d d' size k
+    → EachForwardedIn P t.regions → EachForwardedIn P t'.regions
 opened_moved P t t' d d' size k w m = elim w.how [
   | inl q ↦ subst (λ (u : Table). EachForwardedIn P u.regions) (sym q.0) m
   | inr q ↦ subst (λ (u : Table). EachForwardedIn P u.regions) (sym q.0.table) (EachForwardedIn-set P t.regions k (Ordinary []) (tt, tt) m)
 ]
 
-pub taken_opens : (t t' : Table) (d d' : Places) (size k : ℕ) → Takes t t' d d' k → size ≤ t.words_per_region → ((f : ℕ) → fill_of t d.last ≡ Some f → t.words_per_region < f + size) → Opens t t' d d' size k
+pub taken_opens : (t t' : Table) (d d' : Places) (size k : ℕ) → Takes t t' d d' k → size ≤ t.words_per_region
+    → ((f : ℕ) → fill_of t d.last ≡ Some f → t.words_per_region < f + size) → Opens t t' d d' size k
 taken_opens t t' d d' size k w small full =
     let r = region_taken t k w.lowest in
     record {
       last = w.last;
-      fits = subst (λ (u : Table). used_of u k + size ≤ u.words_per_region) (sym w.table) (let e = r.empty in let q = r.size in omega arith);
+      fits =
+          subst (λ (u : Table). used_of u k + size ≤ u.words_per_region) (sym w.table) (let e = r.empty in let q = r.size in omega arith);
       how = inr (w, full);
     }

@@ -2,7 +2,8 @@
 use Rattle.std.proofs.Common.{◌≡◌, ℕ, ◌+◌, ◌-◌, ◌/◌, ◌<◌, ◌∙◌, [], ◌∷◌, None, Some, length, ap, refl, arith}
 use Rattle.std.specs.Prelude.{IsSome}
 use Rattle.regions.specs.Tiles.{Object, Filler}
-use Rattle.regions.specs.Table.{Table, Free, Ordinary, remainder, kind_of, new_object, object_at, object_words, fields_at, weaks_at, push_tile, put_object, region_at, nth_region, replace_tile, set_field, tile_in, tile_object, used_of}
+use Rattle.regions.specs.Table.{Table, Free, Ordinary, remainder, kind_of, new_object, object_at, object_words, fields_at, weaks_at}
+use Rattle.regions.specs.Table.{push_tile, put_object, region_at, nth_region, replace_tile, set_field, tile_in, tile_object, used_of}
 use Rattle.regions.specs.declared.row.Kind.TheVariants as kinds
 use Rattle.regions.proofs.Tiles.Changes.{object_of_tile}
 use Rattle.regions.proofs.Samples.{sample, filled1, IsUsable}
@@ -26,7 +27,9 @@ filler_there t a n e p q = rw (e, p, q) refl
 abbrev pub made : Table
 made = sample (Ordinary (Object (record { name = 7; pointers = []; weaks = None ∷ []; values = 0 ∷ [] }) ∷ []) ∷ Free ∷ Free ∷ Free ∷ [])
 
-pub one_made : (t t' : Table) (a n p weak d : ℕ) → t ≡ pushed → t' ≡ replace_tile t a (Object (new_object 7 p weak d) ∷ remainder (n - (2 + p + weak + d))) → a ≡ 0 → n ≡ 4 → p ≡ 0 → weak ≡ 1 → d ≡ 1 → t' ≡ made
+pub one_made : (t t' : Table) (a n p weak d : ℕ) → t ≡ pushed
+    → t' ≡ replace_tile t a (Object (new_object 7 p weak d) ∷ remainder (n - (2 + p + weak + d))) → a ≡ 0
+    → n ≡ 4 → p ≡ 0 → weak ≡ 1 → d ≡ 1 → t' ≡ made
 unfolding replace_tile region_at
 one_made t t' a n p weak d e f h i j l k = rw (f, e, h, i, j, l, k) refl
 

@@ -53,7 +53,12 @@ pub record Copies (t t' : Table) (d d' : Places) (from to : ℕ) (object : Store
   pub opens : Opens t table d places (tile_size (Object object)) region
   pub at : to ≡ top_of table region
   pub table_is : t' ≡ replace_tile (push_tile table region (Object object)) from (Forwarded to (tile_size (Object object)) ∷ [])
-  pub places_are : d' ≡ record { regions = places.regions; last = places.last; room = places.room; words = places.words + tile_size (Object object) }
+  pub places_are : d' ≡ record {
+    regions = places.regions;
+    last = places.last;
+    room = places.room;
+    words = places.words + tile_size (Object object);
+  }
 
 -- what that changes: at `to`, where no tile was, stands the object; at `from` a tile of as many words that says so; and region k,
 -- the destination, has so many more words handed out

@@ -50,10 +50,12 @@ pub fn copy(table: &mut RegionTable, destinations: &mut Destinations, from: Addr
     requires known { IfSome destinations.old.last (λ k. k < length table.old.regions) }
     requires last { IfSome destinations.old.last (λ k. kind_of table.old k ≡ kinds.Ordinary) }
     requires small { object_words table.old from ≤ table.old.words_per_region }
-    requires room { CanPlace table.old.words_per_region (free_count table.old) (fill_of table.old destinations.old.last) (object_words table.old from) }
+    requires room { CanPlace table.old.words_per_region (free_count table.old) (fill_of table.old destinations.old.last)
+        (object_words table.old from) }
     requires list { free_count table.old ≤ destinations.old.room }
     requires count { destinations.old.words + object_words table.old from < 2 ^ 32 }
-    ensures copies { (x : Stored) → object_at table.old from ≡ Some x → Copies table.old table.new destinations.old destinations.new from result x }
+    ensures copies { (x : Stored) → object_at table.old from ≡ Some x
+        → Copies table.old table.new destinations.old destinations.new from result x }
     ensures changes { (x : Stored) (k : ℕ) → object_at table.old from ≡ Some x → destinations.new.last ≡ Some k
         → CopiesObject table.old table.new k from result x }
 {

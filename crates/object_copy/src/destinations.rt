@@ -23,7 +23,12 @@ impl Model for Destinations {
 
     ghost Value = { Places };
 
-    ghost view = { λ d. record { regions = take d.count d.regions.items; last = d.last; room = vec_len d.regions - d.count; words = d.words } };
+    ghost view = { λ d. record {
+      regions = take d.count d.regions.items;
+      last = d.last;
+      room = vec_len d.regions - d.count;
+      words = d.words;
+    } };
 
     ghost invariant = { λ d. d.count ≤ vec_len d.regions };
 }
@@ -86,7 +91,12 @@ impl Destinations {
     /// So many words were copied.
     pub(crate) fn count_words(&mut self, size: u32)
         requires { self.old.words + size < 2 ^ 32 }
-        ensures { self.new ≡ record { regions = self.old.regions; last = self.old.last; room = self.old.room; words = self.old.words + size } }
+        ensures { self.new ≡ record {
+          regions = self.old.regions;
+          last = self.old.last;
+          room = self.old.room;
+          words = self.old.words + size;
+        } }
     {
         self.words += size;
     }

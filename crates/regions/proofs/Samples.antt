@@ -3,7 +3,10 @@ use Rattle.std.proofs.Common.{◌≡◌, ◌≢◌, ℕ, ◌+◌, ◌-◌, ◌*�
 use Rattle.std.specs.Prelude.{IsSome}
 use Rattle.heap_model.specs.Heap.{Stored}
 use Rattle.regions.specs.Tiles.{Object, Filler, Forwarded}
-use Rattle.regions.specs.Table.{Table, Region, Free, Ordinary, First, Rest, region_at, tile_in, object_at, pointers_at, fields_at, values_at, put_object, set_pointer, set_field, set_value, EachForwardedIn, object_words, IsOrdinary, is_free, first_free, taken, nth_region, used_of, push_tile, new_object, kind_of, free_table, replace_tile, remainder, first_run, with_run, IsReleasable, released}
+use Rattle.regions.specs.Table.{Table, Region, Free, Ordinary, First, Rest, region_at, tile_in, object_at, pointers_at, fields_at}
+use Rattle.regions.specs.Table.{values_at, put_object, set_pointer, set_field, set_value, EachForwardedIn, object_words, IsOrdinary}
+use Rattle.regions.specs.Table.{is_free, first_free, taken, nth_region, used_of, push_tile, new_object, kind_of, free_table, replace_tile}
+use Rattle.regions.specs.Table.{remainder, first_run, with_run, IsReleasable, released}
 use Rattle.regions.specs.declared.row.Kind.TheVariants as kinds
 
 abbrev pub sample : List Region → Table
@@ -33,19 +36,24 @@ pub fill_push : (t t' : Table) (k n : ℕ) → t ≡ filled1 → t' ≡ push_til
 unfolding push_tile nth_region
 fill_push t t' k n e f p q = rw (f, e, p, q) refl
 
-pub fill_split : (t t' : Table) (a n m : ℕ) → t ≡ filled2 → t' ≡ replace_tile t a (Filler m ∷ remainder (n - m)) → a ≡ 0 → n ≡ 10 → m ≡ 5 → t' ≡ filled3
+pub fill_split : (t t' : Table) (a n m : ℕ) → t ≡ filled2
+    → t' ≡ replace_tile t a (Filler m ∷ remainder (n - m)) → a ≡ 0 → n ≡ 10 → m ≡ 5 → t' ≡ filled3
 unfolding replace_tile region_at
 fill_split t t' a n m e f p q r = rw (f, e, p, q, r) refl
 
-pub fill_make : (t t' : Table) (a n p weak d : ℕ) → t ≡ filled3 → t' ≡ replace_tile t a (Object (new_object 7 p weak d) ∷ remainder (n - (2 + p + weak + d))) → a ≡ 0 → n ≡ 5 → p ≡ 1 → weak ≡ 0 → d ≡ 1 → t' ≡ with_sample (sample_object None 0)
+pub fill_make : (t t' : Table) (a n p weak d : ℕ) → t ≡ filled3
+    → t' ≡ replace_tile t a (Object (new_object 7 p weak d) ∷ remainder (n - (2 + p + weak + d))) → a ≡ 0 → n ≡ 5 → p ≡ 1 → weak ≡ 0 → d ≡ 1
+    → t' ≡ with_sample (sample_object None 0)
 unfolding replace_tile region_at
 fill_make t t' a n p weak d e f h i j l k = rw (f, e, h, i, j, l, k) refl
 
-pub fill_pointer : (t t' : Table) (a to : ℕ) → t ≡ with_sample (sample_object None 0) → t' ≡ set_pointer t a 0 (Some to) → a ≡ 0 → to ≡ 5 → t' ≡ with_sample (sample_object (Some 5) 0)
+pub fill_pointer : (t t' : Table) (a to : ℕ) → t ≡ with_sample (sample_object None 0) → t' ≡ set_pointer t a 0 (Some to) → a ≡ 0 → to ≡ 5
+    → t' ≡ with_sample (sample_object (Some 5) 0)
 unfolding set_pointer object_at tile_in region_at put_object
 fill_pointer t t' a to e f p q = rw (f, e, p, q) refl
 
-pub fill_value : (t t' : Table) (a : ℕ) → t ≡ with_sample (sample_object (Some 5) 0) → t' ≡ set_value t a 0 9 → a ≡ 0 → t' ≡ with_sample (sample_object (Some 5) 9)
+pub fill_value : (t t' : Table) (a : ℕ) → t ≡ with_sample (sample_object (Some 5) 0) → t' ≡ set_value t a 0 9 → a ≡ 0
+    → t' ≡ with_sample (sample_object (Some 5) 9)
 unfolding set_value object_at tile_in region_at put_object
 fill_value t t' a e f p = rw (f, e, p) refl
 
@@ -85,7 +93,8 @@ unfolding tile_in region_at
 rest_is_tile p d t a e h = rw (e, h) refl
 
 -- a word of a table of four regions
-pub word_inside : (rs : List Region) (t : Table) (w n : ℕ) → t ≡ sample rs → length rs ≡ 4 → w ≡ n → n < 64 → w < length t.regions * t.words_per_region
+pub word_inside : (rs : List Region) (t : Table) (w n : ℕ) → t ≡ sample rs → length rs ≡ 4 → w ≡ n → n < 64
+    → w < length t.regions * t.words_per_region
 word_inside rs t w n e l p h = rw (e, l, p) h
 
 -- an object moves
@@ -117,15 +126,19 @@ pub move_push : (t t' : Table) (k n : ℕ) → t ≡ moved1 → t' ≡ push_tile
 unfolding push_tile nth_region
 move_push t t' k n e f p q = rw (f, e, p, q) refl
 
-pub move_make : (t t' : Table) (a n p weak d : ℕ) → t ≡ moved2 → t' ≡ replace_tile t a (Object (new_object 7 p weak d) ∷ remainder (n - (2 + p + weak + d))) → a ≡ 0 → n ≡ 4 → p ≡ 0 → weak ≡ 2 → d ≡ 0 → t' ≡ moved3
+pub move_make : (t t' : Table) (a n p weak d : ℕ) → t ≡ moved2
+    → t' ≡ replace_tile t a (Object (new_object 7 p weak d) ∷ remainder (n - (2 + p + weak + d))) → a ≡ 0 → n ≡ 4
+    → p ≡ 0 → weak ≡ 2 → d ≡ 0 → t' ≡ moved3
 unfolding replace_tile region_at
 move_make t t' a n p weak d e f h i j l k = rw (f, e, h, i, j, l, k) refl
 
-pub move_copy : (t t' : Table) (a k : ℕ) → t ≡ moved3 → ((s : Stored) → object_at t a ≡ Some s → t' ≡ push_tile t k (Object s)) → a ≡ 0 → k ≡ 1 → t' ≡ moved4
+pub move_copy : (t t' : Table) (a k : ℕ) → t ≡ moved3
+    → ((s : Stored) → object_at t a ≡ Some s → t' ≡ push_tile t k (Object s)) → a ≡ 0 → k ≡ 1 → t' ≡ moved4
 unfolding object_at tile_in region_at push_tile nth_region
 move_copy t t' a k e f p q = f moving (rw (e, p) refl) ∙ rw (e, q) refl
 
-pub move_forward : (t t' : Table) (a b : ℕ) → t ≡ moved4 → t' ≡ replace_tile t a (Forwarded b (object_words t a) ∷ []) → a ≡ 0 → b ≡ 16 → t' ≡ moved5
+pub move_forward : (t t' : Table) (a b : ℕ) → t ≡ moved4
+    → t' ≡ replace_tile t a (Forwarded b (object_words t a) ∷ []) → a ≡ 0 → b ≡ 16 → t' ≡ moved5
 unfolding replace_tile region_at object_words object_at tile_in
 move_forward t t' a b e f p q = rw (f, e, p, q) refl
 
@@ -147,7 +160,8 @@ pub record IsCopyable (t : Table) (a k : ℕ) : Type 0 where
 
 pub copyable3 : (t : Table) (a k : ℕ) → t ≡ moved3 → a ≡ 0 → k ≡ 1 → IsCopyable t a k
 unfolding object_at tile_in region_at kind_of nth_region used_of object_words
-copyable3 t a k e p q = rw (e, p, q) (record { object = refl; usable = record { known = omega arith; ordinary = refl; room = omega arith } })
+copyable3 t a k e p q =
+    rw (e, p, q) (record { object = refl; usable = record { known = omega arith; ordinary = refl; room = omega arith } })
 
 pub record IsForwardable (t : Table) (a b : ℕ) : Type 0 where
   pub object : IsSome (object_at t a)
@@ -182,7 +196,8 @@ large = new_object 8 3 1 19
 abbrev pub run1 : Table
 run1 = sample (Ordinary [] ∷ First large ∷ Rest 9 ∷ Free ∷ [])
 
-pub run_take : (t t' : Table) (p weak d : ℕ) → t ≡ filled1 → t' ≡ with_run t 2 (new_object 8 p weak d) (first_run is_free 2 t.regions) → p ≡ 3 → weak ≡ 1 → d ≡ 19 → t' ≡ run1
+pub run_take : (t t' : Table) (p weak d : ℕ) → t ≡ filled1
+    → t' ≡ with_run t 2 (new_object 8 p weak d) (first_run is_free 2 t.regions) → p ≡ 3 → weak ≡ 1 → d ≡ 19 → t' ≡ run1
 run_take t t' p weak d e f h l i = rw (f, e, h, l, i) refl
 
 pub run_release : (t t' : Table) (k : ℕ) → t ≡ run1 → t' ≡ released t k → k ≡ 1 → t' ≡ filled1
@@ -193,7 +208,8 @@ pub releasable_run : (t : Table) (k : ℕ) → t ≡ run1 → k ≡ 1 → CanRel
 unfolding nth_region kind_of
 releasable_run t k e p = rw (e, p) (record { known = omega arith; releasable = tt; untargeted = (tt, tt) })
 
-pub run_fits : (t : Table) (p weak d : ℕ) → t ≡ filled1 → p ≡ 3 → weak ≡ 1 → d ≡ 19 → (2 + p + weak + d ≤ 2 * t.words_per_region) × (2 * t.words_per_region < 2 + p + weak + d + t.words_per_region)
+pub run_fits : (t : Table) (p weak d : ℕ) → t ≡ filled1 → p ≡ 3 → weak ≡ 1 → d ≡ 19
+    → (2 + p + weak + d ≤ 2 * t.words_per_region) × (2 * t.words_per_region < 2 + p + weak + d + t.words_per_region)
 run_fits t p weak d e h l i = rw (e, h, l, i) (omega arith, omega arith)
 
 pub known_region : (rs : List Region) (t : Table) (k n : ℕ) → t ≡ sample rs → length rs ≡ 4 → k ≡ n → n < 4 → k < length t.regions
@@ -210,7 +226,9 @@ pub step_push : (t t' : Table) (k n : ℕ) → t ≡ filled1 → t' ≡ push_til
 unfolding push_tile nth_region
 step_push t t' k n e f p q = rw (f, e, p, q) refl
 
-pub step_make : (t t' : Table) (a n p weak d : ℕ) → t ≡ stepped2 → t' ≡ replace_tile t a (Object (new_object 7 p weak d) ∷ remainder (n - (2 + p + weak + d))) → a ≡ 0 → n ≡ 6 → p ≡ 1 → weak ≡ 0 → d ≡ 1 → t' ≡ stepped None
+pub step_make : (t t' : Table) (a n p weak d : ℕ) → t ≡ stepped2
+    → t' ≡ replace_tile t a (Object (new_object 7 p weak d) ∷ remainder (n - (2 + p + weak + d))) → a ≡ 0 → n ≡ 6
+    → p ≡ 1 → weak ≡ 0 → d ≡ 1 → t' ≡ stepped None
 unfolding replace_tile region_at
 step_make t t' a n p weak d e f h i j k l = rw (f, e, h, i, j, k, l) refl
 

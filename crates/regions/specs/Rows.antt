@@ -1,5 +1,7 @@
 -- How the words of the heap are read as regions.
-use Rattle.std.specs.Prelude.{◌≡◌, ℕ, zero, suc, ◌-◌, ◌*◌, ◌^◌, ◌<◌, ◌≤◌, min, Bool, true, false, Option, Some, None, List, [], ◌∷◌, length, take, drop, slice_index, slice_set, slice_index_or}
+use Rattle.std.specs.Prelude.{◌≡◌, ◌-◌, ◌*◌, ◌^◌, ◌<◌, ◌≤◌, ◌∷◌}
+use Rattle.std.specs.Prelude.{ℕ, zero, suc, min, Bool, true, false, Option, Some, None, List, [], length}
+use Rattle.std.specs.Prelude.{take, drop, slice_index, slice_set, slice_index_or}
 use Rattle.heap_words.specs.Sizes.{size_of}
 use Rattle.heap_words.specs.Configs.{max_words, max_region_words}
 use Rattle.heap_words.specs.declared.header.Header.{Header}
@@ -71,7 +73,8 @@ IsObject (Some (headers.Forwarded to)) = ⊥
 abbrev pub IsRow : (ℕ → ℕ) → ℕ → List ℕ → ℕ → Kind → Type 0
 IsRow sizes size ws used kinds.Free = used ≡ 0
 IsRow sizes size ws used kinds.Ordinary = (used ≤ size) × IsTiled sizes 0 (take used ws)
-IsRow sizes size ws used kinds.First = IsObject (header_of (slice_index ws 0)) × (used ≡ min size (object_size (header_of (slice_index ws 0))))
+IsRow sizes size ws used kinds.First =
+    IsObject (header_of (slice_index ws 0)) × (used ≡ min size (object_size (header_of (slice_index ws 0))))
 IsRow sizes size ws used kinds.Rest = ⊥
 
 -- the row of a later region of a run, from whose start on `left` words are the object's
@@ -91,8 +94,10 @@ left_by size ws kinds.Rest = 0
 -- rows are right, the first `left` words belonging to an object that began before them
 abbrev pub AreRows : (ℕ → ℕ) → ℕ → ℕ → List ℕ → List Row → Type 0
 AreRows sizes size left ws [] = left ≡ 0
-AreRows sizes size zero ws (row ∷ rows) = IsRow sizes size ws row.used row.kind × AreRows sizes size (left_by size ws row.kind) (drop size ws) rows
-AreRows sizes size (suc left) ws (row ∷ rows) = IsRestRow size (suc left) row.used row.kind × AreRows sizes size (suc left - size) (drop size ws) rows
+AreRows sizes size zero ws (row ∷ rows) =
+    IsRow sizes size ws row.used row.kind × AreRows sizes size (left_by size ws row.kind) (drop size ws) rows
+AreRows sizes size (suc left) ws (row ∷ rows) =
+    IsRestRow size (suc left) row.used row.kind × AreRows sizes size (suc left - size) (drop size ws) rows
 
 -- the table that callers see
 abbrev pub table_of : ℕ → List ℕ → List Row → Table

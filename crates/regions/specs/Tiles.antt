@@ -1,5 +1,6 @@
 -- Tiles: what the words of a region say, from its bottom to its top.
-use Rattle.std.specs.Prelude.{◌≡◌, ℕ, zero, suc, ◌+◌, ◌-◌, ◌<◌, Option, Some, None, List, [], ◌∷◌, ◌++◌, length, take, drop, map, slice_index, if◌then◌else◌, nat_le, IsSome}
+use Rattle.std.specs.Prelude.{◌≡◌, ◌+◌, ◌-◌, ◌<◌, ◌∷◌, ◌++◌, if◌then◌else◌}
+use Rattle.std.specs.Prelude.{ℕ, zero, suc, Option, Some, None, List, [], length, take, drop, map, slice_index, nat_le, IsSome}
 use Rattle.heap_words.specs.Sizes.{size_of}
 use Rattle.heap_model.specs.Heap.{Stored}
 use Rattle.heap_words.specs.declared.header.Header.{Header}

@@ -14,7 +14,8 @@
 //! A new tile costs an entry for each card that begins in it, and a first tile is found by a look at one entry or two, however
 //! far from the region's bottom or the run's first region the card lies. Tables of this kind are known as block offset tables.
 
-ghost use Rattle.std.specs.Prelude.{◌≡◌, ℕ, ◌+◌, ◌*◌, ◌/◌, ◌<◌, ◌≤◌, ◌^◌, ◌==◌, ◌&&◌, IfOk, IsTrue, length, replicate, slice_index, if◌then◌else◌};
+ghost use Rattle.std.specs.Prelude.{◌≡◌, ◌+◌, ◌*◌, ◌/◌, ◌<◌, ◌≤◌, ◌^◌, ◌==◌, ◌&&◌, if◌then◌else◌};
+ghost use Rattle.std.specs.Prelude.{ℕ, IfOk, IsTrue, length, replicate, slice_index};
 ghost use Rattle.std.specs.Int.{div_ceil, is_power_of_two};
 ghost use Rattle.heap_words.specs.Bits.{is_between};
 ghost use Rattle.regions.specs.Tiles.{Filler};
@@ -72,7 +73,8 @@ fn write_entries(entries: &mut [u32], shift: u32, at: u32, end: u32, entry: u32)
     requires small { end ≤ max_words }
     requires within { end ≤ length entries.old * 2 ^ shift }
     ensures len { length entries.new ≡ length entries.old }
-    ensures entries { (c : ℕ) → slice_index entries.new c ≡ (if is_between at end (c * 2 ^ shift) then entry else slice_index entries.old c) }
+    ensures entries { (c : ℕ) → slice_index entries.new c
+        ≡ (if is_between at end (c * 2 ^ shift) then entry else slice_index entries.old c) }
 {
     fill_cards(entries, card_from(shift, at), card_from(shift, end), entry);
 }

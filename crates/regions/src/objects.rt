@@ -1,7 +1,8 @@
 //! Reads and writes of objects: each is one access to a word or two, and no walk.
 ghost use Rattle.std.specs.Prelude.{◌≡◌, ◌<◌, length, slice_get, Some, IsSome, IfSome};
 ghost use Rattle.heap_words.specs.Contents.{header_at, counts_of, pointer_count_at, field_count_at};
-ghost use Rattle.regions.specs.Table.{object_at, object_words, pointers_at, weaks_at, fields_at, values_at, set_pointer, set_weak, set_field, set_value, tile_in, moved_to};
+ghost use Rattle.regions.specs.Table.{object_at, object_words, pointers_at, weaks_at, fields_at, values_at, set_pointer};
+ghost use Rattle.regions.specs.Table.{set_weak, set_field, set_value, tile_in, moved_to};
 ghost use Rattle.regions.specs.Rows.{header_target, sizes_in, weak_count, value_count};
 
 use crate::table::RegionTable;

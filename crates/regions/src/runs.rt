@@ -73,7 +73,8 @@ impl RegionTable {
         requires positive { 0 < count }
         requires lowest { first_run region_is_free count self.old.regions ≡ Some first }
         requires covers { size_of counts.pointers counts.weaks counts.values ≤ count * self.old.words_per_region }
-        requires tight { count * self.old.words_per_region < size_of counts.pointers counts.weaks counts.values + self.old.words_per_region }
+        requires tight { count * self.old.words_per_region
+            < size_of counts.pointers counts.weaks counts.values + self.old.words_per_region }
         ensures { self.new ≡ with_regions self.old first count
             (run_regions self.old.words_per_region (new_object name counts.pointers counts.weaks counts.values) count) }
     {
@@ -98,7 +99,8 @@ impl RegionTable {
     pub fn take_run(&mut self, count: u32, name: u64, counts: HeaderCounts) -> Option<RegionNo>
         requires positive { 0 < count }
         requires covers { size_of counts.pointers counts.weaks counts.values ≤ count * self.old.words_per_region }
-        requires tight { count * self.old.words_per_region < size_of counts.pointers counts.weaks counts.values + self.old.words_per_region }
+        requires tight { count * self.old.words_per_region
+            < size_of counts.pointers counts.weaks counts.values + self.old.words_per_region }
         ensures lowest { result ≡ first_run region_is_free count self.old.regions }
         ensures taken { self.new ≡ with_run self.old count (new_object name counts.pointers counts.weaks counts.values)
             (first_run region_is_free count self.old.regions) }

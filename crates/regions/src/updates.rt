@@ -4,7 +4,9 @@ ghost use Rattle.heap_words.specs.Sizes.{size_of};
 ghost use lib.Seq.{paste};
 ghost use Rattle.heap_model.specs.Heap.{Stored};
 ghost use Rattle.regions.specs.Tiles.{Object, Filler, Forwarded};
-ghost use Rattle.regions.specs.Table.{first_free, taken, kind_of, used_of, top_of, region_at, IsOrdinary, IsReleasable, released, EachForwardedIn, tile_in, object_at, object_words, push_tile, replace_tile, new_object, front_count, remainder};
+ghost use Rattle.regions.specs.Table.{first_free, taken, kind_of, used_of, top_of, region_at, IsOrdinary, IsReleasable};
+ghost use Rattle.regions.specs.Table.{released, EachForwardedIn, tile_in, object_at, object_words, push_tile};
+ghost use Rattle.regions.specs.Table.{replace_tile, new_object, front_count, remainder};
 ghost use Rattle.regions.specs.Rows.{kind_is_free, kind_is_rest, free_row, put_remainder, AreUsedBelow};
 ghost use Rattle.regions.specs.declared.row.Kind.TheVariants as kinds;
 
@@ -142,7 +144,8 @@ impl RegionTable {
         requires there { tile_in self.old at ≡ Some (Filler filler) }
         requires room { size_of counts.pointers counts.weaks counts.values ≤ filler }
         ensures { self.new ≡ replace_tile self.old at
-            (Object (new_object name counts.pointers counts.weaks counts.values) ∷ remainder (filler - size_of counts.pointers counts.weaks counts.values)) }
+            (Object (new_object name counts.pointers counts.weaks counts.values)
+            ∷ remainder (filler - size_of counts.pointers counts.weaks counts.values)) }
     {
         let weaks = u32::from(counts.weaks);
         let size = counts.size();

@@ -36,7 +36,8 @@ action_words (actions.Drop register) = codes "drop" ∷ register_word register �
 action_words (actions.Load to from) = codes "load" ∷ register_word to ∷ global_word from ∷ []
 action_words (actions.Save to from) = codes "save" ∷ global_word to ∷ register_word from ∷ []
 action_words (actions.Shape object) = codes "shape" ∷ register_word object ∷ []
-action_words (actions.NewWeak to counts w) = codes "newweak" ∷ register_word to ∷ decimal counts.pointers ∷ decimal w ∷ decimal counts.values ∷ []
+action_words (actions.NewWeak to counts w) =
+    codes "newweak" ∷ register_word to ∷ decimal counts.pointers ∷ decimal w ∷ decimal counts.values ∷ []
 action_words (actions.GetWeak to object i) = codes "getweak" ∷ register_word to ∷ register_word object ∷ decimal i ∷ []
 action_words (actions.PutWeak object i value) = codes "putweak" ∷ register_word object ∷ decimal i ∷ value_word value ∷ []
 action_words (actions.Weaks object) = codes "weaks" ∷ register_word object ∷ []

@@ -17,8 +17,8 @@
 //! - `LineBuffer` takes a record's lines one by one, each as soon as it is whole: so a record can be read as it is written.
 //! - `write_record` appends the text of a record and no more, or a beginning of it where the writer refused. It holds one
 //!   buffer, however long the record is.
-//! - `put_text`, `put_number`, `put_event_text`, `put_reply`, `put_fault` and `write_bytes` are for other lines of a program: they put texts
-//!   into a buffer, and write bytes in their order.
+//! - `put_text`, `put_number`, `put_event_text`, `put_reply`, `put_fault` and `write_bytes` are for other lines of a program: they put
+//!   texts into a buffer, and write bytes in their order.
 //!
 //! The modules of `read` make values of texts, those of `write` texts of values. Faults, what a line lacks and the laws are shared.
 //!

@@ -238,7 +238,8 @@ const RECORDS: [(&str, usize); 11] = [
         3,
     ),
     (
-        "heap 4 16 8 2 0\n1 0 new r0 0 1 = #0\n2 0 save g0 r0 = ok\n3 1 load r1 g0 = #0\n4 1 write r1 0 2 = ok\n5 0 write r0 0 1 = ok\n6 1 read r1 0 = 1\n",
+        "heap 4 16 8 2 0\n1 0 new r0 0 1 = #0\n2 0 save g0 r0 = ok\n3 1 load r1 g0 = #0\n4 1 write r1 0 2 = ok\n\
+         5 0 write r0 0 1 = ok\n6 1 read r1 0 = 1\n",
         6,
     ),
     (
@@ -258,7 +259,8 @@ const RECORDS: [(&str, usize); 11] = [
         2,
     ),
     (
-        "heap 4 16 8 1 0\n1 gc begin = reclaimed 7\n2 gc begin = refused 6 MarkRunning\n3 gc cleanup = moved 1 4294967295\n4 gc pause 0 = 4294967295 0\n",
+        "heap 4 16 8 1 0\n1 gc begin = reclaimed 7\n2 gc begin = refused 6 MarkRunning\n3 gc cleanup = moved 1 4294967295\n\
+         4 gc pause 0 = 4294967295 0\n",
         4,
     ),
     (

@@ -5,7 +5,8 @@ use Rattle.std.proofs.lemmas.Bool.{cases_lt}
 use Rattle.std.proofs.lemmas.Nat.{mul-le}
 use Rattle.heap_words.specs.declared.addr.Addr.{Addr}
 use Rattle.regions.specs.Tiles.{Tile, Object, tile_size, total_size}
-use Rattle.regions.specs.Table.{Table, Region, Free, Ordinary, First, Rest, nth_region, region_kind, region_used, kind_of, used_of, top_of, tile_in}
+use Rattle.regions.specs.Table.{Table, Region, Free, Ordinary, First, Rest, nth_region, region_kind}
+use Rattle.regions.specs.Table.{region_used, kind_of, used_of, top_of, tile_in}
 use Rattle.regions.specs.Shapes.{tile_shape, size_of_shape}
 use Rattle.regions.specs.Walks.{tiles_of, placed, walk_rest, IsCut, IsHolder, IsRunStart}
 use Rattle.regions.specs.Shaped.{IsShaped, IsLater}
@@ -40,7 +41,8 @@ pub record IsNext (t : Table) (k o : ℕ) (x : Addr) (shape : Shape) (rest : Lis
   pub cut : IsCut (o + tile_size tile) (tiles_of t k)
   pub within : o + tile_size tile ≤ total_size (tiles_of t k)
 
-pub search_step : (t : Table) (k word : ℕ) (left rest : List (Addr × Shape)) (x : Addr) (shape : Shape) → IsShaped t → (s : IsSearch t k word left) → left ≡ (x, shape) ∷ rest → IsNext t k s.offset x shape rest
+pub search_step : (t : Table) (k word : ℕ) (left rest : List (Addr × Shape)) (x : Addr) (shape : Shape) → IsShaped t
+    → (s : IsSearch t k word left) → left ≡ (x, shape) ∷ rest → IsNext t k s.offset x shape rest
 search_step t k word left rest x shape g s e =
     elim (cases_lt s.offset (total_size (tiles_of t k))) [
       | inl lt ↦
@@ -50,8 +52,10 @@ search_step t k word left rest x shape g s e =
           let pos = positive_at o (tiles_of t k) c.0 fitting.positive c.1 in
           let step = cut_step o (o + tile_size c.0) (tiles_of t k) c.0 s.cut c.1 pos refl in
           let place : k * t.words_per_region + o + tile_size c.0 ≡ k * t.words_per_region + (o + tile_size c.0) = omega arith in
-          let next : walk_rest t k o ≡ (k * t.words_per_region + o, tile_shape c.0) ∷ walk_rest t k (o + tile_size c.0) = ap (placed (k * t.words_per_region + o)) step.rest_is ∙ rw place refl in
-          let both : (x, shape) ∷ rest ≡ (k * t.words_per_region + o, tile_shape c.0) ∷ walk_rest t k (o + tile_size c.0) = sym e ∙ s.left_is ∙ next in
+          let next : walk_rest t k o ≡ (k * t.words_per_region + o, tile_shape c.0) ∷ walk_rest t k (o + tile_size c.0) =
+          ap (placed (k * t.words_per_region + o)) step.rest_is ∙ rw place refl in
+          let both : (x, shape) ∷ rest ≡ (k * t.words_per_region + o, tile_shape c.0) ∷ walk_rest t k (o + tile_size c.0) =
+          sym e ∙ s.left_is ∙ next in
           let head : (x, shape) ≡ (k * t.words_per_region + o, tile_shape c.0) = cc in
           let shape_is : shape ≡ tile_shape c.0 = ap (λ (p : Addr × Shape). p.1) head in
           record {
@@ -69,13 +73,15 @@ search_step t k word left rest x shape g s e =
           absurd (let z : (x, shape) ∷ rest ≡ [] = sym e ∙ s.left_is ∙ none in cc)
     ]
 
-pub search_fits : (t : Table) (k word : ℕ) (left rest : List (Addr × Shape)) (x : Addr) (shape : Shape) → IsShaped t → IsSearch t k word left → left ≡ (x, shape) ∷ rest → x + size_of_shape shape ≤ max_words
+pub search_fits : (t : Table) (k word : ℕ) (left rest : List (Addr × Shape)) (x : Addr) (shape : Shape) → IsShaped t
+    → IsSearch t k word left → left ≡ (x, shape) ∷ rest → x + size_of_shape shape ≤ max_words
 search_fits t k word left rest x shape g s e =
     let n = search_step t k word left rest x shape g s e in
     let f = g.within (k * t.words_per_region + s.offset) n.tile n.tile_is in
     omega (arith, f, g.in_all, n.at_is, n.size_is)
 
-pub search_next : (t : Table) (k word : ℕ) (left rest : List (Addr × Shape)) (x : Addr) (shape : Shape) → IsShaped t → IsSearch t k word left → left ≡ (x, shape) ∷ rest → x + size_of_shape shape ≤ word → IsSearch t k word rest
+pub search_next : (t : Table) (k word : ℕ) (left rest : List (Addr × Shape)) (x : Addr) (shape : Shape) → IsShaped t
+    → IsSearch t k word left → left ≡ (x, shape) ∷ rest → x + size_of_shape shape ≤ word → IsSearch t k word rest
 search_next t k word left rest x shape g s e l =
     let n = search_step t k word left rest x shape g s e in
     record {
@@ -87,7 +93,10 @@ search_next t k word left rest x shape g s e l =
     }
 
 -- words of a region: those below its top are those below the end of its run's tiles
-reach : (t : Table) (k first w : ℕ) → IsShaped t → IsRunStart t k first → k * t.words_per_region ≤ w → w < k * t.words_per_region + t.words_per_region → (w < first * t.words_per_region + total_size (tiles_of t first) → w < top_of t k) × (w < top_of t k → w < first * t.words_per_region + total_size (tiles_of t first))
+reach : (t : Table) (k first w : ℕ) → IsShaped t → IsRunStart t k first → k * t.words_per_region ≤ w
+    → w < k * t.words_per_region + t.words_per_region
+    → (w < first * t.words_per_region + total_size (tiles_of t first) → w < top_of t k)
+    × (w < top_of t k → w < first * t.words_per_region + total_size (tiles_of t first))
 unfolding used_of
 reach t k first w g s low high = go (nth_region t k) refl
   where
@@ -95,7 +104,8 @@ reach t k first w g s low high = go (nth_region t k) refl
     size = t.words_per_region
 
     Reaches : Type 0
-    Reaches = (w < first * size + total_size (tiles_of t first) → w < k * size + region_used size (nth_region t k)) × (w < k * size + region_used size (nth_region t k) → w < first * size + total_size (tiles_of t first))
+    Reaches = (w < first * size + total_size (tiles_of t first) → w < k * size + region_used size (nth_region t k))
+        × (w < k * size + region_used size (nth_region t k) → w < first * size + total_size (tiles_of t first))
 
     itself : (r : Region) → nth_region t k ≡ r → (region_kind r ≡ kinds.Rest → ⊥) → first ≡ k
     itself r e other = elim (cases_lt first k) [
@@ -146,7 +156,8 @@ reach t k first w g s low high = go (nth_region t k) refl
         let same : first ≡ l.first = run_first n l in
         let ts = tiles_at t l.first (First l.object) l.begins in
         let split : l.first * size + l.later * size ≡ k * size = spread l.first l.later k size l.number in
-        let used : region_used size (nth_region t k) ≡ min size (tile_size (Object l.object) - l.later * size) = ap (region_used size) e ∙ l.words in
+        let used : region_used size (nth_region t k) ≡ min size (tile_size (Object l.object) - l.later * size) =
+        ap (region_used size) e ∙ l.words in
         rw (same, ts, used) (λ h. omega (arith, split), λ h. omega (arith, split))
 
 -- where a word's region lies
@@ -154,19 +165,28 @@ word_region : (w size : ℕ) → 0 < size → (w / size * size ≤ w) × (w < w 
 word_region w size z = (omega arith, omega arith)
 
 -- the item whose tile holds the word
-pub found_holder : (t : Table) (k word : ℕ) (left rest : List (Addr × Shape)) (x : Addr) (shape : Shape) → IsShaped t → IsSearch t k word left → left ≡ (x, shape) ∷ rest → word < x + size_of_shape shape → IsHolder t x word
+pub found_holder : (t : Table) (k word : ℕ) (left rest : List (Addr × Shape)) (x : Addr) (shape : Shape) → IsShaped t
+    → IsSearch t k word left → left ≡ (x, shape) ∷ rest → word < x + size_of_shape shape → IsHolder t x word
 found_holder t k word left rest x shape g s e l =
     let n = search_step t k word left rest x shape g s e in
-    record { tile = n.tile; tile_is = ap (tile_in t) n.at_is ∙ n.tile_is; low = omega (arith, s.low, n.at_is); high = omega (arith, n.size_is) }
+    record {
+      tile = n.tile;
+      tile_is = ap (tile_in t) n.at_is ∙ n.tile_is;
+      low = omega (arith, s.low, n.at_is);
+      high = omega (arith, n.size_is);
+    }
 
-pub found_below : (t : Table) (k word : ℕ) (left rest : List (Addr × Shape)) (x : Addr) (shape : Shape) → IsShaped t → IsRunStart t (word / t.words_per_region) k → IsSearch t k word left → left ≡ (x, shape) ∷ rest → word < x + size_of_shape shape → word < top_of t (word / t.words_per_region)
+pub found_below : (t : Table) (k word : ℕ) (left rest : List (Addr × Shape)) (x : Addr) (shape : Shape) → IsShaped t
+    → IsRunStart t (word / t.words_per_region) k → IsSearch t k word left → left ≡ (x, shape) ∷ rest → word < x + size_of_shape shape
+    → word < top_of t (word / t.words_per_region)
 found_below t k word left rest x shape g start s e l =
     let n = search_step t k word left rest x shape g s e in
     let region = word_region word t.words_per_region g.positive in
     (reach t (word / t.words_per_region) k word g start region.0 region.1).0 (omega (arith, n.at_is, n.size_is, n.within))
 
 -- the search found nothing
-pub search_last : (t : Table) (k word : ℕ) (left : List (Addr × Shape)) → IsShaped t → IsRunStart t (word / t.words_per_region) k → IsSearch t k word left → left ≡ [] → word < top_of t (word / t.words_per_region) → ⊥
+pub search_last : (t : Table) (k word : ℕ) (left : List (Addr × Shape)) → IsShaped t → IsRunStart t (word / t.words_per_region) k
+    → IsSearch t k word left → left ≡ [] → word < top_of t (word / t.words_per_region) → ⊥
 search_last t k word left g start s e h =
     let region = word_region word t.words_per_region g.positive in
     let inside = (reach t (word / t.words_per_region) k word g start region.0 region.1).1 h in

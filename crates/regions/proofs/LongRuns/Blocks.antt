@@ -1,5 +1,7 @@
 -- The regions of a run belong together, and any other region is by itself. They are released together.
-use Rattle.std.proofs.Common.{◌≡◌, ◌≢◌, ℕ, zero, suc, ◌+◌, ◌-◌, ◌*◌, ◌/◌, ◌%◌, ◌<◌, ◌≤◌, ◌⊎◌, Bool, true, false, cond, Some, None, List, [], ◌∷◌, ◌++◌, length, take, drop, get_or, replicate, refl, sym, ◌∙◌, ap, subst, arith, inl, inr}
+use Rattle.std.proofs.Common.{◌≡◌, ◌≢◌, ◌+◌, ◌-◌, ◌*◌, ◌/◌, ◌%◌, ◌<◌, ◌≤◌, ◌⊎◌, ◌∷◌, ◌++◌, ◌∙◌}
+use Rattle.std.proofs.Common.{ℕ, zero, suc, Bool, true, false, cond, Some, None, List, [], length, take, drop, get_or}
+use Rattle.std.proofs.Common.{replicate, refl, sym, ap, subst, arith, inl, inr}
 use Rattle.std.specs.Prelude.{count_by}
 use Rattle.std.proofs.lemmas.Bool.{cases_lt, cases_eq}
 use Rattle.std.proofs.lemmas.Nat.{row_fits}
@@ -11,7 +13,9 @@ use Rattle.heap_model.specs.Heap.{Stored}
 use Rattle.regions.specs.Tiles.{Object, Filler, tile_size}
 use Rattle.regions.specs.Shaped.{IsShaped}
 use Rattle.regions.specs.declared.row.Kind.TheVariants as kinds
-use Rattle.regions.specs.Table.{Table, Region, Free, Ordinary, First, Rest, nth_region, region_kind, region_used, region_tile, region_at, tile_in, tile_object, kind_of, used_of, top_of, object_at, HasNoForwarded, EachForwardedIn, is_free, is_rest, front_count, run_length, with_region, with_regions, without_run, released}
+use Rattle.regions.specs.Table.{Table, Region, Free, Ordinary, First, Rest, nth_region, region_kind, region_used, region_tile, region_at}
+use Rattle.regions.specs.Table.{tile_in, tile_object, kind_of, used_of, top_of, object_at, HasNoForwarded, EachForwardedIn, is_free}
+use Rattle.regions.specs.Table.{is_rest, front_count, run_length, with_region, with_regions, without_run, released}
 use Rattle.regions.proofs.Tiles.Spliced.{IsOutside}
 use Rattle.regions.proofs.Rows.Fronts.{front_le, front_passes}
 use Rattle.regions.proofs.LongRuns.RunGone.{splice_one}
@@ -21,7 +25,9 @@ front_stops : {A : Type 0} (p : A → Bool) (xs : List A) (d : A) → front_coun
 front_stops p [] d h = absurd (omega arith)
 front_stops {A} p (x ∷ xs) d h = go (p x) refl h (front_stops p xs d)
   where
-    go : (b : Bool) → p x ≡ b → cond b (suc (front_count p xs)) 0 < suc (length xs) → (front_count p xs < length xs → p (get_or xs (front_count p xs) d) ≡ false) → p (get_or (x ∷ xs) (cond b (suc (front_count p xs)) 0) d) ≡ false
+    go : (b : Bool) → p x ≡ b → cond b (suc (front_count p xs)) 0 < suc (length xs)
+        → (front_count p xs < length xs → p (get_or xs (front_count p xs) d) ≡ false)
+        → p (get_or (x ∷ xs) (cond b (suc (front_count p xs)) 0) d) ≡ false
     go true e l f = f (omega arith)
     go false e l f = e
 
@@ -47,7 +53,8 @@ unfolding kind_of nth_region
 later_rest t k j q e z lt =
     let p = front_passes is_rest (drop (suc k) t.regions) Free (j - 1) (omega arith) in
     let at : suc k + (j - 1) ≡ q = omega arith in
-    rest_kind (get_or t.regions q Free) (ap is_rest (ap (λ (i : ℕ). get_or t.regions i Free) (sym at) ∙ sym (get_or-drop (suc k) t.regions (j - 1) Free)) ∙ p)
+    rest_kind (get_or t.regions q Free)
+    (ap is_rest (ap (λ (i : ℕ). get_or t.regions i Free) (sym at) ∙ sym (get_or-drop (suc k) t.regions (j - 1) Free)) ∙ p)
 
 -- and the one behind them isn't
 pub next_head : (t : Table) (k q : ℕ) → k + run_length t k ≡ q → kind_of t q ≢ kinds.Rest
@@ -58,7 +65,8 @@ next_head t k q e f =
     elim (cases_lt q (length t.regions)) [
       | inl lt ↦
           let p = front_stops is_rest (drop (suc k) t.regions) Free (omega (arith, length-drop (suc k) t.regions)) in
-          kind_rest (get_or t.regions q Free) (ap is_rest (ap (λ (i : ℕ). get_or t.regions i Free) (sym at) ∙ sym (get_or-drop (suc k) t.regions front Free)) ∙ p) f
+          kind_rest (get_or t.regions q Free)
+          (ap is_rest (ap (λ (i : ℕ). get_or t.regions i Free) (sym at) ∙ sym (get_or-drop (suc k) t.regions front Free)) ∙ p) f
       | inr past ↦ kind_rest Free refl (ap region_kind (sym (get_or_past t.regions q Free past)) ∙ f)
     ]
 
@@ -80,10 +88,14 @@ pub first_not_rest : (t : Table) (q : ℕ) (s : Stored) → nth_region t q ≡ F
 first_not_rest t q s e f = let is = kind_is t q (First s) e in let no : kinds.First ≡ kinds.Rest = sym is ∙ f in cc
 
 pub product_le : (i j w : ℕ) → i ≤ j → i * w ≤ j * w
-product_le i j w le = let fits = row_fits i w (suc j) w (omega arith) (omega arith) in let e : suc j * w ≡ j * w + w = omega arith in omega arith
+product_le i j w le =
+    let fits = row_fits i w (suc j) w (omega arith) (omega arith) in
+    let e : suc j * w ≡ j * w + w = omega arith in
+    omega arith
 
 -- the regions that a run's object reaches belong to it
-pub reached : (t : Table) (k j : ℕ) (s : Stored) → IsShaped t → nth_region t k ≡ First s → j * t.words_per_region < tile_size (Object s) → j < run_length t k
+pub reached : (t : Table) (k j : ℕ) (s : Stored) → IsShaped t → nth_region t k ≡ First s
+    → j * t.words_per_region < tile_size (Object s) → j < run_length t k
 reached t k j s shaped e reach =
     elim (cases_lt j (run_length t k)) [
       | inl lt ↦ lt
@@ -93,7 +105,8 @@ reached t k j s shaped e reach =
     ]
 
 -- and no others do
-pub reaches : (t : Table) (k j : ℕ) (s : Stored) → IsShaped t → nth_region t k ≡ First s → j < run_length t k → j * t.words_per_region < tile_size (Object s)
+pub reaches : (t : Table) (k j : ℕ) (s : Stored) → IsShaped t → nth_region t k ≡ First s → j < run_length t k
+    → j * t.words_per_region < tile_size (Object s)
 reaches t k zero s shaped e lt = let z : 0 * t.words_per_region ≡ 0 = omega arith in omega arith
 reaches t k (suc i) s shaped e lt =
     let j : ℕ = suc i in
@@ -118,7 +131,8 @@ reaches t k (suc i) s shaped e lt =
             let at : l.first + d ≡ k = omega arith in
             absurd (first_not_rest t k s e (ap (kind_of t) (sym at) ∙ shaped.run l.first d l.object l.begins (omega arith) (omega arith)))
         | inr above ↦
-            absurd (first_not_rest t l.first l.object l.begins (later_rest t k (l.first - k) l.first (omega arith) (omega arith) (omega arith)))
+            absurd (first_not_rest t l.first l.object l.begins
+            (later_rest t k (l.first - k) l.first (omega arith) (omega arith) (omega arith)))
       ]
     ]
 
@@ -159,7 +173,9 @@ bit r = cond (is_free r) 1 0
 
 none_free : (xs : List Region) → ((j : ℕ) → j < length xs → is_free (get_or xs j Free) ≡ false) → sum_by bit xs ≡ 0
 none_free [] h = refl
-none_free (x ∷ xs) h = let first = ap {B = ℕ} (λ b. cond b 1 0) (h 0 (omega arith)) in omega (arith, sum_by-cons bit x xs, first, none_free xs (λ j lt. h (suc j) (omega arith)))
+none_free (x ∷ xs) h =
+    let first = ap {B = ℕ} (λ b. cond b 1 0) (h 0 (omega arith)) in
+    omega (arith, sum_by-cons bit x xs, first, none_free xs (λ j lt. h (suc j) (omega arith)))
 
 frees_unmoved : (m : ℕ) → EachForwardedIn (λ _. ⊥) (replicate m Free)
 frees_unmoved zero = tt
@@ -187,9 +203,19 @@ more_free rs k m fits used =
     let all = sum_by-take-drop bit rs k in
     let inner = sum_by-take-drop bit (drop k rs) m in
     let rest : sum_by bit (drop m (drop k rs)) ≡ sum_by bit (drop (k + m) rs) = ap (sum_by bit) (drop-drop m k rs) in
-    omega (arith, sum_by-append bit (take k rs) (replicate m Free ++ drop (k + m) rs), sum_by-append bit (replicate m Free) (drop (k + m) rs), none, one, all, inner, rest)
+    omega (
+      arith,
+      sum_by-append bit (take k rs) (replicate m Free ++ drop (k + m) rs),
+      sum_by-append bit (replicate m Free) (drop (k + m) rs),
+      none,
+      one,
+      all,
+      inner,
+      rest,
+    )
 
-block_frees : (t : Table) (k m : ℕ) → 0 < m → k + m ≤ length t.regions → ((q : ℕ) → k ≤ q → q < k + m → kind_of t q ≢ kinds.Free) → Frees t (with_regions t k m (replicate m Free)) k m
+block_frees : (t : Table) (k m : ℕ) → 0 < m → k + m ≤ length t.regions → ((q : ℕ) → k ≤ q → q < k + m → kind_of t q ≢ kinds.Free)
+    → Frees t (with_regions t k m (replicate m Free)) k m
 block_frees t k m some fits used =
     let s = regions_spliced t k m (replicate m Free) (length-replicate {A = Region} m Free) fits in
     record {
@@ -200,7 +226,9 @@ block_frees t k m some fits used =
       free = λ q low high. s.inside (q - k) q (omega arith) (omega arith) ∙ frees m (q - k);
       others = s.outside;
       unmoved = λ none. s.unmoved (frees_unmoved m) none;
-      more = more_free t.regions k m fits (λ q low high. not_free (get_or t.regions q Free) (λ f. used q low high (kind_is t q (get_or t.regions q Free) (number_is t q) ∙ f)));
+      more = more_free t.regions k m fits
+          (λ q low high.
+          not_free (get_or t.regions q Free) (λ f. used q low high (kind_is t q (get_or t.regions q Free) (number_is t q) ∙ f)));
     }
   where
     not_free : (r : Region) → (region_kind r ≡ kinds.Free → ⊥) → is_free r ≡ false
@@ -210,14 +238,17 @@ block_frees t k m some fits used =
     not_free (Rest n) f = refl
 
 -- what goes when a region is released: all that belongs to it
-pub release_frees : (t : Table) (k : ℕ) → IsShaped t → k < length t.regions → (kind_of t k ≡ kinds.Ordinary) ⊎ (kind_of t k ≡ kinds.First) → Frees t (released t k) k (run_length t k)
+pub release_frees : (t : Table) (k : ℕ) → IsShaped t → k < length t.regions → (kind_of t k ≡ kinds.Ordinary) ⊎ (kind_of t k ≡ kinds.First)
+    → Frees t (released t k) k (run_length t k)
 unfolding kind_of released
 release_frees t k shaped known is = go (nth_region t k) refl is
   where
     used : (q : ℕ) → (kind_of t k ≢ kinds.Free) → k ≤ q → q < k + run_length t k → kind_of t q ≢ kinds.Free
     used q head low high f = elim (cases_eq q k) [
       | inl same ↦ head (ap (kind_of t) (sym same) ∙ f)
-      | inr ne ↦ (let rest = later_rest t k (q - k) q (omega arith) (omega arith) (omega arith) in let no : kinds.Rest ≡ kinds.Free = sym rest ∙ f in cc)
+      | inr ne ↦ (let rest = later_rest t k (q - k) q (omega arith) (omega arith) (omega arith) in
+          let no : kinds.Rest ≡ kinds.Free = sym rest ∙ f in
+          cc)
     ]
 
     block : kind_of t k ≢ kinds.Free → Frees t (without_run t k) k (run_length t k)
@@ -225,31 +256,40 @@ release_frees t k shaped known is = go (nth_region t k) refl is
 
     one : kind_of t k ≡ kinds.Ordinary → without_run t k ≡ with_region t k Free
     one o =
-        let single : run_length t k ≡ 1 = alone t k shaped (λ f. let no : kinds.Ordinary ≡ kinds.First = sym o ∙ f in cc) (λ f. let no : kinds.Ordinary ≡ kinds.Rest = sym o ∙ f in cc) in
+        let single : run_length t k ≡ 1 = alone t k shaped (λ f. let no : kinds.Ordinary ≡ kinds.First = sym o ∙ f in cc)
+        (λ f. let no : kinds.Ordinary ≡ kinds.Rest = sym o ∙ f in cc) in
         let next : k + 1 ≡ suc k = omega arith in
         ap (λ (m : ℕ). with_regions t k m (replicate m Free)) single
-        ∙ ap (λ (rs : List Region). record { words_per_region = t.words_per_region; regions = rs }) (ap (λ (j : ℕ). take k t.regions ++ (Free ∷ drop j t.regions)) next ∙ splice_one t.regions k Free known)
+        ∙ ap (λ (rs : List Region). record { words_per_region = t.words_per_region; regions = rs })
+        (ap (λ (j : ℕ). take k t.regions ++ (Free ∷ drop j t.regions)) next ∙ splice_one t.regions k Free known)
 
-    go : (r : Region) → nth_region t k ≡ r → (region_kind r ≡ kinds.Ordinary) ⊎ (region_kind r ≡ kinds.First) → Frees t (released t k) k (run_length t k)
+    go : (r : Region) → nth_region t k ≡ r → (region_kind r ≡ kinds.Ordinary) ⊎ (region_kind r ≡ kinds.First)
+        → Frees t (released t k) k (run_length t k)
     go Free e (inl f) = absurd cc
     go Free e (inr f) = absurd cc
-    go (Ordinary ts) e f = subst (λ (u : Table). Frees t u k (run_length t k)) (one (kind_is t k (Ordinary ts) e) ∙ sym (rw e refl)) (block (λ g. let no : kinds.Ordinary ≡ kinds.Free = sym (kind_is t k (Ordinary ts) e) ∙ g in cc))
-    go (First s) e f = subst (λ (u : Table). Frees t u k (run_length t k)) (sym (rw e refl)) (block (λ g. let no : kinds.First ≡ kinds.Free = sym (kind_is t k (First s) e) ∙ g in cc))
+    go (Ordinary ts) e f = subst (λ (u : Table). Frees t u k (run_length t k)) (one (kind_is t k (Ordinary ts) e) ∙ sym (rw e refl))
+        (block (λ g. let no : kinds.Ordinary ≡ kinds.Free = sym (kind_is t k (Ordinary ts) e) ∙ g in cc))
+    go (First s) e f = subst (λ (u : Table). Frees t u k (run_length t k)) (sym (rw e refl))
+        (block (λ g. let no : kinds.First ≡ kinds.Free = sym (kind_is t k (First s) e) ∙ g in cc))
     go (Rest n) e (inl f) = absurd cc
     go (Rest n) e (inr f) = absurd cc
 
 -- ---- what is where then
-pub object_near : (t t' : Table) (a : ℕ) → t'.words_per_region ≡ t.words_per_region → nth_region t' (a / t.words_per_region) ≡ nth_region t (a / t.words_per_region) → object_at t' a ≡ object_at t a
+pub object_near : (t t' : Table) (a : ℕ) → t'.words_per_region ≡ t.words_per_region
+    → nth_region t' (a / t.words_per_region) ≡ nth_region t (a / t.words_per_region) → object_at t' a ≡ object_at t a
 unfolding object_at tile_in region_at nth_region
-object_near t t' a e h = ap tile_object (ap (λ (n : ℕ). region_tile (get_or t'.regions (a / n) Free) (a % n)) e ∙ ap (λ (q : Region). region_tile q (a % t.words_per_region)) h)
+object_near t t' a e h = ap tile_object (ap (λ (n : ℕ). region_tile (get_or t'.regions (a / n) Free) (a % n)) e
+    ∙ ap (λ (q : Region). region_tile q (a % t.words_per_region)) h)
 
 pub object_gone : (t : Table) (a : ℕ) → nth_region t (a / t.words_per_region) ≡ Free → object_at t a ≡ None
 unfolding object_at tile_in region_at nth_region
 object_gone t a h = ap tile_object (ap (λ (q : Region). region_tile q (a % t.words_per_region)) h)
 
-pub top_near : (t t' : Table) (q : ℕ) → t'.words_per_region ≡ t.words_per_region → nth_region t' q ≡ nth_region t q → top_of t' q ≡ top_of t q
+pub top_near : (t t' : Table) (q : ℕ) → t'.words_per_region ≡ t.words_per_region
+    → nth_region t' q ≡ nth_region t q → top_of t' q ≡ top_of t q
 unfolding used_of
-top_near t t' q e h = ap (λ (n : ℕ). q * n + region_used n (nth_region t' q)) e ∙ ap (λ (r : Region). q * t.words_per_region + region_used t.words_per_region r) h
+top_near t t' q e h = ap (λ (n : ℕ). q * n + region_used n (nth_region t' q)) e
+    ∙ ap (λ (r : Region). q * t.words_per_region + region_used t.words_per_region r) h
 
 -- a region is of a block or not
 pub block_cases : (k m q : ℕ) → IsOutside k m q ⊎ ((k ≤ q) × (q < k + m))
@@ -259,11 +299,14 @@ block_cases k m q =
       | inr ge ↦ elim (cases_lt q (k + m)) [ inl lt ↦ inr (ge, lt) | inr past ↦ inl (inr past) ]
     ]
 
-pub tile_near : (t t' : Table) (a : ℕ) → t'.words_per_region ≡ t.words_per_region → nth_region t' (a / t.words_per_region) ≡ nth_region t (a / t.words_per_region) → tile_in t' a ≡ tile_in t a
+pub tile_near : (t t' : Table) (a : ℕ) → t'.words_per_region ≡ t.words_per_region
+    → nth_region t' (a / t.words_per_region) ≡ nth_region t (a / t.words_per_region) → tile_in t' a ≡ tile_in t a
 unfolding tile_in region_at nth_region
-tile_near t t' a e h = ap (λ (n : ℕ). region_tile (get_or t'.regions (a / n) Free) (a % n)) e ∙ ap (λ (q : Region). region_tile q (a % t.words_per_region)) h
+tile_near t t' a e h =
+    ap (λ (n : ℕ). region_tile (get_or t'.regions (a / n) Free) (a % n)) e ∙ ap (λ (q : Region). region_tile q (a % t.words_per_region)) h
 
-tile_is : (t : Table) (a : ℕ) (r : Region) → nth_region t (a / t.words_per_region) ≡ r → tile_in t a ≡ region_tile r (a % t.words_per_region)
+tile_is : (t : Table) (a : ℕ) (r : Region) → nth_region t (a / t.words_per_region) ≡ r
+    → tile_in t a ≡ region_tile r (a % t.words_per_region)
 unfolding tile_in region_at nth_region
 tile_is t a r h = ap (λ (q : Region). region_tile q (a % t.words_per_region)) h
 
@@ -286,11 +329,15 @@ off_bottom s zero z = absurd (omega arith)
 off_bottom s (suc o) z = refl
 
 -- in a run's first region a tile starts at the bottom alone, and it is the object
-pub first_void : (t : Table) (a : ℕ) → 0 < t.words_per_region → kind_of t (a / t.words_per_region) ≡ kinds.First → a ≢ a / t.words_per_region * t.words_per_region → tile_in t a ≡ None
+pub first_void : (t : Table) (a : ℕ) → 0 < t.words_per_region → kind_of t (a / t.words_per_region) ≡ kinds.First
+    → a ≢ a / t.words_per_region * t.words_per_region → tile_in t a ≡ None
 first_void t a z f ne =
     let r = first_number t (a / t.words_per_region) f in
     let whole : a / t.words_per_region * t.words_per_region + a % t.words_per_region ≡ a = omega arith in
-    let off : 0 < a % t.words_per_region = elim (cases_eq (a % t.words_per_region) 0) [ inl e ↦ absurd (ne (omega arith)) | inr n ↦ omega arith ] in
+    let off : 0 < a % t.words_per_region = elim (cases_eq (a % t.words_per_region) 0) [
+      | inl e ↦ absurd (ne (omega arith))
+      | inr n ↦ omega arith
+    ] in
     tile_is t a (First r.0) r.1 ∙ off_bottom r.0 (a % t.words_per_region) off
 
 no_filler : (s : Stored) (o n : ℕ) → region_tile (First s) o ≡ Some (Filler n) → ⊥
@@ -298,7 +345,9 @@ no_filler s zero n e = cc
 no_filler s (suc o) n e = cc
 
 pub first_no_filler : (t : Table) (a n : ℕ) → kind_of t (a / t.words_per_region) ≡ kinds.First → tile_in t a ≡ Some (Filler n) → ⊥
-first_no_filler t a n f e = let r = first_number t (a / t.words_per_region) f in no_filler r.0 (a % t.words_per_region) n (sym (tile_is t a (First r.0) r.1) ∙ e)
+first_no_filler t a n f e =
+    let r = first_number t (a / t.words_per_region) f in
+    no_filler r.0 (a % t.words_per_region) n (sym (tile_is t a (First r.0) r.1) ∙ e)
 
 pub void_object : (t : Table) (a : ℕ) → tile_in t a ≡ None → object_at t a ≡ None
 unfolding object_at

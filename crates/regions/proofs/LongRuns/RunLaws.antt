@@ -1,10 +1,14 @@
 -- Which tiles a table has once a run is made or regions are released. No word is in it.
-use Rattle.std.proofs.Common.{◌≡◌, ◌≢◌, ℕ, zero, suc, ◌+◌, ◌-◌, ◌*◌, ◌/◌, ◌%◌, ◌<◌, ◌≤◌, true, Some, None, List, [], ◌∷◌, ◌++◌, length, take, drop, get_or, refl, sym, ◌∙◌, ap, subst, arith, inl, inr, replicate}
+use Rattle.std.proofs.Common.{◌≡◌, ◌≢◌, ◌+◌, ◌-◌, ◌*◌, ◌/◌, ◌%◌, ◌<◌, ◌≤◌, ◌∷◌, ◌++◌, ◌∙◌}
+use Rattle.std.proofs.Common.{ℕ, zero, suc, true, Some, None, List, [], length, take, drop, get_or}
+use Rattle.std.proofs.Common.{refl, sym, ap, subst, arith, inl, inr, replicate}
 use Rattle.std.proofs.lemmas.List.{length-append, length-take, length-drop, length-replicate, get_or-drop}
 use Rattle.std.proofs.lemmas.Bool.{cases_lt, cases_eq}
 use Rattle.heap_model.specs.Heap.{Stored}
 use Rattle.regions.specs.Tiles.{Tile, Object, tile_size}
-use Rattle.regions.specs.Table.{Table, Region, Free, Ordinary, First, Rest, region_tile, region_at, nth_region, region_kind, kind_of, tile_in, HasNoForwarded, EachForwardedIn, with_region, with_regions, run_regions, rests, first_run, is_free, is_rest, run_length, released, without_run}
+use Rattle.regions.specs.Table.{Table, Region, Free, Ordinary, First, Rest, region_tile, region_at, nth_region, region_kind, kind_of}
+use Rattle.regions.specs.Table.{tile_in, HasNoForwarded, EachForwardedIn, with_region, with_regions, run_regions, rests, first_run}
+use Rattle.regions.specs.Table.{is_free, is_rest, run_length, released, without_run}
 use Rattle.regions.specs.declared.row.Kind.TheVariants as kinds
 use Rattle.regions.proofs.Tiles.Spliced.{IsOutside, get_or-spliced, EachForwardedIn-append, EachForwardedIn-take, EachForwardedIn-drop}
 use Rattle.regions.proofs.LongRuns.RunMade.{length-run_regions}
@@ -12,7 +16,8 @@ use Rattle.regions.proofs.Tiles.ShapedMade.{kind_at}
 use Rattle.regions.proofs.Rows.Fronts.{front_le, front_passes, run_passes}
 use Rattle.regions.proofs.LongRuns.RunGone.{splice_one}
 
-get_or-inside : (rs block : List Region) (k m j q : ℕ) → length block ≡ m → k + m ≤ length rs → j < m → q ≡ k + j → get_or (take k rs ++ (block ++ drop (k + m) rs)) q Free ≡ get_or block j Free
+get_or-inside : (rs block : List Region) (k m j q : ℕ) → length block ≡ m → k + m ≤ length rs → j < m → q ≡ k + j
+    → get_or (take k rs ++ (block ++ drop (k + m) rs)) q Free ≡ get_or block j Free
 get_or-inside rs block zero m j q e h l p = let z : q ≡ j = omega arith in rw z (front block (drop (0 + m) rs) j (omega arith))
   where
     front : (block rs : List Region) (j : ℕ) → j < length block → get_or (block ++ rs) j Free ≡ get_or block j Free
@@ -33,24 +38,30 @@ pub record Splices (t t' : Table) (k m : ℕ) (block : List Region) : Type 0 whe
   pub outside : (q : ℕ) → IsOutside k m q → nth_region t' q ≡ nth_region t q
   pub unmoved : EachForwardedIn (λ _. ⊥) block → HasNoForwarded t → HasNoForwarded t'
 
-pub regions_spliced : (t : Table) (k m : ℕ) (block : List Region) → length block ≡ m → k + m ≤ length t.regions → Splices t (with_regions t k m block) k m block
+pub regions_spliced : (t : Table) (k m : ℕ) (block : List Region) → length block ≡ m → k + m ≤ length t.regions
+    → Splices t (with_regions t k m block) k m block
 unfolding nth_region
 regions_spliced t k m block e h = record {
   size = refl;
   count = simp (length-append, length-take, length-drop) (omega arith);
   inside = λ j q l p. get_or-inside t.regions block k m j q e h l p;
   outside = λ q out. get_or-spliced t.regions block k m q (k + m) e refl h out;
-  unmoved = λ fresh none. EachForwardedIn-append (λ _. ⊥) (take k t.regions) (block ++ drop (k + m) t.regions) (EachForwardedIn-take (λ _. ⊥) k t.regions none) (EachForwardedIn-append (λ _. ⊥) block (drop (k + m) t.regions) fresh (EachForwardedIn-drop (λ _. ⊥) (k + m) t.regions none));
+  unmoved = λ fresh none. EachForwardedIn-append (λ _. ⊥) (take k t.regions) (block ++ drop (k + m) t.regions)
+      (EachForwardedIn-take (λ _. ⊥) k t.regions none)
+      (EachForwardedIn-append (λ _. ⊥) block (drop (k + m) t.regions) fresh (EachForwardedIn-drop (λ _. ⊥) (k + m) t.regions none));
 }
 
 -- the tile at an address, by its region
-pub tile_of_region : (t : Table) (y : ℕ) (r : Region) → nth_region t (y / t.words_per_region) ≡ r → tile_in t y ≡ region_tile r (y % t.words_per_region)
+pub tile_of_region : (t : Table) (y : ℕ) (r : Region) → nth_region t (y / t.words_per_region) ≡ r
+    → tile_in t y ≡ region_tile r (y % t.words_per_region)
 unfolding tile_in region_at nth_region
 tile_of_region t y r e = ap (λ (q : Region). region_tile q (y % t.words_per_region)) e
 
-same_tile : (t t' : Table) (y : ℕ) → t'.words_per_region ≡ t.words_per_region → nth_region t' (y / t.words_per_region) ≡ nth_region t (y / t.words_per_region) → tile_in t' y ≡ tile_in t y
+same_tile : (t t' : Table) (y : ℕ) → t'.words_per_region ≡ t.words_per_region
+    → nth_region t' (y / t.words_per_region) ≡ nth_region t (y / t.words_per_region) → tile_in t' y ≡ tile_in t y
 unfolding tile_in region_at nth_region
-same_tile t t' y e h = ap (λ (n : ℕ). region_tile (get_or t'.regions (y / n) Free) (y % n)) e ∙ ap (λ (q : Region). region_tile q (y % t.words_per_region)) h
+same_tile t t' y e h =
+    ap (λ (n : ℕ). region_tile (get_or t'.regions (y / n) Free) (y % n)) e ∙ ap (λ (q : Region). region_tile q (y % t.words_per_region)) h
 
 -- regions are free from now on, and nothing else changed
 pub record Releases (t t' : Table) (k m : ℕ) : Type 0 where
@@ -78,7 +89,8 @@ kinds_of t t' q e = ap region_kind e
 pub regions_released : (t : Table) (k m : ℕ) → k + m ≤ length t.regions → Releases t (with_regions t k m (replicate m Free)) k m
 regions_released t k m h =
     let s = regions_spliced t k m (replicate m Free) (length-replicate {A = Region} m Free) h in
-    let is : (q : ℕ) → k ≤ q → q < k + m → nth_region (with_regions t k m (replicate m Free)) q ≡ Free = λ q low high. s.inside (q - k) q (omega arith) (omega arith) ∙ frees m (q - k) in
+    let is : (q : ℕ) → k ≤ q → q < k + m → nth_region (with_regions t k m (replicate m Free)) q ≡ Free =
+    λ q low high. s.inside (q - k) q (omega arith) (omega arith) ∙ frees m (q - k) in
     record {
       size = s.size;
       count = s.count;
@@ -105,16 +117,19 @@ ordinary_released t k h o = go (nth_region t k) refl o
     one : with_regions t k 1 (Free ∷ []) ≡ with_region t k Free
     one =
         let next : k + 1 ≡ suc k = omega arith in
-        ap (λ (rs : List Region). record { words_per_region = t.words_per_region; regions = rs }) (ap (λ (j : ℕ). take k t.regions ++ (Free ∷ drop j t.regions)) next ∙ splice_one t.regions k Free h)
+        ap (λ (rs : List Region). record { words_per_region = t.words_per_region; regions = rs })
+        (ap (λ (j : ℕ). take k t.regions ++ (Free ∷ drop j t.regions)) next ∙ splice_one t.regions k Free h)
 
     go : (r : Region) → nth_region t k ≡ r → region_kind r ≡ kinds.Ordinary → Releases t (released t k) k 1
     go Free e f = cc
-    go (Ordinary ts) e f = subst (λ (u : Table). Releases t u k 1) (one ∙ sym (released_as_ordinary t k ts e)) (regions_released t k 1 (omega arith))
+    go (Ordinary ts) e f =
+        subst (λ (u : Table). Releases t u k 1) (one ∙ sym (released_as_ordinary t k ts e)) (regions_released t k 1 (omega arith))
     go (First s) e f = cc
     go (Rest n) e f = cc
 
 -- the first region of a run is released, and its other regions with it
-pub run_released : (t : Table) (k : ℕ) (s : Stored) → k < length t.regions → nth_region t k ≡ First s → Releases t (released t k) k (run_length t k)
+pub run_released : (t : Table) (k : ℕ) (s : Stored) → k < length t.regions → nth_region t k ≡ First s
+    → Releases t (released t k) k (run_length t k)
 run_released t k s h e =
     let front = front_le is_rest (drop (suc k) t.regions) in
     let fits : k + run_length t k ≤ length t.regions = omega (arith, front, length-drop (suc k) t.regions) in
@@ -180,7 +195,8 @@ number_is : (t : Table) (q : ℕ) → nth_region t q ≡ get_or t.regions q Free
 unfolding nth_region
 number_is t q = refl
 
-pub run_made : (t : Table) (k m : ℕ) (s : Stored) → 0 < t.words_per_region → 0 < m → first_run is_free m t.regions ≡ Some k → TakesRun t (with_regions t k m (run_regions t.words_per_region s m)) k m s
+pub run_made : (t : Table) (k m : ℕ) (s : Stored) → 0 < t.words_per_region → 0 < m → first_run is_free m t.regions ≡ Some k
+    → TakesRun t (with_regions t k m (run_regions t.words_per_region s m)) k m s
 run_made t k m s z y h =
     let size : ℕ = t.words_per_region in
     let block : List Region = run_regions size s m in
@@ -199,7 +215,8 @@ run_made t k m s z y h =
       known = fits;
       was_free = λ q low high. kind_at t q Free (free q low high);
       first = w.inside 0 k y (omega arith) ∙ run_first size m s y;
-      later = λ q low high. kind_of_number t' q ∙ ap region_kind (w.inside (q - k) q (omega arith) (omega arith)) ∙ run_later size m (q - k) s (omega arith) (omega arith);
+      later = λ q low high. kind_of_number t' q ∙ ap region_kind (w.inside (q - k) q (omega arith) (omega arith))
+          ∙ run_later size m (q - k) s (omega arith) (omega arith);
       kinds_same = λ q out. kinds_of t t' q (w.outside q out);
       others = λ y apart.
           let q : ℕ = y / size in
@@ -210,9 +227,12 @@ run_made t k m s z y h =
               | inr past ↦ same_tile t t' y w.size (w.outside q (inr past))
               | inl lt ↦
                   let o : ℕ = y % size in
-                  let away : 0 < q - k + o = elim (cases_eq (q - k + o) 0) [ inl e ↦ absurd (apart (bottom y k size q o whole (omega arith) (omega arith))) | inr n ↦ omega arith ] in
-                  tile_of_region t' y (get_or block (q - k) Free) (w.inside (q - k) q (omega arith) (omega arith)) ∙ run_tiles size m (q - k) o s away
-                  ∙ sym (tile_of_region t y Free (free q ge lt))
+                  let away : 0 < q - k + o = elim (cases_eq (q - k + o) 0) [
+                    | inl e ↦ absurd (apart (bottom y k size q o whole (omega arith) (omega arith)))
+                    | inr n ↦ omega arith
+                  ] in
+                  tile_of_region t' y (get_or block (q - k) Free) (w.inside (q - k) q (omega arith) (omega arith))
+                  ∙ run_tiles size m (q - k) o s away ∙ sym (tile_of_region t y Free (free q ge lt))
             ]
           ];
       unmoved = λ none. w.unmoved (run_unmoved size m s) none;

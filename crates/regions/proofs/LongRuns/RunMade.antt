@@ -1,6 +1,9 @@
 -- A humongous object is made in a run of free regions, or goes with its run.
-use Rattle.std.proofs.Common.{◌≡◌, ◌≢◌, ℕ, zero, suc, ◌+◌, ◌-◌, ◌*◌, ◌/◌, ◌^◌, ◌<◌, ◌≤◌, min, true, Option, Some, None, List, [], ◌∷◌, ◌++◌, length, take, drop, get_or, set, refl, sym, ◌∙◌, ap, subst, arith, inl, inr, zero-add, replicate}
-use Rattle.std.proofs.lemmas.List.{length-append, length-take, length-drop, append_assoc, drop-drop, get_or-drop, length-replicate, take_all, drop_all, append-nil, take-append-drop}
+use Rattle.std.proofs.Common.{◌≡◌, ◌≢◌, ◌+◌, ◌-◌, ◌*◌, ◌/◌, ◌^◌, ◌<◌, ◌≤◌, ◌∷◌, ◌++◌, ◌∙◌}
+use Rattle.std.proofs.Common.{ℕ, zero, suc, min, true, Option, Some, None, List, [], length, take, drop, get_or, set, refl, sym}
+use Rattle.std.proofs.Common.{ap, subst, arith, inl, inr, zero-add, replicate}
+use Rattle.std.proofs.lemmas.List.{length-append, length-take, length-drop, append_assoc, drop-drop, get_or-drop, length-replicate}
+use Rattle.std.proofs.lemmas.List.{take_all, drop_all, append-nil, take-append-drop}
 use Rattle.std.proofs.lemmas.Bool.{cases_lt}
 use Rattle.heap_words.specs.declared.header.Header.TheVariants as headers
 use Rattle.heap_words.specs.Headers.{header_of, header_word}
@@ -8,10 +11,12 @@ use Rattle.heap_words.proofs.Codec.{header_of-word}
 use Rattle.heap_model.specs.Heap.{Stored}
 use Rattle.regions.specs.Tiles.{Object, tile_size, stored_of}
 use Rattle.heap_words.specs.Contents.{put}
-use Rattle.regions.specs.Table.{Region, Free, Table, region_at, tile_in, object_at, EachForwardedIn, HasObject, rests, run_regions, with_regions, new_object, first_run}
+use Rattle.regions.specs.Table.{Region, Free, Table, region_at, tile_in, object_at, EachForwardedIn, HasObject, rests}
+use Rattle.regions.specs.Table.{run_regions, with_regions, new_object, first_run}
 use Rattle.regions.proofs.Rows.Search.{free, run_found}
 use Rattle.regions.proofs.Words.Parse.{stored_of-append}
-use Rattle.regions.specs.Rows.{object_size, sizes_in, first_stored, region_by, regions_of, IsObject, AreRows, free_row, kind_is_free, run_kind, run_row, run_rows, table_of, table_by, IsTable}
+use Rattle.regions.specs.Rows.{object_size, sizes_in, first_stored, region_by, regions_of, IsObject, AreRows, free_row, kind_is_free}
+use Rattle.regions.specs.Rows.{run_kind, run_row, run_rows, table_of, table_by, IsTable}
 use Rattle.regions.specs.declared.row.Row.{Row}
 use Rattle.regions.specs.declared.row.Kind.{Kind}
 use Rattle.regions.proofs.Rows.RowLemmas.{regions-at}
@@ -45,7 +50,8 @@ run-moved : (P : ℕ → Type 0) (size m : ℕ) (s : Stored) → EachForwardedIn
 run-moved P size zero s = tt
 run-moved P size (suc m) s = rests-moved P size (tile_size (Object s)) 1 m
 
-free_front_at : (m j : ℕ) (rows : List Row) (d : Row) → FreeFront m rows → j < m → (j < length rows) × (kind_is_free (get_or rows j d).kind ≡ true)
+free_front_at : (m j : ℕ) (rows : List Row) (d : Row) → FreeFront m rows → j < m
+    → (j < length rows) × (kind_is_free (get_or rows j d).kind ≡ true)
 free_front_at zero j rows d h l = absurd (omega arith)
 free_front_at (suc m) j [] d h l = absurd h
 free_front_at (suc m) zero (row ∷ rows) d h l = (omega arith, h.0)
@@ -68,7 +74,8 @@ unfolding object_at tile_in region_at
 no_object t x e o = let z : None ≡ Some o.object = rw e at o.is in cc
 
 -- no object starts in the free regions
-free_outside : (size : ℕ) (words : List ℕ) (rows : List Row) (t : Table) (k m : ℕ) → table_of size words rows ≡ t → FreeFront m (drop k rows) → (x : ℕ) → HasObject t x → HasObject t x × IsOutside k m (x / t.words_per_region)
+free_outside : (size : ℕ) (words : List ℕ) (rows : List Row) (t : Table) (k m : ℕ) → table_of size words rows ≡ t
+    → FreeFront m (drop k rows) → (x : ℕ) → HasObject t x → HasObject t x × IsOutside k m (x / t.words_per_region)
 free_outside size words rows t k m e h x o = (o, go (x / t.words_per_region) refl)
   where
     go : (q : ℕ) → q ≡ x / t.words_per_region → IsOutside k m q
@@ -79,38 +86,59 @@ free_outside size words rows t k m e h x o = (o, go (x / t.words_per_region) ref
             | inl b ↦
                 let there = free_front_at m (q - k) (drop k rows) free_row h (omega arith) in
                 let at : k + (q - k) ≡ q = omega arith in
-                let row : get_or (drop k rows) (q - k) free_row ≡ get_or rows q free_row = get_or-drop k rows (q - k) free_row ∙ ap (λ j. get_or rows j free_row) at in
+                let row : get_or (drop k rows) (q - k) free_row ≡ get_or rows q free_row =
+                get_or-drop k rows (q - k) free_row ∙ ap (λ j. get_or rows j free_row) at in
                 let free : kind_is_free (get_or rows q free_row).kind ≡ true = ap (λ (r : Row). kind_is_free r.kind) (sym row) ∙ there.1 in
                 let known : q < length rows = omega (arith, there.0, length-drop k rows) in
-                let region : get_or t.regions q Free ≡ Free = ap (λ (u : Table). get_or u.regions q Free) (sym e) ∙ regions-at (sizes_in words) size rows q (q * size) words free_row refl known ∙ free_region _ _ _ _ free in
+                let region : get_or t.regions q Free ≡ Free = ap (λ (u : Table). get_or u.regions q Free) (sym e)
+                ∙ regions-at (sizes_in words) size rows q (q * size) words free_row refl known ∙ free_region _ _ _ _ free in
                 absurd (no_object t x (ap (λ j. get_or t.regions j Free) (sym is) ∙ region) o)
             | inr b ↦ inr b
           ]
         ]
 
 -- A run of free regions takes an object: what is written lies within it.
-pub run_made : (size : ℕ) (words words' : List ℕ) (rows : List Row) (t : Table) (k m s : ℕ) (object : Stored) → IsTable size words rows → table_of size words rows ≡ t → FreeFront m (drop k rows) → k < length rows → 0 < m → s ≤ m * size → m * size < s + size → length words' ≡ length words → take (k * size) words' ≡ take (k * size) words → drop (k * size + m * size) words' ≡ drop (k * size + m * size) words → IsObject (header_of (get_or (drop (k * size) words') 0 0)) → object_size (header_of (get_or (drop (k * size) words') 0 0)) ≡ s → first_stored (drop (k * size) words') ≡ object → tile_size (Object object) ≡ s → IsWrittenTable size words' (take k rows ++ (run_rows size s 0 m ++ drop (k + m) rows)) (with_regions t k m (run_regions size object m))
+pub run_made : (size : ℕ) (words words' : List ℕ) (rows : List Row) (t : Table) (k m s : ℕ) (object : Stored) → IsTable size words rows
+    → table_of size words rows ≡ t → FreeFront m (drop k rows) → k < length rows → 0 < m → s ≤ m * size → m * size < s + size
+    → length words' ≡ length words → take (k * size) words' ≡ take (k * size) words
+    → drop (k * size + m * size) words' ≡ drop (k * size + m * size) words → IsObject (header_of (get_or (drop (k * size) words') 0 0))
+    → object_size (header_of (get_or (drop (k * size) words') 0 0)) ≡ s → first_stored (drop (k * size) words') ≡ object
+    → tile_size (Object object) ≡ s → IsWrittenTable size words' (take k rows ++ (run_rows size s 0 m ++ drop (k + m) rows))
+    (with_regions t k m (run_regions size object m))
 run_made size words words' rows t k m s object g e free known y le lt len before after is_object osize stored ts =
     let f : (ℕ → ℕ) = sizes_in words in
     let n : ℕ = k * size in
     let room : k + m ≤ length rows = let i = free_front_le m (drop k rows) free in omega (arith, length-drop k rows) in
     let first = free_front_at m 0 (drop k rows) free_row free y in
-    let row_is : get_or (drop k rows) 0 free_row ≡ get_or rows k free_row = get_or-drop k rows 0 free_row ∙ ap (λ j. get_or rows j free_row) (let z : k + 0 ≡ k = omega arith in z) in
+    let row_is : get_or (drop k rows) 0 free_row ≡ get_or rows k free_row =
+    get_or-drop k rows 0 free_row ∙ ap (λ j. get_or rows j free_row) (let z : k + 0 ≡ k = omega arith in z) in
     let first_free : kind_is_free (get_or rows k free_row).kind ≡ true = ap (λ (r : Row). kind_is_free r.kind) (sym row_is) ∙ first.1 in
     let no_rest : (get_or rows k free_row).kind ≡ kinds.Rest → ⊥ = λ q. free_no_rest _ first_free q in
     let ends : n + m * size ≤ length words = rw g.covers (run_ends k m (length rows) size room) in
-    let behind : AreRows f size 0 (drop (n + m * size) words) (drop (k + m) rows) = rows_behind f size k m words rows known g.rows_right free no_rest in
+    let behind : AreRows f size 0 (drop (n + m * size) words) (drop (k + m) rows) =
+    rows_behind f size k m words rows known g.rows_right free no_rest in
     let place : drop (m * size) (drop n words') ≡ drop (n + m * size) words = drop-drop (m * size) n words' ∙ after in
-    let run = run_is f size s m (m * size) (drop n words') object (drop (k + m) rows) g.region_size.0 y refl le lt is_object osize stored ts (rw place behind) in
-    let front = rows_front f size rows k n 0 words words' (run_rows size s 0 m ++ drop (k + m) rows) free_row refl known g.region_size.0 g.rows_right no_rest len (omega arith) before run.rows_are in
-    let tail : regions_of f size (drop (m * size) (drop n words')) (drop (k + m) rows) ≡ drop (k + m) (regions_of f size words rows) = rw place (regions_of-drop f size (k + m) (n + m * size) rows words (omega arith)) in
+    let run = run_is f size s m (m * size) (drop n words') object (drop (k + m) rows) g.region_size.0 y refl le lt
+    is_object osize stored ts (rw place behind) in
+    let front = rows_front f size rows k n 0 words words' (run_rows size s 0 m ++ drop (k + m) rows) free_row refl known g.region_size.0
+    g.rows_right no_rest len (omega arith) before run.rows_are in
+    let tail : regions_of f size (drop (m * size) (drop n words')) (drop (k + m) rows) ≡ drop (k + m) (regions_of f size words rows) =
+    rw place (regions_of-drop f size (k + m) (n + m * size) rows words (omega arith)) in
     let block : List Region = run_regions size object m in
-    let regions_are : regions_of f size words' (take k rows ++ (run_rows size s 0 m ++ drop (k + m) rows)) ≡ take k (regions_of f size words rows) ++ (block ++ drop (k + m) (regions_of f size words rows)) = front.regions_are ∙ ap (λ (rs : List Region). take k (regions_of f size words rows) ++ rs) (run.regions_are ∙ ap (λ (rs : List Region). block ++ rs) tail) in
-    let whole : table_by f size words' (take k rows ++ (run_rows size s 0 m ++ drop (k + m) rows)) ≡ with_regions t k m block = ap (λ (rs : List Region). record { words_per_region = size; regions = rs }) regions_are ∙ ap (λ (u : Table). with_regions u k m block) e in
+    let regions_are : regions_of f size words' (take k rows ++ (run_rows size s 0 m ++ drop (k + m) rows))
+    ≡ take k (regions_of f size words rows) ++ (block ++ drop (k + m) (regions_of f size words rows)) =
+    front.regions_are ∙ ap (λ (rs : List Region). take k (regions_of f size words rows) ++ rs)
+    (run.regions_are ∙ ap (λ (rs : List Region). block ++ rs) tail) in
+    let whole : table_by f size words' (take k rows ++ (run_rows size s 0 m ++ drop (k + m) rows)) ≡ with_regions t k m block =
+    ap (λ (rs : List Region). record { words_per_region = size; regions = rs }) regions_are
+    ∙ ap (λ (u : Table). with_regions u k m block) e in
     let count : length t.regions ≡ length rows = ap (λ (u : Table). length u.regions) (sym e) ∙ length-regions_of f size rows words in
-    let kept = spliced_kept t k m block (HasObject t) (length-run_regions size m object) (omega arith) (targets_of size words rows t g e) (run-moved (HasObject t) size m object) (free_outside size words rows t k m e free) in
-    let length_is : length (take k rows ++ (run_rows size s 0 m ++ drop (k + m) rows)) ≡ length rows = simp (length-append, length-take, length-drop, length-run_rows) (omega arith) in
-    written_table size words words' rows (take k rows ++ (run_rows size s 0 m ++ drop (k + m) rows)) t (with_regions t k m block) g e len length_is front.rows_are whole kept
+    let kept = spliced_kept t k m block (HasObject t) (length-run_regions size m object) (omega arith) (targets_of size words rows t g e)
+    (run-moved (HasObject t) size m object) (free_outside size words rows t k m e free) in
+    let length_is : length (take k rows ++ (run_rows size s 0 m ++ drop (k + m) rows)) ≡ length rows =
+    simp (length-append, length-take, length-drop, length-run_rows) (omega arith) in
+    written_table size words words' rows (take k rows ++ (run_rows size s 0 m ++ drop (k + m) rows)) t (with_regions t k m block) g
+    e len length_is front.rows_are whole kept
   where
     free_no_rest : (kind : Kind) → kind_is_free kind ≡ true → kind ≡ kinds.Rest → ⊥
     free_no_rest kind h q = let z : kind_is_free kinds.Rest ≡ true = ap kind_is_free (sym q) ∙ h in cc
@@ -124,11 +152,15 @@ run_made size words words' rows t k m s object g e free known y le lt len before
 get_or-run_rows : (size s i m j : ℕ) (d : Row) → j < m → get_or (run_rows size s i m) j d ≡ run_row size s (i + j)
 get_or-run_rows size s i zero j d h = absurd (omega arith)
 get_or-run_rows size s i (suc m) zero d h = ap (run_row size s) (let z : i ≡ i + 0 = omega arith in z)
-get_or-run_rows size s i (suc m) (suc j) d h = get_or-run_rows size s (suc i) m j d (omega arith) ∙ ap (run_row size s) (let z : suc i + j ≡ i + suc j = omega arith in z)
+get_or-run_rows size s i (suc m) (suc j) d h =
+    get_or-run_rows size s (suc i) m j d (omega arith) ∙ ap (run_row size s) (let z : suc i + j ≡ i + suc j = omega arith in z)
 
-pub run_row_put : (rows now : List Row) (at size s m i : ℕ) (row : Row) → at + m ≤ length rows → i < m → now ≡ paste rows at (run_rows size s 0 m) i → row ≡ run_row size s i → set now (at + i) row ≡ paste rows at (run_rows size s 0 m) (i + 1)
+pub run_row_put : (rows now : List Row) (at size s m i : ℕ) (row : Row) → at + m ≤ length rows → i < m
+    → now ≡ paste rows at (run_rows size s 0 m) i → row ≡ run_row size s i
+    → set now (at + i) row ≡ paste rows at (run_rows size s 0 m) (i + 1)
 run_row_put rows now at size s m i row h l e is =
-    let here : get_or (run_rows size s 0 m) i free_row ≡ row = get_or-run_rows size s 0 m i free_row l ∙ ap (run_row size s) (zero-add i) ∙ sym is in
+    let here : get_or (run_rows size s 0 m) i free_row ≡ row =
+    get_or-run_rows size s 0 m i free_row l ∙ ap (run_row size s) (zero-add i) ∙ sym is in
     let more = paste_more rows at (run_rows size s 0 m) i free_row (omega arith) (omega (arith, length-run_rows size s 0 m)) in
     rw (e, ← here) more
 
@@ -139,10 +171,12 @@ run_kind_rest : (i : ℕ) → i ≢ 0 → run_kind i ≡ kinds.Rest
 run_kind_rest zero h = absurd (h refl)
 run_kind_rest (suc i) h = refl
 
-pub row_first : (size s i used : ℕ) (kind : Kind) → i ≡ 0 → kind ≡ kinds.First → used ≡ min size (s - i * size) → (let r : Row = record { kind = kind; used = used } in r) ≡ run_row size s i
+pub row_first : (size s i used : ℕ) (kind : Kind) → i ≡ 0 → kind ≡ kinds.First → used ≡ min size (s - i * size)
+    → (let r : Row = record { kind = kind; used = used } in r) ≡ run_row size s i
 row_first size s i used kind e f g = rw (f, g, ← run_kind_first i e) refl
 
-pub row_rest : (size s i used : ℕ) (kind : Kind) → i ≢ 0 → kind ≡ kinds.Rest → used ≡ min size (s - i * size) → (let r : Row = record { kind = kind; used = used } in r) ≡ run_row size s i
+pub row_rest : (size s i used : ℕ) (kind : Kind) → i ≢ 0 → kind ≡ kinds.Rest → used ≡ min size (s - i * size)
+    → (let r : Row = record { kind = kind; used = used } in r) ≡ run_row size s i
 row_rest size s i used kind e f g = rw (f, g, ← run_kind_rest i e) refl
 
 -- where the run lies
@@ -154,12 +188,20 @@ pub record IsRunFound (size : ℕ) (words : List ℕ) (rows : List Row) (k m : �
   pub small : k ≤ length words
   pub free : FreeFront m (drop k rows)
 
-pub run_here_is : (size : ℕ) (words : List ℕ) (rows : List Row) (k m : ℕ) → IsTable size words rows → first_run free m rows ≡ Some k → IsRunFound size words rows k m
+pub run_here_is : (size : ℕ) (words : List ℕ) (rows : List Row) (k m : ℕ) → IsTable size words rows
+    → first_run free m rows ≡ Some k → IsRunFound size words rows k m
 run_here_is size words rows k m g h =
     let found = run_found m k rows h in
     let room : k + m ≤ length rows = let i = free_front_le m (drop k rows) found.1 in omega (arith, length-drop k rows, found.0) in
     let ends : k * size + m * size ≤ length words = rw g.covers (run_ends k m (length rows) size room) in
-    record { in_rows = found.0; room = room; ends = ends; whole = omega arith; small = few k size (length words) g.region_size.0 (omega (arith, ends)); free = found.1 }
+    record {
+      in_rows = found.0;
+      room = room;
+      ends = ends;
+      whole = omega arith;
+      small = few k size (length words) g.region_size.0 (omega (arith, ends));
+      free = found.1;
+    }
   where
     few : (k size l : ℕ) → 0 < size → k * size ≤ l → k ≤ l
     few k zero l z h = absurd (omega arith)
@@ -171,23 +213,36 @@ run_here_is size words rows k m g h =
         rw at (omega arith)
 
 -- an object's block, put at the run's bottom
-first_put : (words : List ℕ) (n w name p weak d : ℕ) → n + (2 + p + weak + d) ≤ length words → drop n (put words n (w ∷ name ∷ replicate (p + weak + d) 0)) ≡ w ∷ (name ∷ replicate (p + weak + d) 0) ++ drop (n + (2 + p + weak + d)) words
+first_put : (words : List ℕ) (n w name p weak d : ℕ) → n + (2 + p + weak + d) ≤ length words
+    → drop n (put words n (w ∷ name ∷ replicate (p + weak + d) 0))
+    ≡ w ∷ (name ∷ replicate (p + weak + d) 0) ++ drop (n + (2 + p + weak + d)) words
 first_put words n w name p weak d h =
     let block : List ℕ = w ∷ name ∷ replicate (p + weak + d) 0 in
     let len : length block ≡ 2 + p + weak + d = omega (arith, length-replicate {A = ℕ} (p + weak + d) 0) in
     let x = put_is words n block (omega arith) in
     let a : take (2 + p + weak + d) (drop n (put words n block)) ≡ block = rw (← len) x.at in
-    let b : drop (2 + p + weak + d) (drop n (put words n block)) ≡ drop (n + (2 + p + weak + d)) words = drop-drop (2 + p + weak + d) n (put words n block) ∙ rw (← len) x.after in
-    sym (take-append-drop (2 + p + weak + d) (drop n (put words n block))) ∙ ap (λ (xs : List ℕ). xs ++ drop (2 + p + weak + d) (drop n (put words n block))) a ∙ ap (λ (xs : List ℕ). block ++ xs) b
+    let b : drop (2 + p + weak + d) (drop n (put words n block)) ≡ drop (n + (2 + p + weak + d)) words =
+    drop-drop (2 + p + weak + d) n (put words n block) ∙ rw (← len) x.after in
+    sym (take-append-drop (2 + p + weak + d) (drop n (put words n block)))
+    ∙ ap (λ (xs : List ℕ). xs ++ drop (2 + p + weak + d) (drop n (put words n block))) a ∙ ap (λ (xs : List ℕ). block ++ xs) b
 
 -- what a `Vec` has once its rows are written through a slice
-pub with_rows : (items new : List Row) (len : ℕ) → len ≡ length items → length new ≡ length items → take len (new ++ drop (length new) items) ≡ new
+pub with_rows : (items new : List Row) (len : ℕ) → len ≡ length items → length new ≡ length items
+    → take len (new ++ drop (length new) items) ≡ new
 with_rows items new len e f =
     let none : drop (length new) items ≡ [] = drop_all (length new) items (omega arith) in
     rw (none, append-nil) (take_all len new (omega arith))
 
-pub run_taken : (size : ℕ) (words : List ℕ) (rows : List Row) (t : Table) (k m name p weak d n long number : ℕ) (new : List ℕ) (rows' : List Row) → IsTable size words rows → table_of size words rows ≡ t → first_run free m rows ≡ Some k → 0 < m → 2 + p + weak + d ≤ m * t.words_per_region → m * t.words_per_region < 2 + p + weak + d + t.words_per_region → p < 2 ^ 24 → weak < 2 ^ 8 → d < 2 ^ 24 → n ≡ k * size → long ≡ 2 + p + weak + d → number ≡ length rows → new ≡ put words n (header_word (headers.Object p weak d) ∷ name ∷ replicate (p + weak + d) 0) → rows' ≡ paste rows k (run_rows size long 0 m) m → IsWrittenTable size new (take number (rows' ++ drop (length rows') rows)) (with_regions t k m (run_regions t.words_per_region (new_object name p weak d) m))
-run_taken size words rows t k m name p weak d n long number new rows' g e h y covers tight small_p small_w small_d n_is long_is number_is new_is rows_is =
+pub run_taken : (size : ℕ) (words : List ℕ) (rows : List Row) (t : Table) (k m name p weak d n long number : ℕ) (new : List ℕ)
+    (rows' : List Row) → IsTable size words rows → table_of size words rows ≡ t → first_run free m rows ≡ Some k → 0 < m
+    → 2 + p + weak + d ≤ m * t.words_per_region → m * t.words_per_region < 2 + p + weak + d + t.words_per_region → p < 2 ^ 24 → weak < 2 ^ 8
+    → d < 2 ^ 24 → n ≡ k * size → long ≡ 2 + p + weak + d → number ≡ length rows
+    → new ≡ put words n (header_word (headers.Object p weak d) ∷ name ∷ replicate (p + weak + d) 0)
+    → rows' ≡ paste rows k (run_rows size long 0 m) m
+    → IsWrittenTable size new (take number (rows' ++ drop (length rows') rows))
+    (with_regions t k m (run_regions t.words_per_region (new_object name p weak d) m))
+run_taken size words rows t k m name p weak d n long number new rows' g e h y covers tight small_p small_w
+    small_d n_is long_is number_is new_is rows_is =
     let size_is : size ≡ t.words_per_region = ap (λ (u : Table). u.words_per_region) e in
     let covers' : 2 + p + weak + d ≤ m * size = rw size_is covers in
     let tight' : m * size < 2 + p + weak + d + size = rw size_is tight in
@@ -200,19 +255,33 @@ run_taken size words rows t k m name p weak d n long number new rows' g e h y co
     let fits : k * size + (2 + p + weak + d) ≤ length words = omega (arith, found.ends) in
     let x = put_is words (k * size) block (omega arith) in
     let start = first_put words (k * size) w name p weak d fits in
-    let head : header_of (get_or (drop (k * size) words') 0 0) ≡ Some (headers.Object p weak d) = ap (λ (ws : List ℕ). header_of (get_or ws 0 0)) start ∙ is in
-    let body : stored_of p weak d ((name ∷ replicate (p + weak + d) 0) ++ drop (k * size + (2 + p + weak + d)) words) ≡ new_object name p weak d = stored_of-append p weak d (name ∷ replicate (p + weak + d) 0) (drop (k * size + (2 + p + weak + d)) words) (omega (arith, length-replicate {A = ℕ} (p + weak + d) 0)) ∙ stored_of-new name p weak d in
+    let head : header_of (get_or (drop (k * size) words') 0 0) ≡ Some (headers.Object p weak d) =
+    ap (λ (ws : List ℕ). header_of (get_or ws 0 0)) start ∙ is in
+    let body : stored_of p weak d ((name ∷ replicate (p + weak + d) 0) ++ drop (k * size + (2 + p + weak + d)) words)
+    ≡ new_object name p weak d =
+    stored_of-append p weak d (name ∷ replicate (p + weak + d) 0) (drop (k * size + (2 + p + weak + d)) words)
+    (omega (arith, length-replicate {A = ℕ} (p + weak + d) 0)) ∙ stored_of-new name p weak d in
     let stored : first_stored (drop (k * size) words') ≡ new_object name p weak d = ap first_stored start ∙ rw is body in
-    let after : drop (k * size + m * size) words' ≡ drop (k * size + m * size) words = drop_later (k * size + length block) (k * size + m * size) words' words (omega (arith, blen)) x.after in
-    let ts : tile_size (Object (new_object name p weak d)) ≡ 2 + p + weak + d = omega (arith, length-replicate {A = Option ℕ} p None, length-replicate {A = Option ℕ} weak None, length-replicate {A = ℕ} d 0) in
-    let done = run_made size words words' rows t k m (2 + p + weak + d) (new_object name p weak d) g e found.free found.in_rows y covers' tight' x.length_is x.before after (rw head tt) (ap object_size head) stored ts in
+    let after : drop (k * size + m * size) words' ≡ drop (k * size + m * size) words =
+    drop_later (k * size + length block) (k * size + m * size) words' words (omega (arith, blen)) x.after in
+    let ts : tile_size (Object (new_object name p weak d)) ≡ 2 + p + weak + d =
+    omega (arith, length-replicate {A = Option ℕ} p None, length-replicate {A = Option ℕ} weak None, length-replicate {A = ℕ} d 0) in
+    let done = run_made size words words' rows t k m (2 + p + weak + d) (new_object name p weak d) g e found.free found.in_rows y covers'
+    tight' x.length_is x.before after (rw head tt) (ap object_size head) stored ts in
     let run : List Row = run_rows size (2 + p + weak + d) 0 m in
     let rows_are : rows' ≡ paste rows k run m = rows_is ∙ ap (λ (j : ℕ). paste rows k (run_rows size j 0 m) m) long_is in
-    let same : paste rows k run m ≡ take k rows ++ (run ++ drop (k + m) rows) = append_assoc (take k rows) (take m run) (drop (k + m) rows) ∙ ap (λ (rs : List Row). take k rows ++ (rs ++ drop (k + m) rows)) (take_all m run (omega (arith, length-run_rows size (2 + p + weak + d) 0 m))) in
-    let count : length rows' ≡ length rows = ap (λ (rs : List Row). length rs) (rows_are ∙ same) ∙ (simp (length-append, length-take, length-drop, length-run_rows) (omega (arith, found.room))) in
+    let same : paste rows k run m ≡ take k rows ++ (run ++ drop (k + m) rows) =
+    append_assoc (take k rows) (take m run) (drop (k + m) rows)
+    ∙ ap (λ (rs : List Row). take k rows ++ (rs ++ drop (k + m) rows))
+    (take_all m run (omega (arith, length-run_rows size (2 + p + weak + d) 0 m))) in
+    let count : length rows' ≡ length rows = ap (λ (rs : List Row). length rs) (rows_are ∙ same)
+    ∙ (simp (length-append, length-take, length-drop, length-run_rows) (omega (arith, found.room))) in
     let whole_rows = with_rows rows rows' number number_is count in
-    let words_is : new ≡ words' = new_is ∙ ap (λ (j : ℕ). put words j (header_word (headers.Object p weak d) ∷ name ∷ replicate (p + weak + d) 0)) n_is in
-    rw (words_is, whole_rows, rows_are, same) (subst (λ (r : ℕ). IsWrittenTable size words' (take k rows ++ (run ++ drop (k + m) rows)) (with_regions t k m (run_regions r (new_object name p weak d) m))) size_is done)
+    let words_is : new ≡ words' =
+    new_is ∙ ap (λ (j : ℕ). put words j (header_word (headers.Object p weak d) ∷ name ∷ replicate (p + weak + d) 0)) n_is in
+    rw (words_is, whole_rows, rows_are, same)
+    (subst (λ (r : ℕ). IsWrittenTable size words' (take k rows ++ (run ++ drop (k + m) rows))
+    (with_regions t k m (run_regions r (new_object name p weak d) m))) size_is done)
   where
     drop_later : (a b : ℕ) (xs ys : List ℕ) → a ≤ b → drop a xs ≡ drop a ys → drop b xs ≡ drop b ys
     drop_later a b xs ys h e =

@@ -11,16 +11,25 @@ use Rattle.regions.specs.Rows.{object_size, sizes_in, first_stored, regions_of, 
 use Rattle.heap_model.specs.Heap.{Stored}
 use Rattle.regions.specs.Tiles.{Object, stored_of}
 use Rattle.regions.specs.declared.row.Row.{Row}
-use Rattle.std.proofs.Common.{◌≡◌, ℕ, suc, ◌+◌, ◌*◌, ◌/◌, ◌%◌, ◌<◌, ◌≤◌, Some, List, [], ◌∷◌, length, take, drop, get_or, set, refl, sym, ◌∙◌, ap, arith}
-use Rattle.std.proofs.lemmas.List.{length-drop, length-set, drop-drop, drop-set-add, drop-set-lt, take-set-le, get_or-drop, get_or-set_other}
+use Rattle.std.proofs.Common.{◌≡◌, ◌+◌, ◌*◌, ◌/◌, ◌%◌, ◌<◌, ◌≤◌, ◌∷◌, ◌∙◌}
+use Rattle.std.proofs.Common.{ℕ, suc, Some, List, [], length, take, drop, get_or, set, refl, sym, ap, arith}
+use Rattle.std.proofs.lemmas.List.{length-drop, length-set, drop-drop, drop-set-add}
+use Rattle.std.proofs.lemmas.List.{drop-set-lt, take-set-le, get_or-drop, get_or-set_other}
 use Rattle.std.proofs.lemmas.Nat.{row_fits}
 use Rattle.regions.proofs.LongRuns.RunWrites.{run_written}
 
-run_stored : (ws : List ℕ) (j v : ℕ) (s s' : Stored) → header_of (get_or ws 0 0) ≡ Some (headers.Object (length s.pointers) (length s.weaks) (length s.values)) → s ≡ stored_of (length s.pointers) (length s.weaks) (length s.values) (drop 1 ws) → 2 + length s.pointers + length s.weaks + length s.values ≤ length ws → Turns s j v s' → first_stored (set ws (suc j) v) ≡ s'
+run_stored : (ws : List ℕ) (j v : ℕ) (s s' : Stored)
+    → header_of (get_or ws 0 0) ≡ Some (headers.Object (length s.pointers) (length s.weaks) (length s.values))
+    → s ≡ stored_of (length s.pointers) (length s.weaks) (length s.values) (drop 1 ws)
+    → 2 + length s.pointers + length s.weaks + length s.values ≤ length ws → Turns s j v s' → first_stored (set ws (suc j) v) ≡ s'
 run_stored [] j v s s' h e l t = absurd (omega arith)
 run_stored (w ∷ ws) j v s s' h e l t = rw h (t ws (omega arith) e)
 
-pub write_first : (size : ℕ) (words : List ℕ) (rows : List Row) (x j v : ℕ) (s s' : Stored) → IsTable size words rows → InFirst (sizes_in words) size words rows x (Object s) → j < 1 + length s.pointers + length s.weaks + length s.values → Turns s j v s' → EachForwardedIn (IsKept (table_of size words rows) (put_object (table_of size words rows) x s')) (put_object (table_of size words rows) x s').regions → IsWrittenTable size (set words (x + suc j) v) rows (put_object (table_of size words rows) x s')
+pub write_first : (size : ℕ) (words : List ℕ) (rows : List Row) (x j v : ℕ) (s s' : Stored) → IsTable size words rows
+    → InFirst (sizes_in words) size words rows x (Object s) → j < 1 + length s.pointers + length s.weaks + length s.values → Turns s j v s'
+    → EachForwardedIn (IsKept (table_of size words rows) (put_object (table_of size words rows) x s'))
+    (put_object (table_of size words rows) x s').regions
+    → IsWrittenTable size (set words (x + suc j) v) rows (put_object (table_of size words rows) x s')
 unfolding put_object region_at
 write_first size words rows x j v s s' g q h turns agree =
     let f : (ℕ → ℕ) = sizes_in words in
@@ -33,16 +42,31 @@ write_first size words rows x j v s s' g q h turns agree =
     let fits : n + size ≤ length words = rw g.covers (row_fits k size (length rows) size q.known (omega arith)) in
     let d' : drop n words' ≡ set (drop n words) (suc j) v = ap (λ a. drop n (set words a v)) place ∙ drop-set-add n words (suc j) v in
     let front : take n words' ≡ take n words = take-set-le n words (x + suc j) v (omega arith) in
-    let word : get_or (drop n words') 0 0 ≡ get_or (drop n words) 0 0 = ap (λ (ws : List ℕ). get_or ws 0 0) d' ∙ get_or-set_other (drop n words) (suc j) 0 v 0 (λ e. omega arith) in
-    let head : get_or (drop n words) 0 0 ≡ get_or words x 0 = get_or-drop n words 0 0 ∙ ap (λ a. get_or words a 0) (let z : n + 0 ≡ x = omega arith in z) in
-    let header : header_of (get_or (drop n words) 0 0) ≡ Some (headers.Object (length s.pointers) (length s.weaks) (length s.values)) = ap header_of head ∙ i.header_is in
-    let osize : object_size (header_of (get_or (drop n words) 0 0)) ≡ 2 + length s.pointers + length s.weaks + length s.values = ap object_size header in
-    let after : drop (object_size (header_of (get_or (drop n words) 0 0))) (drop n words') ≡ drop (object_size (header_of (get_or (drop n words) 0 0))) (drop n words) = ap (drop (object_size (header_of (get_or (drop n words) 0 0)))) d' ∙ drop-set-lt _ (drop n words) (suc j) v (omega arith) in
-    let behind : drop 1 (drop n words) ≡ drop (x + 1) words = drop-drop 1 n words ∙ ap (λ a. drop a words) (let z : n + 1 ≡ x + 1 = omega arith in z) in
-    let stored : s ≡ stored_of (length s.pointers) (length s.weaks) (length s.values) (drop 1 (drop n words)) = i.stored_is ∙ sym (ap (stored_of (length s.pointers) (length s.weaks) (length s.values)) behind) in
-    let new : first_stored (drop n words') ≡ s' = ap first_stored d' ∙ run_stored (drop n words) j v s s' header stored (omega (arith, length-drop n words, i.fits)) turns in
-    let w = run_written f size rows k n 0 words words' free_row refl q.known g.region_size.0 g.rows_right q.kind_is (length-set words (x + suc j) v) fits front word after in
-    let old : get_or (regions_of f size words rows) k Free ≡ First (first_stored (drop n words)) = regions-at f size rows k n words free_row refl q.known ∙ rw q.kind_is refl in
-    let are : regions_of f size words' rows ≡ set (regions_of f size words rows) k (with_object (get_or (regions_of f size words rows) k Free) (x % size) s') = w.regions_are ∙ rw (old, new) refl in
-    let whole : table_by f size words' rows ≡ put_object (table_of size words rows) x s' = ap (λ (rs : List Region). record { words_per_region = size; regions = rs }) are in
-    written_table size words words' rows rows (table_of size words rows) (put_object (table_of size words rows) x s') g refl (length-set words (x + suc j) v) refl w.rows_are whole agree
+    let word : get_or (drop n words') 0 0 ≡ get_or (drop n words) 0 0 =
+    ap (λ (ws : List ℕ). get_or ws 0 0) d' ∙ get_or-set_other (drop n words) (suc j) 0 v 0 (λ e. omega arith) in
+    let head : get_or (drop n words) 0 0 ≡ get_or words x 0 =
+    get_or-drop n words 0 0 ∙ ap (λ a. get_or words a 0) (let z : n + 0 ≡ x = omega arith in z) in
+    let header : header_of (get_or (drop n words) 0 0) ≡ Some (headers.Object (length s.pointers) (length s.weaks) (length s.values)) =
+    ap header_of head ∙ i.header_is in
+    let osize : object_size (header_of (get_or (drop n words) 0 0)) ≡ 2 + length s.pointers + length s.weaks + length s.values =
+    ap object_size header in
+    let after : drop (object_size (header_of (get_or (drop n words) 0 0))) (drop n words')
+    ≡ drop (object_size (header_of (get_or (drop n words) 0 0))) (drop n words) =
+    ap (drop (object_size (header_of (get_or (drop n words) 0 0)))) d' ∙ drop-set-lt _ (drop n words) (suc j) v (omega arith) in
+    let behind : drop 1 (drop n words) ≡ drop (x + 1) words =
+    drop-drop 1 n words ∙ ap (λ a. drop a words) (let z : n + 1 ≡ x + 1 = omega arith in z) in
+    let stored : s ≡ stored_of (length s.pointers) (length s.weaks) (length s.values) (drop 1 (drop n words)) =
+    i.stored_is ∙ sym (ap (stored_of (length s.pointers) (length s.weaks) (length s.values)) behind) in
+    let new : first_stored (drop n words') ≡ s' =
+    ap first_stored d' ∙ run_stored (drop n words) j v s s' header stored (omega (arith, length-drop n words, i.fits)) turns in
+    let w = run_written f size rows k n 0 words words' free_row refl q.known g.region_size.0 g.rows_right q.kind_is
+    (length-set words (x + suc j) v) fits front word after in
+    let old : get_or (regions_of f size words rows) k Free ≡ First (first_stored (drop n words)) =
+    regions-at f size rows k n words free_row refl q.known ∙ rw q.kind_is refl in
+    let are : regions_of f size words' rows
+    ≡ set (regions_of f size words rows) k (with_object (get_or (regions_of f size words rows) k Free) (x % size) s') =
+    w.regions_are ∙ rw (old, new) refl in
+    let whole : table_by f size words' rows ≡ put_object (table_of size words rows) x s' =
+    ap (λ (rs : List Region). record { words_per_region = size; regions = rs }) are in
+    written_table size words words' rows rows (table_of size words rows) (put_object (table_of size words rows) x s') g refl
+    (length-set words (x + suc j) v) refl w.rows_are whole agree

@@ -26,10 +26,12 @@ unfolding kind_of
 kind_used t k e = kind_used_by (nth_region t k) e
 
 -- one region more is counted
-pub free_more : (t : Table) (i n m : ℕ) → i < length t.regions → n ≡ count_by is_free (take i t.regions) → is_free (nth_region t i) ≡ true → m ≡ n + 1 → m ≡ count_by is_free (take (i + 1) t.regions)
+pub free_more : (t : Table) (i n m : ℕ) → i < length t.regions → n ≡ count_by is_free (take i t.regions) → is_free (nth_region t i) ≡ true
+    → m ≡ n + 1 → m ≡ count_by is_free (take (i + 1) t.regions)
 unfolding nth_region
 free_more t i n m lt e free more = omega (arith, e, more, count_by_more_yes is_free t.regions i Free lt free)
 
-pub free_passed : (t : Table) (i n : ℕ) → i < length t.regions → n ≡ count_by is_free (take i t.regions) → is_free (nth_region t i) ≡ false → n ≡ count_by is_free (take (i + 1) t.regions)
+pub free_passed : (t : Table) (i n : ℕ) → i < length t.regions → n ≡ count_by is_free (take i t.regions) → is_free (nth_region t i) ≡ false
+    → n ≡ count_by is_free (take (i + 1) t.regions)
 unfolding nth_region
 free_passed t i n lt e used = omega (arith, e, count_by_more_no is_free t.regions i Free lt used)

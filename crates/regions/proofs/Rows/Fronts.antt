@@ -1,5 +1,7 @@
 -- How many elements pass at the front of a list, and the first place where enough do.
-use Rattle.std.proofs.Common.{◌≡◌, ℕ, zero, suc, ◌<◌, ◌≤◌, Bool, true, false, Option, Some, None, List, [], ◌∷◌, length, drop, get_or, refl, arith, cond, inl, inr}
+use Rattle.std.proofs.Common.{◌≡◌, ◌<◌, ◌≤◌, ◌∷◌}
+use Rattle.std.proofs.Common.{ℕ, zero, suc, Bool, true, false, Option, Some, None, List, []}
+use Rattle.std.proofs.Common.{length, drop, get_or, refl, arith, cond, inl, inr}
 use Rattle.std.proofs.lemmas.Bool.Decides.{leb_tells}
 use Rattle.regions.specs.Table.{front_count, behind_one, first_run}
 
@@ -16,13 +18,15 @@ pub front_passes : {A : Type 0} (p : A → Bool) (xs : List A) (d : A) (j : ℕ)
 front_passes p [] d j h = absurd (omega arith)
 front_passes {A} p (x ∷ xs) d j h = go (p x) refl j h (λ i l. front_passes p xs d i l)
   where
-    go : (b : Bool) → p x ≡ b → (j : ℕ) → j < cond b (suc (front_count p xs)) 0 → ((i : ℕ) → i < front_count p xs → p (get_or xs i d) ≡ true) → p (get_or (x ∷ xs) j d) ≡ true
+    go : (b : Bool) → p x ≡ b → (j : ℕ) → j < cond b (suc (front_count p xs)) 0
+        → ((i : ℕ) → i < front_count p xs → p (get_or xs i d) ≡ true) → p (get_or (x ∷ xs) j d) ≡ true
     go false e j l k = absurd (omega arith)
     go true e zero l k = e
     go true e (suc j) l k = k j (omega arith)
 
 -- a place that is found is one of the list's, and enough pass from there on
-pub run_passes : {A : Type 0} (p : A → Bool) (m k : ℕ) (xs : List A) → first_run p m xs ≡ Some k → (k < length xs) × (m ≤ front_count p (drop k xs))
+pub run_passes : {A : Type 0} (p : A → Bool) (m k : ℕ) (xs : List A) → first_run p m xs ≡ Some k
+    → (k < length xs) × (m ≤ front_count p (drop k xs))
 run_passes p m k [] h = cc
 run_passes {A} p m k (x ∷ xs) h =
     elim (leb_tells m (front_count p (x ∷ xs))) [
@@ -33,7 +37,9 @@ run_passes {A} p m k (x ∷ xs) h =
       | inr q ↦ next k (first_run p m xs) refl (rw q.0 at h) (λ j e. run_passes p m j xs e)
     ]
   where
-    next : (k : ℕ) (o : Option ℕ) → first_run p m xs ≡ o → behind_one o ≡ Some k → ((j : ℕ) → first_run p m xs ≡ Some j → (j < length xs) × (m ≤ front_count p (drop j xs))) → (k < length (x ∷ xs)) × (m ≤ front_count p (drop k (x ∷ xs)))
+    next : (k : ℕ) (o : Option ℕ) → first_run p m xs ≡ o → behind_one o ≡ Some k
+        → ((j : ℕ) → first_run p m xs ≡ Some j → (j < length xs) × (m ≤ front_count p (drop j xs)))
+        → (k < length (x ∷ xs)) × (m ≤ front_count p (drop k (x ∷ xs)))
     next k None e f g = cc
     next zero (Some j) e f g = cc
     next (suc k) (Some j) e f g =

@@ -8,7 +8,8 @@ use Rattle.regions.specs.declared.row.Row.{Row}
 use Rattle.regions.specs.declared.row.Kind.{Kind}
 use Rattle.regions.specs.declared.row.Kind.TheVariants as kinds
 
-pub regions-at : (sizes : ℕ → ℕ) (size : ℕ) (rows : List Row) (k n : ℕ) (ws : List ℕ) (d : Row) → n ≡ k * size → k < length rows → get_or (regions_of sizes size ws rows) k Free ≡ region_of sizes (drop n ws) (get_or rows k d)
+pub regions-at : (sizes : ℕ → ℕ) (size : ℕ) (rows : List Row) (k n : ℕ) (ws : List ℕ) (d : Row) → n ≡ k * size → k < length rows
+    → get_or (regions_of sizes size ws rows) k Free ≡ region_of sizes (drop n ws) (get_or rows k d)
 regions-at sizes size [] k n ws d e h = absurd (omega arith)
 regions-at sizes size (row ∷ rows) zero n ws d e h =
     let z : n ≡ 0 = omega arith in
@@ -17,7 +18,8 @@ regions-at sizes size (row ∷ rows) (suc k) n ws d e h =
     let at : n ≡ size + k * size = omega arith in
     rw (at, ← drop-drop (k * size) size ws) (regions-at sizes size rows k (k * size) (drop size ws) d refl (omega arith))
 
-pub regions-past : (sizes : ℕ → ℕ) (size : ℕ) (rows : List Row) (k : ℕ) (ws : List ℕ) → length rows ≤ k → get_or (regions_of sizes size ws rows) k Free ≡ Free
+pub regions-past : (sizes : ℕ → ℕ) (size : ℕ) (rows : List Row) (k : ℕ) (ws : List ℕ) → length rows ≤ k
+    → get_or (regions_of sizes size ws rows) k Free ≡ Free
 regions-past sizes size [] k ws h = refl
 regions-past sizes size (row ∷ rows) zero ws h = absurd (omega arith)
 regions-past sizes size (row ∷ rows) (suc k) ws h = regions-past sizes size rows k (drop size ws) (omega arith)
@@ -33,7 +35,9 @@ pub record IsStart (sizes : ℕ → ℕ) (size : ℕ) (ws : List ℕ) (row : Row
   pub row_is : IsRow sizes size ws row.used row.kind
   pub rest_are : AreRows sizes size (left_by size ws row.kind) (drop size ws) rows
 
-pub start_at : (sizes : ℕ → ℕ) (size : ℕ) (rows : List Row) (k n left : ℕ) (ws : List ℕ) (d : Row) → n ≡ k * size → k < length rows → AreRows sizes size left ws rows → ((get_or rows k d).kind ≡ kinds.Rest → ⊥) → IsStart sizes size (drop n ws) (get_or rows k d) (drop (suc k) rows) × (left ≤ n)
+pub start_at : (sizes : ℕ → ℕ) (size : ℕ) (rows : List Row) (k n left : ℕ) (ws : List ℕ) (d : Row) → n ≡ k * size → k < length rows
+    → AreRows sizes size left ws rows → ((get_or rows k d).kind ≡ kinds.Rest → ⊥)
+    → IsStart sizes size (drop n ws) (get_or rows k d) (drop (suc k) rows) × (left ≤ n)
 start_at sizes size [] k n left ws d e h r o = absurd (omega arith)
 start_at sizes size (row ∷ rows) zero n zero ws d e h r o =
     let z : n ≡ 0 = omega arith in
@@ -49,7 +53,8 @@ start_at sizes size (row ∷ rows) (suc k) n (suc left) ws d e h r o =
     (rw (at, ← drop-drop (k * size) size ws) i.0, omega (arith, i.1))
 
 -- a run ends within the table
-pub left_le : (sizes : ℕ → ℕ) (size : ℕ) (rows : List Row) (left : ℕ) (ws : List ℕ) → AreRows sizes size left ws rows → left ≤ length rows * size
+pub left_le : (sizes : ℕ → ℕ) (size : ℕ) (rows : List Row) (left : ℕ) (ws : List ℕ)
+    → AreRows sizes size left ws rows → left ≤ length rows * size
 left_le sizes size [] left ws r = omega arith
 left_le sizes size (row ∷ rows) zero ws r = omega arith
 left_le sizes size (row ∷ rows) (suc left) ws r = let i = left_le sizes size rows (suc left - size) (drop size ws) r.1 in omega arith

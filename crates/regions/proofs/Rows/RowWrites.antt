@@ -1,13 +1,15 @@
 -- What a change of one region's words and row does to the table.
 -- a region whose words are its own
-use Rattle.std.proofs.Common.{◌≡◌, ℕ, zero, suc, ◌+◌, ◌-◌, ◌*◌, ◌<◌, ◌≤◌, Option, Some, None, List, [], ◌∷◌, ◌++◌, length, take, drop, get_or, set, refl, sym, ◌∙◌, ap, arith}
+use Rattle.std.proofs.Common.{◌≡◌, ◌+◌, ◌-◌, ◌*◌, ◌<◌, ◌≤◌, ◌∷◌, ◌++◌, ◌∙◌}
+use Rattle.std.proofs.Common.{ℕ, zero, suc, Option, Some, None, List, [], length, take, drop, get_or, set, refl, sym, ap, arith}
 use Rattle.std.proofs.lemmas.List.{length-take, length-drop, take-take, drop-drop, take-append-drop, drop-take, get_or-take}
 use Rattle.heap_words.specs.declared.header.Header.{Header}
 use Rattle.heap_words.specs.declared.header.Header.TheVariants as headers
 use Rattle.heap_words.specs.Headers.{header_of}
 use Rattle.regions.specs.Tiles.{stored_of}
 use Rattle.regions.specs.Table.{First}
-use Rattle.regions.specs.Rows.{object_size, stored_by, first_stored, region_by, region_of, regions_of, IsObject, IsRow, IsRestRow, left_by, AreRows}
+use Rattle.regions.specs.Rows.{object_size, stored_by, first_stored, region_by, region_of}
+use Rattle.regions.specs.Rows.{regions_of, IsObject, IsRow, IsRestRow, left_by, AreRows}
 use Rattle.regions.specs.declared.row.Row.{Row}
 use Rattle.regions.specs.declared.row.Kind.{Kind}
 use Rattle.regions.proofs.Words.Parse.{stored_of-append}
@@ -33,17 +35,20 @@ plain_not_rest kinds.First h e = h
 plain_not_rest kinds.Rest h e = h
 
 -- two words lists that begin with the same n words
-stored_by-front : (o : Option Header) (ws : List ℕ) (m : ℕ) → IsObject o → object_size o ≤ suc m → m ≤ length ws → stored_by (take m ws) o ≡ stored_by ws o
+stored_by-front : (o : Option Header) (ws : List ℕ) (m : ℕ) → IsObject o → object_size o ≤ suc m → m ≤ length ws
+    → stored_by (take m ws) o ≡ stored_by ws o
 stored_by-front None ws m i h l = absurd i
 stored_by-front (Some (headers.Object p weak d)) ws m i h l =
     let fits : 1 + p + weak + d ≤ length (take m ws) = simp length-take (omega arith) in
-    let e : stored_of p weak d (take m ws ++ drop m ws) ≡ stored_of p weak d (take m ws) = stored_of-append p weak d (take m ws) (drop m ws) fits in
+    let e : stored_of p weak d (take m ws ++ drop m ws) ≡ stored_of p weak d (take m ws) =
+    stored_of-append p weak d (take m ws) (drop m ws) fits in
     let whole : take m ws ++ drop m ws ≡ ws = take-append-drop m ws in
     cc
 stored_by-front (Some (headers.Filler n)) ws m i h l = absurd i
 stored_by-front (Some (headers.Forwarded to)) ws m i h l = absurd i
 
-first_stored-front : (ws : List ℕ) (n : ℕ) → IsObject (header_of (get_or ws 0 0)) → object_size (header_of (get_or ws 0 0)) ≤ n → 0 < n → n ≤ length ws → first_stored (take n ws) ≡ first_stored ws
+first_stored-front : (ws : List ℕ) (n : ℕ) → IsObject (header_of (get_or ws 0 0)) → object_size (header_of (get_or ws 0 0)) ≤ n → 0 < n
+    → n ≤ length ws → first_stored (take n ws) ≡ first_stored ws
 first_stored-front ws zero i h z l = absurd (omega arith)
 first_stored-front [] (suc n) i h z l = absurd (omega arith)
 first_stored-front (w ∷ ws) (suc n) i h z l = stored_by-front (header_of w) ws n i h (omega arith)
@@ -60,7 +65,9 @@ pub record SameRow (sizes : ℕ → ℕ) (size : ℕ) (ws ws' : List ℕ) (used 
   pub row_is : IsRow sizes size ws' used kind
   pub left_is : left_by size ws' kind ≡ left_by size ws kind
 
-pub same_row : (sizes : ℕ → ℕ) (size n : ℕ) (ws ws' : List ℕ) (used : ℕ) (kind : Kind) → take n ws' ≡ take n ws → length ws' ≡ length ws → n ≤ length ws → size ≤ n → 0 < size → left_by size ws kind + size ≤ n → IsRow sizes size ws used kind → SameRow sizes size ws ws' used kind
+pub same_row : (sizes : ℕ → ℕ) (size n : ℕ) (ws ws' : List ℕ) (used : ℕ) (kind : Kind) → take n ws' ≡ take n ws
+    → length ws' ≡ length ws → n ≤ length ws → size ≤ n → 0 < size → left_by size ws kind + size ≤ n
+    → IsRow sizes size ws used kind → SameRow sizes size ws ws' used kind
 same_row sizes size n ws ws' used kinds.Free e l f h z b r = record { region_is = refl; row_is = r; left_is = refl }
 same_row sizes size n ws ws' used kinds.Ordinary e l f h z b r =
     let same = take_less used n ws' ws (omega (arith, r.0)) e in
@@ -72,7 +79,8 @@ same_row sizes size n ws ws' used kinds.First e l f h z b r =
     record { region_is = ap First (sym b' ∙ ap first_stored e ∙ a); row_is = (rw word r.0, rw word r.1); left_is = rw word refl }
 same_row sizes size n ws ws' used kinds.Rest e l f h z b r = absurd r
 
-pub same_rest : (sizes : ℕ → ℕ) (size left : ℕ) (ws ws' : List ℕ) (used : ℕ) (kind : Kind) → IsRestRow size left used kind → region_by sizes ws' used kind ≡ region_by sizes ws used kind
+pub same_rest : (sizes : ℕ → ℕ) (size left : ℕ) (ws ws' : List ℕ) (used : ℕ) (kind : Kind) → IsRestRow size left used kind
+    → region_by sizes ws' used kind ≡ region_by sizes ws used kind
 same_rest sizes size left ws ws' used kind h = rw (rest_is size left used kind h) refl
 
 -- the change, seen from behind the first region
@@ -83,7 +91,8 @@ pub record IsBehind (size m n : ℕ) (ws ws' : List ℕ) : Type 0 where
   pub after : drop (m + size) (drop size ws') ≡ drop (m + size) (drop size ws)
   pub at : drop m (drop size ws') ≡ drop n ws'
 
-pub behind : (size m n : ℕ) (ws ws' : List ℕ) → n ≡ size + m → length ws' ≡ length ws → n + size ≤ length ws → take n ws' ≡ take n ws → drop (n + size) ws' ≡ drop (n + size) ws → IsBehind size m n ws ws'
+pub behind : (size m n : ℕ) (ws ws' : List ℕ) → n ≡ size + m → length ws' ≡ length ws → n + size ≤ length ws → take n ws' ≡ take n ws
+    → drop (n + size) ws' ≡ drop (n + size) ws → IsBehind size m n ws ws'
 behind size m n ws ws' e l f a b =
     let from : n + size ≡ size + (m + size) = omega arith in
     let front : take (size + m) ws' ≡ take (size + m) ws = rw e at a in
@@ -91,7 +100,8 @@ behind size m n ws ws' e l f a b =
       length_is = simp length-drop (omega arith);
       room = simp length-drop (omega arith);
       before = sym (drop-take size m ws') ∙ ap (drop size) front ∙ drop-take size m ws;
-      after = drop-drop (m + size) size ws' ∙ sym (ap (λ j. drop j ws') from) ∙ b ∙ ap (λ j. drop j ws) from ∙ sym (drop-drop (m + size) size ws);
+      after = drop-drop (m + size) size ws' ∙ sym (ap (λ j. drop j ws') from) ∙ b
+          ∙ ap (λ j. drop j ws) from ∙ sym (drop-drop (m + size) size ws);
       at = drop-drop m size ws' ∙ sym (ap (λ j. drop j ws') e);
     }
 
@@ -100,7 +110,10 @@ pub record IsWritten (sizes : ℕ → ℕ) (size left k n : ℕ) (ws ws' : List 
   pub rows_are : AreRows sizes size left ws' (set rows k row)
 
 -- A region's words and its row change, and nothing else of the table.
-pub rows_written : (sizes : ℕ → ℕ) (size : ℕ) (rows : List Row) (k n left : ℕ) (ws ws' : List ℕ) (d row : Row) → n ≡ k * size → k < length rows → 0 < size → AreRows sizes size left ws rows → IsPlain (get_or rows k d).kind → length ws' ≡ length ws → n + size ≤ length ws → take n ws' ≡ take n ws → drop (n + size) ws' ≡ drop (n + size) ws → IsRow sizes size (drop n ws') row.used row.kind → IsPlain row.kind → IsWritten sizes size left k n ws ws' rows row
+pub rows_written : (sizes : ℕ → ℕ) (size : ℕ) (rows : List Row) (k n left : ℕ) (ws ws' : List ℕ) (d row : Row) → n ≡ k * size
+    → k < length rows → 0 < size → AreRows sizes size left ws rows → IsPlain (get_or rows k d).kind → length ws' ≡ length ws
+    → n + size ≤ length ws → take n ws' ≡ take n ws → drop (n + size) ws' ≡ drop (n + size) ws
+    → IsRow sizes size (drop n ws') row.used row.kind → IsPlain row.kind → IsWritten sizes size left k n ws ws' rows row
 rows_written sizes size [] k n left ws ws' d row e h z r p l f a b i q = absurd (omega arith)
 rows_written sizes size (old ∷ rows) zero n zero ws ws' d row e h z r p l f a b i q =
     let at : n ≡ 0 = omega arith in
@@ -110,11 +123,14 @@ rows_written sizes size (old ∷ rows) zero n zero ws ws' d row e h z r p l f a 
       regions_are = rw (start, behind) refl;
       rows_are = (rw start at i, rw (plain_left size ws' row.kind q, behind) (rw (plain_left size ws old.kind p) at r.1));
     }
-rows_written sizes size (old ∷ rows) zero n (suc left) ws ws' d row e h z r p l f a b i q = absurd (plain_not_rest old.kind p (rest_is _ _ _ _ r.0))
+rows_written sizes size (old ∷ rows) zero n (suc left) ws ws' d row e h z r p l f a b i q =
+    absurd (plain_not_rest old.kind p (rest_is _ _ _ _ r.0))
 rows_written sizes size (old ∷ rows) (suc k) n zero ws ws' d row e h z r p l f a b i q =
     let u = behind size (k * size) n ws ws' (omega arith) l f a b in
-    let st = start_at sizes size rows k (k * size) (left_by size ws old.kind) (drop size ws) d refl (omega arith) r.1 (plain_not_rest _ p) in
-    let t = rows_written sizes size rows k (k * size) (left_by size ws old.kind) (drop size ws) (drop size ws') d row refl (omega arith) z r.1 p u.length_is u.room u.before u.after (rw u.at i) q in
+    let st =
+    start_at sizes size rows k (k * size) (left_by size ws old.kind) (drop size ws) d refl (omega arith) r.1 (plain_not_rest _ p) in
+    let t = rows_written sizes size rows k (k * size) (left_by size ws old.kind) (drop size ws) (drop size ws') d row refl (omega arith) z
+    r.1 p u.length_is u.room u.before u.after (rw u.at i) q in
     let s = same_row sizes size n ws ws' old.used old.kind a l (omega arith) (omega arith) z (omega (arith, st.1)) r.0 in
     record {
       regions_are = rw (s.region_is, t.regions_are, u.at) refl;
@@ -122,7 +138,8 @@ rows_written sizes size (old ∷ rows) (suc k) n zero ws ws' d row e h z r p l f
     }
 rows_written sizes size (old ∷ rows) (suc k) n (suc left) ws ws' d row e h z r p l f a b i q =
     let u = behind size (k * size) n ws ws' (omega arith) l f a b in
-    let t = rows_written sizes size rows k (k * size) (suc left - size) (drop size ws) (drop size ws') d row refl (omega arith) z r.1 p u.length_is u.room u.before u.after (rw u.at i) q in
+    let t = rows_written sizes size rows k (k * size) (suc left - size) (drop size ws) (drop size ws') d row refl (omega arith) z r.1 p
+    u.length_is u.room u.before u.after (rw u.at i) q in
     let s = same_rest sizes size (suc left) ws ws' old.used old.kind r.0 in
     record {
       regions_are = rw (s, t.regions_are, u.at) refl;

@@ -15,7 +15,10 @@ one_bit (suc r) n e l h =
     let step = ones_step n in
     elim (cases_lt (n % 2) 1) [
       | inl b ↦ (let half = one_bit r (n / 2) (omega arith) (omega arith) (omega arith) in omega arith)
-      | inr b ↦ (let none = zero_from_ones (n / 2) (omega arith) in let some : 2 ^ r ≤ n / 2 = omega arith in let positive = pow_pos r in absurd (omega arith))
+      | inr b ↦ (let none = zero_from_ones (n / 2) (omega arith) in
+          let some : 2 ^ r ≤ n / 2 = omega arith in
+          let positive = pow_pos r in
+          absurd (omega arith))
     ]
 
 pub power_is : (n r : ℕ) → IsTrue (is_power_of_two n) → 2 ^ r ≤ n → n < 2 * 2 ^ r → n ≡ 2 ^ r

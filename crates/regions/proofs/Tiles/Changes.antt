@@ -5,7 +5,9 @@ use Rattle.std.proofs.lemmas.Bool.{cases_eq}
 use Rattle.regions.specs.Tiles.{Object, tile_size}
 use Rattle.heap_model.specs.Heap.{Stored, fields, with_field}
 use Rattle.heap_model.proofs.Fields.{field_set}
-use Rattle.regions.specs.Table.{Region, Free, Ordinary, First, Rest, Table, region_at, nth_region, tile_in, tile_object, object_at, with_object, put_object, set_pointer, set_weak, set_field, set_value, kind_of, region_kind, used_of, HasNoForwarded}
+use Rattle.regions.specs.Table.{Region, Free, Ordinary, First, Rest, Table, region_at, nth_region, tile_in}
+use Rattle.regions.specs.Table.{tile_object, object_at, with_object, put_object, set_pointer, set_weak, set_field}
+use Rattle.regions.specs.Table.{set_value, kind_of, region_kind, used_of, HasNoForwarded}
 use Rattle.regions.proofs.Tiles.Laws.{object_tile, known_region, object_at-put_same, tile_in-put_other}
 use Rattle.regions.proofs.Words.Fields.{with_pointer, with_weak}
 use Rattle.regions.proofs.Words.Values.{with_value, set_value-is}
@@ -37,7 +39,8 @@ kind_put t x s s' k h =
     let j : ℕ = x / t.words_per_region in
     let r : Region = with_object (get_or t.regions j Free) (x % t.words_per_region) s' in
     elim (cases_eq k j) [
-      | inl q ↦ rw q (ap region_kind (get_or-set_same t.regions j r Free (known_region t.regions j _ _ tile)) ∙ kind_with (get_or t.regions j Free) (x % t.words_per_region) s')
+      | inl q ↦ rw q (ap region_kind (get_or-set_same t.regions j r Free (known_region t.regions j _ _ tile))
+          ∙ kind_with (get_or t.regions j Free) (x % t.words_per_region) s')
       | inr q ↦ ap region_kind (get_or-set_other t.regions j k r Free q)
     ]
 
@@ -49,7 +52,8 @@ put_count : (t : Table) (x : ℕ) (s : Stored) → length (put_object t x s).reg
 unfolding put_object
 put_count t x s = length-set t.regions _ _
 
-pub object_put : (t : Table) (x : ℕ) (s s' : Stored) → 0 < t.words_per_region → object_at t x ≡ Some s → tile_size (Object s') ≡ tile_size (Object s) → WritesObject t (put_object t x s') x s s'
+pub object_put : (t : Table) (x : ℕ) (s s' : Stored) → 0 < t.words_per_region → object_at t x ≡ Some s
+    → tile_size (Object s') ≡ tile_size (Object s) → WritesObject t (put_object t x s') x s s'
 object_put t x s s' z h e = record {
   size = put_size t x s';
   count = put_count t x s';
@@ -61,13 +65,17 @@ object_put t x s s' z h e = record {
   used = λ k. used_put t x s s' k h e;
 }
 
-pub pointer_put : (t : Table) (x i : ℕ) (v : Option ℕ) (s : Stored) → 0 < t.words_per_region → object_at t x ≡ Some s → WritesObject t (set_pointer t x i v) x s (with_pointer s i v)
+pub pointer_put : (t : Table) (x i : ℕ) (v : Option ℕ) (s : Stored) → 0 < t.words_per_region → object_at t x ≡ Some s
+    → WritesObject t (set_pointer t x i v) x s (with_pointer s i v)
 pointer_put t x i v s z h =
-    subst (λ (u : Table). WritesObject t u x s (with_pointer s i v)) (sym (set_pointer-is t x i v s h)) (object_put t x s (with_pointer s i v) z h (ap (λ n. 2 + n + length s.weaks + length s.values) (length-set s.pointers i v)))
+    subst (λ (u : Table). WritesObject t u x s (with_pointer s i v)) (sym (set_pointer-is t x i v s h))
+    (object_put t x s (with_pointer s i v) z h (ap (λ n. 2 + n + length s.weaks + length s.values) (length-set s.pointers i v)))
 
-pub weak_put : (t : Table) (x i : ℕ) (v : Option ℕ) (s : Stored) → 0 < t.words_per_region → object_at t x ≡ Some s → WritesObject t (set_weak t x i v) x s (with_weak s i v)
+pub weak_put : (t : Table) (x i : ℕ) (v : Option ℕ) (s : Stored) → 0 < t.words_per_region → object_at t x ≡ Some s
+    → WritesObject t (set_weak t x i v) x s (with_weak s i v)
 weak_put t x i v s z h =
-    subst (λ (u : Table). WritesObject t u x s (with_weak s i v)) (sym (set_weak-is t x i v s h)) (object_put t x s (with_weak s i v) z h (ap (λ n. 2 + length s.pointers + n + length s.values) (length-set s.weaks i v)))
+    subst (λ (u : Table). WritesObject t u x s (with_weak s i v)) (sym (set_weak-is t x i v s h))
+    (object_put t x s (with_weak s i v) z h (ap (λ n. 2 + length s.pointers + n + length s.values) (length-set s.weaks i v)))
 
 -- a field that is set leaves as many weak slots
 pub field_weaks : (s : Stored) (i : ℕ) (v : Option ℕ) → length (with_field s i v).weaks ≡ length s.weaks
@@ -81,16 +89,19 @@ field_weaks s i v =
 pub field_size : (s : Stored) (i : ℕ) (v : Option ℕ) → tile_size (Object (with_field s i v)) ≡ tile_size (Object s)
 field_size s i v = let f = field_set s i v in let w = field_weaks s i v in omega (arith, f.shape, ap length f.values, w)
 
-pub field_put : (t : Table) (x i : ℕ) (v : Option ℕ) (s : Stored) → 0 < t.words_per_region → object_at t x ≡ Some s → WritesObject t (set_field t x i v) x s (with_field s i v)
+pub field_put : (t : Table) (x i : ℕ) (v : Option ℕ) (s : Stored) → 0 < t.words_per_region → object_at t x ≡ Some s
+    → WritesObject t (set_field t x i v) x s (with_field s i v)
 unfolding set_field
 field_put t x i v s z h =
     let same = field_size s i v in
     let is : set_field t x i v ≡ put_object t x (with_field s i v) = rw h refl in
     subst (λ (u : Table). WritesObject t u x s (with_field s i v)) (sym is) (object_put t x s (with_field s i v) z h same)
 
-pub value_put : (t : Table) (x i v : ℕ) (s : Stored) → 0 < t.words_per_region → object_at t x ≡ Some s → WritesObject t (set_value t x i v) x s (with_value s i v)
+pub value_put : (t : Table) (x i v : ℕ) (s : Stored) → 0 < t.words_per_region → object_at t x ≡ Some s
+    → WritesObject t (set_value t x i v) x s (with_value s i v)
 value_put t x i v s z h =
-    subst (λ (u : Table). WritesObject t u x s (with_value s i v)) (sym (set_value-is t x i v s h)) (object_put t x s (with_value s i v) z h (ap (λ n. 2 + length s.pointers + length s.weaks + n) (length-set s.values i v)))
+    subst (λ (u : Table). WritesObject t u x s (with_value s i v)) (sym (set_value-is t x i v s h))
+    (object_put t x s (with_value s i v) z h (ap (λ n. 2 + length s.pointers + length s.weaks + n) (length-set s.values i v)))
 
 pub object_of_tile : (t : Table) (y : ℕ) → object_at t y ≡ tile_object (tile_in t y)
 unfolding object_at

@@ -1,11 +1,13 @@
 -- What a moved tile tells of its new place.
-use Rattle.std.proofs.Common.{arith, ◌≡◌, ℕ, zero, suc, ◌-◌, ◌/◌, ◌%◌, ◌<◌, Option, Some, None, List, [], ◌∷◌, length, get_or, refl, sym, ◌∙◌, ap, subst}
+use Rattle.std.proofs.Common.{◌≡◌, ◌-◌, ◌/◌, ◌%◌, ◌<◌, ◌∷◌, ◌∙◌}
+use Rattle.std.proofs.Common.{arith, ℕ, zero, suc, Option, Some, None, List, [], length, get_or, refl, sym, ap, subst}
 use Rattle.std.specs.Prelude.{IsSome}
 use Rattle.heap_words.specs.declared.header.Header.{Header}
 use Rattle.heap_words.specs.declared.header.Header.TheVariants as headers
 use Rattle.heap_words.specs.Headers.{header_of}
 use Rattle.regions.specs.Tiles.{Tile, Object, Filler, Forwarded, tile_size, tile_at}
-use Rattle.regions.specs.Table.{Region, Free, Ordinary, First, Rest, Table, region_tile, region_at, tile_in, EachForwarded, EachForwardedIn, HasObject, AreTargetsRight, moved_to}
+use Rattle.regions.specs.Table.{Region, Free, Ordinary, First, Rest, Table, region_tile, region_at, tile_in, EachForwarded}
+use Rattle.regions.specs.Table.{EachForwardedIn, HasObject, AreTargetsRight, moved_to}
 use Rattle.regions.specs.Rows.{IsBelow, sizes_in, table_of, IsTable, header_target}
 use Rattle.regions.specs.Shapes.{shape_by, tile_shape}
 use Rattle.regions.specs.declared.row.Row.{Row}
@@ -21,7 +23,8 @@ moved_at P [] o to n h a = cc
 moved_at P (Object s ∷ ts) zero to n h a = cc
 moved_at P (Filler m ∷ ts) zero to n h a = cc
 moved_at P (Forwarded at m ∷ ts) zero to n h a = let e : at ≡ to = cc in subst P e a.0
-moved_at P (Object s ∷ ts) (suc o) to n h a = moved_at P ts (suc o - tile_size (Object s)) to n (past (tile_size (Object s)) (suc o) _ (Forwarded to n) h).1 a
+moved_at P (Object s ∷ ts) (suc o) to n h a =
+    moved_at P ts (suc o - tile_size (Object s)) to n (past (tile_size (Object s)) (suc o) _ (Forwarded to n) h).1 a
 moved_at P (Filler m ∷ ts) (suc o) to n h a = moved_at P ts (suc o - m) to n (past m (suc o) _ (Forwarded to n) h).1 a
 moved_at P (Forwarded at m ∷ ts) (suc o) to n h a = moved_at P ts (suc o - m) to n (past m (suc o) _ (Forwarded to n) h).1 a.1
 
@@ -35,7 +38,8 @@ moved_region P (Rest m) o to n h a = cc
 -- what holds of each moved tile holds of the one at an address
 pub moved_in : (P : ℕ → Type 0) (t : Table) (x to n : ℕ) → EachForwardedIn P t.regions → tile_in t x ≡ Some (Forwarded to n) → P to
 unfolding tile_in region_at
-moved_in P t x to n a h = moved_region P (get_or t.regions (x / t.words_per_region) Free) (x % t.words_per_region) to n h (EachForwardedIn-at P t.regions (x / t.words_per_region) a)
+moved_in P t x to n a h = moved_region P (get_or t.regions (x / t.words_per_region) Free) (x % t.words_per_region) to n h
+    (EachForwardedIn-at P t.regions (x / t.words_per_region) a)
 
 moved_shape : (f : ℕ → ℕ) (o : Option Header) (to n : ℕ) → shape_by f o ≡ shapes.Forwarded to n → n ≡ f to
 moved_shape f None to n h = cc
@@ -43,7 +47,8 @@ moved_shape f (Some (headers.Object p weak d)) to n h = cc
 moved_shape f (Some (headers.Filler m)) to n h = cc
 moved_shape f (Some (headers.Forwarded at)) to n h = let a : at ≡ to = cc in let b : f at ≡ n = cc in sym b ∙ ap f a
 
-pub targets_right : (size : ℕ) (words : List ℕ) (rows : List Row) (t : Table) → IsTable size words rows → table_of size words rows ≡ t → AreTargetsRight t
+pub targets_right : (size : ℕ) (words : List ℕ) (rows : List Row) (t : Table) → IsTable size words rows
+    → table_of size words rows ≡ t → AreTargetsRight t
 targets_right size words rows t g e x to n h =
     let o = moved_in (HasObject t) t x to n (targets_of size words rows t g e) h in
     let s = tile_shown size words rows t x (Forwarded to n) g e h in
@@ -64,17 +69,20 @@ target_shape f (Some (headers.Forwarded at)) (Object s) h = cc
 target_shape f (Some (headers.Forwarded at)) (Filler n) h = cc
 target_shape f (Some (headers.Forwarded at)) (Forwarded to n) h = cc
 
-pub target_is : (size : ℕ) (words : List ℕ) (rows : List Row) (t : Table) (x : ℕ) → IsTable size words rows → table_of size words rows ≡ t → IsSome (tile_in t x) → (x < length words) × (header_target (header_of (get_or words x 0)) ≡ moved_to (tile_in t x))
+pub target_is : (size : ℕ) (words : List ℕ) (rows : List Row) (t : Table) (x : ℕ) → IsTable size words rows → table_of size words rows ≡ t
+    → IsSome (tile_in t x) → (x < length words) × (header_target (header_of (get_or words x 0)) ≡ moved_to (tile_in t x))
 target_is size words rows t x g e h =
     let s = some_tile (tile_in t x) h in
     let i = tile_shown size words rows t x s.0 g e s.1 in
     (i.in_words, target_shape (sizes_in words) (header_of (get_or words x 0)) s.0 i.shape_is ∙ sym (ap moved_to s.1))
 
 -- a forwarded header's target lies in the words
-pub target_within : (size : ℕ) (words : List ℕ) (rows : List Row) (t : Table) (x : ℕ) (tile : Tile) → IsTable size words rows → table_of size words rows ≡ t → tile_in t x ≡ Some tile → IsBelow (header_target (header_of (get_or words x 0))) (length words)
+pub target_within : (size : ℕ) (words : List ℕ) (rows : List Row) (t : Table) (x : ℕ) (tile : Tile) → IsTable size words rows
+    → table_of size words rows ≡ t → tile_in t x ≡ Some tile → IsBelow (header_target (header_of (get_or words x 0))) (length words)
 target_within size words rows t x tile g e h = go tile h (target_is size words rows t x g e (rw h refl)).1
   where
-    go : (tile : Tile) → tile_in t x ≡ Some tile → header_target (header_of (get_or words x 0)) ≡ moved_to (tile_in t x) → IsBelow (header_target (header_of (get_or words x 0))) (length words)
+    go : (tile : Tile) → tile_in t x ≡ Some tile → header_target (header_of (get_or words x 0)) ≡ moved_to (tile_in t x)
+        → IsBelow (header_target (header_of (get_or words x 0))) (length words)
     go (Object s) f is = rw (is, f) tt
     go (Filler n) f is = rw (is, f) tt
     go (Forwarded to n) f is =

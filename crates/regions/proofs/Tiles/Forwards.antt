@@ -1,5 +1,7 @@
 -- An object becomes forwarded.
-use Rattle.std.proofs.Common.{◌≡◌, ◌≢◌, ℕ, suc, ◌+◌, ◌-◌, ◌<◌, ◌≤◌, Option, Some, None, List, [], ◌∷◌, length, take, drop, set, refl, sym, ◌∙◌, ap, subst, arith, inl, inr, add-zero}
+use Rattle.std.proofs.Common.{◌≡◌, ◌≢◌, ◌+◌, ◌-◌, ◌<◌, ◌≤◌, ◌∷◌, ◌∙◌}
+use Rattle.std.proofs.Common.{ℕ, suc, Option, Some, None, List, [], length, take, drop, set}
+use Rattle.std.proofs.Common.{refl, sym, ap, subst, arith, inl, inr, add-zero}
 use Rattle.std.proofs.lemmas.List.{length-take, length-drop}
 use Rattle.heap_words.specs.declared.header.Header.TheVariants as headers
 use Rattle.std.specs.Prelude.{IsSome}
@@ -8,7 +10,8 @@ use Rattle.heap_words.specs.Headers.{header_of, header_word}
 use Rattle.heap_model.specs.Heap.{Stored}
 use Rattle.regions.specs.Tiles.{Object, Forwarded, tile_size}
 use Rattle.heap_words.specs.Contents.{put}
-use Rattle.regions.specs.Table.{Table, object_at, tile_in, region_at, IsOrdinary, HasObject, object_words, stored_size, replace_tile, EachForwarded, EachForwardedIn}
+use Rattle.regions.specs.Table.{Table, object_at, tile_in, region_at, IsOrdinary, HasObject, object_words}
+use Rattle.regions.specs.Table.{stored_size, replace_tile, EachForwarded, EachForwardedIn}
 use Rattle.regions.specs.Rows.{sizes_in, table_of, IsTable}
 use Rattle.regions.specs.declared.row.Row.{Row}
 use Rattle.regions.proofs.Words.Places.{object_place}
@@ -21,7 +24,8 @@ use Rattle.regions.proofs.Words.Access.{not_first}
 use Rattle.regions.proofs.Words.ObjectWords.{there, some_object}
 use Rattle.regions.proofs.Tiles.Laws.{object_tile}
 
-one_moved : (sizes : ℕ → ℕ) (w to m : ℕ) (body : List ℕ) → header_of w ≡ Some (headers.Forwarded to) → sizes to ≡ m → 0 < m → m ≡ suc (length body) → IsOne sizes (w ∷ body) (Forwarded to m)
+one_moved : (sizes : ℕ → ℕ) (w to m : ℕ) (body : List ℕ) → header_of w ≡ Some (headers.Forwarded to) → sizes to ≡ m → 0 < m
+    → m ≡ suc (length body) → IsOne sizes (w ∷ body) (Forwarded to m)
 one_moved sizes w to m body e f z l =
     let n : length body ≡ sizes to - 1 = omega arith in
     record {
@@ -48,7 +52,10 @@ header_put words x w m h =
     let b : set words x w ≡ put words x (w ∷ []) = rw (add-zero, put_none) at a in
     b ∙ put_extend words x m (w ∷ []) (omega arith)
 
-pub forwarded : (size : ℕ) (words : List ℕ) (rows : List Row) (t : Table) (x to : ℕ) → IsTable size words rows → table_of size words rows ≡ t → IsSome (object_at t x) → IsOrdinary (region_at t x) → object_words t to ≡ object_words t x → to ≢ x → EachForwardedIn (λ y. y ≢ x) t.regions → IsWrittenTable size (set words x (header_word (headers.Forwarded to))) rows (replace_tile t x (Forwarded to (object_words t x) ∷ []))
+pub forwarded : (size : ℕ) (words : List ℕ) (rows : List Row) (t : Table) (x to : ℕ) → IsTable size words rows
+    → table_of size words rows ≡ t → IsSome (object_at t x) → IsOrdinary (region_at t x) → object_words t to ≡ object_words t x → to ≢ x
+    → EachForwardedIn (λ y. y ≢ x) t.regions
+    → IsWrittenTable size (set words x (header_word (headers.Forwarded to))) rows (replace_tile t x (Forwarded to (object_words t x) ∷ []))
 forwarded size words rows t x to g e h ordinary copy apart spared =
     let found = some_object (object_at t x) h in
     let s : Stored = found.0 in
@@ -65,9 +72,15 @@ forwarded size words rows t x to g e h ordinary copy apart spared =
           let stale : List ℕ = take (m - 1) (drop (x + 1) words) in
           let len : length stale ≡ m - 1 = simp (length-take, length-drop) (omega (arith, fits)) in
           let one = one_moved (sizes_in words) w to m stale is (c.size_is ∙ copy ∙ o.words_are) (omega arith) (omega (arith, len)) in
-          let b : IsBlock (sizes_in words) (w ∷ stale) m (Forwarded to m ∷ []) = record { length_is = omega (arith, len); tiled = one.tiled; tiles_are = one.tiles_are } in
-          let fresh : EachForwarded (λ y. HasObject t y × (y ≢ x)) (Forwarded to m ∷ []) = ((record { object = r.0; is = r.1 }, apart), tt) in
-          let done = tile_replaced size words rows t x (Object s) (w ∷ stale) (Forwarded to m ∷ []) g e q b (object_is_tile t x s found.1) spared fresh in
+          let b : IsBlock (sizes_in words) (w ∷ stale) m (Forwarded to m ∷ []) = record {
+            length_is = omega (arith, len);
+            tiled = one.tiled;
+            tiles_are = one.tiles_are;
+          } in
+          let fresh : EachForwarded (λ y. HasObject t y × (y ≢ x)) (Forwarded to m ∷ []) =
+          ((record { object = r.0; is = r.1 }, apart), tt) in
+          let done = tile_replaced size words rows t x (Object s) (w ∷ stale) (Forwarded to m ∷ []) g e q b
+          (object_is_tile t x s found.1) spared fresh in
           rw (header_put words x w (m - 1) (omega (arith, fits)), o.words_are) done.0
       | inr q ↦ absurd (not_first size words rows x (Object s) q (subst (λ (u : Table). IsOrdinary (region_at u x)) (sym e) ordinary))
     ]

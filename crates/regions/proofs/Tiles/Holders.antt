@@ -1,5 +1,6 @@
 -- Where the tile of a word starts.
-use Rattle.std.proofs.Common.{inl, inr, ◌≡◌, ◌≢◌, ℕ, suc, ◌+◌, ◌-◌, ◌*◌, ◌/◌, ◌%◌, ◌<◌, ◌≤◌, min, Some, None, List, [], ◌∷◌, length, ⊎_elim, refl, sym, ap, subst, ◌∙◌, arith}
+use Rattle.std.proofs.Common.{◌≡◌, ◌≢◌, ◌+◌, ◌-◌, ◌*◌, ◌/◌, ◌%◌, ◌<◌, ◌≤◌, ◌∷◌, ◌∙◌}
+use Rattle.std.proofs.Common.{inl, inr, ℕ, suc, min, Some, None, List, [], length, ⊎_elim, refl, sym, ap, subst, arith}
 use Rattle.std.proofs.lemmas.Bool.{cases_lt}
 use Rattle.std.proofs.lemmas.Nat.{mul-le}
 use Rattle.heap_words.specs.declared.addr.Addr.{Addr}
@@ -66,7 +67,11 @@ holder_start t a w g h = go (nth_region t k) refl
         let low = h.low in
         let same : w / n ≡ k = div_is w n k (omega arith) (omega (arith, reached)) in
         record {
-          run = record { below = omega arith; rest = λ j x y. absurd (omega arith); start = λ r. absurd (let q : kinds.Ordinary ≡ kinds.Rest = sym is ∙ r in cc) };
+          run = record {
+            below = omega arith;
+            rest = λ j x y. absurd (omega arith);
+            start = λ r. absurd (let q : kinds.Ordinary ≡ kinds.Rest = sym is ∙ r in cc);
+          };
           not_later = λ r. let q : kinds.Ordinary ≡ kinds.Rest = sym is ∙ r in cc;
         }
     go (First s) e =
@@ -77,7 +82,8 @@ holder_start t a w g h = go (nth_region t k) refl
         let whole : a / n * n + a % n ≡ a = omega arith in
         let up : w / n * n + w % n ≡ w = omega arith in
         let low = h.low in
-        let mono : k ≤ w / n = ⊎_elim (λ b. absurd (let q = mul-le (suc (w / n)) n k n b (omega arith) in omega (arith, q))) (λ b. b) (cases_lt (w / n) k) in
+        let mono : k ≤ w / n =
+        ⊎_elim (λ b. absurd (let q = mul-le (suc (w / n)) n k n b (omega arith) in omega (arith, q))) (λ b. b) (cases_lt (w / n) k) in
         record {
           run = record {
             below = mono;
@@ -93,7 +99,8 @@ holder_start t a w g h = go (nth_region t k) refl
         }
 
 -- tiles of words of one region start in one region
-pub starts_agree : (t : Table) (a b w v : ℕ) → IsStart t a w → IsStart t b v → w / t.words_per_region ≡ v / t.words_per_region → a / t.words_per_region ≡ b / t.words_per_region
+pub starts_agree : (t : Table) (a b w v : ℕ) → IsStart t a w → IsStart t b v → w / t.words_per_region ≡ v / t.words_per_region
+    → a / t.words_per_region ≡ b / t.words_per_region
 starts_agree t a b w v p q e =
     let x = p.run.below in
     let y = q.run.below in
@@ -106,7 +113,8 @@ starts_agree t a b w v p q e =
     ]
 
 -- a tile with a word at or above one of the same region starts no lower than that one's tile
-pub holder_onward : (t : Table) (first from a w : ℕ) → IsShaped t → IsHolder t first from → IsHolder t a w → from ≤ w → w / t.words_per_region ≡ from / t.words_per_region → (first ≤ a) × (a / t.words_per_region ≡ first / t.words_per_region)
+pub holder_onward : (t : Table) (first from a w : ℕ) → IsShaped t → IsHolder t first from → IsHolder t a w → from ≤ w
+    → w / t.words_per_region ≡ from / t.words_per_region → (first ≤ a) × (a / t.words_per_region ≡ first / t.words_per_region)
 holder_onward t first from a w g f h l e =
     let same = starts_agree t a first w from (holder_start t a w g h) (holder_start t first from g f) e in (
       elim (cases_lt a first) [
@@ -137,8 +145,15 @@ holder_below t a w g h =
     let left : walk_rest t k o ≡ (k * n + o, tile_shape h.tile) ∷ rest = ap (placed (k * n + o)) step.rest_is in
     let low = h.low in
     let high = h.high in
-    let search : IsSearch t k w (walk_rest t k o) = record { offset = o; left_is = refl; cut = cut.0; within = omega (arith, cut.1); low = omega arith } in
-    found_below t k w (walk_rest t k o) rest (k * n + o) (tile_shape h.tile) g (holder_start t a w g h).run search left (omega (arith, shape_size_is h.tile))
+    let search : IsSearch t k w (walk_rest t k o) = record {
+      offset = o;
+      left_is = refl;
+      cut = cut.0;
+      within = omega (arith, cut.1);
+      low = omega arith;
+    } in
+    found_below t k w (walk_rest t k o) rest (k * n + o) (tile_shape h.tile) g (holder_start t a w g h).run search
+    left (omega (arith, shape_size_is h.tile))
 
 -- a word has one holder
 pub one_holder : (t : Table) (a b w : ℕ) → IsShaped t → IsHolder t a w → IsHolder t b w → a ≡ b
@@ -161,7 +176,13 @@ holding (t ∷ ts) o p h = elim (cases_lt o (tile_size t)) [
   | inl lt ↦ record { at = 0; tile = t; there = refl; low = omega arith; high = omega arith }
   | inr ge ↦ (
       let i = holding ts (o - tile_size t) p.1 (omega arith) in
-      record { at = tile_size t + i.at; tile = i.tile; there = tile_behind t ts i.at (tile_size t + i.at) i.tile p.0 refl i.there; low = omega (arith, i.low); high = omega (arith, i.high) })
+      record {
+        at = tile_size t + i.at;
+        tile = i.tile;
+        there = tile_behind t ts i.at (tile_size t + i.at) i.tile p.0 refl i.there;
+        low = omega (arith, i.low);
+        high = omega (arith, i.high);
+      })
 ]
 
 pub holder_of : (t : Table) (w : ℕ) → IsShaped t → w < top_of t (w / t.words_per_region) → (a : ℕ) × IsHolder t a w
@@ -181,15 +202,30 @@ holder_of t w g h = go (nth_region t k) refl
     part = let z = g.positive in omega arith
 
     object : (j : ℕ) (s : Stored) → nth_region t j ≡ First s → j * n ≤ w → w < j * n + tile_size (Object s) → (a : ℕ) × IsHolder t a w
-    object j s e low high = (j * n, record { tile = Object s; tile_is = object_tile (tile_in t (j * n)) s (sym (object_of_tile t (j * n)) ∙ first_object t j s g.positive e); low = low; high = high })
+    object j s e low high = (
+      j * n,
+      record {
+        tile = Object s;
+        tile_is = object_tile (tile_in t (j * n)) s (sym (object_of_tile t (j * n)) ∙ first_object t j s g.positive e);
+        low = low;
+        high = high;
+      },
+    )
 
     go : (r : Region) → nth_region t k ≡ r → (a : ℕ) × IsHolder t a w
     go Free e = absurd (let u : region_used n (nth_region t k) ≡ 0 = ap (region_used n) e in omega (arith, whole, h))
     go (Ordinary ts) e =
         let u : region_used n (nth_region t k) ≡ total_size ts = ap (region_used n) e in
         let is = tiles_at t k (Ordinary ts) e in
-        let f = holding ts (w % n) (rw is at (g.fitting k).positive) (omega (arith, whole, h)) in
-        (k * n + f.at, record { tile = f.tile; tile_is = listed_tile t k f.at f.tile g (ap (tile_at f.at) is ∙ f.there); low = omega (arith, whole, f.low); high = omega (arith, whole, f.high) })
+        let f = holding ts (w % n) (rw is at (g.fitting k).positive) (omega (arith, whole, h)) in (
+          k * n + f.at,
+          record {
+            tile = f.tile;
+            tile_is = listed_tile t k f.at f.tile g (ap (tile_at f.at) is ∙ f.there);
+            low = omega (arith, whole, f.low);
+            high = omega (arith, whole, f.high);
+          },
+        )
     go (First s) e =
         let u : region_used n (nth_region t k) ≡ min n (tile_size (Object s)) = ap (region_used n) e in
         object k s e (omega (arith, whole)) (omega (arith, whole, h))
@@ -200,7 +236,9 @@ holder_of t w g h = go (nth_region t k) refl
         object l.first l.object l.begins (omega (arith, whole, split)) (omega (arith, whole, h, split, l.words, l.reaches))
 
 -- ---- the search from a card's first word on
-pub search_from : (t : Table) (a from word : ℕ) → IsShaped t → IsHolder t a from → from ≤ word → word / t.words_per_region ≡ from / t.words_per_region → IsSearching t word (walk_rest t (a / t.words_per_region) (a % t.words_per_region))
+pub search_from : (t : Table) (a from word : ℕ) → IsShaped t → IsHolder t a from → from ≤ word
+    → word / t.words_per_region ≡ from / t.words_per_region
+    → IsSearching t word (walk_rest t (a / t.words_per_region) (a % t.words_per_region))
 search_from t a from word g h l same =
     let z = g.positive in
     let low = h.low in
@@ -209,5 +247,11 @@ search_from t a from word g h l same =
     record {
       first = a / t.words_per_region;
       start = subst (λ (k : ℕ). IsRunStart t k (a / t.words_per_region)) (sym same) (holder_start t a from g h).run;
-      search = record { offset = a % t.words_per_region; left_is = refl; cut = cut.0; within = omega (arith, cut.1); low = omega (arith, whole) };
+      search = record {
+        offset = a % t.words_per_region;
+        left_is = refl;
+        cut = cut.0;
+        within = omega (arith, cut.1);
+        low = omega (arith, whole);
+      };
     }

@@ -1,10 +1,12 @@
 -- Every word of an object lies in a region that isn't free.
-use Rattle.std.proofs.Common.{◌≡◌, ℕ, zero, suc, ◌+◌, ◌*◌, ◌/◌, ◌%◌, ◌<◌, ◌≤◌, Option, Some, None, List, refl, ◌∙◌, ap, subst, arith, false, get_or, inl, inr}
+use Rattle.std.proofs.Common.{◌≡◌, ◌+◌, ◌*◌, ◌/◌, ◌%◌, ◌<◌, ◌≤◌, ◌∙◌}
+use Rattle.std.proofs.Common.{ℕ, zero, suc, Option, Some, None, List, refl, ap, subst, arith, false, get_or, inl, inr}
 use Rattle.std.proofs.lemmas.Nat.{div-mul-add}
 use Rattle.std.proofs.lemmas.Bool.{cases_lt}
 use Rattle.heap_model.specs.Heap.{Stored}
 use Rattle.regions.specs.Tiles.{Tile, Object, Filler, Forwarded, tile_at, tile_size, total_size}
-use Rattle.regions.specs.Table.{Table, Region, Free, Ordinary, First, Rest, region_tile, region_at, nth_region, region_kind, kind_of, tile_in, tile_object, object_at, is_free}
+use Rattle.regions.specs.Table.{Table, Region, Free, Ordinary, First, Rest, region_tile, region_at, nth_region, region_kind}
+use Rattle.regions.specs.Table.{kind_of, tile_in, tile_object, object_at, is_free}
 use Rattle.regions.specs.Walks.{tiles_of, region_tiles}
 use Rattle.regions.specs.Shaped.{IsShaped, AreInUse}
 use Rattle.regions.specs.declared.row.Kind.TheVariants as kinds
@@ -38,15 +40,18 @@ module _ (t : Table) (shaped : IsShaped t) (a : ℕ) (s : Stored) where
   -- the region of a word, by its number and the word's offset
   row_at : (q r w : ℕ) → q * t.words_per_region + r ≡ w → r < t.words_per_region → region_at t w ≡ get_or t.regions q Free
   unfolding region_at
-  row_at q r w at lt = ap (λ (n : ℕ). get_or t.regions n Free) (subst (λ (x : ℕ). x / t.words_per_region ≡ q) at (div-mul-add q t.words_per_region r lt))
+  row_at q r w at lt =
+      ap (λ (n : ℕ). get_or t.regions n Free) (subst (λ (x : ℕ). x / t.words_per_region ≡ q) at (div-mul-add q t.words_per_region r lt))
 
-  in_ordinary : (ts : List Tile) → get_or t.regions (a / t.words_per_region) Free ≡ Ordinary ts → tile_at (a % t.words_per_region) ts ≡ Some (Object s) → AreInUse t a (tile_size (Object s))
+  in_ordinary : (ts : List Tile) → get_or t.regions (a / t.words_per_region) Free ≡ Ordinary ts
+      → tile_at (a % t.words_per_region) ts ≡ Some (Object s) → AreInUse t a (tile_size (Object s))
   unfolding tiles_of nth_region kind_of
   in_ordinary ts is there = λ i lt.
       let z = shaped.positive in
       let whole : a / t.words_per_region * t.words_per_region + a % t.words_per_region ≡ a = omega arith in
       let end = tile_at-end ts (a % t.words_per_region) (Object s) there in
-      let fits : total_size ts ≤ t.words_per_region = subst (λ (r : Region). total_size (region_tiles r) ≤ t.words_per_region) is ((shaped.fitting (a / t.words_per_region)).fits (ap region_kind is)) in
+      let fits : total_size ts ≤ t.words_per_region = subst (λ (r : Region). total_size (region_tiles r) ≤ t.words_per_region) is
+      ((shaped.fitting (a / t.words_per_region)).fits (ap region_kind is)) in
       let place : a / t.words_per_region * t.words_per_region + (a % t.words_per_region + i) ≡ a + i = omega arith in
       let row = row_at (a / t.words_per_region) (a % t.words_per_region + i) (a + i) place (omega arith) in
       ap is_free (row ∙ is)

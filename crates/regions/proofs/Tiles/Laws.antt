@@ -1,11 +1,13 @@
 -- Laws of tables, with no word in them.
-use Rattle.std.proofs.Common.{◌≡◌, ◌≢◌, ℕ, zero, suc, ◌+◌, ◌-◌, ◌*◌, ◌/◌, ◌%◌, ◌<◌, Option, Some, None, List, [], ◌∷◌, length, get_or, refl, sym, ◌∙◌, ap, arith, inl, inr}
+use Rattle.std.proofs.Common.{◌≡◌, ◌≢◌, ◌+◌, ◌-◌, ◌*◌, ◌/◌, ◌%◌, ◌<◌, ◌∷◌, ◌∙◌}
+use Rattle.std.proofs.Common.{ℕ, zero, suc, Option, Some, None, List, [], length, get_or, refl, sym, ap, arith, inl, inr}
 use Rattle.std.proofs.lemmas.List.{get_or-set_same, get_or-set_other}
 use Rattle.std.proofs.lemmas.Bool.{cases_eq, le-leb}
 use Rattle.std.proofs.lemmas.Bool.Decides.{leb_tells}
 use Rattle.heap_model.specs.Heap.{Stored}
 use Rattle.regions.specs.Tiles.{Tile, Object, Filler, Forwarded, tile_size, tile_at, replace}
-use Rattle.regions.specs.Table.{Region, Free, Ordinary, First, Rest, Table, region_tile, region_at, tile_in, tile_object, object_at, with_object, put_object}
+use Rattle.regions.specs.Table.{Region, Free, Ordinary, First, Rest, Table, region_tile, region_at, tile_in}
+use Rattle.regions.specs.Table.{tile_object, object_at, with_object, put_object}
 use Rattle.regions.proofs.Words.Parse.{past}
 
 pub tile_at-replace_same : (ts : List Tile) (o : ℕ) (t t' : Tile) → tile_at o ts ≡ Some t → tile_at o (replace o (t' ∷ []) ts) ≡ Some t'
@@ -16,7 +18,8 @@ tile_at-replace_same (u ∷ ts) (suc o) t t' f =
     let i = tile_at-replace_same ts (suc o - tile_size u) t t' p.1 in
     rw (le-leb (tile_size u) (suc o) p.0) i
 
-pub tile_at-replace_other : (ts : List Tile) (o y : ℕ) (t t' : Tile) → tile_at o ts ≡ Some t → tile_size t' ≡ tile_size t → y ≢ o → tile_at y (replace o (t' ∷ []) ts) ≡ tile_at y ts
+pub tile_at-replace_other : (ts : List Tile) (o y : ℕ) (t t' : Tile) → tile_at o ts ≡ Some t → tile_size t' ≡ tile_size t → y ≢ o
+    → tile_at y (replace o (t' ∷ []) ts) ≡ tile_at y ts
 tile_at-replace_other [] o y t t' f e h = refl
 tile_at-replace_other (u ∷ ts) zero zero t t' f e h = absurd (h refl)
 tile_at-replace_other (u ∷ ts) zero (suc y) t t' f e h =
@@ -27,7 +30,8 @@ tile_at-replace_other (u ∷ ts) (suc o) zero t t' f e h = refl
 tile_at-replace_other (u ∷ ts) (suc o) (suc y) t t' f e h =
     let p = past (tile_size u) (suc o) _ t f in
     elim (leb_tells (tile_size u) (suc y)) [
-      | inl q ↦ rw q.0 (tile_at-replace_other ts (suc o - tile_size u) (suc y - tile_size u) t t' p.1 e (λ k. h (omega (arith, k, q.1, p.0))))
+      | inl q ↦
+          rw q.0 (tile_at-replace_other ts (suc o - tile_size u) (suc y - tile_size u) t t' p.1 e (λ k. h (omega (arith, k, q.1, p.0))))
       | inr q ↦ rw q.0 refl
     ]
 
@@ -38,14 +42,16 @@ object_tile (Some (Filler n)) s h = cc
 object_tile (Some (Forwarded to n)) s h = cc
 object_tile None s h = cc
 
-region_same : (r : Region) (o : ℕ) (s s' : Stored) → region_tile r o ≡ Some (Object s) → region_tile (with_object r o s') o ≡ Some (Object s')
+region_same : (r : Region) (o : ℕ) (s s' : Stored) → region_tile r o ≡ Some (Object s)
+    → region_tile (with_object r o s') o ≡ Some (Object s')
 region_same Free o s s' h = cc
 region_same (Ordinary ts) o s s' h = tile_at-replace_same ts o (Object s) (Object s') h
 region_same (First q) zero s s' h = refl
 region_same (First q) (suc o) s s' h = cc
 region_same (Rest n) o s s' h = cc
 
-region_other : (r : Region) (o y : ℕ) (s s' : Stored) → region_tile r o ≡ Some (Object s) → tile_size (Object s') ≡ tile_size (Object s) → y ≢ o → region_tile (with_object r o s') y ≡ region_tile r y
+region_other : (r : Region) (o y : ℕ) (s s' : Stored) → region_tile r o ≡ Some (Object s) → tile_size (Object s') ≡ tile_size (Object s)
+    → y ≢ o → region_tile (with_object r o s') y ≡ region_tile r y
 region_other Free o y s s' h e n = refl
 region_other (Ordinary ts) o y s s' h e n = tile_at-replace_other ts o y (Object s) (Object s') h e n
 region_other (First q) zero zero s s' h e n = absurd (n refl)
@@ -64,7 +70,8 @@ unfolding object_at tile_in region_at put_object
 object_at-put_same t x s s' h =
     let k : ℕ = x / t.words_per_region in
     let tile = object_tile _ s h in
-    let e = get_or-set_same t.regions k (with_object (get_or t.regions k Free) (x % t.words_per_region) s') Free (known_region t.regions k _ _ tile) in
+    let e = get_or-set_same t.regions k (with_object (get_or t.regions k Free) (x % t.words_per_region) s')
+    Free (known_region t.regions k _ _ tile) in
     rw (e, region_same _ _ s s' tile) refl
 
 pub same_place : (y x size : ℕ) → 0 < size → y / size ≡ x / size → y % size ≡ x % size → y ≡ x
@@ -74,7 +81,8 @@ same_place y x size z e f =
     sym a ∙ rw (e, f) b
 
 -- every other tile is as it was
-pub tile_in-put_other : (t : Table) (x y : ℕ) (s s' : Stored) → 0 < t.words_per_region → object_at t x ≡ Some s → tile_size (Object s') ≡ tile_size (Object s) → y ≢ x → tile_in (put_object t x s') y ≡ tile_in t y
+pub tile_in-put_other : (t : Table) (x y : ℕ) (s s' : Stored) → 0 < t.words_per_region → object_at t x ≡ Some s
+    → tile_size (Object s') ≡ tile_size (Object s) → y ≢ x → tile_in (put_object t x s') y ≡ tile_in t y
 unfolding object_at tile_in region_at put_object
 tile_in-put_other t x y s s' z h e n =
     let size : ℕ = t.words_per_region in

@@ -22,7 +22,8 @@ at_of : (t : Table) (k a : ℕ) → StartsIn t k a → IsAt t k a
 at_of t k a s =
     let l = tile_listed t a s.tile s.tile_is in
     let whole : a / t.words_per_region * t.words_per_region + a % t.words_per_region ≡ a = omega arith in
-    let listed_is : tile_at (a % t.words_per_region) (tiles_of t k) ≡ Some s.tile = ap (λ (n : ℕ). tile_at (a % t.words_per_region) (tiles_of t n)) (sym s.region) ∙ l.0 in
+    let listed_is : tile_at (a % t.words_per_region) (tiles_of t k) ≡ Some s.tile =
+    ap (λ (n : ℕ). tile_at (a % t.words_per_region) (tiles_of t n)) (sym s.region) ∙ l.0 in
     record {
       tile = s.tile;
       listed_is = listed_is;
@@ -37,16 +38,19 @@ none_lowest t k end w e b s =
     let z = positive_at (b % t.words_per_region) (tiles_of t k) a.tile w.positive a.listed_is in
     omega (arith, a.fits, w.end_is, z)
 
-pub some_lowest : (t : Table) (k end : ℕ) → IsShaped t → IsWalk t k 0 end → 0 < end → StartsIn t k (k * t.words_per_region) × ((b : ℕ) → StartsIn t k b → k * t.words_per_region ≤ b)
+pub some_lowest : (t : Table) (k end : ℕ) → IsShaped t → IsWalk t k 0 end → 0 < end
+    → StartsIn t k (k * t.words_per_region) × ((b : ℕ) → StartsIn t k b → k * t.words_per_region ≤ b)
 some_lowest t k end g w z =
     let first = cut_tile 0 (tiles_of t k) w.cut (omega (arith, w.end_is)) in
     let none : k * t.words_per_region + 0 ≡ k * t.words_per_region = omega arith in
     let here = ap (tile_in t) (sym none) ∙ listed_tile t k 0 first.0 g first.1 in
-    let region : k * t.words_per_region / t.words_per_region ≡ k = ap (λ n. n / t.words_per_region) (sym none) ∙ div-mul-add k t.words_per_region 0 g.positive in
+    let region : k * t.words_per_region / t.words_per_region ≡ k =
+    ap (λ n. n / t.words_per_region) (sym none) ∙ div-mul-add k t.words_per_region 0 g.positive in
     (record { tile = first.0; tile_is = here; region = region }, λ b s. let a = at_of t k b s in omega (arith, a.place))
 
 -- the tile behind another one of its region is the next that starts there
-pub next_starts : (t : Table) (k a n : ℕ) → StartsIn t k a → IsNext t a n → StartsIn t k n × (a < n) × ((b : ℕ) → StartsIn t k b → a < b → n ≤ b)
+pub next_starts : (t : Table) (k a n : ℕ) → StartsIn t k a → IsNext t a n
+    → StartsIn t k n × (a < n) × ((b : ℕ) → StartsIn t k b → a < b → n ≤ b)
 next_starts t k a n s m =
     let (u, e) = tile_there t n m.tile in (
       record { tile = u; tile_is = e; region = m.region ∙ s.region },

@@ -1,7 +1,11 @@
 -- Regions as a whole: made, taken, released, asked for.
 use Rattle.heap_words.specs.Configs.{max_words, max_region_words}
-use Rattle.std.proofs.Common.{◌≡◌, ℕ, zero, suc, ◌+◌, ◌-◌, ◌*◌, ◌<◌, ◌≤◌, Some, None, List, [], ◌∷◌, length, take, drop, get_or, set, refl, sym, ◌∙◌, ap, subst, arith, true, replicate, position}
-use Rattle.regions.specs.Table.{Region, Free, Ordinary, First, Rest, Table, with_region, is_free, first_free, taken, region_used, nth_region, used_of, region_kind, kind_of, free_table, HasNoForwarded, EachForwarded, EachForwardedIn, HasTargets}
+use Rattle.std.proofs.Common.{◌≡◌, ◌+◌, ◌-◌, ◌*◌, ◌<◌, ◌≤◌, ◌∷◌, ◌∙◌}
+use Rattle.std.proofs.Common.{ℕ, zero, suc, Some, None, List, [], length, take, drop, get_or, set, refl}
+use Rattle.std.proofs.Common.{sym, ap, subst, arith, true, replicate, position}
+use Rattle.regions.specs.Table.{Region, Free, Ordinary, First, Rest, Table, with_region, is_free, first_free}
+use Rattle.regions.specs.Table.{taken, region_used, nth_region, used_of, region_kind, kind_of, free_table}
+use Rattle.regions.specs.Table.{HasNoForwarded, EachForwarded, EachForwardedIn, HasTargets}
 use Rattle.std.proofs.lemmas.List.{length-take, length-drop, length-replicate}
 use Rattle.heap_words.specs.Headers.{header_of}
 use Rattle.regions.specs.Tiles.{Tile, Object, Filler, Forwarded, total_size, size_by, tiles, IsTiled}
@@ -31,7 +35,8 @@ pub record IsKnown (size : ℕ) (words : List ℕ) (rows : List Row) (t : Table)
   pub in_rows : k < length rows
   pub region_is : nth_region t k ≡ region_of (sizes_in words) (drop (k * size) words) (get_or rows k free_row)
 
-pub known : (size : ℕ) (words : List ℕ) (rows : List Row) (t : Table) (k : ℕ) → table_of size words rows ≡ t → k < length t.regions → IsKnown size words rows t k
+pub known : (size : ℕ) (words : List ℕ) (rows : List Row) (t : Table) (k : ℕ) → table_of size words rows ≡ t
+    → k < length t.regions → IsKnown size words rows t k
 unfolding nth_region
 known size words rows t k e h =
     let l : length (regions_of (sizes_in words) size words rows) ≡ length t.regions = ap (λ (u : Table). length u.regions) e in
@@ -48,7 +53,8 @@ kind_by sizes ws used kinds.Ordinary = refl
 kind_by sizes ws used kinds.First = refl
 kind_by sizes ws used kinds.Rest = refl
 
-pub kind_is : (size : ℕ) (words : List ℕ) (rows : List Row) (t : Table) (k : ℕ) → IsKnown size words rows t k → kind_of t k ≡ (get_or rows k free_row).kind
+pub kind_is : (size : ℕ) (words : List ℕ) (rows : List Row) (t : Table) (k : ℕ) → IsKnown size words rows t k
+    → kind_of t k ≡ (get_or rows k free_row).kind
 unfolding kind_of
 kind_is size words rows t k g = rw g.region_is (kind_by _ _ _ _)
 
@@ -78,12 +84,15 @@ free_by sizes ws used kinds.Ordinary = refl
 free_by sizes ws used kinds.First = refl
 free_by sizes ws used kinds.Rest = refl
 
-pub place-regions_of : (sizes : ℕ → ℕ) (size : ℕ) (rows : List Row) (ws : List ℕ) → position_or_len is_free (regions_of sizes size ws rows) ≡ position_or_len (λ (row : Row). kind_is_free row.kind) rows
+pub place-regions_of : (sizes : ℕ → ℕ) (size : ℕ) (rows : List Row) (ws : List ℕ)
+    → position_or_len is_free (regions_of sizes size ws rows) ≡ position_or_len (λ (row : Row). kind_is_free row.kind) rows
 place-regions_of sizes size [] ws = refl
 place-regions_of sizes size (row ∷ rows) ws = rw (free_by sizes ws row.used row.kind, place-regions_of sizes size rows (drop size ws)) refl
 
-pub first_free-is : (size : ℕ) (words : List ℕ) (rows : List Row) (t : Table) → table_of size words rows ≡ t → first_free t ≡ position (λ (row : Row). kind_is_free row.kind) rows
-first_free-is size words rows t e = rw (← e, place-regions_of (sizes_in words) size rows words, length-regions_of (sizes_in words) size rows words) refl
+pub first_free-is : (size : ℕ) (words : List ℕ) (rows : List Row) (t : Table) → table_of size words rows ≡ t
+    → first_free t ≡ position (λ (row : Row). kind_is_free row.kind) rows
+first_free-is size words rows t e =
+    rw (← e, place-regions_of (sizes_in words) size rows words, length-regions_of (sizes_in words) size rows words) refl
 
 pub EachForwarded-all : (P : ℕ → Type 0) (ts : List Tile) → ((to : ℕ) → P to) → EachForwarded P ts
 EachForwarded-all P [] h = tt
@@ -99,7 +108,11 @@ EachForwardedIn-all P (First s ∷ rs) h = EachForwardedIn-all P rs h
 EachForwardedIn-all P (Rest n ∷ rs) h = EachForwardedIn-all P rs h
 
 -- a row changes and no word
-pub row_changed : (size : ℕ) (words : List ℕ) (rows : List Row) (t : Table) (k : ℕ) (row : Row) (r : Region) → IsTable size words rows → table_of size words rows ≡ t → k < length rows → IsPlain (get_or rows k free_row).kind → IsPlain row.kind → IsRow (sizes_in words) size (drop (k * size) words) row.used row.kind → region_of (sizes_in words) (drop (k * size) words) row ≡ r → EachForwardedIn (IsKept t (with_region t k r)) (with_region t k r).regions → IsWrittenTable size words (set rows k row) (with_region t k r)
+pub row_changed : (size : ℕ) (words : List ℕ) (rows : List Row) (t : Table) (k : ℕ) (row : Row) (r : Region) → IsTable size words rows
+    → table_of size words rows ≡ t → k < length rows → IsPlain (get_or rows k free_row).kind → IsPlain row.kind
+    → IsRow (sizes_in words) size (drop (k * size) words) row.used row.kind → region_of (sizes_in words) (drop (k * size) words) row ≡ r
+    → EachForwardedIn (IsKept t (with_region t k r)) (with_region t k r).regions
+    → IsWrittenTable size words (set rows k row) (with_region t k r)
 row_changed size words rows t k row r g e h p q i is kept =
     region_changed size words words rows t k row r g e h p q (record { length_is = refl; before = refl; after = refl }) i is kept
 
@@ -115,13 +128,18 @@ free_region sizes ws used kinds.Ordinary h = cc
 free_region sizes ws used kinds.First h = cc
 free_region sizes ws used kinds.Rest h = cc
 
-free_at : (size : ℕ) (words : List ℕ) (rows : List Row) (t : Table) (k : ℕ) → table_of size words rows ≡ t → k < length rows → kind_is_free (get_or rows k free_row).kind ≡ true → get_or t.regions k Free ≡ Free
-free_at size words rows t k e h f = rw (← e) (regions-at (sizes_in words) size rows k (k * size) words free_row refl h ∙ free_region _ _ _ _ f)
+free_at : (size : ℕ) (words : List ℕ) (rows : List Row) (t : Table) (k : ℕ) → table_of size words rows ≡ t → k < length rows
+    → kind_is_free (get_or rows k free_row).kind ≡ true → get_or t.regions k Free ≡ Free
+free_at size words rows t k e h f =
+    rw (← e) (regions-at (sizes_in words) size rows k (k * size) words free_row refl h ∙ free_region _ _ _ _ f)
 
-pub targets_of : (size : ℕ) (words : List ℕ) (rows : List Row) (t : Table) → IsTable size words rows → table_of size words rows ≡ t → HasTargets t
+pub targets_of : (size : ℕ) (words : List ℕ) (rows : List Row) (t : Table) → IsTable size words rows
+    → table_of size words rows ≡ t → HasTargets t
 targets_of size words rows t g e = subst (λ (u : Table). HasTargets u) e g.targets
 
-pub taken_is : (size : ℕ) (words : List ℕ) (rows : List Row) (t : Table) (k : ℕ) → IsTable size words rows → table_of size words rows ≡ t → k < length rows → kind_is_free (get_or rows k free_row).kind ≡ true → IsWrittenTable size words (set rows k (record { kind = kinds.Ordinary; used = 0 })) (with_region t k (Ordinary []))
+pub taken_is : (size : ℕ) (words : List ℕ) (rows : List Row) (t : Table) (k : ℕ) → IsTable size words rows → table_of size words rows ≡ t
+    → k < length rows → kind_is_free (get_or rows k free_row).kind ≡ true
+    → IsWrittenTable size words (set rows k (record { kind = kinds.Ordinary; used = 0 })) (with_region t k (Ordinary []))
 taken_is size words rows t k g e h f =
     let free = free_at size words rows t k e h f in
     let kept = was_free_kept t k (Ordinary []) free (tt, tt) (targets_of size words rows t g e) in
@@ -132,7 +150,8 @@ pub record IsTop (size : ℕ) (words : List ℕ) (rows : List Row) (t : Table) (
   pub used_le : (get_or rows k free_row).used ≤ size
   pub room : k * size + size ≤ length words
 
-used_by : (sizes : ℕ → ℕ) (size used : ℕ) (kind : Kind) (ws : List ℕ) → size ≤ length ws → IsPlain kind → IsRow sizes size ws used kind → (region_used size (region_by sizes ws used kind) ≡ used) × (used ≤ size)
+used_by : (sizes : ℕ → ℕ) (size used : ℕ) (kind : Kind) (ws : List ℕ) → size ≤ length ws → IsPlain kind → IsRow sizes size ws used kind
+    → (region_used size (region_by sizes ws used kind) ≡ used) × (used ≤ size)
 used_by sizes size used kinds.Free ws f p r = (sym r, omega arith)
 used_by sizes size used kinds.Ordinary ws f p r =
     let n = tiles_total sizes 0 (take used ws) r.1 in
@@ -149,7 +168,8 @@ not_rest kinds.Rest h e = h
 pub plain_from : (kind : Kind) → kind ≡ kinds.Ordinary → IsPlain kind
 plain_from kind e = rw e tt
 
-pub top_is : (size : ℕ) (words : List ℕ) (rows : List Row) (t : Table) (k : ℕ) → IsTable size words rows → table_of size words rows ≡ t → k < length t.regions → kind_of t k ≡ kinds.Ordinary → IsTop size words rows t k
+pub top_is : (size : ℕ) (words : List ℕ) (rows : List Row) (t : Table) (k : ℕ) → IsTable size words rows → table_of size words rows ≡ t
+    → k < length t.regions → kind_of t k ≡ kinds.Ordinary → IsTop size words rows t k
 unfolding used_of nth_region
 top_is size words rows t k g e h o =
     let n = known size words rows t k e h in
@@ -157,14 +177,16 @@ top_is size words rows t k g e h o =
     let p = plain_from _ is in
     let fits : k * size + size ≤ length words = rw g.covers (row_fits k size (length rows) size n.in_rows (omega arith)) in
     let st = start_at (sizes_in words) size rows k (k * size) 0 words free_row refl n.in_rows g.rows_right (not_rest _ p) in
-    let u = used_by (sizes_in words) size (get_or rows k free_row).used (get_or rows k free_row).kind (drop (k * size) words) (omega (arith, length-drop (k * size) words)) p st.0.row_is in
+    let u = used_by (sizes_in words) size (get_or rows k free_row).used (get_or rows k free_row).kind (drop (k * size) words)
+    (omega (arith, length-drop (k * size) words)) p st.0.row_is in
     record { used_is = rw (← n.size_is, n.region_is) (sym u.0); used_le = u.1; room = fits }
 
 no_targets : (P : ℕ → Type 0) (n : ℕ) → EachForwardedIn P (replicate n Free)
 no_targets P zero = tt
 no_targets P (suc n) = no_targets P n
 
-pub new_table : (size n : ℕ) (words : List ℕ) (rows : List Row) → 0 < size → size ≤ max_region_words → length words ≡ n * size → n * size ≤ max_words → rows ≡ replicate n free_row → IsWrittenTable size words rows (free_table n size)
+pub new_table : (size n : ℕ) (words : List ℕ) (rows : List Row) → 0 < size → size ≤ max_region_words → length words ≡ n * size
+    → n * size ≤ max_words → rows ≡ replicate n free_row → IsWrittenTable size words rows (free_table n size)
 unfolding free_table
 new_table size n words rows z h l m e =
     record {
@@ -175,7 +197,8 @@ new_table size n words rows z h l m e =
         rows_right = rw e (AreRows-free (sizes_in words) size n words);
         targets = rw (e, regions_of-free (sizes_in words) size n words) (no_targets _ n);
       };
-      table_is = rw e (ap (λ (rs : List Region). record { words_per_region = size; regions = rs }) (regions_of-free (sizes_in words) size n words));
+      table_is = rw e (ap (λ (rs : List Region). record { words_per_region = size; regions = rs })
+          (regions_of-free (sizes_in words) size n words));
     }
 
 pub record IsTaken (size : ℕ) (words : List ℕ) (rows : List Row) (t : Table) (k : ℕ) : Type 0 where
@@ -183,7 +206,8 @@ pub record IsTaken (size : ℕ) (words : List ℕ) (rows : List Row) (t : Table)
   pub lowest : first_free t ≡ Some k
   pub in_rows : k < length rows
 
-pub lowest_taken : (size : ℕ) (words : List ℕ) (rows : List Row) (t : Table) (k : ℕ) → IsTable size words rows → table_of size words rows ≡ t → position (λ (row : Row). kind_is_free row.kind) rows ≡ Some k → IsTaken size words rows t k
+pub lowest_taken : (size : ℕ) (words : List ℕ) (rows : List Row) (t : Table) (k : ℕ) → IsTable size words rows
+    → table_of size words rows ≡ t → position (λ (row : Row). kind_is_free row.kind) rows ≡ Some k → IsTaken size words rows t k
 lowest_taken size words rows t k g e h =
     let p = position-Some (λ (row : Row). kind_is_free row.kind) rows k free_row h in
     let first : first_free t ≡ Some k = first_free-is size words rows t e ∙ h in
@@ -193,7 +217,8 @@ lowest_taken size words rows t k g e h =
       in_rows = p.0;
     }
 
-pub none_taken : (size : ℕ) (words : List ℕ) (rows : List Row) (t : Table) → table_of size words rows ≡ t → position (λ (row : Row). kind_is_free row.kind) rows ≡ None → (first_free t ≡ None) × (t ≡ taken t (first_free t))
+pub none_taken : (size : ℕ) (words : List ℕ) (rows : List Row) (t : Table) → table_of size words rows ≡ t
+    → position (λ (row : Row). kind_is_free row.kind) rows ≡ None → (first_free t ≡ None) × (t ≡ taken t (first_free t))
 none_taken size words rows t e h =
     let first : first_free t ≡ None = first_free-is size words rows t e ∙ h in
     (first, rw first refl)

@@ -1,12 +1,15 @@
 -- Where tiles stand once fillers are made, split and filled, with no word in it.
-use Rattle.std.proofs.Common.{◌≡◌, ◌≢◌, ℕ, zero, suc, ◌+◌, ◌-◌, ◌*◌, ◌/◌, ◌%◌, ◌<◌, ◌≤◌, ◌⊎◌, Some, None, List, [], ◌∷◌, ◌++◌, length, get_or, set, refl, sym, ◌∙◌, ap, subst, arith, true, inl, inr}
+use Rattle.std.proofs.Common.{◌≡◌, ◌≢◌, ◌+◌, ◌-◌, ◌*◌, ◌/◌, ◌%◌, ◌<◌, ◌≤◌, ◌⊎◌, ◌∷◌, ◌++◌, ◌∙◌}
+use Rattle.std.proofs.Common.{ℕ, zero, suc, Some, None, List, [], length, get_or, set, refl, sym, ap, subst, arith, true, inl, inr}
 use Rattle.std.proofs.lemmas.List.{get_or-set_same, get_or-set_other, length-set}
 use Rattle.std.proofs.lemmas.List.Quantifiers.{position-Some}
 use Rattle.std.proofs.lemmas.Bool.{cases_lt, cases_eq, le-leb, lt-leb}
 use Rattle.std.proofs.lemmas.Bool.Decides.{leb_tells}
 use Rattle.std.proofs.lemmas.Nat.{div-mul-add}
 use Rattle.regions.specs.Tiles.{Tile, Filler, tile_size, tile_at, replace, total_size}
-use Rattle.regions.specs.Table.{Region, Free, Ordinary, First, Rest, Table, region_tile, region_at, nth_region, tile_in, kind_of, region_kind, HasNoForwarded, EachForwarded, replace_tile, region_replaced, push_tile, region_with_tile, used_of, region_used, top_of, taken, first_free, is_free, remainder}
+use Rattle.regions.specs.Table.{Region, Free, Ordinary, First, Rest, Table, region_tile, region_at, nth_region, tile_in, kind_of}
+use Rattle.regions.specs.Table.{region_kind, HasNoForwarded, EachForwarded, replace_tile, region_replaced, push_tile, region_with_tile}
+use Rattle.regions.specs.Table.{used_of, region_used, top_of, taken, first_free, is_free, remainder}
 use Rattle.regions.specs.Walks.{AllPositive, AreFitting, tiles_of, region_tiles}
 use Rattle.regions.proofs.Tiles.Laws.{known_region}
 use Rattle.regions.proofs.Words.Parse.{past}
@@ -36,7 +39,8 @@ tile_at-front (t ∷ new) ts (suc j) h =
       | inr q ↦ rw q.0 refl
     ]
 
-pub tile_at-back : (new ts : List Tile) (j : ℕ) → AllPositive new → total_size new ≤ j → tile_at j (new ++ ts) ≡ tile_at (j - total_size new) ts
+pub tile_at-back : (new ts : List Tile) (j : ℕ) → AllPositive new → total_size new ≤ j
+    → tile_at j (new ++ ts) ≡ tile_at (j - total_size new) ts
 tile_at-back [] ts j z h = let e : j - 0 ≡ j = omega arith in rw e refl
 tile_at-back (t ∷ new) ts zero z h = absurd (let p = z.0 in omega arith)
 tile_at-back (t ∷ new) ts (suc j) z h =
@@ -44,7 +48,8 @@ tile_at-back (t ∷ new) ts (suc j) z h =
     let e : suc j - tile_size t - total_size new ≡ suc j - (tile_size t + total_size new) = omega arith in
     rw (le-leb (tile_size t) (suc j) le, ← e) (tile_at-back new ts (suc j - tile_size t) z.1 (omega arith))
 
-pub tile_at-within : (ts new : List Tile) (o y j : ℕ) (u : Tile) → tile_at o ts ≡ Some u → y ≡ o + j → j < total_size new → tile_at y (replace o new ts) ≡ tile_at j new
+pub tile_at-within : (ts new : List Tile) (o y j : ℕ) (u : Tile) → tile_at o ts ≡ Some u → y ≡ o + j → j < total_size new
+    → tile_at y (replace o new ts) ≡ tile_at j new
 tile_at-within [] new o y j u f e h = cc
 tile_at-within (t ∷ ts) new zero y j u f e h = let s : y ≡ j = omega arith in rw s (tile_at-front new ts j h)
 tile_at-within (t ∷ ts) new (suc o) zero j u f e h = absurd (omega arith)
@@ -53,7 +58,8 @@ tile_at-within (t ∷ ts) new (suc o) (suc y) j u f e h =
     let le : tile_size t ≤ suc y = omega (arith, p.0) in
     rw (le-leb (tile_size t) (suc y) le) (tile_at-within ts new (suc o - tile_size t) (suc y - tile_size t) j u p.1 (omega (arith, p.0)) h)
 
-pub tile_at-after : (ts new : List Tile) (o y : ℕ) (u : Tile) → tile_at o ts ≡ Some u → AllPositive new → total_size new ≡ tile_size u → 0 < tile_size u → o + tile_size u ≤ y → tile_at y (replace o new ts) ≡ tile_at y ts
+pub tile_at-after : (ts new : List Tile) (o y : ℕ) (u : Tile) → tile_at o ts ≡ Some u → AllPositive new → total_size new ≡ tile_size u
+    → 0 < tile_size u → o + tile_size u ≤ y → tile_at y (replace o new ts) ≡ tile_at y ts
 tile_at-after [] new o y u f z e p h = refl
 tile_at-after (t ∷ ts) new zero y u f z e p h =
     let same : t ≡ u = cc in
@@ -80,13 +86,17 @@ tile_at-inside (t ∷ ts) zero (suc y) u f h k =
 tile_at-inside (t ∷ ts) (suc o) (suc y) u f h k =
     let p = past (tile_size t) (suc o) _ u f in
     let le : tile_size t ≤ suc y = omega (arith, p.0) in
-    rw (le-leb (tile_size t) (suc y) le) (tile_at-inside ts (suc o - tile_size t) (suc y - tile_size t) u p.1 (omega (arith, p.0)) (omega (arith, p.0)))
+    rw (le-leb (tile_size t) (suc y) le)
+    (tile_at-inside ts (suc o - tile_size t) (suc y - tile_size t) u p.1 (omega (arith, p.0)) (omega (arith, p.0)))
 
 -- a tile lies within its list
 pub tile_at-end : (ts : List Tile) (o : ℕ) (u : Tile) → tile_at o ts ≡ Some u → o + tile_size u ≤ total_size ts
 tile_at-end [] o u f = cc
 tile_at-end (t ∷ ts) zero u f = let same : t ≡ u = cc in let size : tile_size t ≡ tile_size u = ap tile_size same in omega arith
-tile_at-end (t ∷ ts) (suc o) u f = let p = past (tile_size t) (suc o) _ u f in let i = tile_at-end ts (suc o - tile_size t) u p.1 in omega (arith, p.0)
+tile_at-end (t ∷ ts) (suc o) u f =
+    let p = past (tile_size t) (suc o) _ u f in
+    let i = tile_at-end ts (suc o - tile_size t) u p.1 in
+    omega (arith, p.0)
 
 -- a filler, unless it has no words
 pub remainder_total : (r : ℕ) → total_size (remainder r) ≡ r
@@ -131,13 +141,15 @@ kind_replaced (Ordinary ts) o new = refl
 kind_replaced (First s) o new = refl
 kind_replaced (Rest n) o new = refl
 
-pub filler_region : (t : Table) (x n : ℕ) → tile_in t x ≡ Some (Filler n) → (x / t.words_per_region < length t.regions) × (kind_of t (x / t.words_per_region) ≡ kinds.Ordinary)
+pub filler_region : (t : Table) (x n : ℕ) → tile_in t x ≡ Some (Filler n)
+    → (x / t.words_per_region < length t.regions) × (kind_of t (x / t.words_per_region) ≡ kinds.Ordinary)
 unfolding tile_in region_at kind_of nth_region
 filler_region t x n h =
     let q = has_tiles _ _ n h in
     (known_region t.regions _ _ _ h, ap region_kind q.is)
 
-pub filler_replaced : (t : Table) (x n : ℕ) (new : List Tile) → 0 < t.words_per_region → AreFitting t → tile_in t x ≡ Some (Filler n) → 0 < n → AllPositive new → total_size new ≡ n → EachForwarded (λ _. ⊥) new → Replaces t (replace_tile t x new) x n new
+pub filler_replaced : (t : Table) (x n : ℕ) (new : List Tile) → 0 < t.words_per_region → AreFitting t → tile_in t x ≡ Some (Filler n)
+    → 0 < n → AllPositive new → total_size new ≡ n → EachForwarded (λ _. ⊥) new → Replaces t (replace_tile t x new) x n new
 unfolding tile_in region_at kind_of nth_region replace_tile tiles_of used_of
 filler_replaced t x n new z fitting h p positive total moved =
     let size : ℕ = t.words_per_region in
@@ -154,8 +166,10 @@ filler_replaced t x n new z fitting h p positive total moved =
     let r : Region = region_replaced (get_or t.regions k Free) o new in
     let ris : r ≡ Ordinary (replace o new q.tiles) = ap (λ (g : Region). region_replaced g o new) is in
     let here : get_or (set t.regions k r) k Free ≡ Ordinary (replace o new q.tiles) = get_or-set_same t.regions k r Free known ∙ ris in
-    let after_is : (y : ℕ) → y / size ≡ k → region_tile (get_or (set t.regions k r) (y / size) Free) (y % size) ≡ tile_at (y % size) (replace o new q.tiles) =
-    λ y e. ap (λ (j : ℕ). region_tile (get_or (set t.regions k r) j Free) (y % size)) e ∙ ap (λ (g : Region). region_tile g (y % size)) here in
+    let after_is : (y : ℕ) → y / size ≡ k
+    → region_tile (get_or (set t.regions k r) (y / size) Free) (y % size) ≡ tile_at (y % size) (replace o new q.tiles) =
+    λ y e.
+    ap (λ (j : ℕ). region_tile (get_or (set t.regions k r) j Free) (y % size)) e ∙ ap (λ (g : Region). region_tile g (y % size)) here in
     let before_is : (y : ℕ) → y / size ≡ k → region_tile (get_or t.regions (y / size) Free) (y % size) ≡ tile_at (y % size) q.tiles =
     λ y e. ap (λ (j : ℕ). region_tile (get_or t.regions j Free) (y % size)) e ∙ ap (λ (g : Region). region_tile g (y % size)) is in
     record {
@@ -165,7 +179,8 @@ filler_replaced t x n new z fitting h p positive total moved =
         | inl e ↦ rw e (ap region_kind (get_or-set_same t.regions k r Free known) ∙ kind_replaced (get_or t.regions k Free) o new)
         | inr e ↦ ap region_kind (get_or-set_other t.regions k j r Free e)
       ];
-      unmoved = λ m. EachForwardedIn-set (λ _. ⊥) t.regions k r (replaced-moved (λ _. ⊥) (get_or t.regions k Free) o new moved (EachForwardedIn-at (λ _. ⊥) t.regions k m)) m;
+      unmoved = λ m. EachForwardedIn-set (λ _. ⊥) t.regions k r
+          (replaced-moved (λ _. ⊥) (get_or t.regions k Free) o new moved (EachForwardedIn-at (λ _. ⊥) t.regions k m)) m;
       within = λ j lt.
           let place : k * size + (o + j) ≡ x + j = omega arith in
           let row : (x + j) / size ≡ k = subst (λ (a : ℕ). a / size ≡ k) place (div-mul-add k size (o + j) (omega arith)) in
@@ -185,8 +200,10 @@ filler_replaced t x n new z fitting h p positive total moved =
             let whole : y / size * size + y % size ≡ y = omega arith in
             let whole' = rw e at whole in
             elim apart [
-              | inl lt ↦ after_is y e ∙ tile_at-before q.tiles new o (y % size) (Filler n) there (omega (arith, whole', at)) ∙ sym (before_is y e)
-              | inr le ↦ after_is y e ∙ tile_at-after q.tiles new o (y % size) (Filler n) there positive total p (omega (arith, whole', at)) ∙ sym (before_is y e)
+              | inl lt ↦
+                  after_is y e ∙ tile_at-before q.tiles new o (y % size) (Filler n) there (omega (arith, whole', at)) ∙ sym (before_is y e)
+              | inr le ↦ after_is y e ∙ tile_at-after q.tiles new o (y % size) (Filler n) there positive total p (omega (arith, whole', at))
+                  ∙ sym (before_is y e)
             ]
         | inr e ↦ ap (λ (g : Region). region_tile g (y % size)) (get_or-set_other t.regions k (y / size) r Free e)
       ];
@@ -241,7 +258,9 @@ ordinary_at (Ordinary ts) h = record { tiles = ts; is = refl }
 ordinary_at (First s) h = cc
 ordinary_at (Rest n) h = cc
 
-pub filler_push : (t : Table) (k : ℕ) (tile : Tile) → 0 < t.words_per_region → AreFitting t → k < length t.regions → kind_of t k ≡ kinds.Ordinary → 0 < tile_size tile → used_of t k + tile_size tile ≤ t.words_per_region → EachForwarded (λ _. ⊥) (tile ∷ []) → Pushed t (push_tile t k tile) k (k * t.words_per_region + used_of t k) tile
+pub filler_push : (t : Table) (k : ℕ) (tile : Tile) → 0 < t.words_per_region → AreFitting t → k < length t.regions
+    → kind_of t k ≡ kinds.Ordinary → 0 < tile_size tile → used_of t k + tile_size tile ≤ t.words_per_region
+    → EachForwarded (λ _. ⊥) (tile ∷ []) → Pushed t (push_tile t k tile) k (k * t.words_per_region + used_of t k) tile
 unfolding tile_in region_at kind_of nth_region push_tile tiles_of used_of
 filler_push t k tile z fitting known ordinary p room moved =
     let size : ℕ = t.words_per_region in
@@ -265,22 +284,27 @@ filler_push t k tile z fitting known ordinary p room moved =
         | inl e ↦ rw e (ap region_kind here ∙ sym ordinary)
         | inr e ↦ ap region_kind (get_or-set_other t.regions k j r Free e)
       ];
-      unmoved = λ m. EachForwardedIn-set (λ _. ⊥) t.regions k r (with_tile-moved (λ _. ⊥) (get_or t.regions k Free) tile moved (EachForwardedIn-at (λ _. ⊥) t.regions k m)) m;
+      unmoved = λ m. EachForwardedIn-set (λ _. ⊥) t.regions k r
+          (with_tile-moved (λ _. ⊥) (get_or t.regions k Free) tile moved (EachForwardedIn-at (λ _. ⊥) t.regions k m)) m;
       known = known;
       positive = p;
       at = refl;
       room = room;
-      used = ap (region_used size) here ∙ total-append q.tiles (tile ∷ []) ∙ (let zero_more : tile_size tile + 0 ≡ tile_size tile = omega arith in rw (zero_more, used) refl);
+      used = ap (region_used size) here ∙ total-append q.tiles (tile ∷ [])
+          ∙ (let zero_more : tile_size tile + 0 ≡ tile_size tile = omega arith in rw (zero_more, used) refl);
       used_others = λ j n. ap (region_used size) (get_or-set_other t.regions k j r Free n);
-      is = ap (λ (j : ℕ). region_tile (get_or (set t.regions k r) j Free) (a % size)) row ∙ ap (λ (g : Region). region_tile g (a % size)) here ∙ ap (λ (j : ℕ). tile_at j (q.tiles ++ tile ∷ [])) column
+      is = ap (λ (j : ℕ). region_tile (get_or (set t.regions k r) j Free) (a % size)) row
+          ∙ ap (λ (g : Region). region_tile g (a % size)) here ∙ ap (λ (j : ℕ). tile_at j (q.tiles ++ tile ∷ [])) column
           ∙ tile_at-back q.tiles (tile ∷ []) (total_size q.tiles) positive (omega arith) ∙ ap (λ (j : ℕ). tile_at j (tile ∷ [])) zero_at;
-      was = ap (λ (j : ℕ). region_tile (get_or t.regions j Free) (a % size)) row ∙ ap (λ (g : Region). region_tile g (a % size)) is ∙ ap (λ (j : ℕ). tile_at j q.tiles) column ∙ tile_at-past q.tiles (total_size q.tiles) positive (omega arith);
+      was = ap (λ (j : ℕ). region_tile (get_or t.regions j Free) (a % size)) row ∙ ap (λ (g : Region). region_tile g (a % size)) is
+          ∙ ap (λ (j : ℕ). tile_at j q.tiles) column ∙ tile_at-past q.tiles (total_size q.tiles) positive (omega arith);
       others = λ y apart. elim (cases_eq (y / size) k) [
         | inl e ↦
             let whole : y / size * size + y % size ≡ y = omega arith in
             let whole' : k * size + y % size ≡ y = rw e at whole in
             let ne : y % size ≢ total_size q.tiles = λ h. apart (omega (arith, h, used, whole')) in
-            ap (λ (j : ℕ). region_tile (get_or (set t.regions k r) j Free) (y % size)) e ∙ ap (λ (g : Region). region_tile g (y % size)) here ∙ tile_at-push_other q.tiles tile (y % size) positive ne
+            ap (λ (j : ℕ). region_tile (get_or (set t.regions k r) j Free) (y % size)) e
+            ∙ ap (λ (g : Region). region_tile g (y % size)) here ∙ tile_at-push_other q.tiles tile (y % size) positive ne
             ∙ sym (ap (λ (j : ℕ). region_tile (get_or t.regions j Free) (y % size)) e ∙ ap (λ (g : Region). region_tile g (y % size)) is)
         | inr e ↦ ap (λ (g : Region). region_tile g (y % size)) (get_or-set_other t.regions k (y / size) r Free e)
       ];
@@ -319,7 +343,10 @@ region_taken t k h =
       known = rw length-set known;
       ordinary = ap region_kind here;
       was = ap region_kind is;
-      kinds_same = λ j o. elim (cases_eq j k) [ inl e ↦ rw e (ap region_kind here) | inr e ↦ ap region_kind (get_or-set_other t.regions k j (Ordinary []) Free e) ∙ o ];
+      kinds_same = λ j o. elim (cases_eq j k) [
+        | inl e ↦ rw e (ap region_kind here)
+        | inr e ↦ ap region_kind (get_or-set_other t.regions k j (Ordinary []) Free e) ∙ o
+      ];
       in_use = λ j n h. elim (cases_eq j k) [
         | inl e ↦ n (ap (λ (i : ℕ). region_kind (get_or t.regions i Free)) e ∙ ap region_kind is)
         | inr e ↦ n (sym (ap region_kind (get_or-set_other t.regions k j (Ordinary []) Free e)) ∙ h)
@@ -327,9 +354,13 @@ region_taken t k h =
       count = length-set t.regions k (Ordinary []);
       unmoved = λ m. EachForwardedIn-set (λ _. ⊥) t.regions k (Ordinary []) (tt, tt) m;
       empty = ap (region_used size) here;
-      used = λ j. elim (cases_eq j k) [ inl e ↦ rw e (ap (region_used size) here ∙ sym (ap (region_used size) is)) | inr e ↦ ap (region_used size) (get_or-set_other t.regions k j (Ordinary []) Free e) ];
+      used = λ j. elim (cases_eq j k) [
+        | inl e ↦ rw e (ap (region_used size) here ∙ sym (ap (region_used size) is))
+        | inr e ↦ ap (region_used size) (get_or-set_other t.regions k j (Ordinary []) Free e)
+      ];
       others = λ y. elim (cases_eq (y / size) k) [
-        | inl e ↦ ap (λ (j : ℕ). region_tile (get_or (set t.regions k (Ordinary [])) j Free) (y % size)) e ∙ ap (λ (g : Region). region_tile g (y % size)) here
+        | inl e ↦ ap (λ (j : ℕ). region_tile (get_or (set t.regions k (Ordinary [])) j Free) (y % size)) e
+            ∙ ap (λ (g : Region). region_tile g (y % size)) here
             ∙ sym (ap (λ (j : ℕ). region_tile (get_or t.regions j Free) (y % size)) e ∙ ap (λ (g : Region). region_tile g (y % size)) is)
         | inr e ↦ ap (λ (g : Region). region_tile g (y % size)) (get_or-set_other t.regions k (y / size) (Ordinary []) Free e)
       ];

@@ -4,13 +4,15 @@ use Rattle.heap_words.specs.Headers.{pointer_of}
 use Rattle.regions.proofs.Rows.RowLemmas.{start_at}
 use Rattle.regions.proofs.Tiles.Targets.{IsWrittenTable}
 use Rattle.regions.proofs.Tiles.Kept.{push_kept}
-use Rattle.regions.specs.Table.{HasObject, Ordinary, Table, nth_region, used_of, kind_of, EachForwarded, push_tile, region_with_tile, new_object}
+use Rattle.regions.specs.Table.{HasObject, Ordinary, Table, nth_region, used_of, kind_of}
+use Rattle.regions.specs.Table.{EachForwarded, push_tile, region_with_tile, new_object}
 use Rattle.regions.proofs.Words.Written.{region_changed, IsChange}
 use Rattle.regions.specs.Rows.{sizes_in, region_of, IsRow, table_of, IsTable, free_row}
 use Rattle.regions.specs.Tiles.{Tile, stored_of, tiles}
 use Rattle.regions.specs.declared.row.Kind.{Kind}
 use Rattle.regions.specs.declared.row.Row.{Row}
-use Rattle.std.proofs.Common.{◌≡◌, ℕ, zero, suc, ◌+◌, ◌-◌, ◌*◌, ◌<◌, ◌≤◌, None, List, [], ◌∷◌, ◌++◌, length, take, drop, map, get_or, set, refl, sym, ◌∙◌, ap, subst, arith, replicate}
+use Rattle.std.proofs.Common.{◌≡◌, ◌+◌, ◌-◌, ◌*◌, ◌<◌, ◌≤◌, ◌∷◌, ◌++◌, ◌∙◌}
+use Rattle.std.proofs.Common.{ℕ, zero, suc, None, List, [], length, take, drop, map, get_or, set, refl, sym, ap, subst, arith, replicate}
 use Rattle.std.proofs.lemmas.List.{take-take, drop-drop, drop-take, take-replicate, drop-replicate}
 use Rattle.regions.proofs.Words.Fields.{IsOne}
 use Rattle.regions.proofs.Words.Parse.{tiles-append, IsTiled-append}
@@ -23,7 +25,8 @@ pub record IsPush (words words' : List ℕ) (at m : ℕ) : Type 0 where
   pub before : take at words' ≡ take at words
   pub after : drop (at + m) words' ≡ drop (at + m) words
 
-pub change_of : (size n used m : ℕ) (words words' : List ℕ) → IsPush words words' (n + used) m → used + m ≤ size → IsChange size words words' n
+pub change_of : (size n used m : ℕ) (words words' : List ℕ) → IsPush words words' (n + used) m
+    → used + m ≤ size → IsChange size words words' n
 change_of size n used m words words' c room =
     let le : n ≤ n + used = omega arith in
     let rest : size ≡ used + m + (size - (used + m)) = omega arith in
@@ -31,10 +34,15 @@ change_of size n used m words words' c room =
     record {
       length_is = c.length_is;
       before = sym (take-take n (n + used) words' le) ∙ ap (take n) c.before ∙ take-take n (n + used) words le;
-      after = sym (drop-drop (size - (used + m)) (n + used + m) words' ∙ ap (λ j. drop j words') at) ∙ ap (drop (size - (used + m))) c.after ∙ (drop-drop (size - (used + m)) (n + used + m) words ∙ ap (λ j. drop j words) at);
+      after = sym (drop-drop (size - (used + m)) (n + used + m) words' ∙ ap (λ j. drop j words') at) ∙ ap (drop (size - (used + m))) c.after
+          ∙ (drop-drop (size - (used + m)) (n + used + m) words ∙ ap (λ j. drop j words) at);
     }
 
-pub pushed : (size : ℕ) (words words' : List ℕ) (rows : List Row) (t : Table) (k m : ℕ) (tile : Tile) → IsTable size words rows → table_of size words rows ≡ t → k < length t.regions → kind_of t k ≡ kinds.Ordinary → used_of t k + m ≤ size → IsPush words words' (k * size + used_of t k) m → IsOne (sizes_in words) (take m (drop (k * size + used_of t k) words')) tile → EachForwarded (HasObject t) (tile ∷ []) → IsWrittenTable size words' (set rows k (record { kind = kinds.Ordinary; used = used_of t k + m })) (push_tile t k tile)
+pub pushed : (size : ℕ) (words words' : List ℕ) (rows : List Row) (t : Table) (k m : ℕ) (tile : Tile) → IsTable size words rows
+    → table_of size words rows ≡ t → k < length t.regions → kind_of t k ≡ kinds.Ordinary → used_of t k + m ≤ size
+    → IsPush words words' (k * size + used_of t k) m → IsOne (sizes_in words) (take m (drop (k * size + used_of t k) words')) tile
+    → EachForwarded (HasObject t) (tile ∷ [])
+    → IsWrittenTable size words' (set rows k (record { kind = kinds.Ordinary; used = used_of t k + m })) (push_tile t k tile)
 unfolding push_tile nth_region
 pushed size words words' rows t k m tile g e h o room c one fresh =
     let f : (ℕ → ℕ) = sizes_in words in
@@ -43,17 +51,25 @@ pushed size words words' rows t k m tile g e h o room c one fresh =
     let top = top_is size words rows t k g e h o in
     let used : ℕ = used_of t k in
     let is : (get_or rows k free_row).kind ≡ kinds.Ordinary = sym (kind_is size words rows t k kn) ∙ o in
-    let st = start_at f size rows k n 0 words free_row refl kn.in_rows g.rows_right (λ e. let f : kinds.Ordinary ≡ kinds.Rest = sym is ∙ e in cc) in
-    let right0 : IsRow f size (drop n words) (get_or rows k free_row).used kinds.Ordinary = subst (λ (kind : Kind). IsRow f size (drop n words) (get_or rows k free_row).used kind) is st.0.row_is in
-    let right : IsRow f size (drop n words) used kinds.Ordinary = subst (λ (u : ℕ). IsRow f size (drop n words) u kinds.Ordinary) top.used_is right0 in
+    let st =
+    start_at f size rows k n 0 words free_row refl kn.in_rows g.rows_right (λ e. let f : kinds.Ordinary ≡ kinds.Rest = sym is ∙ e in cc) in
+    let right0 : IsRow f size (drop n words) (get_or rows k free_row).used kinds.Ordinary =
+    subst (λ (kind : Kind). IsRow f size (drop n words) (get_or rows k free_row).used kind) is st.0.row_is in
+    let right : IsRow f size (drop n words) used kinds.Ordinary =
+    subst (λ (u : ℕ). IsRow f size (drop n words) u kinds.Ordinary) top.used_is right0 in
     let old : nth_region t k ≡ Ordinary (tiles f 0 (take used (drop n words))) = kn.region_is ∙ rw (is, top.used_is) refl in
-    let front : take used (drop n words') ≡ take used (drop n words) = sym (drop-take n used words') ∙ ap (drop n) c.before ∙ drop-take n used words in
-    let content : take (used + m) (drop n words') ≡ take used (drop n words) ++ take m (drop (n + used) words') = take_add used m (drop n words') ∙ rw (front, drop-drop used n words') refl in
+    let front : take used (drop n words') ≡ take used (drop n words) =
+    sym (drop-take n used words') ∙ ap (drop n) c.before ∙ drop-take n used words in
+    let content : take (used + m) (drop n words') ≡ take used (drop n words) ++ take m (drop (n + used) words') =
+    take_add used m (drop n words') ∙ rw (front, drop-drop used n words') refl in
     let right' : IsRow f size (drop n words') (used + m) kinds.Ordinary = (room, rw content (IsTiled-append f 0 _ _ right.1 one.tiled)) in
-    let region_is : region_of f (drop n words') (record { kind = kinds.Ordinary; used = used + m }) ≡ region_with_tile (nth_region t k) tile = rw (old, content) (ap Ordinary (tiles-append f 0 _ _ right.1 ∙ rw one.tiles_are refl)) in
+    let region_is : region_of f (drop n words') (record { kind = kinds.Ordinary; used = used + m })
+    ≡ region_with_tile (nth_region t k) tile =
+    rw (old, content) (ap Ordinary (tiles-append f 0 _ _ right.1 ∙ rw one.tiles_are refl)) in
     let change : IsChange size words words' n = change_of size n used m words words' c room in
     let kept = push_kept t k tile (targets_of size words rows t g e) fresh in
-    region_changed size words words' rows t k (record { kind = kinds.Ordinary; used = used + m }) (region_with_tile (nth_region t k) tile) g e kn.in_rows (plain_from _ is) tt change right' region_is kept
+    region_changed size words words' rows t k (record { kind = kinds.Ordinary; used = used + m }) (region_with_tile (nth_region t k) tile) g
+    e kn.in_rows (plain_from _ is) tt change right' region_is kept
 
 map_nil : (n : ℕ) → map pointer_of (replicate n 0) ≡ replicate n None
 map_nil zero = refl
@@ -67,7 +83,8 @@ stored_of-new name p weak d =
     let e : take p (zeros (p + weak + d)) ≡ zeros p = take-replicate p (p + weak + d) 0 (omega arith) in
     let le : p + weak + d - p ≡ weak + d = omega arith in
     let le' : p + weak + d - (p + weak) ≡ d = omega arith in
-    let f : take weak (drop p (zeros (p + weak + d))) ≡ zeros weak = ap (take weak) (drop-replicate p (p + weak + d) 0 ∙ ap (λ n. zeros n) le) ∙ take-replicate weak (weak + d) 0 (omega arith) in
+    let f : take weak (drop p (zeros (p + weak + d))) ≡ zeros weak =
+    ap (take weak) (drop-replicate p (p + weak + d) 0 ∙ ap (λ n. zeros n) le) ∙ take-replicate weak (weak + d) 0 (omega arith) in
     let k : drop (p + weak) (zeros (p + weak + d)) ≡ zeros d = drop-replicate (p + weak) (p + weak + d) 0 ∙ ap (λ n. zeros n) le' in
     let g : take d (zeros d) ≡ zeros d = take-replicate d d 0 (omega arith) in
     rw (e, f, map_nil, map_nil, k, g) refl

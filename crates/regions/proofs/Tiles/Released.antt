@@ -1,9 +1,11 @@
 -- What a release changes: its region alone.
-use Rattle.std.proofs.Common.{◌≡◌, ◌≢◌, ℕ, ◌+◌, ◌-◌, ◌*◌, ◌/◌, ◌%◌, ◌<◌, ◌≤◌, ◌⊎◌, Some, None, length, get_or, set, refl, sym, ◌∙◌, ap, subst, arith, inl, inr}
+use Rattle.std.proofs.Common.{◌≡◌, ◌≢◌, ◌+◌, ◌-◌, ◌*◌, ◌/◌, ◌%◌, ◌<◌, ◌≤◌, ◌⊎◌, ◌∙◌}
+use Rattle.std.proofs.Common.{ℕ, Some, None, length, get_or, set, refl, sym, ap, subst, arith, inl, inr}
 use Rattle.std.proofs.lemmas.List.{get_or-set_same, get_or-set_other, length-set}
 use Rattle.std.proofs.lemmas.Nat.{div-mul-add}
 use Rattle.regions.specs.Tiles.{Tile, Filler, tile_size, tile_at, total_size}
-use Rattle.regions.specs.Table.{Region, Free, Table, region_tile, region_at, nth_region, region_used, region_kind, used_of, top_of, kind_of, tile_in, with_region, released, released_as, HasNoForwarded, EachForwardedIn}
+use Rattle.regions.specs.Table.{Region, Free, Table, region_tile, region_at, nth_region, region_used, region_kind, used_of, top_of, kind_of}
+use Rattle.regions.specs.Table.{tile_in, with_region, released, released_as, HasNoForwarded, EachForwardedIn}
 use Rattle.regions.specs.Walks.{AreFitting, tiles_of, region_tiles}
 use Rattle.regions.specs.Shaped.{IsShaped}
 use Rattle.regions.specs.declared.row.Kind.TheVariants as kinds
@@ -43,8 +45,10 @@ freed t k z known =
       count = length-set t.regions k Free;
       free = here;
       others = λ j n. get_or-set_other t.regions k j Free Free n;
-      gone = λ a low high. ap (λ (j : ℕ). region_tile (get_or (set t.regions k Free) j Free) (a % size)) (row_within a k size z low high) ∙ ap (λ (r : Region). region_tile r (a % size)) here;
-      stays = λ a out. ap (λ (r : Region). region_tile r (a % size)) (get_or-set_other t.regions k (a / size) Free Free (row_outside a k size z out));
+      gone = λ a low high. ap (λ (j : ℕ). region_tile (get_or (set t.regions k Free) j Free) (a % size)) (row_within a k size z low high)
+          ∙ ap (λ (r : Region). region_tile r (a % size)) here;
+      stays = λ a out.
+          ap (λ (r : Region). region_tile r (a % size)) (get_or-set_other t.regions k (a / size) Free Free (row_outside a k size z out));
       unmoved = λ m. EachForwardedIn-set (λ _. ⊥) t.regions k Free tt m;
     }
 
@@ -52,7 +56,8 @@ pub released_one : (t : Table) (k : ℕ) → kind_of t k ≡ kinds.Ordinary → 
 unfolding released kind_of
 released_one t k o = let q = ordinary_at (nth_region t k) o in ap (λ (r : Region). released_as r t k) q.is
 
-pub region_released : (t : Table) (k : ℕ) → 0 < t.words_per_region → k < length t.regions → kind_of t k ≡ kinds.Ordinary → Releases t (released t k) k
+pub region_released : (t : Table) (k : ℕ) → 0 < t.words_per_region → k < length t.regions
+    → kind_of t k ≡ kinds.Ordinary → Releases t (released t k) k
 region_released t k z known o = subst (λ (u : Table). Releases t u k) (sym (released_one t k o)) (freed t k z known)
 
 pub used_stays : (t t' : Table) (k j : ℕ) → Releases t t' k → j ≢ k → used_of t' j ≡ used_of t j
@@ -68,7 +73,8 @@ pub untargeted : (t : Table) (k : ℕ) → HasNoForwarded t → EachForwardedIn 
 untargeted t k m = EachForwardedIn-imp (λ _. ⊥) (λ to. k ≢ to / t.words_per_region) t.regions (λ to x. absurd x) m
 
 -- a tile of an ordinary region lies below its top, and the top within the region
-tile_below : (t : Table) (a k : ℕ) (tile : Tile) → 0 < t.words_per_region → kind_of t k ≡ kinds.Ordinary → k * t.words_per_region ≤ a → a < k * t.words_per_region + t.words_per_region → tile_in t a ≡ Some tile → a + tile_size tile ≤ top_of t k
+tile_below : (t : Table) (a k : ℕ) (tile : Tile) → 0 < t.words_per_region → kind_of t k ≡ kinds.Ordinary → k * t.words_per_region ≤ a
+    → a < k * t.words_per_region + t.words_per_region → tile_in t a ≡ Some tile → a + tile_size tile ≤ top_of t k
 unfolding tile_in region_at kind_of nth_region used_of
 tile_below t a k tile z o low high e =
     let size : ℕ = t.words_per_region in
@@ -76,24 +82,28 @@ tile_below t a k tile z o low high e =
     let row = row_within a k size z low high in
     let whole : a / size * size + a % size ≡ a = omega arith in
     let whole' : k * size + a % size ≡ a = rw row at whole in
-    let there : tile_at (a % size) q.tiles ≡ Some tile = sym (ap (λ (j : ℕ). region_tile (get_or t.regions j Free) (a % size)) row ∙ ap (λ (r : Region). region_tile r (a % size)) q.is) ∙ e in
+    let there : tile_at (a % size) q.tiles ≡ Some tile =
+    sym (ap (λ (j : ℕ). region_tile (get_or t.regions j Free) (a % size)) row ∙ ap (λ (r : Region). region_tile r (a % size)) q.is) ∙ e in
     let end = tile_at-end q.tiles (a % size) tile there in
     let used : region_used size (get_or t.regions k Free) ≡ total_size q.tiles = ap (region_used size) q.is in
     omega (arith, end, used, whole')
 
-pub tile_below_top : (t : Table) (a k : ℕ) (tile : Tile) → IsShaped t → kind_of t k ≡ kinds.Ordinary → k * t.words_per_region ≤ a → a < k * t.words_per_region + t.words_per_region → tile_in t a ≡ Some tile → a + tile_size tile ≤ top_of t k
+pub tile_below_top : (t : Table) (a k : ℕ) (tile : Tile) → IsShaped t → kind_of t k ≡ kinds.Ordinary → k * t.words_per_region ≤ a
+    → a < k * t.words_per_region + t.words_per_region → tile_in t a ≡ Some tile → a + tile_size tile ≤ top_of t k
 tile_below_top t a k tile shaped o low high e = tile_below t a k tile shaped.positive o low high e
 
 pub used_within : (t : Table) (k : ℕ) → AreFitting t → kind_of t k ≡ kinds.Ordinary → used_of t k ≤ t.words_per_region
 unfolding tiles_of kind_of nth_region used_of
 used_within t k fitting o =
     let q = ordinary_at (get_or t.regions k Free) o in
-    let fits : total_size q.tiles ≤ t.words_per_region = subst (λ (r : Region). total_size (region_tiles r) ≤ t.words_per_region) q.is ((fitting k).fits o) in
+    let fits : total_size q.tiles ≤ t.words_per_region =
+    subst (λ (r : Region). total_size (region_tiles r) ≤ t.words_per_region) q.is ((fitting k).fits o) in
     let used : used_of t k ≡ total_size q.tiles = ap (region_used t.words_per_region) q.is in
     omega arith
 
 -- a filler lies within the region that it starts in
-pub filler_within : (t : Table) (a n k : ℕ) → 0 < t.words_per_region → AreFitting t → tile_in t a ≡ Some (Filler n) → k * t.words_per_region ≤ a → a < k * t.words_per_region + t.words_per_region → a + n ≤ k * t.words_per_region + t.words_per_region
+pub filler_within : (t : Table) (a n k : ℕ) → 0 < t.words_per_region → AreFitting t → tile_in t a ≡ Some (Filler n)
+    → k * t.words_per_region ≤ a → a < k * t.words_per_region + t.words_per_region → a + n ≤ k * t.words_per_region + t.words_per_region
 filler_within t a n k z fitting e low high =
     let row = row_within a k t.words_per_region z low high in
     let o : kind_of t k ≡ kinds.Ordinary = subst (λ (j : ℕ). kind_of t j ≡ kinds.Ordinary) row (filler_region t a n e).1 in

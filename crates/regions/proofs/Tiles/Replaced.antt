@@ -10,7 +10,8 @@ use Rattle.regions.proofs.Rows.RowLemmas.{regions-at, start_at}
 use Rattle.regions.proofs.Words.Sizes.{EachForwardedIn-imp}
 use Rattle.regions.proofs.Tiles.Targets.{IsWrittenTable}
 use Rattle.regions.proofs.Tiles.Kept.{IsKept, replace_kept, EachForwardedIn-both}
-use Rattle.regions.specs.Table.{HasObject, HasTargets, new_object, Free, Ordinary, Table, region_at, with_region, EachForwarded, EachForwardedIn, object_at, tile_in, tile_object, region_replaced, replace_tile, remainder}
+use Rattle.regions.specs.Table.{HasObject, HasTargets, new_object, Free, Ordinary, Table, region_at, with_region, EachForwarded}
+use Rattle.regions.specs.Table.{EachForwardedIn, object_at, tile_in, tile_object, region_replaced, replace_tile, remainder}
 use Rattle.regions.specs.Walks.{AllPositive}
 use Rattle.regions.proofs.Walks.WalkMade.{tiles_positive}
 use Rattle.regions.proofs.Words.Written.{region_changed, IsChange}
@@ -19,7 +20,9 @@ use Rattle.regions.specs.Tiles.{Tile, Object, Filler, tile_size, total_size, til
 use Rattle.heap_words.specs.Contents.{put}
 use Rattle.regions.specs.declared.row.Kind.{Kind}
 use Rattle.regions.specs.declared.row.Row.{Row}
-use Rattle.std.proofs.Common.{◌≡◌, ◌≢◌, ℕ, zero, suc, ◌+◌, ◌-◌, ◌*◌, ◌/◌, ◌%◌, ◌^◌, ◌<◌, ◌≤◌, Some, None, List, [], ◌∷◌, ◌++◌, length, take, drop, get_or, refl, sym, ◌∙◌, ap, subst, arith, inl, inr, replicate}
+use Rattle.std.proofs.Common.{◌≡◌, ◌≢◌, ◌+◌, ◌-◌, ◌*◌, ◌/◌, ◌%◌, ◌^◌, ◌<◌, ◌≤◌, ◌∷◌, ◌++◌, ◌∙◌}
+use Rattle.std.proofs.Common.{ℕ, zero, suc, Some, None, List, [], length, take, drop, get_or}
+use Rattle.std.proofs.Common.{refl, sym, ap, subst, arith, inl, inr, replicate}
 use Rattle.std.proofs.lemmas.List.{length-append, length-take, length-drop, append_assoc, length-replicate, set-get_or}
 use Rattle.std.proofs.lemmas.Nat.{row_fits}
 use Rattle.heap_words.proofs.Codec.{header_of-word}
@@ -33,15 +36,22 @@ pub record IsBlock (sizes : ℕ → ℕ) (block : List ℕ) (m : ℕ) (new : Lis
   pub tiled : IsTiled sizes 0 block
   pub tiles_are : tiles sizes 0 block ≡ new
 
-content_put : (words : List ℕ) (n o x used : ℕ) (block : List ℕ) → n + o ≡ x → n ≤ length words → o + length block ≤ used → used ≤ length (drop n words) → take used (drop n (put words x block)) ≡ put (take used (drop n words)) o block
+content_put : (words : List ℕ) (n o x used : ℕ) (block : List ℕ) → n + o ≡ x → n ≤ length words → o + length block ≤ used
+    → used ≤ length (drop n words) → take used (drop n (put words x block)) ≡ put (take used (drop n words)) o block
 content_put words n o x used block e h room long =
-    ap (λ y. take used (drop n (put words y block))) (sym e) ∙ ap (take used) (put_drop words n o block h) ∙ put_take (drop n words) o used block room long
+    ap (λ y. take used (drop n (put words y block))) (sym e) ∙ ap (take used) (put_drop words n o block h)
+    ∙ put_take (drop n words) o used block room long
 
-replace_tile-is : (t : Table) (size x : ℕ) (new : List Tile) → size ≡ t.words_per_region → replace_tile t x new ≡ with_region t (x / size) (region_replaced (get_or t.regions (x / size) Free) (x % size) new)
+replace_tile-is : (t : Table) (size x : ℕ) (new : List Tile) → size ≡ t.words_per_region
+    → replace_tile t x new ≡ with_region t (x / size) (region_replaced (get_or t.regions (x / size) Free) (x % size) new)
 unfolding replace_tile region_at
 replace_tile-is t size x new e = rw e refl
 
-pub tile_replaced : (size : ℕ) (words : List ℕ) (rows : List Row) (t : Table) (x : ℕ) (tile : Tile) (block : List ℕ) (new : List Tile) → IsTable size words rows → table_of size words rows ≡ t → InOrdinary (sizes_in words) size words rows x tile → IsBlock (sizes_in words) block (tile_size tile) new → tile_in t x ≡ Some tile → EachForwardedIn (λ to. to ≢ x) t.regions → EachForwarded (λ to. HasObject t to × (to ≢ x)) new → IsWrittenTable size (put words x block) rows (replace_tile t x new) × (x + tile_size tile ≤ length words)
+pub tile_replaced : (size : ℕ) (words : List ℕ) (rows : List Row) (t : Table) (x : ℕ) (tile : Tile) (block : List ℕ) (new : List Tile)
+    → IsTable size words rows → table_of size words rows ≡ t → InOrdinary (sizes_in words) size words rows x tile
+    → IsBlock (sizes_in words) block (tile_size tile) new → tile_in t x ≡ Some tile → EachForwardedIn (λ to. to ≢ x) t.regions
+    → EachForwarded (λ to. HasObject t to × (to ≢ x)) new
+    → IsWrittenTable size (put words x block) rows (replace_tile t x new) × (x + tile_size tile ≤ length words)
 tile_replaced size words rows t x tile block new g e q b there spared fresh =
     let f : (ℕ → ℕ) = sizes_in words in
     let k : ℕ = x / size in
@@ -50,35 +60,48 @@ tile_replaced size words rows t x tile block new g e q b there spared fresh =
     let row : Row = get_or rows k free_row in
     let is_at : n + o ≡ x = omega (arith, g.region_size.0) in
     let fits : n + size ≤ length words = rw g.covers (row_fits k size (length rows) size q.known (omega arith)) in
-    let st = start_at f size rows k n 0 words free_row refl q.known g.rows_right (λ e. let f : kinds.Ordinary ≡ kinds.Rest = sym q.kind_is ∙ e in cc) in
-    let right : IsRow f size (drop n words) row.used kinds.Ordinary = subst (λ (kind : Kind). IsRow f size (drop n words) row.used kind) q.kind_is st.0.row_is in
+    let st = start_at f size rows k n 0 words free_row refl q.known g.rows_right
+    (λ e. let f : kinds.Ordinary ≡ kinds.Rest = sym q.kind_is ∙ e in cc) in
+    let right : IsRow f size (drop n words) row.used kinds.Ordinary =
+    subst (λ (kind : Kind). IsRow f size (drop n words) row.used kind) q.kind_is st.0.row_is in
     let content : List ℕ = take row.used (drop n words) in
     let here = tile_at-tiles f 0 o o content tile right.1 (omega arith) q.tile_is in
     let len : length content ≡ row.used = simp (length-take, length-drop) (omega (arith, right.0)) in
     let room : o + length block ≤ row.used = omega (arith, here.1, b.length_is) in
     let x_is = put_is words x block (omega (arith, right.0)) in
     let long : row.used ≤ length (drop n words) = simp length-drop (omega (arith, right.0)) in
-    let content_is : take row.used (drop n (put words x block)) ≡ put content o block = content_put words n o x row.used block is_at (omega arith) room long in
-    let right' : IsRow f size (drop n (put words x block)) row.used kinds.Ordinary = (right.0, rw content_is (IsTiled-put f 0 o o content block tile right.1 (omega arith) q.tile_is b.length_is b.tiled)) in
+    let content_is : take row.used (drop n (put words x block)) ≡ put content o block =
+    content_put words n o x row.used block is_at (omega arith) room long in
+    let right' : IsRow f size (drop n (put words x block)) row.used kinds.Ordinary =
+    (right.0, rw content_is (IsTiled-put f 0 o o content block tile right.1 (omega arith) q.tile_is b.length_is b.tiled)) in
     let right'' : IsRow f size (drop n (put words x block)) row.used row.kind = rw q.kind_is right' in
-    let old : get_or (regions_of f size words rows) k Free ≡ Ordinary (tiles f 0 content) = regions-at f size rows k n words free_row refl q.known ∙ rw q.kind_is refl in
-    let region_is : region_of f (drop n (put words x block)) row ≡ region_replaced (get_or (regions_of f size words rows) k Free) o new = rw (q.kind_is, old, content_is) (ap Ordinary (tiles-put f 0 o o content block tile right.1 (omega arith) q.tile_is b.length_is b.tiled ∙ rw b.tiles_are refl)) in
-    let push : IsPush words (put words x block) (n + o) (length block) = rw is_at (record { length_is = x_is.length_is; before = x_is.before; after = x_is.after }) in
-    let change : IsChange size words (put words x block) n = change_of size n o (length block) words (put words x block) push (omega (arith, right.0)) in
+    let old : get_or (regions_of f size words rows) k Free ≡ Ordinary (tiles f 0 content) =
+    regions-at f size rows k n words free_row refl q.known ∙ rw q.kind_is refl in
+    let region_is : region_of f (drop n (put words x block)) row ≡ region_replaced (get_or (regions_of f size words rows) k Free) o new =
+    rw (q.kind_is, old, content_is)
+    (ap Ordinary (tiles-put f 0 o o content block tile right.1 (omega arith) q.tile_is b.length_is b.tiled ∙ rw b.tiles_are refl)) in
+    let push : IsPush words (put words x block) (n + o) (length block) =
+    rw is_at (record { length_is = x_is.length_is; before = x_is.before; after = x_is.after }) in
+    let change : IsChange size words (put words x block) n =
+    change_of size n o (length block) words (put words x block) push (omega (arith, right.0)) in
     let all = EachForwardedIn-both (HasObject t) (λ to. to ≢ x) t.regions (targets_of size words rows t g e) spared in
     let size_is : size ≡ t.words_per_region = ap (λ (u : Table). u.words_per_region) e in
     let positive : AllPositive new = subst (λ (ts : List Tile). AllPositive ts) b.tiles_are (tiles_positive f 0 block b.tiled) in
-    let total : total_size new ≡ tile_size tile = sym (ap total_size b.tiles_are) ∙ (let n = tiles_total f 0 block b.tiled in omega (arith, b.length_is)) in
+    let total : total_size new ≡ tile_size tile =
+    sym (ap total_size b.tiles_are) ∙ (let n = tiles_total f 0 block b.tiled in omega (arith, b.length_is)) in
     let kept = replace_kept t x tile new (rw (← size_is) g.region_size.0) there positive total all fresh in
     let u : Table = with_region t k (region_replaced (get_or t.regions k Free) o new) in
     let is : replace_tile t x new ≡ u = replace_tile-is t size x new size_is in
     let kept' : EachForwardedIn (IsKept t u) u.regions = subst (λ (v : Table). EachForwardedIn (IsKept t v) v.regions) is kept in
-    let region_is' : region_of f (drop n (put words x block)) row ≡ region_replaced (get_or t.regions k Free) o new = region_is ∙ ap (λ (u : Table). region_replaced (get_or u.regions k Free) o new) e in
-    let w = region_changed size words (put words x block) rows t k row _ g e q.known (plain_from _ q.kind_is) (plain_from _ q.kind_is) change right'' region_is' kept' in
+    let region_is' : region_of f (drop n (put words x block)) row ≡ region_replaced (get_or t.regions k Free) o new =
+    region_is ∙ ap (λ (u : Table). region_replaced (get_or u.regions k Free) o new) e in
+    let w = region_changed size words (put words x block) rows t k row _ g e q.known (plain_from _ q.kind_is)
+    (plain_from _ q.kind_is) change right'' region_is' kept' in
     let w' = rw (set-get_or rows k free_row) at w in
     (subst (λ (v : Table). IsWrittenTable size (put words x block) rows v) (sym is) w', omega (arith, right.0, here.1))
 
-pub one_filler : (sizes : ℕ → ℕ) (w n : ℕ) (body : List ℕ) → header_of w ≡ Some (headers.Filler (suc n)) → length body ≡ n → IsOne sizes (w ∷ body) (Filler (suc n))
+pub one_filler : (sizes : ℕ → ℕ) (w n : ℕ) (body : List ℕ) → header_of w ≡ Some (headers.Filler (suc n)) → length body ≡ n
+    → IsOne sizes (w ∷ body) (Filler (suc n))
 one_filler sizes w n body e l =
     let m : length body ≡ suc n - 1 = omega arith in
     record {
@@ -92,13 +115,21 @@ pub record IsFilled (sizes : ℕ → ℕ) (words words' : List ℕ) (x m : ℕ) 
   pub is_block : IsBlock sizes block m new
   pub words_are : words' ≡ put words x block
 
-pub filled : (sizes : ℕ → ℕ) (words : List ℕ) (x w name p weak d rest : ℕ) → header_of w ≡ Some (headers.Object p weak d) → x + (2 + p + weak + d) + rest ≤ length words → rest < 2 ^ 24 → IsFilled sizes words (put_remainder (put words x (w ∷ name ∷ replicate (p + weak + d) 0)) (x + (2 + p + weak + d)) rest) x (2 + p + weak + d + rest) (Object (new_object name p weak d) ∷ remainder rest)
+pub filled : (sizes : ℕ → ℕ) (words : List ℕ) (x w name p weak d rest : ℕ) → header_of w ≡ Some (headers.Object p weak d)
+    → x + (2 + p + weak + d) + rest ≤ length words → rest < 2 ^ 24
+    → IsFilled sizes words (put_remainder (put words x (w ∷ name ∷ replicate (p + weak + d) 0)) (x + (2 + p + weak + d)) rest) x
+    (2 + p + weak + d + rest) (Object (new_object name p weak d) ∷ remainder rest)
 filled sizes words x w name p weak d zero e l small =
-    let len : length (w ∷ name ∷ replicate (p + weak + d) 0) ≡ 2 + p + weak + d + 0 = omega (arith, length-replicate {A = ℕ} (p + weak + d) 0) in
+    let len : length (w ∷ name ∷ replicate (p + weak + d) 0) ≡ 2 + p + weak + d + 0 =
+    omega (arith, length-replicate {A = ℕ} (p + weak + d) 0) in
     let one = one_object sizes w p weak d (name ∷ replicate (p + weak + d) 0) e (omega arith) in
     record {
       block = w ∷ name ∷ replicate (p + weak + d) 0;
-      is_block = record { length_is = len; tiled = one.tiled; tiles_are = one.tiles_are ∙ ap (λ s. Object s ∷ []) (stored_of-new name p weak d) };
+      is_block = record {
+        length_is = len;
+        tiled = one.tiled;
+        tiles_are = one.tiles_are ∙ ap (λ s. Object s ∷ []) (stored_of-new name p weak d);
+      };
       words_are = refl;
     }
 filled sizes words x w name p weak d (suc r) e l small =
@@ -118,7 +149,10 @@ filled sizes words x w name p weak d (suc r) e l small =
       is_block = record {
         length_is = length-append object (header ∷ stale) ∙ omega arith;
         tiled = IsTiled-append sizes 0 object (header ∷ stale) one.tiled two.tiled;
-        tiles_are = tiles-append sizes 0 object (header ∷ stale) one.tiled ∙ ap (λ (ts : List Tile). ts ++ tiles sizes 0 (header ∷ stale)) (one.tiles_are ∙ ap (λ s. Object s ∷ []) (stored_of-new name p weak d)) ∙ ap (λ (ts : List Tile). Object (new_object name p weak d) ∷ ts) two.tiles_are;
+        tiles_are = tiles-append sizes 0 object (header ∷ stale) one.tiled
+            ∙ ap (λ (ts : List Tile). ts ++ tiles sizes 0 (header ∷ stale))
+            (one.tiles_are ∙ ap (λ s. Object s ∷ []) (stored_of-new name p weak d))
+            ∙ ap (λ (ts : List Tile). Object (new_object name p weak d) ∷ ts) two.tiles_are;
       };
       words_are = more ∙ extend ∙ ap (put words x) whole;
     }
@@ -140,40 +174,60 @@ spared_filler t x n h g = EachForwardedIn-imp (HasObject t) (λ to. to ≢ x) t.
         cc
 
 -- a tile of an ordinary region lies in the words, and is no longer than a region
-tile_room : (size : ℕ) (words : List ℕ) (rows : List Row) (x : ℕ) (tile : Tile) → IsTable size words rows → InOrdinary (sizes_in words) size words rows x tile → (x + tile_size tile ≤ length words) × (tile_size tile ≤ size)
+tile_room : (size : ℕ) (words : List ℕ) (rows : List Row) (x : ℕ) (tile : Tile) → IsTable size words rows
+    → InOrdinary (sizes_in words) size words rows x tile → (x + tile_size tile ≤ length words) × (tile_size tile ≤ size)
 tile_room size words rows x tile g q =
     let n : ℕ = x / size * size in
     let o : ℕ = x % size in
     let row : Row = get_or rows (x / size) free_row in
     let is_at : n + o ≡ x = omega (arith, g.region_size.0) in
     let fits : n + size ≤ length words = rw g.covers (row_fits (x / size) size (length rows) size q.known (omega arith)) in
-    let st = start_at (sizes_in words) size rows (x / size) n 0 words free_row refl q.known g.rows_right (λ e. let f : kinds.Ordinary ≡ kinds.Rest = sym q.kind_is ∙ e in cc) in
-    let right : IsRow (sizes_in words) size (drop n words) row.used kinds.Ordinary = subst (λ (kind : Kind). IsRow (sizes_in words) size (drop n words) row.used kind) q.kind_is st.0.row_is in
-    let here = tile_at-tiles (sizes_in words) 0 o o (take row.used (drop n words)) tile right.1 (omega arith) q.tile_is in
-    (omega (arith, here.1, length-take row.used (drop n words), right.0), omega (arith, here.1, length-take row.used (drop n words), right.0))
+    let st = start_at (sizes_in words) size rows (x / size) n 0 words free_row refl q.known g.rows_right
+    (λ e. let f : kinds.Ordinary ≡ kinds.Rest = sym q.kind_is ∙ e in cc) in
+    let right : IsRow (sizes_in words) size (drop n words) row.used kinds.Ordinary =
+    subst (λ (kind : Kind). IsRow (sizes_in words) size (drop n words) row.used kind) q.kind_is st.0.row_is in
+    let here = tile_at-tiles (sizes_in words) 0 o o (take row.used (drop n words)) tile right.1 (omega arith) q.tile_is in (
+      omega (arith, here.1, length-take row.used (drop n words), right.0),
+      omega (arith, here.1, length-take row.used (drop n words), right.0),
+    )
 
-pub tile_fits : (size : ℕ) (words : List ℕ) (rows : List Row) (x : ℕ) (tile : Tile) → IsTable size words rows → InOrdinary (sizes_in words) size words rows x tile → x + tile_size tile ≤ length words
+pub tile_fits : (size : ℕ) (words : List ℕ) (rows : List Row) (x : ℕ) (tile : Tile) → IsTable size words rows
+    → InOrdinary (sizes_in words) size words rows x tile → x + tile_size tile ≤ length words
 tile_fits size words rows x tile g q = (tile_room size words rows x tile g q).0
 
-pub tile_short : (size : ℕ) (words : List ℕ) (rows : List Row) (x : ℕ) (tile : Tile) → IsTable size words rows → InOrdinary (sizes_in words) size words rows x tile → tile_size tile ≤ size
+pub tile_short : (size : ℕ) (words : List ℕ) (rows : List Row) (x : ℕ) (tile : Tile) → IsTable size words rows
+    → InOrdinary (sizes_in words) size words rows x tile → tile_size tile ≤ size
 tile_short size words rows x tile g q = (tile_room size words rows x tile g q).1
 
 -- an object is made in a filler: the words as the steps leave them
-pub filler_filled : (size : ℕ) (words : List ℕ) (rows : List Row) (t : Table) (x name p weak d n at rest more : ℕ) (made new : List ℕ) → IsTable size words rows → table_of size words rows ≡ t → tile_in t x ≡ Some (Filler n) → n ≡ 2 + p + weak + d + rest → p < 2 ^ 24 → weak < 2 ^ 8 → d < 2 ^ 24 → made ≡ put words x (header_word (headers.Object p weak d) ∷ name ∷ replicate (p + weak + d) 0) → new ≡ put_remainder made at more → at ≡ x + (2 + p + weak + d) → more ≡ rest → IsWrittenTable size new rows (replace_tile t x (Object (new_object name p weak d) ∷ remainder rest))
+pub filler_filled : (size : ℕ) (words : List ℕ) (rows : List Row) (t : Table) (x name p weak d n at rest more : ℕ) (made new : List ℕ)
+    → IsTable size words rows → table_of size words rows ≡ t → tile_in t x ≡ Some (Filler n) → n ≡ 2 + p + weak + d + rest → p < 2 ^ 24
+    → weak < 2 ^ 8 → d < 2 ^ 24 → made ≡ put words x (header_word (headers.Object p weak d) ∷ name ∷ replicate (p + weak + d) 0)
+    → new ≡ put_remainder made at more → at ≡ x + (2 + p + weak + d) → more ≡ rest
+    → IsWrittenTable size new rows (replace_tile t x (Object (new_object name p weak d) ∷ remainder rest))
 filler_filled size words rows t x name p weak d n at rest more made new g e h n_is small_p small_w small_d made_is new_is at_is more_is =
     elim (place_of (sizes_in words) size words rows x (Filler n) (ap (λ (u : Table). tile_in u x) e ∙ h)) [
       | inl q ↦
           let fits = tile_fits size words rows x (Filler n) g q in
           let w : ℕ = header_word (headers.Object p weak d) in
-          let f = filled (sizes_in words) words x w name p weak d rest (header_of-word (headers.Object p weak d) (small_p, small_w, small_d)) (omega arith) (omega (arith, g.small)) in
-          let b : IsBlock (sizes_in words) f.block n (Object (new_object name p weak d) ∷ remainder rest) = subst (λ (m : ℕ). IsBlock (sizes_in words) f.block m (Object (new_object name p weak d) ∷ remainder rest)) (sym n_is) f.is_block in
-          let r = tile_replaced size words rows t x (Filler n) f.block (Object (new_object name p weak d) ∷ remainder rest) g e q b h (spared_filler t x n h (targets_of size words rows t g e)) (filler_quiet _ rest) in
-          let words_is : new ≡ put words x f.block = new_is ∙ ap (λ (ws : List ℕ). put_remainder ws at more) made_is ∙ ap (λ (a : ℕ). put_remainder (put words x (w ∷ name ∷ replicate (p + weak + d) 0)) a more) at_is ∙ ap (λ (m : ℕ). put_remainder (put words x (w ∷ name ∷ replicate (p + weak + d) 0)) (x + (2 + p + weak + d)) m) more_is ∙ f.words_are in
-          subst (λ (ws : List ℕ). IsWrittenTable size ws rows (replace_tile t x (Object (new_object name p weak d) ∷ remainder rest))) (sym words_is) r.0
+          let f = filled (sizes_in words) words x w name p weak d rest
+          (header_of-word (headers.Object p weak d) (small_p, small_w, small_d)) (omega arith) (omega (arith, g.small)) in
+          let b : IsBlock (sizes_in words) f.block n (Object (new_object name p weak d) ∷ remainder rest) =
+          subst (λ (m : ℕ). IsBlock (sizes_in words) f.block m (Object (new_object name p weak d) ∷ remainder rest)) (sym n_is)
+          f.is_block in
+          let r = tile_replaced size words rows t x (Filler n) f.block (Object (new_object name p weak d) ∷ remainder rest) g e q b h
+          (spared_filler t x n h (targets_of size words rows t g e)) (filler_quiet _ rest) in
+          let words_is : new ≡ put words x f.block = new_is ∙ ap (λ (ws : List ℕ). put_remainder ws at more) made_is
+          ∙ ap (λ (a : ℕ). put_remainder (put words x (w ∷ name ∷ replicate (p + weak + d) 0)) a more) at_is
+          ∙ ap (λ (m : ℕ). put_remainder (put words x (w ∷ name ∷ replicate (p + weak + d) 0)) (x + (2 + p + weak + d)) m) more_is
+          ∙ f.words_are in
+          subst (λ (ws : List ℕ).
+          IsWrittenTable size ws rows (replace_tile t x (Object (new_object name p weak d) ∷ remainder rest))) (sym words_is) r.0
       | inr q ↦ absurd (let f : Filler n ≡ Object (first_stored (drop (x / size * size) words)) = q.tile_is in cc)
     ]
 
-pub filler_fits : (size : ℕ) (words : List ℕ) (rows : List Row) (t : Table) (x n : ℕ) → IsTable size words rows → table_of size words rows ≡ t → tile_in t x ≡ Some (Filler n) → x + n ≤ length words
+pub filler_fits : (size : ℕ) (words : List ℕ) (rows : List Row) (t : Table) (x n : ℕ) → IsTable size words rows
+    → table_of size words rows ≡ t → tile_in t x ≡ Some (Filler n) → x + n ≤ length words
 filler_fits size words rows t x n g e h =
     elim (place_of (sizes_in words) size words rows x (Filler n) (ap (λ (u : Table). tile_in u x) e ∙ h)) [
       | inl q ↦ tile_fits size words rows x (Filler n) g q

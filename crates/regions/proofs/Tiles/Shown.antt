@@ -10,7 +10,8 @@ use Rattle.regions.specs.Table.{Table, tile_in}
 use Rattle.regions.specs.Tiles.{Tile, Object, tile_size, stored_of, tile_by, size_by, IsTiled}
 use Rattle.regions.specs.declared.row.Kind.{Kind}
 use Rattle.regions.specs.declared.row.Row.{Row}
-use Rattle.std.proofs.Common.{◌≡◌, ℕ, suc, ◌+◌, ◌-◌, ◌*◌, ◌/◌, ◌%◌, ◌<◌, ◌≤◌, Option, Some, None, List, [], ◌∷◌, ◌++◌, length, take, drop, get_or, refl, sym, ◌∙◌, ap, subst, arith, inl, inr}
+use Rattle.std.proofs.Common.{◌≡◌, ◌+◌, ◌-◌, ◌*◌, ◌/◌, ◌%◌, ◌<◌, ◌≤◌, ◌∷◌, ◌++◌, ◌∙◌}
+use Rattle.std.proofs.Common.{ℕ, suc, Option, Some, None, List, [], length, take, drop, get_or, refl, sym, ap, subst, arith, inl, inr}
 use Rattle.std.proofs.lemmas.List.{length-append, length-take, length-drop, length-map}
 use Rattle.std.specs.Prelude.{IsSome, IfSome}
 use Rattle.regions.specs.Shapes.{tile_shape, shape_by}
@@ -30,7 +31,8 @@ pub record IsShown (words : List ℕ) (x : ℕ) (tile : Tile) : Type 0 where
   pub in_words : x < length words
   pub shape_is : shape_by (sizes_in words) (header_of (get_or words x 0)) ≡ tile_shape tile
 
-pub shown_front : (v u words : List ℕ) (x : ℕ) (tile : Tile) → drop x words ≡ v ++ u → tile_size tile ≤ length v → IsTiled (sizes_in words) 0 v → first_tile (sizes_in words) v ≡ tile → IsShown words x tile
+pub shown_front : (v u words : List ℕ) (x : ℕ) (tile : Tile) → drop x words ≡ v ++ u → tile_size tile ≤ length v
+    → IsTiled (sizes_in words) 0 v → first_tile (sizes_in words) v ≡ tile → IsShown words x tile
 shown_front [] u words x tile e z t h = let one : 1 ≡ tile_size tile = ap tile_size h in absurd (omega arith)
 shown_front (w ∷ v) u words x tile e z t h =
     let f : (ℕ → ℕ) = sizes_in words in
@@ -42,26 +44,34 @@ shown_front (w ∷ v) u words x tile e z t h =
       shape_is = ap (λ (a : ℕ). shape_by f (header_of a)) word ∙ sym (shape_tile f (header_of w) v fits) ∙ ap tile_shape h;
     }
 
-shown_ordinary : (size : ℕ) (words : List ℕ) (rows : List Row) (x : ℕ) (tile : Tile) → IsTable size words rows → InOrdinary (sizes_in words) size words rows x tile → IsShown words x tile
+shown_ordinary : (size : ℕ) (words : List ℕ) (rows : List Row) (x : ℕ) (tile : Tile) → IsTable size words rows
+    → InOrdinary (sizes_in words) size words rows x tile → IsShown words x tile
 shown_ordinary size words rows x tile g q =
     let n : ℕ = x / size * size in
     let o : ℕ = x % size in
     let row : Row = get_or rows (x / size) free_row in
     let is_at : n + o ≡ x = omega (arith, g.region_size.0) in
-    let st = start_at (sizes_in words) size rows (x / size) n 0 words free_row refl q.known g.rows_right (λ e. let f : kinds.Ordinary ≡ kinds.Rest = sym q.kind_is ∙ e in cc) in
-    let right : IsRow (sizes_in words) size (drop n words) row.used kinds.Ordinary = subst (λ (kind : Kind). IsRow (sizes_in words) size (drop n words) row.used kind) q.kind_is st.0.row_is in
+    let st = start_at (sizes_in words) size rows (x / size) n 0 words free_row refl q.known g.rows_right
+    (λ e. let f : kinds.Ordinary ≡ kinds.Rest = sym q.kind_is ∙ e in cc) in
+    let right : IsRow (sizes_in words) size (drop n words) row.used kinds.Ordinary =
+    subst (λ (kind : Kind). IsRow (sizes_in words) size (drop n words) row.used kind) q.kind_is st.0.row_is in
     let here = tile_at-tiles (sizes_in words) 0 o o (take row.used (drop n words)) tile right.1 (omega arith) q.tile_is in
     let rest = split_at words n o x row.used is_at (omega (arith, here.1)) in
-    shown_front (drop o (take row.used (drop n words))) _ words x tile rest (omega (arith, here.1, length-drop o (take row.used (drop n words)))) here.2 here.0
+    shown_front (drop o (take row.used (drop n words))) _ words x tile rest
+    (omega (arith, here.1, length-drop o (take row.used (drop n words)))) here.2 here.0
 
-pub tile_shown : (size : ℕ) (words : List ℕ) (rows : List Row) (t : Table) (x : ℕ) (tile : Tile) → IsTable size words rows → table_of size words rows ≡ t → tile_in t x ≡ Some tile → IsShown words x tile
+pub tile_shown : (size : ℕ) (words : List ℕ) (rows : List Row) (t : Table) (x : ℕ) (tile : Tile) → IsTable size words rows
+    → table_of size words rows ≡ t → tile_in t x ≡ Some tile → IsShown words x tile
 tile_shown size words rows t x tile g e h =
     elim (place_of (sizes_in words) size words rows x tile (ap (λ (u : Table). tile_in u x) e ∙ h)) [
       | inl q ↦ shown_ordinary size words rows x tile g q
-      | inr q ↦ rw q.tile_is (first_shown size words rows x g (record { known = q.known; kind_is = q.kind_is; at_bottom = q.at_bottom; tile_is = refl }))
+      | inr q ↦ rw q.tile_is (first_shown size words rows x g
+          (record { known = q.known; kind_is = q.kind_is; at_bottom = q.at_bottom; tile_is = refl }))
     ]
   where
-    first_shown : (size : ℕ) (words : List ℕ) (rows : List Row) (x : ℕ) → IsTable size words rows → InFirst (sizes_in words) size words rows x (Object (first_stored (drop (x / size * size) words))) → IsShown words x (Object (first_stored (drop (x / size * size) words)))
+    first_shown : (size : ℕ) (words : List ℕ) (rows : List Row) (x : ℕ) → IsTable size words rows
+        → InFirst (sizes_in words) size words rows x (Object (first_stored (drop (x / size * size) words)))
+        → IsShown words x (Object (first_stored (drop (x / size * size) words)))
     first_shown size words rows x g q =
         let i = in_first (sizes_in words) size words rows x (first_stored (drop (x / size * size) words)) (table_right g) q in
         record { in_words = omega (arith, i.fits); shape_is = ap (shape_by (sizes_in words)) i.header_is }
@@ -70,7 +80,9 @@ pub some_tile : (o : Option Tile) → IsSome o → (tile : Tile) × (o ≡ Some 
 some_tile None h = cc
 some_tile (Some t) h = (t, refl)
 
-pub shown_there : (size : ℕ) (words : List ℕ) (rows : List Row) (t : Table) (x : ℕ) → IsTable size words rows → table_of size words rows ≡ t → IsSome (tile_in t x) → (x < length words) × IfSome (tile_in t x) (λ tile. shape_by (sizes_in words) (header_of (get_or words x 0)) ≡ tile_shape tile)
+pub shown_there : (size : ℕ) (words : List ℕ) (rows : List Row) (t : Table) (x : ℕ) → IsTable size words rows → table_of size words rows ≡ t
+    → IsSome (tile_in t x)
+    → (x < length words) × IfSome (tile_in t x) (λ tile. shape_by (sizes_in words) (header_of (get_or words x 0)) ≡ tile_shape tile)
 shown_there size words rows t x g e h =
     let s = some_tile (tile_in t x) h in
     let i = tile_shown size words rows t x s.0 g e s.1 in

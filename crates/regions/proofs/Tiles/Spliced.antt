@@ -1,10 +1,13 @@
 -- Regions in a row give way to others: which objects stay.
-use Rattle.std.proofs.Common.{◌≡◌, ℕ, zero, suc, ◌+◌, ◌/◌, ◌<◌, ◌≤◌, ◌⊎◌, Some, List, [], ◌∷◌, ◌++◌, length, take, drop, get_or, refl, arith, inl, inr}
+use Rattle.std.proofs.Common.{◌≡◌, ◌+◌, ◌/◌, ◌<◌, ◌≤◌, ◌⊎◌, ◌∷◌, ◌++◌}
+use Rattle.std.proofs.Common.{ℕ, zero, suc, Some, List, [], length, take, drop, get_or, refl, arith, inl, inr}
 use Rattle.heap_model.specs.Heap.{Stored}
-use Rattle.regions.specs.Table.{Region, Free, Ordinary, First, Rest, Table, region_at, tile_in, object_at, with_regions, EachForwardedIn, HasObject}
+use Rattle.regions.specs.Table.{Region, Free, Ordinary, First, Rest, Table, region_at, tile_in}
+use Rattle.regions.specs.Table.{object_at, with_regions, EachForwardedIn, HasObject}
 use Rattle.regions.proofs.Tiles.Kept.{IsKept, same_object, each_kept}
 
-pub EachForwardedIn-append : (P : ℕ → Type 0) (rs qs : List Region) → EachForwardedIn P rs → EachForwardedIn P qs → EachForwardedIn P (rs ++ qs)
+pub EachForwardedIn-append : (P : ℕ → Type 0) (rs qs : List Region) → EachForwardedIn P rs
+    → EachForwardedIn P qs → EachForwardedIn P (rs ++ qs)
 EachForwardedIn-append P [] qs a b = b
 EachForwardedIn-append P (Free ∷ rs) qs a b = EachForwardedIn-append P rs qs a b
 EachForwardedIn-append P (Ordinary ts ∷ rs) qs a b = (a.0, EachForwardedIn-append P rs qs a.1 b)
@@ -31,26 +34,38 @@ EachForwardedIn-drop P (suc k) (Rest n ∷ rs) a = EachForwardedIn-drop P k rs a
 abbrev pub IsOutside : ℕ → ℕ → ℕ → Type 0
 IsOutside k m q = (q < k) ⊎ (k + m ≤ q)
 
-past_block : (block rs : List Region) (m q : ℕ) → length block ≡ m → m ≤ q → m ≤ length rs → get_or (block ++ drop m rs) q Free ≡ get_or rs q Free
+past_block : (block rs : List Region) (m q : ℕ) → length block ≡ m → m ≤ q → m ≤ length rs
+    → get_or (block ++ drop m rs) q Free ≡ get_or rs q Free
 past_block [] rs m q e h l = let z : m ≡ 0 = omega arith in rw z refl
 past_block (b ∷ block) rs zero q e h l = absurd (omega arith)
 past_block (b ∷ block) rs (suc m) zero e h l = absurd (omega arith)
 past_block (b ∷ block) [] (suc m) (suc q) e h l = absurd (omega arith)
 past_block (b ∷ block) (r ∷ rs) (suc m) (suc q) e h l = past_block block rs m q (omega arith) (omega arith) (omega arith)
 
-pub get_or-spliced : (rs block : List Region) (k m q n : ℕ) → length block ≡ m → n ≡ k + m → n ≤ length rs → IsOutside k m q → get_or (take k rs ++ (block ++ drop n rs)) q Free ≡ get_or rs q Free
-get_or-spliced rs block zero m q n e a h o = let z : n ≡ m = omega arith in rw z (past_block block rs m q e (elim o [ inl x ↦ absurd (omega arith) | inr x ↦ omega arith ]) (omega arith))
+pub get_or-spliced : (rs block : List Region) (k m q n : ℕ) → length block ≡ m → n ≡ k + m → n ≤ length rs → IsOutside k m q
+    → get_or (take k rs ++ (block ++ drop n rs)) q Free ≡ get_or rs q Free
+get_or-spliced rs block zero m q n e a h o =
+    let z : n ≡ m = omega arith in
+    rw z (past_block block rs m q e (elim o [ inl x ↦ absurd (omega arith) | inr x ↦ omega arith ]) (omega arith))
 get_or-spliced [] block (suc k) m q n e a h o = absurd (omega arith)
 get_or-spliced (r ∷ rs) block (suc k) m q zero e a h o = absurd (omega arith)
 get_or-spliced (r ∷ rs) block (suc k) m zero (suc n) e a h o = refl
-get_or-spliced (r ∷ rs) block (suc k) m (suc q) (suc n) e a h o = get_or-spliced rs block k m q n e (omega arith) (omega arith) (elim o [ inl x ↦ inl (omega arith) | inr x ↦ inr (omega arith) ])
+get_or-spliced (r ∷ rs) block (suc k) m (suc q) (suc n) e a h o =
+    get_or-spliced rs block k m q n e (omega arith) (omega arith) (elim o [ inl x ↦ inl (omega arith) | inr x ↦ inr (omega arith) ])
 
-object_at-spliced : (t : Table) (k m : ℕ) (block : List Region) (x : ℕ) (s : Stored) → length block ≡ m → k + m ≤ length t.regions → IsOutside k m (x / t.words_per_region) → object_at t x ≡ Some s → object_at (with_regions t k m block) x ≡ Some s
+object_at-spliced : (t : Table) (k m : ℕ) (block : List Region) (x : ℕ) (s : Stored) → length block ≡ m → k + m ≤ length t.regions
+    → IsOutside k m (x / t.words_per_region) → object_at t x ≡ Some s → object_at (with_regions t k m block) x ≡ Some s
 unfolding object_at tile_in region_at
 object_at-spliced t k m block x s e h o is = rw (get_or-spliced t.regions block k m (x / t.words_per_region) (k + m) e refl h o) is
 
 -- each moved tile's target lies outside: it is kept
-pub spliced_kept : (t : Table) (k m : ℕ) (block : List Region) (P : ℕ → Type 0) → length block ≡ m → k + m ≤ length t.regions → EachForwardedIn P t.regions → EachForwardedIn P block → ((x : ℕ) → P x → HasObject t x × IsOutside k m (x / t.words_per_region)) → EachForwardedIn (IsKept t (with_regions t k m block)) (with_regions t k m block).regions
+pub spliced_kept : (t : Table) (k m : ℕ) (block : List Region) (P : ℕ → Type 0) → length block ≡ m → k + m ≤ length t.regions
+    → EachForwardedIn P t.regions → EachForwardedIn P block → ((x : ℕ) → P x → HasObject t x × IsOutside k m (x / t.words_per_region))
+    → EachForwardedIn (IsKept t (with_regions t k m block)) (with_regions t k m block).regions
 spliced_kept t k m block P e h g fresh out =
-    let a : EachForwardedIn P (take k t.regions ++ (block ++ drop (k + m) t.regions)) = EachForwardedIn-append P (take k t.regions) (block ++ drop (k + m) t.regions) (EachForwardedIn-take P k t.regions g) (EachForwardedIn-append P block (drop (k + m) t.regions) fresh (EachForwardedIn-drop P (k + m) t.regions g)) in
-    each_kept P t (with_regions t k m block) (λ x p. same_object t (with_regions t k m block) x (out x p).0 (object_at-spliced t k m block x (out x p).0.object e h (out x p).1 (out x p).0.is)) a
+    let a : EachForwardedIn P (take k t.regions ++ (block ++ drop (k + m) t.regions)) =
+    EachForwardedIn-append P (take k t.regions) (block ++ drop (k + m) t.regions) (EachForwardedIn-take P k t.regions g)
+    (EachForwardedIn-append P block (drop (k + m) t.regions) fresh (EachForwardedIn-drop P (k + m) t.regions g)) in
+    each_kept P t (with_regions t k m block)
+    (λ x p. same_object t (with_regions t k m block) x (out x p).0
+    (object_at-spliced t k m block x (out x p).0.object e h (out x p).1 (out x p).0.is)) a

@@ -1,9 +1,11 @@
 -- From a tile of a region to the one behind it.
-use Rattle.std.proofs.Common.{◌≡◌, ◌≢◌, ℕ, suc, zero, ◌+◌, ◌-◌, ◌*◌, ◌/◌, ◌%◌, ◌<◌, ◌≤◌, Option, Some, None, refl, sym, ap, ◌∙◌, subst, arith}
+use Rattle.std.proofs.Common.{◌≡◌, ◌≢◌, ◌+◌, ◌-◌, ◌*◌, ◌/◌, ◌%◌, ◌<◌, ◌≤◌, ◌∙◌}
+use Rattle.std.proofs.Common.{ℕ, suc, zero, Option, Some, None, refl, sym, ap, subst, arith}
 use Rattle.std.specs.Prelude.{IsSome}
 use Rattle.std.proofs.lemmas.Nat.{div-mul-add}
 use Rattle.regions.specs.Tiles.{Tile, tile_size, total_size}
-use Rattle.regions.specs.Table.{Region, Free, Ordinary, First, Rest, Table, region_at, region_kind, nth_region, region_tile, region_used, kind_of, used_of, top_of, tile_in}
+use Rattle.regions.specs.Table.{Region, Free, Ordinary, First, Rest, Table, region_at, region_kind, nth_region, region_tile}
+use Rattle.regions.specs.Table.{region_used, kind_of, used_of, top_of, tile_in}
 use Rattle.regions.specs.Walks.{tiles_of, region_tiles, IsNext, IsLast}
 use Rattle.regions.specs.Shaped.{IsShaped}
 use Rattle.regions.specs.declared.row.Kind.TheVariants as kinds
@@ -32,10 +34,13 @@ some_tile o u e = rw e refl
 
 used_total : (t : Table) (k : ℕ) → kind_of t k ≡ kinds.Ordinary → used_of t k ≡ total_size (tiles_of t k)
 unfolding kind_of used_of tiles_of
-used_total t k o = let q = ordinary_at (nth_region t k) o in ap (region_used t.words_per_region) q.is ∙ sym (ap (λ (r : Region). total_size (region_tiles r)) q.is)
+used_total t k o =
+    let q = ordinary_at (nth_region t k) o in
+    ap (region_used t.words_per_region) q.is ∙ sym (ap (λ (r : Region). total_size (region_tiles r)) q.is)
 
 -- a tile of an ordinary region lies below its top
-pub tile_low : (t : Table) (a : ℕ) (u : Tile) → IsShaped t → tile_in t a ≡ Some u → kind_of t (a / t.words_per_region) ≡ kinds.Ordinary → a + tile_size u ≤ top_of t (a / t.words_per_region)
+pub tile_low : (t : Table) (a : ℕ) (u : Tile) → IsShaped t → tile_in t a ≡ Some u → kind_of t (a / t.words_per_region) ≡ kinds.Ordinary
+    → a + tile_size u ≤ top_of t (a / t.words_per_region)
 tile_low t a u g e o =
     let z = g.positive in
     let whole : a / t.words_per_region * t.words_per_region + a % t.words_per_region ≡ a = omega arith in
@@ -43,9 +48,11 @@ tile_low t a u g e o =
     tile_below_top t a (a / t.words_per_region) u g o (omega arith) (omega arith) e
 
 size_positive : (t : Table) (a : ℕ) (u : Tile) → IsShaped t → tile_in t a ≡ Some u → 0 < tile_size u
-size_positive t a u g e = positive_at (a % t.words_per_region) (tiles_of t (a / t.words_per_region)) u (g.fitting (a / t.words_per_region)).positive (tile_listed t a u e).0
+size_positive t a u g e = positive_at (a % t.words_per_region) (tiles_of t (a / t.words_per_region)) u
+    (g.fitting (a / t.words_per_region)).positive (tile_listed t a u e).0
 
-region_of_tile : (t : Table) (a : ℕ) (u : Tile) → tile_in t a ≡ Some u → region_tile (nth_region t (a / t.words_per_region)) (a % t.words_per_region) ≡ Some u
+region_of_tile : (t : Table) (a : ℕ) (u : Tile) → tile_in t a ≡ Some u
+    → region_tile (nth_region t (a / t.words_per_region)) (a % t.words_per_region) ≡ Some u
 unfolding tile_in region_at nth_region
 region_of_tile t a u e = e
 
@@ -112,12 +119,14 @@ module _ (t : Table) (g : IsShaped t) (a : ℕ) (u : Tile) (e : tile_in t a ≡ 
       let whole : a / t.words_per_region * t.words_per_region + a % t.words_per_region ≡ a = omega arith in
       let whole_b : b / t.words_per_region * t.words_per_region + b % t.words_per_region ≡ b = omega arith in
       let fb = ap (λ (m : ℕ). region_tile (nth_region t m) (b % t.words_per_region)) (sym r) ∙ region_of_tile t b v f in
-      let same = lone (nth_region t k) (a % t.words_per_region) (b % t.words_per_region) u v (other_kind t k n) (region_of_tile t a u e) fb in
+      let same =
+      lone (nth_region t k) (a % t.words_per_region) (b % t.words_per_region) u v (other_kind t k n) (region_of_tile t a u e) fb in
       let row = ap (λ (m : ℕ). m * t.words_per_region) r in
       absurd (omega arith)
 
 -- the first tile of an ordinary region that isn't empty
-pub bottom_tile : (t : Table) (k : ℕ) → IsShaped t → kind_of t k ≡ kinds.Ordinary → 0 < used_of t k → (v : Tile) × (tile_in t (k * t.words_per_region) ≡ Some v)
+pub bottom_tile : (t : Table) (k : ℕ) → IsShaped t → kind_of t k ≡ kinds.Ordinary → 0 < used_of t k
+    → (v : Tile) × (tile_in t (k * t.words_per_region) ≡ Some v)
 bottom_tile t k g o h =
     let used = used_total t k o in
     let (v, f) = cut_tile 0 (tiles_of t k) tt (omega arith) in

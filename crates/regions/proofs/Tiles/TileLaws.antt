@@ -4,23 +4,27 @@ use Rattle.std.proofs.lemmas.List.{get_or-set_same, get_or-set_other, length-set
 use Rattle.std.proofs.lemmas.Bool.{cases_eq}
 use Rattle.heap_model.specs.Heap.{Stored}
 use Rattle.regions.specs.Tiles.{Object, Forwarded, Tile, tile_size}
-use Rattle.regions.specs.Table.{Region, Free, Ordinary, First, Rest, Table, region_tile, region_at, tile_in, nth_region, region_replaced, replace_tile, IsOrdinary, region_kind, kind_of}
+use Rattle.regions.specs.Table.{Region, Free, Ordinary, First, Rest, Table, region_tile, region_at, tile_in, nth_region, region_replaced}
+use Rattle.regions.specs.Table.{replace_tile, IsOrdinary, region_kind, kind_of}
 use Rattle.regions.proofs.Tiles.Laws.{tile_at-replace_same, tile_at-replace_other, same_place, known_region}
 
-replaced_same : (r : Region) (o : ℕ) (old new : Tile) → IsOrdinary r → region_tile r o ≡ Some old → region_tile (region_replaced r o (new ∷ [])) o ≡ Some new
+replaced_same : (r : Region) (o : ℕ) (old new : Tile) → IsOrdinary r → region_tile r o ≡ Some old
+    → region_tile (region_replaced r o (new ∷ [])) o ≡ Some new
 replaced_same Free o old new i h = absurd i
 replaced_same (Ordinary ts) o old new i h = tile_at-replace_same ts o old new h
 replaced_same (First s) o old new i h = absurd i
 replaced_same (Rest n) o old new i h = absurd i
 
-replaced_other : (r : Region) (o y : ℕ) (old new : Tile) → region_tile r o ≡ Some old → tile_size new ≡ tile_size old → y ≢ o → region_tile (region_replaced r o (new ∷ [])) y ≡ region_tile r y
+replaced_other : (r : Region) (o y : ℕ) (old new : Tile) → region_tile r o ≡ Some old → tile_size new ≡ tile_size old → y ≢ o
+    → region_tile (region_replaced r o (new ∷ [])) y ≡ region_tile r y
 replaced_other Free o y old new h e n = refl
 replaced_other (Ordinary ts) o y old new h e n = tile_at-replace_other ts o y old new h e n
 replaced_other (First s) o y old new h e n = refl
 replaced_other (Rest m) o y old new h e n = refl
 
 -- the tile at an address, once another of its size took its place
-pub tile_in-replace_same : (t : Table) (a : ℕ) (old new : Tile) → IsOrdinary (region_at t a) → tile_in t a ≡ Some old → tile_in (replace_tile t a (new ∷ [])) a ≡ Some new
+pub tile_in-replace_same : (t : Table) (a : ℕ) (old new : Tile) → IsOrdinary (region_at t a) → tile_in t a ≡ Some old
+    → tile_in (replace_tile t a (new ∷ [])) a ≡ Some new
 unfolding tile_in region_at replace_tile
 tile_in-replace_same t a old new i h =
     let k : ℕ = a / t.words_per_region in
@@ -29,7 +33,8 @@ tile_in-replace_same t a old new i h =
     rw (e, replaced_same r (a % t.words_per_region) old new i h) refl
 
 -- every other tile is as it was
-pub tile_in-replace_other : (t : Table) (a y : ℕ) (old new : Tile) → 0 < t.words_per_region → tile_in t a ≡ Some old → tile_size new ≡ tile_size old → y ≢ a → tile_in (replace_tile t a (new ∷ [])) y ≡ tile_in t y
+pub tile_in-replace_other : (t : Table) (a y : ℕ) (old new : Tile) → 0 < t.words_per_region → tile_in t a ≡ Some old
+    → tile_size new ≡ tile_size old → y ≢ a → tile_in (replace_tile t a (new ∷ [])) y ≡ tile_in t y
 unfolding tile_in region_at replace_tile
 tile_in-replace_other t a y old new z h e n =
     let size : ℕ = t.words_per_region in
@@ -49,17 +54,20 @@ kind_replaced (First s) o new = refl
 kind_replaced (Rest n) o new = refl
 
 -- no region becomes one of another kind
-kind_of-replace : (t : Table) (a : ℕ) (new : List Tile) (k : ℕ) → a / t.words_per_region < length t.regions → kind_of (replace_tile t a new) k ≡ kind_of t k
+kind_of-replace : (t : Table) (a : ℕ) (new : List Tile) (k : ℕ) → a / t.words_per_region < length t.regions
+    → kind_of (replace_tile t a new) k ≡ kind_of t k
 unfolding kind_of nth_region replace_tile region_at
 kind_of-replace t a new k h =
     let j : ℕ = a / t.words_per_region in
     let r : Region = region_replaced (get_or t.regions j Free) (a % t.words_per_region) new in
     elim (cases_eq k j) [
-      | inl q ↦ rw q (ap region_kind (get_or-set_same t.regions j r Free h) ∙ kind_replaced (get_or t.regions j Free) (a % t.words_per_region) new)
+      | inl q ↦ rw q (ap region_kind (get_or-set_same t.regions j r Free h)
+          ∙ kind_replaced (get_or t.regions j Free) (a % t.words_per_region) new)
       | inr q ↦ ap region_kind (get_or-set_other t.regions j k r Free q)
     ]
 
-replace_size : (t : Table) (a : ℕ) (new : List Tile) → ((replace_tile t a new).words_per_region ≡ t.words_per_region) × (length (replace_tile t a new).regions ≡ length t.regions)
+replace_size : (t : Table) (a : ℕ) (new : List Tile)
+    → ((replace_tile t a new).words_per_region ≡ t.words_per_region) × (length (replace_tile t a new).regions ≡ length t.regions)
 unfolding replace_tile
 replace_size t a new = (refl, length-set t.regions _ _)
 
@@ -75,7 +83,8 @@ pub record Forwards (t t' : Table) (a to n : ℕ) : Type 0 where
   pub is : tile_in t' a ≡ Some (Forwarded to n)
   pub others : (y : ℕ) → y ≢ a → tile_in t' y ≡ tile_in t y
 
-pub object_forwarded : (t : Table) (a to : ℕ) (s : Stored) → 0 < t.words_per_region → IsOrdinary (region_at t a) → tile_in t a ≡ Some (Object s) → Forwards t (replace_tile t a (Forwarded to (tile_size (Object s)) ∷ [])) a to (tile_size (Object s))
+pub object_forwarded : (t : Table) (a to : ℕ) (s : Stored) → 0 < t.words_per_region → IsOrdinary (region_at t a)
+    → tile_in t a ≡ Some (Object s) → Forwards t (replace_tile t a (Forwarded to (tile_size (Object s)) ∷ [])) a to (tile_size (Object s))
 object_forwarded t a to s z ordinary h =
     let n : ℕ = tile_size (Object s) in
     let whole = replace_size t a (Forwarded to n ∷ []) in

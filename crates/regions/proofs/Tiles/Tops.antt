@@ -14,7 +14,8 @@ use Rattle.regions.proofs.Rows.RowLemmas.{start_at}
 use Rattle.regions.proofs.Tiles.Making.{known, kind_is, top_is, IsTop}
 use Rattle.regions.proofs.Tiles.ShapedMade.{first_words, shaped_of}
 
-pub top_all : (size : ℕ) (words : List ℕ) (rows : List Row) (t : Table) (k : ℕ) → IsTable size words rows → table_of size words rows ≡ t → k < length t.regions → IsTop size words rows t k
+pub top_all : (size : ℕ) (words : List ℕ) (rows : List Row) (t : Table) (k : ℕ) → IsTable size words rows → table_of size words rows ≡ t
+    → k < length t.regions → IsTop size words rows t k
 unfolding used_of
 top_all size words rows t k g e h = go (get_or rows k free_row).kind refl
   where
@@ -48,8 +49,10 @@ top_all size words rows t k g e h = go (get_or rows k free_row).kind refl
         let is : nth_region t k ≡ First s = n.region_is ∙ rw q refl in
         let r = start kinds.First q (λ z. cc) in
         let long = first_words size words rows t k s g e is in
-        let word : get_or (drop (k * size) words) 0 0 ≡ get_or words (k * size) 0 = get_or-drop (k * size) words 0 0 ∙ ap (λ (n : ℕ). get_or words n 0) (omega arith) in
-        let used : row.used ≡ min size (tile_size (Object s)) = r.1 ∙ ap (λ (w : ℕ). min size (object_size (header_of w))) word ∙ ap (min size) long.0 in
+        let word : get_or (drop (k * size) words) 0 0 ≡ get_or words (k * size) 0 =
+        get_or-drop (k * size) words 0 0 ∙ ap (λ (n : ℕ). get_or words n 0) (omega arith) in
+        let used : row.used ≡ min size (tile_size (Object s)) =
+        r.1 ∙ ap (λ (w : ℕ). min size (object_size (header_of w))) word ∙ ap (min size) long.0 in
         region (First s) is used (omega (arith, used))
     go kinds.Rest q =
         let n = known size words rows t k e h in

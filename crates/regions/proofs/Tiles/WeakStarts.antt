@@ -1,5 +1,7 @@
 -- Where objects with weak slots start, over each change of the table.
-use Rattle.std.proofs.Common.{◌≡◌, ◌≢◌, ℕ, zero, suc, ◌+◌, ◌-◌, ◌*◌, ◌/◌, ◌%◌, ◌<◌, ◌≤◌, ◌⊎◌, Bool, true, false, Option, Some, None, List, ◌∷◌, length, length-set, drop, get_or, replicate, inl, inr, refl, sym, ap, ◌∙◌, subst, arith}
+use Rattle.std.proofs.Common.{◌≡◌, ◌≢◌, ◌+◌, ◌-◌, ◌*◌, ◌/◌, ◌%◌, ◌<◌, ◌≤◌, ◌⊎◌, ◌∷◌, ◌∙◌}
+use Rattle.std.proofs.Common.{ℕ, zero, suc, Bool, true, false, Option, Some, None, List, length, length-set, drop, get_or}
+use Rattle.std.proofs.Common.{replicate, inl, inr, refl, sym, ap, subst, arith}
 use Rattle.std.specs.Prelude.{MatchOption, if◌then◌else◌}
 use Rattle.std.proofs.lemmas.Bool.{cases_lt, cases_eq}
 use Rattle.std.proofs.lemmas.List.{get_or-set_same, get_or-set_other, get_or-drop}
@@ -7,7 +9,8 @@ use Rattle.std.proofs.lemmas.Nat.{div-mul-add, mul-le, row_fits}
 use Rattle.heap_words.specs.Bits.{has, is_between, HasNone, HasNoneBelow, IsLowest}
 use Rattle.heap_model.specs.Heap.{Stored}
 use Rattle.regions.specs.Tiles.{Tile, Object, Filler, Forwarded, tile_size, tile_at}
-use Rattle.regions.specs.Table.{Table, Region, Free, Ordinary, First, Rest, kind_of, region_kind, tile_in, tile_object, object_at, remainder, free_table, region_at, region_tile, nth_region, is_rest, run_length}
+use Rattle.regions.specs.Table.{Table, Region, Free, Ordinary, First, Rest, kind_of, region_kind, tile_in, tile_object, object_at}
+use Rattle.regions.specs.Table.{remainder, free_table, region_at, region_tile, nth_region, is_rest, run_length}
 use Rattle.regions.specs.declared.row.Kind.TheVariants as kinds
 use Rattle.regions.specs.WeakStarts.{Starts, AreRegions, HasWeaks, AreStarts, IsNextWithWeaks, noted, forgotten}
 use Rattle.regions.proofs.Words.Parse.{past}
@@ -41,7 +44,10 @@ has_of t a (Filler n) e some = absurd (omega arith)
 has_of t a (Forwarded to n) e some = absurd (omega arith)
 
 weaks_of : (t : Table) (a : ℕ) (tile : Tile) → tile_in t a ≡ Some tile → HasWeaks t a → 0 < tile_weaks tile
-weaks_of t a tile e h = let is = tile_is t a h in let same : Object h.object ≡ tile = cc in subst (λ (u : Tile). 0 < tile_weaks u) same h.some
+weaks_of t a tile e h =
+    let is = tile_is t a h in
+    let same : Object h.object ≡ tile = cc in
+    subst (λ (u : Tile). 0 < tile_weaks u) same h.some
 
 -- there are none where no tile starts, and at a tile that has none
 pub none_there : (t : Table) (a : ℕ) → tile_in t a ≡ None → HasWeaks t a → ⊥
@@ -62,7 +68,8 @@ pub record Notes (old new : Starts) (a : ℕ) (tile : Tile) : Type 0 where
   pub each : 0 < tile_weaks tile → has new.flags a ≡ true
   pub only : has new.flags a ≡ true → (has old.flags a ≡ true) ⊎ (0 < tile_weaks tile)
 
-pub notes : (old new : Starts) (a weaks : ℕ) (tile : Tile) → a < length old.flags → tile_weaks tile ≡ weaks → new ≡ noted old a weaks → Notes old new a tile
+pub notes : (old new : Starts) (a weaks : ℕ) (tile : Tile) → a < length old.flags → tile_weaks tile ≡ weaks
+    → new ≡ noted old a weaks → Notes old new a tile
 notes old new a zero tile known count is = record {
   region_words = ap (λ (s : Starts). s.region_words) is;
   len = ap (λ (s : Starts). length s.flags) is;
@@ -105,12 +112,16 @@ pub record Clears (old new : Starts) (k size : ℕ) : Type 0 where
   pub len : length new.flags ≡ length old.flags
   pub flags : (a : ℕ) → has new.flags a ≡ (if is_between (k * size) (k * size + size) a then false else has old.flags a)
 
-pub clears : (old new : Starts) (n k size : ℕ) → n ≡ k → old.region_words ≡ size → new.region_words ≡ old.region_words → length new.flags ≡ length old.flags
-    → ((a : ℕ) → has new.flags a ≡ (if is_between (n * old.region_words) (n * old.region_words + old.region_words) a then false else has old.flags a)) → Clears old new k size
+pub clears : (old new : Starts) (n k size : ℕ) → n ≡ k → old.region_words ≡ size
+    → new.region_words ≡ old.region_words → length new.flags ≡ length old.flags
+    → ((a : ℕ)
+    → has new.flags a ≡ (if is_between (n * old.region_words) (n * old.region_words + old.region_words) a then false else has old.flags a))
+    → Clears old new k size
 clears old new n k size number words wide len flags = record { region_words = wide; len = len; flags = rw (number, words) at flags }
 
 -- a region that isn't among the regions has no flag to clear
-pub none_cleared : (size k : ℕ) (regions flags : List Bool) → AreRegions size regions flags → has regions k ≡ false → (a : ℕ) → has flags a ≡ (if is_between (k * size) (k * size + size) a then false else has flags a)
+pub none_cleared : (size k : ℕ) (regions flags : List Bool) → AreRegions size regions flags → has regions k ≡ false → (a : ℕ)
+    → has flags a ≡ (if is_between (k * size) (k * size + size) a then false else has flags a)
 none_cleared size k regions flags r out a = elim (cases_lt a (k * size)) [
   | inl b ↦ sym (if_below (k * size) (k * size + size) a false (has flags a) b)
   | inr b ↦ elim (cases_lt a (k * size + size)) [
@@ -130,10 +141,14 @@ none_cleared size k regions flags r out a = elim (cases_lt a (k * size)) [
 -- a search that goes on behind a region: nothing between is in the set
 module _ (size : ℕ) (regions flags : List Bool) (r : AreRegions size regions flags) (from : ℕ) where
   pub none_at_first : (left : ℕ) → left ≡ from / size → HasNoneBelow (has flags) from (left * size)
-  none_at_first left e a low high = absurd (let positive = r.positive in let whole : from / size * size + from % size ≡ from = omega arith in let same : left * size ≡ from / size * size = ap (λ (n : ℕ). n * size) e in omega arith)
+  none_at_first left e a low high = absurd (let positive = r.positive in
+      let whole : from / size * size + from % size ≡ from = omega arith in
+      let same : left * size ≡ from / size * size = ap (λ (n : ℕ). n * size) e in
+      omega arith)
 
   -- no region from left on up to k is among the regions
-  none_between : (left k : ℕ) → HasNoneBelow (has flags) from (left * size) → HasNoneBelow (has regions) left k → HasNoneBelow (has flags) from (k * size)
+  none_between : (left k : ℕ) → HasNoneBelow (has flags) from (left * size) → HasNoneBelow (has regions) left k
+      → HasNoneBelow (has flags) from (k * size)
   none_between left k before none a low high = elim (cases_lt a (left * size)) [
     | inl b ↦ before a low b
     | inr b ↦ go (has flags a) refl b
@@ -151,26 +166,41 @@ module _ (size : ℕ) (regions flags : List Bool) (r : AreRegions size regions f
 
           mul_low : (left : ℕ) → left * size ≤ a → left ≤ a / size
           mul_low left h = elim (cases_lt (a / size) left) [
-            | inl b ↦ (let p = r.positive in let m = row_fits (a / size) size left size b (omega arith) in let small : a % size < size = omega (arith, p) in let e = whole in absurd (omega arith))
+            | inl b ↦ (let p = r.positive in
+                let m = row_fits (a / size) size left size b (omega arith) in
+                let small : a % size < size = omega (arith, p) in
+                let e = whole in
+                absurd (omega arith))
             | inr b ↦ b
           ]
 
           mul_high : (k : ℕ) → a < k * size → a / size < k
-          mul_high k h = elim (cases_lt (a / size) k) [ inl b ↦ b | inr b ↦ (let m = mul-le k size (a / size) size b (omega arith) in let e = whole in absurd (omega arith)) ]
+          mul_high k h = elim (cases_lt (a / size) k) [
+            | inl b ↦ b
+            | inr b ↦ (let m = mul-le k size (a / size) size b (omega arith) in let e = whole in absurd (omega arith))
+          ]
 
   -- the lowest address of region k is the lowest of all
-  pub next_found : (left k start found : ℕ) → HasNoneBelow (has flags) from (left * size) → HasNoneBelow (has regions) left k → from ≤ start → ((a : ℕ) → from ≤ a → k * size ≤ a → start ≤ a) → IsLowest (has flags) start found → IsLowest (has flags) from found
+  pub next_found : (left k start found : ℕ) → HasNoneBelow (has flags) from (left * size) → HasNoneBelow (has regions) left k → from ≤ start
+      → ((a : ℕ) → from ≤ a → k * size ≤ a → start ≤ a) → IsLowest (has flags) start found → IsLowest (has flags) from found
   next_found left k start found before none later begin l = record {
     at_least = (let h = l.at_least in omega arith);
     is_in = l.is_in;
-    lowest = λ a low high. elim (cases_lt a (k * size)) [ inl b ↦ none_between left k before none a low b | inr b ↦ l.lowest a (begin a low b) high ];
+    lowest = λ a low high. elim (cases_lt a (k * size)) [
+      | inl b ↦ none_between left k before none a low b
+      | inr b ↦ l.lowest a (begin a low b) high
+    ];
   }
 
   -- region k has none
-  pub next_passed : (left k start next : ℕ) → next ≡ k + 1 → HasNoneBelow (has flags) from (left * size) → HasNoneBelow (has regions) left k → ((a : ℕ) → from ≤ a → k * size ≤ a → start ≤ a) → HasNoneBelow (has flags) start (k * size + size) → HasNoneBelow (has flags) from (next * size)
+  pub next_passed : (left k start next : ℕ) → next ≡ k + 1 → HasNoneBelow (has flags) from (left * size) → HasNoneBelow (has regions) left k
+      → ((a : ℕ) → from ≤ a → k * size ≤ a → start ≤ a) → HasNoneBelow (has flags) start (k * size + size)
+      → HasNoneBelow (has flags) from (next * size)
   next_passed left k start next e before none begin l a low high = elim (cases_lt a (k * size)) [
     | inl b ↦ none_between left k before none a low b
-    | inr b ↦ l a (begin a low b) (let more : next * size ≡ k * size + size = ap (λ (n : ℕ). n * size) (e ∙ (let s : k + 1 ≡ suc k = omega arith in s)) ∙ suc_row k in omega arith)
+    | inr b ↦ l a (begin a low b)
+        (let more : next * size ≡ k * size + size = ap (λ (n : ℕ). n * size) (e ∙ (let s : k + 1 ≡ suc k = omega arith in s)) ∙ suc_row k in
+        omega arith)
   ]
     where
       suc_row : (k : ℕ) → suc k * size ≡ k * size + size
@@ -178,7 +208,11 @@ module _ (size : ℕ) (regions flags : List Bool) (r : AreRegions size regions f
 
   -- no region is left
   pub next_none : (left : ℕ) → HasNoneBelow (has flags) from (left * size) → HasNone (has regions) left → HasNone (has flags) from
-  next_none left before none a low = none_between left (suc (a / size)) before (λ k l h. none k l) a low (let p = r.positive in let whole : a / size * size + a % size ≡ a = omega arith in let small : a % size < size = omega (arith, p) in omega arith)
+  next_none left before none a low = none_between left (suc (a / size)) before (λ k l h. none k l) a low
+      (let p = r.positive in
+      let whole : a / size * size + a % size ≡ a = omega arith in
+      let small : a % size < size = omega (arith, p) in
+      omega arith)
 
 -- ---- over each change of the table
 no_flag : (n a : ℕ) → has (replicate n false) a ≡ false
@@ -235,10 +269,12 @@ module _ (t t' : Table) (old new : Starts) (g : AreStarts t old.flags) where
   noted_there : (a : ℕ) (tile : Tile) → Notes old new a tile → tile_in t' a ≡ Some tile → HasWeaks t' a → has new.flags a ≡ true
   noted_there a tile n here h = n.each (weaks_of t' a tile here h)
 
-  noted_only : (a : ℕ) (tile : Tile) → Notes old new a tile → tile_in t' a ≡ Some tile → (HasWeaks t a → ⊥) → has new.flags a ≡ true → HasWeaks t' a
+  noted_only : (a : ℕ) (tile : Tile) → Notes old new a tile → tile_in t' a ≡ Some tile → (HasWeaks t a → ⊥)
+      → has new.flags a ≡ true → HasWeaks t' a
   noted_only a tile n here none h = elim (n.only h) [ inl was ↦ absurd (none (g.only a was)) | inr some ↦ has_of t' a tile here some ]
 
-  pub starts_added : (a : ℕ) (tile : Tile) → tile_in t' a ≡ Some tile → (HasWeaks t a → ⊥) → ((y : ℕ) → y ≢ a → tile_in t' y ≡ tile_in t y) → Notes old new a tile → AreStarts t' new.flags
+  pub starts_added : (a : ℕ) (tile : Tile) → tile_in t' a ≡ Some tile → (HasWeaks t a → ⊥) → ((y : ℕ) → y ≢ a → tile_in t' y ≡ tile_in t y)
+      → Notes old new a tile → AreStarts t' new.flags
   starts_added a tile here none others n = record {
     each = λ x h. elim (cases_eq x a) [
       | inl q ↦ subst (λ (y : ℕ). has new.flags y ≡ true) (sym q) (noted_there a tile n here (subst (HasWeaks t') q h))
@@ -250,7 +286,8 @@ module _ (t t' : Table) (old new : Starts) (g : AreStarts t old.flags) where
     ];
   }
 
-  pub starts_cut : (a n r : ℕ) (tile : Tile) → 0 < n → (HasWeaks t a → ⊥) → Replaces t t' a n (tile ∷ remainder r) → Notes old new a tile → AreStarts t' new.flags
+  pub starts_cut : (a n r : ℕ) (tile : Tile) → 0 < n → (HasWeaks t a → ⊥) → Replaces t t' a n (tile ∷ remainder r)
+      → Notes old new a tile → AreStarts t' new.flags
   starts_cut a n r tile some none c m = record {
     each = λ x h. elim (cases_eq x a) [
       | inl q ↦ subst (λ (y : ℕ). has new.flags y ≡ true) (sym q) (noted_there a tile m here (subst (HasWeaks t') q h))
@@ -276,7 +313,8 @@ module _ (t t' : Table) (old new : Starts) (g : AreStarts t old.flags) where
         | inr b ↦ elim (cases_lt x (a + n)) [
           | inl f ↦
               let place : a + (x - a) ≡ x = omega arith in
-              let at : tile_at (x - a) (tile ∷ remainder r) ≡ Some (Object h.object) = sym (c.within (x - a) (omega arith)) ∙ ap (tile_in t') place ∙ tile_is t' x h in
+              let at : tile_at (x - a) (tile ∷ remainder r) ≡ Some (Object h.object) =
+              sym (c.within (x - a) (omega arith)) ∙ ap (tile_in t') place ∙ tile_is t' x h in
               let p = cut_object tile r (x - a) h.object at in
               let zero_is = p.0 in
               absurd (apart (omega arith))
@@ -295,7 +333,8 @@ module _ (t t' : Table) (old new : Starts) (g : AreStarts t old.flags) where
         ]
       ]
 
-  pub starts_forwarded : (a to n : ℕ) (o : Stored) → tile_in t a ≡ Some (Object o) → Forwards t t' a to n → Forgets old new a (length o.weaks) → AreStarts t' new.flags
+  pub starts_forwarded : (a to n : ℕ) (o : Stored) → tile_in t a ≡ Some (Object o) → Forwards t t' a to n
+      → Forgets old new a (length o.weaks) → AreStarts t' new.flags
   starts_forwarded a to n o was f k = record {
     each = λ x h. elim (cases_eq x a) [
       | inl q ↦ absurd (none_in t' a (Forwarded to n) f.is refl (subst (HasWeaks t') q h))
@@ -310,7 +349,9 @@ module _ (t t' : Table) (old new : Starts) (g : AreStarts t old.flags) where
   }
 
   -- the later regions of a run have no tile
-  pub starts_released : (k m : ℕ) → 0 < t.words_per_region → 0 < m → ((y : ℕ) → k < y / t.words_per_region → y / t.words_per_region < k + m → tile_in t y ≡ None) → Releases t t' k m → Clears old new k t.words_per_region → AreStarts t' new.flags
+  pub starts_released : (k m : ℕ) → 0 < t.words_per_region → 0 < m
+      → ((y : ℕ) → k < y / t.words_per_region → y / t.words_per_region < k + m → tile_in t y ≡ None) → Releases t t' k m
+      → Clears old new k t.words_per_region → AreStarts t' new.flags
   starts_released k m positive some later r c = record {
     each = λ x h. elim (cases_lt (x / t.words_per_region) k) [
       | inl b ↦ stays x (λ e. omega arith) ∙ g.each x (moved t t' x (r.others x (inl b)) h)
@@ -372,10 +413,13 @@ run_later t k y low high =
     let q : ℕ = y / t.words_per_region in
     let at : suc k + (q - suc k) ≡ q = omega arith in
     let rest = front_passes is_rest (drop (suc k) t.regions) Free (q - suc k) (omega arith) in
-    let is : is_rest (nth_region t q) ≡ true = ap (λ (j : ℕ). is_rest (get_or t.regions j Free)) (sym at) ∙ ap is_rest (sym (get_or-drop (suc k) t.regions (q - suc k) Free)) ∙ rest in
+    let is : is_rest (nth_region t q) ≡ true =
+    ap (λ (j : ℕ). is_rest (get_or t.regions j Free)) (sym at) ∙ ap is_rest (sym (get_or-drop (suc k) t.regions (q - suc k) Free)) ∙ rest in
     tile_of_region t y (nth_region t q) refl ∙ rest_no_tile (nth_region t q) (y % t.words_per_region) is
 
 -- what the next address of the set says
-pub next_weaks : (t : Table) (flags : List Bool) (from : ℕ) (found : Option ℕ) → AreStarts t flags → MatchOption found (HasNone (has flags) from) (IsLowest (has flags) from) → IsNextWithWeaks t from found
+pub next_weaks : (t : Table) (flags : List Bool) (from : ℕ) (found : Option ℕ) → AreStarts t flags
+    → MatchOption found (HasNone (has flags) from) (IsLowest (has flags) from) → IsNextWithWeaks t from found
 next_weaks t flags from None g lowest = λ a low h. absurd (let yes = g.each a h in let no = lowest a low in cc)
-next_weaks t flags from (Some x) g lowest = (lowest.at_least, g.only x lowest.is_in, λ a low high h. absurd (let yes = g.each a h in let no = lowest.lowest a low high in cc))
+next_weaks t flags from (Some x) g lowest =
+    (lowest.at_least, g.only x lowest.is_in, λ a low high h. absurd (let yes = g.each a h in let no = lowest.lowest a low high in cc))

@@ -1,10 +1,12 @@
 -- Walks of any region, and those that begin at a tile.
-use Rattle.std.proofs.Common.{◌≡◌, ℕ, zero, suc, ◌+◌, ◌-◌, ◌*◌, ◌/◌, ◌%◌, ◌<◌, ◌≤◌, Option, Some, None, List, [], ◌∷◌, length, get_or, refl, ap, ◌∙◌, arith}
+use Rattle.std.proofs.Common.{◌≡◌, ◌+◌, ◌-◌, ◌*◌, ◌/◌, ◌%◌, ◌<◌, ◌≤◌, ◌∷◌, ◌∙◌}
+use Rattle.std.proofs.Common.{ℕ, zero, suc, Option, Some, None, List, [], length, get_or, refl, ap, arith}
 use Rattle.std.specs.Prelude.{IsSome}
 use Rattle.std.proofs.lemmas.Nat.{div-mul-add, mod-mul-add}
 use Rattle.heap_model.specs.Heap.{Stored}
 use Rattle.regions.specs.Tiles.{Tile, Object, tile_size, tile_at, total_size}
-use Rattle.regions.specs.Table.{Table, Region, Free, Ordinary, First, Rest, region_at, region_tile, nth_region, region_kind, kind_of, tile_in}
+use Rattle.regions.specs.Table.{Table, Region, Free, Ordinary, First, Rest, region_at}
+use Rattle.regions.specs.Table.{region_tile, nth_region, region_kind, kind_of, tile_in}
 use Rattle.regions.specs.Walks.{AllPositive, IsCut, IsWalk, tiles_of, region_tiles}
 use Rattle.regions.specs.Shaped.{IsShaped}
 use Rattle.regions.specs.Rows.{sizes_in, table_of, IsTable}
@@ -33,19 +35,22 @@ listed (First s) (suc o) u h = cc
 listed (Rest n) o u h = cc
 
 -- a tile of the table is one of its region's
-pub tile_listed : (t : Table) (a : ℕ) (u : Tile) → tile_in t a ≡ Some u → (tile_at (a % t.words_per_region) (tiles_of t (a / t.words_per_region)) ≡ Some u) × (a / t.words_per_region < length t.regions)
+pub tile_listed : (t : Table) (a : ℕ) (u : Tile) → tile_in t a ≡ Some u
+    → (tile_at (a % t.words_per_region) (tiles_of t (a / t.words_per_region)) ≡ Some u) × (a / t.words_per_region < length t.regions)
 unfolding tile_in region_at tiles_of nth_region
 tile_listed t a u h = (listed (get_or t.regions (a / t.words_per_region) Free) (a % t.words_per_region) u h, known_region t.regions _ _ _ h)
 
 -- and a region's tile is one of the table
-pub listed_tile : (t : Table) (k o : ℕ) (u : Tile) → IsShaped t → tile_at o (tiles_of t k) ≡ Some u → tile_in t (k * t.words_per_region + o) ≡ Some u
+pub listed_tile : (t : Table) (k o : ℕ) (u : Tile) → IsShaped t → tile_at o (tiles_of t k) ≡ Some u
+    → tile_in t (k * t.words_per_region + o) ≡ Some u
 unfolding tile_in region_at tiles_of nth_region kind_of
 listed_tile t k o u g h = go (get_or t.regions k Free) refl h
   where
     size : ℕ
     size = t.words_per_region
 
-    stands : (r : Region) → get_or t.regions k Free ≡ r → o < size → region_tile r o ≡ Some u → region_tile (get_or t.regions ((k * size + o) / size) Free) ((k * size + o) % size) ≡ Some u
+    stands : (r : Region) → get_or t.regions k Free ≡ r → o < size → region_tile r o ≡ Some u
+        → region_tile (get_or t.regions ((k * size + o) / size) Free) ((k * size + o) % size) ≡ Some u
     stands r e lt f =
         let d : (k * size + o) / size ≡ k = div-mul-add k size o lt in
         let m : (k * size + o) % size ≡ o = mod-mul-add k size o lt in
@@ -55,7 +60,8 @@ listed_tile t k o u g h = go (get_or t.regions k Free) refl h
     one s zero f = (refl, f)
     one s (suc o) f = let p = past (tile_size (Object s)) (suc o) _ u f in absurd (let z : None ≡ Some u = p.1 in cc)
 
-    go : (r : Region) → get_or t.regions k Free ≡ r → tile_at o (region_tiles (get_or t.regions k Free)) ≡ Some u → region_tile (get_or t.regions ((k * size + o) / size) Free) ((k * size + o) % size) ≡ Some u
+    go : (r : Region) → get_or t.regions k Free ≡ r → tile_at o (region_tiles (get_or t.regions k Free)) ≡ Some u
+        → region_tile (get_or t.regions ((k * size + o) / size) Free) ((k * size + o) % size) ≡ Some u
     go Free e f = let z : None ≡ Some u = rw e at f in cc
     go (Rest n) e f = let z : None ≡ Some u = rw e at f in cc
     go (First s) e f =
@@ -93,27 +99,33 @@ walk_rests t k h o = go (nth_region t k) refl o
     go (First s) e f = cc
     go (Rest n) e f = walk_none t k h (tiles_at t k (Rest n) e)
 
-pub walk_first : (size : ℕ) (words : List ℕ) (rows : List Row) (t : Table) (k : ℕ) → IsTable size words rows → table_of size words rows ≡ t → k < length t.regions → kind_of t k ≡ kinds.First → IsWalk t k 0 (sizes_in words (k * size)) × (k * size < length words)
+pub walk_first : (size : ℕ) (words : List ℕ) (rows : List Row) (t : Table) (k : ℕ) → IsTable size words rows → table_of size words rows ≡ t
+    → k < length t.regions → kind_of t k ≡ kinds.First → IsWalk t k 0 (sizes_in words (k * size)) × (k * size < length words)
 unfolding kind_of
 walk_first size words rows t k g e h o = go (nth_region t k) refl o
   where
-    go : (r : Region) → nth_region t k ≡ r → region_kind r ≡ kinds.First → IsWalk t k 0 (sizes_in words (k * size)) × (k * size < length words)
+    go : (r : Region) → nth_region t k ≡ r → region_kind r ≡ kinds.First
+        → IsWalk t k 0 (sizes_in words (k * size)) × (k * size < length words)
     go Free f p = cc
     go (Ordinary ts) f p = cc
     go (First s) f p =
         let w = first_words size words rows t k s g e f in
-        let are = tiles_at t k (First s) f in
-        (record { known = h; cut = tt; end_is = rw are (omega (arith, w.0)); within = omega arith; positive = rw are (omega arith, tt) }, omega (arith, w.1))
+        let are = tiles_at t k (First s) f in (
+          record { known = h; cut = tt; end_is = rw are (omega (arith, w.0)); within = omega arith; positive = rw are (omega arith, tt) },
+          omega (arith, w.1),
+        )
     go (Rest n) f p = cc
 
-pub begins : (t : Table) (a k o end : ℕ) → IsSome (tile_in t a) → k ≡ a / t.words_per_region → o ≡ a % t.words_per_region → IsWalk t k 0 end → IsWalk t k o end
+pub begins : (t : Table) (a k o end : ℕ) → IsSome (tile_in t a) → k ≡ a / t.words_per_region
+    → o ≡ a % t.words_per_region → IsWalk t k 0 end → IsWalk t k o end
 begins t a k o end h f g w = go (tile_in t a) refl h
   where
     go : (u : Option Tile) → tile_in t a ≡ u → IsSome u → IsWalk t k o end
     go None x y = cc
     go (Some u) x y =
         let l = tile_listed t a u x in
-        let at : tile_at o (tiles_of t k) ≡ Some u = ap (λ (n : ℕ). tile_at n (tiles_of t k)) g ∙ ap (λ (n : ℕ). tile_at (a % t.words_per_region) (tiles_of t n)) f ∙ l.0 in
+        let at : tile_at o (tiles_of t k) ≡ Some u =
+        ap (λ (n : ℕ). tile_at n (tiles_of t k)) g ∙ ap (λ (n : ℕ). tile_at (a % t.words_per_region) (tiles_of t n)) f ∙ l.0 in
         let c = cut_at (tiles_of t k) o u at in
         record { known = w.known; cut = c.0; end_is = w.end_is; within = omega (arith, c.1, w.end_is); positive = w.positive }
 
@@ -134,7 +146,8 @@ pub record IsBehind (size : ℕ) (words : List ℕ) (t : Table) (k o : ℕ) : Ty
   pub size_is : size ≡ t.words_per_region
   pub positive : 0 < tile_size tile
 
-pub behind_is : (size : ℕ) (words : List ℕ) (rows : List Row) (t : Table) (k o : ℕ) → IsTable size words rows → table_of size words rows ≡ t → IsCut o (tiles_of t k) → o < total_size (tiles_of t k) → IsBehind size words t k o
+pub behind_is : (size : ℕ) (words : List ℕ) (rows : List Row) (t : Table) (k o : ℕ) → IsTable size words rows → table_of size words rows ≡ t
+    → IsCut o (tiles_of t k) → o < total_size (tiles_of t k) → IsBehind size words t k o
 behind_is size words rows t k o g e cut within =
     let shape = shaped_of size words rows t g e in
     let size_is = size_is_of size words rows t e in

@@ -16,7 +16,8 @@ pub record IsStep (o n : ℕ) (ts : List Tile) (t : Tile) : Type 0 where
   pub cut : IsCut n ts
   pub within : n ≤ total_size ts
 
-pub cut_step : (o n : ℕ) (ts : List Tile) (t : Tile) → IsCut o ts → tile_at o ts ≡ Some t → 0 < tile_size t → n ≡ o + tile_size t → IsStep o n ts t
+pub cut_step : (o n : ℕ) (ts : List Tile) (t : Tile) → IsCut o ts → tile_at o ts ≡ Some t
+    → 0 < tile_size t → n ≡ o + tile_size t → IsStep o n ts t
 cut_step o n [] t c f z e = cc
 cut_step zero zero (u ∷ ts) t c f z e = absurd (omega arith)
 cut_step zero (suc n) (u ∷ ts) t c f z e =
@@ -38,11 +39,14 @@ cut_step (suc o) (suc n) (u ∷ ts) t c f z e =
       within = omega (arith, i.within, p.0);
     }
 
-pub stepped : (t : Table) (k o end : ℕ) (at : ℕ) (r : _) → IsWalk t k o end → (b : IsTileBehind t k o r) → (walk_rest t k o ≡ (r.0, r.1) ∷ walk_rest t k (o + r.2)) × IsWalk t k (o + r.2) end
+pub stepped : (t : Table) (k o end : ℕ) (at : ℕ) (r : _) → IsWalk t k o end → (b : IsTileBehind t k o r)
+    → (walk_rest t k o ≡ (r.0, r.1) ∷ walk_rest t k (o + r.2)) × IsWalk t k (o + r.2) end
 stepped t k o end at r w b =
     let s = cut_step o (o + r.2) (tiles_of t k) b.tile w.cut b.tile_is (omega (arith, b.size_is, b.positive)) (omega (arith, b.size_is)) in
-    let place : k * t.words_per_region + o + tile_size b.tile ≡ k * t.words_per_region + (o + r.2) = omega (arith, b.size_is) in
-    (ap (placed (k * t.words_per_region + o)) s.rest_is ∙ rw (b.at_is, b.shape_is, place) refl, record { known = w.known; cut = s.cut; end_is = w.end_is; within = omega (arith, s.within, w.end_is); positive = w.positive })
+    let place : k * t.words_per_region + o + tile_size b.tile ≡ k * t.words_per_region + (o + r.2) = omega (arith, b.size_is) in (
+      ap (placed (k * t.words_per_region + o)) s.rest_is ∙ rw (b.at_is, b.shape_is, place) refl,
+      record { known = w.known; cut = s.cut; end_is = w.end_is; within = omega (arith, s.within, w.end_is); positive = w.positive },
+    )
 
 pub stopped : (t : Table) (k o end : ℕ) → IsWalk t k o end → end ≤ o → walk_rest t k o ≡ []
 stopped t k o end w h = ap (placed (k * t.words_per_region + o)) (cut_none o (tiles_of t k) w.cut (omega (arith, w.end_is)) w.positive)

@@ -9,7 +9,8 @@ use Rattle.regions.specs.Table.{Table, kind_of}
 use Rattle.regions.specs.Tiles.{Tile, Object, Filler, Forwarded, tile_size, tile_at, total_size, size_by, tiles, IsTiled}
 use Rattle.regions.specs.declared.row.Kind.{Kind}
 use Rattle.regions.specs.declared.row.Row.{Row}
-use Rattle.std.proofs.Common.{◌≡◌, ℕ, zero, suc, ◌+◌, ◌-◌, ◌*◌, ◌<◌, ◌≤◌, Some, List, [], ◌∷◌, length, take, drop, get_or, refl, sym, ◌∙◌, ap, subst, arith}
+use Rattle.std.proofs.Common.{◌≡◌, ◌+◌, ◌-◌, ◌*◌, ◌<◌, ◌≤◌, ◌∷◌, ◌∙◌}
+use Rattle.std.proofs.Common.{ℕ, zero, suc, Some, List, [], length, take, drop, get_or, refl, sym, ap, subst, arith}
 use Rattle.std.proofs.lemmas.List.{length-take, length-drop}
 use Rattle.regions.specs.Walks.{IsCut, IsWalk, AllPositive, tiles_of, region_tiles}
 use Rattle.std.proofs.lemmas.Bool.{le-leb}
@@ -31,14 +32,17 @@ record IsContent (size : ℕ) (words : List ℕ) (t : Table) (k used : ℕ) : Ty
   pub small : k * size + used ≤ length words
   pub size_is : size ≡ t.words_per_region
 
-content_of : (size : ℕ) (words : List ℕ) (rows : List Row) (t : Table) (k : ℕ) → IsTable size words rows → table_of size words rows ≡ t → k < length t.regions → kind_of t k ≡ kinds.Ordinary → IsContent size words t k (get_or rows k free_row).used
+content_of : (size : ℕ) (words : List ℕ) (rows : List Row) (t : Table) (k : ℕ) → IsTable size words rows → table_of size words rows ≡ t
+    → k < length t.regions → kind_of t k ≡ kinds.Ordinary → IsContent size words t k (get_or rows k free_row).used
 unfolding tiles_of
 content_of size words rows t k g e h o =
     let kn = known size words rows t k e h in
     let is : (get_or rows k free_row).kind ≡ kinds.Ordinary = sym (kind_is size words rows t k kn) ∙ o in
     let top = top_is size words rows t k g e h o in
-    let st = start_at (sizes_in words) size rows k (k * size) 0 words free_row refl kn.in_rows g.rows_right (λ e. let f : kinds.Ordinary ≡ kinds.Rest = sym is ∙ e in cc) in
-    let right : IsRow (sizes_in words) size (drop (k * size) words) (get_or rows k free_row).used kinds.Ordinary = subst (λ (kind : Kind). IsRow (sizes_in words) size (drop (k * size) words) (get_or rows k free_row).used kind) is st.0.row_is in
+    let st = start_at (sizes_in words) size rows k (k * size) 0 words free_row refl kn.in_rows g.rows_right
+    (λ e. let f : kinds.Ordinary ≡ kinds.Rest = sym is ∙ e in cc) in
+    let right : IsRow (sizes_in words) size (drop (k * size) words) (get_or rows k free_row).used kinds.Ordinary =
+    subst (λ (kind : Kind). IsRow (sizes_in words) size (drop (k * size) words) (get_or rows k free_row).used kind) is st.0.row_is in
     record {
       tiles_are = ap region_tiles kn.region_is ∙ rw is refl;
       tiled = right.1;
@@ -47,7 +51,8 @@ content_of size words rows t k g e h o =
       size_is = kn.size_is;
     }
 
-pub walk_ordinary : (size : ℕ) (words : List ℕ) (rows : List Row) (t : Table) (k : ℕ) → IsTable size words rows → table_of size words rows ≡ t → k < length t.regions → kind_of t k ≡ kinds.Ordinary → IsWalk t k 0 (get_or rows k free_row).used
+pub walk_ordinary : (size : ℕ) (words : List ℕ) (rows : List Row) (t : Table) (k : ℕ) → IsTable size words rows
+    → table_of size words rows ≡ t → k < length t.regions → kind_of t k ≡ kinds.Ordinary → IsWalk t k 0 (get_or rows k free_row).used
 walk_ordinary size words rows t k g e h o =
     let c = content_of size words rows t k g e h o in
     record {

@@ -1,13 +1,15 @@
 -- What a read or a write of a field does, as callers see the table.
 -- the object whose pointer is asked for
-use Rattle.std.proofs.Common.{◌≡◌, ℕ, suc, ◌+◌, ◌-◌, ◌*◌, ◌/◌, ◌<◌, Option, Some, None, List, length, take, drop, map, get_or, set, refl, sym, ◌∙◌, ap, arith, inl, inr}
+use Rattle.std.proofs.Common.{◌≡◌, ◌+◌, ◌-◌, ◌*◌, ◌/◌, ◌<◌, ◌∙◌}
+use Rattle.std.proofs.Common.{ℕ, suc, Option, Some, None, List, length, take, drop, map, get_or, set, refl, sym, ap, arith, inl, inr}
 use Rattle.std.proofs.lemmas.List.{length-take, length-drop, length-map, length-set, drop-drop, get_or-drop, get_or-take, get_or-map}
 use Rattle.heap_words.specs.Headers.{header_of, pointer_of}
 use Rattle.std.specs.Prelude.{IsSome}
 use Rattle.heap_words.specs.Contents.{pointer_count, counts_of}
 use Rattle.heap_model.specs.Heap.{Stored}
 use Rattle.regions.specs.Tiles.{Tile, Object, tile_size}
-use Rattle.regions.specs.Table.{First, Table, region_at, object_at, object_pointers, object_weaks, pointers_at, weaks_at, put_object, set_pointer, set_weak, IsOrdinary}
+use Rattle.regions.specs.Table.{First, Table, region_at, object_at, object_pointers, object_weaks, pointers_at}
+use Rattle.regions.specs.Table.{weaks_at, put_object, set_pointer, set_weak, IsOrdinary}
 use Rattle.regions.specs.Rows.{sizes_in, first_stored, region_of, table_of, IsTable, free_row}
 use Rattle.regions.specs.declared.row.Row.{Row}
 use Rattle.regions.proofs.Rows.RowLemmas.{regions-at}
@@ -33,7 +35,8 @@ has_pointer t x i h = go (object_at t x) refl h
     go None e l = absurd (omega arith)
     go (Some s) e l = record { object = s; object_is = e; within = l }
 
-pointer_word_at : (words : List ℕ) (x i : ℕ) (s : Stored) → IsIn words x s → i < length s.pointers → slice_get s.pointers i ≡ Some (pointer_of (get_or words (x + 2 + i) 0))
+pointer_word_at : (words : List ℕ) (x i : ℕ) (s : Stored) → IsIn words x s → i < length s.pointers
+    → slice_get s.pointers i ≡ Some (pointer_of (get_or words (x + 2 + i) 0))
 pointer_word_at words x i s g h =
     let p : ℕ = length s.pointers in
     let are : s.pointers ≡ map pointer_of (take p (drop 1 (drop (x + 1) words))) = ap (λ (r : Stored). r.pointers) g.stored_is in
@@ -46,34 +49,43 @@ pointer_word_at words x i s g h =
     let e3 = get_or-take p (drop (x + 1 + 1) words) i 0 h in
     let e4 = get_or-drop (x + 1 + 1) words i 0 in
     let place : x + 1 + 1 + i ≡ x + 2 + i = omega arith in
-    ap (λ (ps : List (Option ℕ)). slice_get ps i) (are ∙ rw at refl) ∙ e1 ∙ ap Some (e2 ∙ ap pointer_of (e3 ∙ e4 ∙ ap (λ a. get_or words a 0) place))
+    ap (λ (ps : List (Option ℕ)). slice_get ps i) (are ∙ rw at refl) ∙ e1
+    ∙ ap Some (e2 ∙ ap pointer_of (e3 ∙ e4 ∙ ap (λ a. get_or words a 0) place))
 
 pub record IsPointerRead (words : List ℕ) (t : Table) (x i : ℕ) : Type 0 where
   pub in_words : x + 2 + i < length words
   pub value : slice_get (pointers_at t x) i ≡ Some (pointer_of (get_or words (x + 2 + i) 0))
 
-pub pointer_read : (size : ℕ) (words : List ℕ) (rows : List Row) (t : Table) (x i : ℕ) → IsTable size words rows → table_of size words rows ≡ t → i < length (pointers_at t x) → IsPointerRead words t x i
+pub pointer_read : (size : ℕ) (words : List ℕ) (rows : List Row) (t : Table) (x i : ℕ) → IsTable size words rows
+    → table_of size words rows ≡ t → i < length (pointers_at t x) → IsPointerRead words t x i
 unfolding pointers_at
 pointer_read size words rows t x i g e h =
     let p = has_pointer t x i h in
-    let is_in = object_is_in (sizes_in words) size words rows x p.object (table_right g) (ap (λ (u : Table). object_at u x) e ∙ p.object_is) in
+    let is_in =
+    object_is_in (sizes_in words) size words rows x p.object (table_right g) (ap (λ (u : Table). object_at u x) e ∙ p.object_is) in
     record {
       in_words = omega (arith, is_in.fits, p.within);
       value = rw p.object_is (pointer_word_at words x i p.object is_in p.within);
     }
 
-pub set_pointer-is : (t : Table) (x i : ℕ) (v : Option ℕ) (s : Stored) → object_at t x ≡ Some s → set_pointer t x i v ≡ put_object t x (with_pointer s i v)
+pub set_pointer-is : (t : Table) (x i : ℕ) (v : Option ℕ) (s : Stored) → object_at t x ≡ Some s
+    → set_pointer t x i v ≡ put_object t x (with_pointer s i v)
 unfolding set_pointer
 set_pointer-is t x i v s e = rw e refl
 
-pub not_first : (size : ℕ) (words : List ℕ) (rows : List Row) (x : ℕ) (s : Tile) → InFirst (sizes_in words) size words rows x s → IsOrdinary (region_at (table_of size words rows) x) → ⊥
+pub not_first : (size : ℕ) (words : List ℕ) (rows : List Row) (x : ℕ) (s : Tile) → InFirst (sizes_in words) size words rows x s
+    → IsOrdinary (region_at (table_of size words rows) x) → ⊥
 unfolding region_at
 not_first size words rows x s q o =
     let e = regions-at (sizes_in words) size rows (x / size) (x / size * size) words free_row refl q.known in
-    let f : region_of (sizes_in words) (drop (x / size * size) words) (get_or rows (x / size) free_row) ≡ First (first_stored (drop (x / size * size) words)) = rw q.kind_is refl in
+    let f : region_of (sizes_in words) (drop (x / size * size) words) (get_or rows (x / size) free_row)
+    ≡ First (first_stored (drop (x / size * size) words)) =
+    rw q.kind_is refl in
     rw (e, f) at o
 
-pub pointer_written : (size : ℕ) (words : List ℕ) (rows : List Row) (t : Table) (x i v : ℕ) → IsTable size words rows → table_of size words rows ≡ t → i < length (pointers_at t x) → IsWrittenTable size (set words (x + 2 + i) v) rows (set_pointer t x i (pointer_of v))
+pub pointer_written : (size : ℕ) (words : List ℕ) (rows : List Row) (t : Table) (x i v : ℕ) → IsTable size words rows
+    → table_of size words rows ≡ t → i < length (pointers_at t x)
+    → IsWrittenTable size (set words (x + 2 + i) v) rows (set_pointer t x i (pointer_of v))
 pointer_written size words rows t x i v g e h =
     let p = has_pointer t x i h in
     let u : Table = table_of size words rows in
@@ -84,8 +96,10 @@ pointer_written size words rows t x i v g e h =
     let same : tile_size (Object s') ≡ tile_size (Object p.object) = simp length-set in
     let kept = put_kept u x p.object s' g.region_size.0 at same g.targets in
     elim (object_place (sizes_in words) size words rows x p.object at) [
-      | inl q ↦ rw (place, ← is) (write_ordinary size words rows x (suc i) v p.object s' g q (omega (arith, p.within)) (turns_pointer p.object i v p.within) kept)
-      | inr q ↦ rw (place, ← is) (write_first size words rows x (suc i) v p.object s' g q (omega (arith, p.within)) (turns_pointer p.object i v p.within) kept)
+      | inl q ↦ rw (place, ← is) (write_ordinary size words rows x (suc i) v p.object s' g q (omega (arith, p.within))
+          (turns_pointer p.object i v p.within) kept)
+      | inr q ↦ rw (place, ← is) (write_first size words rows x (suc i) v p.object s' g q (omega (arith, p.within))
+          (turns_pointer p.object i v p.within) kept)
     ]
 
 -- the object whose weak slot is asked for
@@ -102,7 +116,8 @@ has_weak t x i h = go (object_at t x) refl h
     go None e l = absurd (omega arith)
     go (Some s) e l = record { object = s; object_is = e; within = l }
 
-weak_word_at : (words : List ℕ) (x i : ℕ) (s : Stored) → IsIn words x s → i < length s.weaks → slice_get s.weaks i ≡ Some (pointer_of (get_or words (x + 2 + (length s.pointers + i)) 0))
+weak_word_at : (words : List ℕ) (x i : ℕ) (s : Stored) → IsIn words x s → i < length s.weaks
+    → slice_get s.weaks i ≡ Some (pointer_of (get_or words (x + 2 + (length s.pointers + i)) 0))
 weak_word_at words x i s g h =
     let p : ℕ = length s.pointers in
     let k : ℕ = length s.weaks in
@@ -116,7 +131,8 @@ weak_word_at words x i s g h =
     let e3 = get_or-take k (drop (x + 1 + suc p) words) i 0 h in
     let e4 = get_or-drop (x + 1 + suc p) words i 0 in
     let place : x + 1 + suc p + i ≡ x + 2 + (p + i) = omega arith in
-    ap (λ (ps : List (Option ℕ)). slice_get ps i) (are ∙ rw at refl) ∙ e1 ∙ ap Some (e2 ∙ ap pointer_of (e3 ∙ e4 ∙ ap (λ a. get_or words a 0) place))
+    ap (λ (ps : List (Option ℕ)). slice_get ps i) (are ∙ rw at refl) ∙ e1
+    ∙ ap Some (e2 ∙ ap pointer_of (e3 ∙ e4 ∙ ap (λ a. get_or words a 0) place))
 
 pub record IsWeakRead (words : List ℕ) (t : Table) (x i : ℕ) : Type 0 where
   pub at : x < length words
@@ -124,11 +140,13 @@ pub record IsWeakRead (words : List ℕ) (t : Table) (x i : ℕ) : Type 0 where
   pub in_words : x + 2 + (pointer_count (header_of (get_or words x 0)) + i) < length words
   pub value : slice_get (weaks_at t x) i ≡ Some (pointer_of (get_or words (x + 2 + (pointer_count (header_of (get_or words x 0)) + i)) 0))
 
-pub weak_read : (size : ℕ) (words : List ℕ) (rows : List Row) (t : Table) (x i : ℕ) → IsTable size words rows → table_of size words rows ≡ t → i < length (weaks_at t x) → IsWeakRead words t x i
+pub weak_read : (size : ℕ) (words : List ℕ) (rows : List Row) (t : Table) (x i : ℕ) → IsTable size words rows → table_of size words rows ≡ t
+    → i < length (weaks_at t x) → IsWeakRead words t x i
 unfolding weaks_at
 weak_read size words rows t x i g e h =
     let p = has_weak t x i h in
-    let is_in = object_is_in (sizes_in words) size words rows x p.object (table_right g) (ap (λ (u : Table). object_at u x) e ∙ p.object_is) in
+    let is_in =
+    object_is_in (sizes_in words) size words rows x p.object (table_right g) (ap (λ (u : Table). object_at u x) e ∙ p.object_is) in
     let count : pointer_count (header_of (get_or words x 0)) ≡ length p.object.pointers = ap pointer_count is_in.header_is in
     record {
       at = omega (arith, is_in.fits);
@@ -137,11 +155,14 @@ weak_read size words rows t x i g e h =
       value = rw (p.object_is, count) (weak_word_at words x i p.object is_in p.within);
     }
 
-pub set_weak-is : (t : Table) (x i : ℕ) (v : Option ℕ) (s : Stored) → object_at t x ≡ Some s → set_weak t x i v ≡ put_object t x (with_weak s i v)
+pub set_weak-is : (t : Table) (x i : ℕ) (v : Option ℕ) (s : Stored) → object_at t x ≡ Some s
+    → set_weak t x i v ≡ put_object t x (with_weak s i v)
 unfolding set_weak
 set_weak-is t x i v s e = rw e refl
 
-pub weak_written : (size : ℕ) (words : List ℕ) (rows : List Row) (t : Table) (x i v : ℕ) → IsTable size words rows → table_of size words rows ≡ t → i < length (weaks_at t x) → IsWrittenTable size (set words (x + 2 + (pointer_count (header_of (get_or words x 0)) + i)) v) rows (set_weak t x i (pointer_of v))
+pub weak_written : (size : ℕ) (words : List ℕ) (rows : List Row) (t : Table) (x i v : ℕ) → IsTable size words rows
+    → table_of size words rows ≡ t → i < length (weaks_at t x)
+    → IsWrittenTable size (set words (x + 2 + (pointer_count (header_of (get_or words x 0)) + i)) v) rows (set_weak t x i (pointer_of v))
 weak_written size words rows t x i v g e h =
     let p = has_weak t x i h in
     let u : Table = table_of size words rows in
@@ -155,6 +176,8 @@ weak_written size words rows t x i v g e h =
     let same : tile_size (Object s') ≡ tile_size (Object p.object) = simp length-set in
     let kept = put_kept u x p.object s' g.region_size.0 at same g.targets in
     elim (object_place (sizes_in words) size words rows x p.object at) [
-      | inl q ↦ rw (place, ← is) (write_ordinary size words rows x j v p.object s' g q (omega (arith, p.within)) (turns_weak p.object i v p.within) kept)
-      | inr q ↦ rw (place, ← is) (write_first size words rows x j v p.object s' g q (omega (arith, p.within)) (turns_weak p.object i v p.within) kept)
+      | inl q ↦ rw (place, ← is) (write_ordinary size words rows x j v p.object s' g q
+          (omega (arith, p.within)) (turns_weak p.object i v p.within) kept)
+      | inr q ↦ rw (place, ← is) (write_first size words rows x j v p.object s' g q
+          (omega (arith, p.within)) (turns_weak p.object i v p.within) kept)
     ]

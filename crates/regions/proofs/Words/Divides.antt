@@ -31,7 +31,8 @@ card_region w len size q card l e d =
     let above = div_high (card * len) size k l refl in
     let m : ℕ = k * q + q in
     let whole : m * len ≡ k * size + size = rw e (omega arith) in
-    let less : card < m = ⊎_elim (λ b. b) (λ b. absurd (let p = mul-le m len card len b (omega arith) in omega (arith, p, whole, above))) (cases_lt card m) in
+    let less : card < m =
+    ⊎_elim (λ b. b) (λ b. absurd (let p = mul-le m len card len b (omega arith) in omega (arith, p, whole, above))) (cases_lt card m) in
     let p = mul-le (suc card) len m len less (omega arith) in
     div_is w size k (omega arith) (omega (arith, p, whole))
 

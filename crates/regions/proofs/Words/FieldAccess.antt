@@ -1,5 +1,6 @@
 -- Fields: pointers, and weak slots behind them.
-use Rattle.std.proofs.Common.{◌≡◌, ℕ, zero, suc, ◌+◌, ◌-◌, ◌<◌, Option, Some, None, List, [], ◌∷◌, ◌++◌, length, get_or, set, refl, sym, ◌∙◌, ap, arith, inl, inr}
+use Rattle.std.proofs.Common.{◌≡◌, ◌+◌, ◌-◌, ◌<◌, ◌∷◌, ◌++◌, ◌∙◌}
+use Rattle.std.proofs.Common.{ℕ, zero, suc, Option, Some, None, List, [], length, get_or, set, refl, sym, ap, arith, inl, inr}
 use Rattle.std.proofs.lemmas.List.{length-append}
 use Rattle.std.proofs.lemmas.Bool.{cases_lt, lt-ltb}
 use Rattle.std.specs.List.{slice_get}
@@ -7,7 +8,8 @@ use Rattle.heap_words.specs.Headers.{header_of, pointer_of}
 use Rattle.heap_words.specs.Contents.{pointer_count, field_count}
 use Rattle.heap_model.specs.Heap.{Stored, fields, with_field}
 use Rattle.heap_model.proofs.Fields.{ltb_above}
-use Rattle.regions.specs.Table.{Table, object_at, object_pointers, object_weaks, object_fields, pointers_at, weaks_at, fields_at, set_pointer, set_weak, set_field, set_field_of, put_object}
+use Rattle.regions.specs.Table.{Table, object_at, object_pointers, object_weaks, object_fields, pointers_at, weaks_at, fields_at}
+use Rattle.regions.specs.Table.{set_pointer, set_weak, set_field, set_field_of, put_object}
 use Rattle.regions.specs.Rows.{table_of, IsTable}
 use Rattle.regions.specs.declared.row.Row.{Row}
 use Rattle.regions.proofs.Words.ObjectWords.{there, IsThere}
@@ -51,14 +53,16 @@ unfolding fields_at
 fields_are t x s e = ap object_fields e
 
 -- its header counts them
-pub header_fields : (words : List ℕ) (t : Table) (x : ℕ) (s : Stored) → IsThere words t x s → field_count (header_of (get_or words x 0)) ≡ length (fields_at t x)
+pub header_fields : (words : List ℕ) (t : Table) (x : ℕ) (s : Stored) → IsThere words t x s
+    → field_count (header_of (get_or words x 0)) ≡ length (fields_at t x)
 header_fields words t x s i = ap field_count i.is_in.header_is ∙ rw (fields_are t x s i.is) (sym (length-append s.pointers s.weaks))
 
 pub record IsFieldRead (words : List ℕ) (t : Table) (x i : ℕ) : Type 0 where
   pub in_words : x + 2 + i < length words
   pub value : slice_get (fields_at t x) i ≡ Some (pointer_of (get_or words (x + 2 + i) 0))
 
-module _ (size : ℕ) (words : List ℕ) (rows : List Row) (t : Table) (x i : ℕ) (g : IsTable size words rows) (e : table_of size words rows ≡ t) (h : i < length (fields_at t x)) where
+module _ (size : ℕ) (words : List ℕ) (rows : List Row) (t : Table) (x i : ℕ) (g : IsTable size words rows)
+    (e : table_of size words rows ≡ t) (h : i < length (fields_at t x)) where
   pub field_read : IsFieldRead words t x i
   field_read =
       let f = has_field t x i h in
@@ -70,7 +74,8 @@ module _ (size : ℕ) (words : List ℕ) (rows : List Row) (t : Table) (x i : �
             let r = pointer_read size words rows t x i g e (rw (pointers_are t x s f.object_is) k) in
             record {
               in_words = r.in_words;
-              value = ap (λ fs. slice_get fs i) (fields_are t x s f.object_is) ∙ get-front s.pointers s.weaks i k ∙ ap (λ fs. slice_get fs i) (sym (pointers_are t x s f.object_is)) ∙ r.value;
+              value = ap (λ fs. slice_get fs i) (fields_are t x s f.object_is) ∙ get-front s.pointers s.weaks i k
+                  ∙ ap (λ fs. slice_get fs i) (sym (pointers_are t x s f.object_is)) ∙ r.value;
             }
         | inr k ↦
             let j : ℕ = i - length s.pointers in
@@ -81,7 +86,9 @@ module _ (size : ℕ) (words : List ℕ) (rows : List Row) (t : Table) (x i : �
             let place : x + 2 + (pointer_count (header_of (get_or words x 0)) + j) ≡ x + 2 + i = omega arith in
             record {
               in_words = rw place at r.in_words;
-              value = ap (λ fs. slice_get fs i) (fields_are t x s f.object_is) ∙ get-back s.pointers s.weaks i j (omega arith) ∙ ap (λ fs. slice_get fs j) (sym (weaks_are t x s f.object_is)) ∙ r.value ∙ ap (λ a. Some (pointer_of (get_or words a 0))) place;
+              value = ap (λ fs. slice_get fs i) (fields_are t x s f.object_is) ∙ get-back s.pointers s.weaks i j (omega arith)
+                  ∙ ap (λ fs. slice_get fs j) (sym (weaks_are t x s f.object_is)) ∙ r.value
+                  ∙ ap (λ a. Some (pointer_of (get_or words a 0))) place;
             }
       ]
 
@@ -94,7 +101,8 @@ module _ (size : ℕ) (words : List ℕ) (rows : List Row) (t : Table) (x i : �
       elim (cases_lt i (length s.pointers)) [
         | inl k ↦
             let w = pointer_written size words rows t x i v g e (rw (pointers_are t x s f.object_is) k) in
-            let same : set_pointer t x i (pointer_of v) ≡ set_field_of t x i (pointer_of v) (object_at t x) = set_pointer-is t x i (pointer_of v) s f.object_is ∙ (let b = lt-ltb i (length s.pointers) k in rw (f.object_is, b) refl) in
+            let same : set_pointer t x i (pointer_of v) ≡ set_field_of t x i (pointer_of v) (object_at t x) =
+            set_pointer-is t x i (pointer_of v) s f.object_is ∙ (let b = lt-ltb i (length s.pointers) k in rw (f.object_is, b) refl) in
             rw (← same) w
         | inr k ↦
             let j : ℕ = i - length s.pointers in
@@ -103,10 +111,12 @@ module _ (size : ℕ) (words : List ℕ) (rows : List Row) (t : Table) (x i : �
             let o = there size words rows t x s g e f.object_is in
             let count : pointer_count (header_of (get_or words x 0)) ≡ length s.pointers = ap pointer_count o.is_in.header_is in
             let place : x + 2 + i ≡ x + 2 + (pointer_count (header_of (get_or words x 0)) + j) = omega arith in
-            let same : set_weak t x j (pointer_of v) ≡ set_field_of t x i (pointer_of v) (object_at t x) = set_weak-is t x j (pointer_of v) s f.object_is ∙ (let b = ltb_above i (length s.pointers) k in rw (f.object_is, b) refl) in
+            let same : set_weak t x j (pointer_of v) ≡ set_field_of t x i (pointer_of v) (object_at t x) =
+            set_weak-is t x j (pointer_of v) s f.object_is ∙ (let b = ltb_above i (length s.pointers) k in rw (f.object_is, b) refl) in
             rw (place, ← same) w
       ]
 
-pub set_field-is : (t : Table) (x i : ℕ) (v : Option ℕ) (s : Stored) → object_at t x ≡ Some s → set_field t x i v ≡ put_object t x (with_field s i v)
+pub set_field-is : (t : Table) (x i : ℕ) (v : Option ℕ) (s : Stored) → object_at t x ≡ Some s
+    → set_field t x i v ≡ put_object t x (with_field s i v)
 unfolding set_field
 set_field-is t x i v s e = rw e refl

@@ -1,7 +1,9 @@
 -- What a write behind an object's header does to the tiles.
 -- the words of one tile
-use Rattle.std.proofs.Common.{◌≡◌, ℕ, zero, suc, ◌+◌, ◌-◌, ◌<◌, ◌≤◌, Option, Some, List, [], ◌∷◌, ◌++◌, length, take, drop, map, set, refl, sym, ◌∙◌, ap, arith, zero-add}
-use Rattle.std.proofs.lemmas.List.{length-take, length-set, take-append-drop, drop-set-lt, drop-set-add, take-set-le, set-append_left, map-set}
+use Rattle.std.proofs.Common.{◌≡◌, ◌+◌, ◌-◌, ◌<◌, ◌≤◌, ◌∷◌, ◌++◌, ◌∙◌}
+use Rattle.std.proofs.Common.{ℕ, zero, suc, Option, Some, List, [], length, take, drop, map, set, refl, sym, ap, arith, zero-add}
+use Rattle.std.proofs.lemmas.List.{length-take, length-set, take-append-drop, drop-set-lt}
+use Rattle.std.proofs.lemmas.List.{drop-set-add, take-set-le, set-append_left, map-set}
 use Rattle.heap_words.specs.declared.header.Header.TheVariants as headers
 use Rattle.heap_words.specs.Headers.{header_of, pointer_of}
 use Rattle.heap_model.specs.Heap.{Stored}
@@ -24,7 +26,8 @@ pub record IsOne (sizes : ℕ → ℕ) (block : List ℕ) (t : Tile) : Type 0 wh
   pub tiles_are : tiles sizes 0 block ≡ t ∷ []
   pub tiled : IsTiled sizes 0 block
 
-pub one_object : (sizes : ℕ → ℕ) (w p weak d : ℕ) (body : List ℕ) → header_of w ≡ Some (headers.Object p weak d) → length body ≡ 1 + p + weak + d → IsOne sizes (w ∷ body) (Object (stored_of p weak d body))
+pub one_object : (sizes : ℕ → ℕ) (w p weak d : ℕ) (body : List ℕ) → header_of w ≡ Some (headers.Object p weak d)
+    → length body ≡ 1 + p + weak + d → IsOne sizes (w ∷ body) (Object (stored_of p weak d body))
 one_object sizes w p weak d body e l =
     let n : length body ≡ 2 + p + weak + d - 1 = omega arith in
     record {
@@ -42,7 +45,8 @@ take_set (suc n) (w ∷ ws) (suc i) v = ap (λ xs. w ∷ xs) (take_set n ws i v)
 pub set_put : (ws : List ℕ) (o m j v : ℕ) → j < m → o + m ≤ length ws → set ws (o + j) v ≡ put ws o (set (take m (drop o ws)) j v)
 set_put ws zero m j v h l =
     let n : length (set (take m ws) j v) ≡ m = simp (length-set, length-take) (omega arith) in
-    let e : set (take m ws ++ drop m ws) j v ≡ set (take m ws) j v ++ drop m ws = set-append_left (take m ws) (drop m ws) j v (simp length-take (omega arith)) in
+    let e : set (take m ws ++ drop m ws) j v ≡ set (take m ws) j v ++ drop m ws =
+    set-append_left (take m ws) (drop m ws) j v (simp length-take (omega arith)) in
     let whole : take m ws ++ drop m ws ≡ ws = take-append-drop m ws in
     rw (zero-add j, n) (rw whole at e)
 set_put [] (suc o) m j v h l = absurd (omega arith)
@@ -52,7 +56,9 @@ set_put (w ∷ ws) (suc o) m j v h l =
 
 -- what the object's words say once one behind its header is written
 abbrev pub Turns : Stored → ℕ → ℕ → Stored → Type 0
-Turns s j v s' = (body : List ℕ) → 1 + length s.pointers + length s.weaks + length s.values ≤ length body → s ≡ stored_of (length s.pointers) (length s.weaks) (length s.values) body → stored_of (length s.pointers) (length s.weaks) (length s.values) (set body j v) ≡ s'
+Turns s j v s' = (body : List ℕ) → 1 + length s.pointers + length s.weaks + length s.values ≤ length body
+    → s ≡ stored_of (length s.pointers) (length s.weaks) (length s.values) body
+    → stored_of (length s.pointers) (length s.weaks) (length s.values) (set body j v) ≡ s'
 
 -- the words of the object at an offset
 pub record IsObjectAt (content : List ℕ) (o : ℕ) (s : Stored) : Type 0 where
@@ -63,15 +69,24 @@ pub record IsObjectAt (content : List ℕ) (o : ℕ) (s : Stored) : Type 0 where
   pub length_is : length body ≡ 1 + length s.pointers + length s.weaks + length s.values
   pub stored_is : s ≡ stored_of (length s.pointers) (length s.weaks) (length s.values) body
 
-object_words : (sizes : ℕ → ℕ) (content ws : List ℕ) (o : ℕ) (s : Stored) → drop o content ≡ ws → IsTiled sizes 0 ws → first_tile sizes ws ≡ Object s → IsObjectAt content o s
+object_words : (sizes : ℕ → ℕ) (content ws : List ℕ) (o : ℕ) (s : Stored) → drop o content ≡ ws → IsTiled sizes 0 ws
+    → first_tile sizes ws ≡ Object s → IsObjectAt content o s
 object_words sizes content [] o s e t f = cc
 object_words sizes content (w ∷ ws) o s e t f =
     let fits = skip_le sizes (size_by sizes (header_of w) - 1) ws t.2 in
     let l = live_by sizes (header_of w) ws s fits f in
     let n : size_by sizes (header_of w) ≡ 2 + length s.pointers + length s.weaks + length s.values = ap (size_by sizes) l.0 in
-    let m : 2 + length s.pointers + length s.weaks + length s.values ≡ suc (1 + length s.pointers + length s.weaks + length s.values) = omega arith in
-    let len : length (take (1 + length s.pointers + length s.weaks + length s.values) ws) ≡ 1 + length s.pointers + length s.weaks + length s.values = simp length-take (omega arith) in
-    let same : stored_of (length s.pointers) (length s.weaks) (length s.values) (take (1 + length s.pointers + length s.weaks + length s.values) ws ++ drop (1 + length s.pointers + length s.weaks + length s.values) ws) ≡ stored_of (length s.pointers) (length s.weaks) (length s.values) (take (1 + length s.pointers + length s.weaks + length s.values) ws) = stored_of-append _ _ _ _ _ (omega arith) in
+    let m : 2 + length s.pointers + length s.weaks + length s.values ≡ suc (1 + length s.pointers + length s.weaks + length s.values) =
+    omega arith in
+    let len : length (take (1 + length s.pointers + length s.weaks + length s.values) ws)
+    ≡ 1 + length s.pointers + length s.weaks + length s.values =
+    simp length-take (omega arith) in
+    let same : stored_of (length s.pointers) (length s.weaks) (length s.values)
+    (take (1 + length s.pointers + length s.weaks + length s.values) ws
+    ++ drop (1 + length s.pointers + length s.weaks + length s.values) ws)
+    ≡ stored_of (length s.pointers) (length s.weaks) (length s.values)
+    (take (1 + length s.pointers + length s.weaks + length s.values) ws) =
+    stored_of-append _ _ _ _ _ (omega arith) in
     record {
       word = w;
       body = take (1 + length s.pointers + length s.weaks + length s.values) ws;
@@ -85,18 +100,24 @@ pub record IsObjectSet (sizes : ℕ → ℕ) (content : List ℕ) (o j v : ℕ) 
   pub tiles_are : tiles sizes 0 (set content (o + j) v) ≡ replace o (Object s ∷ []) (tiles sizes 0 content)
   pub tiled : IsTiled sizes 0 (set content (o + j) v)
 
-pub object_set : (sizes : ℕ → ℕ) (content : List ℕ) (o j v : ℕ) (s s' : Stored) → IsTiled sizes 0 content → tile_at o (tiles sizes 0 content) ≡ Some (Object s) → j < 1 + length s.pointers + length s.weaks + length s.values → Turns s j v s' → IsObjectSet sizes content o (suc j) v s'
+pub object_set : (sizes : ℕ → ℕ) (content : List ℕ) (o j v : ℕ) (s s' : Stored) → IsTiled sizes 0 content
+    → tile_at o (tiles sizes 0 content) ≡ Some (Object s) → j < 1 + length s.pointers + length s.weaks + length s.values → Turns s j v s'
+    → IsObjectSet sizes content o (suc j) v s'
 object_set sizes content o j v s s' t f h g =
     let at = tile_at-tiles sizes 0 o o content (Object s) t (omega arith) f in
     let w = object_words sizes content (drop o content) o s refl at.2 at.0 in
     let size : ℕ = 2 + length s.pointers + length s.weaks + length s.values in
-    let e : set content (o + suc j) v ≡ put content o (set (take size (drop o content)) (suc j) v) = set_put content o size (suc j) v (omega arith) at.1 in
+    let e : set content (o + suc j) v ≡ put content o (set (take size (drop o content)) (suc j) v) =
+    set_put content o size (suc j) v (omega arith) at.1 in
     let b : set (take size (drop o content)) (suc j) v ≡ w.word ∷ set w.body j v = ap (λ ws. set ws (suc j) v) w.words_are in
-    let one = one_object sizes w.word (length s.pointers) (length s.weaks) (length s.values) (set w.body j v) w.header_is (length-set w.body j v ∙ w.length_is) in
-    let turned : stored_of (length s.pointers) (length s.weaks) (length s.values) (set w.body j v) ≡ s' = g w.body (omega (arith, w.length_is)) w.stored_is in
+    let one = one_object sizes w.word (length s.pointers) (length s.weaks) (length s.values) (set w.body j v) w.header_is
+    (length-set w.body j v ∙ w.length_is) in
+    let turned : stored_of (length s.pointers) (length s.weaks) (length s.values) (set w.body j v) ≡ s' =
+    g w.body (omega (arith, w.length_is)) w.stored_is in
     let len : length (w.word ∷ set w.body j v) ≡ size = simp length-set (omega (arith, w.length_is)) in
     record {
-      tiles_are = rw (e, b) (tiles-put sizes 0 o o content (w.word ∷ set w.body j v) (Object s) t (omega arith) f len one.tiled ∙ rw (one.tiles_are, turned) refl);
+      tiles_are = rw (e, b) (tiles-put sizes 0 o o content (w.word ∷ set w.body j v) (Object s) t (omega arith) f len one.tiled
+          ∙ rw (one.tiles_are, turned) refl);
       tiled = rw (e, b) (IsTiled-put sizes 0 o o content (w.word ∷ set w.body j v) (Object s) t (omega arith) f len one.tiled);
     }
 
@@ -104,10 +125,12 @@ object_set sizes content o j v s s' t f h g =
 abbrev pub with_pointer : Stored → ℕ → Option ℕ → Stored
 with_pointer s i v = record s { pointers = set s.pointers i v }
 
-stored_of-set_pointer : (p weak d : ℕ) (body : List ℕ) (i v : ℕ) → i < p → 1 + p + weak + d ≤ length body → stored_of p weak d (set body (suc i) v) ≡ with_pointer (stored_of p weak d body) i (pointer_of v)
+stored_of-set_pointer : (p weak d : ℕ) (body : List ℕ) (i v : ℕ) → i < p → 1 + p + weak + d ≤ length body
+    → stored_of p weak d (set body (suc i) v) ≡ with_pointer (stored_of p weak d body) i (pointer_of v)
 stored_of-set_pointer p weak d [] i v h l = absurd (omega arith)
 stored_of-set_pointer p weak d (w ∷ ws) i v h l =
-    let a : map pointer_of (take p (set ws i v)) ≡ set (map pointer_of (take p ws)) i (pointer_of v) = rw (take_set p ws i v) (map-set pointer_of (take p ws) i v) in
+    let a : map pointer_of (take p (set ws i v)) ≡ set (map pointer_of (take p ws)) i (pointer_of v) =
+    rw (take_set p ws i v) (map-set pointer_of (take p ws) i v) in
     let b : drop p (set ws i v) ≡ drop p ws = drop-set-lt p ws i v h in
     let e : drop (p + weak) (set ws i v) ≡ drop (p + weak) ws = drop-set-lt (p + weak) ws i v (omega arith) in
     cc
@@ -119,13 +142,15 @@ turns_pointer s i v h = λ body l e. stored_of-set_pointer _ _ _ body i v h l �
 abbrev pub with_weak : Stored → ℕ → Option ℕ → Stored
 with_weak s i v = record s { weaks = set s.weaks i v }
 
-stored_of-set_weak : (p weak d : ℕ) (body : List ℕ) (i v : ℕ) → i < weak → 1 + p + weak + d ≤ length body → stored_of p weak d (set body (suc p + i) v) ≡ with_weak (stored_of p weak d body) i (pointer_of v)
+stored_of-set_weak : (p weak d : ℕ) (body : List ℕ) (i v : ℕ) → i < weak → 1 + p + weak + d ≤ length body
+    → stored_of p weak d (set body (suc p + i) v) ≡ with_weak (stored_of p weak d body) i (pointer_of v)
 stored_of-set_weak p weak d [] i v h l = absurd (omega arith)
 stored_of-set_weak p weak d (w ∷ ws) i v h l =
     let at : suc p + i ≡ suc (p + i) = omega arith in
     let a : take p (set ws (p + i) v) ≡ take p ws = take-set-le p ws (p + i) v (omega arith) in
     let b : map pointer_of (take weak (drop p (set ws (p + i) v))) ≡ set (map pointer_of (take weak (drop p ws))) i (pointer_of v)
-    = ap (λ (xs : List ℕ). map pointer_of (take weak xs)) (drop-set-add p ws i v) ∙ ap (λ (xs : List ℕ). map pointer_of xs) (take_set weak (drop p ws) i v) ∙ map-set pointer_of (take weak (drop p ws)) i v in
+    = ap (λ (xs : List ℕ). map pointer_of (take weak xs)) (drop-set-add p ws i v)
+    ∙ ap (λ (xs : List ℕ). map pointer_of xs) (take_set weak (drop p ws) i v) ∙ map-set pointer_of (take weak (drop p ws)) i v in
     let e : drop (p + weak) (set ws (p + i) v) ≡ drop (p + weak) ws = drop-set-lt (p + weak) ws (p + i) v (omega arith) in
     rw (at, a, b, e) refl
 

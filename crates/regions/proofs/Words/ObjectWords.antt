@@ -1,9 +1,11 @@
 -- The words of an object of the table.
-use Rattle.std.proofs.Common.{Option, None, ◌≡◌, ℕ, suc, ◌+◌, ◌≤◌, Some, List, ◌∷◌, ◌++◌, length, take, drop, get_or, refl, sym, ◌∙◌, ap, subst, arith, drop-cons}
+use Rattle.std.proofs.Common.{◌≡◌, ◌+◌, ◌≤◌, ◌∷◌, ◌++◌, ◌∙◌}
+use Rattle.std.proofs.Common.{Option, None, ℕ, suc, Some, List, length, take, drop, get_or, refl, sym, ap, subst, arith, drop-cons}
 use Rattle.std.proofs.lemmas.List.{length-take, length-drop, take-append-drop, get_or-drop}
 use Rattle.heap_model.specs.Heap.{Stored}
 use Rattle.regions.specs.Tiles.{Object, tile_size, stored_of}
-use Rattle.regions.specs.Table.{Table, object_at, object_words, stored_size, object_pointers, object_weaks, object_values, pointers_at, weaks_at, values_at}
+use Rattle.regions.specs.Table.{Table, object_at, object_words, stored_size, object_pointers, object_weaks}
+use Rattle.regions.specs.Table.{object_values, pointers_at, weaks_at, values_at}
 use Rattle.std.specs.Prelude.{IsSome}
 use Rattle.heap_words.specs.Headers.{header_of}
 use Rattle.heap_words.specs.Contents.{pointer_count, counts_of}
@@ -26,7 +28,8 @@ pub record IsThere (words : List ℕ) (t : Table) (x : ℕ) (s : Stored) : Type 
   pub fits : x + object_words t x ≤ length words
   pub large : 2 ≤ object_words t x
 
-pub there : (size : ℕ) (words : List ℕ) (rows : List Row) (t : Table) (x : ℕ) (s : Stored) → IsTable size words rows → table_of size words rows ≡ t → object_at t x ≡ Some s → IsThere words t x s
+pub there : (size : ℕ) (words : List ℕ) (rows : List Row) (t : Table) (x : ℕ) (s : Stored) → IsTable size words rows
+    → table_of size words rows ≡ t → object_at t x ≡ Some s → IsThere words t x s
 there size words rows t x s g e h =
     let i = object_is_in (sizes_in words) size words rows x s (table_right g) (ap (λ (u : Table). object_at u x) e ∙ h) in
     let n = words_of t x s h in
@@ -43,13 +46,15 @@ pub some_object : (o : Option Stored) → IsSome o → (s : Stored) × (o ≡ So
 some_object None h = cc
 some_object (Some s) h = (s, refl)
 
-pub object_there : (size : ℕ) (words : List ℕ) (rows : List Row) (t : Table) (x : ℕ) → IsTable size words rows → table_of size words rows ≡ t → IsSome (object_at t x) → (s : Stored) × IsThere words t x s
+pub object_there : (size : ℕ) (words : List ℕ) (rows : List Row) (t : Table) (x : ℕ) → IsTable size words rows
+    → table_of size words rows ≡ t → IsSome (object_at t x) → (s : Stored) × IsThere words t x s
 object_there size words rows t x g e h = let o = some_object (object_at t x) h in (o.0, there size words rows t x o.0 g e o.1)
 
 pub name_read : (words : List ℕ) (t : Table) (x : ℕ) (s : Stored) → IsThere words t x s → get_or words (x + 1) 0 ≡ s.name
 name_read words t x s i =
     let a : s.name ≡ get_or (drop (x + 1) words) 0 0 = ap (λ (r : Stored). r.name) i.is_in.stored_is in
-    let b : get_or (drop (x + 1) words) 0 0 ≡ get_or words (x + 1) 0 = get_or-drop (x + 1) words 0 0 ∙ ap (λ k. get_or words k 0) (let z : x + 1 + 0 ≡ x + 1 = omega arith in z) in
+    let b : get_or (drop (x + 1) words) 0 0 ≡ get_or words (x + 1) 0 =
+    get_or-drop (x + 1) words 0 0 ∙ ap (λ k. get_or words k 0) (let z : x + 1 + 0 ≡ x + 1 = omega arith in z) in
     sym b ∙ sym a
 
 -- the object's header is an object's
@@ -57,20 +62,24 @@ pub is_counted : (words : List ℕ) (t : Table) (x : ℕ) (s : Stored) → IsThe
 is_counted words t x s i = rw i.is_in.header_is refl
 
 -- what the object's header counts
-pub pointers_counted : (words : List ℕ) (t : Table) (x : ℕ) (s : Stored) → IsThere words t x s → pointer_count (header_of (get_or words x 0)) ≡ length (pointers_at t x)
+pub pointers_counted : (words : List ℕ) (t : Table) (x : ℕ) (s : Stored) → IsThere words t x s
+    → pointer_count (header_of (get_or words x 0)) ≡ length (pointers_at t x)
 unfolding pointers_at
 pointers_counted words t x s i = ap pointer_count i.is_in.header_is ∙ sym (ap (λ (o : Option Stored). length (object_pointers o)) i.is)
 
-pub weaks_counted : (words : List ℕ) (t : Table) (x : ℕ) (s : Stored) → IsThere words t x s → weak_count (header_of (get_or words x 0)) ≡ length (weaks_at t x)
+pub weaks_counted : (words : List ℕ) (t : Table) (x : ℕ) (s : Stored) → IsThere words t x s
+    → weak_count (header_of (get_or words x 0)) ≡ length (weaks_at t x)
 unfolding weaks_at
 weaks_counted words t x s i = ap weak_count i.is_in.header_is ∙ sym (ap (λ (o : Option Stored). length (object_weaks o)) i.is)
 
-pub values_counted : (words : List ℕ) (t : Table) (x : ℕ) (s : Stored) → IsThere words t x s → value_count (header_of (get_or words x 0)) ≡ length (values_at t x)
+pub values_counted : (words : List ℕ) (t : Table) (x : ℕ) (s : Stored) → IsThere words t x s
+    → value_count (header_of (get_or words x 0)) ≡ length (values_at t x)
 unfolding values_at
 values_counted words t x s i = ap value_count i.is_in.header_is ∙ sym (ap (λ (o : Option Stored). length (object_values o)) i.is)
 
 -- an object's words are one tile, wherever they stand
-pub one_copy : (sizes : ℕ → ℕ) (words : List ℕ) (x : ℕ) (s : Stored) → IsIn words x s → IsOne sizes (take (tile_size (Object s)) (drop x words)) (Object s)
+pub one_copy : (sizes : ℕ → ℕ) (words : List ℕ) (x : ℕ) (s : Stored) → IsIn words x s
+    → IsOne sizes (take (tile_size (Object s)) (drop x words)) (Object s)
 one_copy sizes words x s i =
     let p : ℕ = length s.pointers in
     let weak : ℕ = length s.weaks in
@@ -83,7 +92,8 @@ one_copy sizes words x s i =
     let block : take (tile_size (Object s)) (drop x words) ≡ get_or words x 0 ∷ take m body = rw (n, whole) refl in
     let len : length (take m body) ≡ m = simp (length-take, length-drop) (omega (arith, i.fits)) in
     let one = one_object sizes (get_or words x 0) p weak d (take m body) i.header_is len in
-    let same : stored_of p weak d (take m body ++ drop m body) ≡ stored_of p weak d (take m body) = stored_of-append p weak d (take m body) (drop m body) (omega arith) in
+    let same : stored_of p weak d (take m body ++ drop m body) ≡ stored_of p weak d (take m body) =
+    stored_of-append p weak d (take m body) (drop m body) (omega arith) in
     let joined : take m body ++ drop m body ≡ body = take-append-drop m body in
     let stored : stored_of p weak d (take m body) ≡ s = sym same ∙ ap (stored_of p weak d) joined ∙ sym i.stored_is in
     rw block (subst (λ (r : Stored). IsOne sizes (get_or words x 0 ∷ take m body) (Object r)) stored one)

@@ -1,6 +1,9 @@
 -- Where a tile of the table lies in the words, at any sizes of moved objects.
-use Rattle.std.proofs.Common.{◌≡◌, ℕ, zero, suc, ◌+◌, ◌-◌, ◌*◌, ◌/◌, ◌%◌, ◌<◌, ◌≤◌, ◌⊎◌, Option, Some, None, List, [], ◌∷◌, ◌++◌, length, take, drop, get_or, refl, sym, ◌∙◌, ap, subst, arith, inl, inr, add-zero}
-use Rattle.std.proofs.lemmas.List.{length-append, length-take, length-drop, length-map, drop-append-le, drop-drop, take-append-drop, get_or-drop}
+use Rattle.std.proofs.Common.{◌≡◌, ◌+◌, ◌-◌, ◌*◌, ◌/◌, ◌%◌, ◌<◌, ◌≤◌, ◌⊎◌, ◌∷◌, ◌++◌, ◌∙◌}
+use Rattle.std.proofs.Common.{ℕ, zero, suc, Option, Some, None, List, [], length, take, drop, get_or}
+use Rattle.std.proofs.Common.{refl, sym, ap, subst, arith, inl, inr, add-zero}
+use Rattle.std.proofs.lemmas.List.{length-append, length-take, length-drop, length-map}
+use Rattle.std.proofs.lemmas.List.{drop-append-le, drop-drop, take-append-drop, get_or-drop}
 use Rattle.std.proofs.lemmas.Bool.{cases_lt}
 use Rattle.heap_words.specs.declared.header.Header.{Header}
 use Rattle.heap_words.specs.declared.header.Header.TheVariants as headers
@@ -8,7 +11,8 @@ use Rattle.heap_words.specs.Headers.{header_of}
 use Rattle.heap_model.specs.Heap.{Stored}
 use Rattle.regions.specs.Tiles.{Tile, Object, tile_at, stored_of, tile_by, size_by, tiles, IsTiled}
 use Rattle.regions.specs.Table.{region_tile, region_at, tile_in, object_at}
-use Rattle.regions.specs.Rows.{object_size, stored_by, first_stored, region_by, IsObject, IsRow, left_by, AreRows, free_row, table_by, IsTableBy, IsTable, sizes_in}
+use Rattle.regions.specs.Rows.{object_size, stored_by, first_stored, region_by, IsObject, IsRow, left_by, AreRows}
+use Rattle.regions.specs.Rows.{free_row, table_by, IsTableBy, IsTable, sizes_in}
 use Rattle.regions.specs.declared.row.Row.{Row}
 use Rattle.regions.specs.declared.row.Kind.{Kind}
 use Rattle.regions.proofs.Tiles.Laws.{object_tile}
@@ -32,14 +36,17 @@ pub record InFirst (f : ℕ → ℕ) (size : ℕ) (words : List ℕ) (rows : Lis
   pub at_bottom : x % size ≡ 0
   pub tile_is : t ≡ Object (first_stored (drop (x / size * size) words))
 
-by_kind : (sizes : ℕ → ℕ) (ws : List ℕ) (used : ℕ) (kind : Kind) (o : ℕ) (t : Tile) → region_tile (region_by sizes ws used kind) o ≡ Some t → ((kind ≡ kinds.Ordinary) × (tile_at o (tiles sizes 0 (take used ws)) ≡ Some t)) ⊎ ((kind ≡ kinds.First) × (o ≡ 0) × (t ≡ Object (first_stored ws)))
+by_kind : (sizes : ℕ → ℕ) (ws : List ℕ) (used : ℕ) (kind : Kind) (o : ℕ) (t : Tile) → region_tile (region_by sizes ws used kind) o ≡ Some t
+    → ((kind ≡ kinds.Ordinary) × (tile_at o (tiles sizes 0 (take used ws)) ≡ Some t))
+    ⊎ ((kind ≡ kinds.First) × (o ≡ 0) × (t ≡ Object (first_stored ws)))
 by_kind sizes ws used kinds.Free o t h = cc
 by_kind sizes ws used kinds.Ordinary o t h = inl (refl, h)
 by_kind sizes ws used kinds.First zero t h = inr (refl, refl, cc)
 by_kind sizes ws used kinds.First (suc o) t h = cc
 by_kind sizes ws used kinds.Rest o t h = cc
 
-pub place_of : (f : ℕ → ℕ) (size : ℕ) (words : List ℕ) (rows : List Row) (x : ℕ) (t : Tile) → tile_in (table_by f size words rows) x ≡ Some t → InOrdinary f size words rows x t ⊎ InFirst f size words rows x t
+pub place_of : (f : ℕ → ℕ) (size : ℕ) (words : List ℕ) (rows : List Row) (x : ℕ) (t : Tile)
+    → tile_in (table_by f size words rows) x ≡ Some t → InOrdinary f size words rows x t ⊎ InFirst f size words rows x t
 unfolding tile_in region_at
 place_of f size words rows x t h =
     elim (cases_lt (x / size) (length rows)) [
@@ -52,7 +59,8 @@ place_of f size words rows x t h =
       | inr p ↦ absurd (let e = regions-past f size rows (x / size) words p in let f = rw e at h in cc)
     ]
 
-pub object_place : (f : ℕ → ℕ) (size : ℕ) (words : List ℕ) (rows : List Row) (x : ℕ) (s : Stored) → object_at (table_by f size words rows) x ≡ Some s → InOrdinary f size words rows x (Object s) ⊎ InFirst f size words rows x (Object s)
+pub object_place : (f : ℕ → ℕ) (size : ℕ) (words : List ℕ) (rows : List Row) (x : ℕ) (s : Stored)
+    → object_at (table_by f size words rows) x ≡ Some s → InOrdinary f size words rows x (Object s) ⊎ InFirst f size words rows x (Object s)
 unfolding object_at
 object_place f size words rows x s h = place_of f size words rows x (Object s) (object_tile _ s h)
 
@@ -62,7 +70,9 @@ pub record IsIn (words : List ℕ) (x : ℕ) (s : Stored) : Type 0 where
   pub stored_is : s ≡ stored_of (length s.pointers) (length s.weaks) (length s.values) (drop (x + 1) words)
   pub fits : x + 2 + length s.pointers + length s.weaks + length s.values ≤ length words
 
-pub live_by : (sizes : ℕ → ℕ) (o : Option Header) (ws : List ℕ) (s : Stored) → size_by sizes o - 1 ≤ length ws → tile_by sizes ws o ≡ Object s → (o ≡ Some (headers.Object (length s.pointers) (length s.weaks) (length s.values))) × (s ≡ stored_of (length s.pointers) (length s.weaks) (length s.values) ws)
+pub live_by : (sizes : ℕ → ℕ) (o : Option Header) (ws : List ℕ) (s : Stored) → size_by sizes o - 1 ≤ length ws
+    → tile_by sizes ws o ≡ Object s → (o ≡ Some (headers.Object (length s.pointers) (length s.weaks) (length s.values)))
+    × (s ≡ stored_of (length s.pointers) (length s.weaks) (length s.values) ws)
 live_by sizes None ws s f h = cc
 live_by sizes (Some (headers.Object p weak d)) ws s f h =
     let e : stored_of p weak d ws ≡ s = cc in
@@ -81,7 +91,8 @@ front_word words x w v e =
     let f : get_or words (x + 0) 0 ≡ w = sym (get_or-drop x words 0 0) ∙ ap (λ (ws : List ℕ). get_or ws 0 0) e in
     rw add-zero at f
 
-live_in : (sizes : ℕ → ℕ) (v u words : List ℕ) (x : ℕ) (s : Stored) → drop x words ≡ v ++ u → IsTiled sizes 0 v → first_tile sizes v ≡ Object s → IsIn words x s
+live_in : (sizes : ℕ → ℕ) (v u words : List ℕ) (x : ℕ) (s : Stored) → drop x words ≡ v ++ u → IsTiled sizes 0 v
+    → first_tile sizes v ≡ Object s → IsIn words x s
 live_in sizes [] u words x s e t h = cc
 live_in sizes (w ∷ v) u words x s e t h =
     let fits : size_by sizes (header_of w) - 1 ≤ length v = skip_le sizes _ v t.2 in
@@ -92,30 +103,39 @@ live_in sizes (w ∷ v) u words x s e t h =
     let whole : length (drop x words) ≡ suc (length v) + length u = rw e (length-append (w ∷ v) u) in
     record {
       header_is = rw word l.0;
-      stored_is = l.1 ∙ sym (stored_of-append _ _ _ v u (omega arith)) ∙ ap (stored_of (length s.pointers) (length s.weaks) (length s.values)) (sym behind);
+      stored_is = l.1 ∙ sym (stored_of-append _ _ _ v u (omega arith))
+          ∙ ap (stored_of (length s.pointers) (length s.weaks) (length s.values)) (sym behind);
       fits = omega (arith, length-drop x words);
     }
 
-pub split_at : (words : List ℕ) (n o x used : ℕ) → n + o ≡ x → o ≤ length (take used (drop n words)) → drop x words ≡ drop o (take used (drop n words)) ++ drop used (drop n words)
+pub split_at : (words : List ℕ) (n o x used : ℕ) → n + o ≡ x → o ≤ length (take used (drop n words))
+    → drop x words ≡ drop o (take used (drop n words)) ++ drop used (drop n words)
 split_at words n o x used e h =
-    sym (ap (λ m. drop m words) e) ∙ sym (drop-drop o n words) ∙ ap (drop o) (sym (take-append-drop used (drop n words))) ∙ drop-append-le o _ _ h
+    sym (ap (λ m. drop m words) e) ∙ sym (drop-drop o n words)
+    ∙ ap (drop o) (sym (take-append-drop used (drop n words))) ∙ drop-append-le o _ _ h
 
-in_ordinary : (f : ℕ → ℕ) (size : ℕ) (words : List ℕ) (rows : List Row) (x : ℕ) (s : Stored) → IsTableBy f size words rows → InOrdinary f size words rows x (Object s) → IsIn words x s
+in_ordinary : (f : ℕ → ℕ) (size : ℕ) (words : List ℕ) (rows : List Row) (x : ℕ) (s : Stored) → IsTableBy f size words rows
+    → InOrdinary f size words rows x (Object s) → IsIn words x s
 in_ordinary f size words rows x s g q =
     let row : Row = get_or rows (x / size) free_row in
     let n : ℕ = x / size * size in
     let o : ℕ = x % size in
     let is_at : n + o ≡ x = omega (arith, g.region_size.0) in
-    let st = start_at f size rows (x / size) n 0 words free_row refl q.known g.rows_right (λ e. let c : kinds.Ordinary ≡ kinds.Rest = sym q.kind_is ∙ e in cc) in
-    let right : IsRow f size (drop n words) row.used kinds.Ordinary = subst (λ (kind : Kind). IsRow f size (drop n words) row.used kind) q.kind_is st.0.row_is in
+    let st = start_at f size rows (x / size) n 0 words free_row refl q.known g.rows_right
+    (λ e. let c : kinds.Ordinary ≡ kinds.Rest = sym q.kind_is ∙ e in cc) in
+    let right : IsRow f size (drop n words) row.used kinds.Ordinary =
+    subst (λ (kind : Kind). IsRow f size (drop n words) row.used kind) q.kind_is st.0.row_is in
     let t = tile_at-tiles f 0 o o (take row.used (drop n words)) (Object s) right.1 (omega arith) q.tile_is in
-    let rest : drop x words ≡ drop o (take row.used (drop n words)) ++ drop row.used (drop n words) = split_at words n o x row.used is_at (omega (arith, t.1)) in
+    let rest : drop x words ≡ drop o (take row.used (drop n words)) ++ drop row.used (drop n words) =
+    split_at words n o x row.used is_at (omega (arith, t.1)) in
     live_in f (drop o (take row.used (drop n words))) (drop row.used (drop n words)) words x s rest t.2 t.0
 
 room : (m k l size n : ℕ) → l ≡ m + suc k → n ≡ l * size → n ≡ m * size + size + k * size
 room m k l size n e f = f ∙ rw e (omega arith)
 
-first_by : (o : Option Header) (ws : List ℕ) (s : Stored) → IsObject o → object_size o - 1 ≤ length ws → stored_by ws o ≡ s → (o ≡ Some (headers.Object (length s.pointers) (length s.weaks) (length s.values))) × (s ≡ stored_of (length s.pointers) (length s.weaks) (length s.values) ws)
+first_by : (o : Option Header) (ws : List ℕ) (s : Stored) → IsObject o → object_size o - 1 ≤ length ws → stored_by ws o ≡ s
+    → (o ≡ Some (headers.Object (length s.pointers) (length s.weaks) (length s.values)))
+    × (s ≡ stored_of (length s.pointers) (length s.weaks) (length s.values) ws)
 first_by None ws s i f h = absurd i
 first_by (Some (headers.Object p weak d)) ws s i f h = live_by (λ _. 0) (Some (headers.Object p weak d)) ws s f (ap Object h)
 first_by (Some (headers.Filler n)) ws s i f h = absurd i
@@ -127,7 +147,8 @@ object_size_pos (Some (headers.Object p weak d)) = omega arith
 object_size_pos (Some (headers.Filler n)) = omega arith
 object_size_pos (Some (headers.Forwarded to)) = omega arith
 
-first_in : (v words : List ℕ) (x : ℕ) (s : Stored) → drop x words ≡ v → IsObject (header_of (get_or v 0 0)) → first_stored v ≡ s → object_size (header_of (get_or v 0 0)) ≤ length v → IsIn words x s
+first_in : (v words : List ℕ) (x : ℕ) (s : Stored) → drop x words ≡ v → IsObject (header_of (get_or v 0 0)) → first_stored v ≡ s
+    → object_size (header_of (get_or v 0 0)) ≤ length v → IsIn words x s
 first_in [] words x s e i h f = absurd (omega (arith, object_size_pos (header_of 0)))
 first_in (w ∷ v) words x s e i h f =
     let l = first_by (header_of w) v s i (omega arith) h in
@@ -141,17 +162,25 @@ first_in (w ∷ v) words x s e i h f =
       fits = omega (arith, length-drop x words);
     }
 
-pub in_first : (f : ℕ → ℕ) (size : ℕ) (words : List ℕ) (rows : List Row) (x : ℕ) (s : Stored) → IsTableBy f size words rows → InFirst f size words rows x (Object s) → IsIn words x s
+pub in_first : (f : ℕ → ℕ) (size : ℕ) (words : List ℕ) (rows : List Row) (x : ℕ) (s : Stored) → IsTableBy f size words rows
+    → InFirst f size words rows x (Object s) → IsIn words x s
 in_first f size words rows x s g q =
     let k : ℕ = x / size in
     let n : ℕ = x / size * size in
     let is_at : n ≡ x = omega (arith, g.region_size.0, q.at_bottom) in
-    let st = start_at f size rows k n 0 words free_row refl q.known g.rows_right (λ e. let c : kinds.First ≡ kinds.Rest = sym q.kind_is ∙ e in cc) in
+    let st =
+    start_at f size rows k n 0 words free_row refl q.known g.rows_right (λ e. let c : kinds.First ≡ kinds.Rest = sym q.kind_is ∙ e in cc) in
     let right = subst (λ (kind : Kind). IsRow f size (drop n words) (get_or rows k free_row).used kind) q.kind_is st.0.row_is in
-    let behind = subst (λ (kind : Kind). AreRows f size (left_by size (drop n words) kind) (drop size (drop n words)) (drop (suc k) rows)) q.kind_is st.0.rest_are in
+    let behind = subst (λ (kind : Kind).
+    AreRows f size (left_by size (drop n words) kind) (drop size (drop n words)) (drop (suc k) rows)) q.kind_is st.0.rest_are in
     let ends = left_le f size _ _ _ behind in
-    let all = room (length (drop (suc k) rows)) k (length rows) size (length words) (omega (arith, length-drop (suc k) rows, q.known)) g.covers in
+    let all =
+    room (length (drop (suc k) rows)) k (length rows) size (length words) (omega (arith, length-drop (suc k) rows, q.known)) g.covers in
     first_in (drop n words) words x s (ap (λ m. drop m words) (sym is_at)) right.0 (cc) (omega (arith, length-drop n words))
 
-pub object_is_in : (f : ℕ → ℕ) (size : ℕ) (words : List ℕ) (rows : List Row) (x : ℕ) (s : Stored) → IsTableBy f size words rows → object_at (table_by f size words rows) x ≡ Some s → IsIn words x s
-object_is_in f size words rows x s g h = elim (object_place f size words rows x s h) [ inl q ↦ in_ordinary f size words rows x s g q | inr q ↦ in_first f size words rows x s g q ]
+pub object_is_in : (f : ℕ → ℕ) (size : ℕ) (words : List ℕ) (rows : List Row) (x : ℕ) (s : Stored) → IsTableBy f size words rows
+    → object_at (table_by f size words rows) x ≡ Some s → IsIn words x s
+object_is_in f size words rows x s g h = elim (object_place f size words rows x s h) [
+  | inl q ↦ in_ordinary f size words rows x s g q
+  | inr q ↦ in_first f size words rows x s g q
+]

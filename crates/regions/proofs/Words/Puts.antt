@@ -1,6 +1,8 @@
 -- Words written in the place of others.
-use Rattle.std.proofs.Common.{◌≡◌, ℕ, zero, suc, ◌+◌, ◌-◌, ◌≤◌, List, [], ◌∷◌, ◌++◌, length, take, drop, refl, sym, ◌∙◌, ap, arith, zero-add, replicate}
-use Rattle.std.proofs.lemmas.List.{length-append, length-take, length-drop, append_assoc, drop-drop, take-append-drop, take_at, drop_at, length-replicate, drop-take}
+use Rattle.std.proofs.Common.{◌≡◌, ◌+◌, ◌-◌, ◌≤◌, ◌∷◌, ◌++◌, ◌∙◌}
+use Rattle.std.proofs.Common.{ℕ, zero, suc, List, [], length, take, drop, refl, sym, ap, arith, zero-add, replicate}
+use Rattle.std.proofs.lemmas.List.{length-append, length-take, length-drop, append_assoc, drop-drop}
+use Rattle.std.proofs.lemmas.List.{take-append-drop, take_at, drop_at, length-replicate, drop-take}
 use Rattle.heap_words.specs.Contents.{put}
 
 pub record IsPut (ws : List ℕ) (n : ℕ) (block : List ℕ) : Type 0 where
@@ -43,21 +45,29 @@ put_drop ws zero o block h = rw (zero-add o) refl
 put_drop [] (suc n) o block h = absurd (omega arith)
 put_drop (w ∷ ws) (suc n) o block h = let e : suc n + o ≡ suc (n + o) = omega arith in rw e (put_drop ws n o block (omega arith))
 
-pub put_take : (ws : List ℕ) (o used : ℕ) (block : List ℕ) → o + length block ≤ used → used ≤ length ws → take used (put ws o block) ≡ put (take used ws) o block
+pub put_take : (ws : List ℕ) (o used : ℕ) (block : List ℕ) → o + length block ≤ used → used ≤ length ws
+    → take used (put ws o block) ≡ put (take used ws) o block
 put_take ws zero used block h l =
     let rest : used ≡ length block + (used - length block) = omega arith in
-    let e : take (length block + (used - length block)) (block ++ drop (length block) ws) ≡ block ++ take (used - length block) (drop (length block) ws) = take_add (length block) (used - length block) (block ++ drop (length block) ws) ∙ rw (take_at block (drop (length block) ws) (length block) refl, drop_at block (drop (length block) ws) (length block) refl) refl in
-    let f : drop (length block) (take (length block + (used - length block)) ws) ≡ take (used - length block) (drop (length block) ws) = drop-take (length block) (used - length block) ws in
+    let e : take (length block + (used - length block)) (block ++ drop (length block) ws)
+    ≡ block ++ take (used - length block) (drop (length block) ws) =
+    take_add (length block) (used - length block) (block ++ drop (length block) ws)
+    ∙ rw (take_at block (drop (length block) ws) (length block) refl, drop_at block (drop (length block) ws) (length block) refl) refl in
+    let f : drop (length block) (take (length block + (used - length block)) ws) ≡ take (used - length block) (drop (length block) ws) =
+    drop-take (length block) (used - length block) ws in
     rw (← rest) at (e ∙ ap (λ xs. block ++ xs) (sym f))
 put_take [] (suc o) used block h l = absurd (omega arith)
 put_take (w ∷ ws) (suc o) zero block h l = absurd (omega arith)
 put_take (w ∷ ws) (suc o) (suc used) block h l = ap (λ xs. w ∷ xs) (put_take ws o used block (omega arith) (omega arith))
 
-pub put_extend : (ws : List ℕ) (n m : ℕ) (block : List ℕ) → n + length block + m ≤ length ws → put ws n block ≡ put ws n (block ++ take m (drop (n + length block) ws))
+pub put_extend : (ws : List ℕ) (n m : ℕ) (block : List ℕ) → n + length block + m ≤ length ws
+    → put ws n block ≡ put ws n (block ++ take m (drop (n + length block) ws))
 put_extend ws zero m block h =
     let z : drop (0 + length block) ws ≡ drop (length block) ws = rw (zero-add (length block)) refl in
-    let len : length (block ++ take m (drop (length block) ws)) ≡ length block + m = simp (length-append, length-take, length-drop) (omega arith) in
-    let e : take m (drop (length block) ws) ++ drop m (drop (length block) ws) ≡ drop (length block) ws = take-append-drop m (drop (length block) ws) in
+    let len : length (block ++ take m (drop (length block) ws)) ≡ length block + m =
+    simp (length-append, length-take, length-drop) (omega arith) in
+    let e : take m (drop (length block) ws) ++ drop m (drop (length block) ws) ≡ drop (length block) ws =
+    take-append-drop m (drop (length block) ws) in
     let f : drop m (drop (length block) ws) ≡ drop (length block + m) ws = drop-drop m (length block) ws in
     rw (z, len, append_assoc, ← f, e) refl
 put_extend [] (suc n) m block h = absurd (omega arith)
@@ -66,7 +76,8 @@ put_extend (w ∷ ws) (suc n) m block h =
     rw e (ap (λ xs. w ∷ xs) (put_extend ws n m block (omega arith)))
 
 -- an object's words, written within the heap
-pub put_object_length : (ws : List ℕ) (n w name p weak d : ℕ) → n + (2 + p + weak + d) ≤ length ws → length (put ws n (w ∷ name ∷ replicate (p + weak + d) 0)) ≡ length ws
+pub put_object_length : (ws : List ℕ) (n w name p weak d : ℕ) → n + (2 + p + weak + d) ≤ length ws
+    → length (put ws n (w ∷ name ∷ replicate (p + weak + d) 0)) ≡ length ws
 put_object_length ws n w name p weak d h =
     let x = put_is ws n (w ∷ name ∷ replicate (p + weak + d) 0) (omega (arith, length-replicate {A = ℕ} (p + weak + d) 0)) in
     x.length_is

@@ -49,19 +49,26 @@ record SameRegion (f g : ℕ → ℕ) (size : ℕ) (ws : List ℕ) (used : ℕ) 
   pub row_is : IsRow f size ws used kind → IsRow g size ws used kind
   pub others : AgreeIn f g rs
 
-same_region : (f g : ℕ → ℕ) (size : ℕ) (ws : List ℕ) (used : ℕ) (kind : Kind) (rs : List Region) → AgreeIn f g (region_by f ws used kind ∷ rs) → SameRegion f g size ws used kind rs
+same_region : (f g : ℕ → ℕ) (size : ℕ) (ws : List ℕ) (used : ℕ) (kind : Kind) (rs : List Region)
+    → AgreeIn f g (region_by f ws used kind ∷ rs) → SameRegion f g size ws used kind rs
 same_region f g size ws used kinds.Free rs a = record { region_is = refl; row_is = λ r. r; others = a }
-same_region f g size ws used kinds.Ordinary rs a = record { region_is = ap Ordinary (tiles-agree f g 0 (take used ws) a.0); row_is = λ r. (r.0, IsTiled-agree f g 0 (take used ws) a.0 r.1); others = a.1 }
+same_region f g size ws used kinds.Ordinary rs a = record {
+  region_is = ap Ordinary (tiles-agree f g 0 (take used ws) a.0);
+  row_is = λ r. (r.0, IsTiled-agree f g 0 (take used ws) a.0 r.1);
+  others = a.1;
+}
 same_region f g size ws used kinds.First rs a = record { region_is = refl; row_is = λ r. r; others = a }
 same_region f g size ws used kinds.Rest rs a = record { region_is = refl; row_is = λ r. r; others = a }
 
-pub regions-agree : (f g : ℕ → ℕ) (size : ℕ) (ws : List ℕ) (rows : List Row) → AgreeIn f g (regions_of f size ws rows) → regions_of g size ws rows ≡ regions_of f size ws rows
+pub regions-agree : (f g : ℕ → ℕ) (size : ℕ) (ws : List ℕ) (rows : List Row) → AgreeIn f g (regions_of f size ws rows)
+    → regions_of g size ws rows ≡ regions_of f size ws rows
 regions-agree f g size ws [] a = refl
 regions-agree f g size ws (row ∷ rows) a =
     let s = same_region f g size ws row.used row.kind (regions_of f size (drop size ws) rows) a in
     rw (s.region_is, regions-agree f g size (drop size ws) rows s.others) refl
 
-pub AreRows-agree : (f g : ℕ → ℕ) (size : ℕ) (rows : List Row) (left : ℕ) (ws : List ℕ) → AgreeIn f g (regions_of f size ws rows) → AreRows f size left ws rows → AreRows g size left ws rows
+pub AreRows-agree : (f g : ℕ → ℕ) (size : ℕ) (rows : List Row) (left : ℕ) (ws : List ℕ) → AgreeIn f g (regions_of f size ws rows)
+    → AreRows f size left ws rows → AreRows g size left ws rows
 AreRows-agree f g size [] left ws a r = r
 AreRows-agree f g size (row ∷ rows) zero ws a r =
     let s = same_region f g size ws row.used row.kind (regions_of f size (drop size ws) rows) a in
@@ -96,7 +103,8 @@ join P (Ordinary ts) rs h a = (h.0, a)
 join P (First s) rs h a = a
 join P (Rest n) rs h a = a
 
-pub EachForwardedIn-set : (P : ℕ → Type 0) (rs : List Region) (k : ℕ) (r : Region) → EachForwardedIn P (r ∷ []) → EachForwardedIn P rs → EachForwardedIn P (set rs k r)
+pub EachForwardedIn-set : (P : ℕ → Type 0) (rs : List Region) (k : ℕ) (r : Region) → EachForwardedIn P (r ∷ [])
+    → EachForwardedIn P rs → EachForwardedIn P (set rs k r)
 EachForwardedIn-set P [] k r h a = tt
 EachForwardedIn-set P (q ∷ rs) zero r h a = join P r rs h (tail_of P q rs a)
 EachForwardedIn-set P (Free ∷ rs) (suc k) r h a = EachForwardedIn-set P rs k r h a
@@ -118,7 +126,8 @@ EachForwarded-append P (Object s ∷ ts) us a b = EachForwarded-append P ts us a
 EachForwarded-append P (Filler n ∷ ts) us a b = EachForwarded-append P ts us a b
 EachForwarded-append P (Forwarded to n ∷ ts) us a b = (a.0, EachForwarded-append P ts us a.1 b)
 
-pub EachForwarded-replace : (P : ℕ → Type 0) (o : ℕ) (new ts : List Tile) → EachForwarded P new → EachForwarded P ts → EachForwarded P (replace o new ts)
+pub EachForwarded-replace : (P : ℕ → Type 0) (o : ℕ) (new ts : List Tile) → EachForwarded P new
+    → EachForwarded P ts → EachForwarded P (replace o new ts)
 EachForwarded-replace P o new [] h a = tt
 EachForwarded-replace P zero new (Object s ∷ ts) h a = EachForwarded-append P new ts h a
 EachForwarded-replace P zero new (Filler n ∷ ts) h a = EachForwarded-append P new ts h a

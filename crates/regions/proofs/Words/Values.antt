@@ -1,5 +1,6 @@
 -- Reads and writes of an object's data.
-use Rattle.std.proofs.Common.{◌≡◌, ℕ, suc, ◌+◌, ◌<◌, ◌≤◌, Option, Some, None, List, [], ◌∷◌, length, take, drop, get_or, set, refl, sym, ◌∙◌, ap, arith, inl, inr}
+use Rattle.std.proofs.Common.{◌≡◌, ◌+◌, ◌<◌, ◌≤◌, ◌∷◌, ◌∙◌}
+use Rattle.std.proofs.Common.{ℕ, suc, Option, Some, None, List, [], length, take, drop, get_or, set, refl, sym, ap, arith, inl, inr}
 use Rattle.std.proofs.lemmas.List.{length-set, drop-drop, drop-set-add, take-set-le, get_or-drop, get_or-take}
 use Rattle.std.specs.List.{slice_get}
 use Rattle.std.proofs.lemmas.Option.{slice_get-get_or}
@@ -32,7 +33,8 @@ has_value t x i h = go (object_at t x) refl h
     go None e l = absurd (omega arith)
     go (Some s) e l = record { object = s; object_is = e; within = l }
 
-value_word_at : (words : List ℕ) (x i : ℕ) (s : Stored) → IsIn words x s → i < length s.values → slice_get s.values i ≡ Some (get_or words (x + 2 + (length s.pointers + length s.weaks) + i) 0)
+value_word_at : (words : List ℕ) (x i : ℕ) (s : Stored) → IsIn words x s → i < length s.values
+    → slice_get s.values i ≡ Some (get_or words (x + 2 + (length s.pointers + length s.weaks) + i) 0)
 value_word_at words x i s g h =
     let p : ℕ = length s.pointers in
     let d : ℕ = length s.values in
@@ -43,7 +45,8 @@ value_word_at words x i s g h =
     let e1 = slice_get-get_or s.values i 0 h in
     let e2 : get_or s.values i 0 ≡ get_or (take d rest) i 0 = ap (λ (vs : List ℕ). get_or vs i 0) are in
     let e3 : get_or (take d rest) i 0 ≡ get_or rest i 0 = get_or-take d rest i 0 h in
-    let e4 : get_or rest i 0 ≡ get_or words (x + 1 + suc (p + weak) + i) 0 = ap (λ (vs : List ℕ). get_or vs i 0) at ∙ get_or-drop (x + 1 + suc (p + weak)) words i 0 in
+    let e4 : get_or rest i 0 ≡ get_or words (x + 1 + suc (p + weak) + i) 0 =
+    ap (λ (vs : List ℕ). get_or vs i 0) at ∙ get_or-drop (x + 1 + suc (p + weak)) words i 0 in
     let place : x + 1 + suc (p + weak) + i ≡ x + 2 + (p + weak) + i = omega arith in
     e1 ∙ ap Some (e2 ∙ e3 ∙ e4 ∙ ap (λ a. get_or words a 0) place)
 
@@ -53,12 +56,14 @@ pub record IsValueRead (words : List ℕ) (t : Table) (x i : ℕ) : Type 0 where
   pub in_words : x + 2 + field_count (header_of (get_or words x 0)) + i < length words
   pub value : slice_get (values_at t x) i ≡ Some (get_or words (x + 2 + field_count (header_of (get_or words x 0)) + i) 0)
 
-pub value_read : (size : ℕ) (words : List ℕ) (rows : List Row) (t : Table) (x i : ℕ) → IsTable size words rows → table_of size words rows ≡ t → i < length (values_at t x) → IsValueRead words t x i
+pub value_read : (size : ℕ) (words : List ℕ) (rows : List Row) (t : Table) (x i : ℕ) → IsTable size words rows
+    → table_of size words rows ≡ t → i < length (values_at t x) → IsValueRead words t x i
 unfolding values_at
 value_read size words rows t x i g e h =
     let p = has_value t x i h in
     let o = there size words rows t x p.object g e p.object_is in
-    let count : field_count (header_of (get_or words x 0)) ≡ length p.object.pointers + length p.object.weaks = ap field_count o.is_in.header_is in
+    let count : field_count (header_of (get_or words x 0)) ≡ length p.object.pointers + length p.object.weaks =
+    ap field_count o.is_in.header_is in
     record {
       at = omega (arith, o.is_in.fits);
       object = rw o.is_in.header_is refl;
@@ -69,14 +74,18 @@ value_read size words rows t x i g e h =
 abbrev pub with_value : Stored → ℕ → ℕ → Stored
 with_value s i v = record s { values = set s.values i v }
 
-stored_of-set_value : (p weak d : ℕ) (body : List ℕ) (i v : ℕ) → 1 + p + weak + d ≤ length body → stored_of p weak d (set body (suc (p + weak) + i) v) ≡ with_value (stored_of p weak d body) i v
+stored_of-set_value : (p weak d : ℕ) (body : List ℕ) (i v : ℕ) → 1 + p + weak + d ≤ length body
+    → stored_of p weak d (set body (suc (p + weak) + i) v) ≡ with_value (stored_of p weak d body) i v
 stored_of-set_value p weak d [] i v l = absurd (omega arith)
 stored_of-set_value p weak d (w ∷ ws) i v l =
     let at : suc (p + weak) + i ≡ suc (p + weak + i) = omega arith in
     let from : p + weak + i ≡ p + (weak + i) = omega arith in
     let a : take p (set ws (p + weak + i) v) ≡ take p ws = take-set-le p ws (p + weak + i) v (omega arith) in
-    let b : take weak (drop p (set ws (p + weak + i) v)) ≡ take weak (drop p ws) = ap (λ n. take weak (drop p (set ws n v))) from ∙ ap (take weak) (drop-set-add p ws (weak + i) v) ∙ take-set-le weak (drop p ws) (weak + i) v (omega arith) in
-    let e : take d (drop (p + weak) (set ws (p + weak + i) v)) ≡ set (take d (drop (p + weak) ws)) i v = ap (take d) (drop-set-add (p + weak) ws i v) ∙ take_set d (drop (p + weak) ws) i v in
+    let b : take weak (drop p (set ws (p + weak + i) v)) ≡ take weak (drop p ws) =
+    ap (λ n. take weak (drop p (set ws n v))) from ∙ ap (take weak) (drop-set-add p ws (weak + i) v)
+    ∙ take-set-le weak (drop p ws) (weak + i) v (omega arith) in
+    let e : take d (drop (p + weak) (set ws (p + weak + i) v)) ≡ set (take d (drop (p + weak) ws)) i v =
+    ap (take d) (drop-set-add (p + weak) ws i v) ∙ take_set d (drop (p + weak) ws) i v in
     rw (at, a, b, e) refl
 
 turns_value : (s : Stored) (i v : ℕ) → Turns s (suc (length s.pointers + length s.weaks) + i) v (with_value s i v)
@@ -86,20 +95,25 @@ pub set_value-is : (t : Table) (x i v : ℕ) (s : Stored) → object_at t x ≡ 
 unfolding set_value
 set_value-is t x i v s e = rw e refl
 
-pub value_written : (size : ℕ) (words : List ℕ) (rows : List Row) (t : Table) (x i v : ℕ) → IsTable size words rows → table_of size words rows ≡ t → i < length (values_at t x) → IsWrittenTable size (set words (x + 2 + field_count (header_of (get_or words x 0)) + i) v) rows (set_value t x i v)
+pub value_written : (size : ℕ) (words : List ℕ) (rows : List Row) (t : Table) (x i v : ℕ) → IsTable size words rows
+    → table_of size words rows ≡ t → i < length (values_at t x)
+    → IsWrittenTable size (set words (x + 2 + field_count (header_of (get_or words x 0)) + i) v) rows (set_value t x i v)
 value_written size words rows t x i v g e h =
     let p = has_value t x i h in
     let o = there size words rows t x p.object g e p.object_is in
     let u : Table = table_of size words rows in
     let s' : Stored = with_value p.object i v in
     let j : ℕ = suc (length p.object.pointers + length p.object.weaks) + i in
-    let count : field_count (header_of (get_or words x 0)) ≡ length p.object.pointers + length p.object.weaks = ap field_count o.is_in.header_is in
+    let count : field_count (header_of (get_or words x 0)) ≡ length p.object.pointers + length p.object.weaks =
+    ap field_count o.is_in.header_is in
     let at : object_at u x ≡ Some p.object = ap (λ (u : Table). object_at u x) e ∙ p.object_is in
     let place : x + 2 + field_count (header_of (get_or words x 0)) + i ≡ x + suc j = omega arith in
     let is : put_object u x s' ≡ set_value t x i v = rw e (sym (set_value-is t x i v p.object p.object_is)) in
     let same : tile_size (Object s') ≡ tile_size (Object p.object) = simp length-set in
     let kept = put_kept u x p.object s' g.region_size.0 at same g.targets in
     elim (object_place (sizes_in words) size words rows x p.object at) [
-      | inl q ↦ rw (place, ← is) (write_ordinary size words rows x j v p.object s' g q (omega (arith, p.within)) (turns_value p.object i v) kept)
-      | inr q ↦ rw (place, ← is) (write_first size words rows x j v p.object s' g q (omega (arith, p.within)) (turns_value p.object i v) kept)
+      | inl q ↦
+          rw (place, ← is) (write_ordinary size words rows x j v p.object s' g q (omega (arith, p.within)) (turns_value p.object i v) kept)
+      | inr q ↦
+          rw (place, ← is) (write_first size words rows x j v p.object s' g q (omega (arith, p.within)) (turns_value p.object i v) kept)
     ]

@@ -1,5 +1,6 @@
 -- An action is read from its words, and from no others.
-use Rattle.std.proofs.Common.{◌≡◌, ℕ, ◌≤◌, Bool, true, false, cond, List, [], ◌∷◌, Option, Some, None, refl, subst, ◌∙◌, ◌⊎◌, inl, inr, arith}
+use Rattle.std.proofs.Common.{◌≡◌, ◌≤◌, ◌∷◌, ◌∙◌, ◌⊎◌}
+use Rattle.std.proofs.Common.{ℕ, Bool, true, false, cond, List, [], Option, Some, None, refl, subst, inl, inr, arith}
 use Rattle.std.specs.Prelude.{codes}
 use Rattle.std.specs.Fmt.{decimal}
 use Rattle.std.specs.Str.{bytes_eq}
@@ -9,7 +10,10 @@ use Rattle.heap_steps.specs.declared.step.Action.{Action}
 use Rattle.heap_steps.specs.declared.step.Action.TheVariants as actions
 use Rattle.script_text.specs.Spelling.{register_word, value_word, action_words}
 use Rattle.script_text.specs.Fits.{ValueFits, Fits}
-use Rattle.script_text.specs.Reading.{◌>>=◌, number_of, small, large, most_weaks, register_of, global_of, value_of, new_of, get_of, put_of, write_of, read_of, move_of, drop_of, load_of, save_of, shape_of, new_weak_of, get_weak_of, put_weak_of, weaks_of, scope_of, longest_action_of, long_action_of, pair_action_of, lone_action_of, action_of}
+use Rattle.script_text.specs.Reading.{◌>>=◌, number_of, small, large, most_weaks, register_of, global_of, value_of, new_of}
+use Rattle.script_text.specs.Reading.{get_of, put_of, write_of, read_of, move_of, drop_of, load_of, save_of, shape_of}
+use Rattle.script_text.specs.Reading.{new_weak_of, get_weak_of, put_weak_of, weaks_of, scope_of, longest_action_of}
+use Rattle.script_text.specs.Reading.{long_action_of, pair_action_of, lone_action_of, action_of}
 use Rattle.script_text.proofs.Parts.Numbers.{number_of_some, number_of_is, register_again, register_of_is, global_again, global_of_is}
 
 num : (limit n : ℕ) → limit ≤ large → n ≤ limit → number_of limit (decimal n) ≡ Some n
@@ -25,7 +29,8 @@ val (Some r) fits = rw (register_again r fits) refl
 
 -- what is spelled so is read so
 pub action_again : (a : Action) → Fits a → action_of (action_words a) ≡ Some a
-unfolding action_of longest_action_of long_action_of pair_action_of lone_action_of new_of get_of put_of write_of read_of move_of drop_of load_of save_of shape_of new_weak_of get_weak_of put_weak_of weaks_of scope_of
+unfolding action_of longest_action_of long_action_of pair_action_of lone_action_of new_of get_of put_of write_of read_of move_of drop_of
+    load_of save_of shape_of new_weak_of get_weak_of put_weak_of weaks_of scope_of
 action_again (actions.New to counts) fits =
     let first = register_again to fits.0 in
     let second = num small counts.pointers (omega arith) fits.1 in
@@ -72,7 +77,8 @@ pub option_bind : {A B : Type 0} (o : Option A) (f : A → Option B) (y : B) →
 option_bind (Some x) f y e = (x, refl, e)
 option_bind None f y e = absurd cc
 
-pub chosen : {A : Type 0} (b : Bool) (x y : Option A) (z : A) → cond b x y ≡ Some z → ((b ≡ true) × (x ≡ Some z)) ⊎ ((b ≡ false) × (y ≡ Some z))
+pub chosen : {A : Type 0} (b : Bool) (x y : Option A) (z : A) → cond b x y ≡ Some z
+    → ((b ≡ true) × (x ≡ Some z)) ⊎ ((b ≡ false) × (y ≡ Some z))
 chosen true x y z e = inl (refl, e)
 chosen false x y z e = inr (refl, e)
 
@@ -121,19 +127,23 @@ value_of_is word None e =
 value_of_is word (Some r) e =
     elim (chosen (bytes_eq word (codes "nil")) (Some None) (register_of word >>= λ r. Some (Some r)) (Some r) e) [
       | inl h ↦ absurd (not_some r h.1)
-      | inr h ↦ (let b = option_bind (register_of word) (λ r. Some (Some r)) (Some r) h.1 in register_of_is word r (b.1 ∙ same_some b.0 r b.2))
+      | inr h ↦
+          (let b = option_bind (register_of word) (λ r. Some (Some r)) (Some r) h.1 in register_of_is word r (b.1 ∙ same_some b.0 r b.2))
     ]
 
 new_is : (verb a b c : List ℕ) (x : Action) → verb ≡ codes "new" → new_of a b c ≡ Some x → ReadFrom verb (a ∷ b ∷ c ∷ []) x
 unfolding new_of
 new_is verb a b c x v e =
-    let p0 = option_bind (register_of a) (λ y0. number_of small b >>= λ y1. number_of small c >>= λ y2. Some (actions.New y0 (record { pointers = y1; values = y2 }))) x e in
-    let p1 = option_bind (number_of small b) (λ y1. number_of small c >>= λ y2. Some (actions.New p0.0 (record { pointers = y1; values = y2 }))) x p0.2 in
+    let p0 = option_bind (register_of a)
+    (λ y0. number_of small b >>= λ y1. number_of small c >>= λ y2. Some (actions.New y0 (record { pointers = y1; values = y2 }))) x e in
+    let p1 = option_bind (number_of small b)
+    (λ y1. number_of small c >>= λ y2. Some (actions.New p0.0 (record { pointers = y1; values = y2 }))) x p0.2 in
     let p2 = option_bind (number_of small c) (λ y2. Some (actions.New p0.0 (record { pointers = p1.0; values = y2 }))) x p1.2 in
     let q0 = register_of_is a p0.0 p0.1 in
     let q1 = number_of_is small b p1.0 p1.1 in
     let q2 = number_of_is small c p2.0 p2.1 in
-    subst (λ (done : Action). ReadFrom verb (a ∷ b ∷ c ∷ []) done) (some_is (actions.New p0.0 (record { pointers = p1.0; values = p2.0 })) x p2.2)
+    subst (λ (done : Action). ReadFrom verb (a ∷ b ∷ c ∷ []) done)
+    (some_is (actions.New p0.0 (record { pointers = p1.0; values = p2.0 })) x p2.2)
     (record { words = words4 verb a b c _ _ _ _ v q0.0 q1.0 q2.0; fits = (q0.1, q1.1, q2.1) })
 
 get_is : (verb a b c : List ℕ) (x : Action) → verb ≡ codes "get" → get_of a b c ≡ Some x → ReadFrom verb (a ∷ b ∷ c ∷ []) x
@@ -163,7 +173,8 @@ put_is verb a b c x v e =
 write_is : (verb a b c : List ℕ) (x : Action) → verb ≡ codes "write" → write_of a b c ≡ Some x → ReadFrom verb (a ∷ b ∷ c ∷ []) x
 unfolding write_of
 write_is verb a b c x v e =
-    let p0 = option_bind (register_of a) (λ y0. number_of small b >>= λ y1. number_of large c >>= λ y2. Some (actions.Write y0 y1 y2)) x e in
+    let p0 =
+    option_bind (register_of a) (λ y0. number_of small b >>= λ y1. number_of large c >>= λ y2. Some (actions.Write y0 y1 y2)) x e in
     let p1 = option_bind (number_of small b) (λ y1. number_of large c >>= λ y2. Some (actions.Write p0.0 y1 y2)) x p0.2 in
     let p2 = option_bind (number_of large c) (λ y2. Some (actions.Write p0.0 p1.0 y2)) x p1.2 in
     let q0 = register_of_is a p0.0 p0.1 in
@@ -228,12 +239,20 @@ shape_is verb a x v e =
     subst (λ (done : Action). ReadFrom verb (a ∷ []) done) (some_is (actions.Shape p0.0) x p0.2)
     (record { words = words2 verb a _ _ v q0.0; fits = q0.1 })
 
-new_weak_is : (verb a b c d : List ℕ) (x : Action) → verb ≡ codes "newweak" → new_weak_of a b c d ≡ Some x → ReadFrom verb (a ∷ b ∷ c ∷ d ∷ []) x
+new_weak_is : (verb a b c d : List ℕ) (x : Action) → verb ≡ codes "newweak"
+    → new_weak_of a b c d ≡ Some x → ReadFrom verb (a ∷ b ∷ c ∷ d ∷ []) x
 unfolding new_weak_of
 new_weak_is verb a b c d x v e =
-    let p0 = option_bind (register_of a) (λ y0. number_of small b >>= λ y1. number_of most_weaks c >>= λ y2. number_of small d >>= λ y3. Some (actions.NewWeak y0 (record { pointers = y1; values = y3 }) y2)) x e in
-    let p1 = option_bind (number_of small b) (λ y1. number_of most_weaks c >>= λ y2. number_of small d >>= λ y3. Some (actions.NewWeak p0.0 (record { pointers = y1; values = y3 }) y2)) x p0.2 in
-    let p2 = option_bind (number_of most_weaks c) (λ y2. number_of small d >>= λ y3. Some (actions.NewWeak p0.0 (record { pointers = p1.0; values = y3 }) y2)) x p1.2 in
+    let p0 = option_bind (register_of a)
+    (λ y0. number_of small b >>= λ y1.
+    number_of most_weaks c >>= λ y2. number_of small d >>= λ y3. Some (actions.NewWeak y0 (record { pointers = y1; values = y3 }) y2))
+    x e in
+    let p1 = option_bind (number_of small b)
+    (λ y1.
+    number_of most_weaks c >>= λ y2. number_of small d >>= λ y3. Some (actions.NewWeak p0.0 (record { pointers = y1; values = y3 }) y2))
+    x p0.2 in
+    let p2 = option_bind (number_of most_weaks c)
+    (λ y2. number_of small d >>= λ y3. Some (actions.NewWeak p0.0 (record { pointers = p1.0; values = y3 }) y2)) x p1.2 in
     let p3 = option_bind (number_of small d) (λ y3. Some (actions.NewWeak p0.0 (record { pointers = p1.0; values = y3 }) p2.0)) x p2.2 in
     let q0 = register_of_is a p0.0 p0.1 in
     let q1 = number_of_is small b p1.0 p1.1 in
@@ -241,7 +260,8 @@ new_weak_is verb a b c d x v e =
     let q3 = number_of_is small d p3.0 p3.1 in
     let made = actions.NewWeak p0.0 (record { pointers = p1.0; values = p3.0 }) p2.0 in
     read_as verb (a ∷ b ∷ c ∷ d ∷ []) made x (some_is made x p3.2)
-    (words5 verb a b c d (codes "newweak") (register_word p0.0) (decimal p1.0) (decimal p2.0) (decimal p3.0) v q0.0 q1.0 q2.0 q3.0) (q0.1, q1.1, q2.1, q3.1)
+    (words5 verb a b c d (codes "newweak") (register_word p0.0) (decimal p1.0) (decimal p2.0) (decimal p3.0) v q0.0 q1.0 q2.0 q3.0)
+    (q0.1, q1.1, q2.1, q3.1)
 
 get_weak_is : (verb a b c : List ℕ) (x : Action) → verb ≡ codes "getweak" → get_weak_of a b c ≡ Some x → ReadFrom verb (a ∷ b ∷ c ∷ []) x
 unfolding get_weak_of
@@ -285,11 +305,13 @@ scope_is verb a x v e =
 
 -- the verbs of weak slots, behind those of three words
 abbrev weak_of : List ℕ → List ℕ → List ℕ → List ℕ → Option Action
-weak_of verb a b c = cond (bytes_eq verb (codes "getweak")) (get_weak_of a b c) (cond (bytes_eq verb (codes "putweak")) (put_weak_of a b c) None)
+weak_of verb a b c =
+    cond (bytes_eq verb (codes "getweak")) (get_weak_of a b c) (cond (bytes_eq verb (codes "putweak")) (put_weak_of a b c) None)
 
 weak_is : (verb a b c : List ℕ) (x : Action) → weak_of verb a b c ≡ Some x → ReadFrom verb (a ∷ b ∷ c ∷ []) x
 weak_is verb a b c x e =
-    elim (chosen (bytes_eq verb (codes "getweak")) (get_weak_of a b c) (cond (bytes_eq verb (codes "putweak")) (put_weak_of a b c) None) x e) [
+    elim (chosen (bytes_eq verb (codes "getweak")) (get_weak_of a b c)
+    (cond (bytes_eq verb (codes "putweak")) (put_weak_of a b c) None) x e) [
       | inl h ↦ get_weak_is verb a b c x ((bytes_eq-Decides verb (codes "getweak")).0 h.0) h.1
       | inr h ↦ (elim (chosen (bytes_eq verb (codes "putweak")) (put_weak_of a b c) None x h.1) [
         | inl k ↦ put_weak_is verb a b c x ((bytes_eq-Decides verb (codes "putweak")).0 k.0) k.1
@@ -325,32 +347,41 @@ action_is (verb ∷ a ∷ []) x e =
       ])
     ]
 action_is (verb ∷ a ∷ b ∷ []) x e =
-    elim (chosen (bytes_eq verb (codes "read")) (read_of a b) (cond (bytes_eq verb (codes "move")) (move_of a b) (cond (bytes_eq verb (codes "load")) (load_of a b) (cond (bytes_eq verb (codes "save")) (save_of a b) None))) x e) [
+    elim (chosen (bytes_eq verb (codes "read")) (read_of a b)
+    (cond (bytes_eq verb (codes "move")) (move_of a b)
+    (cond (bytes_eq verb (codes "load")) (load_of a b) (cond (bytes_eq verb (codes "save")) (save_of a b) None))) x e) [
       | inl h ↦ (let r = read_is verb a b x ((bytes_eq-Decides verb (codes "read")).0 h.0) h.1 in (r.words, r.fits))
-      | inr h ↦ (elim (chosen (bytes_eq verb (codes "move")) (move_of a b) (cond (bytes_eq verb (codes "load")) (load_of a b) (cond (bytes_eq verb (codes "save")) (save_of a b) None)) x h.1) [
-        | inl k ↦ (let r = move_is verb a b x ((bytes_eq-Decides verb (codes "move")).0 k.0) k.1 in (r.words, r.fits))
-        | inr k ↦ (elim (chosen (bytes_eq verb (codes "load")) (load_of a b) (cond (bytes_eq verb (codes "save")) (save_of a b) None) x k.1) [
-          | inl m ↦ (let r = load_is verb a b x ((bytes_eq-Decides verb (codes "load")).0 m.0) m.1 in (r.words, r.fits))
-          | inr m ↦ (elim (chosen (bytes_eq verb (codes "save")) (save_of a b) None x m.1) [
-            | inl o ↦ (let r = save_is verb a b x ((bytes_eq-Decides verb (codes "save")).0 o.0) o.1 in (r.words, r.fits))
-            | inr o ↦ absurd (none_some x o.1)
+      | inr h ↦ (elim (chosen (bytes_eq verb (codes "move")) (move_of a b)
+          (cond (bytes_eq verb (codes "load")) (load_of a b) (cond (bytes_eq verb (codes "save")) (save_of a b) None)) x h.1) [
+            | inl k ↦ (let r = move_is verb a b x ((bytes_eq-Decides verb (codes "move")).0 k.0) k.1 in (r.words, r.fits))
+            | inr k ↦
+                (elim (chosen (bytes_eq verb (codes "load")) (load_of a b) (cond (bytes_eq verb (codes "save")) (save_of a b) None) x k.1) [
+                  | inl m ↦ (let r = load_is verb a b x ((bytes_eq-Decides verb (codes "load")).0 m.0) m.1 in (r.words, r.fits))
+                  | inr m ↦ (elim (chosen (bytes_eq verb (codes "save")) (save_of a b) None x m.1) [
+                    | inl o ↦ (let r = save_is verb a b x ((bytes_eq-Decides verb (codes "save")).0 o.0) o.1 in (r.words, r.fits))
+                    | inr o ↦ absurd (none_some x o.1)
+                  ])
+                ])
           ])
-        ])
-      ])
     ]
 action_is (verb ∷ a ∷ b ∷ c ∷ []) x e =
-    elim (chosen (bytes_eq verb (codes "new")) (new_of a b c) (cond (bytes_eq verb (codes "get")) (get_of a b c) (cond (bytes_eq verb (codes "put")) (put_of a b c) (cond (bytes_eq verb (codes "write")) (write_of a b c) (weak_of verb a b c)))) x e) [
+    elim (chosen (bytes_eq verb (codes "new")) (new_of a b c)
+    (cond (bytes_eq verb (codes "get")) (get_of a b c)
+    (cond (bytes_eq verb (codes "put")) (put_of a b c) (cond (bytes_eq verb (codes "write")) (write_of a b c) (weak_of verb a b c)))) x e) [
       | inl h ↦ (let r = new_is verb a b c x ((bytes_eq-Decides verb (codes "new")).0 h.0) h.1 in (r.words, r.fits))
-      | inr h ↦ (elim (chosen (bytes_eq verb (codes "get")) (get_of a b c) (cond (bytes_eq verb (codes "put")) (put_of a b c) (cond (bytes_eq verb (codes "write")) (write_of a b c) (weak_of verb a b c))) x h.1) [
-        | inl k ↦ (let r = get_is verb a b c x ((bytes_eq-Decides verb (codes "get")).0 k.0) k.1 in (r.words, r.fits))
-        | inr k ↦ (elim (chosen (bytes_eq verb (codes "put")) (put_of a b c) (cond (bytes_eq verb (codes "write")) (write_of a b c) (weak_of verb a b c)) x k.1) [
-          | inl m ↦ (let r = put_is verb a b c x ((bytes_eq-Decides verb (codes "put")).0 m.0) m.1 in (r.words, r.fits))
-          | inr m ↦ (elim (chosen (bytes_eq verb (codes "write")) (write_of a b c) (weak_of verb a b c) x m.1) [
-            | inl o ↦ (let r = write_is verb a b c x ((bytes_eq-Decides verb (codes "write")).0 o.0) o.1 in (r.words, r.fits))
-            | inr o ↦ (let r = weak_is verb a b c x o.1 in (r.words, r.fits))
+      | inr h ↦ (elim (chosen (bytes_eq verb (codes "get")) (get_of a b c)
+          (cond (bytes_eq verb (codes "put")) (put_of a b c) (cond (bytes_eq verb (codes "write")) (write_of a b c) (weak_of verb a b c)))
+          x h.1) [
+            | inl k ↦ (let r = get_is verb a b c x ((bytes_eq-Decides verb (codes "get")).0 k.0) k.1 in (r.words, r.fits))
+            | inr k ↦ (elim (chosen (bytes_eq verb (codes "put")) (put_of a b c)
+                (cond (bytes_eq verb (codes "write")) (write_of a b c) (weak_of verb a b c)) x k.1) [
+                  | inl m ↦ (let r = put_is verb a b c x ((bytes_eq-Decides verb (codes "put")).0 m.0) m.1 in (r.words, r.fits))
+                  | inr m ↦ (elim (chosen (bytes_eq verb (codes "write")) (write_of a b c) (weak_of verb a b c) x m.1) [
+                    | inl o ↦ (let r = write_is verb a b c x ((bytes_eq-Decides verb (codes "write")).0 o.0) o.1 in (r.words, r.fits))
+                    | inr o ↦ (let r = weak_is verb a b c x o.1 in (r.words, r.fits))
+                  ])
+                ])
           ])
-        ])
-      ])
     ]
 action_is (verb ∷ a ∷ b ∷ c ∷ d ∷ []) x e =
     elim (chosen (bytes_eq verb (codes "newweak")) (new_weak_of a b c d) None x e) [

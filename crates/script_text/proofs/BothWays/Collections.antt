@@ -23,7 +23,8 @@ pub record IsCollection (words : List (List ℕ)) (k : CollectorStep) : Type 0 w
   pub spelled : words ≡ collection_words k
   pub fits : CollectionFits k
 
-same_collection : (ws : List (List ℕ)) (j k : CollectorStep) → ws ≡ collection_words j → CollectionFits j → Some j ≡ Some k → IsCollection ws k
+same_collection : (ws : List (List ℕ)) (j k : CollectorStep) → ws ≡ collection_words j
+    → CollectionFits j → Some j ≡ Some k → IsCollection ws k
 same_collection ws j k spelled fits e = subst (IsCollection ws) (collection_some j k e) (record { spelled = spelled; fits = fits })
 
 one_word : (verb w : List ℕ) → bytes_eq verb w ≡ true → verb ∷ [] ≡ w ∷ []
@@ -33,11 +34,14 @@ two_words : (verb w a b : List ℕ) → bytes_eq verb w ≡ true → a ≡ b →
 two_words verb w a b e f = let same : verb ≡ w = (bytes_eq-Decides verb w).0 e in cc
 
 -- a step with a number behind its verb
-numbered : (verb w a : List ℕ) (make : ℕ → CollectorStep) (k : CollectorStep) → bytes_eq verb w ≡ true → ((n : ℕ) → collection_words (make n) ≡ w ∷ decimal n ∷ []) → ((n : ℕ) → n ≤ small → CollectionFits (make n)) → (number_of small a >>= λ n. Some (make n)) ≡ Some k → IsCollection (verb ∷ a ∷ []) k
+numbered : (verb w a : List ℕ) (make : ℕ → CollectorStep) (k : CollectorStep) → bytes_eq verb w ≡ true
+    → ((n : ℕ) → collection_words (make n) ≡ w ∷ decimal n ∷ []) → ((n : ℕ) → n ≤ small → CollectionFits (make n))
+    → (number_of small a >>= λ n. Some (make n)) ≡ Some k → IsCollection (verb ∷ a ∷ []) k
 numbered verb w a make k same words fits e =
     let read = option_bind (number_of small a) (λ n. Some (make n)) k e in
     let number = number_of_is small a read.0 read.1 in
-    same_collection (verb ∷ a ∷ []) (make read.0) k (two_words verb w a (decimal read.0) same number.0 ∙ sym (words read.0)) (fits read.0 number.1) read.2
+    same_collection (verb ∷ a ∷ []) (make read.0) k
+    (two_words verb w a (decimal read.0) same number.0 ∙ sym (words read.0)) (fits read.0 number.1) read.2
 
 no_collection : (k : CollectorStep) → None ≡ Some k → ⊥
 no_collection k e = cc
@@ -46,26 +50,32 @@ pub collection_is : (ws : List (List ℕ)) (k : CollectorStep) → collection_of
 unfolding collection_of
 collection_is [] k e = absurd cc
 collection_is (verb ∷ []) k e =
-    elim (chosen (bytes_eq verb (codes "begin")) (Some collector.Begin) (cond (bytes_eq verb (codes "remark")) (Some collector.Remark) (cond (bytes_eq verb (codes "cleanup")) (Some collector.Cleanup) None)) k e) [
+    elim (chosen (bytes_eq verb (codes "begin")) (Some collector.Begin)
+    (cond (bytes_eq verb (codes "remark")) (Some collector.Remark) (cond (bytes_eq verb (codes "cleanup")) (Some collector.Cleanup) None))
+    k e) [
       | inl h ↦ same_collection (verb ∷ []) collector.Begin k (one_word verb (codes "begin") h.0) tt h.1
-      | inr h ↦ (elim (chosen (bytes_eq verb (codes "remark")) (Some collector.Remark) (cond (bytes_eq verb (codes "cleanup")) (Some collector.Cleanup) None) k h.1) [
-        | inl i ↦ same_collection (verb ∷ []) collector.Remark k (one_word verb (codes "remark") i.0) tt i.1
-        | inr i ↦ (elim (chosen (bytes_eq verb (codes "cleanup")) (Some collector.Cleanup) None k i.1) [
-          | inl j ↦ same_collection (verb ∷ []) collector.Cleanup k (one_word verb (codes "cleanup") j.0) tt j.1
-          | inr j ↦ absurd (no_collection k j.1)
-        ])
-      ])
+      | inr h ↦ (elim (chosen (bytes_eq verb (codes "remark")) (Some collector.Remark)
+          (cond (bytes_eq verb (codes "cleanup")) (Some collector.Cleanup) None) k h.1) [
+            | inl i ↦ same_collection (verb ∷ []) collector.Remark k (one_word verb (codes "remark") i.0) tt i.1
+            | inr i ↦ (elim (chosen (bytes_eq verb (codes "cleanup")) (Some collector.Cleanup) None k i.1) [
+              | inl j ↦ same_collection (verb ∷ []) collector.Cleanup k (one_word verb (codes "cleanup") j.0) tt j.1
+              | inr j ↦ absurd (no_collection k j.1)
+            ])
+          ])
     ]
 collection_is (verb ∷ a ∷ []) k e =
-    elim (chosen (bytes_eq verb (codes "mark")) (number_of small a >>= λ n. Some (collector.Mark n)) (cond (bytes_eq verb (codes "refine")) (number_of small a >>= λ n. Some (collector.Refine n)) (cond (bytes_eq verb (codes "pause")) (number_of small a >>= λ n. Some (collector.Pause n)) None)) k e) [
+    elim (chosen (bytes_eq verb (codes "mark")) (number_of small a >>= λ n. Some (collector.Mark n))
+    (cond (bytes_eq verb (codes "refine")) (number_of small a >>= λ n. Some (collector.Refine n))
+    (cond (bytes_eq verb (codes "pause")) (number_of small a >>= λ n. Some (collector.Pause n)) None)) k e) [
       | inl h ↦ numbered verb (codes "mark") a (λ n. collector.Mark n) k h.0 (λ n. refl) (λ n le. le) h.1
-      | inr h ↦ (elim (chosen (bytes_eq verb (codes "refine")) (number_of small a >>= λ n. Some (collector.Refine n)) (cond (bytes_eq verb (codes "pause")) (number_of small a >>= λ n. Some (collector.Pause n)) None) k h.1) [
-        | inl i ↦ numbered verb (codes "refine") a (λ n. collector.Refine n) k i.0 (λ n. refl) (λ n le. le) i.1
-        | inr i ↦ (elim (chosen (bytes_eq verb (codes "pause")) (number_of small a >>= λ n. Some (collector.Pause n)) None k i.1) [
-          | inl j ↦ numbered verb (codes "pause") a (λ n. collector.Pause n) k j.0 (λ n. refl) (λ n le. le) j.1
-          | inr j ↦ absurd (no_collection k j.1)
-        ])
-      ])
+      | inr h ↦ (elim (chosen (bytes_eq verb (codes "refine")) (number_of small a >>= λ n. Some (collector.Refine n))
+          (cond (bytes_eq verb (codes "pause")) (number_of small a >>= λ n. Some (collector.Pause n)) None) k h.1) [
+            | inl i ↦ numbered verb (codes "refine") a (λ n. collector.Refine n) k i.0 (λ n. refl) (λ n le. le) i.1
+            | inr i ↦ (elim (chosen (bytes_eq verb (codes "pause")) (number_of small a >>= λ n. Some (collector.Pause n)) None k i.1) [
+              | inl j ↦ numbered verb (codes "pause") a (λ n. collector.Pause n) k j.0 (λ n. refl) (λ n le. le) j.1
+              | inr j ↦ absurd (no_collection k j.1)
+            ])
+          ])
     ]
 collection_is (verb ∷ a ∷ b ∷ ws) k e = absurd cc
 
@@ -93,7 +103,9 @@ record AreSpelled (words : List (List ℕ)) (fm : Format) (c : Config) : Type 0 
   mutators : c.mutators ≤ small
   first_name : c.first_name ≤ large
 
-sized : (fm : Format) (n r b m f : List ℕ) (vn vr vb vm vf : ℕ) (c : Config) → (n ≡ decimal vn) × (vn ≤ small) → (r ≡ decimal vr) × (vr ≤ small) → (b ≡ decimal vb) × (vb ≤ small) → (m ≡ decimal vm) × (vm ≤ small) → (f ≡ decimal vf) × (vf ≤ large) → Some (sizes fm vn vr vb vm vf) ≡ Some c → AreSpelled (n ∷ r ∷ b ∷ m ∷ f ∷ []) fm c
+sized : (fm : Format) (n r b m f : List ℕ) (vn vr vb vm vf : ℕ) (c : Config) → (n ≡ decimal vn) × (vn ≤ small)
+    → (r ≡ decimal vr) × (vr ≤ small) → (b ≡ decimal vb) × (vb ≤ small) → (m ≡ decimal vm) × (vm ≤ small) → (f ≡ decimal vf) × (vf ≤ large)
+    → Some (sizes fm vn vr vb vm vf) ≡ Some c → AreSpelled (n ∷ r ∷ b ∷ m ∷ f ∷ []) fm c
 unfolding sizes
 sized fm n r b m f vn vr vb vm vf c q0 q1 q2 q3 q4 e =
     subst (AreSpelled (n ∷ r ∷ b ∷ m ∷ f ∷ []) fm) (config_some (sizes fm vn vr vb vm vf) c e) (record {
@@ -109,9 +121,13 @@ sized fm n r b m f vn vr vb vm vf c q0 q1 q2 q3 q4 e =
 five : (fm : Format) (n r b m f : List ℕ) (c : Config) → sizes_in fm n r b m f ≡ Some c → AreSpelled (n ∷ r ∷ b ∷ m ∷ f ∷ []) fm c
 unfolding sizes sizes_in
 five fm n r b m f c e =
-    let p0 = option_bind (number_of small n) (λ vn. number_of small r >>= λ vr. number_of small b >>= λ vb. number_of small m >>= λ vm. number_of large f >>= λ vf. Some (sizes fm vn vr vb vm vf)) c e in
-    let p1 = option_bind (number_of small r) (λ vr. number_of small b >>= λ vb. number_of small m >>= λ vm. number_of large f >>= λ vf. Some (sizes fm p0.0 vr vb vm vf)) c p0.2 in
-    let p2 = option_bind (number_of small b) (λ vb. number_of small m >>= λ vm. number_of large f >>= λ vf. Some (sizes fm p0.0 p1.0 vb vm vf)) c p1.2 in
+    let p0 = option_bind (number_of small n)
+    (λ vn. number_of small r >>= λ vr.
+    number_of small b >>= λ vb. number_of small m >>= λ vm. number_of large f >>= λ vf. Some (sizes fm vn vr vb vm vf)) c e in
+    let p1 = option_bind (number_of small r)
+    (λ vr. number_of small b >>= λ vb. number_of small m >>= λ vm. number_of large f >>= λ vf. Some (sizes fm p0.0 vr vb vm vf)) c p0.2 in
+    let p2 = option_bind (number_of small b)
+    (λ vb. number_of small m >>= λ vm. number_of large f >>= λ vf. Some (sizes fm p0.0 p1.0 vb vm vf)) c p1.2 in
     let p3 = option_bind (number_of small m) (λ vm. number_of large f >>= λ vf. Some (sizes fm p0.0 p1.0 p2.0 vm vf)) c p2.2 in
     let p4 = option_bind (number_of large f) (λ vf. Some (sizes fm p0.0 p1.0 p2.0 p3.0 vf)) c p3.2 in
     let q0 = number_of_is small n p0.0 p0.1 in
@@ -121,11 +137,19 @@ five fm n r b m f c e =
     let q4 = number_of_is large f p4.0 p4.1 in
     sized fm n r b m f p0.0 p1.0 p2.0 p3.0 p4.0 c q0 q1 q2 q3 q4 p4.2
 
-lined : (verb : List ℕ) (words : List (List ℕ)) (fm : Format) (c : Config) → verb ≡ verb_of fm → AreSpelled words fm c → verb ∷ words ++ format_words fm ≡ heap_words c
+lined : (verb : List ℕ) (words : List (List ℕ)) (fm : Format) (c : Config) → verb ≡ verb_of fm → AreSpelled words fm c
+    → verb ∷ words ++ format_words fm ≡ heap_words c
 lined verb words fm c v a = rw (v, a.spelled, a.format) refl
 
 fitted : (words : List (List ℕ)) (fm : Format) (c : Config) → AreSpelled words fm c → FormatFits fm → ConfigFits c
-fitted words fm c a fits = record { format = subst FormatFits (sym a.format) fits; regions = a.regions; words = a.size; buffer = a.buffer; mutators = a.mutators; first_name = a.first_name }
+fitted words fm c a fits = record {
+  format = subst FormatFits (sym a.format) fits;
+  regions = a.regions;
+  words = a.size;
+  buffer = a.buffer;
+  mutators = a.mutators;
+  first_name = a.first_name;
+}
 
 -- the third format, and the words behind the five sizes
 record IsThird (words : List (List ℕ)) (f : Format) : Type 0 where
@@ -169,7 +193,10 @@ heap_is (verb ∷ n ∷ r ∷ b ∷ m ∷ f ∷ []) c e =
     elim (chosen (bytes_eq verb (codes "heap")) (sizes_in V1 n r b m f) None c e) [
       | inl h ↦
           let a = five V1 n r b m f c h.1 in
-          record { spelled = lined verb (n ∷ r ∷ b ∷ m ∷ f ∷ []) V1 c ((bytes_eq-Decides verb (codes "heap")).0 h.0) a; fits = fitted (n ∷ r ∷ b ∷ m ∷ f ∷ []) V1 c a tt }
+          record {
+            spelled = lined verb (n ∷ r ∷ b ∷ m ∷ f ∷ []) V1 c ((bytes_eq-Decides verb (codes "heap")).0 h.0) a;
+            fits = fitted (n ∷ r ∷ b ∷ m ∷ f ∷ []) V1 c a tt;
+          }
       | inr h ↦ absurd (no_config c h.1)
     ]
 heap_is (verb ∷ n ∷ r ∷ b ∷ m ∷ f ∷ card ∷ []) c e =
@@ -179,7 +206,8 @@ heap_is (verb ∷ n ∷ r ∷ b ∷ m ∷ f ∷ card ∷ []) c e =
           let q = number_of_is small card p.0 p.1 in
           let a = five (V2 p.0) n r b m f c p.2 in
           record {
-            spelled = ap (λ (w : List ℕ). verb ∷ n ∷ r ∷ b ∷ m ∷ f ∷ w ∷ []) q.0 ∙ lined verb (n ∷ r ∷ b ∷ m ∷ f ∷ []) (V2 p.0) c ((bytes_eq-Decides verb (codes "heap2")).0 h.0) a;
+            spelled = ap (λ (w : List ℕ). verb ∷ n ∷ r ∷ b ∷ m ∷ f ∷ w ∷ []) q.0
+                ∙ lined verb (n ∷ r ∷ b ∷ m ∷ f ∷ []) (V2 p.0) c ((bytes_eq-Decides verb (codes "heap2")).0 h.0) a;
             fits = fitted (n ∷ r ∷ b ∷ m ∷ f ∷ []) (V2 p.0) c a q.1;
           }
       | inr h ↦ absurd (no_config c h.1)

@@ -1,5 +1,7 @@
 -- What is read of an event's line is spelled so.
-use Rattle.std.proofs.Common.{◌≡◌, ℕ, ◌<◌, ◌≤◌, Bool, true, false, cond, eqb, List, [], ◌∷◌, ◌++◌, length, Option, Some, None, Result, Ok, Err, refl, sym, ap, subst, ◌∙◌, append_assoc, arith, inl, inr}
+use Rattle.std.proofs.Common.{◌≡◌, ◌<◌, ◌≤◌, ◌∷◌, ◌++◌, ◌∙◌}
+use Rattle.std.proofs.Common.{ℕ, Bool, true, false, cond, eqb, List, [], length, Option, Some, None, Result, Ok, Err}
+use Rattle.std.proofs.Common.{refl, sym, ap, subst, append_assoc, arith, inl, inr}
 use Rattle.std.specs.Prelude.{nat_lt, codes, IfOk}
 use Rattle.std.specs.Fmt.{decimal}
 use Rattle.std.specs.Str.{bytes_eq}
@@ -81,16 +83,17 @@ background_is c (b ∷ digits) a e =
     let read = option_bind (number_of 7 digits) (λ i. Some (actors.Marker i)) a f in
     let number = number_of_is 7 digits read.0 read.1 in
     let few = number.1 in
-    same_actor c (b ∷ digits) (actors.Marker read.0) a (first_byte b 109 digits (decimal read.0) (eqb-true b 109 h) number.0) (omega arith) (actor_some (actors.Marker read.0) a read.2))
-    (λ other e1. pick (eqb b 102) _ _ a e1
+    same_actor c (b ∷ digits) (actors.Marker read.0) a (first_byte b 109 digits (decimal read.0) (eqb-true b 109 h) number.0) (omega arith)
+    (actor_some (actors.Marker read.0) a read.2)) (λ other e1. pick (eqb b 102) _ _ a e1
     (λ h f.
     let read = option_bind (number_of 7 digits) (λ i. Some (actors.Refiner i)) a f in
     let number = number_of_is 7 digits read.0 read.1 in
     let few = number.1 in
-    same_actor c (b ∷ digits) (actors.Refiner read.0) a (first_byte b 102 digits (decimal read.0) (eqb-true b 102 h) number.0) (omega arith) (actor_some (actors.Refiner read.0) a read.2))
-    (λ other2 e2. absurd (no_actor a e2)))
+    same_actor c (b ∷ digits) (actors.Refiner read.0) a (first_byte b 102 digits (decimal read.0) (eqb-true b 102 h) number.0) (omega arith)
+    (actor_some (actors.Refiner read.0) a read.2)) (λ other2 e2. absurd (no_actor a e2)))
 
-foreground_is : (c : Config) (word : List ℕ) (o : Option Actor) (a : Actor) → background_of word ≡ o → foreground_of c word o ≡ Ok a → IsActorWord c word a
+foreground_is : (c : Config) (word : List ℕ) (o : Option Actor) (a : Actor) → background_of word ≡ o
+    → foreground_of c word o ≡ Ok a → IsActorWord c word a
 unfolding foreground_of
 foreground_is c word (Some b) a is e = subst (IsActorWord c word) (actor_ok b a e) (background_is c word b is)
 foreground_is c word None a is e =
@@ -118,25 +121,31 @@ step_some s t e = cc
 no_step : (s : Step) → None ≡ Some s → ⊥
 no_step s e = cc
 
-same_step : (c : Config) (a : Actor) (ws : List (List ℕ)) (s t : Step) → ws ≡ body_words s → IsStepOf c a s → StepFits s → Some s ≡ Some t → IsTaken c a ws t
-same_step c a ws s t spelled owned fits e = subst (IsTaken c a ws) (step_some s t e) (record { spelled = spelled; owned = owned; fits = fits })
+same_step : (c : Config) (a : Actor) (ws : List (List ℕ)) (s t : Step) → ws ≡ body_words s → IsStepOf c a s
+    → StepFits s → Some s ≡ Some t → IsTaken c a ws t
+same_step c a ws s t spelled owned fits e =
+    subst (IsTaken c a ws) (step_some s t e) (record { spelled = spelled; owned = owned; fits = fits })
 
-marked : (c : Config) (i : ℕ) (ws : List (List ℕ)) (k : CollectorStep) (s : Step) → i < 8 → ws ≡ collection_words k → CollectionFits k → marker_step k ≡ Some s → IsTaken c (actors.Marker i) ws s
+marked : (c : Config) (i : ℕ) (ws : List (List ℕ)) (k : CollectorStep) (s : Step) → i < 8 → ws ≡ collection_words k → CollectionFits k
+    → marker_step k ≡ Some s → IsTaken c (actors.Marker i) ws s
 unfolding marker_step
 marked c i ws collector.Begin s known spelled fits e = absurd (no_step s e)
-marked c i ws (collector.Mark n) s known spelled fits e = same_step c (actors.Marker i) ws (steps.Collector (collector.Mark n)) s spelled known fits e
+marked c i ws (collector.Mark n) s known spelled fits e =
+    same_step c (actors.Marker i) ws (steps.Collector (collector.Mark n)) s spelled known fits e
 marked c i ws collector.Remark s known spelled fits e = absurd (no_step s e)
 marked c i ws collector.Cleanup s known spelled fits e = absurd (no_step s e)
 marked c i ws (collector.Refine n) s known spelled fits e = absurd (no_step s e)
 marked c i ws (collector.Pause n) s known spelled fits e = absurd (no_step s e)
 
-refined : (c : Config) (i : ℕ) (ws : List (List ℕ)) (k : CollectorStep) (s : Step) → i < 8 → ws ≡ collection_words k → CollectionFits k → refiner_step k ≡ Some s → IsTaken c (actors.Refiner i) ws s
+refined : (c : Config) (i : ℕ) (ws : List (List ℕ)) (k : CollectorStep) (s : Step) → i < 8 → ws ≡ collection_words k → CollectionFits k
+    → refiner_step k ≡ Some s → IsTaken c (actors.Refiner i) ws s
 unfolding refiner_step
 refined c i ws collector.Begin s known spelled fits e = absurd (no_step s e)
 refined c i ws (collector.Mark n) s known spelled fits e = absurd (no_step s e)
 refined c i ws collector.Remark s known spelled fits e = absurd (no_step s e)
 refined c i ws collector.Cleanup s known spelled fits e = absurd (no_step s e)
-refined c i ws (collector.Refine n) s known spelled fits e = same_step c (actors.Refiner i) ws (steps.Collector (collector.Refine n)) s spelled known fits e
+refined c i ws (collector.Refine n) s known spelled fits e =
+    same_step c (actors.Refiner i) ws (steps.Collector (collector.Refine n)) s spelled known fits e
 refined c i ws (collector.Pause n) s known spelled fits e = absurd (no_step s e)
 
 taken_is : (c : Config) (a : Actor) (ws : List (List ℕ)) (s : Step) → KnownActor c a → taken_of c a ws ≡ Some s → IsTaken c a ws s
@@ -176,21 +185,28 @@ event_ok x y e = cc
 onto : (a w : List ℕ) (xs ys : List (List ℕ)) → a ≡ w → xs ≡ ys → a ∷ xs ≡ w ∷ ys
 onto a w xs ys e f = cc
 
-both_parts : (ws step reply body words : List (List ℕ)) → ws ≡ step ++ codes "=" ∷ reply → step ≡ body → reply ≡ words → ws ≡ body ++ codes "=" ∷ words
-both_parts ws step reply body words e f g = e ∙ ap (λ (t : List (List ℕ)). t ++ codes "=" ∷ reply) f ∙ ap (λ (t : List (List ℕ)). body ++ codes "=" ∷ t) g
+both_parts : (ws step reply body words : List (List ℕ)) → ws ≡ step ++ codes "=" ∷ reply → step ≡ body
+    → reply ≡ words → ws ≡ body ++ codes "=" ∷ words
+both_parts ws step reply body words e f g =
+    e ∙ ap (λ (t : List (List ℕ)). t ++ codes "=" ∷ reply) f ∙ ap (λ (t : List (List ℕ)). body ++ codes "=" ∷ t) g
 
 counted_is : (c : Config) (ws : List (List ℕ)) (e : Event) → counted_of c ws ≡ Ok e → IsCounted c ws e
 unfolding counted_of answer_of
 counted_is c [] e h = absurd cc
 counted_is c (word ∷ rest) e h =
-    let who = result_bind (actor_of c word) (λ a. or_fault (taken_of c a (step_part rest)) kinds.BadStep >>= λ s. or_fault (answer_of rest) kinds.BadReply >>= λ r. Ok (made a s r)) e h in
-    let what = result_bind (or_fault (taken_of c who.0 (step_part rest)) kinds.BadStep) (λ s. or_fault (answer_of rest) kinds.BadReply >>= λ r. Ok (made who.0 s r)) e who.2 in
+    let who = result_bind (actor_of c word)
+    (λ a. or_fault (taken_of c a (step_part rest)) kinds.BadStep >>= λ s.
+    or_fault (answer_of rest) kinds.BadReply >>= λ r. Ok (made a s r)) e h in
+    let what = result_bind (or_fault (taken_of c who.0 (step_part rest)) kinds.BadStep)
+    (λ s. or_fault (answer_of rest) kinds.BadReply >>= λ r. Ok (made who.0 s r)) e who.2 in
     let why = result_bind (or_fault (answer_of rest) kinds.BadReply) (λ r. Ok (made who.0 what.0 r)) e what.2 in
     let actor = actor_is c word who.0 who.1 in
-    let step = taken_is c who.0 (step_part rest) what.0 actor.known (or_fault_is (taken_of c who.0 (step_part rest)) kinds.BadStep what.0 what.1) in
+    let step =
+    taken_is c who.0 (step_part rest) what.0 actor.known (or_fault_is (taken_of c who.0 (step_part rest)) kinds.BadStep what.0 what.1) in
     let behind = option_bind (reply_part rest) reply_of why.0 (or_fault_is (answer_of rest) kinds.BadReply why.0 why.1) in
     let reply = reply_is behind.0 why.0 behind.2 in
-    let words = both_parts rest (step_part rest) behind.0 (body_words what.0) (reply_words why.0) (parted rest behind.0 behind.1) step.spelled reply.spelled in
+    let words = both_parts rest (step_part rest) behind.0 (body_words what.0) (reply_words why.0)
+    (parted rest behind.0 behind.1) step.spelled reply.spelled in
     subst (IsCounted c (word ∷ rest)) {x = made who.0 what.0 why.0} (event_ok (made who.0 what.0 why.0) e why.2) (record {
       spelled = onto word (actor_word who.0) rest (body_words what.0 ++ codes "=" ∷ reply_words why.0) actor.spelled words;
       owned = step.owned;
@@ -212,18 +228,27 @@ event_is : (n : ℕ) (c : Config) (ws : List (List ℕ)) (e : Event) → event_o
 unfolding event_of
 event_is n c [] e h = absurd cc
 event_is n c (word ∷ rest) e h =
-    let read = result_bind (or_fault (number_of large word) kinds.BadCount) (λ count. cond (eqb count n) (counted_of c rest) (Err kinds.BadCount)) e h in
+    let read = result_bind (or_fault (number_of large word) kinds.BadCount)
+    (λ count. cond (eqb count n) (counted_of c rest) (Err kinds.BadCount)) e h in
     let number = number_of_is large word read.0 (or_fault_is (number_of large word) kinds.BadCount read.0 read.1) in
     let same = one_of (eqb read.0 n) (counted_of c rest) kinds.BadCount e read.2 in
     let is = counted_is c rest e same.1 in
-    record { counted = (let le = number.1 in let is = eqb-true read.0 n same.0 in omega arith); spelled = onto word (decimal n) rest (actor_word e.actor ∷ (body_words e.step ++ codes "=" ∷ reply_words e.reply)) (number.0 ∙ ap decimal (eqb-true read.0 n same.0)) is.spelled; owned = is.owned; fits = is.fits }
+    record {
+      counted = (let le = number.1 in let is = eqb-true read.0 n same.0 in omega arith);
+      spelled = onto word (decimal n) rest (actor_word e.actor ∷ (body_words e.step ++ codes "=" ∷ reply_words e.reply))
+          (number.0 ∙ ap decimal (eqb-true read.0 n same.0)) is.spelled;
+      owned = is.owned;
+      fits = is.fits;
+    }
 
 -- words that are parted once are parted
 spaced_on : (w v : List ℕ) (ws vs : List (List ℕ)) → spaced (w ∷ ws) ++ 32 ∷ spaced (v ∷ vs) ≡ spaced ((w ∷ ws) ++ v ∷ vs)
 spaced_on w v [] vs = refl
-spaced_on w v (x ∷ ws) vs = append_assoc w (32 ∷ spaced (x ∷ ws)) (32 ∷ spaced (v ∷ vs)) ∙ ap (λ (t : List ℕ). w ++ 32 ∷ t) (spaced_on x v ws vs)
+spaced_on w v (x ∷ ws) vs =
+    append_assoc w (32 ∷ spaced (x ∷ ws)) (32 ∷ spaced (v ∷ vs)) ∙ ap (λ (t : List ℕ). w ++ 32 ∷ t) (spaced_on x v ws vs)
 
-flat : (a b x y : List ℕ) (body reply xs ys : List (List ℕ)) → body ≡ x ∷ xs → reply ≡ y ∷ ys → spaced (a ∷ b ∷ spaced body ∷ codes "=" ∷ spaced reply ∷ []) ≡ spaced (a ∷ b ∷ (body ++ codes "=" ∷ reply))
+flat : (a b x y : List ℕ) (body reply xs ys : List (List ℕ)) → body ≡ x ∷ xs → reply ≡ y ∷ ys
+    → spaced (a ∷ b ∷ spaced body ∷ codes "=" ∷ spaced reply ∷ []) ≡ spaced (a ∷ b ∷ (body ++ codes "=" ∷ reply))
 flat a b x y body reply xs ys e f = rw (e, f) (ap (λ (t : List ℕ). a ++ 32 ∷ (b ++ 32 ∷ t)) (spaced_on x (codes "=") xs (y ∷ ys)))
 
 some_action : (a : Action) → (x : List ℕ) × (xs : List (List ℕ)) × (action_words a ≡ x ∷ xs)
@@ -281,7 +306,12 @@ pub event_line_is : (n : ℕ) (c : Config) (text : List ℕ) (e : Event) → eve
 unfolding event_line_of
 event_line_is n c text e h =
     let is = event_is n c (words_of text) e (too_long (nat_lt 120 (length text)) kinds.LongLine (event_of n c (words_of text)) e h) in
-    record { counted = is.counted; spelled = joined text (event_words n e) is.spelled ∙ sym (event_text_is n e); owned = is.owned; fits = is.fits }
+    record {
+      counted = is.counted;
+      spelled = joined text (event_words n e) is.spelled ∙ sym (event_text_is n e);
+      owned = is.owned;
+      fits = is.fits;
+    }
 
 pub event_line_known : (n : ℕ) (c : Config) (text : List ℕ) (r : Result Event Kind) → r ≡ event_line_of n c text → IfOk r (IsEvent c)
 event_line_known n c text (Ok e) h = (event_line_is n c text e (sym h)).owned

@@ -1,5 +1,6 @@
 -- The words of an event, and that the event is read from them.
-use Rattle.std.proofs.Common.{◌≡◌, ℕ, ◌<◌, ◌≤◌, true, false, eqb, List, [], ◌∷◌, ◌++◌, length, Option, Some, None, Ok, refl, sym, ap, subst, ◌∙◌, arith}
+use Rattle.std.proofs.Common.{◌≡◌, ◌<◌, ◌≤◌, ◌∷◌, ◌++◌, ◌∙◌}
+use Rattle.std.proofs.Common.{ℕ, true, false, eqb, List, [], length, Option, Some, None, Ok, refl, sym, ap, subst, arith}
 use Rattle.std.specs.Prelude.{codes, nat_le}
 use Rattle.std.specs.Fmt.{decimal}
 use Rattle.std.specs.List.{All}
@@ -31,7 +32,8 @@ use Rattle.script_text.specs.Events.{foreground_of, actor_of, counted_of, event_
 use Rattle.script_text.proofs.Parts.Numbers.{number_of_some, first_is_digit}
 use Rattle.script_text.proofs.BothWays.Allowed.{allowed_again}
 use Rattle.script_text.proofs.BothWays.Lengths.{two_long, three_long, five_long, small_long, action_long}
-use Rattle.script_text.proofs.Parts.Spelled.{IsWord, AreWords, literal, number_short, number_word, small_word, lettered, word1, word2, word3, words_again, no_feed}
+use Rattle.script_text.proofs.Parts.Spelled.{IsWord, AreWords, literal, number_short, number_word, small_word}
+use Rattle.script_text.proofs.Parts.Spelled.{lettered, word1, word2, word3, words_again, no_feed}
 use Rattle.script_text.proofs.BothWays.StepsSpelled.{action_is_words, collection_is_words, collection_again, not_gc, mutator_again}
 use Rattle.script_text.proofs.BothWays.ReplyLaws.{number_not, reply_read}
 use Rattle.script_text.proofs.Reading.Parting.{is_equals, answered, step_again, reply_again}
@@ -56,10 +58,12 @@ plain2 a b p q = All-cons (λ w. is_equals w ≡ false) a (b ∷ []) p (plain1 b
 plain3 : (a b c : List ℕ) → is_equals a ≡ false → is_equals b ≡ false → is_equals c ≡ false → ArePlain (a ∷ b ∷ c ∷ [])
 plain3 a b c p q r = All-cons (λ w. is_equals w ≡ false) a (b ∷ c ∷ []) p (plain2 b c q r)
 
-plain4 : (a b c d : List ℕ) → is_equals a ≡ false → is_equals b ≡ false → is_equals c ≡ false → is_equals d ≡ false → ArePlain (a ∷ b ∷ c ∷ d ∷ [])
+plain4 : (a b c d : List ℕ) → is_equals a ≡ false → is_equals b ≡ false → is_equals c ≡ false
+    → is_equals d ≡ false → ArePlain (a ∷ b ∷ c ∷ d ∷ [])
 plain4 a b c d p q r s = All-cons (λ w. is_equals w ≡ false) a (b ∷ c ∷ d ∷ []) p (plain3 b c d q r s)
 
-plain5 : (a b c d e : List ℕ) → is_equals a ≡ false → is_equals b ≡ false → is_equals c ≡ false → is_equals d ≡ false → is_equals e ≡ false → ArePlain (a ∷ b ∷ c ∷ d ∷ e ∷ [])
+plain5 : (a b c d e : List ℕ) → is_equals a ≡ false → is_equals b ≡ false → is_equals c ≡ false → is_equals d ≡ false
+    → is_equals e ≡ false → ArePlain (a ∷ b ∷ c ∷ d ∷ e ∷ [])
 plain5 a b c d e p q r s t = All-cons (λ w. is_equals w ≡ false) a (b ∷ c ∷ d ∷ e ∷ []) p (plain4 b c d e q r s t)
 
 plain_value : (v : Option Register) → is_equals (value_word v) ≡ false
@@ -78,7 +82,8 @@ action_plain (actions.Load to from) fits = plain3 _ _ _ refl refl refl
 action_plain (actions.Save to from) fits = plain3 _ _ _ refl refl refl
 action_plain (actions.Shape object) fits = plain2 _ _ refl refl
 action_plain (actions.NewWeak to counts w) fits =
-    plain5 _ _ _ _ _ refl refl (plain_small counts.pointers fits.1) (plain_small w (omega (arith, fits.2))) (plain_small counts.values fits.3)
+    plain5 _ _ _ _ _ refl refl (plain_small counts.pointers fits.1)
+    (plain_small w (omega (arith, fits.2))) (plain_small counts.values fits.3)
 action_plain (actions.GetWeak to object i) fits = plain4 _ _ _ _ refl refl refl (plain_small i fits.2)
 action_plain (actions.PutWeak object i value) fits = plain4 _ _ _ _ refl refl (plain_small i fits.1) (plain_value value)
 action_plain (actions.Weaks object) fits = plain2 _ _ refl refl
@@ -121,7 +126,8 @@ reply_long (replies.Shape p d) fits = omega (arith, two_long (decimal p) (decima
 reply_long (replies.Marked n) fits = omega (arith, two_long (codes "marked") (decimal n), small_long n fits)
 reply_long (replies.Reclaimed n) fits = omega (arith, two_long (codes "reclaimed") (decimal n), small_long n fits)
 reply_long (replies.Refined n) fits = omega (arith, two_long (codes "refined") (decimal n), small_long n fits)
-reply_long (replies.Moved n w) fits = omega (arith, three_long (codes "moved") (decimal n) (decimal w), small_long n fits.0, small_long w fits.1)
+reply_long (replies.Moved n w) fits =
+    omega (arith, three_long (codes "moved") (decimal n) (decimal w), small_long n fits.0, small_long w fits.1)
 reply_long (replies.Refused why) fits = leb-true (length (spaced (codes "refused" ∷ refusal_words why))) 32 (refused_long why)
 
 -- the words of the parts
@@ -135,13 +141,20 @@ reply_is_words (replies.Marked n) fits = word2 _ _ (literal (codes "marked") ref
 reply_is_words (replies.Reclaimed n) fits = word2 _ _ (literal (codes "reclaimed") refl refl) (small_word n fits)
 reply_is_words (replies.Refined n) fits = word2 _ _ (literal (codes "refined") refl refl) (small_word n fits)
 reply_is_words (replies.Moved n w) fits = word3 _ _ _ (literal (codes "moved") refl refl) (small_word n fits.0) (small_word w fits.1)
-reply_is_words (replies.Refused refusals.Nil) fits = word3 _ _ _ (literal (codes "refused") refl refl) (literal (codes "1") refl refl) (literal (codes "Nil") refl refl)
-reply_is_words (replies.Refused refusals.NoField) fits = word3 _ _ _ (literal (codes "refused") refl refl) (literal (codes "2") refl refl) (literal (codes "NoField") refl refl)
-reply_is_words (replies.Refused refusals.Full) fits = word3 _ _ _ (literal (codes "refused") refl refl) (literal (codes "3") refl refl) (literal (codes "Full") refl refl)
-reply_is_words (replies.Refused refusals.TooBig) fits = word3 _ _ _ (literal (codes "refused") refl refl) (literal (codes "4") refl refl) (literal (codes "TooBig") refl refl)
-reply_is_words (replies.Refused refusals.NamesSpent) fits = word3 _ _ _ (literal (codes "refused") refl refl) (literal (codes "5") refl refl) (literal (codes "NamesSpent") refl refl)
-reply_is_words (replies.Refused refusals.MarkRunning) fits = word3 _ _ _ (literal (codes "refused") refl refl) (literal (codes "6") refl refl) (literal (codes "MarkRunning") refl refl)
-reply_is_words (replies.Refused refusals.NotMarking) fits = word3 _ _ _ (literal (codes "refused") refl refl) (literal (codes "7") refl refl) (literal (codes "NotMarking") refl refl)
+reply_is_words (replies.Refused refusals.Nil) fits =
+    word3 _ _ _ (literal (codes "refused") refl refl) (literal (codes "1") refl refl) (literal (codes "Nil") refl refl)
+reply_is_words (replies.Refused refusals.NoField) fits =
+    word3 _ _ _ (literal (codes "refused") refl refl) (literal (codes "2") refl refl) (literal (codes "NoField") refl refl)
+reply_is_words (replies.Refused refusals.Full) fits =
+    word3 _ _ _ (literal (codes "refused") refl refl) (literal (codes "3") refl refl) (literal (codes "Full") refl refl)
+reply_is_words (replies.Refused refusals.TooBig) fits =
+    word3 _ _ _ (literal (codes "refused") refl refl) (literal (codes "4") refl refl) (literal (codes "TooBig") refl refl)
+reply_is_words (replies.Refused refusals.NamesSpent) fits =
+    word3 _ _ _ (literal (codes "refused") refl refl) (literal (codes "5") refl refl) (literal (codes "NamesSpent") refl refl)
+reply_is_words (replies.Refused refusals.MarkRunning) fits =
+    word3 _ _ _ (literal (codes "refused") refl refl) (literal (codes "6") refl refl) (literal (codes "MarkRunning") refl refl)
+reply_is_words (replies.Refused refusals.NotMarking) fits =
+    word3 _ _ _ (literal (codes "refused") refl refl) (literal (codes "7") refl refl) (literal (codes "NotMarking") refl refl)
 
 body_is_words : (s : Step) → StepFits s → AreWords (body_words s)
 body_is_words (steps.Mutator o) fits = action_is_words o.action fits
@@ -167,14 +180,26 @@ unfolding actor_of foreground_of background_of
 is_actor c (actors.Mutator m) few known =
     let fits : m ≤ small = omega arith in
     let short : length (decimal m) ≤ 10 = small_long m fits in
-    record { word = small_word m fits; short = omega arith; again = rw (not_gc m (omega arith), no_background (decimal m) m (omega arith) refl, mutator_again c m known few) refl }
+    record {
+      word = small_word m fits;
+      short = omega arith;
+      again = rw (not_gc m (omega arith), no_background (decimal m) m (omega arith) refl, mutator_again c m known few) refl;
+    }
 is_actor c actors.Collector few known = record { word = literal (codes "gc") refl refl; short = omega arith; again = refl }
 is_actor c (actors.Marker i) few known =
     let short : length (decimal i) ≤ 10 = small_long i (omega arith) in
-    record { word = lettered 109 i (omega arith) (omega arith); short = omega arith; again = rw (number_of_some 7 (decimal i) i (omega arith) refl (omega arith)) refl }
+    record {
+      word = lettered 109 i (omega arith) (omega arith);
+      short = omega arith;
+      again = rw (number_of_some 7 (decimal i) i (omega arith) refl (omega arith)) refl;
+    }
 is_actor c (actors.Refiner i) few known =
     let short : length (decimal i) ≤ 10 = small_long i (omega arith) in
-    record { word = lettered 102 i (omega arith) (omega arith); short = omega arith; again = rw (number_of_some 7 (decimal i) i (omega arith) refl (omega arith)) refl }
+    record {
+      word = lettered 102 i (omega arith) (omega arith);
+      short = omega arith;
+      again = rw (number_of_some 7 (decimal i) i (omega arith) refl (omega arith)) refl;
+    }
 
 -- a step of its actor, read from its words
 record IsOwn (c : Config) (a : Actor) (s : Step) : Type 0 where
@@ -192,7 +217,10 @@ is_own c actors.Collector (steps.Mutator o) h fits = absurd h
 is_own c actors.Collector (steps.Collector k) h fits = record { known = tt; again = rw (collection_again k fits) refl }
 is_own c (actors.Marker i) (steps.Mutator o) h fits = absurd h
 is_own c (actors.Marker i) (steps.Collector collector.Begin) h fits = absurd h
-is_own c (actors.Marker i) (steps.Collector (collector.Mark k)) h fits = record { known = h; again = rw (collection_again (collector.Mark k) fits) refl }
+is_own c (actors.Marker i) (steps.Collector (collector.Mark k)) h fits = record {
+  known = h;
+  again = rw (collection_again (collector.Mark k) fits) refl;
+}
 is_own c (actors.Marker i) (steps.Collector collector.Remark) h fits = absurd h
 is_own c (actors.Marker i) (steps.Collector collector.Cleanup) h fits = absurd h
 is_own c (actors.Marker i) (steps.Collector (collector.Refine k)) h fits = absurd h
@@ -202,7 +230,10 @@ is_own c (actors.Refiner i) (steps.Collector collector.Begin) h fits = absurd h
 is_own c (actors.Refiner i) (steps.Collector (collector.Mark k)) h fits = absurd h
 is_own c (actors.Refiner i) (steps.Collector collector.Remark) h fits = absurd h
 is_own c (actors.Refiner i) (steps.Collector collector.Cleanup) h fits = absurd h
-is_own c (actors.Refiner i) (steps.Collector (collector.Refine k)) h fits = record { known = h; again = rw (collection_again (collector.Refine k) fits) refl }
+is_own c (actors.Refiner i) (steps.Collector (collector.Refine k)) h fits = record {
+  known = h;
+  again = rw (collection_again (collector.Refine k) fits) refl;
+}
 is_own c (actors.Refiner i) (steps.Collector (collector.Pause b)) h fits = absurd h
 
 longer : (x : List ℕ) (xs ws : List (List ℕ)) → ws ≡ x ∷ xs → 1 ≤ length ws
@@ -221,14 +252,20 @@ pub record IsGood (n : ℕ) (c : Config) (e : Event) : Type 0 where
   pub owned : IsEvent c e
   pub fits : EventFits e
 
-counted_again : (n : ℕ) (c : Config) (e : Event) → IsGood n c e → counted_of c (actor_word e.actor ∷ (body_words e.step ++ codes "=" ∷ reply_words e.reply)) ≡ Ok e
+counted_again : (n : ℕ) (c : Config) (e : Event) → IsGood n c e
+    → counted_of c (actor_word e.actor ∷ (body_words e.step ++ codes "=" ∷ reply_words e.reply)) ≡ Ok e
 unfolding counted_of
 counted_again n c e good =
     let own = is_own c e.actor e.step good.owned good.fits.0 in
     let actor = is_actor c e.actor good.few own.known in
     let plain = body_plain e.step good.fits.0 in
     let some = some_reply e.reply in
-    rw (actor.again, step_again (body_words e.step) (reply_words e.reply) plain (longer some.0 some.1 (reply_words e.reply) some.2), own.again, answer_again (body_words e.step) e.reply plain good.fits.1) refl
+    rw (
+      actor.again,
+      step_again (body_words e.step) (reply_words e.reply) plain (longer some.0 some.1 (reply_words e.reply) some.2),
+      own.again,
+      answer_again (body_words e.step) e.reply plain good.fits.1,
+    ) refl
 
 event_again : (n : ℕ) (c : Config) (e : Event) → IsGood n c e → event_of n c (event_words n e) ≡ Ok e
 unfolding event_of
@@ -262,9 +299,11 @@ event_short n c e good =
 pub event_line_again : (n : ℕ) (c : Config) (e : Event) → IsGood n c e → event_line_of n c (event_text n e) ≡ Ok e
 unfolding event_line_of
 event_line_again n c e good =
-    let words : words_of (event_text n e) ≡ event_words n e = ap words_of (event_text_is n e) ∙ words_again (decimal n) (rest_words e) (event_is_words n c e good) in
+    let words : words_of (event_text n e) ≡ event_words n e =
+    ap words_of (event_text_is n e) ∙ words_again (decimal n) (rest_words e) (event_is_words n c e good) in
     rw (le-ltb 120 (length (event_text n e)) (event_short n c e good)) (ap (event_of n c) words ∙ event_again n c e good)
 
 -- no line feed stands in the line of an event
 pub event_no_feed : (n : ℕ) (c : Config) (e : Event) → IsGood n c e → All (λ b. eqb b 10 ≡ false) (event_text n e)
-event_no_feed n c e good = subst (λ (t : List ℕ). All (λ b. eqb b 10 ≡ false) t) (sym (event_text_is n e)) (no_feed (decimal n) (rest_words e) (event_is_words n c e good))
+event_no_feed n c e good = subst (λ (t : List ℕ). All (λ b. eqb b 10 ≡ false) t) (sym (event_text_is n e))
+    (no_feed (decimal n) (rest_words e) (event_is_words n c e good))

@@ -1,5 +1,6 @@
 -- A text goes on behind the text of a record.
-use Rattle.std.proofs.Common.{◌≡◌, ℕ, ◌+◌, ◌<◌, List, [], ◌∷◌, ◌++◌, length, Result, Ok, Err, refl, sym, ap, ◌∙◌, append_assoc, arith, inl, inr}
+use Rattle.std.proofs.Common.{◌≡◌, ◌+◌, ◌<◌, ◌∷◌, ◌++◌, ◌∙◌}
+use Rattle.std.proofs.Common.{ℕ, List, [], length, Result, Ok, Err, refl, sym, ap, append_assoc, arith, inl, inr}
 use Rattle.std.proofs.lemmas.Bool.{lt-ltb}
 use Rattle.std.proofs.lemmas.List.{append-nil}
 use Rattle.heap_words.specs.declared.config.Config.{Config}
@@ -24,15 +25,21 @@ use Rattle.script_text.proofs.BothWays.RecordTexts.{AreGood, good_first, good_re
 
 -- events that are spelled are read, whatever comes behind them
 events_extend : (es : List Event) (n : ℕ) (c : Config) (p : EventList) (t : List ℕ) → AreGood n c es →
-    read_on p (events_of n c (pieces_of (event_lines n es ++ t))) ≡ read_on (record p { events = p.events ++ es }) (events_of (n + length es) c (pieces_of t))
+    read_on p (events_of n c (pieces_of (event_lines n es ++ t)))
+    ≡ read_on (record p { events = p.events ++ es }) (events_of (n + length es) c (pieces_of t))
 events_extend [] n c p t good =
     let same : n + length {A = Event} [] ≡ n = omega arith in
-    sym (ap (λ (xs : List Event). read_on (record p { events = xs }) (events_of (n + length {A = Event} []) c (pieces_of t))) (append-nil p.events) ∙ ap (λ (k : ℕ). read_on p (events_of k c (pieces_of t))) same)
+    sym (ap (λ (xs : List Event).
+    read_on (record p { events = xs }) (events_of (n + length {A = Event} []) c (pieces_of t))) (append-nil p.events)
+    ∙ ap (λ (k : ℕ). read_on p (events_of k c (pieces_of t))) same)
 events_extend (e ∷ es) n c p t good =
     let head = good_first n c e es good in
     let rest = event_lines (n + 1) es ++ t in
-    let cut : event_lines n (e ∷ es) ++ t ≡ event_text n e ++ 10 ∷ rest = ap (λ (l : List ℕ). l ++ t) (append_assoc (event_text n e) (10 ∷ []) (event_lines (n + 1) es)) ∙ append_assoc (event_text n e) (10 ∷ event_lines (n + 1) es) t in
-    let pieces : pieces_of (event_lines n (e ∷ es) ++ t) ≡ event_text n e ∷ pieces_of rest = ap pieces_of cut ∙ pieces_at (event_text n e) rest (event_no_feed n c e head) in
+    let cut : event_lines n (e ∷ es) ++ t ≡ event_text n e ++ 10 ∷ rest =
+    ap (λ (l : List ℕ). l ++ t) (append_assoc (event_text n e) (10 ∷ []) (event_lines (n + 1) es))
+    ∙ append_assoc (event_text n e) (10 ∷ event_lines (n + 1) es) t in
+    let pieces : pieces_of (event_lines n (e ∷ es) ++ t) ≡ event_text n e ∷ pieces_of rest =
+    ap pieces_of cut ∙ pieces_at (event_text n e) rest (event_no_feed n c e head) in
     let on = goes_on p n c (event_lines n (e ∷ es) ++ t) (event_text n e) rest e _ pieces (event_line_again n c e head) refl in
     let more = events_extend es (n + 1) c (with_event p e) t (good_rest n c e es good) in
     let same : (p.events ++ e ∷ []) ++ es ≡ p.events ++ e ∷ es = append_assoc p.events (e ∷ []) es in
@@ -41,21 +48,31 @@ events_extend (e ∷ es) n c p t good =
     ∙ ap (λ (k : ℕ). read_on (record p { events = p.events ++ e ∷ es }) (events_of k c (pieces_of t))) count
 
 -- a text behind the text of a record is read from its next event on
-pub extends : (lines : List ℕ) (r : EventList) (t : List ℕ) → record_of lines ≡ Ok r → record_of (lines ++ t) ≡ read_on r (events_of (length r.events + 1) r.config (pieces_of t))
+pub extends : (lines : List ℕ) (r : EventList) (t : List ℕ) → record_of lines ≡ Ok r
+    → record_of (lines ++ t) ≡ read_on r (events_of (length r.events + 1) r.config (pieces_of t))
 extends lines r t read =
     let is = record_read lines r read in
     let rest = event_lines 1 r.events ++ t in
     let head = spaced (heap_words r.config) in
-    let cut : lines ++ t ≡ head ++ 10 ∷ rest = ap (λ (l : List ℕ). l ++ t) is.0 ∙ ap (λ (l : List ℕ). l ++ t) (append_assoc head (10 ∷ []) (event_lines 1 r.events)) ∙ append_assoc head (10 ∷ event_lines 1 r.events) t in
-    let pieces : pieces_of (lines ++ t) ≡ head ∷ pieces_of rest = ap pieces_of cut ∙ pieces_at head rest (heap_no_feed r.config is.1.config) in
+    let cut : lines ++ t ≡ head ++ 10 ∷ rest = ap (λ (l : List ℕ). l ++ t) is.0
+    ∙ ap (λ (l : List ℕ). l ++ t) (append_assoc head (10 ∷ []) (event_lines 1 r.events))
+    ∙ append_assoc head (10 ∷ event_lines 1 r.events) t in
+    let pieces : pieces_of (lines ++ t) ≡ head ∷ pieces_of rest =
+    ap pieces_of cut ∙ pieces_at head rest (heap_no_feed r.config is.1.config) in
     let first = begins (lines ++ t) head rest r.config pieces (heap_line_again r.config is.1.config) in
-    let good : AreGood 1 r.config r.events = record { counted = (let few = is.1.few in omega arith); few = is.1.config.mutators; owned = is.1.owned; fits = is.1.fits } in
+    let good : AreGood 1 r.config r.events = record {
+      counted = (let few = is.1.few in omega arith);
+      few = is.1.config.mutators;
+      owned = is.1.owned;
+      fits = is.1.fits;
+    } in
     let more = events_extend r.events 1 r.config (begun r.config) t good in
     let count : 1 + length r.events ≡ length r.events + 1 = omega arith in
     sym first ∙ more ∙ ap (λ (k : ℕ). read_on r (events_of k r.config (pieces_of t))) count
 
 -- the heap line was taken
-pub head_taken : (text line rest : List ℕ) (c : Config) → Begins text line rest → heap_line_of line ≡ Ok c → (head : List ℕ) × (text ≡ head ++ rest) × (record_of head ≡ Ok (begun c))
+pub head_taken : (text line rest : List ℕ) (c : Config) → Begins text line rest → heap_line_of line ≡ Ok c
+    → (head : List ℕ) × (text ≡ head ++ rest) × (record_of head ≡ Ok (begun c))
 head_taken text line rest c at ok =
     let clear = first_clear text line (pieces_of rest) at in
     let cut : text ≡ (line ++ 10 ∷ []) ++ rest = begins_is text line rest at ∙ sym (append_assoc line (10 ∷ []) rest) in
@@ -63,12 +80,15 @@ head_taken text line rest c at ok =
     (line ++ 10 ∷ [], cut, is_done (begun c) 1 c [] (record_of (line ++ 10 ∷ [])) refl refl on)
 
 -- the line of the next event was taken
-pub event_taken : (lines text line rest : List ℕ) (r : EventList) (e : Event) → record_of lines ≡ Ok r → Begins text line rest → event_line_of (length r.events + 1) r.config line ≡ Ok e →
+pub event_taken : (lines text line rest : List ℕ) (r : EventList) (e : Event) → record_of lines ≡ Ok r → Begins text line rest
+    → event_line_of (length r.events + 1) r.config line ≡ Ok e →
     (more : List ℕ) × (lines ++ text ≡ more ++ rest) × (record_of more ≡ Ok (with_event r e))
 event_taken lines text line rest r e read at ok =
     let clear = first_clear text line (pieces_of rest) at in
     let more = lines ++ (line ++ 10 ∷ []) in
-    let cut : lines ++ text ≡ more ++ rest = ap (λ (t : List ℕ). lines ++ t) (begins_is text line rest at ∙ sym (append_assoc line (10 ∷ []) rest)) ∙ sym (append_assoc lines (line ++ 10 ∷ []) rest) in
+    let cut : lines ++ text ≡ more ++ rest =
+    ap (λ (t : List ℕ). lines ++ t) (begins_is text line rest at ∙ sym (append_assoc line (10 ∷ []) rest))
+    ∙ sym (append_assoc lines (line ++ 10 ∷ []) rest) in
     let all = extends lines r (line ++ 10 ∷ []) read in
     let on = goes_on r (length r.events + 1) r.config (line ++ 10 ∷ []) line [] e (record_of more) (pieces_at line [] clear) ok (sym all) in
     (more, cut, is_done (with_event r e) (length r.events + 1 + 1) r.config [] (record_of more) refl refl on)
@@ -83,12 +103,14 @@ unfolding heap_line_of
 heap_long line long = rw (lt-ltb 120 (length line) long) refl
 
 -- a line that is wrong stays wrong, whatever comes behind up to a line feed
-pub stays_wrong : {A : Type 0} (read : List ℕ → Result A Kind) (text : List ℕ) (k : Kind) (more : List ℕ) → ((line : List ℕ) → 120 < length line → read line ≡ Err kinds.LongLine) → IsWrong read text k →
+pub stays_wrong : {A : Type 0} (read : List ℕ → Result A Kind) (text : List ℕ) (k : Kind) (more : List ℕ)
+    → ((line : List ℕ) → 120 < length line → read line ≡ Err kinds.LongLine) → IsWrong read text k →
     (line : List ℕ) × (rest : List ℕ) × Begins (text ++ more ++ 10 ∷ []) line rest × (read line ≡ Err k)
 stays_wrong read text k more long (inl (line, rest, at, bad)) =
     let clear = first_clear text line (pieces_of rest) at in
     let cut : text ++ more ++ 10 ∷ [] ≡ line ++ 10 ∷ (rest ++ more ++ 10 ∷ []) =
-    ap (λ (t : List ℕ). t ++ more ++ 10 ∷ []) (begins_is text line rest at) ∙ ap (λ (t : List ℕ). t ++ 10 ∷ []) (append_assoc line (10 ∷ rest) more) ∙ append_assoc line (10 ∷ (rest ++ more)) (10 ∷ []) in
+    ap (λ (t : List ℕ). t ++ more ++ 10 ∷ []) (begins_is text line rest at)
+    ∙ ap (λ (t : List ℕ). t ++ 10 ∷ []) (append_assoc line (10 ∷ rest) more) ∙ append_assoc line (10 ∷ (rest ++ more)) (10 ∷ []) in
     (line, rest ++ more ++ 10 ∷ [], ap pieces_of cut ∙ pieces_at line (rest ++ more ++ 10 ∷ []) clear, bad)
 stays_wrong read text k more long (inr (part, many, is)) =
     let whole = ends_longer text more (first_clear text text [] part) in
@@ -101,12 +123,15 @@ head_wrong text more k wrong =
     begins_wrong (text ++ more ++ 10 ∷ []) still.0 still.1 k still.2 still.3
 
 -- the line of the next event is wrong, whatever comes
-pub event_wrong : (lines text more : List ℕ) (r : EventList) (k : Kind) → record_of lines ≡ Ok r → IsWrong (event_line_of (length r.events + 1) r.config) text k →
+pub event_wrong : (lines text more : List ℕ) (r : EventList) (k : Kind) → record_of lines ≡ Ok r
+    → IsWrong (event_line_of (length r.events + 1) r.config) text k →
     record_of (lines ++ text ++ more ++ 10 ∷ []) ≡ Err (fault (length r.events + 1 + 1) k)
 event_wrong lines text more r k read wrong =
     let still = stays_wrong (event_line_of (length r.events + 1) r.config) text k more (event_long (length r.events + 1) r.config) wrong in
-    let cut : lines ++ text ++ more ++ 10 ∷ [] ≡ lines ++ (text ++ more ++ 10 ∷ []) = ap (λ (t : List ℕ). t ++ 10 ∷ []) (append_assoc lines text more) ∙ append_assoc lines (text ++ more) (10 ∷ []) in
-    ap record_of cut ∙ goes_wrong r (length r.events + 1) r.config (text ++ more ++ 10 ∷ []) still.0 still.1 k (record_of (lines ++ (text ++ more ++ 10 ∷ []))) still.2 still.3 (sym (extends lines r (text ++ more ++ 10 ∷ []) read))
+    let cut : lines ++ text ++ more ++ 10 ∷ [] ≡ lines ++ (text ++ more ++ 10 ∷ []) =
+    ap (λ (t : List ℕ). t ++ 10 ∷ []) (append_assoc lines text more) ∙ append_assoc lines (text ++ more) (10 ∷ []) in
+    ap record_of cut ∙ goes_wrong r (length r.events + 1) r.config (text ++ more ++ 10 ∷ []) still.0 still.1 k
+    (record_of (lines ++ (text ++ more ++ 10 ∷ []))) still.2 still.3 (sym (extends lines r (text ++ more ++ 10 ∷ []) read))
 
 -- the text of a record ends in a line feed
 ends_feed : (es : List Event) (n : ℕ) (front : List ℕ) → (x : List ℕ) × ((front ++ 10 ∷ []) ++ event_lines n es ≡ x ++ 10 ∷ [])
@@ -114,7 +139,8 @@ ends_feed [] n front = (front, append-nil (front ++ 10 ∷ []))
 ends_feed (e ∷ es) n front =
     let rest = ends_feed es (n + 1) ((front ++ 10 ∷ []) ++ event_text n e) in
     let cut : (front ++ 10 ∷ []) ++ event_lines n (e ∷ es) ≡ (((front ++ 10 ∷ []) ++ event_text n e) ++ 10 ∷ []) ++ event_lines (n + 1) es =
-    sym (append_assoc (front ++ 10 ∷ []) (event_text n e ++ 10 ∷ []) (event_lines (n + 1) es)) ∙ ap (λ (t : List ℕ). t ++ event_lines (n + 1) es) (sym (append_assoc (front ++ 10 ∷ []) (event_text n e) (10 ∷ []))) in
+    sym (append_assoc (front ++ 10 ∷ []) (event_text n e ++ 10 ∷ []) (event_lines (n + 1) es))
+    ∙ ap (λ (t : List ℕ). t ++ event_lines (n + 1) es) (sym (append_assoc (front ++ 10 ∷ []) (event_text n e) (10 ∷ []))) in
     (rest.0, cut ∙ rest.1)
 
 -- a record's text with a cut line behind it, without that
@@ -139,10 +165,13 @@ whole_behind lines x r read =
     let cut : (t : List ℕ) → lines ++ t ≡ ends.0 ++ 10 ∷ t = λ t. ap (λ (l : List ℕ). l ++ t) feed ∙ append_assoc ends.0 (10 ∷ []) t in
     ap whole_lines (cut x) ∙ whole_front ends.0 x ∙ sym (cut (whole_lines x))
 
-read_ok : (p q : EventList) (r : Result (List Event) LineFault) → read_on p r ≡ Ok q → (es : List Event) × (q ≡ record p { events = p.events ++ es })
+read_ok : (p q : EventList) (r : Result (List Event) LineFault) → read_on p r ≡ Ok q
+    → (es : List Event) × (q ≡ record p { events = p.events ++ es })
 read_ok p q (Ok es) e = (es, cc)
 read_ok p q (Err f) e = absurd (cc)
 
 -- a record whose text goes on has more events
-pub reads_behind : (lines t : List ℕ) (r q : EventList) → record_of lines ≡ Ok r → record_of (lines ++ t) ≡ Ok q → (es : List Event) × (q ≡ record r { events = r.events ++ es })
-reads_behind lines t r q read more = read_ok r q (events_of (length r.events + 1) r.config (pieces_of t)) (sym (extends lines r t read) ∙ more)
+pub reads_behind : (lines t : List ℕ) (r q : EventList) → record_of lines ≡ Ok r → record_of (lines ++ t) ≡ Ok q
+    → (es : List Event) × (q ≡ record r { events = r.events ++ es })
+reads_behind lines t r q read more =
+    read_ok r q (events_of (length r.events + 1) r.config (pieces_of t)) (sym (extends lines r t read) ∙ more)

@@ -1,5 +1,6 @@
 -- A reply is read from its words, and from no others.
-use Rattle.std.proofs.Common.{◌≡◌, ℕ, ◌<◌, ◌≤◌, Bool, true, false, cond, eqb, List, [], ◌∷◌, length, get_or, Option, Some, None, refl, sym, ap, subst, ◌∙◌, arith}
+use Rattle.std.proofs.Common.{◌≡◌, ◌<◌, ◌≤◌, ◌∷◌, ◌∙◌}
+use Rattle.std.proofs.Common.{ℕ, Bool, true, false, cond, eqb, List, [], length, get_or, Option, Some, None, refl, sym, ap, subst, arith}
 use Rattle.std.specs.Prelude.{codes}
 use Rattle.std.specs.Fmt.{decimal}
 use Rattle.std.specs.Str.{bytes_eq}
@@ -50,27 +51,37 @@ three : (a b c v w x : List ℕ) → a ≡ v → b ≡ w → c ≡ x → a ∷ b
 three a b c v w x e f g = cc
 
 -- one of two readings gave it
-pub pick : {A P : Type 0} (b : Bool) (x y : Option A) (z : A) → cond b x y ≡ Some z → (b ≡ true → x ≡ Some z → P) → (b ≡ false → y ≡ Some z → P) → P
+pub pick : {A P : Type 0} (b : Bool) (x y : Option A) (z : A) → cond b x y ≡ Some z
+    → (b ≡ true → x ≡ Some z → P) → (b ≡ false → y ≡ Some z → P) → P
 pick true x y z e first second = first refl e
 pick false x y z e first second = second refl e
 
-numbered_is : (number digit name verb : List ℕ) (x y : Refusal) → bytes_eq name verb ≡ true → numbered number digit x ≡ Some y → refusal_words x ≡ digit ∷ verb ∷ [] → number ∷ name ∷ [] ≡ refusal_words y
+numbered_is : (number digit name verb : List ℕ) (x y : Refusal) → bytes_eq name verb ≡ true → numbered number digit x ≡ Some y
+    → refusal_words x ≡ digit ∷ verb ∷ [] → number ∷ name ∷ [] ≡ refusal_words y
 unfolding numbered
 numbered_is number digit name verb x y named e words =
     pick (bytes_eq number digit) (Some x) None y e
-    (λ same some. two number name digit verb (is_word number digit same) (is_word name verb named) ∙ sym words ∙ ap refusal_words (refusal_some x y some))
+    (λ same some.
+    two number name digit verb (is_word number digit same) (is_word name verb named) ∙ sym words ∙ ap refusal_words (refusal_some x y some))
     (λ other none. absurd (no_refusal y none))
 
 refusal_is : (number name : List ℕ) (y : Refusal) → refusal_of number name ≡ Some y → number ∷ name ∷ [] ≡ refusal_words y
 unfolding refusal_of
 refusal_is number name y e =
     pick (bytes_eq name (codes "Nil")) _ _ y e (λ h f. numbered_is number (codes "1") name (codes "Nil") refusals.Nil y h f refl) (λ h1 e1.
-    pick (bytes_eq name (codes "NoField")) _ _ y e1 (λ h f. numbered_is number (codes "2") name (codes "NoField") refusals.NoField y h f refl) (λ h2 e2.
-    pick (bytes_eq name (codes "Full")) _ _ y e2 (λ h f. numbered_is number (codes "3") name (codes "Full") refusals.Full y h f refl) (λ h3 e3.
-    pick (bytes_eq name (codes "TooBig")) _ _ y e3 (λ h f. numbered_is number (codes "4") name (codes "TooBig") refusals.TooBig y h f refl) (λ h4 e4.
-    pick (bytes_eq name (codes "NamesSpent")) _ _ y e4 (λ h f. numbered_is number (codes "5") name (codes "NamesSpent") refusals.NamesSpent y h f refl) (λ h5 e5.
-    pick (bytes_eq name (codes "MarkRunning")) _ _ y e5 (λ h f. numbered_is number (codes "6") name (codes "MarkRunning") refusals.MarkRunning y h f refl) (λ h6 e6.
-    pick (bytes_eq name (codes "NotMarking")) _ _ y e6 (λ h f. numbered_is number (codes "7") name (codes "NotMarking") refusals.NotMarking y h f refl) (λ h7 e7. absurd (no_refusal y e7))))))))
+    pick (bytes_eq name (codes "NoField")) _ _ y e1
+    (λ h f. numbered_is number (codes "2") name (codes "NoField") refusals.NoField y h f refl) (λ h2 e2.
+    pick (bytes_eq name (codes "Full")) _ _ y e2
+    (λ h f. numbered_is number (codes "3") name (codes "Full") refusals.Full y h f refl) (λ h3 e3.
+    pick (bytes_eq name (codes "TooBig")) _ _ y e3
+    (λ h f. numbered_is number (codes "4") name (codes "TooBig") refusals.TooBig y h f refl) (λ h4 e4.
+    pick (bytes_eq name (codes "NamesSpent")) _ _ y e4
+    (λ h f. numbered_is number (codes "5") name (codes "NamesSpent") refusals.NamesSpent y h f refl) (λ h5 e5.
+    pick (bytes_eq name (codes "MarkRunning")) _ _ y e5
+    (λ h f. numbered_is number (codes "6") name (codes "MarkRunning") refusals.MarkRunning y h f refl) (λ h6 e6.
+    pick (bytes_eq name (codes "NotMarking")) _ _ y e6
+    (λ h f. numbered_is number (codes "7") name (codes "NotMarking") refusals.NotMarking y h f refl)
+    (λ h7 e7. absurd (no_refusal y e7))))))))
 
 name_word : (b : ℕ) (digits : List ℕ) (n : ℕ) → b ≡ 35 → digits ≡ decimal n → (b ∷ digits) ∷ [] ≡ (35 ∷ decimal n) ∷ []
 name_word b digits n e f = cc
@@ -79,11 +90,13 @@ name_or_word_is : (a : List ℕ) (r : Reply) → name_or_word a ≡ Some r → I
 unfolding name_or_word
 name_or_word_is [] r e = absurd (no_reply r e)
 name_or_word_is (b ∷ digits) r e =
-    pick (eqb b 35) (number_of large digits >>= λ n. Some (replies.Named (Some n))) (number_of large (b ∷ digits) >>= λ w. Some (replies.Word w)) r e
+    pick (eqb b 35) (number_of large digits >>= λ n. Some (replies.Named (Some n)))
+    (number_of large (b ∷ digits) >>= λ w. Some (replies.Word w)) r e
     (λ hash f.
     let read = option_bind (number_of large digits) (λ n. Some (replies.Named (Some n))) r f in
     let number = number_of_is large digits read.0 read.1 in
-    same_reply ((b ∷ digits) ∷ []) (replies.Named (Some read.0)) r (name_word b digits read.0 (eqb-true b 35 hash) number.0) number.1 read.2)
+    same_reply ((b ∷ digits) ∷ []) (replies.Named (Some read.0)) r
+    (name_word b digits read.0 (eqb-true b 35 hash) number.0) number.1 read.2)
     (λ other f.
     let read = option_bind (number_of large (b ∷ digits)) (λ w. Some (replies.Word w)) r f in
     let number = number_of_is large (b ∷ digits) read.0 read.1 in
@@ -92,17 +105,23 @@ name_or_word_is (b ∷ digits) r e =
 lone_is : (a : List ℕ) (r : Reply) → lone_reply_of a ≡ Some r → IsReply (a ∷ []) r
 unfolding lone_reply_of
 lone_is a r e =
-    pick (bytes_eq a (codes "ok")) _ _ r e (λ h f. same_reply (a ∷ []) replies.Done r (one a (codes "ok") (is_word a (codes "ok") h)) tt f) (λ h1 e1.
-    pick (bytes_eq a (codes "nil")) _ _ r e1 (λ h f. same_reply (a ∷ []) (replies.Named None) r (one a (codes "nil") (is_word a (codes "nil") h)) tt f) (λ h2 e2. name_or_word_is a r e2))
+    pick (bytes_eq a (codes "ok")) _ _ r e
+    (λ h f. same_reply (a ∷ []) replies.Done r (one a (codes "ok") (is_word a (codes "ok") h)) tt f) (λ h1 e1.
+    pick (bytes_eq a (codes "nil")) _ _ r e1
+    (λ h f. same_reply (a ∷ []) (replies.Named None) r (one a (codes "nil") (is_word a (codes "nil") h)) tt f)
+    (λ h2 e2. name_or_word_is a r e2))
 
 -- a reply with a number behind its verb
-counted_is : (a w b : List ℕ) (make : ℕ → Reply) (r : Reply) → bytes_eq a w ≡ true → ((n : ℕ) → reply_words (make n) ≡ w ∷ decimal n ∷ []) → ((n : ℕ) → n ≤ small → ReplyFits (make n)) → (number_of small b >>= λ n. Some (make n)) ≡ Some r → IsReply (a ∷ b ∷ []) r
+counted_is : (a w b : List ℕ) (make : ℕ → Reply) (r : Reply) → bytes_eq a w ≡ true → ((n : ℕ) → reply_words (make n) ≡ w ∷ decimal n ∷ [])
+    → ((n : ℕ) → n ≤ small → ReplyFits (make n)) → (number_of small b >>= λ n. Some (make n)) ≡ Some r → IsReply (a ∷ b ∷ []) r
 counted_is a w b make r same words fits e =
     let read = option_bind (number_of small b) (λ n. Some (make n)) r e in
     let number = number_of_is small b read.0 read.1 in
-    same_reply (a ∷ b ∷ []) (make read.0) r (two a b w (decimal read.0) (is_word a w same) number.0 ∙ sym (words read.0)) (fits read.0 number.1) read.2
+    same_reply (a ∷ b ∷ []) (make read.0) r
+    (two a b w (decimal read.0) (is_word a w same) number.0 ∙ sym (words read.0)) (fits read.0 number.1) read.2
 
-shape_is : (a b : List ℕ) (r : Reply) → (number_of small a >>= λ p. number_of small b >>= λ d. Some (replies.Shape p d)) ≡ Some r → IsReply (a ∷ b ∷ []) r
+shape_is : (a b : List ℕ) (r : Reply)
+    → (number_of small a >>= λ p. number_of small b >>= λ d. Some (replies.Shape p d)) ≡ Some r → IsReply (a ∷ b ∷ []) r
 shape_is a b r e =
     let first = option_bind (number_of small a) (λ p. number_of small b >>= λ d. Some (replies.Shape p d)) r e in
     let second = option_bind (number_of small b) (λ d. Some (replies.Shape first.0 d)) r first.2 in
@@ -113,25 +132,33 @@ shape_is a b r e =
 pair_is : (a b : List ℕ) (r : Reply) → pair_reply_of a b ≡ Some r → IsReply (a ∷ b ∷ []) r
 unfolding pair_reply_of
 pair_is a b r e =
-    pick (bytes_eq a (codes "marked")) _ _ r e (λ h f. counted_is a (codes "marked") b (λ n. replies.Marked n) r h (λ n. refl) (λ n le. le) f) (λ h1 e1.
-    pick (bytes_eq a (codes "reclaimed")) _ _ r e1 (λ h f. counted_is a (codes "reclaimed") b (λ n. replies.Reclaimed n) r h (λ n. refl) (λ n le. le) f) (λ h2 e2.
-    pick (bytes_eq a (codes "refined")) _ _ r e2 (λ h f. counted_is a (codes "refined") b (λ n. replies.Refined n) r h (λ n. refl) (λ n le. le) f) (λ h3 e3. shape_is a b r e3)))
+    pick (bytes_eq a (codes "marked")) _ _ r e
+    (λ h f. counted_is a (codes "marked") b (λ n. replies.Marked n) r h (λ n. refl) (λ n le. le) f) (λ h1 e1.
+    pick (bytes_eq a (codes "reclaimed")) _ _ r e1
+    (λ h f. counted_is a (codes "reclaimed") b (λ n. replies.Reclaimed n) r h (λ n. refl) (λ n le. le) f) (λ h2 e2.
+    pick (bytes_eq a (codes "refined")) _ _ r e2
+    (λ h f. counted_is a (codes "refined") b (λ n. replies.Refined n) r h (λ n. refl) (λ n le. le) f) (λ h3 e3. shape_is a b r e3)))
 
-moved_is : (a b c : List ℕ) (r : Reply) → bytes_eq a (codes "moved") ≡ true → (number_of small b >>= λ n. number_of small c >>= λ w. Some (replies.Moved n w)) ≡ Some r → IsReply (a ∷ b ∷ c ∷ []) r
+moved_is : (a b c : List ℕ) (r : Reply) → bytes_eq a (codes "moved") ≡ true
+    → (number_of small b >>= λ n. number_of small c >>= λ w. Some (replies.Moved n w)) ≡ Some r → IsReply (a ∷ b ∷ c ∷ []) r
 moved_is a b c r same e =
     let first = option_bind (number_of small b) (λ n. number_of small c >>= λ w. Some (replies.Moved n w)) r e in
     let second = option_bind (number_of small c) (λ w. Some (replies.Moved first.0 w)) r first.2 in
     let n = number_of_is small b first.0 first.1 in
     let w = number_of_is small c second.0 second.1 in
-    same_reply (a ∷ b ∷ c ∷ []) (replies.Moved first.0 second.0) r (three a b c (codes "moved") (decimal first.0) (decimal second.0) (is_word a (codes "moved") same) n.0 w.0) (n.1, w.1) second.2
+    same_reply (a ∷ b ∷ c ∷ []) (replies.Moved first.0 second.0) r
+    (three a b c (codes "moved") (decimal first.0) (decimal second.0) (is_word a (codes "moved") same) n.0 w.0) (n.1, w.1) second.2
 
 onto : (a w : List ℕ) (xs ys : List (List ℕ)) → a ≡ w → xs ≡ ys → a ∷ xs ≡ w ∷ ys
 onto a w xs ys e f = cc
 
-refused_is : (a b c : List ℕ) (r : Reply) → bytes_eq a (codes "refused") ≡ true → (refusal_of b c >>= λ why. Some (replies.Refused why)) ≡ Some r → IsReply (a ∷ b ∷ c ∷ []) r
+refused_is : (a b c : List ℕ) (r : Reply) → bytes_eq a (codes "refused") ≡ true
+    → (refusal_of b c >>= λ why. Some (replies.Refused why)) ≡ Some r → IsReply (a ∷ b ∷ c ∷ []) r
 refused_is a b c r same e =
     let read = option_bind (refusal_of b c) (λ why. Some (replies.Refused why)) r e in
-    same_reply (a ∷ b ∷ c ∷ []) (replies.Refused read.0) r (onto a (codes "refused") (b ∷ c ∷ []) (refusal_words read.0) (is_word a (codes "refused") same) (refusal_is b c read.0 read.1)) tt read.2
+    same_reply (a ∷ b ∷ c ∷ []) (replies.Refused read.0) r
+    (onto a (codes "refused") (b ∷ c ∷ []) (refusal_words read.0) (is_word a (codes "refused") same) (refusal_is b c read.0 read.1))
+    tt read.2
 
 long_is : (a b c : List ℕ) (r : Reply) → long_reply_of a b c ≡ Some r → IsReply (a ∷ b ∷ c ∷ []) r
 unfolding long_reply_of
@@ -172,7 +199,9 @@ num n fits = number_of_some small (decimal n) n (omega arith) refl fits
 
 word_again : (a : List ℕ) (w : ℕ) → a ≡ decimal w → w ≤ large → name_or_word a ≡ Some (replies.Word w)
 unfolding name_or_word
-word_again [] w e fits = absurd (let some : 0 < length (decimal w) = decimal_nonempty w (omega arith) in let none : 0 ≡ length (decimal w) = ap length e in omega arith)
+word_again [] w e fits = absurd (let some : 0 < length (decimal w) = decimal_nonempty w (omega arith) in
+    let none : 0 ≡ length (decimal w) = ap length e in
+    omega arith)
 word_again (b ∷ digits) w e fits =
     let digit = first_is_digit (b ∷ digits) w (omega arith) e in
     let other : eqb b 35 ≡ false = ne_eqb b 35 (λ same. omega arith) in
@@ -184,10 +213,17 @@ unfolding reply_of lone_reply_of pair_reply_of long_reply_of refusal_of numbered
 reply_read replies.Done fits = refl
 reply_read (replies.Named None) fits = refl
 reply_read (replies.Named (Some n)) fits = rw (number_of_some large (decimal n) n (omega arith) refl fits) refl
-reply_read (replies.Word w) fits = rw (number_not w (codes "ok") fits (omega arith), number_not w (codes "nil") fits (omega arith)) (word_again (decimal w) w refl fits)
+reply_read (replies.Word w) fits =
+    rw (number_not w (codes "ok") fits (omega arith), number_not w (codes "nil") fits (omega arith)) (word_again (decimal w) w refl fits)
 reply_read (replies.Shape p d) fits =
     let le : p ≤ large = let f = fits.0 in omega arith in
-    rw (number_not p (codes "marked") le (omega arith), number_not p (codes "reclaimed") le (omega arith), number_not p (codes "refined") le (omega arith), num p fits.0, num d fits.1) refl
+    rw (
+      number_not p (codes "marked") le (omega arith),
+      number_not p (codes "reclaimed") le (omega arith),
+      number_not p (codes "refined") le (omega arith),
+      num p fits.0,
+      num d fits.1,
+    ) refl
 reply_read (replies.Marked n) fits = rw (num n fits) refl
 reply_read (replies.Reclaimed n) fits = rw (num n fits) refl
 reply_read (replies.Refined n) fits = rw (num n fits) refl

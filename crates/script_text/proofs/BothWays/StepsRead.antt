@@ -1,5 +1,7 @@
 -- What is read of a line is spelled so.
-use Rattle.std.proofs.Common.{◌≡◌, ℕ, ◌<◌, Bool, true, false, cond, List, [], ◌∷◌, length, Option, Some, None, Result, Ok, Err, refl, sym, ap, subst, ◌∙◌, ◌⊎◌, inl, inr}
+use Rattle.std.proofs.Common.{◌≡◌, ◌<◌, ◌∷◌, ◌∙◌, ◌⊎◌}
+use Rattle.std.proofs.Common.{ℕ, Bool, true, false, cond, List, [], length, Option, Some, None}
+use Rattle.std.proofs.Common.{Result, Ok, Err, refl, sym, ap, subst, inl, inr}
 use Rattle.std.specs.Prelude.{nat_lt, codes}
 use Rattle.std.specs.Fmt.{decimal}
 use Rattle.std.specs.Str.{bytes_eq}
@@ -30,7 +32,8 @@ pub or_fault_is : {A : Type 0} (o : Option A) (k : Kind) (x : A) → or_fault o 
 or_fault_is None k x e = absurd cc
 or_fault_is (Some y) k x e = cc
 
-pub either : {A E : Type 0} (b : Bool) (x y : Result A E) (z : A) → cond b x y ≡ Ok z → ((b ≡ true) × (x ≡ Ok z)) ⊎ ((b ≡ false) × (y ≡ Ok z))
+pub either : {A E : Type 0} (b : Bool) (x y : Result A E) (z : A) → cond b x y ≡ Ok z
+    → ((b ≡ true) × (x ≡ Ok z)) ⊎ ((b ≡ false) × (y ≡ Ok z))
 either true x y z e = inl (refl, e)
 either false x y z e = inr (refl, e)
 
@@ -48,7 +51,8 @@ step_ok s t e = cc
 pub mutator_is : (c : Config) (word : List ℕ) (m : ℕ) → mutator_of c word ≡ Ok m → (word ≡ decimal m) × (m < c.mutators)
 unfolding mutator_of
 mutator_is c word m e =
-    let read = result_bind (or_fault (number_of small word) kinds.BadActor) (λ n. cond (nat_lt n c.mutators) (Ok n) (Err kinds.BadActor)) m e in
+    let read =
+    result_bind (or_fault (number_of small word) kinds.BadActor) (λ n. cond (nat_lt n c.mutators) (Ok n) (Err kinds.BadActor)) m e in
     let number = number_of_is small word read.0 (or_fault_is (number_of small word) kinds.BadActor read.0 read.1) in
     let known = guarded (nat_lt read.0 c.mutators) read.0 m kinds.BadActor read.2 in
     (number.0 ∙ ap decimal known.1, rw (← known.1) (ltb-true read.0 c.mutators known.0))
@@ -62,7 +66,8 @@ pub record IsRead (c : Config) (words : List (List ℕ)) (s : Step) : Type 0 whe
 join_words : (a b : List ℕ) (ws vs : List (List ℕ)) → a ≡ b → ws ≡ vs → a ∷ ws ≡ b ∷ vs
 join_words a b ws vs p q = cc
 
-collector_read : (c : Config) (actor : List ℕ) (rest : List (List ℕ)) (s : Step) → bytes_eq actor (codes "gc") ≡ true → (or_fault (collection_of rest) kinds.BadStep >>= λ k. Ok (steps.Collector k)) ≡ Ok s → IsRead c (actor ∷ rest) s
+collector_read : (c : Config) (actor : List ℕ) (rest : List (List ℕ)) (s : Step) → bytes_eq actor (codes "gc") ≡ true
+    → (or_fault (collection_of rest) kinds.BadStep >>= λ k. Ok (steps.Collector k)) ≡ Ok s → IsRead c (actor ∷ rest) s
 collector_read c actor rest s gc e =
     let read = result_bind (or_fault (collection_of rest) kinds.BadStep) (λ k. Ok (steps.Collector k)) s e in
     let step = collection_is rest read.0 (or_fault_is (collection_of rest) kinds.BadStep read.0 read.1) in
@@ -75,7 +80,9 @@ collector_read c actor rest s gc e =
 abbrev mutator_step : ℕ → Action → Step
 mutator_step m a = steps.Mutator (record { mutator = m; action = a })
 
-mutator_read : (c : Config) (actor : List ℕ) (rest : List (List ℕ)) (s : Step) → (mutator_of c actor >>= λ m. or_fault (allowed_of c rest) kinds.BadStep >>= λ a. Ok (mutator_step m a)) ≡ Ok s → IsRead c (actor ∷ rest) s
+mutator_read : (c : Config) (actor : List ℕ) (rest : List (List ℕ)) (s : Step)
+    → (mutator_of c actor >>= λ m. or_fault (allowed_of c rest) kinds.BadStep >>= λ a. Ok (mutator_step m a)) ≡ Ok s
+    → IsRead c (actor ∷ rest) s
 mutator_read c actor rest s e =
     let who = result_bind (mutator_of c actor) (λ m. or_fault (allowed_of c rest) kinds.BadStep >>= λ a. Ok (mutator_step m a)) s e in
     let what = result_bind (or_fault (allowed_of c rest) kinds.BadStep) (λ a. Ok (mutator_step who.0 a)) s who.2 in
@@ -91,7 +98,8 @@ step_is : (c : Config) (ws : List (List ℕ)) (s : Step) → step_of c ws ≡ Ok
 unfolding step_of
 step_is c [] s e = absurd cc
 step_is c (actor ∷ rest) s e =
-    elim (either (bytes_eq actor (codes "gc")) (or_fault (collection_of rest) kinds.BadStep >>= λ k. Ok (steps.Collector k)) (mutator_of c actor >>= λ m. or_fault (allowed_of c rest) kinds.BadStep >>= λ a. Ok (mutator_step m a)) s e) [
+    elim (either (bytes_eq actor (codes "gc")) (or_fault (collection_of rest) kinds.BadStep >>= λ k. Ok (steps.Collector k))
+    (mutator_of c actor >>= λ m. or_fault (allowed_of c rest) kinds.BadStep >>= λ a. Ok (mutator_step m a)) s e) [
       | inl h ↦ collector_read c actor rest s h.0 h.1
       | inr h ↦ mutator_read c actor rest s h.1
     ]
@@ -121,5 +129,7 @@ step_line_is c text s e = words_line c text s (too_long (nat_lt 120 (length text
 pub heap_line_is : (text : List ℕ) (c : Config) → heap_line_of text ≡ Ok c → (text ≡ spaced (heap_words c)) × ConfigFits c
 unfolding heap_line_of
 heap_line_is text c e =
-    let sizes = heap_is (words_of text) c (or_fault_is (sizes_of (words_of text)) kinds.BadHeap c (too_long (nat_lt 120 (length text)) kinds.LongLine (or_fault (sizes_of (words_of text)) kinds.BadHeap) c e)) in
+    let sizes = heap_is (words_of text) c
+    (or_fault_is (sizes_of (words_of text)) kinds.BadHeap c
+    (too_long (nat_lt 120 (length text)) kinds.LongLine (or_fault (sizes_of (words_of text)) kinds.BadHeap) c e)) in
     (joined text (heap_words c) sizes.spelled, sizes.fits)

@@ -1,5 +1,6 @@
 -- The words of a step, and that the step is read from them.
-use Rattle.std.proofs.Common.{◌≡◌, ℕ, ◌^◌, ◌+◌, ◌<◌, ◌≤◌, Bool, true, false, eqb, List, [], ◌∷◌, ◌++◌, length, get_or, Option, Some, Ok, refl, ap, ◌∙◌, arith}
+use Rattle.std.proofs.Common.{◌≡◌, ◌^◌, ◌+◌, ◌<◌, ◌≤◌, ◌∷◌, ◌++◌, ◌∙◌}
+use Rattle.std.proofs.Common.{ℕ, Bool, true, false, eqb, List, [], length, get_or, Option, Some, Ok, refl, ap, arith}
 use Rattle.std.specs.Prelude.{codes}
 use Rattle.std.specs.Fmt.{decimal}
 use Rattle.std.specs.Str.{bytes_eq}
@@ -25,7 +26,8 @@ use Rattle.script_text.specs.Lines.{or_fault, words_of, mutator_of, step_of, ste
 use Rattle.script_text.proofs.Parts.Numbers.{number_of_some, first_is_digit}
 use Rattle.script_text.proofs.BothWays.Allowed.{allowed_again}
 use Rattle.script_text.proofs.BothWays.Lengths.{spaced_next, spaced_behind, four_long, small_long, action_long}
-use Rattle.script_text.proofs.Parts.Spelled.{IsWord, AreWords, literal, number_word, small_word, register_is_word, global_is_word, value_is_word, word1, word2, word3, word4, word5, words_again, spaced_short, no_feed}
+use Rattle.script_text.proofs.Parts.Spelled.{IsWord, AreWords, literal, number_word, small_word, register_is_word, global_is_word}
+use Rattle.script_text.proofs.Parts.Spelled.{value_is_word, word1, word2, word3, word4, word5, words_again, spaced_short, no_feed}
 
 pub action_is_words : (a : Action) → Fits a → AreWords (action_words a)
 action_is_words (actions.New to counts) fits =
@@ -118,7 +120,8 @@ step_is_words : (c : Config) (s : Step) → c.mutators ≤ small → IsStep c s 
 step_is_words c (steps.Mutator o) few known fits =
     let who : o.mutator < c.mutators = known.at.mutator in
     All-cons IsWord (decimal o.mutator) (action_words o.action) (small_word o.mutator (omega arith)) (action_is_words o.action fits)
-step_is_words c (steps.Collector k) few known fits = All-cons IsWord (codes "gc") (collection_words k) (literal (codes "gc") refl refl) (collection_is_words k fits)
+step_is_words c (steps.Collector k) few known fits =
+    All-cons IsWord (codes "gc") (collection_words k) (literal (codes "gc") refl refl) (collection_is_words k fits)
 
 step_short : (c : Config) (s : Step) → c.mutators ≤ small → IsStep c s → StepFits s → length (spaced (step_words s)) ≤ 120
 step_short c (steps.Mutator o) few known fits =
@@ -133,22 +136,31 @@ step_short c (steps.Collector k) few known fits =
     omega arith
 
 step_words_again : (c : Config) (s : Step) → c.mutators ≤ small → IsStep c s → StepFits s → words_of (spaced (step_words s)) ≡ step_words s
-step_words_again c (steps.Mutator o) few known fits = words_again (decimal o.mutator) (action_words o.action) (step_is_words c (steps.Mutator o) few known fits)
-step_words_again c (steps.Collector k) few known fits = words_again (codes "gc") (collection_words k) (step_is_words c (steps.Collector k) few known fits)
+step_words_again c (steps.Mutator o) few known fits =
+    words_again (decimal o.mutator) (action_words o.action) (step_is_words c (steps.Mutator o) few known fits)
+step_words_again c (steps.Collector k) few known fits =
+    words_again (codes "gc") (collection_words k) (step_is_words c (steps.Collector k) few known fits)
 
 -- the line of a step is read as that step
 pub step_line_again : (c : Config) (s : Step) → c.mutators ≤ small → IsStep c s → StepFits s → step_line_of c (spaced (step_words s)) ≡ Ok s
 unfolding step_line_of
 step_line_again c s few known fits =
-    rw (le-ltb 120 (length (spaced (step_words s))) (step_short c s few known fits)) (ap (step_of c) (step_words_again c s few known fits) ∙ step_again c s few known fits)
+    rw (le-ltb 120 (length (spaced (step_words s))) (step_short c s few known fits))
+    (ap (step_of c) (step_words_again c s few known fits) ∙ step_again c s few known fits)
 
 -- no line feed stands in the line of a step
-pub step_no_feed : (c : Config) (s : Step) → c.mutators ≤ small → IsStep c s → StepFits s → All (λ b. eqb b 10 ≡ false) (spaced (step_words s))
-step_no_feed c (steps.Mutator o) few known fits = no_feed (decimal o.mutator) (action_words o.action) (step_is_words c (steps.Mutator o) few known fits)
-step_no_feed c (steps.Collector k) few known fits = no_feed (codes "gc") (collection_words k) (step_is_words c (steps.Collector k) few known fits)
+pub step_no_feed : (c : Config) (s : Step) → c.mutators ≤ small → IsStep c s → StepFits s
+    → All (λ b. eqb b 10 ≡ false) (spaced (step_words s))
+step_no_feed c (steps.Mutator o) few known fits =
+    no_feed (decimal o.mutator) (action_words o.action) (step_is_words c (steps.Mutator o) few known fits)
+step_no_feed c (steps.Collector k) few known fits =
+    no_feed (codes "gc") (collection_words k) (step_is_words c (steps.Collector k) few known fits)
 
 sizes_are_words : (c : Config) → ConfigFits c → AreWords (size_words c)
-sizes_are_words c fits = All-cons IsWord (decimal c.regions) (decimal c.words ∷ decimal c.buffer ∷ decimal c.mutators ∷ decimal c.first_name ∷ []) (small_word c.regions fits.regions) (word4 _ _ _ _ (small_word c.words fits.words) (small_word c.buffer fits.buffer) (small_word c.mutators fits.mutators) (number_word c.first_name fits.first_name))
+sizes_are_words c fits = All-cons IsWord (decimal c.regions)
+    (decimal c.words ∷ decimal c.buffer ∷ decimal c.mutators ∷ decimal c.first_name ∷ []) (small_word c.regions fits.regions)
+    (word4 _ _ _ _ (small_word c.words fits.words) (small_word c.buffer fits.buffer) (small_word c.mutators fits.mutators)
+    (number_word c.first_name fits.first_name))
 
 format_is_words : (f : Format) → FormatFits f → AreWords (format_words f)
 format_is_words V1 fits = All-nil IsWord
@@ -162,7 +174,8 @@ behind_verb c = size_words c ++ format_words c.format
 
 rest_is_words : (c : Config) → ConfigFits c → AreWords (behind_verb c)
 unfolding behind_verb
-rest_is_words c fits = All-append IsWord (size_words c) (format_words c.format) (sizes_are_words c fits) (format_is_words c.format fits.format)
+rest_is_words c fits =
+    All-append IsWord (size_words c) (format_words c.format) (sizes_are_words c fits) (format_is_words c.format fits.format)
 
 verb_is_word : (f : Format) → IsWord (verb_of f)
 verb_is_word V1 = literal (codes "heap") refl refl
@@ -203,14 +216,17 @@ heap_short c fits =
     let ending = ending_short c.format (decimal c.first_name) fits.format in
     omega (
       arith,
-      spaced_next (verb_of c.format) (decimal c.regions) (decimal c.words ∷ decimal c.buffer ∷ decimal c.mutators ∷ decimal c.first_name ∷ format_words c.format),
-      spaced_next (decimal c.regions) (decimal c.words) (decimal c.buffer ∷ decimal c.mutators ∷ decimal c.first_name ∷ format_words c.format),
+      spaced_next (verb_of c.format) (decimal c.regions)
+          (decimal c.words ∷ decimal c.buffer ∷ decimal c.mutators ∷ decimal c.first_name ∷ format_words c.format),
+      spaced_next (decimal c.regions) (decimal c.words)
+          (decimal c.buffer ∷ decimal c.mutators ∷ decimal c.first_name ∷ format_words c.format),
       spaced_next (decimal c.words) (decimal c.buffer) (decimal c.mutators ∷ decimal c.first_name ∷ format_words c.format),
       spaced_next (decimal c.buffer) (decimal c.mutators) (decimal c.first_name ∷ format_words c.format),
       spaced_next (decimal c.mutators) (decimal c.first_name) (format_words c.format),
     )
 
-sizes_again : (c : Config) → ConfigFits c → sizes_in c.format (decimal c.regions) (decimal c.words) (decimal c.buffer) (decimal c.mutators) (decimal c.first_name) ≡ Some c
+sizes_again : (c : Config) → ConfigFits c
+    → sizes_in c.format (decimal c.regions) (decimal c.words) (decimal c.buffer) (decimal c.mutators) (decimal c.first_name) ≡ Some c
 unfolding sizes_in
 sizes_again c fits =
     let r = number_of_some small (decimal c.regions) c.regions (let f = fits.regions in omega arith) refl fits.regions in
@@ -220,7 +236,8 @@ sizes_again c fits =
     let n = number_of_some large (decimal c.first_name) c.first_name (let f = fits.first_name in omega arith) refl fits.first_name in
     rw (r, w, b, m, n) refl
 
-lines_again : (f : Format) (c : Config) (n r b m g : List ℕ) → FormatFits f → sizes_in f n r b m g ≡ Some c → sizes_of (verb_of f ∷ n ∷ r ∷ b ∷ m ∷ g ∷ format_words f) ≡ Some c
+lines_again : (f : Format) (c : Config) (n r b m g : List ℕ) → FormatFits f → sizes_in f n r b m g ≡ Some c
+    → sizes_of (verb_of f ∷ n ∷ r ∷ b ∷ m ∷ g ∷ format_words f) ≡ Some c
 unfolding sizes_of third_of
 lines_again V1 c n r b m g fits again = again
 lines_again (V2 card) c n r b m g fits again =
@@ -243,4 +260,6 @@ pub heap_line_again : (c : Config) → ConfigFits c → heap_line_of (spaced (he
 unfolding heap_line_of behind_verb
 heap_line_again c fits =
     let words : words_of (spaced (heap_words c)) ≡ heap_words c = words_again (verb_of c.format) (behind_verb c) (heap_is_words c fits) in
-    rw (le-ltb 120 (length (spaced (heap_words c))) (heap_short c fits)) (ap (λ (ws : List (List ℕ)). or_fault (sizes_of ws) kinds.BadHeap) words ∙ ap (λ (o : Option Config). or_fault o kinds.BadHeap) (heap_again c fits))
+    rw (le-ltb 120 (length (spaced (heap_words c))) (heap_short c fits))
+    (ap (λ (ws : List (List ℕ)). or_fault (sizes_of ws) kinds.BadHeap) words
+    ∙ ap (λ (o : Option Config). or_fault o kinds.BadHeap) (heap_again c fits))

@@ -44,19 +44,22 @@ none_read : (c : Config) (text : List ℕ) → text ≡ [] → AreRead c text []
 none_read c text none = record { spelled = none; owned = All-nil (IsStep c); fits = All-nil StepFits }
 
 -- a line, its line feed and the lines behind it
-one_line : (text first rest : List ℕ) (s : Step) (ss : List Step) → text ≡ first ++ 10 ∷ rest → first ≡ spaced (step_words s) → rest ≡ lines ss → text ≡ lines (s ∷ ss)
+one_line : (text first rest : List ℕ) (s : Step) (ss : List Step) → text ≡ first ++ 10 ∷ rest → first ≡ spaced (step_words s)
+    → rest ≡ lines ss → text ≡ lines (s ∷ ss)
 one_line text first rest s ss cut spelled more =
     cut ∙ ap (λ (t : List ℕ). t ++ 10 ∷ rest) spelled ∙ ap (λ (t : List ℕ). spaced (step_words s) ++ 10 ∷ t) more
     ∙ sym (append_assoc (spaced (step_words s)) (10 ∷ []) (lines ss)) ∙ sym (flat_map-cons (λ t. line (step_words t)) s ss)
 
-one_read : (c : Config) (text first rest : List ℕ) (s : Step) (ss : List Step) → text ≡ first ++ 10 ∷ rest → IsLine c first s → AreRead c rest ss → AreRead c text (s ∷ ss)
+one_read : (c : Config) (text first rest : List ℕ) (s : Step) (ss : List Step) → text ≡ first ++ 10 ∷ rest → IsLine c first s
+    → AreRead c rest ss → AreRead c text (s ∷ ss)
 one_read c text first rest s ss cut head tail = record {
   spelled = one_line text first rest s ss cut head.spelled tail.spelled;
   owned = All-cons (IsStep c) s ss head.owned tail.owned;
   fits = All-cons StepFits s ss head.fits tail.fits;
 }
 
-steps_read : (ps : List (List ℕ)) (n : ℕ) (c : Config) (p : List ℕ) (ss : List Step) → steps_of n c (p ∷ ps) ≡ Ok ss → AreRead c (join_with_byte 10 (p ∷ ps)) ss
+steps_read : (ps : List (List ℕ)) (n : ℕ) (c : Config) (p : List ℕ) (ss : List Step) → steps_of n c (p ∷ ps) ≡ Ok ss
+    → AreRead c (join_with_byte 10 (p ∷ ps)) ss
 unfolding steps_of
 steps_read [] n c p ss e =
     let g = guarded (length p == 0) [] ss (fault n kinds.Cut) e in
@@ -66,7 +69,8 @@ steps_read (q ∷ ps) n c p ss e =
     let rest = result_bind (steps_of (n + 1) c (q ∷ ps)) (λ more. Ok (first.0 ∷ more)) ss first.2 in
     let head = step_line_is c p first.0 (at_ok n (step_line_of c p) first.0 first.1) in
     let tail = steps_read ps (n + 1) c q rest.0 rest.1 in
-    subst (AreRead c (join_with_byte 10 (p ∷ q ∷ ps))) (ok_list (first.0 ∷ rest.0) ss rest.2) (one_read c (join_with_byte 10 (p ∷ q ∷ ps)) p (join_with_byte 10 (q ∷ ps)) first.0 rest.0 refl head tail)
+    subst (AreRead c (join_with_byte 10 (p ∷ q ∷ ps))) (ok_list (first.0 ∷ rest.0) ss rest.2)
+    (one_read c (join_with_byte 10 (p ∷ q ∷ ps)) p (join_with_byte 10 (q ∷ ps)) first.0 rest.0 refl head tail)
 
 abbrev plan : Config → List Step → StepList
 plan c ss = record { config = c; steps = ss }
@@ -92,7 +96,8 @@ pieces_read (first ∷ next ∷ ps) p e =
     let heap = heap_line_is first head.0 (at_ok 1 (heap_line_of first) head.0 head.1) in
     let rest = steps_read ps 2 head.0 next tail.0 tail.1 in
     subst (IsText (join_with_byte 10 (first ∷ next ∷ ps))) (plan_ok (plan head.0 tail.0) p tail.2) (record {
-      spelled = ap (λ (t : List ℕ). t ++ 10 ∷ join_with_byte 10 (next ∷ ps)) heap.0 ∙ ap (λ (t : List ℕ). spaced (heap_words head.0) ++ 10 ∷ t) rest.spelled
+      spelled = ap (λ (t : List ℕ). t ++ 10 ∷ join_with_byte 10 (next ∷ ps)) heap.0
+          ∙ ap (λ (t : List ℕ). spaced (heap_words head.0) ++ 10 ∷ t) rest.spelled
           ∙ sym (append_assoc (spaced (heap_words head.0)) (10 ∷ []) (lines tail.0));
       good = record { config = heap.1; owned = rest.owned; fits = rest.fits };
     })
@@ -128,23 +133,28 @@ steps_again (s ∷ ss) n c good =
     let more = some_piece ss in
     let first = step_line_again c s good.few (All-head (IsStep c) s ss good.owned) (All-head StepFits s ss good.fits) in
     let rest : steps_of (n + 1) c (pieces ss) ≡ Ok ss = steps_again ss (n + 1) c (good_rest c s ss good) in
-    steps_more n c (spaced (step_words s)) (pieces ss) more.0 more.1 s more.2 first ∙ ap (λ (r : Result (List Step) LineFault). r >>= λ ts. Ok (s ∷ ts)) rest
+    steps_more n c (spaced (step_words s)) (pieces ss) more.0 more.1 s more.2 first
+    ∙ ap (λ (r : Result (List Step) LineFault). r >>= λ ts. Ok (s ∷ ts)) rest
 
 pieces_again : (ss : List Step) (c : Config) → AreGood c ss → pieces_of (lines ss) ≡ pieces ss
 unfolding pieces
 pieces_again [] c good = refl
 pieces_again (s ∷ ss) c good =
     let clear = step_no_feed c s good.few (All-head (IsStep c) s ss good.owned) (All-head StepFits s ss good.fits) in
-    let cut : lines (s ∷ ss) ≡ spaced (step_words s) ++ 10 ∷ lines ss = flat_map-cons (λ t. line (step_words t)) s ss ∙ append_assoc (spaced (step_words s)) (10 ∷ []) (lines ss) in
-    ap pieces_of cut ∙ slice_split_at (λ b. eqb b 10) (spaced (step_words s)) 10 (lines ss) clear refl ∙ ap (λ (ps : List (List ℕ)). spaced (step_words s) ∷ ps) (pieces_again ss c (good_rest c s ss good))
+    let cut : lines (s ∷ ss) ≡ spaced (step_words s) ++ 10 ∷ lines ss =
+    flat_map-cons (λ t. line (step_words t)) s ss ∙ append_assoc (spaced (step_words s)) (10 ∷ []) (lines ss) in
+    ap pieces_of cut ∙ slice_split_at (λ b. eqb b 10) (spaced (step_words s)) 10 (lines ss) clear refl
+    ∙ ap (λ (ps : List (List ℕ)). spaced (step_words s) ∷ ps) (pieces_again ss c (good_rest c s ss good))
 
 pub text_again : (p : StepList) → IsScript p → script_of (script_text p) ≡ Ok p
 text_again p script =
     let good : AreGood p.config p.steps = record { few = script.config.mutators; owned = script.owned; fits = script.fits } in
     let clear = heap_no_feed p.config script.config in
     let cut : pieces_of (script_text p) ≡ spaced (heap_words p.config) ∷ pieces p.steps =
-    ap pieces_of (append_assoc (spaced (heap_words p.config)) (10 ∷ []) (lines p.steps)) ∙ slice_split_at (λ b. eqb b 10) (spaced (heap_words p.config)) 10 (lines p.steps) clear refl
+    ap pieces_of (append_assoc (spaced (heap_words p.config)) (10 ∷ []) (lines p.steps))
+    ∙ slice_split_at (λ b. eqb b 10) (spaced (heap_words p.config)) 10 (lines p.steps) clear refl
     ∙ ap (λ (ps : List (List ℕ)). spaced (heap_words p.config) ∷ ps) (pieces_again p.steps p.config good) in
     let more = some_piece p.steps in
-    let begun_so = script_begins (spaced (heap_words p.config)) (pieces p.steps) more.0 more.1 p.config more.2 (heap_line_again p.config script.config) in
+    let begun_so =
+    script_begins (spaced (heap_words p.config)) (pieces p.steps) more.0 more.1 p.config more.2 (heap_line_again p.config script.config) in
     ap pieces_script cut ∙ sym begun_so ∙ ap (read_on (begun p.config)) (steps_again p.steps 2 p.config good)

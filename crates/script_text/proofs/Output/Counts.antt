@@ -1,5 +1,6 @@
 -- The digits of the counts of events.
-use Rattle.std.proofs.Common.{◌≡◌, ℕ, ◌+◌, ◌/◌, ◌%◌, ◌^◌, ◌<◌, ◌≤◌, List, [], ◌∷◌, ◌++◌, length, take, drop, sym, ap, ◌∙◌, append_assoc, arith, inl, inr}
+use Rattle.std.proofs.Common.{◌≡◌, ◌+◌, ◌/◌, ◌%◌, ◌^◌, ◌<◌, ◌≤◌, ◌∷◌, ◌++◌, ◌∙◌}
+use Rattle.std.proofs.Common.{ℕ, List, [], length, take, drop, sym, ap, append_assoc, arith, inl, inr}
 use Rattle.std.specs.Fmt.{decimal}
 use Rattle.std.proofs.Math.Seq.{take-append-add}
 use Rattle.std.proofs.lemmas.Bool.Decides.{leb_tells}
@@ -9,8 +10,8 @@ use Rattle.script_text.specs.declared.write.counts.Count.{Count}
 use Rattle.script_text.specs.Counts.{Spells}
 
 -- a beginning of what stands behind the first bytes
-begun : (old middle front : List ℕ) (at width : ℕ) → at ≤ length old → width ≤ length front → take (at + length front) middle ≡ take at old ++ front
-    → take (at + width) middle ≡ take at old ++ take width front
+begun : (old middle front : List ℕ) (at width : ℕ) → at ≤ length old → width ≤ length front
+    → take (at + length front) middle ≡ take at old ++ front → take (at + width) middle ≡ take at old ++ take width front
 begun old middle front at width within short e =
     let first : length (take at old) ≡ at = length-take-le at old within in
     let long : length (take at old ++ front) ≡ length (take at old) + length front = length-append (take at old) front in
@@ -24,7 +25,8 @@ begun old middle front at width within short e =
 -- the digits before the last, and that
 both_digits : (c : Count) (n : ℕ) → n < 2 ^ 64 → Spells c n → take c.width c.front ++ c.last ∷ [] ≡ decimal n
 both_digits c n small s = elim (leb_tells 10 n) [
-  | inl many ↦ ap (λ (t : List ℕ). t ++ c.last ∷ []) (s.3 many.1) ∙ ap (λ (d : ℕ). decimal (n / 10) ++ d ∷ []) s.0 ∙ sym (decimal_step n many.1 small)
+  | inl many ↦ ap (λ (t : List ℕ). t ++ c.last ∷ []) (s.3 many.1)
+      ∙ ap (λ (d : ℕ). decimal (n / 10) ++ d ∷ []) s.0 ∙ sym (decimal_step n many.1 small)
   | inr few ↦
       let one : n < 10 = few.1 in
       let same : 48 + n % 10 ≡ 48 + n = omega arith in
@@ -33,7 +35,8 @@ both_digits c n small s = elim (leb_tells 10 n) [
 
 -- what is put of them
 pub count_put : (c : Count) (old middle new : List ℕ) (at n : ℕ) → at ≤ length old → length c.front ≡ 20 → n < 2 ^ 64 → Spells c n
-    → take (at + length c.front) middle ≡ take at old ++ c.front → new ≡ take (at + c.width) middle ++ c.last ∷ [] → new ≡ take at old ++ decimal n
+    → take (at + length c.front) middle ≡ take at old ++ c.front
+    → new ≡ take (at + c.width) middle ++ c.last ∷ [] → new ≡ take at old ++ decimal n
 count_put c old middle new at n within room small s e last =
     let short : c.width ≤ length c.front = omega (arith, s.1) in
     last
@@ -42,8 +45,8 @@ count_put c old middle new at n within room small s e last =
     ∙ ap (λ (t : List ℕ). take at old ++ t) (both_digits c n small s)
 
 -- a count, a space, what stands behind it, and a line feed
-pub line_put : (old counted parted told new count text : List ℕ) → counted ≡ old ++ count → parted ≡ counted ++ 32 ∷ [] → told ≡ parted ++ text
-    → new ≡ told ++ 10 ∷ [] → new ≡ old ++ ((count ++ 32 ∷ text) ++ 10 ∷ [])
+pub line_put : (old counted parted told new count text : List ℕ) → counted ≡ old ++ count
+    → parted ≡ counted ++ 32 ∷ [] → told ≡ parted ++ text → new ≡ told ++ 10 ∷ [] → new ≡ old ++ ((count ++ 32 ∷ text) ++ 10 ∷ [])
 line_put old counted parted told new count text e f g h =
     h
     ∙ ap (λ (t : List ℕ). t ++ 10 ∷ []) (g

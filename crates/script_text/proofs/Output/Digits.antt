@@ -1,5 +1,6 @@
 -- How many digits a number has, and where they are put.
-use Rattle.std.proofs.Common.{◌≡◌, ℕ, zero, suc, ◌+◌, ◌*◌, ◌/◌, ◌%◌, ◌^◌, ◌<◌, ◌≤◌, List, [], ◌∷◌, ◌++◌, length, take, drop, sym, ap, ◌∙◌, append_assoc, arith}
+use Rattle.std.proofs.Common.{◌≡◌, ◌+◌, ◌*◌, ◌/◌, ◌%◌, ◌^◌, ◌<◌, ◌≤◌, ◌∷◌, ◌++◌, ◌∙◌}
+use Rattle.std.proofs.Common.{ℕ, zero, suc, List, [], length, take, drop, sym, ap, append_assoc, arith}
 use Rattle.std.specs.Fmt.{decimal}
 use Rattle.std.proofs.Math.Nat.{pow-succ'}
 use Rattle.std.proofs.Math.Seq.{take-append_seam}
@@ -18,7 +19,8 @@ more_digits (suc k) n le small =
     let some : 0 < 10 ^ k = ten_power k in
     let many : 10 ≤ n = omega arith in
     let rest : k < length (decimal (n / 10)) = more_digits k (n / 10) (omega arith) (omega arith) in
-    let all : length (decimal n) ≡ length (decimal (n / 10)) + 1 = ap length (decimal_step n many small) ∙ length-append (decimal (n / 10)) ((48 + n % 10) ∷ []) in
+    let all : length (decimal n) ≡ length (decimal (n / 10)) + 1 =
+    ap length (decimal_step n many small) ∙ length-append (decimal (n / 10)) ((48 + n % 10) ∷ []) in
     omega arith
 
 -- between two powers of ten
@@ -29,13 +31,17 @@ digits_are k n low high small =
     omega arith
 
 -- what is written behind the first bytes, and nothing before them
-pub put_behind : (old new text : List ℕ) (at start end : ℕ) → at ≤ length old → start + length text ≡ end → end ≡ at + length text → drop start new ≡ text ++ drop end old → take start new ≡ take start old → take end new ≡ take at old ++ text
+pub put_behind : (old new text : List ℕ) (at start end : ℕ) → at ≤ length old → start + length text ≡ end → end ≡ at + length text
+    → drop start new ≡ text ++ drop end old → take start new ≡ take start old → take end new ≡ take at old ++ text
 put_behind old new text at start end within ends same written before =
     let here : start ≡ at = omega arith in
-    let long : length (take at old ++ text) ≡ end = length-append (take at old) text ∙ (let first = length-take-le at old within in omega arith) in
+    let long : length (take at old ++ text) ≡ end =
+    length-append (take at old) text ∙ (let first = length-take-le at old within in omega arith) in
     let whole : new ≡ (take at old ++ text) ++ drop end old =
-    sym (take-append-drop start new) ∙ ap (λ (t : List ℕ). t ++ drop start new) before ∙ ap (λ (t : List ℕ). take start old ++ t) written ∙ ap (λ (k : ℕ). take k old ++ (text ++ drop end old)) here ∙ sym (append_assoc (take at old) text (drop end old)) in
-    ap (λ (t : List ℕ). take end t) whole ∙ ap (λ (k : ℕ). take k ((take at old ++ text) ++ drop end old)) (sym long) ∙ take-append_seam (take at old ++ text) (drop end old)
+    sym (take-append-drop start new) ∙ ap (λ (t : List ℕ). t ++ drop start new) before ∙ ap (λ (t : List ℕ). take start old ++ t) written
+    ∙ ap (λ (k : ℕ). take k old ++ (text ++ drop end old)) here ∙ sym (append_assoc (take at old) text (drop end old)) in
+    ap (λ (t : List ℕ). take end t) whole ∙ ap (λ (k : ℕ). take k ((take at old ++ text) ++ drop end old)) (sym long)
+    ∙ take-append_seam (take at old ++ text) (drop end old)
 
 -- one text behind another
 pub behind_both : (old middle new first second : List ℕ) → middle ≡ old ++ first → new ≡ middle ++ second → new ≡ old ++ (first ++ second)

@@ -27,13 +27,18 @@ one_more r seen i none same lt =
     let more : take (i + 1) r.events ≡ take i r.events ++ e ∷ [] =
     take_more r.events i none below ∙ ap (λ (es : List Event). take i r.events ++ get_or es i none ∷ []) (sym same) in
     let count : 1 + length (take i r.events) ≡ i + 1 = omega (arith, length-take-le i r.events) in
-    let last : event_lines (1 + length (take i r.events)) (e ∷ []) ≡ event_line (i + 1) e = ap (λ (k : ℕ). event_line k e ++ []) count ∙ append-nil (event_line (i + 1) e) in
-    let lines : event_lines 1 (take (i + 1) r.events) ≡ event_lines 1 (take i r.events) ++ event_line (i + 1) e = ap (event_lines 1) more ∙ event_lines-append 1 (take i r.events) (e ∷ []) ∙ ap (λ (t : List ℕ). event_lines 1 (take i r.events) ++ t) last in
-    ap (λ (t : List ℕ). line (heap_words r.config) ++ t) lines ∙ sym (append_assoc (line (heap_words r.config)) (event_lines 1 (take i r.events)) (event_line (i + 1) e))
+    let last : event_lines (1 + length (take i r.events)) (e ∷ []) ≡ event_line (i + 1) e =
+    ap (λ (k : ℕ). event_line k e ++ []) count ∙ append-nil (event_line (i + 1) e) in
+    let lines : event_lines 1 (take (i + 1) r.events) ≡ event_lines 1 (take i r.events) ++ event_line (i + 1) e =
+    ap (event_lines 1) more ∙ event_lines-append 1 (take i r.events) (e ∷ [])
+    ∙ ap (λ (t : List ℕ). event_lines 1 (take i r.events) ++ t) last in
+    ap (λ (t : List ℕ). line (heap_words r.config) ++ t) lines
+    ∙ sym (append_assoc (line (heap_words r.config)) (event_lines 1 (take i r.events)) (event_line (i + 1) e))
 
 -- what is left behind the first events' lines
 pub rest_of_text : (r : EventList) (i : ℕ) → record_text r ≡ text_so_far r i ++ event_lines (1 + length (take i r.events)) (drop i r.events)
 rest_of_text r i =
     ap (λ (es : List Event). line (heap_words r.config) ++ event_lines 1 es) (sym (take-append-drop i r.events))
     ∙ ap (λ (t : List ℕ). line (heap_words r.config) ++ t) (event_lines-append 1 (take i r.events) (drop i r.events))
-    ∙ sym (append_assoc (line (heap_words r.config)) (event_lines 1 (take i r.events)) (event_lines (1 + length (take i r.events)) (drop i r.events)))
+    ∙ sym (append_assoc (line (heap_words r.config)) (event_lines 1 (take i r.events))
+    (event_lines (1 + length (take i r.events)) (drop i r.events)))

@@ -11,7 +11,8 @@ use Rattle.script_text.proofs.Reading.ReadOn.{pieces_some}
 abbrev pub IsClear : List ℕ → Type 0
 IsClear line = All (λ b. eqb b 10 ≡ false) line
 
-clear_more : (b : ℕ) (d : Bool) (text line : List ℕ) (ps : List (List ℕ)) (x : List ℕ) (xs : List (List ℕ)) → eqb b 10 ≡ d → pieces_of text ≡ x ∷ xs → IsClear x → pieces_of (b ∷ text) ≡ line ∷ ps → IsClear line
+clear_more : (b : ℕ) (d : Bool) (text line : List ℕ) (ps : List (List ℕ)) (x : List ℕ) (xs : List (List ℕ)) → eqb b 10 ≡ d
+    → pieces_of text ≡ x ∷ xs → IsClear x → pieces_of (b ∷ text) ≡ line ∷ ps → IsClear line
 clear_more b true text line ps x xs feed some clear e =
     let first : [] ∷ pieces_of text ≡ line ∷ ps = sym (slice_split-cons_yes (λ d. eqb d 10) b text feed) ∙ e in
     let none : line ≡ [] = cc in
@@ -35,7 +36,8 @@ pub begins_is : (text line rest : List ℕ) → pieces_of text ≡ line ∷ piec
 begins_is text line rest e =
     let some = pieces_some rest in
     let back : join_with_byte 10 (some.0 ∷ some.1) ≡ rest = ap (join_with_byte 10) (sym some.2) ∙ join_with_byte-slice_split 10 rest in
-    sym (join_with_byte-slice_split 10 text) ∙ ap (join_with_byte 10) (e ∙ ap (λ (ps : List (List ℕ)). line ∷ ps) some.2) ∙ ap (λ (t : List ℕ). line ++ 10 ∷ t) back
+    sym (join_with_byte-slice_split 10 text) ∙ ap (join_with_byte 10) (e ∙ ap (λ (ps : List (List ℕ)). line ∷ ps) some.2)
+    ∙ ap (λ (t : List ℕ). line ++ 10 ∷ t) back
 
 -- whatever stands behind a whole line, it is the first
 pub pieces_at : (line t : List ℕ) → IsClear line → pieces_of (line ++ 10 ∷ t) ≡ line ∷ pieces_of t
@@ -61,8 +63,10 @@ some_line [] = ([], [], refl)
 some_line (b ∷ m) = line_more b (eqb b 10) m refl (some_line m)
 
 -- a beginning of a line ends as a line that is no shorter
-pub ends_longer : (part more : List ℕ) → IsClear part → (line : List ℕ) × (rest : List ℕ) × (pieces_of (part ++ more ++ 10 ∷ []) ≡ line ∷ pieces_of rest) × (length part ≤ length line)
+pub ends_longer : (part more : List ℕ) → IsClear part
+    → (line : List ℕ) × (rest : List ℕ) × (pieces_of (part ++ more ++ 10 ∷ []) ≡ line ∷ pieces_of rest) × (length part ≤ length line)
 ends_longer part more clear =
     let some = some_line more in
-    let joined : pieces_of (part ++ more ++ 10 ∷ []) ≡ (part ++ some.0) ∷ pieces_of some.1 = ap pieces_of (append_assoc part more (10 ∷ [])) ∙ with_part part (more ++ 10 ∷ []) some.0 (pieces_of some.1) clear some.2 in
+    let joined : pieces_of (part ++ more ++ 10 ∷ []) ≡ (part ++ some.0) ∷ pieces_of some.1 =
+    ap pieces_of (append_assoc part more (10 ∷ [])) ∙ with_part part (more ++ 10 ∷ []) some.0 (pieces_of some.1) clear some.2 in
     (part ++ some.0, some.1, joined, omega (arith, length-append part some.0))

@@ -1,5 +1,7 @@
 -- Numbers and their words.
-use Rattle.std.proofs.Common.{◌≡◌, ℕ, zero, suc, ◌+◌, ◌-◌, ◌*◌, ◌^◌, ◌<◌, ◌≤◌, Bool, true, false, cond, eqb, List, [], ◌∷◌, length, get_or, drop, Option, Some, None, refl, sym, ap, ◌∙◌, arith}
+use Rattle.std.proofs.Common.{◌≡◌, ◌+◌, ◌-◌, ◌*◌, ◌^◌, ◌<◌, ◌≤◌, ◌∷◌, ◌∙◌}
+use Rattle.std.proofs.Common.{ℕ, zero, suc, Bool, true, false, cond, eqb, List, [], length, get_or}
+use Rattle.std.proofs.Common.{drop, Option, Some, None, refl, sym, ap, arith}
 use Rattle.std.specs.Prelude.{◌&&◌, nat_le, IfSome, IfNone}
 use Rattle.std.proofs.lemmas.Bool.{eqb-true, le-leb, leb-true}
 use Rattle.std.specs.Fmt.{decimal}
@@ -37,7 +39,8 @@ own : IsNumeralModel (AllDigits 10) (digits_value 10)
 own = numerals_by_value (AllDigits 10) tells_digits
 
 -- one more digit of a word
-pub after_more : (n : ℕ) (word : List ℕ) (at : ℕ) → at < length word → digits_value_after 10 n (drop at word) ≡ digits_value_after 10 (n * 10 + digit_value (get_or word at 0)) (drop (at + 1) word)
+pub after_more : (n : ℕ) (word : List ℕ) (at : ℕ) → at < length word
+    → digits_value_after 10 n (drop at word) ≡ digits_value_after 10 (n * 10 + digit_value (get_or word at 0)) (drop (at + 1) word)
 after_more n word at lt = let next : at + 1 ≡ suc at = omega arith in rw (next, drop-cons word at 0) refl
 
 pub digit_is : (b : ℕ) → 48 ≤ b → b ≤ 57 → digit_value b ≡ b - 48
@@ -46,25 +49,30 @@ digit_is b low high = let e : digit_value b + 48 ≡ b = digit_value_digit b (om
 -- more digits make no number smaller
 pub after_at_least : (n : ℕ) (ds : List ℕ) → n ≤ digits_value_after 10 n ds
 after_at_least n [] = omega arith
-after_at_least n (c ∷ ds) = let rest : n * 10 + digit_value c ≤ digits_value_after 10 (n * 10 + digit_value c) ds = after_at_least (n * 10 + digit_value c) ds in omega arith
+after_at_least n (c ∷ ds) =
+    let rest : n * 10 + digit_value c ≤ digits_value_after 10 (n * 10 + digit_value c) ds = after_at_least (n * 10 + digit_value c) ds in
+    omega arith
 
 pub value_of_decimal : (word : List ℕ) (n : ℕ) → n < 2 ^ 64 → word ≡ decimal n → digits_value 10 word ≡ n
 value_of_decimal word n small e = rw e (decimal_is_IsNumeral n small).1
 
-pub digit_of_decimal : (word : List ℕ) (n at : ℕ) → n < 2 ^ 64 → word ≡ decimal n → at < length word → (48 ≤ get_or word at 0) × (get_or word at 0 ≤ 57)
+pub digit_of_decimal : (word : List ℕ) (n at : ℕ) → n < 2 ^ 64 → word ≡ decimal n → at < length word
+    → (48 ≤ get_or word at 0) × (get_or word at 0 ≤ 57)
 digit_of_decimal word n at small e lt =
     let is = digit_at word at (rw e (decimal_is_IsNumeral n small).0.1) lt in
     (omega arith, omega arith)
 
 -- no digit is left
-pub all_read : (n : ℕ) (word : List ℕ) (at : ℕ) → at ≤ length word → length word ≤ at → digits_value_after 10 n (drop at word) ≡ digits_value 10 word → n ≡ digits_value 10 word
+pub all_read : (n : ℕ) (word : List ℕ) (at : ℕ) → at ≤ length word → length word ≤ at
+    → digits_value_after 10 n (drop at word) ≡ digits_value 10 word → n ≡ digits_value 10 word
 all_read n word at within past e = rw (drop_all at word past) at e
 
 pub none_left : (word : List ℕ) (at : ℕ) → length word ≤ at → AllDigits 10 (drop at word)
 none_left word at past = rw (drop_all at word past) tt
 
 -- a word of digits with no zero in front is the spelling of its value
-pub spells : (word : List ℕ) (value : ℕ) → AllDigits 10 word → digits_value 10 word ≡ value → value < 2 ^ 64 → 0 < length word → (get_or word 0 0 ≡ 48 → length word ≡ 1) → word ≡ decimal value
+pub spells : (word : List ℕ) (value : ℕ) → AllDigits 10 word → digits_value 10 word ≡ value → value < 2 ^ 64 → 0 < length word
+    → (get_or word 0 0 ≡ 48 → length word ≡ 1) → word ≡ decimal value
 spells word value digits is small some lone = sym (decimal-digits_value own word digits some lone (rw is small)) ∙ ap decimal is
 
 -- number_of, by the spelling of numbers
@@ -88,19 +96,25 @@ number_is false c v n e = absurd cc
 pub number_of_is : (limit : ℕ) (word : List ℕ) (n : ℕ) → number_of limit word ≡ Some n → (word ≡ decimal n) × (n ≤ limit)
 unfolding number_of
 number_of_is limit word n e =
-    let parts = number_is (bytes_eq word (decimal (digits_value 10 word))) (nat_le (digits_value 10 word) limit) (digits_value 10 word) n e in
-    ((bytes_eq-Decides word (decimal (digits_value 10 word))).0 parts.0 ∙ ap decimal parts.2, rw (← parts.2) (leb-true (digits_value 10 word) limit parts.1))
+    let parts =
+    number_is (bytes_eq word (decimal (digits_value 10 word))) (nat_le (digits_value 10 word) limit) (digits_value 10 word) n e in (
+      (bytes_eq-Decides word (decimal (digits_value 10 word))).0 parts.0 ∙ ap decimal parts.2,
+      rw (← parts.2) (leb-true (digits_value 10 word) limit parts.1),
+    )
 
 none_by : (o : Option ℕ) → ((n : ℕ) → o ≡ Some n → ⊥) → o ≡ None
 none_by None never = refl
 none_by (Some n) never = absurd (never n refl)
 
 -- what is a number exactly where a word spells one
-pub number_of_exact : (limit : ℕ) (word : List ℕ) (r : Option ℕ) → limit < 2 ^ 64 → IfSome r (λ n. (word ≡ decimal n) × (n ≤ limit)) → IfNone r ((n : ℕ) → n ≤ limit → word ≡ decimal n → ⊥) → r ≡ number_of limit word
+pub number_of_exact : (limit : ℕ) (word : List ℕ) (r : Option ℕ) → limit < 2 ^ 64 → IfSome r (λ n. (word ≡ decimal n) × (n ≤ limit))
+    → IfNone r ((n : ℕ) → n ≤ limit → word ≡ decimal n → ⊥) → r ≡ number_of limit word
 number_of_exact limit word (Some n) small some none = sym (number_of_some limit word n (omega (arith, some.1)) some.0 some.1)
-number_of_exact limit word None small some none = sym (none_by (number_of limit word) (λ n e. let is = number_of_is limit word n e in none n is.1 is.0))
+number_of_exact limit word None small some none =
+    sym (none_by (number_of limit word) (λ n e. let is = number_of_is limit word n e in none n is.1 is.0))
 
-pub number_of_fits : (limit : ℕ) (word : List ℕ) (r : Option ℕ) → IfSome r (λ n. (word ≡ decimal n) × (n ≤ limit)) → IfSome r (λ n. n ≤ limit)
+pub number_of_fits : (limit : ℕ) (word : List ℕ) (r : Option ℕ)
+    → IfSome r (λ n. (word ≡ decimal n) × (n ≤ limit)) → IfSome r (λ n. n ≤ limit)
 number_of_fits limit word (Some n) some = some.1
 number_of_fits limit word None some = tt
 

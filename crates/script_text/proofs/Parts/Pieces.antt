@@ -10,5 +10,6 @@ behind k text = take (length text - k) (drop k text)
 pub behind_is : (k : ℕ) (text : List ℕ) → behind k text ≡ drop k text
 behind_is k text = take_all (length text - k) (drop k text) (omega (arith, length-drop k text))
 
-pub pieces_behind : (text : List ℕ) (k : ℕ) → pieces_of text ≡ take k text ∷ pieces_of (drop (k + 1) text) → pieces_of text ≡ take k text ∷ pieces_of (behind (k + 1) text)
+pub pieces_behind : (text : List ℕ) (k : ℕ) → pieces_of text ≡ take k text ∷ pieces_of (drop (k + 1) text)
+    → pieces_of text ≡ take k text ∷ pieces_of (behind (k + 1) text)
 pieces_behind text k e = e ∙ ap (λ (t : List ℕ). take k text ∷ pieces_of t) (sym (behind_is (k + 1) text))

@@ -1,5 +1,6 @@
 -- The words of a line: no space or line feed stands in them, and they are short.
-use Rattle.std.proofs.Common.{◌≡◌, ℕ, ◌+◌, ◌*◌, ◌^◌, ◌<◌, ◌≤◌, Bool, true, false, eqb, List, [], ◌∷◌, length, Option, Some, None, refl, ap, ◌∙◌, arith}
+use Rattle.std.proofs.Common.{◌≡◌, ◌+◌, ◌*◌, ◌^◌, ◌<◌, ◌≤◌, ◌∷◌, ◌∙◌}
+use Rattle.std.proofs.Common.{ℕ, Bool, true, false, eqb, List, [], length, Option, Some, None, refl, ap, arith}
 use Rattle.std.specs.Prelude.{◌&&◌, nat_lt, nat_le, codes}
 use Rattle.std.specs.List.{All}
 use Rattle.std.specs.Fmt.{decimal}
@@ -35,7 +36,9 @@ both_true false d e = absurd cc
 
 clear_by : (w : List ℕ) → is_clear w ≡ true → All (λ b. 32 < b) w
 clear_by [] e = All-nil (λ b. 32 < b)
-clear_by (b ∷ w) e = let parts = both_true (nat_lt 32 b) (is_clear w) e in All-cons (λ b. 32 < b) b w (ltb-true 32 b parts.0) (clear_by w parts.1)
+clear_by (b ∷ w) e =
+    let parts = both_true (nat_lt 32 b) (is_clear w) e in
+    All-cons (λ b. 32 < b) b w (ltb-true 32 b parts.0) (clear_by w parts.1)
 
 -- a verb
 pub literal : (w : List ℕ) → is_clear w ≡ true → nat_le (length w) 21 ≡ true → IsWord w

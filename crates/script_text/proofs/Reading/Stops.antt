@@ -1,5 +1,6 @@
 -- Where reading stops for want of memory no line has a fault yet.
-use Rattle.std.proofs.Common.{◌≡◌, ℕ, ◌+◌, ◌≤◌, Bool, true, false, cond, List, [], ◌∷◌, length, Option, Some, None, Result, Ok, Err, refl, sym, ap, ◌∙◌, arith}
+use Rattle.std.proofs.Common.{◌≡◌, ◌+◌, ◌≤◌, ◌∷◌, ◌∙◌}
+use Rattle.std.proofs.Common.{ℕ, Bool, true, false, cond, List, [], length, Option, Some, None, Result, Ok, Err, refl, sym, ap, arith}
 use Rattle.std.specs.Prelude.{◌==◌, nat_lt, codes}
 use Rattle.std.specs.Str.{bytes_eq}
 use Rattle.heap_words.specs.declared.config.Config.{Config}
@@ -10,7 +11,8 @@ use Rattle.script_text.specs.declared.fault.Kind.{Kind}
 use Rattle.script_text.specs.declared.fault.Kind.TheVariants as kinds
 use Rattle.script_text.specs.declared.fault.LineFault.{LineFault}
 use Rattle.script_text.specs.Reading.{number_of, small, allowed_of, collection_of, sizes_of}
-use Rattle.script_text.specs.Lines.{◌>>=◌, or_fault, at, words_of, pieces_of, mutator_of, step_of, heap_line_of, step_line_of, steps_of, script_of, FailsBy, StopsAt}
+use Rattle.script_text.specs.Lines.{◌>>=◌, or_fault, at, words_of, pieces_of, mutator_of, step_of, heap_line_of}
+use Rattle.script_text.specs.Lines.{step_line_of, steps_of, script_of, FailsBy, StopsAt}
 use Rattle.script_text.proofs.Reading.ReadOn.{fault, with_step, read_on, pieces_some, goes_on}
 
 -- a line's own fault is never want of memory
@@ -38,7 +40,8 @@ never_err k other e = other (cc)
 pub mutator_never : (c : Config) (word : List ℕ) → Never (mutator_of c word)
 unfolding mutator_of
 mutator_never c word =
-    never_bind (or_fault (number_of small word) kinds.BadActor) (λ m. cond (nat_lt m c.mutators) (Ok m) (Err kinds.BadActor)) (never_or (number_of small word) kinds.BadActor (λ e. cc))
+    never_bind (or_fault (number_of small word) kinds.BadActor) (λ m. cond (nat_lt m c.mutators) (Ok m) (Err kinds.BadActor))
+    (never_or (number_of small word) kinds.BadActor (λ e. cc))
     (λ m. never_cond (nat_lt m c.mutators) (Ok m) (Err kinds.BadActor) (never_ok m) (never_err kinds.BadActor (λ e. cc)))
 
 step_never : (c : Config) (ws : List (List ℕ)) → Never (step_of c ws)
@@ -46,21 +49,28 @@ unfolding step_of
 step_never c [] = never_err kinds.BadActor (λ e. cc)
 step_never c (actor ∷ rest) =
     never_cond (bytes_eq actor (codes "gc")) _ _
-    (never_bind (or_fault (collection_of rest) kinds.BadStep) (λ k. Ok (steps.Collector k)) (never_or (collection_of rest) kinds.BadStep (λ e. cc)) (λ k. never_ok (steps.Collector k)))
-    (never_bind (mutator_of c actor) (λ m. or_fault (allowed_of c rest) kinds.BadStep >>= λ a. Ok (steps.Mutator (record { mutator = m; action = a }))) (mutator_never c actor)
-    (λ m. never_bind (or_fault (allowed_of c rest) kinds.BadStep) (λ a. Ok (steps.Mutator (record { mutator = m; action = a }))) (never_or (allowed_of c rest) kinds.BadStep (λ e. cc)) (λ a. never_ok (steps.Mutator (record { mutator = m; action = a })))))
+    (never_bind (or_fault (collection_of rest) kinds.BadStep) (λ k. Ok (steps.Collector k))
+    (never_or (collection_of rest) kinds.BadStep (λ e. cc)) (λ k. never_ok (steps.Collector k)))
+    (never_bind (mutator_of c actor)
+    (λ m. or_fault (allowed_of c rest) kinds.BadStep >>= λ a. Ok (steps.Mutator (record { mutator = m; action = a })))
+    (mutator_never c actor)
+    (λ m. never_bind (or_fault (allowed_of c rest) kinds.BadStep) (λ a. Ok (steps.Mutator (record { mutator = m; action = a })))
+    (never_or (allowed_of c rest) kinds.BadStep (λ e. cc)) (λ a. never_ok (steps.Mutator (record { mutator = m; action = a })))))
 
 pub step_line_never : (c : Config) (line : List ℕ) (k : Kind) → step_line_of c line ≡ Err k → k ≡ kinds.NoMemory → ⊥
 unfolding step_line_of
-step_line_never c line k e memory = never_cond (nat_lt 120 (length line)) (Err kinds.LongLine) (step_of c (words_of line)) (never_err kinds.LongLine (λ d. cc)) (step_never c (words_of line)) (e ∙ ap (λ (x : Kind). Err x) memory)
+step_line_never c line k e memory = never_cond (nat_lt 120 (length line)) (Err kinds.LongLine) (step_of c (words_of line))
+    (never_err kinds.LongLine (λ d. cc)) (step_never c (words_of line)) (e ∙ ap (λ (x : Kind). Err x) memory)
 
 pub heap_line_never : (line : List ℕ) (k : Kind) → heap_line_of line ≡ Err k → k ≡ kinds.NoMemory → ⊥
 unfolding heap_line_of
 heap_line_never line k e memory =
-    never_cond (nat_lt 120 (length line)) (Err kinds.LongLine) (or_fault (sizes_of (words_of line)) kinds.BadHeap) (never_err kinds.LongLine (λ d. cc)) (never_or (sizes_of (words_of line)) kinds.BadHeap (λ d. cc)) (e ∙ ap (λ (x : Kind). Err x) memory)
+    never_cond (nat_lt 120 (length line)) (Err kinds.LongLine) (or_fault (sizes_of (words_of line)) kinds.BadHeap)
+    (never_err kinds.LongLine (λ d. cc)) (never_or (sizes_of (words_of line)) kinds.BadHeap (λ d. cc)) (e ∙ ap (λ (x : Kind). Err x) memory)
 
 -- a line's own fault is the text's
-pub fault_is : {Y : Type 0} (k : Kind) (n : ℕ) (text : List ℕ) (total : Result Y LineFault) → (k ≡ kinds.NoMemory → ⊥) → total ≡ Err (fault n k) → FailsBy k (fault n k) text total
+pub fault_is : {Y : Type 0} (k : Kind) (n : ℕ) (text : List ℕ) (total : Result Y LineFault) → (k ≡ kinds.NoMemory → ⊥)
+    → total ≡ Err (fault n k) → FailsBy k (fault n k) text total
 fault_is kinds.NoMemory n text total other e = absurd (other refl)
 fault_is kinds.Cut n text total other e = e
 fault_is kinds.LongLine n text total other e = e
@@ -81,7 +91,8 @@ cut_later : (b : Bool) (n : ℕ) (f : LineFault) → cond b (Ok []) (Err (fault 
 cut_later true n f e = absurd cc
 cut_later false n f e = let same : fault n kinds.Cut ≡ f = cc in at_line n (fault n kinds.Cut) f same (omega arith)
 
-line_later : (r : Result Step Kind) (more : Result (List Step) LineFault) (n : ℕ) (f : LineFault) → ((g : LineFault) → more ≡ Err g → n + 1 ≤ g.line) → (at n r >>= λ s. more >>= λ ss. Ok (s ∷ ss)) ≡ Err f → n ≤ f.line
+line_later : (r : Result Step Kind) (more : Result (List Step) LineFault) (n : ℕ) (f : LineFault)
+    → ((g : LineFault) → more ≡ Err g → n + 1 ≤ g.line) → (at n r >>= λ s. more >>= λ ss. Ok (s ∷ ss)) ≡ Err f → n ≤ f.line
 line_later (Ok s) (Ok ss) n f rest e = absurd cc
 line_later (Ok s) (Err g) n f rest e = let same : g ≡ f = cc in let le = rest g refl in at_line n g f same (omega arith)
 line_later (Err k) more n f rest e = let same : fault n k ≡ f = cc in at_line n (fault n k) f same (omega arith)
@@ -96,12 +107,15 @@ rest_fails p (Ok ss) f e = absurd cc
 rest_fails p (Err g) f e = cc
 
 -- a line less is left, and its number is one more
-pub one_less : (n : ℕ) (rest line after : List ℕ) → pieces_of rest ≡ line ∷ pieces_of after → (n + 1) + length (pieces_of after) ≡ n + length (pieces_of rest)
+pub one_less : (n : ℕ) (rest line after : List ℕ) → pieces_of rest ≡ line ∷ pieces_of after
+    → (n + 1) + length (pieces_of after) ≡ n + length (pieces_of rest)
 one_less n rest line after e = let count : length (pieces_of rest) ≡ length (line ∷ pieces_of after) = ap length e in omega arith
 
 -- the line is read, and nothing up to it is at fault
-pub stops : (p : StepList) (n : ℕ) (c : Config) (text rest line after : List ℕ) (s : Step) → pieces_of rest ≡ line ∷ pieces_of after → step_line_of c line ≡ Ok s
-    → read_on p (steps_of n c (pieces_of rest)) ≡ script_of text → 1 ≤ n → n + length (pieces_of rest) ≡ length (pieces_of text) + 1 → StopsAt n text (script_of text)
+pub stops : (p : StepList) (n : ℕ) (c : Config) (text rest line after : List ℕ) (s : Step)
+    → pieces_of rest ≡ line ∷ pieces_of after → step_line_of c line ≡ Ok s
+    → read_on p (steps_of n c (pieces_of rest)) ≡ script_of text → 1 ≤ n
+    → n + length (pieces_of rest) ≡ length (pieces_of text) + 1 → StopsAt n text (script_of text)
 stops p n c text rest line after s e ok so_far from count =
     let some = pieces_some after in
     let two : length (pieces_of rest) ≡ length (line ∷ some.0 ∷ some.1) = ap length (e ∙ ap (λ (ps : List (List ℕ)). line ∷ ps) some.2) in
@@ -109,7 +123,9 @@ stops p n c text rest line after s e ok so_far from count =
       counted = from;
       ended = omega arith;
       before = λ first wrong.
-          let failed : steps_of (n + 1) c (pieces_of after) ≡ Err first = rest_fails (with_step p s) (steps_of (n + 1) c (pieces_of after)) first (goes_on p n c rest line after s (script_of text) e ok so_far ∙ wrong) in
+          let failed : steps_of (n + 1) c (pieces_of after) ≡ Err first =
+          rest_fails (with_step p s) (steps_of (n + 1) c (pieces_of after)) first
+          (goes_on p n c rest line after s (script_of text) e ok so_far ∙ wrong) in
           let le : n + 1 ≤ first.line = later some.1 (n + 1) c some.0 first (ap (steps_of (n + 1) c) (sym some.2) ∙ failed) in
           omega arith;
     }

@@ -35,17 +35,20 @@ heap_of_twelve (a ∷ b ∷ d ∷ e ∷ f ∷ g ∷ h ∷ i ∷ j ∷ k ∷ ws) 
 short : (line : List ℕ) → length line ≤ 120 → nat_lt 120 (length line) ≡ false
 short line le = le-ltb 120 (length line) le
 
-pub step_line_is : (c : Config) (line : List ℕ) (ws : List (List ℕ)) → length line ≤ 120 → ws ≡ take 12 (words_of line) → step_of c ws ≡ step_line_of c line
+pub step_line_is : (c : Config) (line : List ℕ) (ws : List (List ℕ)) → length line ≤ 120
+    → ws ≡ take 12 (words_of line) → step_of c ws ≡ step_line_of c line
 unfolding step_line_of
 step_line_is c line ws le twelve = rw (short line le) (ap (step_of c) twelve ∙ step_of_twelve c (words_of line))
 
-pub heap_line_some : (line : List ℕ) (c : Config) (ws : List (List ℕ)) → length line ≤ 120 → ws ≡ take 12 (words_of line) → sizes_of ws ≡ Some c → Ok c ≡ heap_line_of line
+pub heap_line_some : (line : List ℕ) (c : Config) (ws : List (List ℕ)) → length line ≤ 120 → ws ≡ take 12 (words_of line)
+    → sizes_of ws ≡ Some c → Ok c ≡ heap_line_of line
 unfolding heap_line_of
 heap_line_some line c ws le twelve read =
     let all : sizes_of (words_of line) ≡ Some c = sym (ap sizes_of twelve ∙ heap_of_twelve (words_of line)) ∙ read in
     rw (short line le, all) refl
 
-pub heap_line_none : (line : List ℕ) (ws : List (List ℕ)) → length line ≤ 120 → ws ≡ take 12 (words_of line) → sizes_of ws ≡ None → Err kinds.BadHeap ≡ heap_line_of line
+pub heap_line_none : (line : List ℕ) (ws : List (List ℕ)) → length line ≤ 120 → ws ≡ take 12 (words_of line)
+    → sizes_of ws ≡ None → Err kinds.BadHeap ≡ heap_line_of line
 unfolding heap_line_of
 heap_line_none line ws le twelve read =
     let all : sizes_of (words_of line) ≡ None = sym (ap sizes_of twelve ∙ heap_of_twelve (words_of line)) ∙ read in

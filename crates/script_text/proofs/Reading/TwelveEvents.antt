@@ -1,5 +1,7 @@
 -- Twelve words of an event's line tell as much as all.
-use Rattle.std.proofs.Common.{◌≡◌, ℕ, ◌+◌, ◌<◌, ◌≤◌, true, false, cond, eqb, List, [], ◌∷◌, length, ◌-◌, get_or, take, drop, Option, None, Result, Ok, Err, refl, sym, ap, ◌∙◌, arith, inl, inr}
+use Rattle.std.proofs.Common.{◌≡◌, ◌+◌, ◌<◌, ◌≤◌, ◌∷◌, ◌-◌, ◌∙◌}
+use Rattle.std.proofs.Common.{ℕ, true, false, cond, eqb, List, [], length, get_or, take, drop, Option, None}
+use Rattle.std.proofs.Common.{Result, Ok, Err, refl, sym, ap, arith, inl, inr}
 use Rattle.std.proofs.lemmas.Bool.{cases_lt, le-ltb}
 use Rattle.std.proofs.lemmas.List.{take_all, take-take, length-take-le, length-drop, get_or-take}
 use Rattle.std.proofs.lemmas.List.Sums.{fails_before_first, passes_at_first, position_or_len_is, prefix_len-le-length}
@@ -51,9 +53,12 @@ still_late ws many late =
     let ten : length (take 10 ws) ≡ 10 = length-take-le 10 ws many in
     elim (cases_lt (equals_at (take 10 ws)) 6) [
       | inl early ↦ (
-          let yes : is_equals (get_or (take 10 ws) (equals_at (take 10 ws)) []) ≡ true = passes_at_first is_equals (take 10 ws) [] (omega arith) in
-          let same : is_equals (get_or (take 10 ws) (equals_at (take 10 ws)) []) ≡ is_equals (get_or ws (equals_at (take 10 ws)) []) = ap is_equals (get_or-take 10 ws (equals_at (take 10 ws)) [] (omega arith)) in
-          let no : is_equals (get_or ws (equals_at (take 10 ws)) []) ≡ false = fails_before_first is_equals ws (equals_at (take 10 ws)) [] (omega arith) in
+          let yes : is_equals (get_or (take 10 ws) (equals_at (take 10 ws)) []) ≡ true =
+          passes_at_first is_equals (take 10 ws) [] (omega arith) in
+          let same : is_equals (get_or (take 10 ws) (equals_at (take 10 ws)) []) ≡ is_equals (get_or ws (equals_at (take 10 ws)) []) =
+          ap is_equals (get_or-take 10 ws (equals_at (take 10 ws)) [] (omega arith)) in
+          let no : is_equals (get_or ws (equals_at (take 10 ws)) []) ≡ false =
+          fails_before_first is_equals ws (equals_at (take 10 ws)) [] (omega arith) in
           absurd (true_false (sym yes ∙ same ∙ no)))
       | inr le ↦ le
     ]
@@ -61,7 +66,8 @@ still_late ws many late =
 long_step : (ws : List (List ℕ)) → 6 ≤ length ws → 6 ≤ equals_at ws → 6 ≤ length (step_part ws)
 long_step ws many late =
     elim (cases_lt (equals_at ws + 1) (length ws)) [
-      | inl lt ↦ (let long : length (take (equals_at ws) ws) ≡ equals_at ws = length-take-le (equals_at ws) ws (at_most ws) in omega (arith, ap length (step_before ws lt)))
+      | inl lt ↦ (let long : length (take (equals_at ws) ws) ≡ equals_at ws = length-take-le (equals_at ws) ws (at_most ws) in
+          omega (arith, ap length (step_before ws lt)))
       | inr le ↦ omega (arith, ap length (step_all ws le))
     ]
 
@@ -69,7 +75,8 @@ same_step : (ws : List (List ℕ)) → 11 ≤ length ws → equals_at ws < 6 →
 same_step ws many early =
     let ten : length (take 10 ws) ≡ 10 = length-take-le 10 ws (omega arith) in
     let place : equals_at (take 10 ws) ≡ equals_at ws = same_place ws (omega arith) (omega arith) in
-    step_before (take 10 ws) (omega arith) ∙ ap (λ (k : ℕ). take k (take 10 ws)) place ∙ take-take (equals_at ws) 10 ws (omega arith) ∙ sym (step_before ws (omega arith))
+    step_before (take 10 ws) (omega arith) ∙ ap (λ (k : ℕ). take k (take 10 ws)) place
+    ∙ take-take (equals_at ws) 10 ws (omega arith) ∙ sym (step_before ws (omega arith))
 
 no_answer : (ws : List (List ℕ)) → equals_at ws < 6 → 10 ≤ length ws → answer_of ws ≡ None
 unfolding answer_of
@@ -84,7 +91,8 @@ bind_same (Err k) f g same = refl
 abbrev rest_of : Actor → Option Step → Option Reply → Result Event Kind
 rest_of a s r = or_fault s kinds.BadStep >>= λ x. or_fault r kinds.BadReply >>= λ y. Ok (record { actor = a; step = x; reply = y })
 
-many_rest : (c : Config) (a : Actor) (ws : List (List ℕ)) → 11 ≤ length ws → rest_of a (taken_of c a (step_part (take 10 ws))) (answer_of (take 10 ws)) ≡ rest_of a (taken_of c a (step_part ws)) (answer_of ws)
+many_rest : (c : Config) (a : Actor) (ws : List (List ℕ)) → 11 ≤ length ws
+    → rest_of a (taken_of c a (step_part (take 10 ws))) (answer_of (take 10 ws)) ≡ rest_of a (taken_of c a (step_part ws)) (answer_of ws)
 many_rest c a ws many =
     let ten : length (take 10 ws) ≡ 10 = length-take-le 10 ws (omega arith) in
     elim (cases_lt (equals_at ws) 6) [
@@ -94,12 +102,15 @@ many_rest c a ws many =
           ap (λ (s : List (List ℕ)). rest_of a (taken_of c a s) (answer_of (take 10 ws))) (same_step ws many early)
           ∙ ap (λ (r : Option Reply). rest_of a (taken_of c a (step_part ws)) r) (none ∙ sym (no_answer ws early (omega arith))))
       | inr late ↦ (
-          let first : taken_of c a (step_part (take 10 ws)) ≡ None = no_long_step c a (step_part (take 10 ws)) (long_step (take 10 ws) (omega arith) (still_late ws (omega arith) late)) in
+          let first : taken_of c a (step_part (take 10 ws)) ≡ None =
+          no_long_step c a (step_part (take 10 ws)) (long_step (take 10 ws) (omega arith) (still_late ws (omega arith) late)) in
           let second : taken_of c a (step_part ws) ≡ None = no_long_step c a (step_part ws) (long_step ws (omega arith) late) in
-          ap (λ (s : Option Step). rest_of a s (answer_of (take 10 ws))) first ∙ ap (λ (s : Option Step). rest_of a s (answer_of ws)) (sym second))
+          ap (λ (s : Option Step). rest_of a s (answer_of (take 10 ws))) first
+          ∙ ap (λ (s : Option Step). rest_of a s (answer_of ws)) (sym second))
     ]
 
-ten_rest : (c : Config) (a : Actor) (ws : List (List ℕ)) → rest_of a (taken_of c a (step_part (take 10 ws))) (answer_of (take 10 ws)) ≡ rest_of a (taken_of c a (step_part ws)) (answer_of ws)
+ten_rest : (c : Config) (a : Actor) (ws : List (List ℕ))
+    → rest_of a (taken_of c a (step_part (take 10 ws))) (answer_of (take 10 ws)) ≡ rest_of a (taken_of c a (step_part ws)) (answer_of ws)
 ten_rest c a ws =
     elim (cases_lt 10 (length ws)) [
       | inl many ↦ many_rest c a ws (omega arith)
@@ -114,8 +125,10 @@ event_of_twelve : (n : ℕ) (c : Config) (ws : List (List ℕ)) → event_of n c
 unfolding event_of
 event_of_twelve n c [] = refl
 event_of_twelve n c (a ∷ []) = refl
-event_of_twelve n c (a ∷ b ∷ ws) = bind_same (or_fault (number_of large a) kinds.BadCount) _ _ (λ count. ap (λ (r : Result Event Kind). cond (eqb count n) r (Err kinds.BadCount)) (counted_ten c b ws))
+event_of_twelve n c (a ∷ b ∷ ws) = bind_same (or_fault (number_of large a) kinds.BadCount) _ _
+    (λ count. ap (λ (r : Result Event Kind). cond (eqb count n) r (Err kinds.BadCount)) (counted_ten c b ws))
 
-pub event_line_words : (n : ℕ) (c : Config) (line : List ℕ) (ws : List (List ℕ)) → length line ≤ 120 → ws ≡ take 12 (words_of line) → event_of n c ws ≡ event_line_of n c line
+pub event_line_words : (n : ℕ) (c : Config) (line : List ℕ) (ws : List (List ℕ)) → length line ≤ 120 → ws ≡ take 12 (words_of line)
+    → event_of n c ws ≡ event_line_of n c line
 unfolding event_line_of
 event_line_words n c line ws le twelve = rw (le-ltb 120 (length line) le) (ap (event_of n c) twelve ∙ event_of_twelve n c (words_of line))

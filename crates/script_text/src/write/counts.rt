@@ -46,7 +46,8 @@ impl Count {
     pub(crate) fn put(&self, buffer: &mut [u8], at: usize) -> usize
         requires room { at + 21 ≤ length buffer.old }
         requires spells { (number : ℕ) × (number < 2 ^ 64) × Spells self.now number }
-        ensures put { (number : ℕ) → number < 2 ^ 64 → Spells self.now number → take result buffer.new ≡ take at buffer.old ++ decimal number }
+        ensures put { (number : ℕ) → number < 2 ^ 64 → Spells self.now number
+            → take result buffer.new ≡ take at buffer.old ++ decimal number }
         ensures end { result ≤ at + 21 }
     {
         put_text(buffer, at, &self.front);

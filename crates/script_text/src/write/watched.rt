@@ -56,8 +56,8 @@ impl<W: Write> WatchedWriter<W> {
         self.writer
     }
 
-    /// Writes some bytes, the first ones, and answers how many: at least one, or the writer refused: it failed, or took no byte. A write that
-    /// is interrupted is tried again.
+    /// Writes some bytes, the first ones, and answers how many: at least one, or the writer refused: it failed, or took no byte. A write
+    /// that is interrupted is tried again.
     ///
     /// ```rust
     /// let mut writer = WatchedWriter::new(Vec::new(alloc));

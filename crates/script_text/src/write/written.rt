@@ -3,7 +3,8 @@
 ghost use Rattle.std.specs.Prelude.{◌≡◌, All, Ok};
 ghost use Rattle.script_text.specs.Events.{record_of};
 ghost use Rattle.script_text.specs.Records.{record_text};
-ghost use Rattle.script_text.specs.Fits.{RegisterFits, GlobalFits, ValueFits, Fits, CollectionFits, StepFits, ReplyFits, EventFits, ConfigFits};
+ghost use Rattle.script_text.specs.Fits.{RegisterFits, GlobalFits, ValueFits, Fits, CollectionFits};
+ghost use Rattle.script_text.specs.Fits.{StepFits, ReplyFits, EventFits, ConfigFits};
 
 use crate::laws::spelled_record_is_read;
 use heap_steps::{Action, CollectorStep, Event, GlobalRoot, Record, Register, Reply, Step};

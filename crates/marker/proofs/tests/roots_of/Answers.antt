@@ -14,11 +14,13 @@ loop-place-preserved c =
       | then-place-lt32+then-object-len w ↦
           let objects = c.args.made.now.objects.items in
           let at = w.index.result.now in
-          let read = slice_get_read objects w.len.result _ at (w.len.ensures ∙ c.args.made.now.objects.ok.0) w.if-object-len.true w.index.ensures in
+          let read =
+          slice_get_read objects w.len.result _ at (w.len.ensures ∙ c.args.made.now.objects.ok.0) w.if-object-len.true w.index.ensures in
           let became = w.roots-is ∙ w.set_global.ensures in
           let words = sym (ap (λ (r : RootTable). r.words) became) in
           record {
-            leads = subst (λ (u : List (Option ℕ)). LeadToObjects t u) words (set_leads t c.loop-place.roots.words _ at was.leads (c.requires _ at read));
+            leads = subst (λ (u : List (Option ℕ)). LeadToObjects t u) words
+                (set_leads t c.loop-place.roots.words _ at was.leads (c.requires _ at read));
             globals = ap (λ (r : RootTable). r.places.globals) became ∙ was.globals;
           }
       | else-place-lt32 w ↦ record {

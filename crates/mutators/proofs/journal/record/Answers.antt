@@ -4,5 +4,6 @@ use Rattle.mutators.proofs.journal.record.Goals as goal
 
 pub returns-clause-runs : goal.returns-clause-runs
 returns-clause-runs c config runs =
-    runs_on config c.args.events.now.items (event_of c.args.actor c.args.step.now c.step-reply.result) c.args.core.now c.step-reply.new.self runs
-    c.step-reply.ensures.follows c.step-reply.ensures.does c.step-reply.ensures.full c.remembers.ensures.core c.remembers.ensures.cards c.whole.ensures
+    runs_on config c.args.events.now.items (event_of c.args.actor c.args.step.now c.step-reply.result)
+    c.args.core.now c.step-reply.new.self runs c.step-reply.ensures.follows c.step-reply.ensures.does c.step-reply.ensures.full
+    c.remembers.ensures.core c.remembers.ensures.cards c.whole.ensures

@@ -4,4 +4,6 @@ use Rattle.mutators.proofs.journal.scripts_of.Given as goal
 
 abbrev pub invariant-loop-step : goal.invariant-loop-step
 invariant-loop-step l =
-    (length l.scripts.items ≡ l.config.mutators + 1) × ((k : ℕ) → k ≤ l.config.mutators → get_or (map (λ s. s.items) l.scripts.items) k [] ≡ lines_of (scripted l.config.mutators k) (take l.step-index l.steps))
+    (length l.scripts.items ≡ l.config.mutators + 1)
+    × ((k : ℕ) → k ≤ l.config.mutators
+    → get_or (map (λ s. s.items) l.scripts.items) k [] ≡ lines_of (scripted l.config.mutators k) (take l.step-index l.steps))

@@ -20,13 +20,15 @@ rounds-preserved c =
     record {
       plan = (plan.0 ∙ was.plan.0, plan.1 ∙ was.plan.1);
       asked = λ first. c.in_ok-one_round.ensures.asked (was.asked first);
-      drawn = round_keeps pcg32 (has_background c.args.markers c.args.refiners) c.rounds.journal c.one_round.new.journal c.rounds.words c.one_round.new.words _ c.in_ok-one_round.ensures.round plan was.drawn;
+      drawn = round_keeps pcg32 (has_background c.args.markers c.args.refiners) c.rounds.journal c.one_round.new.journal c.rounds.words
+          c.one_round.new.words _ c.in_ok-one_round.ensures.round plan was.drawn;
       left = c.in_ok-one_round.ensures.unfinished;
     }
 
 pub rounds-smaller : goal.rounds-smaller
 rounds-smaller c =
-    round_less pcg32 (has_background c.args.markers c.args.refiners) c.rounds.journal c.one_round.new.journal c.rounds.words c.one_round.new.words c.in_ok-one_round.ensures.round
+    round_less pcg32 (has_background c.args.markers c.args.refiners) c.rounds.journal c.one_round.new.journal c.rounds.words
+    c.one_round.new.words c.in_ok-one_round.ensures.round
 
 pub returns-clause-over : goal.returns-clause-over
 returns-clause-over c = ap (λ (l : List ℕ). length l) (sym c.rounds.invariant.left) ∙ search rules
@@ -37,4 +39,5 @@ returns-clause-drawn c =
     let b = has_background c.args.markers c.args.refiners in
     let over : length (open_places (lefts_of d)) ≡ 0 = ap (λ (l : List ℕ). length l) (sym c.rounds.invariant.left) ∙ search rules in
     let none = rest_none pcg32 b d c.rounds.words over in
-    sym (append-nil (scripted_actors d.events)) ∙ ap (λ (l : List Actor). scripted_actors d.events ++ l) (sym none) ∙ c.rounds.invariant.drawn
+    sym (append-nil (scripted_actors d.events))
+    ∙ ap (λ (l : List Actor). scripted_actors d.events ++ l) (sym none) ∙ c.rounds.invariant.drawn

@@ -9,7 +9,8 @@ abbrev pub invariant-rounds : goal.invariant-rounds
 invariant-rounds l = record {
   plan : SamePlan l.initial.journal l.journal;
   asked : AreAsked l.markers l.refiners l.initial.journal.events → AreAsked l.markers l.refiners l.journal.events;
-  drawn : scripted_actors l.journal.events ++ rest_of pcg32 (has_background l.markers l.refiners) l.words l.journal ≡ scripted_actors l.initial.journal.events ++ rest_of pcg32 (has_background l.markers l.refiners) l.initial.words l.initial.journal;
+  drawn : scripted_actors l.journal.events ++ rest_of pcg32 (has_background l.markers l.refiners) l.words l.journal
+      ≡ scripted_actors l.initial.journal.events ++ rest_of pcg32 (has_background l.markers l.refiners) l.initial.words l.initial.journal;
   left : l.unfinished.items ≡ open_places (lefts_of l.journal);
 }
 

@@ -28,7 +28,8 @@ loop-k-preserved c =
       | then-is_left+in_ok-push w ↦
           let here = open_here (lefts_of d) k within ((left_here d k row).0 (c.is_left.ensures.left w.if-is_left.true)) in
           let pushed = ap (λ v. v.items) w.unfinished-is ∙ w.in_ok-push.ensures.items in
-          ap (λ (l : List ℕ). l ++ rest) pushed ∙ append_assoc c.loop-k.unfinished.items (k ∷ []) rest ∙ ap (λ (l : List ℕ). c.loop-k.unfinished.items ++ l) (sym here) ∙ c.loop-k.invariant
+          ap (λ (l : List ℕ). l ++ rest) pushed ∙ append_assoc c.loop-k.unfinished.items (k ∷ []) rest
+          ∙ ap (λ (l : List ℕ). c.loop-k.unfinished.items ++ l) (sym here) ∙ c.loop-k.invariant
       | else-is_left w ↦
           let over : length (script_at d k) ≤ slice_index d.places k = c.is_left.ensures.over w.if-is_left.false in
           let past = open_past (lefts_of d) k within ((left_here d k row).1 over) in

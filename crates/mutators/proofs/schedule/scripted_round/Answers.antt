@@ -13,7 +13,9 @@ scripted_at-requires-clause-place c =
     let d = c.args.journal.now in
     let keeps = c.config-mutators.ensures.keeps in
     let count : c.len.result ≡ length c.args.unfinished.now.items = search rules in
-    let place : c.index-place.result.now ≡ pick c.args.word (lefts_of d) = picked d c.args.word c.len.result c.index-place.result.now c.args.unfinished.now.items c.requires.unfinished c.requires.some count c.index-place.ensures in
+    let place : c.index-place.result.now ≡ pick c.args.word (lefts_of d) =
+    picked d c.args.word c.len.result c.index-place.result.now c.args.unfinished.now.items c.requires.unfinished
+    c.requires.some count c.index-place.ensures in
     let within = picks_open d c.args.word keeps (subst (λ (l : List ℕ). 0 < length l) c.requires.unfinished c.requires.some) in
     let m : c.config-mutators.result.mutators ≡ mutators_of d = ap (λ x. x.mutators) c.config-mutators.ensures.value in
     omega (arith, within.0, place, m)
@@ -23,7 +25,9 @@ is_left-requires c =
     let d = c.args.journal.now in
     let keeps = c.config-mutators.ensures.keeps in
     let count : c.len.result ≡ length c.args.unfinished.now.items = search rules in
-    let place : c.index-place.result.now ≡ pick c.args.word (lefts_of d) = picked d c.args.word c.len.result c.index-place.result.now c.args.unfinished.now.items c.requires.unfinished c.requires.some count c.index-place.ensures in
+    let place : c.index-place.result.now ≡ pick c.args.word (lefts_of d) =
+    picked d c.args.word c.len.result c.index-place.result.now c.args.unfinished.now.items c.requires.unfinished
+    c.requires.some count c.index-place.ensures in
     let within = picks_open d c.args.word keeps (subst (λ (l : List ℕ). 0 < length l) c.requires.unfinished c.requires.some) in
     let m : c.config-mutators.result.mutators ≡ mutators_of d = ap (λ x. x.mutators) c.config-mutators.ensures.value in
     omega (arith, within.0, place, ap (λ x. x.mutators) c.in_ok-turn.ensures.plan.0)
@@ -33,11 +37,15 @@ returns-clause-picks c =
     let d = c.args.journal.now in
     let keeps = c.config-mutators.ensures.keeps in
     let count : c.len.result ≡ length c.args.unfinished.now.items = search rules in
-    let place : c.index-place.result.now ≡ pick c.args.word (lefts_of d) = picked d c.args.word c.len.result c.index-place.result.now c.args.unfinished.now.items c.requires.unfinished c.requires.some count c.index-place.ensures in
+    let place : c.index-place.result.now ≡ pick c.args.word (lefts_of d) =
+    picked d c.args.word c.len.result c.index-place.result.now c.args.unfinished.now.items c.requires.unfinished
+    c.requires.some count c.index-place.ensures in
     let within = picks_open d c.args.word keeps (subst (λ (l : List ℕ). 0 < length l) c.requires.unfinished c.requires.some) in
     let m : c.config-mutators.result.mutators ≡ mutators_of d = ap (λ x. x.mutators) c.config-mutators.ensures.value in
-    let actor : c.scripted_at.result ≡ scripted (mutators_of d) (pick c.args.word (lefts_of d)) = c.scripted_at.ensures.is ∙ ap (λ (p : ℕ × ℕ). scripted p.0 p.1) (λ i. (m i, place i)) in
-    let turn = takes_row d c.turn.new.self c.in_ok-turn.field-0 c.scripted_at.result (pick c.args.word (lefts_of d)) keeps c.in_ok-turn.ensures.turn actor within.1 c.in_ok-turn.ensures.plan in
+    let actor : c.scripted_at.result ≡ scripted (mutators_of d) (pick c.args.word (lefts_of d)) =
+    c.scripted_at.ensures.is ∙ ap (λ (p : ℕ × ℕ). scripted p.0 p.1) (λ i. (m i, place i)) in
+    let turn = takes_row d c.turn.new.self c.in_ok-turn.field-0 c.scripted_at.result (pick c.args.word (lefts_of d)) keeps
+    c.in_ok-turn.ensures.turn actor within.1 c.in_ok-turn.ensures.plan in
     turn.0
 
 pub returns-clause-unfinished : goal.returns-clause-unfinished
@@ -45,20 +53,26 @@ returns-clause-unfinished c =
     let d = c.args.journal.now in
     let keeps = c.config-mutators.ensures.keeps in
     let count : c.len.result ≡ length c.args.unfinished.now.items = search rules in
-    let place : c.index-place.result.now ≡ pick c.args.word (lefts_of d) = picked d c.args.word c.len.result c.index-place.result.now c.args.unfinished.now.items c.requires.unfinished c.requires.some count c.index-place.ensures in
+    let place : c.index-place.result.now ≡ pick c.args.word (lefts_of d) =
+    picked d c.args.word c.len.result c.index-place.result.now c.args.unfinished.now.items c.requires.unfinished
+    c.requires.some count c.index-place.ensures in
     let within = picks_open d c.args.word keeps (subst (λ (l : List ℕ). 0 < length l) c.requires.unfinished c.requires.some) in
     let m : c.config-mutators.result.mutators ≡ mutators_of d = ap (λ x. x.mutators) c.config-mutators.ensures.value in
-    let actor : c.scripted_at.result ≡ scripted (mutators_of d) (pick c.args.word (lefts_of d)) = c.scripted_at.ensures.is ∙ ap (λ (p : ℕ × ℕ). scripted p.0 p.1) (λ i. (m i, place i)) in
-    let turn = takes_row d c.turn.new.self c.in_ok-turn.field-0 c.scripted_at.result (pick c.args.word (lefts_of d)) keeps c.in_ok-turn.ensures.turn actor within.1 c.in_ok-turn.ensures.plan in
+    let actor : c.scripted_at.result ≡ scripted (mutators_of d) (pick c.args.word (lefts_of d)) =
+    c.scripted_at.ensures.is ∙ ap (λ (p : ℕ × ℕ). scripted p.0 p.1) (λ i. (m i, place i)) in
+    let turn = takes_row d c.turn.new.self c.in_ok-turn.field-0 c.scripted_at.result (pick c.args.word (lefts_of d)) keeps
+    c.in_ok-turn.ensures.turn actor within.1 c.in_ok-turn.ensures.plan in
     let e = c.turn.new.self in
     let p = c.index-place.result.now in
     let n = c.args.word % c.len.result in
     let below : n < length c.args.unfinished.now.items = omega (arith, count, c.requires.some) in
     let len = lefts_len d d refl keeps in
-    let row : p < length e.scripts = omega (arith, within.0, place, len, ap (λ (l : List (List Step)). length l) c.in_ok-turn.ensures.plan.1) in
+    let row : p < length e.scripts =
+    omega (arith, within.0, place, len, ap (λ (l : List (List Step)). length l) c.in_ok-turn.ensures.plan.1) in
     let here = left_here e p row in
     kept (lefts_of d) (lefts_of e) c.args.unfinished.now.items n p c.is_left.result c.keep_if.new.places.items c.requires.unfinished below
-    (place_is c.args.unfinished.now.items n p below c.index-place.ensures) (subst (λ (k : ℕ). lefts_of e ≡ one_less (lefts_of d) k) (sym place) turn.0.left)
+    (place_is c.args.unfinished.now.items n p below c.index-place.ensures)
+    (subst (λ (k : ℕ). lefts_of e ≡ one_less (lefts_of d) k) (sym place) turn.0.left)
     (subst (λ (k : ℕ). 0 < get_or (lefts_of d) k 0) (sym place) within.1) (omega (arith, within.0, place, len))
     (λ h. here.0 (c.is_left.ensures.left h)) (λ h. here.1 (c.is_left.ensures.over h)) c.keep_if.ensures
 
@@ -67,9 +81,13 @@ returns-clause-asked c =
     let d = c.args.journal.now in
     let keeps = c.config-mutators.ensures.keeps in
     let count : c.len.result ≡ length c.args.unfinished.now.items = search rules in
-    let place : c.index-place.result.now ≡ pick c.args.word (lefts_of d) = picked d c.args.word c.len.result c.index-place.result.now c.args.unfinished.now.items c.requires.unfinished c.requires.some count c.index-place.ensures in
+    let place : c.index-place.result.now ≡ pick c.args.word (lefts_of d) =
+    picked d c.args.word c.len.result c.index-place.result.now c.args.unfinished.now.items c.requires.unfinished
+    c.requires.some count c.index-place.ensures in
     let within = picks_open d c.args.word keeps (subst (λ (l : List ℕ). 0 < length l) c.requires.unfinished c.requires.some) in
     let m : c.config-mutators.result.mutators ≡ mutators_of d = ap (λ x. x.mutators) c.config-mutators.ensures.value in
-    let actor : c.scripted_at.result ≡ scripted (mutators_of d) (pick c.args.word (lefts_of d)) = c.scripted_at.ensures.is ∙ ap (λ (p : ℕ × ℕ). scripted p.0 p.1) (λ i. (m i, place i)) in
-    let turn = takes_row d c.turn.new.self c.in_ok-turn.field-0 c.scripted_at.result (pick c.args.word (lefts_of d)) keeps c.in_ok-turn.ensures.turn actor within.1 c.in_ok-turn.ensures.plan in
+    let actor : c.scripted_at.result ≡ scripted (mutators_of d) (pick c.args.word (lefts_of d)) =
+    c.scripted_at.ensures.is ∙ ap (λ (p : ℕ × ℕ). scripted p.0 p.1) (λ i. (m i, place i)) in
+    let turn = takes_row d c.turn.new.self c.in_ok-turn.field-0 c.scripted_at.result (pick c.args.word (lefts_of d)) keeps
+    c.in_ok-turn.ensures.turn actor within.1 c.in_ok-turn.ensures.plan in
     turn.1

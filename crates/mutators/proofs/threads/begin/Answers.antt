@@ -6,11 +6,13 @@ use Rattle.mutators.proofs.Faults.{bad_exactly, threads_fault}
 use Rattle.mutators.proofs.threads.begin.Goals as goal
 
 pub returns-in-Err-clause-fault : goal.returns-in-Err-clause-fault
-returns-in-Err-clause-fault c = λ other. threads_fault c.args.plan.now.config c.run_fault.result (c.run_fault.ensures c.args.plan.now.config c.in-Err.ensures.fault)
+returns-in-Err-clause-fault c =
+    λ other. threads_fault c.args.plan.now.config c.run_fault.result (c.run_fault.ensures c.args.plan.now.config c.in-Err.ensures.fault)
 
 pub returns-in-Err-clause-bad : goal.returns-in-Err-clause-bad
 returns-in-Err-clause-bad c =
-    bad_exactly c.args.plan.now.config c.run_fault.result _ refl (c.run_fault.ensures c.args.plan.now.config c.in-Err.ensures.fault) (λ p. let e = c.if-not-are_counts.ensures.bad.1 p in absurd (cc))
+    bad_exactly c.args.plan.now.config c.run_fault.result _ refl (c.run_fault.ensures c.args.plan.now.config c.in-Err.ensures.fault)
+    (λ p. let e = c.if-not-are_counts.ensures.bad.1 p in absurd (cc))
 
 pub returns-clause-of : goal.returns-clause-of
 returns-clause-of c = record {

@@ -1,5 +1,4 @@
-use Rattle.std.proofs.Common.{◌≡◌, ◌+◌, ◌*◌, ◌<◌, ◌∙◌, ℕ, refl, arith, ap}
-use Rattle.std.specs.Prelude.{length}
+use Rattle.std.proofs.Common.{◌≡◌, ◌*◌, ◌∙◌, ℕ, refl, arith, ap}
 use Rattle.object_copy.specs.Copies.{Places}
 use Rattle.object_copy.specs.Samples.{copied}
 use Rattle.object_copy.proofs.Samples.{can_copy, stored_there}
@@ -18,7 +17,9 @@ pub copy-requires-clause-small : goal.copy-requires-clause-small
 copy-requires-clause-small g c = let can = can_copy _ _ c.in_ok-table.ensures c.new-object.ensures in omega (arith, can.words, can.size)
 
 pub copy-requires-clause-count : goal.copy-requires-clause-count
-copy-requires-clause-count g c = let can = can_copy _ _ c.in_ok-table.ensures c.new-object.ensures in omega (arith, can.words, ap (λ (d : Places). d.words) c.in_ok-destinations.ensures)
+copy-requires-clause-count g c =
+    let can = can_copy _ _ c.in_ok-table.ensures c.new-object.ensures in
+    omega (arith, can.words, ap (λ (d : Places). d.words) c.in_ok-destinations.ensures)
 
 pub first_tile-requires : goal.first_tile-requires
 first_tile-requires g c =

@@ -1,4 +1,4 @@
-use Rattle.std.proofs.Common.{◌≡◌, ◌∙◌, arith, ap}
+use Rattle.std.proofs.Common.{◌∙◌, arith, ap}
 use Rattle.object_copy.specs.Copies.{Places}
 use Rattle.object_copy.specs.Samples.{copied}
 use Rattle.object_copy.proofs.Samples.{can_copy, has_slot, stored_there}
@@ -11,21 +11,27 @@ pub copy-place-requires-clause-ordinary : goal.copy-place-requires-clause-ordina
 copy-place-requires-clause-ordinary g c = (can_copy _ _ c.in_ok-table.ensures c.new-object.ensures).ordinary
 
 pub copy-place-requires-clause-small : goal.copy-place-requires-clause-small
-copy-place-requires-clause-small g c = let can = can_copy _ _ c.in_ok-table.ensures c.new-object.ensures in omega (arith, can.words, can.size)
+copy-place-requires-clause-small g c =
+    let can = can_copy _ _ c.in_ok-table.ensures c.new-object.ensures in
+    omega (arith, can.words, can.size)
 
 pub copy-place-requires-clause-count : goal.copy-place-requires-clause-count
-copy-place-requires-clause-count g c = let can = can_copy _ _ c.in_ok-table.ensures c.new-object.ensures in omega (arith, can.words, ap (λ (d : Places). d.words) c.in_ok-destinations.ensures)
+copy-place-requires-clause-count g c =
+    let can = can_copy _ _ c.in_ok-table.ensures c.new-object.ensures in
+    omega (arith, can.words, ap (λ (d : Places). d.words) c.in_ok-destinations.ensures)
 
 pub slots-requires-clause-object : goal.slots-requires-clause-object
 slots-requires-clause-object g c =
     let there = stored_there _ _ c.in_ok-table.ensures c.new-object.ensures in
     let copies = c.copy-place.ensures.copies copied there in
-    let changes = c.copy-place.ensures.changes copied copies.region there (ap (λ (d : Places). d.last) copies.places_are ∙ copies.opens.last) in
+    let changes =
+    c.copy-place.ensures.changes copied copies.region there (ap (λ (d : Places). d.last) copies.places_are ∙ copies.opens.last) in
     (has_slot _ _ changes.copy).object
 
 pub slots-requires-clause-weaks : goal.slots-requires-clause-weaks
 slots-requires-clause-weaks g c =
     let there = stored_there _ _ c.in_ok-table.ensures c.new-object.ensures in
     let copies = c.copy-place.ensures.copies copied there in
-    let changes = c.copy-place.ensures.changes copied copies.region there (ap (λ (d : Places). d.last) copies.places_are ∙ copies.opens.last) in
+    let changes =
+    c.copy-place.ensures.changes copied copies.region there (ap (λ (d : Places). d.last) copies.places_are ∙ copies.opens.last) in
     (has_slot _ _ changes.copy).weaks

@@ -10,8 +10,10 @@ bounds-entries-past c =
 
 pub returns-then-card_from-past-clause-entries : goal.returns-then-card_from-past-clause-entries
 returns-then-card_from-past-clause-entries c n =
-    start_put c.args.entries.now (2 ^ c.args.shift) c.args.at c.args.end c.card_from-past.result n (pow_pos c.args.shift) c.card_from-past.ensures (omega (arith, c.if-card_from-past.true, c.card_from.ensures)) c.requires.within
+    start_put c.args.entries.now (2 ^ c.args.shift) c.args.at c.args.end c.card_from-past.result n (pow_pos c.args.shift)
+    c.card_from-past.ensures (omega (arith, c.if-card_from-past.true, c.card_from.ensures)) c.requires.within
 
 pub returns-else-card_from-past-clause-entries : goal.returns-else-card_from-past-clause-entries
 returns-else-card_from-past-clause-entries c n =
-    start_stays c.args.entries.now (2 ^ c.args.shift) c.args.at c.args.end n (pow_pos c.args.shift) (omega (arith, c.if-card_from-past.false, c.card_from.ensures, c.card_from-past.ensures))
+    start_stays c.args.entries.now (2 ^ c.args.shift) c.args.at c.args.end n (pow_pos c.args.shift)
+    (omega (arith, c.if-card_from-past.false, c.card_from.ensures, c.card_from-past.ensures))

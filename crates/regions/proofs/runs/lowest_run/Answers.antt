@@ -14,8 +14,10 @@ returns-then-i-start c =
 pub loop-i-preserved : goal.loop-i-preserved
 loop-i-preserved c =
     elim c.if-is_free.branch [
-      | then-is_free+else-i-start w ↦ rw w.start-is (scan_on _ _ _ _ c.loop-i.invariant c.loop-i-test.true (sym c.is_free.ensures ∙ w.if-is_free.true) w.if-i-start.false)
-      | else-is_free w ↦ rw w.start-is (scan_past _ _ _ _ c.requires.some c.loop-i.invariant c.loop-i-test.true (sym c.is_free.ensures ∙ w.if-is_free.false))
+      | then-is_free+else-i-start w ↦ rw w.start-is (scan_on _ _ _ _ c.loop-i.invariant c.loop-i-test.true
+          (sym c.is_free.ensures ∙ w.if-is_free.true) w.if-i-start.false)
+      | else-is_free w ↦ rw w.start-is (scan_past _ _ _ _ c.requires.some c.loop-i.invariant c.loop-i-test.true
+          (sym c.is_free.ensures ∙ w.if-is_free.false))
     ]
 
 pub returns : goal.returns

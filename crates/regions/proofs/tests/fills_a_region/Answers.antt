@@ -1,5 +1,6 @@
 use Rattle.std.proofs.Common.{arith, refl}
-use Rattle.regions.proofs.Samples.{fill_take, fill_push, fill_split, fill_make, fill_pointer, fill_value, usable1, usable_filled, filler2, filler3, sample_is, rest_is_tile, word_inside}
+use Rattle.regions.proofs.Samples.{fill_take, fill_push, fill_split, fill_make, fill_pointer, fill_value, usable1, usable_filled}
+use Rattle.regions.proofs.Samples.{filler2, filler3, sample_is, rest_is_tile, word_inside}
 use Rattle.regions.proofs.tests.fills_a_region.Goals as goal
 
 pub push_filler-requires-clause-ordinary : goal.push_filler-requires-clause-ordinary
@@ -30,7 +31,8 @@ set_ptr-requires g c =
     let t1 = fill_take _ _ c.in-Ok.ensures c.take_free.ensures.taken in
     let t2 = fill_push _ _ _ _ t1 c.push_filler.ensures.pushed c.new-region.ensures c.new.ensures in
     let t3 = fill_split _ _ _ _ _ t2 c.split_filler.ensures.split c.new-object.ensures c.new-2.ensures c.new-3.ensures in
-    let t4 = fill_make _ _ _ _ _ _ _ t3 c.make_object.ensures c.new-object.ensures c.new-4.ensures c.counts.ensures.pointers_are c.counts.ensures.weaks_are c.counts.ensures.values_are in
+    let t4 = fill_make _ _ _ _ _ _ _ t3 c.make_object.ensures c.new-object.ensures c.new-4.ensures c.counts.ensures.pointers_are
+    c.counts.ensures.weaks_are c.counts.ensures.values_are in
     (sample_is _ _ _ _ t4 c.new-object.ensures).pointers
 
 pub set_value-requires : goal.set_value-requires
@@ -38,7 +40,8 @@ set_value-requires g c =
     let t1 = fill_take _ _ c.in-Ok.ensures c.take_free.ensures.taken in
     let t2 = fill_push _ _ _ _ t1 c.push_filler.ensures.pushed c.new-region.ensures c.new.ensures in
     let t3 = fill_split _ _ _ _ _ t2 c.split_filler.ensures.split c.new-object.ensures c.new-2.ensures c.new-3.ensures in
-    let t4 = fill_make _ _ _ _ _ _ _ t3 c.make_object.ensures c.new-object.ensures c.new-4.ensures c.counts.ensures.pointers_are c.counts.ensures.weaks_are c.counts.ensures.values_are in
+    let t4 = fill_make _ _ _ _ _ _ _ t3 c.make_object.ensures c.new-object.ensures c.new-4.ensures c.counts.ensures.pointers_are
+    c.counts.ensures.weaks_are c.counts.ensures.values_are in
     let t5 = fill_pointer _ _ _ _ t4 c.set_ptr.ensures c.new-object.ensures c.new-rest.ensures in
     (sample_is _ _ _ _ t5 c.new-object.ensures).values
 
@@ -47,7 +50,8 @@ about-requires g c =
     let t1 = fill_take _ _ c.in-Ok.ensures c.take_free.ensures.taken in
     let t2 = fill_push _ _ _ _ t1 c.push_filler.ensures.pushed c.new-region.ensures c.new.ensures in
     let t3 = fill_split _ _ _ _ _ t2 c.split_filler.ensures.split c.new-object.ensures c.new-2.ensures c.new-3.ensures in
-    let t4 = fill_make _ _ _ _ _ _ _ t3 c.make_object.ensures c.new-object.ensures c.new-4.ensures c.counts.ensures.pointers_are c.counts.ensures.weaks_are c.counts.ensures.values_are in
+    let t4 = fill_make _ _ _ _ _ _ _ t3 c.make_object.ensures c.new-object.ensures c.new-4.ensures c.counts.ensures.pointers_are
+    c.counts.ensures.weaks_are c.counts.ensures.values_are in
     let t5 = fill_pointer _ _ _ _ t4 c.set_ptr.ensures c.new-object.ensures c.new-rest.ensures in
     let t6 = fill_value _ _ _ t5 c.set_value.ensures c.new-object.ensures in
     (sample_is _ _ _ _ t6 c.new-object.ensures).object
@@ -57,7 +61,8 @@ fields-requires-clause-pointers g c =
     let t1 = fill_take _ _ c.in-Ok.ensures c.take_free.ensures.taken in
     let t2 = fill_push _ _ _ _ t1 c.push_filler.ensures.pushed c.new-region.ensures c.new.ensures in
     let t3 = fill_split _ _ _ _ _ t2 c.split_filler.ensures.split c.new-object.ensures c.new-2.ensures c.new-3.ensures in
-    let t4 = fill_make _ _ _ _ _ _ _ t3 c.make_object.ensures c.new-object.ensures c.new-4.ensures c.counts.ensures.pointers_are c.counts.ensures.weaks_are c.counts.ensures.values_are in
+    let t4 = fill_make _ _ _ _ _ _ _ t3 c.make_object.ensures c.new-object.ensures c.new-4.ensures c.counts.ensures.pointers_are
+    c.counts.ensures.weaks_are c.counts.ensures.values_are in
     let t5 = fill_pointer _ _ _ _ t4 c.set_ptr.ensures c.new-object.ensures c.new-rest.ensures in
     let t6 = fill_value _ _ _ t5 c.set_value.ensures c.new-object.ensures in
     (sample_is _ _ _ _ t6 c.new-object.ensures).pointers
@@ -67,7 +72,8 @@ fields-requires-clause-values g c =
     let t1 = fill_take _ _ c.in-Ok.ensures c.take_free.ensures.taken in
     let t2 = fill_push _ _ _ _ t1 c.push_filler.ensures.pushed c.new-region.ensures c.new.ensures in
     let t3 = fill_split _ _ _ _ _ t2 c.split_filler.ensures.split c.new-object.ensures c.new-2.ensures c.new-3.ensures in
-    let t4 = fill_make _ _ _ _ _ _ _ t3 c.make_object.ensures c.new-object.ensures c.new-4.ensures c.counts.ensures.pointers_are c.counts.ensures.weaks_are c.counts.ensures.values_are in
+    let t4 = fill_make _ _ _ _ _ _ _ t3 c.make_object.ensures c.new-object.ensures c.new-4.ensures c.counts.ensures.pointers_are
+    c.counts.ensures.weaks_are c.counts.ensures.values_are in
     let t5 = fill_pointer _ _ _ _ t4 c.set_ptr.ensures c.new-object.ensures c.new-rest.ensures in
     let t6 = fill_value _ _ _ t5 c.set_value.ensures c.new-object.ensures in
     (sample_is _ _ _ _ t6 c.new-object.ensures).values
@@ -77,7 +83,8 @@ has_room-requires-clause-known g c =
     let t1 = fill_take _ _ c.in-Ok.ensures c.take_free.ensures.taken in
     let t2 = fill_push _ _ _ _ t1 c.push_filler.ensures.pushed c.new-region.ensures c.new.ensures in
     let t3 = fill_split _ _ _ _ _ t2 c.split_filler.ensures.split c.new-object.ensures c.new-2.ensures c.new-3.ensures in
-    let t4 = fill_make _ _ _ _ _ _ _ t3 c.make_object.ensures c.new-object.ensures c.new-4.ensures c.counts.ensures.pointers_are c.counts.ensures.weaks_are c.counts.ensures.values_are in
+    let t4 = fill_make _ _ _ _ _ _ _ t3 c.make_object.ensures c.new-object.ensures c.new-4.ensures c.counts.ensures.pointers_are
+    c.counts.ensures.weaks_are c.counts.ensures.values_are in
     let t5 = fill_pointer _ _ _ _ t4 c.set_ptr.ensures c.new-object.ensures c.new-rest.ensures in
     let t6 = fill_value _ _ _ t5 c.set_value.ensures c.new-object.ensures in
     (usable_filled _ _ _ t6 c.new-region.ensures).0
@@ -87,7 +94,8 @@ has_room-requires-clause-ordinary g c =
     let t1 = fill_take _ _ c.in-Ok.ensures c.take_free.ensures.taken in
     let t2 = fill_push _ _ _ _ t1 c.push_filler.ensures.pushed c.new-region.ensures c.new.ensures in
     let t3 = fill_split _ _ _ _ _ t2 c.split_filler.ensures.split c.new-object.ensures c.new-2.ensures c.new-3.ensures in
-    let t4 = fill_make _ _ _ _ _ _ _ t3 c.make_object.ensures c.new-object.ensures c.new-4.ensures c.counts.ensures.pointers_are c.counts.ensures.weaks_are c.counts.ensures.values_are in
+    let t4 = fill_make _ _ _ _ _ _ _ t3 c.make_object.ensures c.new-object.ensures c.new-4.ensures c.counts.ensures.pointers_are
+    c.counts.ensures.weaks_are c.counts.ensures.values_are in
     let t5 = fill_pointer _ _ _ _ t4 c.set_ptr.ensures c.new-object.ensures c.new-rest.ensures in
     let t6 = fill_value _ _ _ t5 c.set_value.ensures c.new-object.ensures in
     (usable_filled _ _ _ t6 c.new-region.ensures).1
@@ -97,7 +105,8 @@ has_room-requires-2-clause-known g c =
     let t1 = fill_take _ _ c.in-Ok.ensures c.take_free.ensures.taken in
     let t2 = fill_push _ _ _ _ t1 c.push_filler.ensures.pushed c.new-region.ensures c.new.ensures in
     let t3 = fill_split _ _ _ _ _ t2 c.split_filler.ensures.split c.new-object.ensures c.new-2.ensures c.new-3.ensures in
-    let t4 = fill_make _ _ _ _ _ _ _ t3 c.make_object.ensures c.new-object.ensures c.new-4.ensures c.counts.ensures.pointers_are c.counts.ensures.weaks_are c.counts.ensures.values_are in
+    let t4 = fill_make _ _ _ _ _ _ _ t3 c.make_object.ensures c.new-object.ensures c.new-4.ensures c.counts.ensures.pointers_are
+    c.counts.ensures.weaks_are c.counts.ensures.values_are in
     let t5 = fill_pointer _ _ _ _ t4 c.set_ptr.ensures c.new-object.ensures c.new-rest.ensures in
     let t6 = fill_value _ _ _ t5 c.set_value.ensures c.new-object.ensures in
     (usable_filled _ _ _ t6 c.new-region.ensures).0
@@ -107,7 +116,8 @@ has_room-requires-2-clause-ordinary g c =
     let t1 = fill_take _ _ c.in-Ok.ensures c.take_free.ensures.taken in
     let t2 = fill_push _ _ _ _ t1 c.push_filler.ensures.pushed c.new-region.ensures c.new.ensures in
     let t3 = fill_split _ _ _ _ _ t2 c.split_filler.ensures.split c.new-object.ensures c.new-2.ensures c.new-3.ensures in
-    let t4 = fill_make _ _ _ _ _ _ _ t3 c.make_object.ensures c.new-object.ensures c.new-4.ensures c.counts.ensures.pointers_are c.counts.ensures.weaks_are c.counts.ensures.values_are in
+    let t4 = fill_make _ _ _ _ _ _ _ t3 c.make_object.ensures c.new-object.ensures c.new-4.ensures c.counts.ensures.pointers_are
+    c.counts.ensures.weaks_are c.counts.ensures.values_are in
     let t5 = fill_pointer _ _ _ _ t4 c.set_ptr.ensures c.new-object.ensures c.new-rest.ensures in
     let t6 = fill_value _ _ _ t5 c.set_value.ensures c.new-object.ensures in
     (usable_filled _ _ _ t6 c.new-region.ensures).1
@@ -117,7 +127,8 @@ walk-at-items-requires g c =
     let t1 = fill_take _ _ c.in-Ok.ensures c.take_free.ensures.taken in
     let t2 = fill_push _ _ _ _ t1 c.push_filler.ensures.pushed c.new-region.ensures c.new.ensures in
     let t3 = fill_split _ _ _ _ _ t2 c.split_filler.ensures.split c.new-object.ensures c.new-2.ensures c.new-3.ensures in
-    let t4 = fill_make _ _ _ _ _ _ _ t3 c.make_object.ensures c.new-object.ensures c.new-4.ensures c.counts.ensures.pointers_are c.counts.ensures.weaks_are c.counts.ensures.values_are in
+    let t4 = fill_make _ _ _ _ _ _ _ t3 c.make_object.ensures c.new-object.ensures c.new-4.ensures c.counts.ensures.pointers_are
+    c.counts.ensures.weaks_are c.counts.ensures.values_are in
     let t5 = fill_pointer _ _ _ _ t4 c.set_ptr.ensures c.new-object.ensures c.new-rest.ensures in
     let t6 = fill_value _ _ _ t5 c.set_value.ensures c.new-object.ensures in
     (usable_filled _ _ _ t6 c.new-region.ensures).0
@@ -127,7 +138,8 @@ walk_from-requires g c =
     let t1 = fill_take _ _ c.in-Ok.ensures c.take_free.ensures.taken in
     let t2 = fill_push _ _ _ _ t1 c.push_filler.ensures.pushed c.new-region.ensures c.new.ensures in
     let t3 = fill_split _ _ _ _ _ t2 c.split_filler.ensures.split c.new-object.ensures c.new-2.ensures c.new-3.ensures in
-    let t4 = fill_make _ _ _ _ _ _ _ t3 c.make_object.ensures c.new-object.ensures c.new-4.ensures c.counts.ensures.pointers_are c.counts.ensures.weaks_are c.counts.ensures.values_are in
+    let t4 = fill_make _ _ _ _ _ _ _ t3 c.make_object.ensures c.new-object.ensures c.new-4.ensures c.counts.ensures.pointers_are
+    c.counts.ensures.weaks_are c.counts.ensures.values_are in
     let t5 = fill_pointer _ _ _ _ t4 c.set_ptr.ensures c.new-object.ensures c.new-rest.ensures in
     let t6 = fill_value _ _ _ t5 c.set_value.ensures c.new-object.ensures in
     rest_is_tile _ _ _ _ t6 c.new-rest.ensures
@@ -137,7 +149,8 @@ check_first_tile-requires g c =
     let t1 = fill_take _ _ c.in-Ok.ensures c.take_free.ensures.taken in
     let t2 = fill_push _ _ _ _ t1 c.push_filler.ensures.pushed c.new-region.ensures c.new.ensures in
     let t3 = fill_split _ _ _ _ _ t2 c.split_filler.ensures.split c.new-object.ensures c.new-2.ensures c.new-3.ensures in
-    let t4 = fill_make _ _ _ _ _ _ _ t3 c.make_object.ensures c.new-object.ensures c.new-4.ensures c.counts.ensures.pointers_are c.counts.ensures.weaks_are c.counts.ensures.values_are in
+    let t4 = fill_make _ _ _ _ _ _ _ t3 c.make_object.ensures c.new-object.ensures c.new-4.ensures c.counts.ensures.pointers_are
+    c.counts.ensures.weaks_are c.counts.ensures.values_are in
     let t5 = fill_pointer _ _ _ _ t4 c.set_ptr.ensures c.new-object.ensures c.new-rest.ensures in
     let t6 = fill_value _ _ _ t5 c.set_value.ensures c.new-object.ensures in
     word_inside _ _ _ _ t6 refl c.new-5.ensures (omega arith)
@@ -147,7 +160,8 @@ check_first_tile-requires-2 g c =
     let t1 = fill_take _ _ c.in-Ok.ensures c.take_free.ensures.taken in
     let t2 = fill_push _ _ _ _ t1 c.push_filler.ensures.pushed c.new-region.ensures c.new.ensures in
     let t3 = fill_split _ _ _ _ _ t2 c.split_filler.ensures.split c.new-object.ensures c.new-2.ensures c.new-3.ensures in
-    let t4 = fill_make _ _ _ _ _ _ _ t3 c.make_object.ensures c.new-object.ensures c.new-4.ensures c.counts.ensures.pointers_are c.counts.ensures.weaks_are c.counts.ensures.values_are in
+    let t4 = fill_make _ _ _ _ _ _ _ t3 c.make_object.ensures c.new-object.ensures c.new-4.ensures c.counts.ensures.pointers_are
+    c.counts.ensures.weaks_are c.counts.ensures.values_are in
     let t5 = fill_pointer _ _ _ _ t4 c.set_ptr.ensures c.new-object.ensures c.new-rest.ensures in
     let t6 = fill_value _ _ _ t5 c.set_value.ensures c.new-object.ensures in
     word_inside _ _ _ _ t6 refl c.new-7.ensures (omega arith)
@@ -157,7 +171,8 @@ check_first_tile-requires-3 g c =
     let t1 = fill_take _ _ c.in-Ok.ensures c.take_free.ensures.taken in
     let t2 = fill_push _ _ _ _ t1 c.push_filler.ensures.pushed c.new-region.ensures c.new.ensures in
     let t3 = fill_split _ _ _ _ _ t2 c.split_filler.ensures.split c.new-object.ensures c.new-2.ensures c.new-3.ensures in
-    let t4 = fill_make _ _ _ _ _ _ _ t3 c.make_object.ensures c.new-object.ensures c.new-4.ensures c.counts.ensures.pointers_are c.counts.ensures.weaks_are c.counts.ensures.values_are in
+    let t4 = fill_make _ _ _ _ _ _ _ t3 c.make_object.ensures c.new-object.ensures c.new-4.ensures c.counts.ensures.pointers_are
+    c.counts.ensures.weaks_are c.counts.ensures.values_are in
     let t5 = fill_pointer _ _ _ _ t4 c.set_ptr.ensures c.new-object.ensures c.new-rest.ensures in
     let t6 = fill_value _ _ _ t5 c.set_value.ensures c.new-object.ensures in
     word_inside _ _ _ _ t6 refl c.new-8.ensures (omega arith)

@@ -16,14 +16,18 @@ first_of_one x p zero is = is
 first_of_one x p (suc n) is = absurd (cc)
 
 ends : (ps : List (List ℕ)) (x p : List ℕ) (n : ℕ) → ps ≡ x ∷ [] → slice_get ps n ≡ Some p → slice_get ps 0 ≡ Some p
-ends ps x p n e is = ap (λ (qs : List (List ℕ)). slice_get qs 0) e ∙ first_of_one x p n (ap (λ (qs : List (List ℕ)). slice_get qs n) (sym e) ∙ is)
+ends ps x p n e is =
+    ap (λ (qs : List (List ℕ)). slice_get qs 0) e ∙ first_of_one x p n (ap (λ (qs : List (List ℕ)). slice_get qs n) (sym e) ∙ is)
 
 -- what is left where one line is passed
-passed : (rest line after p : List ℕ) (left : ℕ) → pieces_of rest ≡ line ∷ pieces_of after → 1 < left → slice_get (pieces_of rest) (left - 1) ≡ Some p → slice_get (pieces_of after) (left - 1 - 1) ≡ Some p
-passed rest line after p left e more is = sym (next line (pieces_of after) left more) ∙ ap (λ (ps : List (List ℕ)). slice_get ps (left - 1)) (sym e) ∙ is
+passed : (rest line after p : List ℕ) (left : ℕ) → pieces_of rest ≡ line ∷ pieces_of after → 1 < left
+    → slice_get (pieces_of rest) (left - 1) ≡ Some p → slice_get (pieces_of after) (left - 1 - 1) ≡ Some p
+passed rest line after p left e more is =
+    sym (next line (pieces_of after) left more) ∙ ap (λ (ps : List (List ℕ)). slice_get ps (left - 1)) (sym e) ∙ is
 
 pub returns-in_default : goal.returns-in_default
-returns-in_default c = λ p is. ends (pieces_of c.loop-left.rest.now) c.loop-left.rest.now p (c.loop-left.left - 1) c.in_default.ensures.none (c.loop-left.invariant.there p is)
+returns-in_default c = λ p is. ends (pieces_of c.loop-left.rest.now) c.loop-left.rest.now p (c.loop-left.left - 1)
+    c.in_default.ensures.none (c.loop-left.invariant.there p is)
 
 pub loop-left-preserved : goal.loop-left-preserved
 loop-left-preserved c =
@@ -32,7 +36,8 @@ loop-left-preserved c =
     record {
       room = c.split_line.auto.words ∙ c.loop-left.invariant.room;
       bound = omega (arith, c.loop-left.invariant.bound, ap length (behind_is (k + 1) rest), length-drop (k + 1) rest);
-      there = λ p is. passed rest (take k rest) (behind (k + 1) rest) p c.loop-left.left (pieces_behind rest k c.in-Some.ensures.line) c.loop-left-test.true (c.loop-left.invariant.there p is);
+      there = λ p is. passed rest (take k rest) (behind (k + 1) rest) p c.loop-left.left (pieces_behind rest k c.in-Some.ensures.line)
+          c.loop-left-test.true (c.loop-left.invariant.there p is);
     }
 
 pub returns : goal.returns

@@ -9,7 +9,9 @@ returns-then-is_none-clause-fingers c =
     let i = c.self.inside in
     let object : c.args.object < length i.scanned = omega (arith, c.requires.known, ap (λ (g : Scans). length g.scanned) c.self.view_is) in
     let finger : c.word-finger.result / 64 < length i.fingers = omega (arith, object, c.word-finger.ensures, c.self.invariant) in
-    let none = none_found (HasNoneBelow (is_only c.args.marks.now c.set.new.self) (64 * (c.word-finger.result / 64)) (64 * (c.word-finger.result / 64) + 64)) c.lowest_without.result c.is_none.result _ c.lowest_without.ensures.lowest c.is_none.ensures c.if-is_none.true in
+    let none = none_found (HasNoneBelow (is_only c.args.marks.now c.set.new.self)
+    (64 * (c.word-finger.result / 64)) (64 * (c.word-finger.result / 64) + 64)) c.lowest_without.result c.is_none.result _
+    c.lowest_without.ensures.lowest c.is_none.ensures c.if-is_none.true in
     rw (← c.self.view_is)
-    (finger_fell c.args.marks.now i.scanned i.fingers c.set.new.self c.remove.new.self c.args.object (c.word-finger.result / 64) object finger
-    c.set.ensures c.remove.ensures none)
+    (finger_fell c.args.marks.now i.scanned i.fingers c.set.new.self c.remove.new.self c.args.object
+    (c.word-finger.result / 64) object finger c.set.ensures c.remove.ensures none)

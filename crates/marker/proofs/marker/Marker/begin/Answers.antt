@@ -19,23 +19,29 @@ reach-requires-clause-kept c = λ a e _.
 pub loop-place-preserved : goal.loop-place-preserved
 loop-place-preserved c =
     let q = c.reach.ensures in
-    among_next c.args.table.now c.args.roots.now.words c.loop-place.from c.in-Some.place c.get.result c.start.new.self c.loop-place.self c.reach.new.self
-    c.in-Some.ensures.lowest c.get.ensures c.loop-place.invariant (record { stands = q.stands; marks = q.marks; same = q.same; scanned = q.scanned; scans = q.scans; logs = q.logs })
+    among_next c.args.table.now c.args.roots.now.words c.loop-place.from c.in-Some.place c.get.result
+    c.start.new.self c.loop-place.self c.reach.new.self
+    c.in-Some.ensures.lowest c.get.ensures c.loop-place.invariant
+    (record { stands = q.stands; marks = q.marks; same = q.same; scanned = q.scanned; scans = q.scans; logs = q.logs })
 
 pub returns-clause-begins : goal.returns-clause-begins
 returns-clause-begins c =
     let s = c.start.ensures in
-    rest_begun c.args.table.now c.args.roots.now.words c.start.new.self c.loop-place.self c.loop-place.from c.law.ensures.positive c.in_default.ensures.lowest s.running s.tops s.unmarked s.unscanned
+    rest_begun c.args.table.now c.args.roots.now.words c.start.new.self c.loop-place.self c.loop-place.from c.law.ensures.positive
+    c.in_default.ensures.lowest s.running s.tops s.unmarked s.unscanned
     (ap logged s.logs ∙ c.requires.stands.idle c.requires.idle)
-    (λ j a e. kept_before c.args.table.now c.args.roots.now.words c.args.self.now c.start.new.self a s.previous_tops s.previous_marks (c.requires.closed.root j a e))
-    c.loop-place.invariant
+    (λ j a e. kept_before c.args.table.now c.args.roots.now.words c.args.self.now c.start.new.self a s.previous_tops
+    s.previous_marks (c.requires.closed.root j a e)) c.loop-place.invariant
 
 pub returns-clause-snapshot : goal.returns-clause-snapshot
 returns-clause-snapshot c = λ g shows.
     let s = c.start.ensures in
-    let begun = rest_begun c.args.table.now c.args.roots.now.words c.start.new.self c.loop-place.self c.loop-place.from c.law.ensures.positive c.in_default.ensures.lowest s.running s.tops s.unmarked s.unscanned
+    let begun = rest_begun c.args.table.now c.args.roots.now.words c.start.new.self c.loop-place.self c.loop-place.from
+    c.law.ensures.positive c.in_default.ensures.lowest s.running s.tops s.unmarked s.unscanned
     (ap logged s.logs ∙ c.requires.stands.idle c.requires.idle)
-    (λ j a e. kept_before c.args.table.now c.args.roots.now.words c.args.self.now c.start.new.self a s.previous_tops s.previous_marks (c.requires.closed.root j a e))
-    c.loop-place.invariant in
-    let heap = same_heap c.args.table.now c.args.roots.now.words c.start.new.self c.loop-place.self c.loop-place.invariant.same ∙ previous_heap c.args.table.now c.args.roots.now.words c.args.self.now c.start.new.self s.previous_tops s.previous_marks in
-    begins g (heap_of c.args.table.now c.args.roots.now.words c.loop-place.self) (marking_of c.args.table.now c.loop-place.self) (subst (λ (h : Heap). Shows g h) (sym heap) shows) begun
+    (λ j a e. kept_before c.args.table.now c.args.roots.now.words c.args.self.now c.start.new.self a s.previous_tops
+    s.previous_marks (c.requires.closed.root j a e)) c.loop-place.invariant in
+    let heap = same_heap c.args.table.now c.args.roots.now.words c.start.new.self c.loop-place.self c.loop-place.invariant.same
+    ∙ previous_heap c.args.table.now c.args.roots.now.words c.args.self.now c.start.new.self s.previous_tops s.previous_marks in
+    begins g (heap_of c.args.table.now c.args.roots.now.words c.loop-place.self) (marking_of c.args.table.now c.loop-place.self)
+    (subst (λ (h : Heap). Shows g h) (sym heap) shows) begun

@@ -20,7 +20,8 @@ clear_staying-requires-clause-marks c = sweep_marks _ _ _ _ _ c.in-Some.is c.loo
 pub loop-left-preserved : goal.loop-left-preserved
 loop-left-preserved c =
     let same = same_marking c.args.table.now c.loop-left.table c.args.self.now c.loop-left.invariant.some.size in
-    sweep_next _ _ _ _ _ c.in-Some.is c.loop-left.invariant _ _ _ _ same (c.new-behind.ensures ∙ ap (λ (n : ℕ). n + 1) c.word.ensures) c.clear_staying.ensures c.next_with_weaks-left-in-Some.ensures
+    sweep_next _ _ _ _ _ c.in-Some.is c.loop-left.invariant _ _ _ _ same (c.new-behind.ensures ∙ ap (λ (n : ℕ). n + 1) c.word.ensures)
+    c.clear_staying.ensures c.next_with_weaks-left-in-Some.ensures
 
 pub returns : goal.returns
 returns c = sweep_last _ _ _ _ c.in_default.is c.loop-left.invariant

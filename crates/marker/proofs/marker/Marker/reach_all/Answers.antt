@@ -12,8 +12,10 @@ pub loop-place-preserved : goal.loop-place-preserved
 loop-place-preserved c =
     let q = c.reach.ensures in
     early_more c.args.table.now c.args.log.now c.loop-place.place c.get.result c.args.self.now c.loop-place.self c.reach.new.self
-    c.get.ensures c.loop-place.invariant (record { stands = q.stands; marks = q.marks; same = q.same; scanned = q.scanned; scans = q.scans; logs = q.logs })
+    c.get.ensures c.loop-place.invariant
+    (record { stands = q.stands; marks = q.marks; same = q.same; scanned = q.scanned; scans = q.scans; logs = q.logs })
 
 pub returns-clause-marks : goal.returns-clause-marks
 returns-clause-marks c =
-    all_marks c.args.table.now c.args.log.now c.loop-place.place c.args.self.now c.loop-place.self (omega (arith, c.loop-place-test.false, c.len-place-end.ensures.value)) c.loop-place.invariant
+    all_marks c.args.table.now c.args.log.now c.loop-place.place c.args.self.now c.loop-place.self
+    (omega (arith, c.loop-place-test.false, c.len-place-end.ensures.value)) c.loop-place.invariant

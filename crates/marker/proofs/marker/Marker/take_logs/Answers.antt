@@ -6,7 +6,8 @@ pub loop-mutator-preserved : goal.loop-mutator-preserved
 loop-mutator-preserved c =
     let q = c.take_log.ensures in
     one_taken c.args.table.now c.args.self.now c.loop-mutator.self c.take_log.new.self c.loop-mutator.mutator c.loop-mutator.invariant
-    (omega (arith, c.loop-mutator-test.true, c.mutators-mutator-end.ensures, c.loop-mutator.invariant.len)) q.stands q.snapshots q.emptied q.scans q.same q.scanned
+    (omega (arith, c.loop-mutator-test.true, c.mutators-mutator-end.ensures, c.loop-mutator.invariant.len)) q.stands
+    q.snapshots q.emptied q.scans q.same q.scanned
 
 pub returns-clause-scanned : goal.returns-clause-scanned
 returns-clause-scanned c = c.loop-mutator.invariant.scanned

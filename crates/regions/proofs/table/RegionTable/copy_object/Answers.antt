@@ -25,7 +25,8 @@ pub copy-requires-clause-target : goal.copy-requires-clause-target
 copy-requires-clause-target c =
     let n = known _ _ _ _ _ c.self.view_is c.requires.known in
     let t = top_is _ _ _ _ _ c.self.invariant.table c.self.view_is c.requires.known c.requires.ordinary in
-    let at : c.top-to.result ≡ c.args.region * c.self.inside.words_per_region + used_of c.args.self.now c.args.region = c.top-to.ensures ∙ ap (λ (m : ℕ). c.args.region * m + used_of c.args.self.now c.args.region) (sym n.size_is) in
+    let at : c.top-to.result ≡ c.args.region * c.self.inside.words_per_region + used_of c.args.self.now c.args.region =
+    c.top-to.ensures ∙ ap (λ (m : ℕ). c.args.region * m + used_of c.args.self.now c.args.region) (sym n.size_is) in
     omega (arith, at, t.room, n.size_is, c.requires.room, c.object_size-size.ensures)
 
 pub index-requires : goal.index-requires
@@ -37,7 +38,8 @@ pub overflow_add-used : goal.overflow_add-used
 overflow_add-used c =
     let n = known _ _ _ _ _ c.self.view_is c.requires.known in
     let t = top_is _ _ _ _ _ c.self.invariant.table c.self.view_is c.requires.known c.requires.ordinary in
-    let read = get_or_read c.self.inside.rows.items _ _ (omega (arith, n.in_rows, c.number-number.ensures)) c.index.ensures free_row ∙ ap (λ k. get_or c.self.inside.rows.items k free_row) c.number-number.ensures in
+    let read = get_or_read c.self.inside.rows.items _ _ (omega (arith, n.in_rows, c.number-number.ensures)) c.index.ensures free_row
+    ∙ ap (λ k. get_or c.self.inside.rows.items k free_row) c.number-number.ensures in
     rw read (omega (arith, t.used_is, n.size_is, c.requires.room, c.object_size-size.ensures, c.self.invariant.table.region_size.1))
 
 pub index_mut-requires : goal.index_mut-requires
@@ -49,38 +51,73 @@ pub put_object-requires-clause-within : goal.put_object-requires-clause-within
 put_object-requires-clause-within c =
     let n = known _ _ _ _ _ c.self.view_is c.requires.known in
     let t = top_is _ _ _ _ _ c.self.invariant.table c.self.view_is c.requires.known c.requires.ordinary in
-    let at : c.top-to.result ≡ c.args.region * c.self.inside.words_per_region + used_of c.args.self.now c.args.region = c.top-to.ensures ∙ ap (λ (m : ℕ). c.args.region * m + used_of c.args.self.now c.args.region) (sym n.size_is) in
-    omega (arith, at, t.room, n.size_is, c.requires.room, c.object_size-size.ensures, c.word.ensures, c.self.invariant.table.small, c.self.invariant.each_card)
+    let at : c.top-to.result ≡ c.args.region * c.self.inside.words_per_region + used_of c.args.self.now c.args.region =
+    c.top-to.ensures ∙ ap (λ (m : ℕ). c.args.region * m + used_of c.args.self.now c.args.region) (sym n.size_is) in
+    omega (
+      arith,
+      at,
+      t.room,
+      n.size_is,
+      c.requires.room,
+      c.object_size-size.ensures,
+      c.word.ensures,
+      c.self.invariant.table.small,
+      c.self.invariant.each_card,
+    )
 
 pub put_object-requires-clause-small : goal.put_object-requires-clause-small
 put_object-requires-clause-small c =
     let n = known _ _ _ _ _ c.self.view_is c.requires.known in
     let t = top_is _ _ _ _ _ c.self.invariant.table c.self.view_is c.requires.known c.requires.ordinary in
-    let at : c.top-to.result ≡ c.args.region * c.self.inside.words_per_region + used_of c.args.self.now c.args.region = c.top-to.ensures ∙ ap (λ (m : ℕ). c.args.region * m + used_of c.args.self.now c.args.region) (sym n.size_is) in
-    omega (arith, at, t.room, n.size_is, c.requires.room, c.object_size-size.ensures, c.word.ensures, c.self.invariant.table.small, c.self.invariant.each_card)
+    let at : c.top-to.result ≡ c.args.region * c.self.inside.words_per_region + used_of c.args.self.now c.args.region =
+    c.top-to.ensures ∙ ap (λ (m : ℕ). c.args.region * m + used_of c.args.self.now c.args.region) (sym n.size_is) in
+    omega (
+      arith,
+      at,
+      t.room,
+      n.size_is,
+      c.requires.room,
+      c.object_size-size.ensures,
+      c.word.ensures,
+      c.self.invariant.table.small,
+      c.self.invariant.each_card,
+    )
 
 pub invariant_of-self : goal.invariant_of-self
 invariant_of-self c =
     let n = known _ _ _ _ _ c.self.view_is c.requires.known in
     let o = object_there _ _ _ _ _ c.self.invariant.table c.self.view_is c.requires.object in
-    let read = get_or_read c.self.inside.rows.items _ _ (omega (arith, n.in_rows, c.number-number.ensures)) c.index.ensures free_row ∙ ap (λ k. get_or c.self.inside.rows.items k free_row) c.number-number.ensures in
-    let w = copy_pushed _ _ _ _ _ c.args.from _ _ _ _ o.0 _ c.self.invariant.table c.self.view_is c.requires.known c.requires.ordinary o.1.is c.requires.room c.top-to.ensures (ap (λ (row : Row). row.used) read) c.object_size-size.ensures c.number-number.ensures c.copy.ensures in
+    let read = get_or_read c.self.inside.rows.items _ _ (omega (arith, n.in_rows, c.number-number.ensures)) c.index.ensures free_row
+    ∙ ap (λ k. get_or c.self.inside.rows.items k free_row) c.number-number.ensures in
+    let w = copy_pushed _ _ _ _ _ c.args.from _ _ _ _ o.0 _ c.self.invariant.table c.self.view_is c.requires.known
+    c.requires.ordinary o.1.is c.requires.room c.top-to.ensures (ap (λ (row : Row). row.used) read) c.object_size-size.ensures
+    c.number-number.ensures c.copy.ensures in
     let long : object_words c.args.self.now c.args.from ≡ tile_size (Object o.0) = o.1.words_are in
-    let slots : c.weak_count-weaks.result ≡ length o.0.weaks = c.weak_count-weaks.ensures ∙ ap (λ (l : List (Option ℕ)). length l) (weaks_are c.args.self.now c.args.from o.0 o.1.is) in
-    let flags = c.note.ensures ∙ ap (λ (k : ℕ). noted c.self.inside.weak_starts k c.weak_count-weaks.result) (c.word-2.ensures ∙ sym c.word.ensures) ∙ ap (λ (n : ℕ). noted c.self.inside.weak_starts c.word.result n) slots in
-    push_sound _ _ _ _ _ _ _ _ c.self.invariant c.self.view_is _ _ _ _ _ c.args.region _ _ (length o.0.weaks) (Object o.0) c.requires.known c.requires.ordinary (omega (arith, o.1.large, long)) (rw long at c.requires.room) tt (c.word.ensures ∙ c.top-to.ensures) (c.object_size-size.ensures ∙ long) c.put_object.ensures.card_words c.put_object.ensures.len c.put_object.ensures.entries refl flags (used_set _ _ _ _ (omega (arith, n.in_rows, c.number-number.ensures)) refl c.self.invariant.used_below) w
+    let slots : c.weak_count-weaks.result ≡ length o.0.weaks =
+    c.weak_count-weaks.ensures ∙ ap (λ (l : List (Option ℕ)). length l) (weaks_are c.args.self.now c.args.from o.0 o.1.is) in
+    let flags = c.note.ensures
+    ∙ ap (λ (k : ℕ). noted c.self.inside.weak_starts k c.weak_count-weaks.result) (c.word-2.ensures ∙ sym c.word.ensures)
+    ∙ ap (λ (n : ℕ). noted c.self.inside.weak_starts c.word.result n) slots in
+    push_sound _ _ _ _ _ _ _ _ c.self.invariant c.self.view_is _ _ _ _ _ c.args.region _ _ (length o.0.weaks) (Object o.0) c.requires.known
+    c.requires.ordinary (omega (arith, o.1.large, long)) (rw long at c.requires.room) tt (c.word.ensures ∙ c.top-to.ensures)
+    (c.object_size-size.ensures ∙ long) c.put_object.ensures.card_words c.put_object.ensures.len c.put_object.ensures.entries refl flags
+    (used_set _ _ _ _ (omega (arith, n.in_rows, c.number-number.ensures)) refl c.self.invariant.used_below) w
 
 pub returns-clause-pushed : goal.returns-clause-pushed
 returns-clause-pushed c s is =
     let n = known _ _ _ _ _ c.self.view_is c.requires.known in
-    let read = get_or_read c.self.inside.rows.items _ _ (omega (arith, n.in_rows, c.number-number.ensures)) c.index.ensures free_row ∙ ap (λ k. get_or c.self.inside.rows.items k free_row) c.number-number.ensures in
-    (copy_pushed _ _ _ _ _ c.args.from _ _ _ _ s _ c.self.invariant.table c.self.view_is c.requires.known c.requires.ordinary is c.requires.room c.top-to.ensures (ap (λ (row : Row). row.used) read) c.object_size-size.ensures c.number-number.ensures c.copy.ensures).table_is
+    let read = get_or_read c.self.inside.rows.items _ _ (omega (arith, n.in_rows, c.number-number.ensures)) c.index.ensures free_row
+    ∙ ap (λ k. get_or c.self.inside.rows.items k free_row) c.number-number.ensures in
+    (copy_pushed _ _ _ _ _ c.args.from _ _ _ _ s _ c.self.invariant.table c.self.view_is c.requires.known
+    c.requires.ordinary is c.requires.room c.top-to.ensures (ap (λ (row : Row). row.used) read)
+    c.object_size-size.ensures c.number-number.ensures c.copy.ensures).table_is
 
 pub note-requires : goal.note-requires
 note-requires c =
     let n = known _ _ _ _ _ c.self.view_is c.requires.known in
     let o = object_there _ _ _ _ _ c.self.invariant.table c.self.view_is c.requires.object in
     let t = top_is _ _ _ _ _ c.self.invariant.table c.self.view_is c.requires.known c.requires.ordinary in
-    let at : c.top-to.result ≡ c.args.region * c.self.inside.words_per_region + used_of c.args.self.now c.args.region = c.top-to.ensures ∙ ap (λ (m : ℕ). c.args.region * m + used_of c.args.self.now c.args.region) (sym n.size_is) in
+    let at : c.top-to.result ≡ c.args.region * c.self.inside.words_per_region + used_of c.args.self.now c.args.region =
+    c.top-to.ensures ∙ ap (λ (m : ℕ). c.args.region * m + used_of c.args.self.now c.args.region) (sym n.size_is) in
     let count = c.self.invariant.weak_count in
     omega (arith, at, t.room, n.size_is, c.requires.room, o.1.large, o.1.words_are, c.word-2.ensures, count)

@@ -14,13 +14,19 @@ write_forwarded-requires c =
 pub invariant_of-self : goal.invariant_of-self
 invariant_of-self c =
     let o = object_there _ _ _ _ _ c.self.invariant.table c.self.view_is c.requires.object in
-    let slots : c.weak_count-weaks.result ≡ length o.0.weaks = c.weak_count-weaks.ensures ∙ ap (λ (l : List (Option ℕ)). length l) (weaks_are c.args.self.now c.args.from o.0 o.1.is) in
+    let slots : c.weak_count-weaks.result ≡ length o.0.weaks =
+    c.weak_count-weaks.ensures ∙ ap (λ (l : List (Option ℕ)). length l) (weaks_are c.args.self.now c.args.from o.0 o.1.is) in
     let gone = c.forget.ensures ∙ ap (λ (k : ℕ). forgotten c.self.inside.weak_starts k c.weak_count-weaks.result) c.word.ensures in
-    rw c.write_forwarded.ensures (forwarded_sound _ _ _ _ _ _ _ _ c.self.invariant c.self.view_is _ _ c.args.from c.args.to _ o.0 o.1.is c.requires.ordinary slots gone (forwarded _ _ _ _ c.args.from c.args.to c.self.invariant.table c.self.view_is c.requires.object c.requires.ordinary c.requires.copy c.requires.apart c.requires.untargeted))
+    rw c.write_forwarded.ensures
+    (forwarded_sound _ _ _ _ _ _ _ _ c.self.invariant c.self.view_is _ _ c.args.from c.args.to _ o.0 o.1.is c.requires.ordinary slots gone
+    (forwarded _ _ _ _ c.args.from c.args.to c.self.invariant.table c.self.view_is c.requires.object c.requires.ordinary
+    c.requires.copy c.requires.apart c.requires.untargeted))
 
 pub returns : goal.returns
 returns c =
-    rw c.write_forwarded.ensures (forwarded _ _ _ _ c.args.from c.args.to c.self.invariant.table c.self.view_is c.requires.object c.requires.ordinary c.requires.copy c.requires.apart c.requires.untargeted).table_is
+    rw c.write_forwarded.ensures
+    (forwarded _ _ _ _ c.args.from c.args.to c.self.invariant.table c.self.view_is c.requires.object c.requires.ordinary
+    c.requires.copy c.requires.apart c.requires.untargeted).table_is
 
 pub forget-requires : goal.forget-requires
 forget-requires c =

@@ -14,6 +14,7 @@ pub returns : goal.returns
 returns c =
     let n = known _ _ _ _ _ c.self.view_is c.requires.known in
     let t = top_is _ _ _ _ _ c.self.invariant.table c.self.view_is c.requires.known c.requires.ordinary in
-    let read = get_or_read c.self.inside.rows.items _ _ (omega (arith, n.in_rows, c.number.ensures)) c.index.ensures free_row ∙ ap (λ k. get_or c.self.inside.rows.items k free_row) c.number.ensures in
+    let read = get_or_read c.self.inside.rows.items _ _ (omega (arith, n.in_rows, c.number.ensures)) c.index.ensures free_row
+    ∙ ap (λ k. get_or c.self.inside.rows.items k free_row) c.number.ensures in
     let used = ap (λ (row : Row). row.used) read ∙ t.used_is in
     rw (c.from.ensures, c.from-2.ensures, c.from-3.ensures, used, n.size_is) refl

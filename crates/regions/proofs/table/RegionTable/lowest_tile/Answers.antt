@@ -13,4 +13,5 @@ returns-then-tile_words-eq0 c = none_lowest _ _ _ c.tile_words.ensures c.if-tile
 pub returns : goal.returns
 returns c =
     let at = c.new.ensures ∙ product _ _ _ _ c.number.ensures c.words_per_region.ensures in
-    subst (λ (n : ℕ). IsLowest c.args.self.now c.args.region (Some n)) (sym at) (some_lowest _ _ _ c.law.ensures c.tile_words.ensures (omega (arith, c.if-tile_words-eq0.false)))
+    subst (λ (n : ℕ). IsLowest c.args.self.now c.args.region (Some n)) (sym at)
+    (some_lowest _ _ _ c.law.ensures c.tile_words.ensures (omega (arith, c.if-tile_words-eq0.false)))

@@ -23,7 +23,9 @@ overflow_add-word c =
 pub write_remainder-requires-clause-within : goal.write_remainder-requires-clause-within
 write_remainder-requires-clause-within c =
     let f = filler_fits _ _ _ _ _ _ c.self.invariant.table c.self.view_is c.requires.there in
-    let l = put_object_length c.self.inside.words c.args.at (header_word (headers.Object c.args.counts.pointers c.args.counts.weaks c.args.counts.values)) c.args.name c.args.counts.pointers c.args.counts.weaks c.args.counts.values (omega (arith, f, c.requires.room)) in
+    let l = put_object_length c.self.inside.words c.args.at
+    (header_word (headers.Object c.args.counts.pointers c.args.counts.weaks c.args.counts.values)) c.args.name c.args.counts.pointers
+    c.args.counts.weaks c.args.counts.values (omega (arith, f, c.requires.room)) in
     rw c.write_object.ensures (omega (arith, f, l, c.requires.room, c.word.ensures, c.size-size.ensures, c.get.ensures.value))
 
 pub put_front-requires-clause-within : goal.put_front-requires-clause-within
@@ -49,27 +51,47 @@ overflow_add-word-3 c =
 pub move_filler-requires : goal.move_filler-requires
 move_filler-requires c =
     let f = filler_fits _ _ _ _ _ _ c.self.invariant.table c.self.view_is c.requires.there in
-    rw (c.put_front.ensures.len, c.put_front.ensures.card_words) (omega (arith, f, c.self.invariant.table.small, c.self.invariant.each_card, c.word-4.ensures, c.get-2.ensures.value))
+    rw (c.put_front.ensures.len, c.put_front.ensures.card_words)
+    (omega (arith, f, c.self.invariant.table.small, c.self.invariant.each_card, c.word-4.ensures, c.get-2.ensures.value))
 
 pub invariant_of-self : goal.invariant_of-self
 invariant_of-self c =
-    let size : c.word.result + c.size-size.result ≡ c.args.at + (2 + c.args.counts.pointers + c.args.counts.weaks + c.args.counts.values) = omega (arith, c.word.ensures, c.size-size.ensures) in
-    let rest : c.get.result - c.size-size.result ≡ c.args.filler - (2 + c.args.counts.pointers + c.args.counts.weaks + c.args.counts.values) = omega (arith, c.get.ensures.value, c.size-size.ensures) in
-    let w = filler_filled _ _ _ _ c.args.at c.args.name c.args.counts.pointers c.args.counts.weaks c.args.counts.values c.args.filler _ _ _ _ _ c.self.invariant.table c.self.view_is c.requires.there (omega (arith, c.requires.room)) (omega arith) (omega arith) (omega arith) c.write_object.ensures c.write_remainder.ensures size rest in
-    let long : c.size-size.result ≡ tile_size (Object (new_object c.args.name c.args.counts.pointers c.args.counts.weaks c.args.counts.values)) = omega (arith, c.size-size.ensures, new_size c.args.name c.args.counts.pointers c.args.counts.weaks c.args.counts.values) in
-    let flags = c.note.ensures ∙ ap (λ (k : ℕ). noted c.self.inside.weak_starts k c.from-weaks.result) c.word-5.ensures ∙ ap (λ (n : ℕ). noted c.self.inside.weak_starts c.args.at n) c.from-weaks.ensures in
-    front_sound _ _ _ _ _ _ _ _ c.self.invariant c.self.view_is c.put_front.new.self c.move_filler.new.self _ _ c.args.at c.args.filler _ _ _ _ c.args.counts.weaks (Object (new_object c.args.name c.args.counts.pointers c.args.counts.weaks c.args.counts.values)) c.requires.there (omega (arith, long)) (omega (arith, c.requires.room, long, c.size-size.ensures)) tt long (omega (arith, c.word-3.ensures, long)) (omega (arith, c.word-4.ensures, c.get-2.ensures.value))
-    c.put_front.ensures.card_words c.move_filler.ensures.card_words c.put_front.ensures.len c.move_filler.ensures.len (object_written _ _ _ _ _ _ c.word-2.ensures c.put_front.ensures.entries) c.move_filler.ensures.entries (length-replicate {A = Option ℕ} c.args.counts.weaks None) flags w
+    let size : c.word.result + c.size-size.result ≡ c.args.at + (2 + c.args.counts.pointers + c.args.counts.weaks + c.args.counts.values) =
+    omega (arith, c.word.ensures, c.size-size.ensures) in
+    let rest : c.get.result - c.size-size.result
+    ≡ c.args.filler - (2 + c.args.counts.pointers + c.args.counts.weaks + c.args.counts.values) =
+    omega (arith, c.get.ensures.value, c.size-size.ensures) in
+    let w = filler_filled _ _ _ _ c.args.at c.args.name c.args.counts.pointers c.args.counts.weaks c.args.counts.values c.args.filler _ _ _
+    _ _ c.self.invariant.table c.self.view_is c.requires.there (omega (arith, c.requires.room)) (omega arith) (omega arith) (omega arith)
+    c.write_object.ensures c.write_remainder.ensures size rest in
+    let long : c.size-size.result
+    ≡ tile_size (Object (new_object c.args.name c.args.counts.pointers c.args.counts.weaks c.args.counts.values)) =
+    omega (arith, c.size-size.ensures, new_size c.args.name c.args.counts.pointers c.args.counts.weaks c.args.counts.values) in
+    let flags = c.note.ensures ∙ ap (λ (k : ℕ). noted c.self.inside.weak_starts k c.from-weaks.result) c.word-5.ensures
+    ∙ ap (λ (n : ℕ). noted c.self.inside.weak_starts c.args.at n) c.from-weaks.ensures in
+    front_sound _ _ _ _ _ _ _ _ c.self.invariant c.self.view_is c.put_front.new.self c.move_filler.new.self _ _ c.args.at c.args.filler _ _
+    _ _ c.args.counts.weaks (Object (new_object c.args.name c.args.counts.pointers c.args.counts.weaks c.args.counts.values))
+    c.requires.there (omega (arith, long)) (omega (arith, c.requires.room, long, c.size-size.ensures)) tt long
+    (omega (arith, c.word-3.ensures, long)) (omega (arith, c.word-4.ensures, c.get-2.ensures.value))
+    c.put_front.ensures.card_words c.move_filler.ensures.card_words c.put_front.ensures.len c.move_filler.ensures.len
+    (object_written _ _ _ _ _ _ c.word-2.ensures c.put_front.ensures.entries) c.move_filler.ensures.entries
+    (length-replicate {A = Option ℕ} c.args.counts.weaks None) flags w
 
 pub returns : goal.returns
 returns c =
-    let size : c.word.result + c.size-size.result ≡ c.args.at + (2 + c.args.counts.pointers + c.args.counts.weaks + c.args.counts.values) = omega (arith, c.word.ensures, c.size-size.ensures) in
-    let rest : c.get.result - c.size-size.result ≡ c.args.filler - (2 + c.args.counts.pointers + c.args.counts.weaks + c.args.counts.values) = omega (arith, c.get.ensures.value, c.size-size.ensures) in
-    (filler_filled _ _ _ _ c.args.at c.args.name c.args.counts.pointers c.args.counts.weaks c.args.counts.values c.args.filler _ _ _ _ _ c.self.invariant.table c.self.view_is c.requires.there (omega (arith, c.requires.room)) (omega arith) (omega arith) (omega arith) c.write_object.ensures c.write_remainder.ensures size rest).table_is
+    let size : c.word.result + c.size-size.result ≡ c.args.at + (2 + c.args.counts.pointers + c.args.counts.weaks + c.args.counts.values) =
+    omega (arith, c.word.ensures, c.size-size.ensures) in
+    let rest : c.get.result - c.size-size.result
+    ≡ c.args.filler - (2 + c.args.counts.pointers + c.args.counts.weaks + c.args.counts.values) =
+    omega (arith, c.get.ensures.value, c.size-size.ensures) in
+    (filler_filled _ _ _ _ c.args.at c.args.name c.args.counts.pointers c.args.counts.weaks c.args.counts.values c.args.filler _ _ _ _ _
+    c.self.invariant.table c.self.view_is c.requires.there (omega (arith, c.requires.room)) (omega arith) (omega arith)
+    (omega arith) c.write_object.ensures c.write_remainder.ensures size rest).table_is
 
 pub put_front-requires-clause-entries : goal.put_front-requires-clause-entries
 put_front-requires-clause-entries c n low high =
-    filler_entries _ _ _ _ _ _ _ _ c.args.at c.args.filler _ _ n c.self.invariant c.self.view_is c.requires.there c.word-2.ensures c.get-2.ensures.value low high
+    filler_entries _ _ _ _ _ _ _ _ c.args.at c.args.filler _ _ n c.self.invariant c.self.view_is c.requires.there
+    c.word-2.ensures c.get-2.ensures.value low high
 
 pub note-requires : goal.note-requires
 note-requires c =

@@ -12,68 +12,102 @@ use Rattle.regions.proofs.table.RegionTable.make_run.Goals as goal
 
 pub overflow_mul-bottom : goal.overflow_mul-bottom
 overflow_mul-bottom c =
-    let e : first_run free c.args.count c.self.inside.rows.items ≡ Some c.args.first = sym (first_run-is _ _ _ _ c.args.count c.self.view_is) ∙ c.requires.lowest in
+    let e : first_run free c.args.count c.self.inside.rows.items ≡ Some c.args.first =
+    sym (first_run-is _ _ _ _ c.args.count c.self.view_is) ∙ c.requires.lowest in
     let f = run_here_is _ _ _ _ _ c.self.invariant.table e in
     rw c.number-number.ensures (omega (arith, f.ends, c.self.invariant.table.small))
 
 pub write_object-requires : goal.write_object-requires
 write_object-requires c =
-    let e : first_run free c.args.count c.self.inside.rows.items ≡ Some c.args.first = sym (first_run-is _ _ _ _ c.args.count c.self.view_is) ∙ c.requires.lowest in
+    let e : first_run free c.args.count c.self.inside.rows.items ≡ Some c.args.first =
+    sym (first_run-is _ _ _ _ c.args.count c.self.view_is) ∙ c.requires.lowest in
     let f = run_here_is _ _ _ _ _ c.self.invariant.table e in
-    let covers : 2 + c.args.counts.pointers + c.args.counts.weaks + c.args.counts.values ≤ c.args.count * c.self.inside.words_per_region = rw (size_is_of _ _ _ _ c.self.view_is) c.requires.covers in
+    let covers : 2 + c.args.counts.pointers + c.args.counts.weaks + c.args.counts.values ≤ c.args.count * c.self.inside.words_per_region =
+    rw (size_is_of _ _ _ _ c.self.view_is) c.requires.covers in
     rw (c.new.ensures, c.number-number.ensures) (omega (arith, f.ends, covers))
 
 pub write_run-requires-clause-within : goal.write_run-requires-clause-within
 write_run-requires-clause-within c =
-    let e : first_run free c.args.count c.self.inside.rows.items ≡ Some c.args.first = sym (first_run-is _ _ _ _ c.args.count c.self.view_is) ∙ c.requires.lowest in
+    let e : first_run free c.args.count c.self.inside.rows.items ≡ Some c.args.first =
+    sym (first_run-is _ _ _ _ c.args.count c.self.view_is) ∙ c.requires.lowest in
     let f = run_here_is _ _ _ _ _ c.self.invariant.table e in
     rw (c.deref_mut.ensures.value, c.number-number.ensures) f.room
 
 pub write_run-requires-clause-small : goal.write_run-requires-clause-small
 write_run-requires-clause-small c =
-    let e : first_run free c.args.count c.self.inside.rows.items ≡ Some c.args.first = sym (first_run-is _ _ _ _ c.args.count c.self.view_is) ∙ c.requires.lowest in
+    let e : first_run free c.args.count c.self.inside.rows.items ≡ Some c.args.first =
+    sym (first_run-is _ _ _ _ c.args.count c.self.view_is) ∙ c.requires.lowest in
     let f = run_here_is _ _ _ _ _ c.self.invariant.table e in
     omega (arith, f.whole, c.self.invariant.table.small)
 
 pub put_object-requires-clause-within : goal.put_object-requires-clause-within
 put_object-requires-clause-within c =
-    let e : first_run free c.args.count c.self.inside.rows.items ≡ Some c.args.first = sym (first_run-is _ _ _ _ c.args.count c.self.view_is) ∙ c.requires.lowest in
+    let e : first_run free c.args.count c.self.inside.rows.items ≡ Some c.args.first =
+    sym (first_run-is _ _ _ _ c.args.count c.self.view_is) ∙ c.requires.lowest in
     let f = run_here_is _ _ _ _ _ c.self.invariant.table e in
-    let covers : 2 + c.args.counts.pointers + c.args.counts.weaks + c.args.counts.values ≤ c.args.count * c.self.inside.words_per_region = rw (size_is_of _ _ _ _ c.self.view_is) c.requires.covers in
-    rw c.number-number.ensures (omega (arith, f.ends, covers, c.self.invariant.table.small, c.self.invariant.each_card, c.size-size.ensures))
+    let covers : 2 + c.args.counts.pointers + c.args.counts.weaks + c.args.counts.values ≤ c.args.count * c.self.inside.words_per_region =
+    rw (size_is_of _ _ _ _ c.self.view_is) c.requires.covers in
+    rw c.number-number.ensures
+    (omega (arith, f.ends, covers, c.self.invariant.table.small, c.self.invariant.each_card, c.size-size.ensures))
 
 pub put_object-requires-clause-small : goal.put_object-requires-clause-small
 put_object-requires-clause-small c =
-    let e : first_run free c.args.count c.self.inside.rows.items ≡ Some c.args.first = sym (first_run-is _ _ _ _ c.args.count c.self.view_is) ∙ c.requires.lowest in
+    let e : first_run free c.args.count c.self.inside.rows.items ≡ Some c.args.first =
+    sym (first_run-is _ _ _ _ c.args.count c.self.view_is) ∙ c.requires.lowest in
     let f = run_here_is _ _ _ _ _ c.self.invariant.table e in
-    let covers : 2 + c.args.counts.pointers + c.args.counts.weaks + c.args.counts.values ≤ c.args.count * c.self.inside.words_per_region = rw (size_is_of _ _ _ _ c.self.view_is) c.requires.covers in
-    rw c.number-number.ensures (omega (arith, f.ends, covers, c.self.invariant.table.small, c.self.invariant.each_card, c.size-size.ensures))
+    let covers : 2 + c.args.counts.pointers + c.args.counts.weaks + c.args.counts.values ≤ c.args.count * c.self.inside.words_per_region =
+    rw (size_is_of _ _ _ _ c.self.view_is) c.requires.covers in
+    rw c.number-number.ensures
+    (omega (arith, f.ends, covers, c.self.invariant.table.small, c.self.invariant.each_card, c.size-size.ensures))
 
 pub invariant_of-self : goal.invariant_of-self
 invariant_of-self c =
-    let e : first_run free c.args.count c.self.inside.rows.items ≡ Some c.args.first = sym (first_run-is _ _ _ _ c.args.count c.self.view_is) ∙ c.requires.lowest in
+    let e : first_run free c.args.count c.self.inside.rows.items ≡ Some c.args.first =
+    sym (first_run-is _ _ _ _ c.args.count c.self.view_is) ∙ c.requires.lowest in
     let number : c.self.inside.rows.len ≡ length c.self.inside.rows.items = omega arith in
-    let size : c.size-size.result ≡ 2 + c.args.counts.pointers + c.args.counts.weaks + c.args.counts.values = omega (arith, c.size-size.ensures) in
-    let bottom : c.new.result ≡ c.args.first * c.self.inside.words_per_region = c.new.ensures ∙ ap (λ (k : ℕ). k * c.self.inside.words_per_region) c.number-number.ensures in
+    let size : c.size-size.result ≡ 2 + c.args.counts.pointers + c.args.counts.weaks + c.args.counts.values =
+    omega (arith, c.size-size.ensures) in
+    let bottom : c.new.result ≡ c.args.first * c.self.inside.words_per_region =
+    c.new.ensures ∙ ap (λ (k : ℕ). k * c.self.inside.words_per_region) c.number-number.ensures in
     let rows = rw (c.deref_mut.ensures.value, c.number-number.ensures) at c.write_run.ensures in
     let f = run_here_is _ _ _ _ _ c.self.invariant.table e in
-    let w = run_taken _ _ _ _ _ _ c.args.name c.args.counts.pointers c.args.counts.weaks c.args.counts.values _ _ _ _ _ c.self.invariant.table c.self.view_is e c.requires.positive c.requires.covers c.requires.tight (omega arith) (omega arith) (omega arith) bottom size number c.write_object.ensures rows in
-    let flags = c.note.ensures ∙ ap (λ (n : ℕ). noted c.self.inside.weak_starts (c.number-number.result * c.self.inside.words_per_region) n) c.from-weaks.ensures in
-    run_sound _ _ _ _ _ _ _ _ c.self.invariant c.self.view_is _ _ _ _ _ c.args.first c.args.count _ _ c.args.counts.weaks (new_object c.args.name c.args.counts.pointers c.args.counts.weaks c.args.counts.values) c.requires.positive c.requires.lowest (ap (λ (k : ℕ). k * c.self.inside.words_per_region) c.number-number.ensures ∙ ap (λ (m : ℕ). c.args.first * m) (size_is_of _ _ _ _ c.self.view_is)) (omega (arith, size, new_size c.args.name c.args.counts.pointers c.args.counts.weaks c.args.counts.values)) c.put_object.ensures.card_words c.put_object.ensures.len c.put_object.ensures.entries (length-replicate {A = Option ℕ} c.args.counts.weaks None) flags (used_written c.self.inside.rows.items _ _ c.self.inside.lowest c.args.first c.args.count c.self.inside.lowest _ c.self.invariant.used_below (omega (arith, f.room)) (used_le c.self.inside.rows.items c.self.inside.lowest c.args.first c.self.invariant.used_below (front_free c.self.inside.rows.items c.args.first c.args.count c.requires.positive f.free)) (omega arith) number rows) w
+    let w = run_taken _ _ _ _ _ _ c.args.name c.args.counts.pointers c.args.counts.weaks c.args.counts.values _ _ _ _ _
+    c.self.invariant.table c.self.view_is e c.requires.positive c.requires.covers c.requires.tight (omega arith) (omega arith) (omega arith)
+    bottom size number c.write_object.ensures rows in
+    let flags = c.note.ensures
+    ∙ ap (λ (n : ℕ). noted c.self.inside.weak_starts (c.number-number.result * c.self.inside.words_per_region) n) c.from-weaks.ensures in
+    run_sound _ _ _ _ _ _ _ _ c.self.invariant c.self.view_is _ _ _ _ _ c.args.first c.args.count _ _ c.args.counts.weaks
+    (new_object c.args.name c.args.counts.pointers c.args.counts.weaks c.args.counts.values) c.requires.positive c.requires.lowest
+    (ap (λ (k : ℕ). k * c.self.inside.words_per_region) c.number-number.ensures
+    ∙ ap (λ (m : ℕ). c.args.first * m) (size_is_of _ _ _ _ c.self.view_is))
+    (omega (arith, size, new_size c.args.name c.args.counts.pointers c.args.counts.weaks c.args.counts.values))
+    c.put_object.ensures.card_words c.put_object.ensures.len c.put_object.ensures.entries
+    (length-replicate {A = Option ℕ} c.args.counts.weaks None) flags
+    (used_written c.self.inside.rows.items _ _ c.self.inside.lowest c.args.first c.args.count c.self.inside.lowest _
+    c.self.invariant.used_below (omega (arith, f.room))
+    (used_le c.self.inside.rows.items c.self.inside.lowest c.args.first c.self.invariant.used_below
+    (front_free c.self.inside.rows.items c.args.first c.args.count c.requires.positive f.free)) (omega arith) number rows) w
 
 pub returns : goal.returns
 returns c =
-    let e : first_run free c.args.count c.self.inside.rows.items ≡ Some c.args.first = sym (first_run-is _ _ _ _ c.args.count c.self.view_is) ∙ c.requires.lowest in
+    let e : first_run free c.args.count c.self.inside.rows.items ≡ Some c.args.first =
+    sym (first_run-is _ _ _ _ c.args.count c.self.view_is) ∙ c.requires.lowest in
     let number : c.self.inside.rows.len ≡ length c.self.inside.rows.items = omega arith in
-    let size : c.size-size.result ≡ 2 + c.args.counts.pointers + c.args.counts.weaks + c.args.counts.values = omega (arith, c.size-size.ensures) in
-    let bottom : c.new.result ≡ c.args.first * c.self.inside.words_per_region = c.new.ensures ∙ ap (λ (k : ℕ). k * c.self.inside.words_per_region) c.number-number.ensures in
+    let size : c.size-size.result ≡ 2 + c.args.counts.pointers + c.args.counts.weaks + c.args.counts.values =
+    omega (arith, c.size-size.ensures) in
+    let bottom : c.new.result ≡ c.args.first * c.self.inside.words_per_region =
+    c.new.ensures ∙ ap (λ (k : ℕ). k * c.self.inside.words_per_region) c.number-number.ensures in
     let rows = rw (c.deref_mut.ensures.value, c.number-number.ensures) at c.write_run.ensures in
-    (run_taken _ _ _ _ _ _ c.args.name c.args.counts.pointers c.args.counts.weaks c.args.counts.values _ _ _ _ _ c.self.invariant.table c.self.view_is e c.requires.positive c.requires.covers c.requires.tight (omega arith) (omega arith) (omega arith) bottom size number c.write_object.ensures rows).table_is
+    (run_taken _ _ _ _ _ _ c.args.name c.args.counts.pointers c.args.counts.weaks c.args.counts.values _ _ _ _ _
+    c.self.invariant.table c.self.view_is e c.requires.positive c.requires.covers c.requires.tight (omega arith)
+    (omega arith) (omega arith) bottom size number c.write_object.ensures rows).table_is
 
 pub note-requires : goal.note-requires
 note-requires c =
-    let e : first_run free c.args.count c.self.inside.rows.items ≡ Some c.args.first = sym (first_run-is _ _ _ _ c.args.count c.self.view_is) ∙ c.requires.lowest in
+    let e : first_run free c.args.count c.self.inside.rows.items ≡ Some c.args.first =
+    sym (first_run-is _ _ _ _ c.args.count c.self.view_is) ∙ c.requires.lowest in
     let f = run_here_is _ _ _ _ _ c.self.invariant.table e in
-    let covers : 2 + c.args.counts.pointers + c.args.counts.weaks + c.args.counts.values ≤ c.args.count * c.self.inside.words_per_region = rw (size_is_of _ _ _ _ c.self.view_is) c.requires.covers in
+    let covers : 2 + c.args.counts.pointers + c.args.counts.weaks + c.args.counts.values ≤ c.args.count * c.self.inside.words_per_region =
+    rw (size_is_of _ _ _ _ c.self.view_is) c.requires.covers in
     let count = c.self.invariant.weak_count in
     rw c.number-number.ensures (omega (arith, f.ends, covers, count))

@@ -25,24 +25,34 @@ new-requires-2-clause-power c =
 pub invariant_of-result : goal.invariant_of-result
 invariant_of-result c =
     let s = c.in_ok-check.ensures.suits.0 refl in
-    let long : length c.in-Ok.words ≡ c.args.config.now.regions * c.args.config.now.words = ap (λ (ws : List ℕ). length ws) c.in-Ok.ensures ∙ length-replicate {A = ℕ} _ 0 in
-    let made = new_table c.args.config.now.words c.args.config.now.regions _ _ (omega (arith, s.words.at_least)) (small_region c.args.config.now s) long (small_heap c.args.config.now s) c.in-Ok-free_rows.ensures in
+    let long : length c.in-Ok.words ≡ c.args.config.now.regions * c.args.config.now.words =
+    ap (λ (ws : List ℕ). length ws) c.in-Ok.ensures ∙ length-replicate {A = ℕ} _ 0 in
+    let made = new_table c.args.config.now.words c.args.config.now.regions _ _ (omega (arith, s.words.at_least))
+    (small_region c.args.config.now s) long (small_heap c.args.config.now s) c.in-Ok-free_rows.ensures in
     let power = power_is c.args.config.now.words c.ilog2.result s.words.power c.ilog2.ensures.power_le c.ilog2.ensures.next_power_gt in
     let whole = region_cards c.args.config.now s in
-    let tiles : c.in-Ok-new.first_tiles ≡ record { card_words = c.card_words.result; starts = replicate (c.args.config.now.regions * c.args.config.now.words / c.card_words.result) 0 } = c.in-Ok-new.ensures in
+    let tiles : c.in-Ok-new.first_tiles ≡
+    record {
+      card_words = c.card_words.result;
+      starts = replicate (c.args.config.now.regions * c.args.config.now.words / c.card_words.result) 0;
+    } =
+    c.in-Ok-new.ensures in
     let card = card_words c.args.config.now in
     let some = card_between c.args.config.now s in
     let len : c.in-Ok-new.first_tiles.card_words ≡ card = ap (λ (f : Entries). f.card_words) tiles ∙ c.card_words.ensures in
     let count : length c.in-Ok-new.first_tiles.starts ≡ c.args.config.now.regions * c.args.config.now.words / card =
-    ap (λ (f : Entries). length f.starts) tiles ∙ length-replicate {A = ℕ} _ 0 ∙ ap (λ (n : ℕ). c.args.config.now.regions * c.args.config.now.words / n) c.card_words.ensures in
-    let flags : c.in-Ok-new-2.weak_starts.flags ≡ replicate (c.args.config.now.regions * c.args.config.now.words) false = ap (λ (s : Starts). s.flags) c.in-Ok-new-2.ensures in
+    ap (λ (f : Entries). length f.starts) tiles ∙ length-replicate {A = ℕ} _ 0
+    ∙ ap (λ (n : ℕ). c.args.config.now.regions * c.args.config.now.words / n) c.card_words.ensures in
+    let flags : c.in-Ok-new-2.weak_starts.flags ≡ replicate (c.args.config.now.regions * c.args.config.now.words) false =
+    ap (λ (s : Starts). s.flags) c.in-Ok-new-2.ensures in
     record {
       table = made.is_table;
       power = power;
       narrow = c.ilog2.ensures.bound;
       used_below = used_none _;
       whole_cards = rw len (c.args.config.now.words / card, whole);
-      each_card = rw (len, count) (long ∙ sym (whole_starts c.args.config.now.regions c.args.config.now.words card (omega (arith, some.0)) whole));
+      each_card =
+          rw (len, count) (long ∙ sym (whole_starts c.args.config.now.regions c.args.config.now.words card (omega (arith, some.0)) whole));
       first_tiles = subst (λ (t : Table). AreEntries t c.in-Ok-new.first_tiles) (sym made.table_is) (free_entries _ _ _);
       weak_regions = ap (λ (s : Starts). s.region_words) c.in-Ok-new-2.ensures;
       weak_count = ap (λ (f : List Bool). length f) flags ∙ length-replicate {A = Bool} _ false ∙ sym long;
@@ -52,12 +62,16 @@ invariant_of-result c =
 pub returns-clause-made : goal.returns-clause-made
 returns-clause-made c =
     let s = c.in_ok-check.ensures.suits.0 refl in
-    let long : length c.in-Ok.words ≡ c.args.config.now.regions * c.args.config.now.words = ap (λ (ws : List ℕ). length ws) c.in-Ok.ensures ∙ length-replicate {A = ℕ} _ 0 in
-    (new_table c.args.config.now.words c.args.config.now.regions _ _ (omega (arith, s.words.at_least)) (small_region c.args.config.now s) long (small_heap c.args.config.now s) c.in-Ok-free_rows.ensures).table_is
+    let long : length c.in-Ok.words ≡ c.args.config.now.regions * c.args.config.now.words =
+    ap (λ (ws : List ℕ). length ws) c.in-Ok.ensures ∙ length-replicate {A = ℕ} _ 0 in
+    (new_table c.args.config.now.words c.args.config.now.regions _ _ (omega (arith, s.words.at_least)) (small_region c.args.config.now s)
+    long (small_heap c.args.config.now s) c.in-Ok-free_rows.ensures).table_is
 
 pub returns-clause-unmoved : goal.returns-clause-unmoved
 returns-clause-unmoved c =
     let s = c.in_ok-check.ensures.suits.0 refl in
-    let long : length c.in-Ok.words ≡ c.args.config.now.regions * c.args.config.now.words = ap (λ (ws : List ℕ). length ws) c.in-Ok.ensures ∙ length-replicate {A = ℕ} _ 0 in
-    let made = (new_table c.args.config.now.words c.args.config.now.regions _ _ (omega (arith, s.words.at_least)) (small_region c.args.config.now s) long (small_heap c.args.config.now s) c.in-Ok-free_rows.ensures).table_is in
+    let long : length c.in-Ok.words ≡ c.args.config.now.regions * c.args.config.now.words =
+    ap (λ (ws : List ℕ). length ws) c.in-Ok.ensures ∙ length-replicate {A = ℕ} _ 0 in
+    let made = (new_table c.args.config.now.words c.args.config.now.regions _ _ (omega (arith, s.words.at_least))
+    (small_region c.args.config.now s) long (small_heap c.args.config.now s) c.in-Ok-free_rows.ensures).table_is in
     subst HasNoForwarded (sym made) (free_table-unmoved c.args.config.now.regions c.args.config.now.words)

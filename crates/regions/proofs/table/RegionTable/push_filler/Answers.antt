@@ -15,7 +15,8 @@ pub write_filler-requires : goal.write_filler-requires
 write_filler-requires c =
     let n = known _ _ _ _ _ c.self.view_is c.requires.known in
     let t = top_is _ _ _ _ _ c.self.invariant.table c.self.view_is c.requires.known c.requires.ordinary in
-    let at : c.top-at.result ≡ c.args.region * c.self.inside.words_per_region + used_of c.args.self.now c.args.region = c.top-at.ensures ∙ ap (λ (m : ℕ). c.args.region * m + used_of c.args.self.now c.args.region) (sym n.size_is) in
+    let at : c.top-at.result ≡ c.args.region * c.self.inside.words_per_region + used_of c.args.self.now c.args.region =
+    c.top-at.ensures ∙ ap (λ (m : ℕ). c.args.region * m + used_of c.args.self.now c.args.region) (sym n.size_is) in
     omega (arith, at, t.room, n.size_is, c.requires.room, c.get-more.ensures.value, c.get-more.ensures.positive)
 
 pub index-requires : goal.index-requires
@@ -27,7 +28,8 @@ pub overflow_add-used : goal.overflow_add-used
 overflow_add-used c =
     let n = known _ _ _ _ _ c.self.view_is c.requires.known in
     let t = top_is _ _ _ _ _ c.self.invariant.table c.self.view_is c.requires.known c.requires.ordinary in
-    let read = get_or_read c.self.inside.rows.items _ _ (omega (arith, n.in_rows, c.number-number.ensures)) c.index.ensures free_row ∙ ap (λ k. get_or c.self.inside.rows.items k free_row) c.number-number.ensures in
+    let read = get_or_read c.self.inside.rows.items _ _ (omega (arith, n.in_rows, c.number-number.ensures)) c.index.ensures free_row
+    ∙ ap (λ k. get_or c.self.inside.rows.items k free_row) c.number-number.ensures in
     rw read (omega (arith, t.used_le, c.self.invariant.table.region_size.1, c.get-more.ensures.small))
 
 pub index_mut-requires : goal.index_mut-requires
@@ -39,26 +41,57 @@ pub put_filler-requires-clause-within : goal.put_filler-requires-clause-within
 put_filler-requires-clause-within c =
     let n = known _ _ _ _ _ c.self.view_is c.requires.known in
     let t = top_is _ _ _ _ _ c.self.invariant.table c.self.view_is c.requires.known c.requires.ordinary in
-    let at : c.top-at.result ≡ c.args.region * c.self.inside.words_per_region + used_of c.args.self.now c.args.region = c.top-at.ensures ∙ ap (λ (m : ℕ). c.args.region * m + used_of c.args.self.now c.args.region) (sym n.size_is) in
-    omega (arith, at, t.room, n.size_is, c.requires.room, c.get-more.ensures.value, c.word.ensures, c.self.invariant.table.small, c.self.invariant.each_card)
+    let at : c.top-at.result ≡ c.args.region * c.self.inside.words_per_region + used_of c.args.self.now c.args.region =
+    c.top-at.ensures ∙ ap (λ (m : ℕ). c.args.region * m + used_of c.args.self.now c.args.region) (sym n.size_is) in
+    omega (
+      arith,
+      at,
+      t.room,
+      n.size_is,
+      c.requires.room,
+      c.get-more.ensures.value,
+      c.word.ensures,
+      c.self.invariant.table.small,
+      c.self.invariant.each_card,
+    )
 
 pub put_filler-requires-clause-small : goal.put_filler-requires-clause-small
 put_filler-requires-clause-small c =
     let n = known _ _ _ _ _ c.self.view_is c.requires.known in
     let t = top_is _ _ _ _ _ c.self.invariant.table c.self.view_is c.requires.known c.requires.ordinary in
-    let at : c.top-at.result ≡ c.args.region * c.self.inside.words_per_region + used_of c.args.self.now c.args.region = c.top-at.ensures ∙ ap (λ (m : ℕ). c.args.region * m + used_of c.args.self.now c.args.region) (sym n.size_is) in
-    omega (arith, at, t.room, n.size_is, c.requires.room, c.get-more.ensures.value, c.word.ensures, c.self.invariant.table.small, c.self.invariant.each_card)
+    let at : c.top-at.result ≡ c.args.region * c.self.inside.words_per_region + used_of c.args.self.now c.args.region =
+    c.top-at.ensures ∙ ap (λ (m : ℕ). c.args.region * m + used_of c.args.self.now c.args.region) (sym n.size_is) in
+    omega (
+      arith,
+      at,
+      t.room,
+      n.size_is,
+      c.requires.room,
+      c.get-more.ensures.value,
+      c.word.ensures,
+      c.self.invariant.table.small,
+      c.self.invariant.each_card,
+    )
 
 pub invariant_of-self : goal.invariant_of-self
 invariant_of-self c =
     let n = known _ _ _ _ _ c.self.view_is c.requires.known in
-    let read = get_or_read c.self.inside.rows.items _ _ (omega (arith, n.in_rows, c.number-number.ensures)) c.index.ensures free_row ∙ ap (λ k. get_or c.self.inside.rows.items k free_row) c.number-number.ensures in
-    let w = filler_added _ _ _ _ _ c.args.size _ _ _ _ _ c.self.invariant.table c.self.view_is c.requires.known c.requires.ordinary c.requires.room (omega (arith, c.get-more.ensures.value, c.get-more.ensures.positive)) c.top-at.ensures (ap (λ (row : Row). row.used) read) c.get-more.ensures.value c.number-number.ensures c.write_filler.ensures in
+    let read = get_or_read c.self.inside.rows.items _ _ (omega (arith, n.in_rows, c.number-number.ensures)) c.index.ensures free_row
+    ∙ ap (λ k. get_or c.self.inside.rows.items k free_row) c.number-number.ensures in
+    let w = filler_added _ _ _ _ _ c.args.size _ _ _ _ _ c.self.invariant.table c.self.view_is c.requires.known c.requires.ordinary
+    c.requires.room (omega (arith, c.get-more.ensures.value, c.get-more.ensures.positive)) c.top-at.ensures
+    (ap (λ (row : Row). row.used) read) c.get-more.ensures.value c.number-number.ensures c.write_filler.ensures in
     let some : 0 < c.args.size = omega (arith, c.get-more.ensures.value, c.get-more.ensures.positive) in
-    push_sound _ _ _ _ _ _ _ _ c.self.invariant c.self.view_is _ _ _ _ _ c.args.region _ _ 0 (Filler c.args.size) c.requires.known c.requires.ordinary some c.requires.room tt (c.word.ensures ∙ c.top-at.ensures) c.get-more.ensures.value c.put_filler.ensures.card_words c.put_filler.ensures.len (filler_written _ _ _ _ _ _ _ refl c.get-more.ensures.value c.put_filler.ensures.entries) refl refl (used_set _ _ _ _ (omega (arith, n.in_rows, c.number-number.ensures)) refl c.self.invariant.used_below) w
+    push_sound _ _ _ _ _ _ _ _ c.self.invariant c.self.view_is _ _ _ _ _ c.args.region _ _ 0 (Filler c.args.size) c.requires.known
+    c.requires.ordinary some c.requires.room tt (c.word.ensures ∙ c.top-at.ensures) c.get-more.ensures.value c.put_filler.ensures.card_words
+    c.put_filler.ensures.len (filler_written _ _ _ _ _ _ _ refl c.get-more.ensures.value c.put_filler.ensures.entries) refl refl
+    (used_set _ _ _ _ (omega (arith, n.in_rows, c.number-number.ensures)) refl c.self.invariant.used_below) w
 
 pub returns-clause-pushed : goal.returns-clause-pushed
 returns-clause-pushed c =
     let n = known _ _ _ _ _ c.self.view_is c.requires.known in
-    let read = get_or_read c.self.inside.rows.items _ _ (omega (arith, n.in_rows, c.number-number.ensures)) c.index.ensures free_row ∙ ap (λ k. get_or c.self.inside.rows.items k free_row) c.number-number.ensures in
-    (filler_added _ _ _ _ _ c.args.size _ _ _ _ _ c.self.invariant.table c.self.view_is c.requires.known c.requires.ordinary c.requires.room (omega (arith, c.get-more.ensures.value, c.get-more.ensures.positive)) c.top-at.ensures (ap (λ (row : Row). row.used) read) c.get-more.ensures.value c.number-number.ensures c.write_filler.ensures).table_is
+    let read = get_or_read c.self.inside.rows.items _ _ (omega (arith, n.in_rows, c.number-number.ensures)) c.index.ensures free_row
+    ∙ ap (λ k. get_or c.self.inside.rows.items k free_row) c.number-number.ensures in
+    (filler_added _ _ _ _ _ c.args.size _ _ _ _ _ c.self.invariant.table c.self.view_is c.requires.known c.requires.ordinary c.requires.room
+    (omega (arith, c.get-more.ensures.value, c.get-more.ensures.positive)) c.top-at.ensures (ap (λ (row : Row). row.used) read)
+    c.get-more.ensures.value c.number-number.ensures c.write_filler.ensures).table_is

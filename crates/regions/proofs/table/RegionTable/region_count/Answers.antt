@@ -6,5 +6,7 @@ use Rattle.regions.proofs.table.RegionTable.region_count.Goals as goal
 
 pub returns : goal.returns
 returns c =
-    let count : length c.args.self.now.regions ≡ length c.self.inside.rows.items = ap (λ (u : Table). length u.regions) (sym c.self.view_is) ∙ length-regions_of (sizes_in c.self.inside.words) c.self.inside.words_per_region c.self.inside.rows.items c.self.inside.words in
+    let count : length c.args.self.now.regions ≡ length c.self.inside.rows.items =
+    ap (λ (u : Table). length u.regions) (sym c.self.view_is)
+    ∙ length-regions_of (sizes_in c.self.inside.words) c.self.inside.words_per_region c.self.inside.rows.items c.self.inside.words in
     omega (arith, count)

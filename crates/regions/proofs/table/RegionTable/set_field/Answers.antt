@@ -10,7 +10,9 @@ set_field-requires c = (field_read _ _ _ _ _ _ c.self.invariant.table c.self.vie
 pub invariant_of-self : goal.invariant_of-self
 invariant_of-self c =
     let w = field_written _ _ _ _ _ _ c.self.invariant.table c.self.view_is c.requires (pointer_word c.args.target) in
-    rw c.set_field.ensures.word (field_sound _ _ _ _ _ _ _ _ c.self.invariant c.self.view_is _ c.args.object c.args.field (pointer_of (pointer_word c.args.target)) c.requires w)
+    rw c.set_field.ensures.word
+    (field_sound _ _ _ _ _ _ _ _ c.self.invariant c.self.view_is _ c.args.object c.args.field
+    (pointer_of (pointer_word c.args.target)) c.requires w)
 
 pub returns : goal.returns
 returns c =

@@ -10,7 +10,9 @@ set_field-requires c = (pointer_read _ _ _ _ _ _ c.self.invariant.table c.self.v
 pub invariant_of-self : goal.invariant_of-self
 invariant_of-self c =
     let w = pointer_written _ _ _ _ _ _ (pointer_word c.args.target) c.self.invariant.table c.self.view_is c.requires in
-    rw c.set_field.ensures.word (pointer_sound _ _ _ _ _ _ _ _ c.self.invariant c.self.view_is _ c.args.object c.args.index (pointer_of (pointer_word c.args.target)) c.requires w)
+    rw c.set_field.ensures.word
+    (pointer_sound _ _ _ _ _ _ _ _ c.self.invariant c.self.view_is _ c.args.object c.args.index
+    (pointer_of (pointer_word c.args.target)) c.requires w)
 
 pub returns : goal.returns
 returns c =

@@ -10,7 +10,9 @@ set_value-requires-clause-within c = (value_read _ _ _ _ _ _ c.self.invariant.ta
 
 pub invariant_of-self : goal.invariant_of-self
 invariant_of-self c =
-    rw c.set_value.ensures (value_sound _ _ _ _ _ _ _ _ c.self.invariant c.self.view_is _ c.args.object c.args.field c.args.value c.requires (value_written _ _ _ _ _ _ c.args.value c.self.invariant.table c.self.view_is c.requires))
+    rw c.set_value.ensures
+    (value_sound _ _ _ _ _ _ _ _ c.self.invariant c.self.view_is _ c.args.object c.args.field c.args.value c.requires
+    (value_written _ _ _ _ _ _ c.args.value c.self.invariant.table c.self.view_is c.requires))
 
 pub returns : goal.returns
 returns c =

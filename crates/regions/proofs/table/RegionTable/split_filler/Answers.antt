@@ -20,7 +20,8 @@ overflow_add-behind c =
 pub write_remainder-requires-clause-within : goal.write_remainder-requires-clause-within
 write_remainder-requires-clause-within c =
     let f = filler_fits _ _ _ _ _ _ c.self.invariant.table c.self.view_is c.requires.there in
-    rw (c.write_filler.ensures, length-set) (omega (arith, f, c.requires.room, c.word.ensures, c.get-kept.ensures.value, c.get.ensures.value))
+    rw (c.write_filler.ensures, length-set)
+    (omega (arith, f, c.requires.room, c.word.ensures, c.get-kept.ensures.value, c.get.ensures.value))
 
 pub put_filler-requires-clause-within : goal.put_filler-requires-clause-within
 put_filler-requires-clause-within c =
@@ -40,21 +41,29 @@ overflow_add-word c =
 pub move_filler-requires : goal.move_filler-requires
 move_filler-requires c =
     let f = filler_fits _ _ _ _ _ _ c.self.invariant.table c.self.view_is c.requires.there in
-    rw (c.put_filler.ensures.len, c.put_filler.ensures.card_words) (omega (arith, f, c.self.invariant.table.small, c.self.invariant.each_card, c.word-3.ensures, c.get-2.ensures.value))
+    rw (c.put_filler.ensures.len, c.put_filler.ensures.card_words)
+    (omega (arith, f, c.self.invariant.table.small, c.self.invariant.each_card, c.word-3.ensures, c.get-2.ensures.value))
 
 pub invariant_of-self : goal.invariant_of-self
 invariant_of-self c =
     let at : c.word.result + c.get-kept.result ≡ c.args.at + c.args.size = omega (arith, c.word.ensures, c.get-kept.ensures.value) in
     let rest : c.get.result - c.get-kept.result ≡ c.args.filler - c.args.size = omega (arith, c.get.ensures.value) in
-    let w = filler_cut _ _ _ _ c.args.at c.args.size c.args.filler _ _ _ _ _ c.self.invariant.table c.self.view_is c.requires.there (omega (arith, c.requires.room)) (omega (arith, c.get-kept.ensures.value, c.get-kept.ensures.positive)) c.write_filler.ensures c.write_remainder.ensures at rest in
+    let w = filler_cut _ _ _ _ c.args.at c.args.size c.args.filler _ _ _ _ _ c.self.invariant.table c.self.view_is
+    c.requires.there (omega (arith, c.requires.room)) (omega (arith, c.get-kept.ensures.value, c.get-kept.ensures.positive))
+    c.write_filler.ensures c.write_remainder.ensures at rest in
     let some : 0 < c.args.size = omega (arith, c.get-kept.ensures.value, c.get-kept.ensures.positive) in
     let place : c.word-2.result ≡ c.args.at = c.word-2.ensures in
     let end : c.word-3.result + c.get-2.result ≡ c.args.at + c.args.filler = omega (arith, c.word-3.ensures, c.get-2.ensures.value) in
-    front_sound _ _ _ _ _ _ _ _ c.self.invariant c.self.view_is c.put_filler.new.self c.move_filler.new.self _ _ c.args.at c.args.filler (c.args.filler - c.args.size) _ _ _ 0 (Filler c.args.size) c.requires.there some (omega (arith, c.requires.room)) tt c.get-kept.ensures.value at end
-    c.put_filler.ensures.card_words c.move_filler.ensures.card_words c.put_filler.ensures.len c.move_filler.ensures.len (filler_written _ _ _ _ _ _ _ place c.get-kept.ensures.value c.put_filler.ensures.entries) c.move_filler.ensures.entries refl refl w
+    front_sound _ _ _ _ _ _ _ _ c.self.invariant c.self.view_is c.put_filler.new.self c.move_filler.new.self _ _ c.args.at
+    c.args.filler (c.args.filler - c.args.size) _ _ _ 0 (Filler c.args.size) c.requires.there some
+    (omega (arith, c.requires.room)) tt c.get-kept.ensures.value at end
+    c.put_filler.ensures.card_words c.move_filler.ensures.card_words c.put_filler.ensures.len c.move_filler.ensures.len
+    (filler_written _ _ _ _ _ _ _ place c.get-kept.ensures.value c.put_filler.ensures.entries) c.move_filler.ensures.entries refl refl w
 
 pub returns-clause-split : goal.returns-clause-split
 returns-clause-split c =
     let at : c.word.result + c.get-kept.result ≡ c.args.at + c.args.size = omega (arith, c.word.ensures, c.get-kept.ensures.value) in
     let rest : c.get.result - c.get-kept.result ≡ c.args.filler - c.args.size = omega (arith, c.get.ensures.value) in
-    (filler_cut _ _ _ _ c.args.at c.args.size c.args.filler _ _ _ _ _ c.self.invariant.table c.self.view_is c.requires.there (omega (arith, c.requires.room)) (omega (arith, c.get-kept.ensures.value, c.get-kept.ensures.positive)) c.write_filler.ensures c.write_remainder.ensures at rest).table_is
+    (filler_cut _ _ _ _ c.args.at c.args.size c.args.filler _ _ _ _ _ c.self.invariant.table c.self.view_is c.requires.there
+    (omega (arith, c.requires.room)) (omega (arith, c.get-kept.ensures.value, c.get-kept.ensures.positive))
+    c.write_filler.ensures c.write_remainder.ensures at rest).table_is

@@ -28,7 +28,8 @@ shape_at-shape-requires-clause-target c =
 pub returns : goal.returns
 returns c =
     let b = behind_is _ _ _ _ _ _ c.self.invariant.table c.self.view_is c.requires.cut c.requires.within in
-    let at : c.new-at.result ≡ c.args.region * c.self.inside.words_per_region + c.args.offset = c.new-at.ensures ∙ rw c.number.ensures refl in
+    let at : c.new-at.result ≡ c.args.region * c.self.inside.words_per_region + c.args.offset =
+    c.new-at.ensures ∙ rw c.number.ensures refl in
     let is = (rw at at c.shape_at-shape.ensures) ∙ b.shown.shape_is in
     let size = c.size-size.ensures ∙ ap size_of_shape is ∙ shape_size_is b.tile in
     record {

@@ -17,38 +17,49 @@ index-row-requires c =
 pub returns-in-Ordinary : goal.returns-in-Ordinary
 returns-in-Ordinary c =
     let n = known _ _ _ _ _ c.self.view_is c.requires in
-    let read = get_or_read c.self.inside.rows.items _ _ (omega (arith, n.in_rows, c.number.ensures)) c.index-row.ensures free_row ∙ ap (λ k. get_or c.self.inside.rows.items k free_row) c.number.ensures in
-    let is : kind_of c.args.self.now c.args.region ≡ kinds.Ordinary = kind_is _ _ _ _ _ n ∙ sym (ap (λ (row : Row). row.kind) read) ∙ c.in-Ordinary.is in
+    let read = get_or_read c.self.inside.rows.items _ _ (omega (arith, n.in_rows, c.number.ensures)) c.index-row.ensures free_row
+    ∙ ap (λ k. get_or c.self.inside.rows.items k free_row) c.number.ensures in
+    let is : kind_of c.args.self.now c.args.region ≡ kinds.Ordinary =
+    kind_is _ _ _ _ _ n ∙ sym (ap (λ (row : Row). row.kind) read) ∙ c.in-Ordinary.is in
     rw read (walk_ordinary _ _ _ _ _ c.self.invariant.table c.self.view_is c.requires is)
 
 pub overflow_mul-number : goal.overflow_mul-number
 overflow_mul-number c =
     let n = known _ _ _ _ _ c.self.view_is c.requires in
-    let read = get_or_read c.self.inside.rows.items _ _ (omega (arith, n.in_rows, c.number.ensures)) c.index-row.ensures free_row ∙ ap (λ k. get_or c.self.inside.rows.items k free_row) c.number.ensures in
-    let is : kind_of c.args.self.now c.args.region ≡ kinds.First = kind_is _ _ _ _ _ n ∙ sym (ap (λ (row : Row). row.kind) read) ∙ c.in-First.is in
+    let read = get_or_read c.self.inside.rows.items _ _ (omega (arith, n.in_rows, c.number.ensures)) c.index-row.ensures free_row
+    ∙ ap (λ k. get_or c.self.inside.rows.items k free_row) c.number.ensures in
+    let is : kind_of c.args.self.now c.args.region ≡ kinds.First =
+    kind_is _ _ _ _ _ n ∙ sym (ap (λ (row : Row). row.kind) read) ∙ c.in-First.is in
     let w = walk_first _ _ _ _ _ c.self.invariant.table c.self.view_is c.requires is in
     rw c.number-in-First.ensures (omega (arith, w.1, c.self.invariant.table.small))
 
 pub size_at-requires : goal.size_at-requires
 size_at-requires c =
     let n = known _ _ _ _ _ c.self.view_is c.requires in
-    let read = get_or_read c.self.inside.rows.items _ _ (omega (arith, n.in_rows, c.number.ensures)) c.index-row.ensures free_row ∙ ap (λ k. get_or c.self.inside.rows.items k free_row) c.number.ensures in
-    let is : kind_of c.args.self.now c.args.region ≡ kinds.First = kind_is _ _ _ _ _ n ∙ sym (ap (λ (row : Row). row.kind) read) ∙ c.in-First.is in
+    let read = get_or_read c.self.inside.rows.items _ _ (omega (arith, n.in_rows, c.number.ensures)) c.index-row.ensures free_row
+    ∙ ap (λ k. get_or c.self.inside.rows.items k free_row) c.number.ensures in
+    let is : kind_of c.args.self.now c.args.region ≡ kinds.First =
+    kind_is _ _ _ _ _ n ∙ sym (ap (λ (row : Row). row.kind) read) ∙ c.in-First.is in
     let w = walk_first _ _ _ _ _ c.self.invariant.table c.self.view_is c.requires is in
     rw (c.new.ensures, c.number-in-First.ensures) w.1
 
 pub returns-in-First : goal.returns-in-First
 returns-in-First c =
     let n = known _ _ _ _ _ c.self.view_is c.requires in
-    let read = get_or_read c.self.inside.rows.items _ _ (omega (arith, n.in_rows, c.number.ensures)) c.index-row.ensures free_row ∙ ap (λ k. get_or c.self.inside.rows.items k free_row) c.number.ensures in
-    let is : kind_of c.args.self.now c.args.region ≡ kinds.First = kind_is _ _ _ _ _ n ∙ sym (ap (λ (row : Row). row.kind) read) ∙ c.in-First.is in
-    rw (c.size_at.ensures, c.new.ensures, c.number-in-First.ensures) (walk_first _ _ _ _ _ c.self.invariant.table c.self.view_is c.requires is).0
+    let read = get_or_read c.self.inside.rows.items _ _ (omega (arith, n.in_rows, c.number.ensures)) c.index-row.ensures free_row
+    ∙ ap (λ k. get_or c.self.inside.rows.items k free_row) c.number.ensures in
+    let is : kind_of c.args.self.now c.args.region ≡ kinds.First =
+    kind_is _ _ _ _ _ n ∙ sym (ap (λ (row : Row). row.kind) read) ∙ c.in-First.is in
+    rw (c.size_at.ensures, c.new.ensures, c.number-in-First.ensures)
+    (walk_first _ _ _ _ _ c.self.invariant.table c.self.view_is c.requires is).0
 
 pub returns-in-Free : goal.returns-in-Free
 returns-in-Free c =
     let n = known _ _ _ _ _ c.self.view_is c.requires in
-    let read = get_or_read c.self.inside.rows.items _ _ (omega (arith, n.in_rows, c.number.ensures)) c.index-row.ensures free_row ∙ ap (λ k. get_or c.self.inside.rows.items k free_row) c.number.ensures in
-    let is : kind_of c.args.self.now c.args.region ≡ c.index-row.result.now.kind = kind_is _ _ _ _ _ n ∙ sym (ap (λ (row : Row). row.kind) read) in
+    let read = get_or_read c.self.inside.rows.items _ _ (omega (arith, n.in_rows, c.number.ensures)) c.index-row.ensures free_row
+    ∙ ap (λ k. get_or c.self.inside.rows.items k free_row) c.number.ensures in
+    let is : kind_of c.args.self.now c.args.region ≡ c.index-row.result.now.kind =
+    kind_is _ _ _ _ _ n ∙ sym (ap (λ (row : Row). row.kind) read) in
     elim c.in-Free.is [
       | inl f ↦ walk_free _ _ c.requires (is ∙ f)
       | inr f ↦ walk_rests _ _ c.requires (is ∙ f)

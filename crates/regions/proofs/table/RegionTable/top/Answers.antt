@@ -20,7 +20,8 @@ pub overflow_add-number : goal.overflow_add-number
 overflow_add-number c =
     let n = known _ _ _ _ _ c.self.view_is c.requires in
     let t = top_all _ _ _ _ _ c.self.invariant.table c.self.view_is c.requires in
-    let read = get_or_read c.self.inside.rows.items _ _ (omega (arith, n.in_rows, c.number-number.ensures)) c.index.ensures free_row ∙ ap (λ k. get_or c.self.inside.rows.items k free_row) c.number-number.ensures in
+    let read = get_or_read c.self.inside.rows.items _ _ (omega (arith, n.in_rows, c.number-number.ensures)) c.index.ensures free_row
+    ∙ ap (λ k. get_or c.self.inside.rows.items k free_row) c.number-number.ensures in
     let used = ap (λ (row : Row). row.used) read in
     rw (c.number-number.ensures, used) (omega (arith, t.room, t.used_le, c.self.invariant.table.small))
 
@@ -28,6 +29,7 @@ pub returns : goal.returns
 returns c =
     let n = known _ _ _ _ _ c.self.view_is c.requires in
     let t = top_all _ _ _ _ _ c.self.invariant.table c.self.view_is c.requires in
-    let read = get_or_read c.self.inside.rows.items _ _ (omega (arith, n.in_rows, c.number-number.ensures)) c.index.ensures free_row ∙ ap (λ k. get_or c.self.inside.rows.items k free_row) c.number-number.ensures in
+    let read = get_or_read c.self.inside.rows.items _ _ (omega (arith, n.in_rows, c.number-number.ensures)) c.index.ensures free_row
+    ∙ ap (λ k. get_or c.self.inside.rows.items k free_row) c.number-number.ensures in
     let used = ap (λ (row : Row). row.used) read in
     c.new.ensures ∙ rw (c.number-number.ensures, used, n.size_is, t.used_is) refl

@@ -14,5 +14,7 @@ tile_words-end-requires c =
 pub invariant_of-result : goal.invariant_of-result
 invariant_of-result c =
     let e = c.region_of-region.ensures in
-    let offset : c.word.result - c.number.result * c.words_per_region.result ≡ c.args.at % c.args.self.now.words_per_region = rest_is c.args.at c.args.self.now.words_per_region _ _ _ c.law.ensures.positive c.word.ensures (c.number.ensures ∙ e) c.words_per_region.ensures in
+    let offset : c.word.result - c.number.result * c.words_per_region.result ≡ c.args.at % c.args.self.now.words_per_region =
+    rest_is c.args.at c.args.self.now.words_per_region _ _ _ c.law.ensures.positive c.word.ensures
+    (c.number.ensures ∙ e) c.words_per_region.ensures in
     begins _ c.args.at _ _ _ c.requires e offset c.tile_words-end.ensures

@@ -14,4 +14,6 @@ overflow_add-bottom c =
 
 pub returns-else-get-clause-flags : goal.returns-else-get-clause-flags
 returns-else-get-clause-flags c =
-    rw (← c.self.view_is) (none_cleared c.self.inside.region_words c.args.region c.self.inside.regions c.self.inside.addresses c.self.invariant (sym c.get.ensures ∙ c.if-get.false))
+    rw (← c.self.view_is)
+    (none_cleared c.self.inside.region_words c.args.region c.self.inside.regions c.self.inside.addresses
+    c.self.invariant (sym c.get.ensures ∙ c.if-get.false))

@@ -11,7 +11,9 @@ returns-in-Ok-clause-more g c =
     let size : length (take n read) ≡ n = length-take-le n read few in (
       take n read,
       c.in-Ok.ensures.gives,
-      read_behind_it c.args.bytes.now c.rotate_left.new.self read c.args.start c.args.end n _ c.requires.begun c.requires.within c.rotate_left.ensures.after few (omega (arith, c.rotate_left.ensures.len, length-take-le c.args.end c.args.bytes.now c.requires.within)),
+      read_behind_it c.args.bytes.now c.rotate_left.new.self read c.args.start c.args.end n _ c.requires.begun c.requires.within
+          c.rotate_left.ensures.after few
+          (omega (arith, c.rotate_left.ensures.len, length-take-le c.args.end c.args.bytes.now c.requires.within)),
       omega arith,
       λ none. c.in-Ok.ensures.end (sym size ∙ none),
     )

@@ -8,7 +8,8 @@ use Rattle.heap_steps.specs.Actors.{StepList}
 use Rattle.script_text.proofs.read.script.parse.Goals as goal
 
 pub returns-then-is_empty : goal.returns-then-is_empty
-returns-then-is_empty c = no_line c.args.text.now kinds.BadHeap c.in_default.ensures.none (rw (sym c.is_empty.ensures ∙ c.if-is_empty.true) refl)
+returns-then-is_empty c =
+    no_line c.args.text.now kinds.BadHeap c.in_default.ensures.none (rw (sym c.is_empty.ensures ∙ c.if-is_empty.true) refl)
 
 pub returns-in_default : goal.returns-in_default
 returns-in_default c = no_line c.args.text.now kinds.Cut c.in_default.ensures.none (rw (sym c.is_empty.ensures ∙ c.if-is_empty.false) refl)
@@ -17,7 +18,9 @@ pub returns-in-Err : goal.returns-in-Err
 returns-in-Err c =
     let k = c.in-Some.first.length in
     let line = take k c.args.text.now in
-    fault_is c.in-Err.kind 1 c.args.text.now _ (heap_line_never line c.in-Err.kind (sym c.in-Err.ensures)) (begins_wrong c.args.text.now line (behind (k + 1) c.args.text.now) c.in-Err.kind (pieces_behind c.args.text.now k c.in-Some.ensures.line) (sym c.in-Err.ensures))
+    fault_is c.in-Err.kind 1 c.args.text.now _ (heap_line_never line c.in-Err.kind (sym c.in-Err.ensures))
+    (begins_wrong c.args.text.now line (behind (k + 1) c.args.text.now) c.in-Err.kind
+    (pieces_behind c.args.text.now k c.in-Some.ensures.line) (sym c.in-Err.ensures))
 
 pub loop-line-init : goal.loop-line-init
 loop-line-init c =
@@ -25,11 +28,16 @@ loop-line-init c =
     let line = take k c.args.text.now in
     record {
       room = c.split_line.auto.words;
-      so_far = read_from c.new-plan.result c.in-Ok.config _ _ c.new-plan.ensures (begins c.args.text.now line (behind (k + 1) c.args.text.now) c.in-Ok.config (pieces_behind c.args.text.now k c.in-Some.ensures.line) (sym c.in-Ok.ensures));
+      so_far = read_from c.new-plan.result c.in-Ok.config _ _ c.new-plan.ensures
+          (begins c.args.text.now line (behind (k + 1) c.args.text.now) c.in-Ok.config
+          (pieces_behind c.args.text.now k c.in-Some.ensures.line) (sym c.in-Ok.ensures));
       config = search rules;
       number = omega (arith, ap length (behind_is (k + 1) c.args.text.now), length-drop (k + 1) c.args.text.now);
       from = omega arith;
-      count = let less = one_less 1 c.args.text.now line (behind (k + 1) c.args.text.now) (pieces_behind c.args.text.now k c.in-Some.ensures.line) in omega arith;
+      count =
+          let less =
+          one_less 1 c.args.text.now line (behind (k + 1) c.args.text.now) (pieces_behind c.args.text.now k c.in-Some.ensures.line) in
+          omega arith;
     }
 
 pub returns-in-Err-step_line : goal.returns-in-Err-step_line
@@ -37,8 +45,10 @@ returns-in-Err-step_line c =
     let rest = c.loop-line.rest.now in
     let k = c.in-Some-split_line.line.length in
     let line = take k rest in
-    fault_is c.in-Err-step_line.kind c.loop-line.number c.args.text.now _ (step_line_never c.in-Ok.config line c.in-Err-step_line.kind (sym c.in-Err-step_line.ensures.exact))
-    (goes_wrong c.loop-line.plan c.loop-line.number c.in-Ok.config rest line (behind (k + 1) rest) c.in-Err-step_line.kind _ (pieces_behind rest k c.in-Some-split_line.ensures.line) (sym c.in-Err-step_line.ensures.exact) c.loop-line.invariant.so_far)
+    fault_is c.in-Err-step_line.kind c.loop-line.number c.args.text.now _
+    (step_line_never c.in-Ok.config line c.in-Err-step_line.kind (sym c.in-Err-step_line.ensures.exact))
+    (goes_wrong c.loop-line.plan c.loop-line.number c.in-Ok.config rest line (behind (k + 1) rest) c.in-Err-step_line.kind _
+    (pieces_behind rest k c.in-Some-split_line.ensures.line) (sym c.in-Err-step_line.ensures.exact) c.loop-line.invariant.so_far)
 
 pub loop-line-preserved : goal.loop-line-preserved
 loop-line-preserved c =
@@ -47,11 +57,16 @@ loop-line-preserved c =
     let line = take k rest in
     record {
       room = c.split_line-in-loop-line.auto.words ∙ c.loop-line.invariant.room;
-      so_far = read_with _ c.loop-line.plan c.in-Ok-step_line.step _ _ c.in-Ok-push.ensures.ok (goes_on c.loop-line.plan c.loop-line.number c.in-Ok.config rest line (behind (k + 1) rest) c.in-Ok-step_line.step _ (pieces_behind rest k c.in-Some-split_line.ensures.line) (sym c.in-Ok-step_line.ensures.exact) c.loop-line.invariant.so_far);
+      so_far = read_with _ c.loop-line.plan c.in-Ok-step_line.step _ _ c.in-Ok-push.ensures.ok
+          (goes_on c.loop-line.plan c.loop-line.number c.in-Ok.config rest line (behind (k + 1) rest) c.in-Ok-step_line.step _
+          (pieces_behind rest k c.in-Some-split_line.ensures.line) (sym c.in-Ok-step_line.ensures.exact) c.loop-line.invariant.so_far);
       config = ap (λ (p : StepList). p.config) c.in-Ok-push.ensures.ok ∙ c.loop-line.invariant.config;
       number = omega (arith, c.in-Some-split_line.ensures.within, ap length (behind_is (k + 1) rest), length-drop (k + 1) rest);
       from = let from = c.loop-line.invariant.from in omega arith;
-      count = let less = one_less c.loop-line.number rest line (behind (k + 1) rest) (pieces_behind rest k c.in-Some-split_line.ensures.line) in let count = c.loop-line.invariant.count in omega arith;
+      count =
+          let less = one_less c.loop-line.number rest line (behind (k + 1) rest) (pieces_behind rest k c.in-Some-split_line.ensures.line) in
+          let count = c.loop-line.invariant.count in
+          omega arith;
     }
 
 pub returns-in_default-push : goal.returns-in_default-push
@@ -59,11 +74,14 @@ returns-in_default-push c =
     let rest = c.loop-line.rest.now in
     let k = c.in-Some-split_line.line.length in
     let line = take k rest in
-    stops c.loop-line.plan c.loop-line.number c.in-Ok.config c.args.text.now rest line (behind (k + 1) rest) c.in-Ok-step_line.step (pieces_behind rest k c.in-Some-split_line.ensures.line) (sym c.in-Ok-step_line.ensures.exact)
+    stops c.loop-line.plan c.loop-line.number c.in-Ok.config c.args.text.now rest line (behind (k + 1) rest) c.in-Ok-step_line.step
+    (pieces_behind rest k c.in-Some-split_line.ensures.line) (sym c.in-Ok-step_line.ensures.exact)
     c.loop-line.invariant.so_far c.loop-line.invariant.from c.loop-line.invariant.count
 
 pub returns-then-is_empty-2 : goal.returns-then-is_empty-2
-returns-then-is_empty-2 c = is_done c.loop-line.plan c.loop-line.number c.in-Ok.config c.loop-line.rest.now _ c.in_default-split_line.ensures.none (sym c.is_empty-2.ensures ∙ c.if-is_empty-2.true) c.loop-line.invariant.so_far
+returns-then-is_empty-2 c = is_done c.loop-line.plan c.loop-line.number c.in-Ok.config c.loop-line.rest.now _
+    c.in_default-split_line.ensures.none (sym c.is_empty-2.ensures ∙ c.if-is_empty-2.true) c.loop-line.invariant.so_far
 
 pub returns-else-is_empty-2 : goal.returns-else-is_empty-2
-returns-else-is_empty-2 c = is_cut c.loop-line.plan c.loop-line.number c.in-Ok.config c.loop-line.rest.now _ c.in_default-split_line.ensures.none (sym c.is_empty-2.ensures ∙ c.if-is_empty-2.false) c.loop-line.invariant.so_far
+returns-else-is_empty-2 c = is_cut c.loop-line.plan c.loop-line.number c.in-Ok.config c.loop-line.rest.now _
+    c.in_default-split_line.ensures.none (sym c.is_empty-2.ensures ∙ c.if-is_empty-2.false) c.loop-line.invariant.so_far

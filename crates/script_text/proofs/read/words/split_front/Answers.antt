@@ -1,8 +1,11 @@
-use Rattle.std.proofs.Common.{◌≡◌, ◌+◌, ◌-◌, ◌≤◌, ◌<◌, ℕ, List, ◌∷◌, [], ◌++◌, length, map, take, drop, get_or, set, refl, ap, ◌∙◌, arith, Bor}
+use Rattle.std.proofs.Common.{◌≡◌, ◌+◌, ◌-◌, ◌≤◌, ◌<◌, ◌∷◌, ◌++◌, ◌∙◌}
+use Rattle.std.proofs.Common.{ℕ, List, [], length, map, take, drop, get_or, set, refl, ap, arith, Bor}
 use Rattle.std.proofs.lemmas.List.{length-take-le, length-map, length-set}
 use Rattle.script_text.proofs.Parts.Splitting.{kept_more, goes_on, new_word, last_word, no_more, first_piece, IsSplit}
 use Rattle.script_text.proofs.read.words.split_front.Goals as goal
-use Rattle.script_text.proofs.read.words.split_front.Goals.{then-byte-eq32+then-count-lt12-2, else-byte-eq32, else-byte-eq32-via-then-byte-eq32+else-count-lt12-2, else-byte-eq32-via-else-byte-eq32}
+use Rattle.script_text.proofs.read.words.split_front.Goals.{then-byte-eq32+then-count-lt12-2, else-byte-eq32}
+use Rattle.script_text.proofs.read.words.split_front.Goals.{else-byte-eq32-via-then-byte-eq32+else-count-lt12-2}
+use Rattle.script_text.proofs.read.words.split_front.Goals.{else-byte-eq32-via-else-byte-eq32}
 
 -- as many words are kept as are counted
 kept : {A : Type 0} (f : A → List ℕ) (xs : List A) (n : ℕ) → length xs ≡ 12 → n ≤ 12 → length (map f (take n xs)) ≡ n
@@ -14,19 +17,23 @@ bytes-preserved-then-byte-gt32 c = record {
   count = c.bytes.invariant.count;
   begun = omega arith;
   within = omega arith;
-  split = goes_on c.args.text.now _ c.bytes.start c.bytes.at c.bytes.invariant.split (omega (arith, c.requires.ended, c.bytes.invariant.split.within)) (λ e. omega arith) (λ few e. omega arith);
+  split = goes_on c.args.text.now _ c.bytes.start c.bytes.at c.bytes.invariant.split
+      (omega (arith, c.requires.ended, c.bytes.invariant.split.within)) (λ e. omega arith) (λ few e. omega arith);
 }
 
 pub returns-then-count-lt12-clause-line : goal.returns-then-count-lt12-clause-line
-returns-then-count-lt12-clause-line c = first_piece c.args.text.now c.bytes.at c.bytes.invariant.split.within (omega (arith, c.requires.ended, c.bytes.invariant.split.within)) c.if-byte-eq10.true
+returns-then-count-lt12-clause-line c = first_piece c.args.text.now c.bytes.at c.bytes.invariant.split.within
+    (omega (arith, c.requires.ended, c.bytes.invariant.split.within)) c.if-byte-eq10.true
 
 pub returns-else-count-lt12-clause-line : goal.returns-else-count-lt12-clause-line
-returns-else-count-lt12-clause-line c = first_piece c.args.text.now c.bytes.at c.bytes.invariant.split.within (omega (arith, c.requires.ended, c.bytes.invariant.split.within)) c.if-byte-eq10.true
+returns-else-count-lt12-clause-line c = first_piece c.args.text.now c.bytes.at c.bytes.invariant.split.within
+    (omega (arith, c.requires.ended, c.bytes.invariant.split.within)) c.if-byte-eq10.true
 
 abbrev texts : List (Bor (List ℕ)) → List (List ℕ)
 texts ws = map (λ w. w.now) ws
 
-stored : (old new : List (Bor (List ℕ))) (y : Bor (List ℕ)) (i count : ℕ) (word : List ℕ) → new ≡ set old i y → count ≡ i + 1 → y.now ≡ word → length old ≡ 12 → i < 12 → texts (take count new) ≡ texts (take i old) ++ word ∷ []
+stored : (old new : List (Bor (List ℕ))) (y : Bor (List ℕ)) (i count : ℕ) (word : List ℕ) → new ≡ set old i y → count ≡ i + 1 → y.now ≡ word
+    → length old ≡ 12 → i < 12 → texts (take count new) ≡ texts (take i old) ++ word ∷ []
 stored old new y i count word is more reads room few =
     rw (is, more) (kept_more (λ w. w.now) old i y (omega arith) ∙ ap (λ (t : List ℕ). texts (take i old) ++ t ∷ []) reads)
 
@@ -44,15 +51,22 @@ bytes-preserved c =
     elim c.if-byte-eq32.branch [
       | then-byte-eq32+then-count-lt12-2 w ↦ (
           let word = take (c.bytes.at - c.bytes.start) (drop c.bytes.start c.args.text.now) in
-          let few : length (texts (take c.bytes.count c.bytes.words)) < 12 = omega (arith, w.if-count-lt12-2.true, kept (λ w. w.now) c.bytes.words c.bytes.count c.bytes.invariant.room c.bytes.invariant.count) in
+          let few : length (texts (take c.bytes.count c.bytes.words)) < 12 =
+          omega (
+            arith,
+            w.if-count-lt12-2.true,
+            kept (λ w. w.now) c.bytes.words c.bytes.count c.bytes.invariant.room c.bytes.invariant.count,
+          ) in
           record {
             room = still_room c.bytes.words c.if-byte-eq32.words c.bytes.count _ w.words-is c.bytes.invariant.room;
             count = omega (arith, w.count-is, w.if-count-lt12-2.true);
             begun = omega (arith, w.start-is);
             within = omega arith;
             split = renamed c.args.text.now (texts (take c.bytes.count c.bytes.words) ++ word ∷ []) _ (c.bytes.at + 1) _ (c.bytes.at + 1)
-                (stored c.bytes.words c.if-byte-eq32.words _ c.bytes.count c.if-byte-eq32.count word w.words-is w.count-is refl c.bytes.invariant.room w.if-count-lt12-2.true) w.start-is
-                (new_word c.args.text.now (texts (take c.bytes.count c.bytes.words)) c.bytes.start c.bytes.at c.bytes.invariant.split c.bytes.invariant.begun (omega (arith, c.requires.ended, c.bytes.invariant.split.within)) w.if-byte-eq32.true few);
+                (stored c.bytes.words c.if-byte-eq32.words _ c.bytes.count c.if-byte-eq32.count word w.words-is w.count-is refl
+                c.bytes.invariant.room w.if-count-lt12-2.true) w.start-is
+                (new_word c.args.text.now (texts (take c.bytes.count c.bytes.words)) c.bytes.start c.bytes.at c.bytes.invariant.split
+                c.bytes.invariant.begun (omega (arith, c.requires.ended, c.bytes.invariant.split.within)) w.if-byte-eq32.true few);
           })
       | else-byte-eq32 w ↦ (
           let full : length (texts (take c.bytes.count c.bytes.words)) < 12 → get_or c.args.text.now c.bytes.at 0 ≡ 32 → ⊥ = λ few space.
@@ -68,7 +82,8 @@ bytes-preserved c =
             within = omega arith;
             split = renamed c.args.text.now (texts (take c.bytes.count c.bytes.words)) _ c.bytes.start _ (c.bytes.at + 1)
                 (same c.bytes.words c.if-byte-eq32.words c.bytes.count c.if-byte-eq32.count w.words-is w.count-is) w.start-is
-                (goes_on c.args.text.now (texts (take c.bytes.count c.bytes.words)) c.bytes.start c.bytes.at c.bytes.invariant.split (omega (arith, c.requires.ended, c.bytes.invariant.split.within)) c.if-byte-eq10.false full);
+                (goes_on c.args.text.now (texts (take c.bytes.count c.bytes.words)) c.bytes.start c.bytes.at c.bytes.invariant.split
+                (omega (arith, c.requires.ended, c.bytes.invariant.split.within)) c.if-byte-eq10.false full);
           })
     ]
 
@@ -77,9 +92,12 @@ returns-then-count-lt12-clause-words c =
     let word = take (c.bytes.at - c.bytes.start) (drop c.bytes.start c.args.text.now) in
     let n = kept (λ w. w.now) c.bytes.words c.bytes.count c.bytes.invariant.room c.bytes.invariant.count in
     stored c.bytes.words _ _ c.bytes.count (c.bytes.count + 1) word refl refl refl c.bytes.invariant.room c.if-count-lt12.true
-    ∙ last_word c.args.text.now (texts (take c.bytes.count c.bytes.words)) c.bytes.start c.bytes.at c.bytes.invariant.split c.bytes.invariant.begun (omega (arith, c.requires.ended, c.bytes.invariant.split.within)) c.if-byte-eq10.true (omega (arith, c.if-count-lt12.true))
+    ∙ last_word c.args.text.now (texts (take c.bytes.count c.bytes.words)) c.bytes.start c.bytes.at
+    c.bytes.invariant.split c.bytes.invariant.begun (omega (arith, c.requires.ended, c.bytes.invariant.split.within))
+    c.if-byte-eq10.true (omega (arith, c.if-count-lt12.true))
 
 pub returns-else-count-lt12-clause-words : goal.returns-else-count-lt12-clause-words
 returns-else-count-lt12-clause-words c =
     let n = kept (λ w. w.now) c.bytes.words c.bytes.count c.bytes.invariant.room c.bytes.invariant.count in
-    no_more c.args.text.now (texts (take c.bytes.count c.bytes.words)) c.bytes.start c.bytes.at c.bytes.invariant.split (omega (arith, c.requires.ended, c.bytes.invariant.split.within)) c.if-byte-eq10.true (omega (arith, c.if-count-lt12.false))
+    no_more c.args.text.now (texts (take c.bytes.count c.bytes.words)) c.bytes.start c.bytes.at c.bytes.invariant.split
+    (omega (arith, c.requires.ended, c.bytes.invariant.split.within)) c.if-byte-eq10.true (omega (arith, c.if-count-lt12.false))

@@ -4,7 +4,11 @@ use Rattle.itoa.proofs.Decimal.{length_four}
 use Rattle.script_text.proofs.write.bytes.digit_count.Goals as goal
 
 pub overflow_add-count : goal.overflow_add-count
-overflow_add-count c = let most = length-decimal-le 20 c.args.number (omega arith) (omega arith) (omega arith) in let so_far = c.loop-left.invariant.digits in let more = length_four c.loop-left.left (omega arith) (omega arith) in omega arith
+overflow_add-count c =
+    let most = length-decimal-le 20 c.args.number (omega arith) (omega arith) (omega arith) in
+    let so_far = c.loop-left.invariant.digits in
+    let more = length_four c.loop-left.left (omega arith) (omega arith) in
+    omega arith
 
 pub loop-left-preserved : goal.loop-left-preserved
 loop-left-preserved c = record {
@@ -12,4 +16,8 @@ loop-left-preserved c = record {
 }
 
 pub overflow_add-result : goal.overflow_add-result
-overflow_add-result c = let most = length-decimal-le 20 c.args.number (omega arith) (omega arith) (omega arith) in let so_far = c.loop-left.invariant.digits in let short = c.short_digit_count.ensures in omega arith
+overflow_add-result c =
+    let most = length-decimal-le 20 c.args.number (omega arith) (omega arith) (omega arith) in
+    let so_far = c.loop-left.invariant.digits in
+    let short = c.short_digit_count.ensures in
+    omega arith

@@ -10,4 +10,5 @@ loop-event-preserved c =
     All-more EventFits c.args.events.now c.loop-event.event-index _ c.loop-event-test.true c.loop-event.invariant c.event_fits.ensures
 
 pub returns : goal.returns
-returns c = subst (λ (es : List Event). All EventFits es) (take_all c.loop-event.event-index c.args.events.now (omega (arith, c.loop-event-test.false))) c.loop-event.invariant
+returns c = subst (λ (es : List Event). All EventFits es)
+    (take_all c.loop-event.event-index c.args.events.now (omega (arith, c.loop-event-test.false))) c.loop-event.invariant

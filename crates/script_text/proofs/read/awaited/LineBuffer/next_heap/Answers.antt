@@ -8,5 +8,6 @@ pub returns-in-Err-read_on : goal.returns-in-Err-read_on
 returns-in-Err-read_on g c =
     let none = c.in_default.ensures.none in
     let so_far = c.loop-taken.invariant in
-    next_fails heap_line_of c.args.self.now c.take_heap.new.self c.read_on.new.self c.args.reader.now c.loop-taken.reader c.read_on.new.reader c.read_on.result c.in-Err-read_on.fault so_far.0
+    next_fails heap_line_of c.args.self.now c.take_heap.new.self c.read_on.new.self c.args.reader.now c.loop-taken.reader
+    c.read_on.new.reader c.read_on.result c.in-Err-read_on.fault so_far.0
     c.in-Err-read_on.is so_far.1 (none.1 ∙ so_far.2) (subst IsUnended (sym none.1) none.0) c.read_on.ensures.line c.read_on.ensures.fails

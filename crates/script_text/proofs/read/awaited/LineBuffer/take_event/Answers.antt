@@ -14,9 +14,11 @@ returns-in-Ok-clause-event c =
     let end = c.self.inside.end in
     let seen = c.deref.result.now in
     let is : waiting seen start end ≡ c.args.self.now = ap (λ (b : List ℕ). waiting b start end) c.deref.ensures.value ∙ c.self.view_is in
-    let read : event_line_of c.args.count c.args.config.now (take n c.args.self.now) ≡ Ok c.in-Ok.event = ap (λ (t : List ℕ). event_line_of c.args.count c.args.config.now (take n t)) (sym is) ∙ sym c.in-Some.ensures.event ∙ c.in-Ok.is in (
+    let read : event_line_of c.args.count c.args.config.now (take n c.args.self.now) ≡ Ok c.in-Ok.event =
+    ap (λ (t : List ℕ). event_line_of c.args.count c.args.config.now (take n t)) (sym is) ∙ sym c.in-Some.ensures.event ∙ c.in-Ok.is in (
       take n c.args.self.now,
-      line_taken c.args.self.now seen c.self.inside.bytes.items start end n is c.deref.ensures.value c.in-Some.ensures.within c.in-Some.ensures.line,
+      line_taken c.args.self.now seen c.self.inside.bytes.items start end n is c.deref.ensures.value
+          c.in-Some.ensures.within c.in-Some.ensures.line,
       read,
       subst (λ (r : Result Event Kind). IfOk r (IsEvent c.args.config.now)) c.in-Ok.is c.in-Some.ensures.known,
     )

@@ -10,5 +10,10 @@ returns-in-Ok-clause-config c =
     let end = c.self.inside.end in
     let seen = c.deref.result.now in
     let is : waiting seen start end ≡ c.args.self.now = ap (λ (b : List ℕ). waiting b start end) c.deref.ensures.value ∙ c.self.view_is in
-    let read : heap_line_of (take n c.args.self.now) ≡ Ok c.in-Ok.config = ap (λ (t : List ℕ). heap_line_of (take n t)) (sym is) ∙ sym c.in-Some.ensures.config ∙ c.in-Ok.is in
-    (take n c.args.self.now, line_taken c.args.self.now seen c.self.inside.bytes.items start end n is c.deref.ensures.value c.in-Some.ensures.within c.in-Some.ensures.line, read)
+    let read : heap_line_of (take n c.args.self.now) ≡ Ok c.in-Ok.config =
+    ap (λ (t : List ℕ). heap_line_of (take n t)) (sym is) ∙ sym c.in-Some.ensures.config ∙ c.in-Ok.is in (
+      take n c.args.self.now,
+      line_taken c.args.self.now seen c.self.inside.bytes.items start end n is c.deref.ensures.value
+          c.in-Some.ensures.within c.in-Some.ensures.line,
+      read,
+    )
