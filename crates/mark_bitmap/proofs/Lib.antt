@@ -1,4 +1,5 @@
 pub mod Counts
+pub mod Counted
 pub mod Ranges
 pub mod KeptLaws
 pub mod ObjectLaws

@@ -6,10 +6,12 @@
 //! ```
 //!
 //! While marking goes down a list, one object is grey at a time: its finger is set, found, and falls again. Held beside the
-//! others it costs no way down the levels of their summary and up again.
+//! others it costs no way down the levels of their summary and up again. The others that are set are counted, so where there
+//! is none nobody looks for one.
 
 ghost use Rattle.std.specs.Prelude.{◌≡◌, ℕ, ◌<◌, false, true, IfOk, IfSome, length, MatchOption, Option, replicate, slice_set};
 ghost use Rattle.heap_words.specs.Bits.{has, HasNone, IsLowest};
+ghost use Rattle.mark_bitmap.specs.Marks.{marked_count};
 ghost use Rattle.mark_bitmap.specs.Held.{held_without};
 
 use crate::summary::Summary;
@@ -19,45 +21,85 @@ use std::marker::Model;
 /// A set of fingers below a length that is given when it is made. Clauses see a flag for each finger.
 pub struct Fingers {
     others: Summary,
+    /// How many of the others are set.
+    count: u32,
     held: Option<u32>,
 }
 
 impl Model for Fingers {
-    ghost use Rattle.std.specs.Prelude.{List, Bool, IfSome, length, ◌<◌};
-    ghost use Rattle.mark_bitmap.specs.Held.{with_held};
+    ghost use Rattle.std.specs.Prelude.{List, Bool};
+    ghost use Rattle.mark_bitmap.specs.Held.{with_held, AreCounted};
 
     ghost Value = { List Bool };
 
     ghost view = { λ f. with_held f.others f.held };
 
-    ghost invariant = { λ f. IfSome f.held (λ held. held < length f.others) };
+    ghost invariant = { λ f. AreCounted f.others f.count f.held };
 }
 
 /// Where it is let go there is one call, and not a drop for each of its parts.
 impl Drop for Fingers {
     fn drop(self) {
-        let Fingers { others: _, held: _ } = self;
+        let Fingers {
+            others: _,
+            count: _,
+            held: _,
+        } = self;
     }
 }
 
-/// A finger isn't one of the others, if it was.
-fn leave(others: &mut Summary, finger: u32)
-    requires { finger < length others.old }
-    ensures { others.new ≡ slice_set others.old finger false }
+/// A finger is one of the others, which are counted.
+fn join(others: &mut Summary, count: &mut u32, finger: u32)
+    requires known { finger < length others.old }
+    requires counted { count.old ≡ marked_count others.old }
+    ensures others { others.new ≡ slice_set others.old finger true }
+    ensures counted { count.new ≡ marked_count others.new }
 {
+    others.law();
+    if others.get(finger) {
+        return;
+    }
+    others.set(finger);
+    *count += 1;
+}
+
+/// A finger isn't one of the others, if it was.
+fn leave(others: &mut Summary, count: &mut u32, finger: u32)
+    requires known { finger < length others.old }
+    requires counted { count.old ≡ marked_count others.old }
+    ensures others { others.new ≡ slice_set others.old finger false }
+    ensures counted { count.new ≡ marked_count others.new }
+{
+    if *count == 0 {
+        return;
+    }
     if !others.get(finger) {
         return;
     }
     others.remove(finger);
+    *count -= 1;
 }
 
-/// What is held without a finger.
-fn without(held: Option<u32>, finger: u32) -> Option<u32>
-    ensures { result ≡ held_without held finger }
+/// The lowest of the others.
+fn lowest_of(others: &Summary, count: u32) -> Option<u32>
+    requires { count ≡ marked_count others.now }
+    ensures lowest { MatchOption result (HasNone (has others.now) 0) (IsLowest (has others.now) 0) }
+    ensures within { IfSome result (λ found. found < length others.now) }
 {
-    match held {
-        Some(number) => { if number == finger { None } else { Some(number) } }
-        None => None,
+    if count == 0 {
+        return None;
+    }
+    others.lowest()
+}
+
+/// A finger isn't held any more, if it was.
+fn let_go(held: &mut Option<u32>, finger: u32)
+    ensures { held.new ≡ held_without held.old finger }
+{
+    if let Some(number) = *held {
+        if number == finger {
+            *held = None;
+        }
     }
 }
 
@@ -67,7 +109,11 @@ impl Fingers {
         ensures { IfOk result (λ fingers. fingers ≡ replicate count false) }
     {
         let others = Summary::new(alloc, count)?;
-        Ok(Fingers { others, held: None })
+        Ok(Fingers {
+            others,
+            count: 0,
+            held: None,
+        })
     }
 
     /// A finger is set: it is held, if none is.
@@ -82,7 +128,7 @@ impl Fingers {
         if held == finger {
             return;
         }
-        self.others.set(finger);
+        join(&mut self.others, &mut self.count, finger);
     }
 
     /// A finger falls.
@@ -90,8 +136,8 @@ impl Fingers {
         requires { finger < length self.old }
         ensures { self.new ≡ slice_set self.old finger false }
     {
-        leave(&mut self.others, finger);
-        self.held = without(self.held, finger);
+        leave(&mut self.others, &mut self.count, finger);
+        let_go(&mut self.held, finger);
     }
 
     /// No finger is set.
@@ -99,6 +145,7 @@ impl Fingers {
         ensures { self.new ≡ replicate (length self.old) false }
     {
         self.others.clear();
+        self.count = 0;
         self.held = None;
     }
 
@@ -108,9 +155,9 @@ impl Fingers {
         ensures within { IfSome result (λ found. found < length self.now) }
     {
         let Some(held) = self.held else {
-            return self.others.lowest();
+            return lowest_of(&self.others, self.count);
         };
-        match self.others.lowest() {
+        match lowest_of(&self.others, self.count) {
             Some(found) => Some(found.min(held)),
             None => Some(held),
         }

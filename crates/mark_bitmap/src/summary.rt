@@ -14,10 +14,10 @@
 //! costs a word a level, whatever the set has. That holds for up to 262,144 numbers, of which the blocks fit one word;
 //! with more the lowest block is searched for.
 
-ghost use Rattle.std.specs.Prelude.{◌≡◌, ◌≢◌, ℕ, ◌*◌, ◌/◌, ◌<◌, Bool, List, false, true, IfOk, IfSome, length, MatchOption, replicate, slice_set};
+ghost use Rattle.std.specs.Prelude.{◌≡◌, ◌≢◌, ℕ, ◌*◌, ◌/◌, ◌^◌, ◌<◌, Bool, List, false, true, IfOk, IfSome, length, MatchOption, replicate, slice_set};
 ghost use Rattle.std.specs.Int.{div_ceil};
 ghost use Rattle.heap_words.specs.Bits.{has, HasNone, IsLowest};
-ghost use Rattle.mark_bitmap.specs.Summary.{HasMember, HasNoMember, IsMember, IsSummary};
+ghost use Rattle.mark_bitmap.specs.Summary.{AreLevels, HasMember, HasNoMember, IsMember, IsSummary};
 
 use heap_words::bits::Bits;
 use std::alloc::{AllocError, Global};
@@ -60,8 +60,21 @@ fn lowest_of(set: &Bits, group: u32) -> Option<u32>
     set.lowest_in(group)
 }
 
-/// A group leaves the groups if it has no member.
-fn leave(set: &Bits, groups: &mut Bits, group: u32)
+/// The lowest block. Mostly it stands in the first word.
+fn lowest_block(blocks: &Bits) -> Option<u32>
+    ensures { MatchOption result (HasNone (has blocks.now) 0) (IsLowest (has blocks.now) 0) }
+{
+    if blocks.len() == 0 {
+        return blocks.next(0);
+    }
+    match blocks.lowest_in(0) {
+        Some(found) => Some(found),
+        None => blocks.next(0),
+    }
+}
+
+/// A group leaves the groups if it has no member. Whether it left.
+fn leave(set: &Bits, groups: &mut Bits, group: u32) -> bool
     requires known { group < length groups.old }
     requires count { length groups.old ≡ div_ceil (length set.now) 64 }
     requires each { (a : ℕ) → has set.now a ≡ true → has groups.old (a / 64) ≡ true }
@@ -70,10 +83,30 @@ fn leave(set: &Bits, groups: &mut Bits, group: u32)
     ensures fewer { (i : ℕ) → has groups.new i ≡ true → has groups.old i ≡ true }
     ensures others { (i : ℕ) → i ≢ group → has groups.new i ≡ has groups.old i }
     ensures summary { IsSummary (has set.now) groups.new }
+    ensures stayed { result ≡ false → groups.new ≡ groups.old }
 {
-    if lowest_of(set, group).is_none() {
-        groups.remove(group);
+    if lowest_of(set, group).is_some() {
+        return false;
     }
+    groups.remove(group);
+    true
+}
+
+/// A number that isn't in the set any more leaves the groups, and its group the blocks, where it was the last one.
+fn leave_levels(members: &Bits, groups: &mut Bits, blocks: &mut Bits, number: u32)
+    requires known { number < length members.now }
+    requires group_count { length groups.old ≡ div_ceil (length members.now) 64 }
+    requires block_count { length blocks.old ≡ div_ceil (length groups.old) 64 }
+    requires each { (a : ℕ) → has members.now a ≡ true → has groups.old (a / 64) ≡ true }
+    requires others { (i : ℕ) → i ≢ number / 64 → has groups.old i ≡ true → HasMember (has members.now) i }
+    requires block_summary { IsSummary (has groups.old) blocks.old }
+    ensures { AreLevels members.now groups.new blocks.new }
+{
+    let group = number / 64;
+    if !leave(members, groups, group) {
+        return;
+    }
+    leave(groups, blocks, group / 64);
 }
 
 impl Summary {
@@ -87,6 +120,13 @@ impl Summary {
             groups: Bits::new(alloc, groups)?,
             blocks: Bits::new(alloc, groups.div_ceil(64))?,
         })
+    }
+
+    /// Tells a proof what is known of each set: its numbers are below 2 to the 32nd. It does nothing.
+    pub fn law(&self)
+        ensures { length self.now < 2 ^ 32 }
+    {
+        self.members.law();
     }
 
     /// Whether a number is in the set.
@@ -113,8 +153,7 @@ impl Summary {
         ensures { self.new ≡ slice_set self.old number false }
     {
         self.members.remove(number);
-        leave(&self.members, &mut self.groups, number / 64);
-        leave(&self.groups, &mut self.blocks, number / 64 / 64);
+        leave_levels(&self.members, &mut self.groups, &mut self.blocks, number);
     }
 
     /// The set is empty.
@@ -131,7 +170,7 @@ impl Summary {
         ensures lowest { MatchOption result (HasNone (has self.now) 0) (IsLowest (has self.now) 0) }
         ensures within { IfSome result (λ found. found < length self.now) }
     {
-        let block = self.blocks.next(0)?;
+        let block = lowest_block(&self.blocks)?;
         let group = lowest_of(&self.groups, block)?;
         lowest_of(&self.members, group)
     }

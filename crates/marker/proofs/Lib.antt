@@ -3,6 +3,7 @@ pub mod LiveCounts
 pub mod Follow
 pub mod Reached
 pub mod Scanned
+pub mod Entered
 pub mod Marking
 pub mod Made
 pub mod Begun

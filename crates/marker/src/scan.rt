@@ -42,6 +42,25 @@ impl Marker {
         self.grey.add(at);
     }
 
+    /// A grey object enters the scanned ones, and its words are counted. Its targets are still to be marked.
+    fn enter(&mut self, table: &RegionTable, object: Addr)
+        requires stands { MarkerStands table.now self.old }
+        requires running { self.old.running ≡ true }
+        requires grey { is_grey self.old.bitmaps.next self.old.grey object ≡ true }
+        ensures stands { MarkerStands table.now self.new }
+        ensures next { self.new.bitmaps.next ≡ self.old.bitmaps.next }
+        ensures scanned { self.new.grey.scanned ≡ slice_set self.old.grey.scanned object true }
+        ensures counted { self.new.scans ≡ added self.old.scans }
+        ensures same { SameRoles self.old self.new }
+        ensures logs { self.new.logs ≡ self.old.logs }
+    {
+        table.law();
+        let size = table.object_size(object);
+        self.grey.remove(&self.bitmaps.next, object);
+        self.scans.add();
+        self.live.add(table.region_of(object), size);
+    }
+
     /// Scans a grey object: each of its targets that was there when marking began is marked.
     pub fn scan(&mut self, table: &RegionTable, object: Addr)
         requires stands { MarkerStands table.now self.old }
@@ -55,16 +74,13 @@ impl Marker {
         ensures same { SameRoles self.old self.new }
         ensures logs { self.new.logs ≡ self.old.logs }
     {
-        table.law();
         let count = table.pointer_count(object);
-        let size = table.object_size(object);
+        // It isn't grey any more before its targets are, so that down a list one object is grey at a time.
+        self.enter(table, object);
         for field in 0..count {
             let target = table.get_ptr(object, field);
             self.reach(table, target);
         }
-        self.grey.remove(&self.bitmaps.next, object);
-        self.scans.add();
-        self.live.add(table.region_of(object), size);
     }
 
     /// Scans up to `units` grey objects, and says how many: fewer only if none is left. Which ones, no clause says: the lowest first.

@@ -4,4 +4,4 @@ use Rattle.marker.proofs.Reached.{Reached}
 use Rattle.marker.proofs.marker.Marker.scan.Given as goal
 
 abbrev pub invariant-loop-field : goal.invariant-loop-field
-invariant-loop-field l = Reached l.table (IsAmong (pointers_at l.table l.object) l.field) l.fn.self l.self
+invariant-loop-field l = Reached l.table (IsAmong (pointers_at l.table l.object) l.field) l.initial.self l.self

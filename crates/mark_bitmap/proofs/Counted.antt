@@ -1,0 +1,37 @@
+-- How many flags are set, as one comes or goes.
+use Rattle.std.proofs.Common.{◌≡◌, ℕ, ◌+◌, ◌^◌, ◌<◌, Bool, true, false, cond, List, length, set}
+use Rattle.std.proofs.Common.{inl, inr, sym, ap, ◌∙◌, arith, length-set}
+use Rattle.std.proofs.lemmas.Bool.{cases_Bool, cases_lt}
+use Rattle.std.proofs.lemmas.List.{set-get_or}
+use Rattle.std.proofs.lemmas.List.Sums.{sum_by-set, count_by-le-length}
+use Rattle.heap_words.specs.Bits.{has, HasNone}
+use Rattle.heap_words.proofs.BitWords.{has_past}
+use Rattle.mark_bitmap.specs.Marks.{marked_count}
+use Rattle.mark_bitmap.proofs.Counts.{marked_count-set}
+
+-- one comes
+pub count_fits : (flags : List Bool) (n : ℕ) → n < length flags → has flags n ≡ false → length flags < 2 ^ 32
+    → marked_count flags + 1 < 2 ^ 32
+count_fits flags n inside out short =
+    omega (arith, marked_count-set flags n inside out, count_by-le-length (λ b. b) (set flags n true), length-set flags n true, short)
+
+abbrev bit : Bool → ℕ
+bit b = cond b 1 0
+
+-- one goes
+pub count_less : (flags : List Bool) (n : ℕ) → has flags n ≡ true → marked_count (set flags n false) + 1 ≡ marked_count flags
+count_less flags n is = elim (cases_lt n (length flags)) [
+  | inl inside ↦ omega (arith, sum_by-set bit flags n false false inside, ap bit is)
+  | inr past ↦ absurd (let none = has_past flags n past in let some = is in cc)
+]
+
+-- one that isn't set falls
+pub unset_stays : (flags : List Bool) (n : ℕ) → has flags n ≡ false → flags ≡ set flags n false
+unset_stays flags n unset = sym (ap (set flags n) (sym unset) ∙ set-get_or flags n false)
+
+-- where none is counted, none is set
+pub none_counted : (flags : List Bool) → marked_count flags ≡ 0 → HasNone (has flags) 0
+none_counted flags e a low = elim (cases_Bool (has flags a)) [
+  | inl is ↦ absurd (omega (arith, count_less flags a is, e))
+  | inr unset ↦ unset
+]
