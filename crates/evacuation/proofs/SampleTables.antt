@@ -1,7 +1,8 @@
 -- How the tests make their tables.
 use Rattle.std.proofs.Common.{◌≡◌, ℕ, ◌+◌, ◌-◌, ◌<◌, ◌≤◌, [], ◌∷◌, Option, Some, None, length, refl, arith}
 use Rattle.regions.specs.Tiles.{Object, Filler}
-use Rattle.regions.specs.Table.{Table, Free, Ordinary, fields_at, first_free, weaks_at, kind_of, object_at, put_object, push_tile, region_at, nth_region, replace_tile, set_field, set_weak, taken, tile_in, used_of, new_object, remainder}
+use Rattle.regions.specs.Table.{Table, Free, Ordinary, fields_at, first_free, weaks_at, kind_of, object_at, put_object, push_tile}
+use Rattle.regions.specs.Table.{region_at, nth_region, replace_tile, set_field, set_weak, taken, tile_in, used_of, new_object, remainder}
 use Rattle.regions.proofs.Samples.{filled1, IsUsable}
 use Rattle.evacuation.specs.Samples.{alone, by_weak_slot, held, holder, itself, sample_of}
 
@@ -10,7 +11,8 @@ abbrev cut : ℕ → Table
 cut n = sample_of (Ordinary (Filler n ∷ []) ∷ Free ∷ Free ∷ Free ∷ [])
 
 abbrev made : Option ℕ → Option ℕ → Table
-made p weak = sample_of (Ordinary (Object (record { name = 7; pointers = p ∷ []; weaks = weak ∷ []; values = [] }) ∷ []) ∷ Free ∷ Free ∷ Free ∷ [])
+made p weak =
+    sample_of (Ordinary (Object (record { name = 7; pointers = p ∷ []; weaks = weak ∷ []; values = [] }) ∷ []) ∷ Free ∷ Free ∷ Free ∷ [])
 
 pub usable : (t : Table) (k n : ℕ) → t ≡ filled1 → k ≡ 0 → n ≤ 16 → IsUsable t k n
 unfolding kind_of nth_region used_of
@@ -24,7 +26,9 @@ pub filler_there : (t : Table) (a n m : ℕ) → t ≡ cut m → a ≡ 0 → n �
 unfolding tile_in region_at
 filler_there t a n m e p q = rw (e, p, q) refl
 
-pub is_made : (t t' : Table) (a n p weak d : ℕ) → t ≡ cut 4 → t' ≡ replace_tile t a (Object (new_object 7 p weak d) ∷ remainder (n - (2 + p + weak + d))) → a ≡ 0 → n ≡ 4 → p ≡ 1 → weak ≡ 1 → d ≡ 0 → t' ≡ made None None
+pub is_made : (t t' : Table) (a n p weak d : ℕ) → t ≡ cut 4
+    → t' ≡ replace_tile t a (Object (new_object 7 p weak d) ∷ remainder (n - (2 + p + weak + d))) → a ≡ 0 → n ≡ 4 → p ≡ 1
+    → weak ≡ 1 → d ≡ 0 → t' ≡ made None None
 unfolding replace_tile region_at
 is_made t t' a n p weak d e g x y z v w = rw (g, e, x, y, z, v, w) refl
 
@@ -41,7 +45,9 @@ unfolding set_field object_at tile_in region_at put_object
 names_itself_twice t t' a e g p = rw (g, e, p) refl
 
 -- ---- one of a weak slot, and a second one in region 1
-pub is_alone : (t t' : Table) (a n p weak d : ℕ) → t ≡ cut 3 → t' ≡ replace_tile t a (Object (new_object 7 p weak d) ∷ remainder (n - (2 + p + weak + d))) → a ≡ 0 → n ≡ 3 → p ≡ 0 → weak ≡ 1 → d ≡ 0 → t' ≡ alone
+pub is_alone : (t t' : Table) (a n p weak d : ℕ) → t ≡ cut 3
+    → t' ≡ replace_tile t a (Object (new_object 7 p weak d) ∷ remainder (n - (2 + p + weak + d))) → a ≡ 0
+    → n ≡ 3 → p ≡ 0 → weak ≡ 1 → d ≡ 0 → t' ≡ alone
 unfolding replace_tile region_at
 is_alone t t' a n p weak d e g x y z v w = rw (g, e, x, y, z, v, w) refl
 
@@ -69,7 +75,9 @@ pub second_filler : (t : Table) (a n : ℕ) → t ≡ two_cut → a ≡ 16 → n
 unfolding tile_in region_at
 second_filler t a n e p q = rw (e, p, q) refl
 
-pub is_both : (t t' : Table) (a n p weak d : ℕ) → t ≡ two_cut → t' ≡ replace_tile t a (Object (new_object 8 p weak d) ∷ remainder (n - (2 + p + weak + d))) → a ≡ 16 → n ≡ 2 → p ≡ 0 → weak ≡ 0 → d ≡ 0 → t' ≡ both
+pub is_both : (t t' : Table) (a n p weak d : ℕ) → t ≡ two_cut
+    → t' ≡ replace_tile t a (Object (new_object 8 p weak d) ∷ remainder (n - (2 + p + weak + d))) → a ≡ 16
+    → n ≡ 2 → p ≡ 0 → weak ≡ 0 → d ≡ 0 → t' ≡ both
 unfolding replace_tile region_at
 is_both t t' a n p weak d e g x y z v w = rw (g, e, x, y, z, v, w) refl
 

@@ -1,10 +1,13 @@
 -- The heaps that the tests evacuate.
-use Rattle.std.proofs.Common.{◌≡◌, ◌∙◌, ℕ, zero, suc, ◌-◌, ◌*◌, ◌/◌, ◌%◌, ◌<◌, ◌≤◌, ◌⊎◌, Bool, true, false, List, [], ◌∷◌, Option, Some, None, length, get_or, refl, sym, ap, subst, inl, inr, arith}
+use Rattle.std.proofs.Common.{◌≡◌, ◌∙◌, ◌-◌, ◌*◌, ◌/◌, ◌%◌, ◌<◌, ◌≤◌, ◌⊎◌, ◌∷◌}
+use Rattle.std.proofs.Common.{ℕ, zero, suc, Bool, true, false, List, [], Option, Some, None}
+use Rattle.std.proofs.Common.{length, get_or, refl, sym, ap, subst, inl, inr, arith}
 use Rattle.std.specs.Prelude.{All, IfSome, IsSome, slice_get, nat_le, if◌then◌else◌}
 use Rattle.std.proofs.lemmas.List.{length-replicate}
 use Rattle.heap_model.specs.Heap.{Stored, fields}
 use Rattle.regions.specs.Tiles.{Tile, Object, Filler, Forwarded, tile_size, tile_at}
-use Rattle.regions.specs.Table.{Table, Free, Ordinary, AreHalves, HasNoForwarded, free_count, kind_of, object_at, region_at, nth_region, region_tile, tile_in, tile_object, used_of}
+use Rattle.regions.specs.Table.{Table, Free, Ordinary, AreHalves, HasNoForwarded, free_count, kind_of, object_at, region_at}
+use Rattle.regions.specs.Table.{nth_region, region_tile, tile_in, tile_object, used_of}
 use Rattle.regions.specs.Shapes.{tile_shape}
 use Rattle.regions.specs.declared.row.Kind.TheVariants as kinds
 use Rattle.regions.specs.declared.row.Shape.{Shape}
@@ -48,9 +51,11 @@ pub record IsSuited (t : Table) (s : Sets) (row : LiveRow) : Type 0 where
   pub unmoved : HasNoForwarded t
   pub first : (x : Stored) × (object_at t 0 ≡ Some x)
   pub low : (a : ℕ) (x : Stored) → object_at t a ≡ Some x → is_below 16 (bottoms 4 16) a ≡ false
-  pub inside : (b i a : ℕ) (y : Stored) → object_at t b ≡ Some y → slice_get (fields y) i ≡ Some (Some a) → (x : Stored) × (object_at t a ≡ Some x)
+  pub inside : (b i a : ℕ) (y : Stored) → object_at t b ≡ Some y → slice_get (fields y) i ≡ Some (Some a)
+      → (x : Stored) × (object_at t a ≡ Some x)
   pub halves : (a : ℕ) (x : Stored) → object_at t a ≡ Some x → 2 * tile_size (Object x) ≤ 16
-  pub remembered : (a i b : ℕ) (y : Stored) → object_at t a ≡ Some y → slice_get (fields y) i ≡ Some (Some b) → (b / 16 ≡ field_word a i / 16) ⊎ (may_lead s (b / 16) (field_card 8 a i) ≡ true)
+  pub remembered : (a i b : ℕ) (y : Stored) → object_at t a ≡ Some y → slice_get (fields y) i ≡ Some (Some b)
+      → (b / 16 ≡ field_word a i / 16) ⊎ (may_lead s (b / 16) (field_card 8 a i) ≡ true)
   pub known : row.region < 4
   pub ordinary : kind_of t row.region ≡ kinds.Ordinary
   pub bound : (marks : List Bool) → row.live_bound ≡ live_bound_of t (bottoms 4 16) marks row.region
@@ -67,7 +72,9 @@ module _ (t : Table) (s : Sets) (row : LiveRow) (u : IsSuited t s row) (h : Laye
   below a x e = ap (λ (n : ℕ). is_below n h.tams.previous a) words ∙ ap (λ (l : List ℕ). is_below 16 l a) f.previous_tops ∙ u.low a x e
 
   here : (a : ℕ) (x : Stored) → object_at t a ≡ Some x → kept_of h a ≡ Some x
-  here a x e = ap (λ (b : Bool). if b then (if is_marked h.previous a then object_at h.table a else None) else object_at h.table a) (below a x e) ∙ ap (λ (v : Table). object_at v a) f.table_is ∙ e
+  here a x e = ap (λ (b : Bool).
+      if b then (if is_marked h.previous a then object_at h.table a else None) else object_at h.table a) (below a x e)
+      ∙ ap (λ (v : Table). object_at v a) f.table_is ∙ e
 
   there : (a : ℕ) (y : Stored) → kept_of h a ≡ Some y → object_at t a ≡ Some y
   there a y e = ap (λ (v : Table). object_at v a) (sym f.table_is) ∙ kept_object h.table h.tams h.previous a y e
@@ -91,7 +98,8 @@ module _ (t : Table) (s : Sets) (row : LiveRow) (u : IsSuited t s row) (h : Laye
       whole_cards = words ∙ sym (ap (λ (v : Sets). v.cards_per_region * 8) f.sets_are ∙ ap (λ (n : ℕ). n * 8) u.cards);
       each_region = ap (λ (v : Sets). length v.sets) f.sets_are ∙ u.each ∙ sym count;
     };
-    each_card = ap (λ (c : Cards). length c.dirty) f.cards ∙ length-replicate 8 false ∙ sym (ap card_count f.sets_are ∙ (let c = u.cards in let e = u.each in rw (c, e) refl));
+    each_card = ap (λ (c : Cards). length c.dirty) f.cards ∙ length-replicate 8 false
+        ∙ sym (ap card_count f.sets_are ∙ (let c = u.cards in let e = u.each in rw (c, e) refl));
     clean = λ card. ap (λ (c : Cards). is_dirty c card) f.cards ∙ none_marked 8 card;
     remembers = subst (λ (n : ℕ). Remembers n (kept_of h) 8 (is_dirty h.cards) (may_lead h.sets)) (sym words) (record {
       each = λ a i b x. elim (u.remembered a i b x.object (there a x.object x.kept_is) x.field_is) [
@@ -102,7 +110,8 @@ module _ (t : Table) (s : Sets) (row : LiveRow) (u : IsSuited t s row) (h : Laye
     each_row = the_row row (IsRow h) (record {
       known = let c = count in let k = u.known in omega arith;
       ordinary = ap (λ (v : Table). kind_of v row.region) f.table_is ∙ u.ordinary;
-      live_bound = u.bound h.previous ∙ ap (λ (l : List ℕ). live_bound_of t l h.previous row.region) (sym f.previous_tops) ∙ ap (λ (v : Table). live_bound_of v h.tams.previous h.previous row.region) (sym f.table_is);
+      live_bound = u.bound h.previous ∙ ap (λ (l : List ℕ). live_bound_of t l h.previous row.region) (sym f.previous_tops)
+          ∙ ap (λ (v : Table). live_bound_of v h.tams.previous h.previous row.region) (sym f.table_is);
     });
     distinct = λ i j r o e g q. single row i j r o e g;
     room = subst (λ (v : Table). 2 * live_sum (row ∷ []) ≤ free_count v * v.words_per_region) (sym f.table_is) u.room;
@@ -118,7 +127,9 @@ tile_alone x (suc o) y e = absurd (behind (nat_le (tile_size (Object x)) (suc o)
     behind false f = cc
 
 -- ---- the object that names itself
-itself_at : (q o : ℕ) (y : Stored) → tile_object (region_tile (get_or (Ordinary (Object selfish ∷ []) ∷ Free ∷ Free ∷ Free ∷ []) q Free) o) ≡ Some y → (q ≡ 0) × (o ≡ 0) × (selfish ≡ y)
+itself_at : (q o : ℕ) (y : Stored)
+    → tile_object (region_tile (get_or (Ordinary (Object selfish ∷ []) ∷ Free ∷ Free ∷ Free ∷ []) q Free) o) ≡ Some y
+    → (q ≡ 0) × (o ≡ 0) × (selfish ≡ y)
 itself_at zero o y e = let (n, s) = tile_alone selfish o y e in (refl, n, s)
 itself_at (suc zero) o y e = absurd cc
 itself_at (suc (suc zero)) o y e = absurd cc
@@ -175,7 +186,8 @@ itself_suited = record {
 }
 
 -- ---- the object that a weak slot alone names
-weak_at : (q o : ℕ) (y : Stored) → tile_object (region_tile (get_or (Ordinary (Object (holder (Some 16)) ∷ []) ∷ Ordinary (Object held ∷ []) ∷ Free ∷ Free ∷ []) q Free) o) ≡ Some y
+weak_at : (q o : ℕ) (y : Stored) → tile_object (region_tile (get_or (Ordinary (Object (holder (Some 16)) ∷ [])
+    ∷ Ordinary (Object held ∷ []) ∷ Free ∷ Free ∷ []) q Free) o) ≡ Some y
     → ((q ≡ 0) × (o ≡ 0) × (holder (Some 16) ≡ y)) ⊎ ((q ≡ 1) × (o ≡ 0) × (held ≡ y))
 weak_at zero o y e = let (n, s) = tile_alone (holder (Some 16)) o y e in inl (refl, n, s)
 weak_at (suc zero) o y e = let (n, s) = tile_alone held o y e in inr (refl, n, s)
@@ -211,7 +223,8 @@ no_target zero a e = cc
 no_target (suc i) a e = cc
 
 -- the object that has a field, and what it names
-weak_field : (b i a : ℕ) (y : Stored) → object_at by_weak_slot b ≡ Some y → slice_get (fields y) i ≡ Some (Some a) → (b ≡ 0) × (i ≡ 0) × (16 ≡ a)
+weak_field : (b i a : ℕ) (y : Stored) → object_at by_weak_slot b ≡ Some y
+    → slice_get (fields y) i ≡ Some (Some a) → (b ≡ 0) × (i ≡ 0) × (16 ≡ a)
 weak_field b i a y k e = elim (weak_only b y k) [
   | inl h ↦ (let (j, same) = weak_target i a (ap (λ (x : Stored). slice_get (fields x) i) h.1 ∙ e) in (h.0, j, same))
   | inr h ↦ absurd (no_target i a (ap (λ (x : Stored). slice_get (fields x) i) h.1 ∙ e))
@@ -257,18 +270,21 @@ weak_suited = record {
 }
 
 -- ---- what reading a field of an object asks for
-shaped_object : (o : Option Tile) (p weak d : ℕ) (shape : Shape) → IfSome o (λ v. shape ≡ tile_shape v) → IsSome o → shape ≡ shapes.Object p weak d → IsSome (tile_object o)
+shaped_object : (o : Option Tile) (p weak d : ℕ) (shape : Shape) → IfSome o (λ v. shape ≡ tile_shape v) → IsSome o
+    → shape ≡ shapes.Object p weak d → IsSome (tile_object o)
 shaped_object None p weak d shape h some e = cc
 shaped_object (Some (Object x)) p weak d shape h some e = refl
 shaped_object (Some (Filler n)) p weak d shape h some e = absurd cc
 shaped_object (Some (Forwarded to n)) p weak d shape h some e = absurd cc
 
-pub object_of_shape : (t : Table) (a p weak d : ℕ) (shape : Shape) → IfSome (tile_in t a) (λ v. shape ≡ tile_shape v) → IsSome (tile_in t a) → shape ≡ shapes.Object p weak d → IsSome (object_at t a)
+pub object_of_shape : (t : Table) (a p weak d : ℕ) (shape : Shape) → IfSome (tile_in t a) (λ v. shape ≡ tile_shape v) → IsSome (tile_in t a)
+    → shape ≡ shapes.Object p weak d → IsSome (object_at t a)
 unfolding object_at
 object_of_shape t a p weak d shape h some e = shaped_object (tile_in t a) p weak d shape h some e
 
 -- a word of the heap is one after the pause
-pub word_there : (rows : List LiveRow) (t t' v : Table) (w n : ℕ) → RegionsAfter rows t t' → t ≡ v → v.words_per_region ≡ 16 → length v.regions ≡ 4 → w ≡ n → n < 64 → w < length t'.regions * t'.words_per_region
+pub word_there : (rows : List LiveRow) (t t' v : Table) (w n : ℕ) → RegionsAfter rows t t' → t ≡ v → v.words_per_region ≡ 16
+    → length v.regions ≡ 4 → w ≡ n → n < 64 → w < length t'.regions * t'.words_per_region
 word_there rows t t' v w n r e size count is low =
     let size' : t'.words_per_region ≡ 16 = r.size ∙ ap (λ (u : Table). u.words_per_region) e ∙ size in
     let count' : length t'.regions ≡ 4 = r.count ∙ ap (λ (u : Table). length u.regions) e ∙ count in

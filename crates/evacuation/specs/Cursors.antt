@@ -8,11 +8,13 @@ use Rattle.evacuation.specs.Turns.{Pause, layout, plan, space, kept_now}
 
 -- the objects of region k below an address are settled
 abbrev pub AreSettledBelow : Pause → List Bool → Table → ℕ → ℕ → Type 0
-AreSettledBelow p noted t k at = (b : ℕ) (y : Stored) → b / p.start.words_per_region ≡ k → b < at → kept_now p t b ≡ Some y → IsObjectSettled (layout p) noted (space p t) b
+AreSettledBelow p noted t k at = (b : ℕ) (y : Stored) → b / p.start.words_per_region ≡ k → b < at → kept_now p t b ≡ Some y
+    → IsObjectSettled (layout p) noted (space p t) b
 
 -- the fields below one of the object at an address are settled
 abbrev pub AreFieldsSettled : Pause → List Bool → Table → ℕ → ℕ → Type 0
-AreFieldsSettled p noted t at n = (i : ℕ) → i < n → (y : Stored) (w : Option ℕ) → kept_now p t at ≡ Some y → slice_get (fields y) i ≡ Some w → IsSettled (layout p) noted (field_word at i) w
+AreFieldsSettled p noted t at n = (i : ℕ) → i < n → (y : Stored) (w : Option ℕ) → kept_now p t at ≡ Some y → slice_get (fields y) i ≡ Some w
+    → IsSettled (layout p) noted (field_word at i) w
 
 -- the fields of the object at an address that lie in a card are clean
 abbrev pub AreCardsFieldsClean : Pause → Table → ℕ → ℕ → Type 0
@@ -20,7 +22,9 @@ AreCardsFieldsClean p t card at = (i : ℕ) → field_word at i / p.card_words �
 
 -- the fields of a card that are to be visited, and belong to objects below an address, are clean
 abbrev pub AreCleanBelow : Pause → List Bool → Table → ℕ → ℕ → Type 0
-AreCleanBelow p visited t card at = (b i : ℕ) → IsVisited (layout p) (plan p) visited b i → field_word b i / p.card_words ≡ card → b < at → IsFieldClean (layout p) (space p t) b i
+AreCleanBelow p visited t card at = (b i : ℕ) → IsVisited (layout p) (plan p) visited b i → field_word b i / p.card_words ≡ card → b < at
+    → IsFieldClean (layout p) (space p t) b i
 
 abbrev pub IsCardClean : Pause → List Bool → Table → ℕ → Type 0
-IsCardClean p visited t card = (b i : ℕ) → IsVisited (layout p) (plan p) visited b i → field_word b i / p.card_words ≡ card → IsFieldClean (layout p) (space p t) b i
+IsCardClean p visited t card =
+    (b i : ℕ) → IsVisited (layout p) (plan p) visited b i → field_word b i / p.card_words ≡ card → IsFieldClean (layout p) (space p t) b i

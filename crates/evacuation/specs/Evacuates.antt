@@ -1,5 +1,6 @@
 -- What evacuating a set of regions asks of a heap, and what it does to it.
-use Rattle.std.specs.Prelude.{◌≡◌, ◌≢◌, ◌⊎◌, ◌↔◌, ◌≤◌, ◌<◌, ℕ, ◌+◌, ◌*◌, ◌/◌, Bool, true, false, ◌==◌, List, [], ◌∷◌, Option, Some, None, All, length, slice_get, slice_index, if◌then◌else◌}
+use Rattle.std.specs.Prelude.{◌≡◌, ◌≢◌, ◌⊎◌, ◌↔◌, ◌≤◌, ◌<◌, ◌+◌, ◌*◌, ◌/◌, ◌==◌, ◌∷◌, if◌then◌else◌}
+use Rattle.std.specs.Prelude.{ℕ, Bool, true, false, List, [], Option, Some, None, All, length, slice_get, slice_index}
 use Rattle.std.specs.List.{list_any}
 use Rattle.std.specs.List.Sorted.{IsStrictlyIncreasing}
 use Rattle.heap_model.specs.Heap.{Heap, Stored, IsClosed, fields}
@@ -58,10 +59,11 @@ pub record IsRow (h : Layers) (row : LiveRow) : Type 0 where
 
 -- no region stands in two rows
 abbrev pub AreDistinct : List LiveRow → Type 0
-AreDistinct rows = (i j : ℕ) (row other : LiveRow) → slice_get rows i ≡ Some row → slice_get rows j ≡ Some other → row.region ≡ other.region → i ≡ j
+AreDistinct rows =
+    (i j : ℕ) (row other : LiveRow) → slice_get rows i ≡ Some row → slice_get rows j ≡ Some other → row.region ≡ other.region → i ≡ j
 
--- No card is dirty, so all crossing fields are in cards that may lead where they do; each root and each field of a kept object is nil or leads to one; and
--- the live objects of the rows' regions find room in the free regions, even if each destination is filled by half
+-- No card is dirty, so all crossing fields are in cards that may lead where they do; each root and each field of a kept object is nil or
+-- leads to one; and the live objects of the rows' regions find room in the free regions, even if each destination is filled by half
 pub record CanEvacuate (h : Layers) (rows : List LiveRow) (card_words : ℕ) : Type 0 where
   pub unmoved : HasNoForwarded h.table
   pub previous : MarksObjects h.table h.tams.previous h.previous
@@ -110,11 +112,14 @@ pub record RegionsAfter (rows : List LiveRow) (t t' : Table) : Type 0 where
   pub chosen : (k : ℕ) → is_chosen rows k ≡ true → kind_of t' k ≡ kinds.Free
   pub was_free : (k : ℕ) → kind_of t k ≡ kinds.Free → (kind_of t' k ≡ kinds.Free) ⊎ (kind_of t' k ≡ kinds.Ordinary)
   pub filled : (k : ℕ) → kind_of t k ≡ kinds.Free → kind_of t' k ≡ kinds.Ordinary → 0 < used_of t' k
-  pub live : (a : ℕ) (tile : Tile) → kind_of t (a / t.words_per_region) ≡ kinds.Free → tile_in t' a ≡ Some tile → (x : Stored) × (tile ≡ Object x)
+  pub live : (a : ℕ) (tile : Tile) → kind_of t (a / t.words_per_region) ≡ kinds.Free
+      → tile_in t' a ≡ Some tile → (x : Stored) × (tile ≡ Object x)
   pub kinds_same : (k : ℕ) → is_chosen rows k ≡ false → kind_of t k ≢ kinds.Free → kind_of t' k ≡ kind_of t k
   pub used : (k : ℕ) → is_chosen rows k ≡ false → kind_of t k ≢ kinds.Free → used_of t' k ≡ used_of t k
-  pub objects : (a : ℕ) (x : Stored) → set_in t.words_per_region rows a ≡ false → object_at t a ≡ Some x → (y : Stored) × (object_at t' a ≡ Some y) × IsSameBut x y
-  pub none : (a : ℕ) → set_in t.words_per_region rows a ≡ false → kind_of t (a / t.words_per_region) ≢ kinds.Free → object_at t a ≡ None → object_at t' a ≡ None
+  pub objects : (a : ℕ) (x : Stored) → set_in t.words_per_region rows a ≡ false → object_at t a ≡ Some x
+      → (y : Stored) × (object_at t' a ≡ Some y) × IsSameBut x y
+  pub none : (a : ℕ) → set_in t.words_per_region rows a ≡ false → kind_of t (a / t.words_per_region) ≢ kinds.Free
+      → object_at t a ≡ None → object_at t' a ≡ None
 
 -- chosen regions have no marks and their tops at their bottoms, and nothing else changes
 pub record MarksAfter (words : ℕ) (rows : List LiveRow) (tops tops' : List ℕ) (marks marks' : List Bool) : Type 0 where
@@ -146,12 +151,14 @@ pub record HasEvacuated (rows : List LiveRow) (card_words words : ℕ) (h h' : L
   pub placed : (a b : ℕ) → forward a ≡ Some b → kind_of h.table (b / h.table.words_per_region) ≡ kinds.Free
   pub relocates : Relocates (place_after (set_by h rows) forward) (heap_of h) (heap_of h')
   pub copied : (a : ℕ) → IsReached (set_by h rows) (heap_of h) a ↔ ((set_by h rows a ≡ true) × (b : ℕ) × (forward a ≡ Some b))
-  pub keeps_old : IsNewSet h rows → (m : Marking) → ((a : ℕ) → m.old a ≡ below_next h.table h.tams a) → KeepsOld (place_after (set_by h rows) forward) (heap_of h) m
+  pub keeps_old : IsNewSet h rows → (m : Marking) → ((a : ℕ) → m.old a ≡ below_next h.table h.tams a)
+      → KeepsOld (place_after (set_by h rows) forward) (heap_of h) m
   pub words_are : AreReachedWords (set_by h rows) (heap_of h) words
   pub within : words ≤ live_sum rows
   pub regions : RegionsAfter rows h.table h'.table
   -- a filler outside the set, and an object there that isn't kept, is as it was
-  pub unkept : (a : ℕ) → set_by h rows a ≡ false → kind_of h.table (a / h.table.words_per_region) ≢ kinds.Free → kept_of h a ≡ None → tile_in h'.table a ≡ tile_in h.table a
+  pub unkept : (a : ℕ) → set_by h rows a ≡ false → kind_of h.table (a / h.table.words_per_region) ≢ kinds.Free → kept_of h a ≡ None
+      → tile_in h'.table a ≡ tile_in h.table a
   pub unmoved : HasNoForwarded h'.table
   pub halves : AreHalves h'.table
   pub previous : MarksAfter h.table.words_per_region rows h.tams.previous h'.tams.previous h.previous h'.previous
@@ -169,4 +176,5 @@ pub record HasEvacuated (rows : List LiveRow) (card_words words : ℕ) (h h' : L
   pub cleared : (k : ℕ) → is_chosen rows k ≡ true → set_of h'.sets k ≡ empty_set (length h.sets.sets)
   pub sets_same : (k : ℕ) → is_chosen rows k ≡ false → set_of h'.sets k ≡ set_of h.sets k
   -- no card of a chosen region has entered a set, and the other cards have as they had
-  pub entered : (card : ℕ) → has h'.sets.entered card ≡ (if is_chosen rows (card / h.sets.cards_per_region) then false else has h.sets.entered card)
+  pub entered : (card : ℕ)
+      → has h'.sets.entered card ≡ (if is_chosen rows (card / h.sets.cards_per_region) then false else has h.sets.entered card)

@@ -1,5 +1,6 @@
 -- What copying sees of a heap, and what it keeps from one copied object to the next.
-use Rattle.std.specs.Prelude.{◌≡◌, ◌≢◌, ◌⊎◌, ◌≤◌, ◌<◌, ℕ, ◌+◌, ◌*◌, ◌/◌, ◌^◌, Bool, true, false, List, [], ◌∷◌, ◌++◌, Option, Some, None, slice_get, slice_index_or, length, ⊤}
+use Rattle.std.specs.Prelude.{◌≡◌, ◌≢◌, ◌⊎◌, ◌≤◌, ◌<◌, ◌+◌, ◌*◌, ◌/◌, ◌^◌, ◌∷◌, ◌++◌}
+use Rattle.std.specs.Prelude.{ℕ, Bool, true, false, List, [], Option, Some, None, slice_get, slice_index_or, length, ⊤}
 use Rattle.heap_model.specs.Heap.{Heap, Stored, IsClosed, fields, with_field}
 use Rattle.heap_model.specs.Relocation.{IsMoved}
 use Rattle.heap_model.specs.Evacuation.{IsEvacuating, IsReached, place_after}
@@ -134,7 +135,8 @@ pub record NewCrossing (l : Layout) (s s' : Space) (d' : Places) (card : ℕ) : 
   pub clean : set_of l target ≡ false
   pub in_card : field_word at index / l.card_words ≡ card
   pub leaves : target / l.words ≢ field_word at index / l.words
-  pub is_new : IsTaken d' (at / l.words) ⊎ ((y : Stored) → s.object at ≡ Some y → (v : ℕ) × (slice_get (fields y) index ≡ Some (Some v)) × (set_of l v ≡ true))
+  pub is_new : IsTaken d' (at / l.words)
+      ⊎ ((y : Stored) → s.object at ≡ Some y → (v : ℕ) × (slice_get (fields y) index ≡ Some (Some v)) × (set_of l v ≡ true))
 
 -- Objects outside the set stay, and each of their fields is as it was or was updated. New ones stand above what was handed out
 -- before, and none in a closed destination
@@ -146,16 +148,20 @@ pub record IsAfter (l : Layout) (noted noted' : List Bool) (s s' : Space) (d d' 
   pub taken_grows : (i k : ℕ) → slice_get d.regions i ≡ Some k → slice_get d'.regions i ≡ Some k
   pub used_grows : (k : ℕ) → s.used k ≤ s'.used k
   pub stays : (b : ℕ) (y : Stored) → set_of l b ≡ false → s.object b ≡ Some y → IsStill s' b (length (fields y))
-  pub new_above : (b : ℕ) (y : Stored) → set_of l b ≡ false → s'.object b ≡ Some y → IsObject s b ⊎ (b / l.words * l.words + s.used (b / l.words) ≤ b)
-  pub closed : (k : ℕ) → IsTaken d k → d.last ≢ Some k → ((b : ℕ) (y : Stored) → b / l.words ≡ k → s'.object b ≡ Some y → IsObject s b) × (d'.last ≢ Some k)
-  pub fields : (b : ℕ) (y y' : Stored) (i : ℕ) (w : Option ℕ) → set_of l b ≡ false → s.object b ≡ Some y → s'.object b ≡ Some y' → slice_get (fields y') i ≡ Some w
+  pub new_above : (b : ℕ) (y : Stored) → set_of l b ≡ false → s'.object b ≡ Some y
+      → IsObject s b ⊎ (b / l.words * l.words + s.used (b / l.words) ≤ b)
+  pub closed : (k : ℕ) → IsTaken d k → d.last ≢ Some k
+      → ((b : ℕ) (y : Stored) → b / l.words ≡ k → s'.object b ≡ Some y → IsObject s b) × (d'.last ≢ Some k)
+  pub fields : (b : ℕ) (y y' : Stored) (i : ℕ) (w : Option ℕ) → set_of l b ≡ false → s.object b ≡ Some y
+      → s'.object b ≡ Some y' → slice_get (fields y') i ≡ Some w
       → (slice_get (fields y) i ≡ Some w) ⊎ ((v : Option ℕ) × (slice_get (fields y) i ≡ Some v) × IsUpdated l noted' (field_word b i) v w)
 
 abbrev pub IsFieldClean : Layout → Space → ℕ → ℕ → Type 0
 IsFieldClean l s b i = (y : Stored) (w : Option ℕ) → s.object b ≡ Some y → slice_get (fields y) i ≡ Some w → IsClean l w
 
 abbrev pub IsFieldSettled : Layout → List Bool → Space → ℕ → ℕ → Type 0
-IsFieldSettled l noted s b i = (y : Stored) (w : Option ℕ) → s.object b ≡ Some y → slice_get (fields y) i ≡ Some w → IsSettled l noted (field_word b i) w
+IsFieldSettled l noted s b i =
+    (y : Stored) (w : Option ℕ) → s.object b ≡ Some y → slice_get (fields y) i ≡ Some w → IsSettled l noted (field_word b i) w
 
 abbrev pub IsObjectSettled : Layout → List Bool → Space → ℕ → Type 0
 IsObjectSettled l noted s b = (i : ℕ) → IsFieldSettled l noted s b i
@@ -178,7 +184,8 @@ AreClean l p visited s card = (b i : ℕ) → IsVisited l p visited b i → fiel
 
 -- a field outside the set that names the set lies in a card that is visited
 abbrev pub AllVisited : Layout → Plan → List Bool → Type 0
-AllVisited l p visited = (b i a : ℕ) (x : Stored) → p.heap.kept b ≡ Some x → set_of l b ≡ false → slice_get (fields x) i ≡ Some (Some a) → set_of l a ≡ true → flag visited (field_word b i / l.card_words) ≡ true
+AllVisited l p visited = (b i a : ℕ) (x : Stored) → p.heap.kept b ≡ Some x → set_of l b ≡ false → slice_get (fields x) i ≡ Some (Some a)
+    → set_of l a ≡ true → flag visited (field_word b i / l.card_words) ≡ true
 
 -- ---- roots
 -- the word's target is where it is now

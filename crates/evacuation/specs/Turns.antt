@@ -1,8 +1,10 @@
 -- A pause over the table, between two turns of its copying.
-use Rattle.std.specs.Prelude.{◌≡◌, ◌≢◌, ◌⊎◌, ◌≤◌, ◌<◌, ℕ, zero, suc, ◌+◌, ◌*◌, ◌/◌, Bool, true, false, List, Option, Some, None, length, slice_get, if◌then◌else◌}
+use Rattle.std.specs.Prelude.{◌≡◌, ◌≢◌, ◌⊎◌, ◌≤◌, ◌<◌, ◌+◌, ◌*◌, ◌/◌, if◌then◌else◌}
+use Rattle.std.specs.Prelude.{ℕ, zero, suc, Bool, true, false, List, Option, Some, None, length, slice_get}
 use Rattle.heap_model.specs.Heap.{Stored, fields}
 use Rattle.regions.specs.Tiles.{Tile, Object, Forwarded, tile_size}
-use Rattle.regions.specs.Table.{Table, EachForwardedIn, HasNoForwarded, is_free, kind_of, moved_to, object_at, nth_region, tile_in, used_of, free_count}
+use Rattle.regions.specs.Table.{Table, EachForwardedIn, HasNoForwarded, is_free, kind_of, moved_to}
+use Rattle.regions.specs.Table.{object_at, nth_region, tile_in, used_of, free_count}
 use Rattle.regions.specs.Shaped.{IsShaped}
 use Rattle.regions.specs.declared.row.Kind.TheVariants as kinds
 use Rattle.mark_bitmap.specs.Tops.{Tops}
@@ -76,13 +78,18 @@ pub record TableStays (p : Pause) (t : Table) : Type 0 where
   pub was_free : (k : ℕ) → kind_of p.start k ≡ kinds.Free → (kind_of t k ≡ kinds.Free) ⊎ (kind_of t k ≡ kinds.Ordinary)
   pub kinds_same : (k : ℕ) → flag p.chosen k ≡ false → kind_of p.start k ≢ kinds.Free → kind_of t k ≡ kind_of p.start k
   pub used : (k : ℕ) → flag p.chosen k ≡ false → kind_of p.start k ≢ kinds.Free → used_of t k ≡ used_of p.start k
-  pub objects : (a : ℕ) (x : Stored) → in_set p a ≡ false → object_at p.start a ≡ Some x → (y : Stored) × (object_at t a ≡ Some y) × IsSameBut x y
-  pub none : (a : ℕ) → in_set p a ≡ false → kind_of p.start (a / p.start.words_per_region) ≢ kinds.Free → object_at p.start a ≡ None → object_at t a ≡ None
-  pub unkept : (a : ℕ) → in_set p a ≡ false → kind_of p.start (a / p.start.words_per_region) ≢ kinds.Free → kept_now p p.start a ≡ None → tile_in t a ≡ tile_in p.start a
+  pub objects : (a : ℕ) (x : Stored) → in_set p a ≡ false → object_at p.start a ≡ Some x
+      → (y : Stored) × (object_at t a ≡ Some y) × IsSameBut x y
+  pub none : (a : ℕ) → in_set p a ≡ false → kind_of p.start (a / p.start.words_per_region) ≢ kinds.Free
+      → object_at p.start a ≡ None → object_at t a ≡ None
+  pub unkept : (a : ℕ) → in_set p a ≡ false → kind_of p.start (a / p.start.words_per_region) ≢ kinds.Free
+      → kept_now p p.start a ≡ None → tile_in t a ≡ tile_in p.start a
   pub filled : (k : ℕ) → kind_of p.start k ≡ kinds.Free → kind_of t k ≡ kinds.Ordinary → 0 < used_of t k
-  pub small : (a : ℕ) (x : Stored) → in_set p a ≡ false → kind_of p.start (a / p.start.words_per_region) ≡ kinds.Free → object_at t a ≡ Some x → 2 * tile_size (Object x) ≤ p.start.words_per_region
+  pub small : (a : ℕ) (x : Stored) → in_set p a ≡ false → kind_of p.start (a / p.start.words_per_region) ≡ kinds.Free
+      → object_at t a ≡ Some x → 2 * tile_size (Object x) ≤ p.start.words_per_region
   pub moved : (a to n : ℕ) → tile_in t a ≡ Some (Forwarded to n) → in_set p a ≡ true
-  pub live : (a : ℕ) (u : Tile) → kind_of p.start (a / p.start.words_per_region) ≡ kinds.Free → tile_in t a ≡ Some u → (x : Stored) × (u ≡ Object x)
+  pub live : (a : ℕ) (u : Tile) → kind_of p.start (a / p.start.words_per_region) ≡ kinds.Free
+      → tile_in t a ≡ Some u → (x : Stored) × (u ≡ Object x)
   pub targets : EachForwardedIn (λ to. in_set p to ≡ false) t.regions
 
 pub record IsTurn (p : Pause) (t : Table) (d : Places) : Type 0 where
@@ -104,8 +111,10 @@ WasField p b i w = (x : Stored) × ((plan p).heap.kept b ≡ Some x) × (slice_g
 -- Once all is copied: a field outside the set is the one that stood there, or settled: it names nothing of the set, and where it
 -- leads to another region, its card is noted
 pub record AreFieldsNoted (p : Pause) (noted : List Bool) (t : Table) : Type 0 where
-  pub field : (b i : ℕ) (y : Stored) (w : Option ℕ) → kept_now p t b ≡ Some y → in_set p b ≡ false → slice_get (fields y) i ≡ Some w → WasField p b i w ⊎ IsSettled (layout p) noted (field_word b i) w
+  pub field : (b i : ℕ) (y : Stored) (w : Option ℕ) → kept_now p t b ≡ Some y → in_set p b ≡ false → slice_get (fields y) i ≡ Some w
+      → WasField p b i w ⊎ IsSettled (layout p) noted (field_word b i) w
 
 -- no field outside the set names the set
 abbrev pub AreFieldsClean : Pause → Table → Type 0
-AreFieldsClean p t = (b i a : ℕ) (y : Stored) → kept_now p t b ≡ Some y → in_set p b ≡ false → slice_get (fields y) i ≡ Some (Some a) → in_set p a ≡ false
+AreFieldsClean p t =
+    (b i a : ℕ) (y : Stored) → kept_now p t b ≡ Some y → in_set p b ≡ false → slice_get (fields y) i ≡ Some (Some a) → in_set p a ≡ false

@@ -4,7 +4,8 @@ ghost use Rattle.std.specs.Prelude.{◌≡◌, ◌≢◌, ◌⊎◌, ◌*◌, �
 ghost use Rattle.heap_model.specs.Heap.{Stored};
 ghost use Rattle.regions.specs.Table.{fields_at, tile_in, moved_to};
 ghost use Rattle.refinement.specs.Remembering.{field_word};
-ghost use Rattle.evacuation.specs.Space.{flag, set_of, IsField, IsNamed, IsNewWord, IsNoted, IsFieldClean, IsFieldSettled, IsObject, IsTaken};
+ghost use Rattle.evacuation.specs.Space.{flag, set_of, IsField, IsNamed, IsNewWord, IsNoted};
+ghost use Rattle.evacuation.specs.Space.{IsFieldClean, IsFieldSettled, IsObject, IsTaken};
 ghost use Rattle.evacuation.specs.Turns.{Pause, IsPause, IsTurn, After, EachCard, in_set, layout, plan, space, kept_now};
 
 use heap_words::addr::{Addr, Ptr};
@@ -41,7 +42,8 @@ pub(crate) fn new_place(
     ensures turn { IsTurn pause table.new destinations.new }
     ensures place { moved_to (tile_in table.new from) ≡ Some result }
     ensures after { (noted : List Bool) → After pause noted noted table.old table.new destinations.old destinations.new }
-    ensures frame { (b : ℕ) (y : Stored) → in_set pause b ≡ false → kept_now pause table.old b ≡ Some y → kept_now pause table.new b ≡ Some y }
+    ensures frame { (b : ℕ) (y : Stored) → in_set pause b ≡ false → kept_now pause table.old b ≡ Some y
+        → kept_now pause table.new b ≡ Some y }
 {
     table.law();
     match table.target(from) {
@@ -85,7 +87,9 @@ fn note(table: &RegionTable, noted: &mut BoundedBits, card_words: u32, word: u32
     requires within { word < length pause.start.regions * pause.start.words_per_region }
     ensures noted { IsNoted (layout pause) noted.new word (Some target) }
     ensures grows { (c : ℕ) → flag noted.old c ≡ true → flag noted.new c ≡ true }
-    ensures only { (c : ℕ) → flag noted.new c ≡ true → (flag noted.old c ≡ true) ⊎ ((c ≡ word / pause.card_words) × (target / pause.start.words_per_region ≢ word / pause.start.words_per_region)) }
+    ensures only { (c : ℕ) → flag noted.new c ≡ true
+        → (flag noted.old c ≡ true)
+        ⊎ ((c ≡ word / pause.card_words) × (target / pause.start.words_per_region ≢ word / pause.start.words_per_region)) }
     ensures each_card { EachCard pause noted.new }
 {
     if table.leads_out(word, target) {

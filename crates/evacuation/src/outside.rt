@@ -180,7 +180,8 @@ fn update_tile(
     ensures after { After pause noted.old noted.new table.old table.new destinations.old destinations.new }
     ensures each_card { EachCard pause noted.new }
     ensures tile { IsSome (tile_in table.new at) }
-    ensures clean { (visited : List Bool) (i : ℕ) → IsVisited (layout pause) (plan pause) visited at i → field_word at i / pause.card_words ≡ card → IsFieldClean (layout pause) (space pause table.new) at i }
+    ensures clean { (visited : List Bool) (i : ℕ) → IsVisited (layout pause) (plan pause) visited at i
+        → field_word at i / pause.card_words ≡ card → IsFieldClean (layout pause) (space pause table.new) at i }
 {
     table.law();
     let shape = table.tile(at);

@@ -6,7 +6,8 @@ ghost use Rattle.heap_model.specs.Relocation.{Relocates};
 ghost use Rattle.heap_model.specs.Evacuation.{IsReached, place_after, released};
 ghost use Rattle.evacuation.specs.Evacuates.{AreReachedWords};
 ghost use Rattle.evacuation.specs.Space.{flag, AllVisited, NewCrossing};
-ghost use Rattle.evacuation.specs.Turns.{Pause, IsPause, IsTurn, EachCard, AreFieldsClean, AreFieldsNoted, in_set, kept_now, layout, plan, space};
+ghost use Rattle.evacuation.specs.Turns.{Pause, IsPause, IsTurn, EachCard, AreFieldsClean};
+ghost use Rattle.evacuation.specs.Turns.{AreFieldsNoted, in_set, kept_now, layout, plan, space};
 ghost use Rattle.evacuation.specs.Evacuates.{Layers, CanEvacuate, HasEvacuated};
 
 use crate::copied::settle_copies;
@@ -62,13 +63,15 @@ fn copy_reached(
     ensures turn { IsTurn pause table.new destinations.new }
     ensures each_card { EachCard pause noted.new }
     ensures len { length noted.new ≡ length noted.old }
-    ensures moved { Relocates (place_after (in_set pause) (space pause table.new).forward) (plan pause).heap (released (in_set pause) (record { kept = kept_now pause table.new; roots = roots.new.words })) }
+    ensures moved { Relocates (place_after (in_set pause) (space pause table.new).forward) (plan pause).heap
+        (released (in_set pause) (record { kept = kept_now pause table.new; roots = roots.new.words })) }
     ensures reached { (a : ℕ) → IsReached (in_set pause) (plan pause).heap a → (b : ℕ) × ((space pause table.new).forward a ≡ Some b) }
     ensures words { AreReachedWords (in_set pause) (plan pause).heap destinations.new.words }
     ensures noted { AreFieldsNoted pause noted.new table.new }
     ensures clean { AreFieldsClean pause table.new }
     ensures places { roots.new.places ≡ roots.old.places }
-    ensures only { (c : ℕ) → flag noted.new c ≡ true → (flag noted.old c ≡ true) ⊎ NewCrossing (layout pause) (space pause pause.start) (space pause table.new) destinations.new c }
+    ensures only { (c : ℕ) → flag noted.new c ≡ true
+        → (flag noted.old c ≡ true) ⊎ NewCrossing (layout pause) (space pause pause.start) (space pause table.new) destinations.new c }
 {
     update_roots(table, destinations, set, roots, regions);
     update_cards(
@@ -99,7 +102,15 @@ fn evacuate_in(
     chosen: &[LiveRow],
     card_words: u32,
 ) -> Moved
-    requires can { CanEvacuate (record { table = table.old; tams = tams.old; previous = bitmaps.old.previous; next = bitmaps.old.next; cards = cards.old; sets = sets.old; roots = roots.old.words }) chosen.now card_words }
+    requires can { CanEvacuate (record {
+      table = table.old;
+      tams = tams.old;
+      previous = bitmaps.old.previous;
+      next = bitmaps.old.next;
+      cards = cards.old;
+      sets = sets.old;
+      roots = roots.old.words;
+    }) chosen.now card_words }
     requires each_region { length set.old ≡ length table.old.regions }
     requires each_visited { length visited.old ≡ card_count sets.old }
     requires each_noted { length noted.old ≡ card_count sets.old }
@@ -111,8 +122,24 @@ fn evacuate_in(
     ensures places { roots.new.places ≡ roots.old.places }
     ensures regions { result.regions ≡ length chosen.now }
     ensures evacuated { HasEvacuated chosen.now card_words result.words
-        (record { table = table.old; tams = tams.old; previous = bitmaps.old.previous; next = bitmaps.old.next; cards = cards.old; sets = sets.old; roots = roots.old.words })
-        (record { table = table.new; tams = tams.new; previous = bitmaps.new.previous; next = bitmaps.new.next; cards = cards.new; sets = sets.new; roots = roots.new.words }) }
+        (record {
+          table = table.old;
+          tams = tams.old;
+          previous = bitmaps.old.previous;
+          next = bitmaps.old.next;
+          cards = cards.old;
+          sets = sets.old;
+          roots = roots.old.words;
+        })
+        (record {
+          table = table.new;
+          tams = tams.new;
+          previous = bitmaps.new.previous;
+          next = bitmaps.new.next;
+          cards = cards.new;
+          sets = sets.new;
+          roots = roots.new.words;
+        }) }
 {
     table.law();
     flag_chosen(set, chosen);
@@ -153,15 +180,39 @@ pub fn evacuate(
     chosen: &[LiveRow],
     card_words: u32,
 ) -> Moved
-    requires can { CanEvacuate (record { table = table.old; tams = tams.old; previous = bitmaps.old.previous; next = bitmaps.old.next; cards = cards.old; sets = sets.old; roots = roots.old.words }) chosen.now card_words }
+    requires can { CanEvacuate (record {
+      table = table.old;
+      tams = tams.old;
+      previous = bitmaps.old.previous;
+      next = bitmaps.old.next;
+      cards = cards.old;
+      sets = sets.old;
+      roots = roots.old.words;
+    }) chosen.now card_words }
     requires each_region { room.old.regions ≡ length table.old.regions }
     requires each_card { room.old.cards ≡ card_count sets.old }
     ensures room { room.new ≡ room.old }
     ensures places { roots.new.places ≡ roots.old.places }
     ensures regions { result.regions ≡ length chosen.now }
     ensures evacuated { HasEvacuated chosen.now card_words result.words
-        (record { table = table.old; tams = tams.old; previous = bitmaps.old.previous; next = bitmaps.old.next; cards = cards.old; sets = sets.old; roots = roots.old.words })
-        (record { table = table.new; tams = tams.new; previous = bitmaps.new.previous; next = bitmaps.new.next; cards = cards.new; sets = sets.new; roots = roots.new.words }) }
+        (record {
+          table = table.old;
+          tams = tams.old;
+          previous = bitmaps.old.previous;
+          next = bitmaps.old.next;
+          cards = cards.old;
+          sets = sets.old;
+          roots = roots.old.words;
+        })
+        (record {
+          table = table.new;
+          tams = tams.new;
+          previous = bitmaps.new.previous;
+          next = bitmaps.new.next;
+          cards = cards.new;
+          sets = sets.new;
+          roots = roots.new.words;
+        }) }
 {
     evacuate_in(
         table,

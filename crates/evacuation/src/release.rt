@@ -35,8 +35,10 @@ fn release_region(
     requires sets { length sets.old.sets ≡ length table.old.regions }
     ensures table { table.new ≡ released table.old region }
     ensures tams { tams.new ≡ with_bottom tams.old region (region * table.old.words_per_region) }
-    ensures previous { (a : ℕ) → is_marked bitmaps.new.previous a ≡ (if is_in_region table.old.words_per_region region a then false else is_marked bitmaps.old.previous a) }
-    ensures next { (a : ℕ) → is_marked bitmaps.new.next a ≡ (if is_in_region table.old.words_per_region region a then false else is_marked bitmaps.old.next a) }
+    ensures previous { (a : ℕ) → is_marked bitmaps.new.previous a
+        ≡ (if is_in_region table.old.words_per_region region a then false else is_marked bitmaps.old.previous a) }
+    ensures next { (a : ℕ) → is_marked bitmaps.new.next a
+        ≡ (if is_in_region table.old.words_per_region region a then false else is_marked bitmaps.old.next a) }
     ensures previous_len { length bitmaps.new.previous ≡ length bitmaps.old.previous }
     ensures next_len { length bitmaps.new.next ≡ length bitmaps.old.next }
     ensures sets { sets.new ≡ cleared sets.old region }
@@ -72,7 +74,8 @@ pub(crate) fn release_chosen(
     requires sets { length sets.old.sets ≡ length table.old.regions }
     ensures table { AreReleased rows.now table.old table.new }
     ensures unmoved { NoneForwardedInto rows.now table.old.words_per_region table.new }
-    ensures previous { MarksAfter table.old.words_per_region rows.now tams.old.previous tams.new.previous bitmaps.old.previous bitmaps.new.previous }
+    ensures previous { MarksAfter table.old.words_per_region rows.now tams.old.previous tams.new.previous bitmaps.old.previous
+        bitmaps.new.previous }
     ensures next { MarksAfter table.old.words_per_region rows.now tams.old.next tams.new.next bitmaps.old.next bitmaps.new.next }
     ensures sets { AreCleared rows.now sets.old sets.new }
 {

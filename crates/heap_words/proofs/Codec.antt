@@ -6,7 +6,8 @@ use Rattle.heap_words.specs.declared.header.Header.{Header}
 use Rattle.heap_words.specs.declared.header.Header.TheVariants as headers
 use Rattle.heap_words.specs.Headers.{header_of, header_word, IsHeader}
 
-object_again : (p w d : ℕ) → p < 2 ^ 24 → w < 2 ^ 8 → d < 2 ^ 24 → header_of (p * 2 ^ 8 + d * 2 ^ 32 + w * 2 ^ 56) ≡ Some (headers.Object p w d)
+object_again : (p w d : ℕ) → p < 2 ^ 24 → w < 2 ^ 8 → d < 2 ^ 24
+    → header_of (p * 2 ^ 8 + d * 2 ^ 32 + w * 2 ^ 56) ≡ Some (headers.Object p w d)
 unfolding header_of
 object_again p w d h k g = grind (arith, common_steps, nat_tests)
 

@@ -1,5 +1,7 @@
 -- The lowest number of a set, word by word.
-use Rattle.std.proofs.Common.{◌≡◌, ℕ, ◌+◌, ◌-◌, ◌*◌, ◌/◌, ◌%◌, ◌^◌, ◌<◌, ◌≤◌, ◌⊎◌, Bool, true, false, List, length, slice_index, get_or, eqb, min, bit_and, w64, not, inl, inr, refl, sym, ap, ◌∙◌, ⊎_elim, arith}
+use Rattle.std.proofs.Common.{◌≡◌, ◌+◌, ◌-◌, ◌*◌, ◌/◌, ◌%◌, ◌^◌, ◌<◌, ◌≤◌, ◌⊎◌, ◌∙◌}
+use Rattle.std.proofs.Common.{ℕ, Bool, true, false, List, length, slice_index, get_or, eqb, min, bit_and}
+use Rattle.std.proofs.Common.{w64, not, inl, inr, refl, sym, ap, ⊎_elim, arith}
 use Rattle.std.specs.Prelude.{◌&&◌, Option, Some, None, MatchOption}
 use Rattle.std.specs.Int.{bit_at, trailing_zeros, div_ceil}
 use Rattle.std.proofs.lemmas.Bool.{cases_lt, eqb-true, eqb-false, ne_eqb}
@@ -7,7 +9,8 @@ use Rattle.std.proofs.lemmas.List.{get_or_read}
 use Rattle.std.proofs.lemmas.Nat.Bits.{bit_at-zero, bit_at-lt, bit_at_and, bit_at_not, bit_at-trailing_zeros}
 use Rattle.heap_words.specs.Bits.{has, has_alone, HasNone, HasNoneBelow, IsLowest}
 use Rattle.heap_words.specs.BitWords.{bit_of, flags_of}
-use Rattle.heap_words.proofs.BitWords.{high_mask, bit_at-high_part, bit_at-high_part_below, part_fits, has-flags_of, length-flags_of, has_past, div_ceil_inside}
+use Rattle.heap_words.proofs.BitWords.{high_mask, bit_at-high_part, bit_at-high_part_below, part_fits}
+use Rattle.heap_words.proofs.BitWords.{has-flags_of, length-flags_of, has_past, div_ceil_inside}
 
 -- m has the numbers of word i from `from` on, the word's first `low` ones lying below that
 pub record IsWord (has : ℕ → Bool) (from i m : ℕ) : Type 0 where
@@ -54,14 +57,17 @@ pub record Agree (is_in has : ℕ → Bool) (n : ℕ) : Type 0 where
   pub past : (a : ℕ) → n ≤ a → is_in a ≡ false
 
 -- from `from` up to `to` it is looked through as far as the flags go
-pub none_left : (is_in has : ℕ → Bool) (n from to upto : ℕ) → Agree is_in has n → HasNoneBelow has from upto → min to n ≤ upto → HasNoneBelow is_in from to
+pub none_left : (is_in has : ℕ → Bool) (n from to upto : ℕ) → Agree is_in has n → HasNoneBelow has from upto
+    → min to n ≤ upto → HasNoneBelow is_in from to
 none_left is_in has n from to upto g none all a h k =
     ⊎_elim (λ b. g.inside a b ∙ none a h (omega arith)) (λ b. g.past a b) (cases_lt a n)
 
-pub found_past : (is_in has : ℕ → Bool) (n from to i m : ℕ) → Agree is_in has n → IsWord has from i m → HasNoneBelow has from (64 * i) → 0 < m → min to n ≤ 64 * i + trailing_zeros w64 m → HasNoneBelow is_in from to
+pub found_past : (is_in has : ℕ → Bool) (n from to i m : ℕ) → Agree is_in has n → IsWord has from i m → HasNoneBelow has from (64 * i)
+    → 0 < m → min to n ≤ 64 * i + trailing_zeros w64 m → HasNoneBelow is_in from to
 found_past is_in has n from to i m g w before some far = none_left is_in has n from to _ g (none_before has from i m w before some) far
 
-pub found_inside : (is_in has : ℕ → Bool) (n from i m : ℕ) → Agree is_in has n → IsWord has from i m → HasNoneBelow has from (64 * i) → 0 < m → 64 * i + trailing_zeros w64 m < n → IsLowest is_in from (64 * i + trailing_zeros w64 m)
+pub found_inside : (is_in has : ℕ → Bool) (n from i m : ℕ) → Agree is_in has n → IsWord has from i m → HasNoneBelow has from (64 * i)
+    → 0 < m → 64 * i + trailing_zeros w64 m < n → IsLowest is_in from (64 * i + trailing_zeros w64 m)
 found_inside is_in has n from i m g w before some inside = record {
   at_least = from_le has from i m w some;
   is_in = g.inside _ inside ∙ has_lowest has from i m w some;
@@ -69,12 +75,15 @@ found_inside is_in has n from i m g w before some inside = record {
 }
 
 -- none below the length is none at all
-pub none_at_all : (flags : List Bool) (from n : ℕ) (found : Option ℕ) → n ≡ length flags → MatchOption found (HasNoneBelow (has flags) from n) (IsLowest (has flags) from) → MatchOption found (HasNone (has flags) from) (IsLowest (has flags) from)
+pub none_at_all : (flags : List Bool) (from n : ℕ) (found : Option ℕ) → n ≡ length flags
+    → MatchOption found (HasNoneBelow (has flags) from n) (IsLowest (has flags) from)
+    → MatchOption found (HasNone (has flags) from) (IsLowest (has flags) from)
 none_at_all flags from n None e none = λ a h. ⊎_elim (λ b. none a h (omega arith)) (λ b. has_past flags a (omega arith)) (cases_lt a n)
 none_at_all flags from n (Some found) e lowest = lowest
 
 -- ---- one set of bits
-pub bits_word : (ws : List ℕ) (n from end i low w k : ℕ) → k ≡ length ws → n ≤ 64 * k → end ≤ n → i < div_ceil end 64 → w ≡ get_or ws i w → low ≡ from - 64 * i → low < 64 → IsWord (bit_of ws) from i (bit_and w (high_mask low))
+pub bits_word : (ws : List ℕ) (n from end i low w k : ℕ) → k ≡ length ws → n ≤ 64 * k → end ≤ n → i < div_ceil end 64 → w ≡ get_or ws i w
+    → low ≡ from - 64 * i → low < 64 → IsWord (bit_of ws) from i (bit_and w (high_mask low))
 bits_word ws n from end i low w k long len short before read start near =
     let inside : i < k = div_ceil_inside end i k n len short before in
     let word : w ≡ slice_index ws i = get_or_read ws i w (omega arith) read 0 in
@@ -103,7 +112,8 @@ abbrev pub left_part : ℕ → ℕ → ℕ → ℕ
 left_part w v low = bit_and (bit_and w (2 ^ 64 - 1 - v)) (high_mask low)
 
 one_or_zero : (x : ℕ) → x < 2 → (x ≡ 0) ⊎ (x ≡ 1)
-one_or_zero x h = elim (eqb x 0) as (λ b. eqb x 0 ≡ b → (x ≡ 0) ⊎ (x ≡ 1)) [ true ↦ λ e. inl (eqb-true x 0 e) | false ↦ λ e. inr (let ne : x ≡ 0 → ⊥ = eqb-false x 0 e in omega arith) ] refl
+one_or_zero x h = elim (eqb x 0) as (λ b. eqb x 0 ≡ b → (x ≡ 0) ⊎ (x ≡ 1))
+    [ true ↦ λ e. inl (eqb-true x 0 e) | false ↦ λ e. inr (let ne : x ≡ 0 → ⊥ = eqb-false x 0 e in omega arith) ] refl
 
 and_not_bits : (x y z : ℕ) → x < 2 → y < 2 → z ≡ min x (1 - y) → eqb z 1 ≡ (eqb x 1 && not (eqb y 1))
 and_not_bits x y z h k e =
@@ -112,17 +122,21 @@ and_not_bits x y z h k e =
     let no_y : x ≡ 1 → y ≡ 0 → eqb z 1 ≡ (eqb x 1 && not (eqb y 1)) = λ p q. rw (p, q, ap (λ v. eqb v 1) e) (rw (p, q) refl) in
     ⊎_elim no_x (λ p. ⊎_elim (λ q. no_y p q) (λ q. one_y p q) (one_or_zero y k)) (one_or_zero x h)
 
-only_in_word : (ws vs : List ℕ) (from i low w v : ℕ) → w ≡ slice_index ws i → v ≡ slice_index vs i → v < 2 ^ 64 → low ≡ from - 64 * i → low < 64 → (a : ℕ) → from ≤ a → a / 64 ≡ i → only ws vs a ≡ eqb (bit_at (left_part w v low) (a % 64)) 1
+only_in_word : (ws vs : List ℕ) (from i low w v : ℕ) → w ≡ slice_index ws i → v ≡ slice_index vs i → v < 2 ^ 64 → low ≡ from - 64 * i
+    → low < 64 → (a : ℕ) → from ≤ a → a / 64 ≡ i → only ws vs a ≡ eqb (bit_at (left_part w v low) (a % 64)) 1
 only_in_word ws vs from i low w v read other fits start near a h e =
     let j : ℕ = a % 64 in
-    let ws_bit : bit_of ws a ≡ eqb (bit_at w j) 1 = ap (λ k. eqb (bit_at (slice_index ws k) j) 1) e ∙ ap (λ x. eqb (bit_at x j) 1) (sym read) in
-    let vs_bit : bit_of vs a ≡ eqb (bit_at v j) 1 = ap (λ k. eqb (bit_at (slice_index vs k) j) 1) e ∙ ap (λ x. eqb (bit_at x j) 1) (sym other) in
+    let ws_bit : bit_of ws a ≡ eqb (bit_at w j) 1 =
+    ap (λ k. eqb (bit_at (slice_index ws k) j) 1) e ∙ ap (λ x. eqb (bit_at x j) 1) (sym read) in
+    let vs_bit : bit_of vs a ≡ eqb (bit_at v j) 1 =
+    ap (λ k. eqb (bit_at (slice_index vs k) j) 1) e ∙ ap (λ x. eqb (bit_at x j) 1) (sym other) in
     let part : bit_at (left_part w v low) j ≡ min (bit_at w j) (1 - bit_at v j) =
     bit_at-high_part (bit_and w (2 ^ 64 - 1 - v)) low j (omega arith) (omega arith) ∙ bit_at_and w (2 ^ 64 - 1 - v) j
     ∙ ap (λ x. min (bit_at w j) x) (bit_at_not w64 v j fits (omega arith)) in
     rw (ws_bit, vs_bit) (sym (and_not_bits (bit_at w j) (bit_at v j) (bit_at (left_part w v low) j) (bit_at-lt w j) (bit_at-lt v j) part))
 
-pub left_word : (ws vs : List ℕ) (n from end i low w v k l : ℕ) → k ≡ length ws → l ≡ length vs → n ≤ 64 * k → n ≤ 64 * l → end ≤ n → i < div_ceil end 64 → w ≡ get_or ws i w → v ≡ get_or vs i v → v < 2 ^ 64 → low ≡ from - 64 * i → low < 64
+pub left_word : (ws vs : List ℕ) (n from end i low w v k l : ℕ) → k ≡ length ws → l ≡ length vs → n ≤ 64 * k → n ≤ 64 * l → end ≤ n
+    → i < div_ceil end 64 → w ≡ get_or ws i w → v ≡ get_or vs i v → v < 2 ^ 64 → low ≡ from - 64 * i → low < 64
     → IsWord (only ws vs) from i (left_part w v low)
 left_word ws vs n from end i low w v k l long other_long len other_len short before read other_read v_fits start near =
     let inside : i < k = div_ceil_inside end i k n len short before in
@@ -138,7 +152,8 @@ left_word ws vs n from end i low w v k l long other_long len other_len short bef
       below = λ j h. bit_at-high_part_below (bit_and w (2 ^ 64 - 1 - v)) low j h near;
     }
 
-pub only_agree : (flags others : List Bool) (ws vs : List ℕ) (n k : ℕ) → flags_of ws n ≡ flags → flags_of vs k ≡ others → k ≡ n → Agree (has_alone flags others) (only ws vs) n
+pub only_agree : (flags others : List Bool) (ws vs : List ℕ) (n k : ℕ) → flags_of ws n ≡ flags → flags_of vs k ≡ others → k ≡ n
+    → Agree (has_alone flags others) (only ws vs) n
 only_agree flags others ws vs n k view other e =
     let m = bits_agree flags ws n view in
     let o = bits_agree others vs k other in
@@ -147,7 +162,8 @@ only_agree flags others ws vs n k view other e =
       past = λ a h. rw (m.past a h) refl;
     }
 
-pub same_len : (flags others : List Bool) (ws vs : List ℕ) (n k : ℕ) → flags_of ws n ≡ flags → flags_of vs k ≡ others → length others ≡ length flags → k ≡ n
+pub same_len : (flags others : List Bool) (ws vs : List ℕ) (n k : ℕ) → flags_of ws n ≡ flags
+    → flags_of vs k ≡ others → length others ≡ length flags → k ≡ n
 same_len flags others ws vs n k view other e = omega (arith, length-flags_of ws n, length-flags_of vs k, ap length view, ap length other)
 
 -- ---- one word, which is all of a group
@@ -165,7 +181,8 @@ group_word ws i w read fits = record {
   below = λ j h. absurd (omega arith);
 }
 
-pub group_left : (ws vs : List ℕ) (i w v : ℕ) → w ≡ slice_index ws i → v ≡ slice_index vs i → v < 2 ^ 64 → bit_and w (2 ^ 64 - 1 - v) < 2 ^ 64 → IsWord (only ws vs) (64 * i) i (bit_and w (2 ^ 64 - 1 - v))
+pub group_left : (ws vs : List ℕ) (i w v : ℕ) → w ≡ slice_index ws i → v ≡ slice_index vs i → v < 2 ^ 64
+    → bit_and w (2 ^ 64 - 1 - v) < 2 ^ 64 → IsWord (only ws vs) (64 * i) i (bit_and w (2 ^ 64 - 1 - v))
 group_left ws vs i w v read other fits less = record {
   low = 0;
   start = omega arith;
@@ -173,10 +190,13 @@ group_left ws vs i w v read other fits less = record {
   fits = less;
   same = λ a h e.
       let j : ℕ = a % 64 in
-      let ws_bit : bit_of ws a ≡ eqb (bit_at w j) 1 = ap (λ k. eqb (bit_at (slice_index ws k) j) 1) e ∙ ap (λ x. eqb (bit_at x j) 1) (sym read) in
-      let vs_bit : bit_of vs a ≡ eqb (bit_at v j) 1 = ap (λ k. eqb (bit_at (slice_index vs k) j) 1) e ∙ ap (λ x. eqb (bit_at x j) 1) (sym other) in
+      let ws_bit : bit_of ws a ≡ eqb (bit_at w j) 1 =
+      ap (λ k. eqb (bit_at (slice_index ws k) j) 1) e ∙ ap (λ x. eqb (bit_at x j) 1) (sym read) in
+      let vs_bit : bit_of vs a ≡ eqb (bit_at v j) 1 =
+      ap (λ k. eqb (bit_at (slice_index vs k) j) 1) e ∙ ap (λ x. eqb (bit_at x j) 1) (sym other) in
       let part : bit_at (bit_and w (2 ^ 64 - 1 - v)) j ≡ min (bit_at w j) (1 - bit_at v j) =
       bit_at_and w (2 ^ 64 - 1 - v) j ∙ ap (λ x. min (bit_at w j) x) (bit_at_not w64 v j fits (omega arith)) in
-      rw (ws_bit, vs_bit) (sym (and_not_bits (bit_at w j) (bit_at v j) (bit_at (bit_and w (2 ^ 64 - 1 - v)) j) (bit_at-lt w j) (bit_at-lt v j) part));
+      rw (ws_bit, vs_bit)
+      (sym (and_not_bits (bit_at w j) (bit_at v j) (bit_at (bit_and w (2 ^ 64 - 1 - v)) j) (bit_at-lt w j) (bit_at-lt v j) part));
   below = λ j h. absurd (omega arith);
 }

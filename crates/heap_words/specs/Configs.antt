@@ -5,7 +5,8 @@ use Rattle.heap_words.specs.declared.config.Config.{Config}
 use Rattle.heap_words.specs.declared.config.Format.{Format}
 use Rattle.heap_words.specs.declared.config.Format.TheVariants.{V1, V2, V3}
 use Rattle.heap_words.specs.declared.config.NewFault.{NewFault}
-use Rattle.heap_words.specs.declared.config.NewFault.TheVariants.{BadRegions, BadWords, BadBuffer, BadMutators, NoMemory, BadCard, BadGlobals, BadRegisters, BadRoots}
+use Rattle.heap_words.specs.declared.config.NewFault.TheVariants.{BadRegions, BadWords, BadBuffer, BadMutators}
+use Rattle.heap_words.specs.declared.config.NewFault.TheVariants.{NoMemory, BadCard, BadGlobals, BadRegisters, BadRoots}
 
 -- the most regions that a heap has, the most words of a region, and of a heap
 abbrev pub max_regions : ℕ

@@ -11,7 +11,8 @@
 //! A set takes one bit a number, all reserved when it is made. To clear it, or a range of it, touches its words and not each
 //! number, and to go over its members costs the members and the words between them.
 
-ghost use Rattle.std.specs.Prelude.{◌≡◌, ℕ, ◌+◌, ◌*◌, ◌^◌, ◌<◌, ◌≤◌, List, Bool, false, true, if◌then◌else◌, IfOk, IfSome, length, MatchOption, replicate, slice_index, slice_set};
+ghost use Rattle.std.specs.Prelude.{◌≡◌, ◌+◌, ◌*◌, ◌^◌, ◌<◌, ◌≤◌, if◌then◌else◌};
+ghost use Rattle.std.specs.Prelude.{ℕ, List, Bool, false, true, IfOk, IfSome, length, MatchOption, replicate, slice_index, slice_set};
 ghost use Rattle.std.specs.Int.{bit_at};
 ghost use Rattle.heap_words.specs.Bits.{has, has_alone, is_between, HasNone, HasNoneBelow, IsLowest};
 
@@ -230,7 +231,8 @@ impl Bits {
     /// The lowest number of the set in a group: group g has the 64 numbers from 64 g on. It looks at one word.
     pub fn lowest_in(&self, group: u32) -> Option<u32>
         requires { 64 * group < length self.now }
-        ensures lowest { MatchOption result (HasNoneBelow (has self.now) (64 * group) (64 * group + 64)) (IsLowest (has self.now) (64 * group)) }
+        ensures lowest { MatchOption result (HasNoneBelow (has self.now) (64 * group) (64 * group + 64))
+            (IsLowest (has self.now) (64 * group)) }
         ensures below { IfSome result (λ found. found < 64 * group + 64) }
         ensures within { IfSome result (λ found. found < length self.now) }
     {
@@ -266,7 +268,8 @@ impl Bits {
     /// of this range alone.
     pub fn next_without(&self, other: &Bits, from: u32, to: u32) -> Option<u32>
         requires { length other.now ≡ length self.now }
-        ensures lowest { MatchOption result (HasNoneBelow (has_alone self.now other.now) from to) (IsLowest (has_alone self.now other.now) from) }
+        ensures lowest { MatchOption result (HasNoneBelow (has_alone self.now other.now) from to)
+            (IsLowest (has_alone self.now other.now) from) }
         ensures below { IfSome result (λ found. found < to) }
         ensures within { IfSome result (λ found. found < length self.now) }
     {

@@ -8,7 +8,8 @@
 //! To clear such a set, or to go over its members, touches the words between the bounds alone: of a set that is large and that
 //! few members come into, few words. The bounds widen as members come, and close when the set is cleared.
 
-ghost use Rattle.std.specs.Prelude.{◌≡◌, ℕ, ◌^◌, ◌<◌, ◌≤◌, max, Bool, false, true, if◌then◌else◌, IfOk, IfSome, length, MatchOption, replicate, slice_set};
+ghost use Rattle.std.specs.Prelude.{◌≡◌, ◌^◌, ◌<◌, ◌≤◌, if◌then◌else◌};
+ghost use Rattle.std.specs.Prelude.{ℕ, max, Bool, false, true, IfOk, IfSome, length, MatchOption, replicate, slice_set};
 ghost use Rattle.heap_words.specs.Bits.{has, is_between, HasNone, IsLowest};
 
 use crate::bits::Bits;

@@ -7,7 +7,8 @@
 //!   | header: p, w, d   | name | p pointers | w weak slots | d data words |
 //! ```
 
-ghost use Rattle.std.specs.Prelude.{◌≡◌, ◌+◌, ◌^◌, ◌<◌, ◌≤◌, ◌⊎◌, ◌∷◌, true, length, replicate, slice_index, slice_set, take, drop, IfOk, IsSome, Some};
+ghost use Rattle.std.specs.Prelude.{◌≡◌, ◌+◌, ◌^◌, ◌<◌, ◌≤◌, ◌⊎◌, ◌∷◌};
+ghost use Rattle.std.specs.Prelude.{true, length, replicate, slice_index, slice_set, take, drop, IfOk, IsSome, Some};
 ghost use Rattle.heap_words.specs.Sizes.{field_word, size_of};
 ghost use Rattle.heap_words.specs.Headers.{header_of, header_word, pointer_of, pointer_word};
 ghost use Rattle.heap_words.specs.Contents.{put, header_at, counts_of, pointer_count, pointer_count_at, field_count, field_count_at};
@@ -262,7 +263,8 @@ impl Words {
     pub fn write_object(&mut self, at: Addr, name: u64, counts: HeaderCounts)
         requires { at + size_of counts.pointers counts.weaks counts.values ≤ length self.old }
         ensures { self.new ≡ put self.old at
-            (header_word (headers.Object counts.pointers counts.weaks counts.values) ∷ name ∷ replicate (counts.pointers + counts.weaks + counts.values) 0) }
+            (header_word (headers.Object counts.pointers counts.weaks counts.values) ∷ name
+            ∷ replicate (counts.pointers + counts.weaks + counts.values) 0) }
     {
         let HeaderCounts {
             pointers,

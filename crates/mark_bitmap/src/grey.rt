@@ -72,7 +72,10 @@ impl Grey {
 
     /// Marking begins with no marks: nothing is scanned, and no finger is set.
     pub fn clear(&mut self)
-        ensures none { self.new ≡ record { scanned = replicate (length self.old.scanned) false; fingers = replicate (length self.old.fingers) false } }
+        ensures none { self.new ≡ record {
+          scanned = replicate (length self.old.scanned) false;
+          fingers = replicate (length self.old.fingers) false;
+        } }
         ensures fingers { (marks : List Bool) → ((a : ℕ) → is_marked marks a ≡ false) → HasFingers marks self.new }
     {
         self.scanned.clear();
@@ -136,11 +139,14 @@ impl Grey {
 /// What grey is: marked, and not scanned. With fewer marks the fingers are right still. Where none is left, each marked
 /// object is scanned.
 pub fn grey_law()
-    ensures grey { (marks : List Bool) (scans : Scans) (a : ℕ) → is_marked marks a ≡ true → is_marked scans.scanned a ≡ false → is_grey marks scans a ≡ true }
+    ensures grey { (marks : List Bool) (scans : Scans) (a : ℕ) → is_marked marks a ≡ true → is_marked scans.scanned a ≡ false
+        → is_grey marks scans a ≡ true }
     ensures marked { (marks : List Bool) (scans : Scans) (a : ℕ) → is_grey marks scans a ≡ true → is_marked marks a ≡ true }
     ensures unscanned { (marks : List Bool) (scans : Scans) (a : ℕ) → is_grey marks scans a ≡ true → is_marked scans.scanned a ≡ false }
-    ensures fewer { (marks marks' : List Bool) (scans : Scans) → ((a : ℕ) → is_marked marks' a ≡ true → is_marked marks a ≡ true) → HasFingers marks scans → HasFingers marks' scans }
-    ensures done { (marks : List Bool) (scans : Scans) → HasNone (is_grey marks scans) 0 → (a : ℕ) → is_marked marks a ≡ true → is_marked scans.scanned a ≡ true }
+    ensures fewer { (marks marks' : List Bool) (scans : Scans) → ((a : ℕ) → is_marked marks' a ≡ true → is_marked marks a ≡ true)
+        → HasFingers marks scans → HasFingers marks' scans }
+    ensures done { (marks : List Bool) (scans : Scans) → HasNone (is_grey marks scans) 0 → (a : ℕ) → is_marked marks a ≡ true
+        → is_marked scans.scanned a ≡ true }
 {}
 
 #[cfg(test)]

@@ -6,7 +6,8 @@
 //!              | unmarked: dead   |                                 |
 //! ```
 
-ghost use Rattle.std.specs.Prelude.{◌≡◌, ◌≢◌, ◌⊎◌, ℕ, ◌+◌, ◌*◌, ◌<◌, Bool, true, false, List, Option, Some, None, if◌then◌else◌, length, slice_set};
+ghost use Rattle.std.specs.Prelude.{◌≡◌, ◌≢◌, ◌⊎◌, ◌+◌, ◌*◌, ◌<◌, if◌then◌else◌};
+ghost use Rattle.std.specs.Prelude.{ℕ, Bool, true, false, List, Option, Some, None, length, slice_set};
 ghost use Rattle.heap_model.specs.Graph.{Graph};
 ghost use Rattle.heap_model.specs.Heap.{Stored};
 ghost use Rattle.heap_model.specs.Marking.{KeepsSnapshot};
@@ -19,16 +20,22 @@ ghost use Rattle.mark_bitmap.specs.Kept.{kept_in, heap_in, marking_in};
 
 /// An object that starts at or above its region's previous top is kept, and one that is marked; another one isn't.
 pub fn kept_law()
-    ensures above { (t : Table) (tops : Tops) (previous : List Bool) (a : ℕ) → below_previous t tops a ≡ false → kept_in t tops previous a ≡ object_at t a }
-    ensures marked { (t : Table) (tops : Tops) (previous : List Bool) (a : ℕ) → is_marked previous a ≡ true → kept_in t tops previous a ≡ object_at t a }
-    ensures dead { (t : Table) (tops : Tops) (previous : List Bool) (a : ℕ) → below_previous t tops a ≡ true → is_marked previous a ≡ false → kept_in t tops previous a ≡ None }
-    ensures object { (t : Table) (tops : Tops) (previous : List Bool) (a : ℕ) (s : Stored) → kept_in t tops previous a ≡ Some s → object_at t a ≡ Some s }
+    ensures above { (t : Table) (tops : Tops) (previous : List Bool) (a : ℕ) → below_previous t tops a ≡ false
+        → kept_in t tops previous a ≡ object_at t a }
+    ensures marked { (t : Table) (tops : Tops) (previous : List Bool) (a : ℕ) → is_marked previous a ≡ true
+        → kept_in t tops previous a ≡ object_at t a }
+    ensures dead { (t : Table) (tops : Tops) (previous : List Bool) (a : ℕ) → below_previous t tops a ≡ true → is_marked previous a ≡ false
+        → kept_in t tops previous a ≡ None }
+    ensures object { (t : Table) (tops : Tops) (previous : List Bool) (a : ℕ) (s : Stored) → kept_in t tops previous a ≡ Some s
+        → object_at t a ≡ Some s }
 {}
 
 /// A mark in the previous bitmap keeps its object, and changes nothing else.
 pub fn set_law()
-    ensures same { (t : Table) (tops : Tops) (previous : List Bool) (a : ℕ) → a < length previous → kept_in t tops (slice_set previous a true) a ≡ object_at t a }
-    ensures others { (t : Table) (tops : Tops) (previous : List Bool) (a b : ℕ) → b ≢ a → kept_in t tops (slice_set previous a true) b ≡ kept_in t tops previous b }
+    ensures same { (t : Table) (tops : Tops) (previous : List Bool) (a : ℕ) → a < length previous
+        → kept_in t tops (slice_set previous a true) a ≡ object_at t a }
+    ensures others { (t : Table) (tops : Tops) (previous : List Bool) (a b : ℕ) → b ≢ a
+        → kept_in t tops (slice_set previous a true) b ≡ kept_in t tops previous b }
 {}
 
 /// Where some addresses lose their objects, and tops and marks of the others stay, what is kept of the others stays.
@@ -53,9 +60,12 @@ pub fn region_law()
 
 /// Marking is over, and the roles are exchanged: what is kept is what marking keeps.
 pub fn swap_law()
-    ensures { (s : Graph) (t t' : Table) (tops : Tops) (previous next : List Bool) (scans : Scans) (logged : List ℕ) (roots : List (Option ℕ))
+    ensures { (s : Graph) (t t' : Table) (tops : Tops) (previous next : List Bool) (scans : Scans) (logged : List ℕ)
+        (roots : List (Option ℕ))
         → AreNewer tops → KeepsSnapshot s (heap_in t tops previous roots) (marking_in t tops next scans logged)
         → t'.words_per_region ≡ t.words_per_region
-        → ((a : ℕ) → (is_marked next a ≡ true) ⊎ (below_next t tops a ≡ false) → object_at t' a ≡ cleared_object (marking_in t tops next scans logged) (object_at t a))
-        → (a : ℕ) → kept_in t' (exchanged tops) next a ≡ cleared_after (heap_in t tops previous roots) (marking_in t tops next scans logged) a }
+        → ((a : ℕ) → (is_marked next a ≡ true) ⊎ (below_next t tops a ≡ false)
+        → object_at t' a ≡ cleared_object (marking_in t tops next scans logged) (object_at t a))
+        → (a : ℕ) → kept_in t' (exchanged tops) next a
+        ≡ cleared_after (heap_in t tops previous roots) (marking_in t tops next scans logged) a }
 {}

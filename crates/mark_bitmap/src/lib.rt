@@ -16,9 +16,9 @@
 //! ```
 //!
 //! `marks` is the set, `bitmaps` the two roles, `tams` the tops at mark start, `grey` the objects that are marked and
-//! not scanned, by fingers (`held`) at the words that have some, with a `summary` above them. `kept` says what is kept, and `objects` that marks stand at
-//! objects, in words that a heap's invariant can carry, with the laws that each change keeps them. `live` bounds the words
-//! of a region's kept objects from above, and tells a region that has none.
+//! not scanned, by fingers (`held`) at the words that have some, with a `summary` above them. `kept` says what is kept, and
+//! `objects` that marks stand at objects, in words that a heap's invariant can carry, with the laws that each change keeps
+//! them. `live` bounds the words of a region's kept objects from above, and tells a region that has none.
 #![tactic(auto)]
 
 pub mod bitmaps;

@@ -8,7 +8,8 @@
 //!              | since                  |                             |         |
 //! ```
 
-ghost use Rattle.std.specs.Prelude.{◌≡◌, ◌↔◌, ℕ, ◌+◌, ◌-◌, ◌*◌, ◌<◌, ◌≤◌, Bool, true, List, None, IfNone, IfSome, IsTrue, length, slice_index};
+ghost use Rattle.std.specs.Prelude.{◌≡◌, ◌↔◌, ◌+◌, ◌-◌, ◌*◌, ◌<◌, ◌≤◌};
+ghost use Rattle.std.specs.Prelude.{ℕ, Bool, true, List, None, IfNone, IfSome, IsTrue, length, slice_index};
 ghost use Rattle.regions.specs.Table.{Table, kind_of, nth_region, top_of};
 ghost use Rattle.regions.specs.Shaped.{IsShaped};
 ghost use Rattle.regions.specs.declared.row.Kind.TheVariants as kinds;
@@ -124,12 +125,14 @@ pub fn live_law()
         → kept_words t tops previous (k * t.words_per_region) t.words_per_region ≤ live_bound_of t tops.previous previous k }
     ensures dead { (t : Table) (tops : Tops) (previous : List Bool) (k : ℕ)
         → IsShaped t → MarksObjects t tops.previous previous → k < length t.regions → kind_of t k ≡ kinds.Ordinary
-        → live_bound_of t tops.previous previous k ≡ 0 → (a : ℕ) → is_in_region t.words_per_region k a ≡ true → kept_in t tops previous a ≡ None }
+        → live_bound_of t tops.previous previous k ≡ 0 → (a : ℕ) → is_in_region t.words_per_region k a ≡ true
+        → kept_in t tops previous a ≡ None }
     ensures top { (t : Table) (tops : Tops) (previous : List Bool) (k : ℕ)
         → IsShaped t → MarksObjects t tops.previous previous → k < length t.regions → kind_of t k ≡ kinds.Ordinary
         → live_bound_of t tops.previous previous k ≡ 0 → slice_index tops.previous k ≡ top_of t k }
     ensures same { (t t' : Table) (tops tops' : List ℕ) (marks marks' : List Bool) (k : ℕ)
         → IsShaped t → t'.words_per_region ≡ t.words_per_region → nth_region t' k ≡ nth_region t k
-        → slice_index tops' k ≡ slice_index tops k → ((a : ℕ) → is_in_region t.words_per_region k a ≡ true → is_marked marks' a ≡ is_marked marks a)
+        → slice_index tops' k ≡ slice_index tops k
+        → ((a : ℕ) → is_in_region t.words_per_region k a ≡ true → is_marked marks' a ≡ is_marked marks a)
         → MarksObjects t tops marks → live_bound_of t' tops' marks' k ≡ live_bound_of t tops marks k }
 {}

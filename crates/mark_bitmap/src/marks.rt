@@ -10,7 +10,8 @@
 //! Over a marking cycle a set is cleared, then grows as objects are marked, and then stays, but that a region that
 //! is released loses its part of it. It is kept as bits, one an address.
 
-ghost use Rattle.std.specs.Prelude.{◌≡◌, ℕ, ◌+◌, ◌*◌, ◌^◌, ◌<◌, ◌≤◌, List, Bool, false, true, if◌then◌else◌, IfOk, IfSome, length, MatchOption, replicate, slice_set};
+ghost use Rattle.std.specs.Prelude.{◌≡◌, ◌+◌, ◌*◌, ◌^◌, ◌<◌, ◌≤◌, if◌then◌else◌};
+ghost use Rattle.std.specs.Prelude.{ℕ, List, Bool, false, true, IfOk, IfSome, length, MatchOption, replicate, slice_set};
 ghost use Rattle.heap_model.specs.Count.{ListsMarked};
 ghost use Rattle.mark_bitmap.specs.Marks.{is_between, is_marked, is_only, marked_count, HasNone, HasNoneBelow, IsLowest};
 
@@ -119,7 +120,8 @@ impl Marks {
     pub fn lowest_without(&self, other: &Marks, group: u32) -> Option<Addr>
         requires known { 64 * group < length self.now }
         requires even { length other.now ≡ length self.now }
-        ensures lowest { MatchOption result (HasNoneBelow (is_only self.now other.now) (64 * group) (64 * group + 64)) (IsLowest (is_only self.now other.now) (64 * group)) }
+        ensures lowest { MatchOption result (HasNoneBelow (is_only self.now other.now) (64 * group) (64 * group + 64))
+            (IsLowest (is_only self.now other.now) (64 * group)) }
         ensures below { IfSome result (λ found. found < 64 * group + 64) }
         ensures within { IfSome result (λ found. found < length self.now) }
     {
@@ -130,7 +132,8 @@ impl Marks {
     /// of this range alone.
     pub fn next_without(&self, other: &Marks, from: Addr, to: Addr) -> Option<Addr>
         requires { length other.now ≡ length self.now }
-        ensures lowest { MatchOption result (HasNoneBelow (is_only self.now other.now) from to) (IsLowest (is_only self.now other.now) from) }
+        ensures lowest { MatchOption result (HasNoneBelow (is_only self.now other.now) from to)
+            (IsLowest (is_only self.now other.now) from) }
         ensures below { IfSome result (λ found. found < to) }
         ensures within { IfSome result (λ found. found < length self.now) }
     {
@@ -159,7 +162,8 @@ pub fn count_marked(marks: &Marks) -> u32
 
 /// The number of marked addresses is that of a list in which each of them stands once, and nothing else.
 pub fn count_law()
-    ensures { (marks : List Bool) → (addresses : List ℕ) × ListsMarked (is_marked marks) addresses × (length addresses ≡ marked_count marks) }
+    ensures { (marks : List Bool) → (addresses : List ℕ) × ListsMarked (is_marked marks) addresses
+        × (length addresses ≡ marked_count marks) }
 {}
 
 #[cfg(test)]

@@ -24,14 +24,17 @@ pub fn new_law()
 /// An object below its region's top at mark start is marked.
 pub fn set_law()
     ensures { (t : Table) (tops : List ℕ) (marks : List Bool) (a : ℕ) (s : Stored)
-        → MarksObjects t tops marks → object_at t a ≡ Some s → is_below t.words_per_region tops a ≡ true → MarksObjects t tops (slice_set marks a true) }
+        → MarksObjects t tops marks → object_at t a ≡ Some s → is_below t.words_per_region tops a ≡ true
+        → MarksObjects t tops (slice_set marks a true) }
 {}
 
 /// Marks are cleared: all, or some.
 pub fn fewer_law()
-    ensures all { (t : Table) (tops : List ℕ) (marks : List Bool) → MarksObjects t tops marks → MarksObjects t tops (replicate (length marks) false) }
+    ensures all { (t : Table) (tops : List ℕ) (marks : List Bool) → MarksObjects t tops marks
+        → MarksObjects t tops (replicate (length marks) false) }
     ensures some { (t : Table) (tops : List ℕ) (marks marks' : List Bool)
-        → MarksObjects t tops marks → length marks' ≡ length marks → ((a : ℕ) → is_marked marks' a ≡ true → is_marked marks a ≡ true) → MarksObjects t tops marks' }
+        → MarksObjects t tops marks → length marks' ≡ length marks → ((a : ℕ) → is_marked marks' a ≡ true → is_marked marks a ≡ true)
+        → MarksObjects t tops marks' }
 {}
 
 /// A region's top at mark start becomes its present top.
@@ -43,7 +46,8 @@ pub fn set_next_law()
 /// The top at mark start of a region without marks becomes its bottom.
 pub fn reset_law()
     ensures { (t : Table) (tops : List ℕ) (marks : List Bool) (k : ℕ)
-        → 0 < t.words_per_region → MarksObjects t tops marks → ((a : ℕ) → is_in_region t.words_per_region k a ≡ true → is_marked marks a ≡ false)
+        → 0 < t.words_per_region → MarksObjects t tops marks
+        → ((a : ℕ) → is_in_region t.words_per_region k a ≡ true → is_marked marks a ≡ false)
         → MarksObjects t (slice_set tops k (k * t.words_per_region)) marks }
 {}
 
@@ -61,7 +65,8 @@ pub fn free_law()
     ensures top { (t : Table) (tops : List ℕ) (marks : List Bool) (k : ℕ)
         → MarksObjects t tops marks → k < length t.regions → used_of t k ≡ 0 → slice_index tops k ≡ k * t.words_per_region }
     ensures marks { (t : Table) (tops : List ℕ) (marks : List Bool) (k a : ℕ)
-        → MarksObjects t tops marks → k < length t.regions → used_of t k ≡ 0 → is_in_region t.words_per_region k a ≡ true → is_marked marks a ≡ false }
+        → MarksObjects t tops marks → k < length t.regions → used_of t k ≡ 0 → is_in_region t.words_per_region k a ≡ true
+        → is_marked marks a ≡ false }
 {}
 
 /// What lies below a top at mark start can be marked: the bitmap has a bit for it.
@@ -74,6 +79,7 @@ pub fn within_law()
 pub fn newer_law()
     ensures begin { (t : Table) (tops : Tops) (previous : List Bool)
         → MarksObjects t tops.previous previous → ((k : ℕ) → k < length t.regions → slice_index tops.next k ≡ top_of t k) → AreNewer tops }
-    ensures reset { (tops : Tops) (k bottom : ℕ) → length tops.next ≡ length tops.previous → AreNewer tops → AreNewer (with_bottom tops k bottom) }
+    ensures reset { (tops : Tops) (k bottom : ℕ) → length tops.next ≡ length tops.previous → AreNewer tops
+        → AreNewer (with_bottom tops k bottom) }
     ensures below { (t : Table) (tops : Tops) (a : ℕ) → AreNewer tops → below_next t tops a ≡ false → below_previous t tops a ≡ false }
 {}

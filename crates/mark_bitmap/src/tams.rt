@@ -169,10 +169,13 @@ impl Tams {
 /// What lies below a top, by ranges: an address of region k where it is less than the region's top, and no address
 /// that is in no region with a top. A region's new top counts in that region alone.
 pub fn below_law()
-    ensures region { (words : ℕ) (tops : List ℕ) (k a : ℕ) → is_in_region words k a ≡ true → is_below words tops a ≡ nat_lt a (slice_index tops k) }
+    ensures region { (words : ℕ) (tops : List ℕ) (k a : ℕ) → is_in_region words k a ≡ true
+        → is_below words tops a ≡ nat_lt a (slice_index tops k) }
     ensures only { (words : ℕ) (tops : List ℕ) (a : ℕ) → 0 < words → is_below words tops a ≡ true → LiesBelow words tops a }
-    ensures set { (words : ℕ) (tops : List ℕ) (k top a : ℕ) → k < length tops → is_in_region words k a ≡ true → is_below words (slice_set tops k top) a ≡ nat_lt a top }
-    ensures others { (words : ℕ) (tops : List ℕ) (k top a : ℕ) → 0 < words → is_in_region words k a ≡ false → is_below words (slice_set tops k top) a ≡ is_below words tops a }
+    ensures set { (words : ℕ) (tops : List ℕ) (k top a : ℕ) → k < length tops → is_in_region words k a ≡ true
+        → is_below words (slice_set tops k top) a ≡ nat_lt a top }
+    ensures others { (words : ℕ) (tops : List ℕ) (k top a : ℕ) → 0 < words → is_in_region words k a ≡ false
+        → is_below words (slice_set tops k top) a ≡ is_below words tops a }
 {}
 
 #[cfg(test)]

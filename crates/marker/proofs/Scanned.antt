@@ -31,12 +31,21 @@ both_true true false e = (refl, refl)
 both_true true true e = cc
 both_true false b e = cc
 
-pub grey_is : (marks : List Bool) (g : Scans) (a : ℕ) → is_grey marks g a ≡ true → (is_marked marks a ≡ true) × (is_marked g.scanned a ≡ false)
+pub grey_is : (marks : List Bool) (g : Scans) (a : ℕ) → is_grey marks g a ≡ true
+    → (is_marked marks a ≡ true) × (is_marked g.scanned a ≡ false)
 grey_is marks g a e = both_true (is_marked marks a) (is_marked g.scanned a) e
 
 -- the marker with another grey set and other counts, and one scan more
 abbrev pub with_scan : Marker → Scans → LiveCounts → Marker
-with_scan m g l = record { bitmaps = m.bitmaps; tams = m.tams; grey = g; logs = m.logs; running = m.running; scans = added m.scans; live = l }
+with_scan m g l = record {
+  bitmaps = m.bitmaps;
+  tams = m.tams;
+  grey = g;
+  logs = m.logs;
+  running = m.running;
+  scans = added m.scans;
+  live = l;
+}
 
 -- where a pointer of a marked object leads is kept
 pub target_kept : (t : Table) (m : Marker) (object place a : ℕ) → CanFollow t m → is_marked m.bitmaps.next object ≡ true
@@ -44,26 +53,31 @@ pub target_kept : (t : Table) (m : Marker) (object place a : ℕ) → CanFollow 
 target_kept t m object place a f marked e =
     let k = f.marked object marked in
     let pointers = object_pointers_at t object k.object (kept_object t m.tams m.bitmaps.previous object k.object k.is) in
-    let found = f.closed.field object place a k.object k.is (get-append_left k.object.pointers k.object.weaks place (Some a) (rw pointers at e)) in
+    let found =
+    f.closed.field object place a k.object k.is (get-append_left k.object.pointers k.object.weaks place (Some a) (rw pointers at e)) in
     record { object = found.0; is = found.1 }
 
 abbrev pub all_pointers : Table → ℕ → ℕ → Type 0
 all_pointers t object = IsAmong (pointers_at t object) (length (pointers_at t object))
 
 -- what is grey was not scanned, and lies in the heap
-pub grey_within : (t : Table) (m : Marker) (object : ℕ) → MarkerStands t m → is_grey m.bitmaps.next m.grey object ≡ true → object < length m.grey.scanned
+pub grey_within : (t : Table) (m : Marker) (object : ℕ) → MarkerStands t m
+    → is_grey m.bitmaps.next m.grey object ≡ true → object < length m.grey.scanned
 grey_within t m object st grey =
     let marked = (grey_is m.bitmaps.next m.grey object grey).0 in
     elim (cases_lt object (length m.bitmaps.next)) [
       | inl inside ↦ omega (arith, inside, st.scanned)
-      | inr past ↦ absurd (let f : is_marked m.bitmaps.next object ≡ false = get_or_past m.bitmaps.next object false past in let g = marked in cc)
+      | inr past ↦
+          absurd (let f : is_marked m.bitmaps.next object ≡ false = get_or_past m.bitmaps.next object false past in let g = marked in cc)
     ]
 
 -- what is grey starts an object in a region that is known
-pub grey_object : (t : Table) (m : Marker) (object : ℕ) → MarkerStands t m → is_grey m.bitmaps.next m.grey object ≡ true → (s : Stored) × (object_at t object ≡ Some s)
+pub grey_object : (t : Table) (m : Marker) (object : ℕ) → MarkerStands t m → is_grey m.bitmaps.next m.grey object ≡ true
+    → (s : Stored) × (object_at t object ≡ Some s)
 grey_object t m object st grey = st.next.object object (grey_is m.bitmaps.next m.grey object grey).0
 
-pub grey_region : (t : Table) (m : Marker) (object : ℕ) → 0 < t.words_per_region → MarkerStands t m → is_grey m.bitmaps.next m.grey object ≡ true → object / t.words_per_region < length t.regions
+pub grey_region : (t : Table) (m : Marker) (object : ℕ) → 0 < t.words_per_region → MarkerStands t m
+    → is_grey m.bitmaps.next m.grey object ≡ true → object / t.words_per_region < length t.regions
 grey_region t m object z st grey =
     let below = lies_below t.words_per_region m.tams.next object z (st.next.below object (grey_is m.bitmaps.next m.grey object grey).0) in
     let same = div_is object t.words_per_region below.region below.at_least below.less in

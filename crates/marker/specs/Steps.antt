@@ -1,5 +1,6 @@
 -- What parts of marking do to a marker.
-use Rattle.std.specs.Prelude.{◌≡◌, ℕ, ◌+◌, ◌<◌, ◌⊎◌, ◌==◌, Bool, true, false, List, [], ◌∷◌, ◌++◌, Option, Some, None, Contains, length, slice_get, slice_set, if◌then◌else◌}
+use Rattle.std.specs.Prelude.{◌≡◌, ◌+◌, ◌<◌, ◌⊎◌, ◌==◌, ◌∷◌, ◌++◌, if◌then◌else◌}
+use Rattle.std.specs.Prelude.{ℕ, Bool, true, false, List, [], Option, Some, None, Contains, length, slice_get, slice_set}
 use Rattle.heap_model.specs.Graph.{Graph}
 use Rattle.heap_model.specs.Heap.{Shows}
 use Rattle.heap_model.specs.Marking.{KeepsSnapshot}
@@ -48,7 +49,8 @@ pub record ScansMore (m m' : Marker) : Type 0 where
 -- an address below the next tops enters the mutator's log, and nothing else changes
 abbrev pub saved : Table → Marker → ℕ → Option ℕ → Marker
 saved t m mutator None = m
-saved t m mutator (Some a) = if below_next t m.tams a then record m { logs = slice_set m.logs mutator (log_of m.logs mutator ++ a ∷ []) } else m
+saved t m mutator (Some a) =
+    if below_next t m.tams a then record m { logs = slice_set m.logs mutator (log_of m.logs mutator ++ a ∷ []) } else m
 
 -- a mutator's log is empty, and what stood in it is marked. Nothing else changed but the fingers
 pub record HasTakenLog (t : Table) (mutator : ℕ) (m m' : Marker) : Type 0 where

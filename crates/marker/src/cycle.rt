@@ -1,6 +1,7 @@
 //! The beginning of marking, deletion logs, and its end.
 
-ghost use Rattle.std.specs.Prelude.{◌≡◌, ◌≢◌, ℕ, ◌<◌, ◌≤◌, ◌==◌, List, [], Bool, true, false, Option, Some, Contains, if◌then◌else◌, ◌+◌, ◌*◌, length, slice_index, slice_set};
+ghost use Rattle.std.specs.Prelude.{◌≡◌, ◌≢◌, ◌<◌, ◌≤◌, ◌==◌, if◌then◌else◌, ◌+◌, ◌*◌};
+ghost use Rattle.std.specs.Prelude.{ℕ, List, [], Bool, true, false, Option, Some, Contains, length, slice_index, slice_set};
 ghost use Rattle.heap_model.specs.Graph.{Graph};
 ghost use Rattle.heap_model.specs.Heap.{Shows, IsClosed};
 ghost use Rattle.heap_model.specs.Marking.{KeepsSnapshot, Begins, IsSaved};

@@ -58,7 +58,8 @@ impl Marker {
         ensures fresh { IfOk result (λ marker. marker ≡ fresh_marker config.now) }
         ensures stands { IfOk result (λ marker. (t : Table) → length t.regions ≡ config.now.regions → t.words_per_region ≡ config.now.words
             → MarkerStands t marker) }
-        ensures all_kept { IfOk result (λ marker. (t : Table) (a : ℕ) → t.words_per_region ≡ config.now.words → below_previous t marker.tams a ≡ false) }
+        ensures all_kept { IfOk result (λ marker. (t : Table) (a : ℕ) → t.words_per_region ≡ config.now.words
+            → below_previous t marker.tams a ≡ false) }
         ensures idle { IfOk result (λ marker. marker.running ≡ false) }
         ensures logs { IfOk result (λ marker. marker.logs ≡ replicate config.now.mutators []) }
     {

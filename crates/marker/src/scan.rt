@@ -68,7 +68,8 @@ impl Marker {
         requires grey { is_grey self.old.bitmaps.next self.old.grey object ≡ true }
         ensures stands { MarkerStands table.now self.new }
         ensures snapshots { KeepsSnapshots table.now self.old self.new }
-        ensures marks { MarksWanted table.now (IsAmong (pointers_at table.now object) (length (pointers_at table.now object))) self.old self.new }
+        ensures marks { MarksWanted table.now (IsAmong (pointers_at table.now object) (length (pointers_at table.now object))) self.old
+            self.new }
         ensures scanned { self.new.grey.scanned ≡ slice_set self.old.grey.scanned object true }
         ensures counted { self.new.scans ≡ added self.old.scans }
         ensures same { SameRoles self.old self.new }

@@ -1,5 +1,6 @@
 -- What is covered once a card was added to the sets of some regions.
-use Rattle.std.proofs.Common.{inl, inr, ◌≡◌, ◌⊎◌, ℕ, ◌/◌, ◌<◌, true, false, Option, Some, None, List, [], ◌∷◌, ◌++◌, length, All, ⊎_elim, refl, sym, ap, subst, ◌∙◌, length-set}
+use Rattle.std.proofs.Common.{◌≡◌, ◌⊎◌, ◌/◌, ◌<◌, ◌∷◌, ◌++◌, ◌∙◌}
+use Rattle.std.proofs.Common.{inl, inr, ℕ, true, false, Option, Some, None, List, [], length, All, ⊎_elim, refl, sym, ap, subst, length-set}
 use Rattle.std.specs.Prelude.{slice_get, slice_set, nat_lt, Bool, if◌then◌else◌}
 use Rattle.std.proofs.lemmas.Bool.{cases_eq}
 use Rattle.std.proofs.lemmas.List.{set-get_or}
@@ -16,11 +17,13 @@ use Rattle.refinement.specs.Refining.{added_to, AddsCard, with_field}
 added_sets : (s : Sets) (region card : ℕ) → length (added s region card).sets ≡ length s.sets
 added_sets s region card = length-set s.sets region (set_with (set_of s region) card (card / s.cards_per_region))
 
-all_sets : (regions : List ℕ) (card : ℕ) (s : Sets) → (length (added_to regions card s).sets ≡ length s.sets) × ((added_to regions card s).cards_per_region ≡ s.cards_per_region)
+all_sets : (regions : List ℕ) (card : ℕ) (s : Sets)
+    → (length (added_to regions card s).sets ≡ length s.sets) × ((added_to regions card s).cards_per_region ≡ s.cards_per_region)
 all_sets [] card s = (refl, refl)
 all_sets (r ∷ rs) card s = let i = all_sets rs card (added s r card) in (i.0 ∙ added_sets s r card, i.1)
 
-pub adds_sets : (words : ℕ) (kept : ℕ → Option Stored) (len card : ℕ) (old new : Sets) → AddsCard words kept len card old new → (length new.sets ≡ length old.sets) × (new.cards_per_region ≡ old.cards_per_region)
+pub adds_sets : (words : ℕ) (kept : ℕ → Option Stored) (len card : ℕ) (old new : Sets) → AddsCard words kept len card old new
+    → (length new.sets ≡ length old.sets) × (new.cards_per_region ≡ old.cards_per_region)
 adds_sets words kept len card old new a =
     let i = all_sets a.regions card old in
     (ap (λ (s : Sets). length s.sets) a.new_is ∙ i.0, ap (λ (s : Sets). s.cards_per_region) a.new_is ∙ i.1)
@@ -33,14 +36,16 @@ all_append (x ∷ xs) ys card s = all_append xs ys card (added s x card)
 pub adds_none : (words : ℕ) (kept : ℕ → Option Stored) (len card : ℕ) (s : Sets) → AddsCard words kept len card s s
 adds_none words kept len card s = record { regions = []; asked = All-nil (LeadsInto words kept len card); new_is = refl }
 
-pub adds_more : (words : ℕ) (kept : ℕ → Option Stored) (len card : ℕ) (s u v : Sets) → AddsCard words kept len card s u → AddsCard words kept len card u v → AddsCard words kept len card s v
+pub adds_more : (words : ℕ) (kept : ℕ → Option Stored) (len card : ℕ) (s u v : Sets) → AddsCard words kept len card s u
+    → AddsCard words kept len card u v → AddsCard words kept len card s v
 adds_more words kept len card s u v a b = record {
   regions = a.regions ++ b.regions;
   asked = All-append (LeadsInto words kept len card) a.regions b.regions a.asked b.asked;
   new_is = b.new_is ∙ ap (added_to b.regions card) a.new_is ∙ sym (all_append a.regions b.regions card s);
 }
 
-pub adds_one : (words : ℕ) (kept : ℕ → Option Stored) (len card region : ℕ) (s : Sets) → LeadsInto words kept len card region → AddsCard words kept len card s (added s region card)
+pub adds_one : (words : ℕ) (kept : ℕ → Option Stored) (len card region : ℕ) (s : Sets) → LeadsInto words kept len card region
+    → AddsCard words kept len card s (added s region card)
 adds_one words kept len card region s l = record {
   regions = region ∷ [];
   asked = All-cons (LeadsInto words kept len card) region [] l (All-nil (LeadsInto words kept len card));
@@ -48,32 +53,39 @@ adds_one words kept len card region s l = record {
 }
 
 -- ---- what is covered
-leads_known : (words n : ℕ) (kept : ℕ → Option Stored) (len card region : ℕ) → LeadsInside words n kept → LeadsInto words kept len card region → region < n
+leads_known : (words n : ℕ) (kept : ℕ → Option Stored) (len card region : ℕ) → LeadsInside words n kept
+    → LeadsInto words kept len card region → region < n
 leads_known words n kept len card region inside l =
     let c = l.crossing in
     let known = inside.each l.at l.index l.target c.object c.kept_is c.field_is in
     subst (λ (r : ℕ). r < n) l.into known
 
-all_grows : (words : ℕ) (kept : ℕ → Option Stored) (len card : ℕ) (regions : List ℕ) (s : Sets) (r c : ℕ) → LeadsInside words (length s.sets) kept → All (LeadsInto words kept len card) regions → covers s r c ≡ true → covers (added_to regions card s) r c ≡ true
+all_grows : (words : ℕ) (kept : ℕ → Option Stored) (len card : ℕ) (regions : List ℕ) (s : Sets) (r c : ℕ)
+    → LeadsInside words (length s.sets) kept → All (LeadsInto words kept len card) regions → covers s r c ≡ true
+    → covers (added_to regions card s) r c ≡ true
 all_grows words kept len card [] s r c inside asked was = was
 all_grows words kept len card (x ∷ xs) s r c inside asked was =
     let known = leads_known words (length s.sets) kept len card x inside (All-head (LeadsInto words kept len card) x xs asked) in
     let inside' = subst (λ (n : ℕ). LeadsInside words n kept) (sym (added_sets s x card)) inside in
-    all_grows words kept len card xs (added s x card) r c inside' (All-tail (LeadsInto words kept len card) x xs asked) (covers_grows s x card r c known was)
+    all_grows words kept len card xs (added s x card) r c inside'
+    (All-tail (LeadsInto words kept len card) x xs asked) (covers_grows s x card r c known was)
 
-all_lead : (words : ℕ) (kept : ℕ → Option Stored) (len card : ℕ) (regions : List ℕ) (s : Sets) (r c : ℕ) → LeadsInside words (length s.sets) kept
-    → All (LeadsInto words kept len card) regions → may_lead s r c ≡ true → may_lead (added_to regions card s) r c ≡ true
+all_lead : (words : ℕ) (kept : ℕ → Option Stored) (len card : ℕ) (regions : List ℕ) (s : Sets) (r c : ℕ)
+    → LeadsInside words (length s.sets) kept → All (LeadsInto words kept len card) regions → may_lead s r c ≡ true
+    → may_lead (added_to regions card s) r c ≡ true
 all_lead words kept len card [] s r c inside asked was = was
 all_lead words kept len card (x ∷ xs) s r c inside asked was =
     let known = leads_known words (length s.sets) kept len card x inside (All-head (LeadsInto words kept len card) x xs asked) in
     let inside' = subst (λ (n : ℕ). LeadsInside words n kept) (sym (added_sets s x card)) inside in
-    all_lead words kept len card xs (added s x card) r c inside' (All-tail (LeadsInto words kept len card) x xs asked) (leads_grow s x card r c known was)
+    all_lead words kept len card xs (added s x card) r c inside'
+    (All-tail (LeadsInto words kept len card) x xs asked) (leads_grow s x card r c known was)
 
 -- what a card newly covers in region r
 abbrev pub IsNew : ℕ → (ℕ → Option Stored) → ℕ → ℕ → Sets → ℕ → ℕ → Type 0
 IsNew words kept len card s r c = LeadsInto words kept len card r × (c / s.cards_per_region ≡ card / s.cards_per_region)
 
-one_only : (words : ℕ) (kept : ℕ → Option Stored) (len card x : ℕ) (s : Sets) (r c : ℕ) → x < length s.sets → LeadsInto words kept len card x → covers (added s x card) r c ≡ true → (covers s r c ≡ true) ⊎ IsNew words kept len card s r c
+one_only : (words : ℕ) (kept : ℕ → Option Stored) (len card x : ℕ) (s : Sets) (r c : ℕ) → x < length s.sets
+    → LeadsInto words kept len card x → covers (added s x card) r c ≡ true → (covers s r c ≡ true) ⊎ IsNew words kept len card s r c
 one_only words kept len card x s r c known asked now =
     let w : ℕ = s.cards_per_region in
     ⊎_elim
@@ -86,7 +98,9 @@ one_only words kept len card x s r c known asked now =
     (λ differs. inl (ap (λ (t : CardSet). set_covers t c (c / w)) (sym (added_other s x card r differs)) ∙ now))
     (cases_eq r x)
 
-all_only : (words : ℕ) (kept : ℕ → Option Stored) (len card : ℕ) (regions : List ℕ) (s : Sets) (r c : ℕ) → LeadsInside words (length s.sets) kept → All (LeadsInto words kept len card) regions → covers (added_to regions card s) r c ≡ true → (covers s r c ≡ true) ⊎ IsNew words kept len card s r c
+all_only : (words : ℕ) (kept : ℕ → Option Stored) (len card : ℕ) (regions : List ℕ) (s : Sets) (r c : ℕ)
+    → LeadsInside words (length s.sets) kept → All (LeadsInto words kept len card) regions → covers (added_to regions card s) r c ≡ true
+    → (covers s r c ≡ true) ⊎ IsNew words kept len card s r c
 all_only words kept len card [] s r c inside asked now = inl now
 all_only words kept len card (x ∷ xs) s r c inside asked now =
     let first = All-head (LeadsInto words kept len card) x xs asked in
@@ -95,7 +109,8 @@ all_only words kept len card (x ∷ xs) s r c inside asked now =
     ⊎_elim (λ was. one_only words kept len card x s r c known first was) inr
     (all_only words kept len card xs (added s x card) r c inside' (All-tail (LeadsInto words kept len card) x xs asked) now)
 
-pub adds_grows : (words : ℕ) (kept : ℕ → Option Stored) (len card : ℕ) (old new : Sets) → LeadsInside words (length old.sets) kept → AddsCard words kept len card old new → (r c : ℕ) → covers old r c ≡ true → covers new r c ≡ true
+pub adds_grows : (words : ℕ) (kept : ℕ → Option Stored) (len card : ℕ) (old new : Sets) → LeadsInside words (length old.sets) kept
+    → AddsCard words kept len card old new → (r c : ℕ) → covers old r c ≡ true → covers new r c ≡ true
 adds_grows words kept len card old new inside a r c was =
     ap (λ (s : Sets). covers s r c) a.new_is ∙ all_grows words kept len card a.regions old r c inside a.asked was
 
@@ -104,16 +119,19 @@ pub adds_lead : (words : ℕ) (kept : ℕ → Option Stored) (len card : ℕ) (o
 adds_lead words kept len card old new inside a r c was =
     ap (λ (s : Sets). may_lead s r c) a.new_is ∙ all_lead words kept len card a.regions old r c inside a.asked was
 
-pub adds_gains : (words : ℕ) (kept : ℕ → Option Stored) (len card : ℕ) (old new : Sets) → LeadsInside words (length old.sets) kept → AddsCard words kept len card old new → Gains words kept len old.cards_per_region card (covers old) (covers new)
+pub adds_gains : (words : ℕ) (kept : ℕ → Option Stored) (len card : ℕ) (old new : Sets) → LeadsInside words (length old.sets) kept
+    → AddsCard words kept len card old new → Gains words kept len old.cards_per_region card (covers old) (covers new)
 adds_gains words kept len card old new inside a = record {
   stays = adds_grows words kept len card old new inside a;
   only = λ r c now. all_only words kept len card a.regions old r c inside a.asked (ap (λ (s : Sets). covers s r c) (sym a.new_is) ∙ now);
 }
 
 -- ---- one field
-pub field_adds : (words : ℕ) (kept : ℕ → Option Stored) (len card a i : ℕ) (o : Stored) (target : Option ℕ) (s u : Sets) → kept a ≡ Some o → slice_get (fields o) i ≡ Some target → field_card len a i ≡ card
+pub field_adds : (words : ℕ) (kept : ℕ → Option Stored) (len card a i : ℕ) (o : Stored) (target : Option ℕ) (s u : Sets) → kept a ≡ Some o
+    → slice_get (fields o) i ≡ Some target → field_card len a i ≡ card
     → u ≡ with_field words card (field_word a i) target s → AddsCard words kept len card s u
-field_adds words kept len card a i o None s u k f c e = subst (λ (v : Sets). AddsCard words kept len card s v) (sym e) (adds_none words kept len card s)
+field_adds words kept len card a i o None s u k f c e =
+    subst (λ (v : Sets). AddsCard words kept len card s v) (sym e) (adds_none words kept len card s)
 field_adds words kept len card a i o (Some v) s u k f c e =
     elim (eqb_tells (v / words) (field_word a i / words)) [
       | inl q ↦
@@ -122,15 +140,19 @@ field_adds words kept len card a i o (Some v) s u k f c e =
       | inr q ↦
           let more : u ≡ added s (v / words) card = e ∙ ap (λ b. if b then s else added s (v / words) card) q.0 in
           let crossing : IsCrossing words kept a i v = record { object = o; kept_is = k; field_is = f; leaves = q.1 } in
-          subst (λ (x : Sets). AddsCard words kept len card s x) (sym more) (adds_one words kept len card (v / words) s (record { at = a; index = i; target = v; crossing = crossing; in_card = c; into = refl }))
+          subst (λ (x : Sets). AddsCard words kept len card s x) (sym more)
+          (adds_one words kept len card (v / words) s
+          (record { at = a; index = i; target = v; crossing = crossing; in_card = c; into = refl }))
     ]
 
-pub field_grows : (words card word n : ℕ) (target : Option ℕ) (s u : Sets) → ((v : ℕ) → target ≡ Some v → v / words < length s.sets) → u ≡ with_field words card word target s → (r c : ℕ) → may_lead s r c ≡ true → may_lead u r c ≡ true
+pub field_grows : (words card word n : ℕ) (target : Option ℕ) (s u : Sets) → ((v : ℕ) → target ≡ Some v → v / words < length s.sets)
+    → u ≡ with_field words card word target s → (r c : ℕ) → may_lead s r c ≡ true → may_lead u r c ≡ true
 field_grows words card word n None s u known e r c was = ap (λ (v : Sets). may_lead v r c) e ∙ was
 field_grows words card word n (Some v) s u known e r c was =
     elim (eqb_tells (v / words) (word / words)) [
       | inl q ↦ ap (λ (x : Sets). may_lead x r c) (e ∙ ap (λ b. if b then s else added s (v / words) card) q.0) ∙ was
-      | inr q ↦ ap (λ (x : Sets). may_lead x r c) (e ∙ ap (λ b. if b then s else added s (v / words) card) q.0) ∙ leads_grow s (v / words) card r c (known v refl) was
+      | inr q ↦ ap (λ (x : Sets). may_lead x r c) (e ∙ ap (λ b. if b then s else added s (v / words) card) q.0)
+          ∙ leads_grow s (v / words) card r c (known v refl) was
     ]
 
 -- a card that the set covers, and that entered one, changes nothing
@@ -140,7 +162,9 @@ added_covered s region card e =
     let covered : covers s region card ≡ true = left_true (covers s region card) (has s.entered card) e in
     let is_in : has s.entered card ≡ true = right_true (covers s region card) (has s.entered card) e in
     let same : set_with set card (card / s.cards_per_region) ≡ set =
-    ap (λ (b : Bool). if b then set else if nat_lt (length set.inline) 16 then record { inline = set.inline ++ card ∷ []; sources = set.sources } else record { inline = set.inline; sources = slice_set set.sources (card / s.cards_per_region) true }) covered in
+    ap (λ (b : Bool). if b then set else if nat_lt (length set.inline) 16
+    then record { inline = set.inline ++ card ∷ []; sources = set.sources }
+    else record { inline = set.inline; sources = slice_set set.sources (card / s.cards_per_region) true }) covered in
     let sets : slice_set s.sets region (set_with set card (card / s.cards_per_region)) ≡ s.sets =
     ap (λ (x : CardSet). slice_set s.sets region x) same ∙ set-get_or s.sets region (empty_set 0) in
     let entered : slice_set s.entered card true ≡ s.entered =

@@ -1,5 +1,6 @@
 -- The tile of a field, and what is kept of objects.
-use Rattle.std.proofs.Common.{◌≡◌, ℕ, ◌+◌, ◌*◌, ◌/◌, ◌<◌, ◌≤◌, Bool, true, false, Option, Some, None, List, length, refl, sym, ap, ◌∙◌, arith}
+use Rattle.std.proofs.Common.{◌≡◌, ◌+◌, ◌*◌, ◌/◌, ◌<◌, ◌≤◌, ◌∙◌}
+use Rattle.std.proofs.Common.{ℕ, Bool, true, false, Option, Some, None, List, length, refl, sym, ap, arith}
 use Rattle.std.specs.Prelude.{slice_get, IsSome, IsTrue, if◌then◌else◌}
 use Rattle.std.proofs.lemmas.List.{length-append}
 use Rattle.std.proofs.lemmas.Option.{slice_get_within}
@@ -23,17 +24,24 @@ use Rattle.refinement.specs.Refining.{FieldsInside}
 abbrev pub Stands : Table → (ℕ → Option Stored) → Type 0
 Stands t kept = (a : ℕ) (s : Stored) → kept a ≡ Some s → object_at t a ≡ Some s
 
-pub field_holder : (t : Table) (kept : ℕ → Option Stored) (a i v : ℕ) → Stands t kept → IsCrossing t.words_per_region kept a i v → IsHolder t a (field_word a i)
+pub field_holder : (t : Table) (kept : ℕ → Option Stored) (a i v : ℕ) → Stands t kept
+    → IsCrossing t.words_per_region kept a i v → IsHolder t a (field_word a i)
 unfolding object_at
 field_holder t kept a i v stands x =
     let inside = slice_get_within (fields x.object) i (Some v) x.field_is in
-    record { tile = Object x.object; tile_is = object_tile (tile_in t a) x.object (stands a x.object x.kept_is); low = omega arith; high = omega (arith, inside, length-append x.object.pointers x.object.weaks) }
+    record {
+      tile = Object x.object;
+      tile_is = object_tile (tile_in t a) x.object (stands a x.object x.kept_is);
+      low = omega arith;
+      high = omega (arith, inside, length-append x.object.pointers x.object.weaks);
+    }
 
 pub object_known : (t : Table) (a : ℕ) (s : Stored) → object_at t a ≡ Some s → a / t.words_per_region < length t.regions
 unfolding object_at
 object_known t a s e = (tile_listed t a (Object s) (object_tile (tile_in t a) s e)).1
 
-either_way : (below marked : Bool) (o : Option Stored) (s : Stored) → (if below then (if marked then o else None) else o) ≡ Some s → o ≡ Some s
+either_way : (below marked : Bool) (o : Option Stored) (s : Stored)
+    → (if below then (if marked then o else None) else o) ≡ Some s → o ≡ Some s
 either_way true true o s e = e
 either_way true false o s e = cc
 either_way false marked o s e = e
@@ -42,7 +50,8 @@ either_way false marked o s e = e
 pub kept_object : (t : Table) (tops : Tops) (previous : List Bool) → Stands t (kept_in t tops previous)
 kept_object t tops previous a s e = either_way (below_previous t tops a) (is_marked previous a) (object_at t a) s e
 
-pub closed_inside : (t : Table) (tops : Tops) (previous : List Bool) (roots : List (Option ℕ)) → IsClosed (heap_in t tops previous roots) → LeadsInside t.words_per_region (length t.regions) (kept_in t tops previous)
+pub closed_inside : (t : Table) (tops : Tops) (previous : List Bool) (roots : List (Option ℕ)) → IsClosed (heap_in t tops previous roots)
+    → LeadsInside t.words_per_region (length t.regions) (kept_in t tops previous)
 closed_inside t tops previous roots closed = record {
   each = λ a i v s e f.
       let there = closed.field a i v s e f in
@@ -82,11 +91,13 @@ shape_forwarded t a to m h = go h.tile h.tile_is h.shape_is
     go (Forwarded to m) e f = rw e refl
 
 -- ---- where fields lie
-pub object_within : (t : Table) (a : ℕ) (s : Stored) → IsShaped t → object_at t a ≡ Some s → a + tile_size (Object s) ≤ length t.regions * t.words_per_region
+pub object_within : (t : Table) (a : ℕ) (s : Stored) → IsShaped t → object_at t a ≡ Some s
+    → a + tile_size (Object s) ≤ length t.regions * t.words_per_region
 unfolding object_at
 object_within t a s g e = g.within a (Object s) (object_tile (tile_in t a) s e)
 
-pub shape_within : (t : Table) (a p weak d n : ℕ) → IsShaped t → n ≡ length t.regions * t.words_per_region → IsPlacedTile t a (shapes.Object p weak d) → a < n
+pub shape_within : (t : Table) (a p weak d n : ℕ) → IsShaped t → n ≡ length t.regions * t.words_per_region
+    → IsPlacedTile t a (shapes.Object p weak d) → a < n
 shape_within t a p weak d n g e h = go (object_at t a) refl (shape_object t a p weak d h)
   where
     go : (o : Option Stored) → object_at t a ≡ o → IsSome o → a < n
@@ -121,28 +132,36 @@ object_small t a g h = go (object_at t a) refl h
     go (Some s) e x = let w = object_within t a s g e in omega (arith, w)
 
 -- ---- what is kept of an object
-some_above : (b m : Bool) (o : Option Stored) → b ≡ false → IsSome o → (IsTrue true → IsSome (if b then (if m then o else None) else o)) × (IsSome (if b then (if m then o else None) else o) → IsTrue true)
+some_above : (b m : Bool) (o : Option Stored) → b ≡ false → IsSome o
+    → (IsTrue true → IsSome (if b then (if m then o else None) else o)) × (IsSome (if b then (if m then o else None) else o) → IsTrue true)
 some_above true m o e s = cc
 some_above false m o e s = (λ _. s, λ _. refl)
 
-some_marked : (b m r : Bool) (o : Option Stored) → b ≡ true → r ≡ m → IsSome o → (IsTrue r → IsSome (if b then (if m then o else None) else o)) × (IsSome (if b then (if m then o else None) else o) → IsTrue r)
+some_marked : (b m r : Bool) (o : Option Stored) → b ≡ true → r ≡ m → IsSome o
+    → (IsTrue r → IsSome (if b then (if m then o else None) else o)) × (IsSome (if b then (if m then o else None) else o) → IsTrue r)
 some_marked false m r o e f s = cc
 some_marked true true r o e f s = (λ _. s, λ _. f)
 some_marked true false r o e f s = (λ x. absurd (let y : r ≡ true = x in cc), λ x. absurd (let y : IsSome {T = Stored} None = x in cc))
 
-some_nothing : (b m : Bool) (o : Option Stored) → o ≡ None → (IsTrue false → IsSome (if b then (if m then o else None) else o)) × (IsSome (if b then (if m then o else None) else o) → IsTrue false)
+some_nothing : (b m : Bool) (o : Option Stored) → o ≡ None
+    → (IsTrue false → IsSome (if b then (if m then o else None) else o))
+    × (IsSome (if b then (if m then o else None) else o) → IsTrue false)
 some_nothing b m (Some s) e = cc
 some_nothing true true None e = (λ x. absurd (let y : false ≡ true = x in cc), λ x. x)
 some_nothing true false None e = (λ x. absurd (let y : false ≡ true = x in cc), λ x. x)
 some_nothing false m None e = (λ x. absurd (let y : false ≡ true = x in cc), λ x. x)
 
-pub kept_above : (t : Table) (tops : Tops) (previous : List Bool) (a : ℕ) → below_previous t tops a ≡ false → IsSome (object_at t a) → (IsTrue true → IsSome (kept_in t tops previous a)) × (IsSome (kept_in t tops previous a) → IsTrue true)
+pub kept_above : (t : Table) (tops : Tops) (previous : List Bool) (a : ℕ) → below_previous t tops a ≡ false → IsSome (object_at t a)
+    → (IsTrue true → IsSome (kept_in t tops previous a)) × (IsSome (kept_in t tops previous a) → IsTrue true)
 kept_above t tops previous a e s = some_above (below_previous t tops a) (is_marked previous a) (object_at t a) e s
 
-pub kept_marked : (t : Table) (tops : Tops) (previous : List Bool) (a : ℕ) (r : Bool) → below_previous t tops a ≡ true → r ≡ is_marked previous a → IsSome (object_at t a) → (IsTrue r → IsSome (kept_in t tops previous a)) × (IsSome (kept_in t tops previous a) → IsTrue r)
+pub kept_marked : (t : Table) (tops : Tops) (previous : List Bool) (a : ℕ) (r : Bool) → below_previous t tops a ≡ true
+    → r ≡ is_marked previous a → IsSome (object_at t a)
+    → (IsTrue r → IsSome (kept_in t tops previous a)) × (IsSome (kept_in t tops previous a) → IsTrue r)
 kept_marked t tops previous a r e f s = some_marked (below_previous t tops a) (is_marked previous a) r (object_at t a) e f s
 
-pub kept_nothing : (t : Table) (tops : Tops) (previous : List Bool) (a : ℕ) → object_at t a ≡ None → (IsTrue false → IsSome (kept_in t tops previous a)) × (IsSome (kept_in t tops previous a) → IsTrue false)
+pub kept_nothing : (t : Table) (tops : Tops) (previous : List Bool) (a : ℕ) → object_at t a ≡ None
+    → (IsTrue false → IsSome (kept_in t tops previous a)) × (IsSome (kept_in t tops previous a) → IsTrue false)
 kept_nothing t tops previous a e = some_nothing (below_previous t tops a) (is_marked previous a) (object_at t a) e
 
 -- what is kept leads where its object in the table does
@@ -153,7 +172,8 @@ same_object t kept a stands h = go (kept a) refl h
     go None e x = cc
     go (Some s) e x = e ∙ sym (stands a s e)
 
-pub fields_inside : (t : Table) (kept : ℕ → Option Stored) (a : ℕ) → Stands t kept → LeadsInside t.words_per_region (length t.regions) kept → IsSome (kept a) → FieldsInside t a
+pub fields_inside : (t : Table) (kept : ℕ → Option Stored) (a : ℕ) → Stands t kept
+    → LeadsInside t.words_per_region (length t.regions) kept → IsSome (kept a) → FieldsInside t a
 fields_inside t kept a stands inside h i v f = go (kept a) refl h
   where
     go : (o : Option Stored) → kept a ≡ o → IsSome o → v / t.words_per_region < length t.regions

@@ -1,5 +1,6 @@
 -- What scanning a card and refining one do.
-use Rattle.std.specs.Prelude.{◌≡◌, ℕ, ◌*◌, ◌/◌, ◌<◌, ◌≤◌, ◌==◌, Bool, true, false, All, List, [], ◌∷◌, length, Option, Some, None, if◌then◌else◌, slice_get, slice_set}
+use Rattle.std.specs.Prelude.{◌≡◌, ◌*◌, ◌/◌, ◌<◌, ◌≤◌, ◌==◌, ◌∷◌, if◌then◌else◌}
+use Rattle.std.specs.Prelude.{ℕ, Bool, true, false, All, List, [], length, Option, Some, None, slice_get, slice_set}
 use Rattle.heap_model.specs.Heap.{Stored}
 use Rattle.regions.specs.Table.{Table, fields_at}
 use Rattle.mark_bitmap.specs.Tops.{Tops}
@@ -52,16 +53,19 @@ Refines false words kept card_words cards cards' sets sets' = (cards.queue ≡ [
 -- ---- within a scan
 -- the crossing fields of one object that lie in the card are covered
 pub record IsObjectCovered (words : ℕ) (kept : ℕ → Option Stored) (card_words card : ℕ) (covered : ℕ → ℕ → Bool) (at : ℕ) : Type 0 where
-  pub each : (index target : ℕ) → IsCrossing words kept at index target → field_card card_words at index ≡ card → covered (target / words) card ≡ true
+  pub each : (index target : ℕ) → IsCrossing words kept at index target
+      → field_card card_words at index ≡ card → covered (target / words) card ≡ true
 
 -- the same for the objects of a region from an address on
 abbrev pub AreObjectsCovered : Table → (ℕ → Option Stored) → ℕ → ℕ → (ℕ → ℕ → Bool) → ℕ → Type 0
 AreObjectsCovered t kept card_words card covered first =
-    (at : ℕ) → first ≤ at → at / t.words_per_region ≡ first / t.words_per_region → IsObjectCovered t.words_per_region kept card_words card covered at
+    (at : ℕ) → first ≤ at → at / t.words_per_region ≡ first / t.words_per_region
+    → IsObjectCovered t.words_per_region kept card_words card covered at
 
 -- the fields of the object at an address lead into regions of the table
 abbrev pub FieldsInside : Table → ℕ → Type 0
-FieldsInside t at = (index target : ℕ) → slice_get (fields_at t at) index ≡ Some (Some target) → target / t.words_per_region < length t.regions
+FieldsInside t at =
+    (index target : ℕ) → slice_get (fields_at t at) index ≡ Some (Some target) → target / t.words_per_region < length t.regions
 
 -- the sets once a field was looked at: the card is added where the field leads into another region than its word's
 abbrev pub with_field : ℕ → ℕ → ℕ → Option ℕ → Sets → Sets

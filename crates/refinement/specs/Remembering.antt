@@ -42,11 +42,13 @@ pub record Gains (words : ℕ) (kept : ℕ → Option Stored) (card_words cards_
 
 -- each field of a kept object is nil or leads into one of so many regions
 pub record LeadsInside (words regions : ℕ) (kept : ℕ → Option Stored) : Type 0 where
-  pub each : (at index target : ℕ) (object : Stored) → kept at ≡ Some object → slice_get (fields object) index ≡ Some (Some target) → target / words < regions
+  pub each : (at index target : ℕ) (object : Stored) → kept at ≡ Some object
+      → slice_get (fields object) index ≡ Some (Some target) → target / words < regions
 
 -- what is kept now was kept, with the same fields
 abbrev pub KeepsFields : (ℕ → Option Stored) → (ℕ → Option Stored) → Type 0
-KeepsFields old new = (at : ℕ) (object : Stored) → new at ≡ Some object → (before : Stored) × (old at ≡ Some before) × (fields object ≡ fields before)
+KeepsFields old new =
+    (at : ℕ) (object : Stored) → new at ≡ Some object → (before : Stored) × (old at ≡ Some before) × (fields object ≡ fields before)
 
 -- what is kept now was kept, and each of its fields is nil or what it was
 abbrev pub ClearsFields : (ℕ → Option Stored) → (ℕ → Option Stored) → Type 0

@@ -5,7 +5,8 @@ use Rattle.regions.specs.Table.{Table, object_at}
 
 -- each field of an object is nil or leads into a region of the table
 abbrev pub IsInside : Table → Type 0
-IsInside t = (a i b : ℕ) (x : Stored) → object_at t a ≡ Some x → slice_get (fields x) i ≡ Some (Some b) → b / t.words_per_region < length t.regions
+IsInside t =
+    (a i b : ℕ) (x : Stored) → object_at t a ≡ Some x → slice_get (fields x) i ≡ Some (Some b) → b / t.words_per_region < length t.regions
 
 -- four regions of sixteen words, all fields inside
 pub record IsSample (t : Table) : Type 0 where

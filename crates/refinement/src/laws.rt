@@ -18,7 +18,8 @@ ghost use Rattle.regions.specs.Table.{Table};
 ghost use Rattle.mark_bitmap.specs.Tops.{Tops, is_in_region};
 ghost use Rattle.mark_bitmap.specs.Kept.{heap_in, kept_in};
 ghost use Rattle.remembered_sets.specs.Sets.{Sets, covers, may_lead};
-ghost use Rattle.refinement.specs.Remembering.{field_card, field_word, AddsNil, ClearsFields, Gains, IsCrossing, IsNoted, KeepsFields, LeadsInside, NoneLeadsInto, Remembers, SetsField};
+ghost use Rattle.refinement.specs.Remembering.{field_card, field_word, AddsNil, ClearsFields, Gains, IsCrossing, IsNoted, KeepsFields};
+ghost use Rattle.refinement.specs.Remembering.{LeadsInside, NoneLeadsInto, Remembers, SetsField};
 ghost use Rattle.refinement.specs.Refining.{AddsCard};
 
 /// Where nothing is kept, all is remembered. So it is where what is kept now was kept with the same fields: where fewer
@@ -39,7 +40,8 @@ pub fn fields_law()
     ensures gone { (kept kept' : ℕ → Option Stored) (gone : ℕ → Bool)
         → ((a : ℕ) → kept' a ≡ (if gone a then None else kept a)) → KeepsFields kept kept' }
     ensures values { (kept kept' : ℕ → Option Stored) (at : ℕ) (before after : Stored)
-        → kept at ≡ Some before → kept' at ≡ Some after → fields after ≡ fields before → ((a : ℕ) → a ≢ at → kept' a ≡ kept a) → KeepsFields kept kept' }
+        → kept at ≡ Some before → kept' at ≡ Some after → fields after ≡ fields before → ((a : ℕ) → a ≢ at → kept' a ≡ kept a)
+        → KeepsFields kept kept' }
 {}
 
 /// What is kept now was kept, and each of its fields is nil or what it was: what was remembered still is. So it is once
@@ -49,12 +51,14 @@ pub fn cleared_law()
         → ClearsFields kept kept' → Remembers words kept card_words dirty covered → Remembers words kept' card_words dirty covered }
     ensures inside { (words regions : ℕ) (kept kept' : ℕ → Option Stored)
         → ClearsFields kept kept' → LeadsInside words regions kept → LeadsInside words regions kept' }
-    ensures over { (h : Heap) (m : Marking) (kept' : ℕ → Option Stored) → ((a : ℕ) → kept' a ≡ cleared_after h m a) → ClearsFields h.kept kept' }
+    ensures over { (h : Heap) (m : Marking) (kept' : ℕ → Option Stored) → ((a : ℕ) → kept' a ≡ cleared_after h m a)
+        → ClearsFields h.kept kept' }
 {}
 
 /// A field gets a value that is nil, or leads into the field's own region, or the field's card is dirty afterwards.
 pub fn store_law()
-    ensures { (words card_words at index : ℕ) (value : Option ℕ) (kept kept' : ℕ → Option Stored) (dirty dirty' : ℕ → Bool) (covered : ℕ → ℕ → Bool)
+    ensures { (words card_words at index : ℕ) (value : Option ℕ) (kept kept' : ℕ → Option Stored) (dirty dirty' : ℕ → Bool)
+        (covered : ℕ → ℕ → Bool)
         → SetsField kept kept' at index value → IsNoted words card_words dirty' (field_word at index) value
         → ((card : ℕ) → dirty card ≡ true → dirty' card ≡ true)
         → Remembers words kept card_words dirty covered → Remembers words kept' card_words dirty' covered }
@@ -71,7 +75,8 @@ pub fn more_law()
 /// A crossing field in a clean card is covered. So where no card is dirty all are.
 pub fn clean_law()
     ensures { (words card_words at index target : ℕ) (kept : ℕ → Option Stored) (dirty : ℕ → Bool) (covered : ℕ → ℕ → Bool)
-        → Remembers words kept card_words dirty covered → IsCrossing words kept at index target → dirty (field_card card_words at index) ≡ false
+        → Remembers words kept card_words dirty covered → IsCrossing words kept at index target
+        → dirty (field_card card_words at index) ≡ false
         → covered (target / words) (field_card card_words at index) ≡ true }
 {}
 
@@ -81,7 +86,8 @@ pub fn release_law()
     ensures cleared { (words card_words region : ℕ) (kept kept' : ℕ → Option Stored) (dirty : ℕ → Bool) (covered covered' : ℕ → ℕ → Bool)
         → KeepsFields kept kept' → NoneLeadsInto words kept' region
         → ((at index target : ℕ) → IsCrossing words kept' at index target → target / words ≢ region
-        → covered (target / words) (field_card card_words at index) ≡ true → covered' (target / words) (field_card card_words at index) ≡ true)
+        → covered (target / words) (field_card card_words at index) ≡ true
+        → covered' (target / words) (field_card card_words at index) ≡ true)
         → Remembers words kept card_words dirty covered → Remembers words kept' card_words dirty covered' }
     ensures empty { (words region : ℕ) (h : Heap)
         → 0 < words → IsClosed h → ((a : ℕ) → is_in_region words region a ≡ true → h.kept a ≡ None) → NoneLeadsInto words h.kept region }

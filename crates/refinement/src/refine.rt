@@ -26,8 +26,10 @@ pub fn refine_one(
 ) -> bool
     requires stands { CanScan table.now tams.now marks.now card_words sets.old }
     requires cards { length cards.old.dirty ≡ card_count sets.old }
-    ensures refines { Refines result table.now.words_per_region (kept_in table.now tams.now marks.now) card_words cards.old cards.new sets.old sets.new }
-    ensures remembers { Remembers table.now.words_per_region (kept_in table.now tams.now marks.now) card_words (is_dirty cards.old) (may_lead sets.old)
+    ensures refines { Refines result table.now.words_per_region (kept_in table.now tams.now marks.now) card_words cards.old cards.new
+        sets.old sets.new }
+    ensures remembers { Remembers table.now.words_per_region (kept_in table.now tams.now marks.now) card_words (is_dirty cards.old)
+        (may_lead sets.old)
         → Remembers table.now.words_per_region (kept_in table.now tams.now marks.now) card_words (is_dirty cards.new) (may_lead sets.new) }
     ensures stands { CanScan table.now tams.now marks.now card_words sets.new }
     ensures cards { length cards.new.dirty ≡ card_count sets.new }

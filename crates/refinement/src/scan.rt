@@ -73,7 +73,8 @@ fn scan_field(
     ensures after { (target : Option ℕ) → slice_get (fields_at table.now object) field ≡ Some target
         → sets.new ≡ with_field table.now.words_per_region card (field_word object field) target sets.old }
     ensures covered { (target : ℕ) → slice_get (fields_at table.now object) field ≡ Some (Some target)
-        → target / table.now.words_per_region ≢ field_word object field / table.now.words_per_region → may_lead sets.new (target / table.now.words_per_region) card ≡ true }
+        → target / table.now.words_per_region ≢ field_word object field / table.now.words_per_region
+        → may_lead sets.new (target / table.now.words_per_region) card ≡ true }
     ensures last { (region : ℕ) → result ≡ Some region → may_lead sets.new region card ≡ true }
 {
     table.law();
@@ -174,7 +175,8 @@ pub fn scan_card(
     ensures looked { result ≤ card_words }
     ensures covered { IsCovered table.now.words_per_region (kept_in table.now tams.now marks.now) card_words card (may_lead sets.new) }
     ensures adds { AddsCard table.now.words_per_region (kept_in table.now tams.now marks.now) card_words card sets.old sets.new }
-    ensures gains { Gains table.now.words_per_region (kept_in table.now tams.now marks.now) card_words sets.old.cards_per_region card (covers sets.old) (covers sets.new) }
+    ensures gains { Gains table.now.words_per_region (kept_in table.now tams.now marks.now) card_words sets.old.cards_per_region card
+        (covers sets.old) (covers sets.new) }
     ensures leads { (region c : ℕ) → may_lead sets.old region c ≡ true → may_lead sets.new region c ≡ true }
     ensures stands { CanScan table.now tams.now marks.now card_words sets.new }
     ensures count { card_count sets.new ≡ card_count sets.old }

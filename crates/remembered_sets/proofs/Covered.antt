@@ -1,5 +1,7 @@
 -- What one region's set covers as cards are added.
-use Rattle.std.proofs.Common.{inl, inr, ◌≡◌, ◌⊎◌, ℕ, ◌+◌, ◌<◌, ◌≤◌, Bool, true, false, cond, if◌then◌else◌, eqb, ltb, List, [], ◌∷◌, ◌++◌, length, get_or, set, replicate, ⊎_elim, refl, sym, ap, subst, ◌∙◌, arith, get_or-set_same, get_or-set_other, length-set, length-append}
+use Rattle.std.proofs.Common.{◌≡◌, ◌⊎◌, ◌+◌, ◌<◌, ◌≤◌, if◌then◌else◌, ◌∷◌, ◌++◌, ◌∙◌}
+use Rattle.std.proofs.Common.{inl, inr, ℕ, Bool, true, false, cond, eqb, ltb, List, [], length, get_or, set, replicate, ⊎_elim, refl, sym}
+use Rattle.std.proofs.Common.{ap, subst, arith, get_or-set_same, get_or-set_other, length-set, length-append}
 use Rattle.std.specs.Prelude.{◌||◌}
 use Rattle.std.specs.List.{list_any}
 use Rattle.std.proofs.lemmas.Bool.{cases_lt, cases_eq, or_cases, eq-eqb, ne_eqb, eqb-true, false≢true, ltb-true, ltb-false}
@@ -25,18 +27,23 @@ marked_with s source = record { inline = s.inline; sources = set s.sources sourc
 
 -- what holds of a set that covers the card, and after each way of adding one that it doesn't cover
 pub with_cases : (P : CardSet → Type 0) (s : CardSet) (card source : ℕ) → (set_covers s card source ≡ true → P s)
-    → (set_covers s card source ≡ false → length s.inline < 16 → P (inline_with s card)) → (set_covers s card source ≡ false → 16 ≤ length s.inline → P (marked_with s source)) → P (set_with s card source)
+    → (set_covers s card source ≡ false → length s.inline < 16 → P (inline_with s card))
+    → (set_covers s card source ≡ false → 16 ≤ length s.inline → P (marked_with s source)) → P (set_with s card source)
 with_cases P s card source was short full =
-    elim (set_covers s card source) as (λ b. set_covers s card source ≡ b → P (if b then s else if ltb (length s.inline) 16 then inline_with s card else marked_with s source)) [
+    elim (set_covers s card source) as
+    (λ b. set_covers s card source ≡ b
+    → P (if b then s else if ltb (length s.inline) 16 then inline_with s card else marked_with s source)) [
       | true ↦ was
-      | false ↦ λ e. elim (ltb (length s.inline) 16) as (λ b. ltb (length s.inline) 16 ≡ b → P (if b then inline_with s card else marked_with s source)) [
-        | true ↦ λ l. short e (ltb-true (length s.inline) 16 l)
-        | false ↦ λ l. full e (ltb-false (length s.inline) 16 l)
-      ] refl
+      | false ↦ λ e. elim (ltb (length s.inline) 16) as
+          (λ b. ltb (length s.inline) 16 ≡ b → P (if b then inline_with s card else marked_with s source)) [
+            | true ↦ λ l. short e (ltb-true (length s.inline) 16 l)
+            | false ↦ λ l. full e (ltb-false (length s.inline) 16 l)
+          ] refl
     ] refl
 
 -- ---- a card more inline
-inline_any : (xs : List ℕ) (card c : ℕ) → list_any (λ x. eqb x c) (xs ++ card ∷ []) ≡ (list_any (λ x. eqb x c) xs || list_any (λ x. eqb x c) (card ∷ []))
+inline_any : (xs : List ℕ) (card c : ℕ)
+    → list_any (λ x. eqb x c) (xs ++ card ∷ []) ≡ (list_any (λ x. eqb x c) xs || list_any (λ x. eqb x c) (card ∷ []))
 inline_any xs card c = list_any-append (λ x. eqb x c) xs (card ∷ [])
 
 inline_grows : (s : CardSet) (card c k : ℕ) → set_covers s c k ≡ true → set_covers (inline_with s card) c k ≡ true
@@ -44,12 +51,14 @@ inline_grows s card c k h =
     let was : Bool = list_any (λ x. eqb x c) s.inline in
     let now : Bool = list_any (λ x. eqb x c) (s.inline ++ card ∷ []) in
     let source : Bool = get_or s.sources k false in
-    ⊎_elim (λ l. or_left now source (inline_any s.inline card c ∙ or_left was (list_any (λ x. eqb x c) (card ∷ [])) l)) (λ m. or_right now source m) (or_cases was source h)
+    ⊎_elim (λ l. or_left now source (inline_any s.inline card c ∙ or_left was (list_any (λ x. eqb x c) (card ∷ [])) l))
+    (λ m. or_right now source m) (or_cases was source h)
 
 inline_covers : (s : CardSet) (card k : ℕ) → set_covers (inline_with s card) card k ≡ true
 inline_covers s card k =
     let one : list_any (λ x. eqb x card) (card ∷ []) ≡ true = or_left (eqb card card) false (eq-eqb card card refl) in
-    or_left (list_any (λ x. eqb x card) (s.inline ++ card ∷ [])) (get_or s.sources k false) (inline_any s.inline card card ∙ or_right (list_any (λ x. eqb x card) s.inline) (list_any (λ x. eqb x card) (card ∷ [])) one)
+    or_left (list_any (λ x. eqb x card) (s.inline ++ card ∷ [])) (get_or s.sources k false)
+    (inline_any s.inline card card ∙ or_right (list_any (λ x. eqb x card) s.inline) (list_any (λ x. eqb x card) (card ∷ [])) one)
 
 inline_only : (s : CardSet) (card c k : ℕ) → set_covers (inline_with s card) c k ≡ true → (set_covers s c k ≡ true) ⊎ (c ≡ card)
 inline_only s card c k h =
@@ -66,7 +75,8 @@ inline_only s card c k h =
 -- ---- a region marked whole
 pub marks_grow : (flags : List Bool) (i k : ℕ) → get_or flags k false ≡ true → get_or (set flags i true) k false ≡ true
 marks_grow flags i k e =
-    let inside : k < length flags = ⊎_elim (λ h. h) (λ h. absurd (false≢true (sym (get_or_past flags k false h) ∙ e))) (cases_lt k (length flags)) in
+    let inside : k < length flags =
+    ⊎_elim (λ h. h) (λ h. absurd (false≢true (sym (get_or_past flags k false h) ∙ e))) (cases_lt k (length flags)) in
     ⊎_elim
     (λ same. subst (λ j. get_or (set flags j true) k false ≡ true) same (get_or-set_same flags k true false inside))
     (λ differs. get_or-set_other flags i k true false differs ∙ e)
@@ -76,36 +86,43 @@ marked_grows : (s : CardSet) (source c k : ℕ) → set_covers s c k ≡ true �
 marked_grows s source c k h =
     let inline : Bool = list_any (λ x. eqb x c) s.inline in
     let now : Bool = get_or (set s.sources source true) k false in
-    ⊎_elim (λ l. or_left inline now l) (λ m. or_right inline now (marks_grow s.sources source k m)) (or_cases inline (get_or s.sources k false) h)
+    ⊎_elim (λ l. or_left inline now l) (λ m. or_right inline now (marks_grow s.sources source k m))
+    (or_cases inline (get_or s.sources k false) h)
 
 marked_covers : (s : CardSet) (c source : ℕ) → source < length s.sources → set_covers (marked_with s source) c source ≡ true
-marked_covers s c source h = or_right (list_any (λ x. eqb x c) s.inline) (get_or (set s.sources source true) source false) (get_or-set_same s.sources source true false h)
+marked_covers s c source h = or_right (list_any (λ x. eqb x c) s.inline) (get_or (set s.sources source true) source false)
+    (get_or-set_same s.sources source true false h)
 
 marked_only : (s : CardSet) (source c k : ℕ) → set_covers (marked_with s source) c k ≡ true → (set_covers s c k ≡ true) ⊎ (k ≡ source)
 marked_only s source c k h =
     let inline : Bool = list_any (λ x. eqb x c) s.inline in
     ⊎_elim
     (λ l. inl (or_left inline (get_or s.sources k false) l))
-    (λ m. ⊎_elim inr (λ differs. inl (or_right inline (get_or s.sources k false) (sym (get_or-set_other s.sources source k true false differs) ∙ m))) (cases_eq k source))
-    (or_cases inline (get_or (set s.sources source true) k false) h)
+    (λ m. ⊎_elim inr (λ differs.
+    inl (or_right inline (get_or s.sources k false) (sym (get_or-set_other s.sources source k true false differs) ∙ m)))
+    (cases_eq k source)) (or_cases inline (get_or (set s.sources source true) k false) h)
 
 -- ---- a card is added
 pub set_grows : (s : CardSet) (card source c k : ℕ) → set_covers s c k ≡ true → set_covers (set_with s card source) c k ≡ true
 set_grows s card source c k h =
-    with_cases (λ t. set_covers t c k ≡ true) s card source (λ was. h) (λ missing short. inline_grows s card c k h) (λ missing full. marked_grows s source c k h)
+    with_cases (λ t. set_covers t c k ≡ true) s card source (λ was. h) (λ missing short. inline_grows s card c k h)
+    (λ missing full. marked_grows s source c k h)
 
 pub set_covers-with : (s : CardSet) (card source : ℕ) → source < length s.sources → set_covers (set_with s card source) card source ≡ true
 set_covers-with s card source h =
-    with_cases (λ t. set_covers t card source ≡ true) s card source (λ was. was) (λ missing short. inline_covers s card source) (λ missing full. marked_covers s card source h)
+    with_cases (λ t. set_covers t card source ≡ true) s card source (λ was. was) (λ missing short. inline_covers s card source)
+    (λ missing full. marked_covers s card source h)
 
-pub set_only : (s : CardSet) (card source c k : ℕ) → set_covers (set_with s card source) c k ≡ true → (set_covers s c k ≡ true) ⊎ ((c ≡ card) ⊎ (k ≡ source))
+pub set_only : (s : CardSet) (card source c k : ℕ) → set_covers (set_with s card source) c k ≡ true
+    → (set_covers s c k ≡ true) ⊎ ((c ≡ card) ⊎ (k ≡ source))
 set_only s card source c k =
     with_cases (λ t. set_covers t c k ≡ true → (set_covers s c k ≡ true) ⊎ ((c ≡ card) ⊎ (k ≡ source))) s card source
     (λ was h. inl h)
     (λ missing short h. ⊎_elim inl (λ e. inr (inl e)) (inline_only s card c k h))
     (λ missing full h. ⊎_elim inl (λ e. inr (inr e)) (marked_only s source c k h))
 
-pub set_only_card : (s : CardSet) (card source c k : ℕ) → length s.inline < 16 → set_covers (set_with s card source) c k ≡ true → (set_covers s c k ≡ true) ⊎ (c ≡ card)
+pub set_only_card : (s : CardSet) (card source c k : ℕ) → length s.inline < 16 → set_covers (set_with s card source) c k ≡ true
+    → (set_covers s c k ≡ true) ⊎ (c ≡ card)
 set_only_card s card source c k few =
     with_cases (λ t. set_covers t c k ≡ true → (set_covers s c k ≡ true) ⊎ (c ≡ card)) s card source
     (λ was h. inl h)
@@ -136,7 +153,8 @@ times_after xs card x = sum_by_push (λ y. bit (eqb y x)) xs card
 
 once_after : (xs : List ℕ) (card x : ℕ) → list_any (λ y. eqb y card) xs ≡ false → times_in x xs ≤ 1 → times_in x (xs ++ card ∷ []) ≤ 1
 once_after xs card x missing h = ⊎_elim
-    (λ (same : card ≡ x). omega (arith, times_after xs card x, ap (λ k. times_in k xs) same, none_counted xs card missing, ap bit (eq-eqb card x same)))
+    (λ (same : card ≡ x).
+    omega (arith, times_after xs card x, ap (λ k. times_in k xs) same, none_counted xs card missing, ap bit (eq-eqb card x same)))
     (λ differs. omega (arith, h, times_after xs card x, ap bit (ne_eqb card x differs)))
     (cases_eq card x)
 
@@ -145,7 +163,8 @@ IsSet-with n k s card source all h =
     with_cases (IsSet n k) s card source (λ was. all)
     (λ missing short. record {
       few = omega (arith, short, length-append s.inline (card ∷ []));
-      once = λ x. once_after s.inline card x (or_false (list_any (λ y. eqb y card) s.inline) (get_or s.sources source false) missing) (all.once x);
+      once = λ x.
+          once_after s.inline card x (or_false (list_any (λ y. eqb y card) s.inline) (get_or s.sources source false) missing) (all.once x);
       known = All-push (λ c. c < k) s.inline card all.known h;
       marks = all.marks;
     })
@@ -157,4 +176,5 @@ IsSet-empty n k = record { few = omega arith; once = λ x. omega arith; known = 
 -- the empty set covers nothing
 pub empty_covers : (regions c k : ℕ) → set_covers (empty_set regions) c k ≡ false
 empty_covers regions c k =
-    ⊎_elim (λ h. get_or-replicate regions k false false h) (λ h. get_or_past (replicate regions false) k false (omega (arith, length-replicate regions false))) (cases_lt k regions)
+    ⊎_elim (λ h. get_or-replicate regions k false false h)
+    (λ h. get_or_past (replicate regions false) k false (omega (arith, length-replicate regions false))) (cases_lt k regions)

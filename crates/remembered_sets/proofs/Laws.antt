@@ -1,5 +1,6 @@
 -- What the sets of all regions cover, as cards are added and sets are emptied.
-use Rattle.std.proofs.Common.{inl, inr, ◌≡◌, ◌≢◌, ◌⊎◌, ℕ, ◌+◌, ◌-◌, ◌*◌, ◌/◌, ◌%◌, ◌<◌, ◌≤◌, Bool, true, false, eqb, if◌then◌else◌, refl, sym, subst, ap, ◌∙◌, ⊎_elim, arith}
+use Rattle.std.proofs.Common.{◌≡◌, ◌≢◌, ◌⊎◌, ◌+◌, ◌-◌, ◌*◌, ◌/◌, ◌%◌, ◌<◌, ◌≤◌, if◌then◌else◌, ◌∙◌}
+use Rattle.std.proofs.Common.{inl, inr, ℕ, Bool, true, false, eqb, refl, sym, subst, ap, ⊎_elim, arith}
 use Rattle.std.proofs.Common.{List, [], ◌∷◌, length, set, All, get_or-set_same, get_or-set_other, length-set}
 use Rattle.std.specs.Prelude.{◌&&◌}
 use Rattle.std.proofs.Math.Nat.{lt_of_mul-lt-mul_right, lt_irrefl}
@@ -13,7 +14,8 @@ use Rattle.heap_words.proofs.BitRanges.{between_yes, between_no_below, between_n
 use Rattle.remembered_sets.specs.Sets.{Sets, CardSet, set_of, set_with, set_covers, empty_set, covers, may_lead, added, cleared}
 use Rattle.remembered_sets.specs.Sets.{without_region, card_count, IsSet, AreSets, Change, changed, after_all, LeavesSet}
 use Rattle.remembered_sets.specs.Sets.Change.{Add, Clear}
-use Rattle.remembered_sets.proofs.Covered.{marks_grow, set_grows, set_covers-with, set_only, set_only_card, empty_covers, IsSet-with, IsSet-empty}
+use Rattle.remembered_sets.proofs.Covered.{marks_grow, set_grows, set_covers-with, set_only}
+use Rattle.remembered_sets.proofs.Covered.{set_only_card, empty_covers, IsSet-with, IsSet-empty}
 
 -- a card lies in one of the regions
 pub source_known : (card w n : ℕ) → 0 < w → card < n * w → card / w < n
@@ -21,7 +23,8 @@ source_known card w n some h =
     let near : (card / w) * w < n * w = omega arith in
     lt_of_mul-lt-mul_right w near
 
-source_marked : (s : Sets) (region card : ℕ) → AreSets s → region < length s.sets → card < card_count s → card / s.cards_per_region < length (set_of s region).sources
+source_marked : (s : Sets) (region card : ℕ) → AreSets s → region < length s.sets → card < card_count s
+    → card / s.cards_per_region < length (set_of s region).sources
 source_marked s region card shaped known h =
     omega (arith, source_known card s.cards_per_region (length s.sets) shaped.some_cards h, (shaped.each region (empty_set 0) known).marks)
 
@@ -32,10 +35,14 @@ length-without w region flags = length-map-range_with_len (λ card. if eqb (card
 pub has-without : (w region : ℕ) (flags : List Bool) (card : ℕ)
     → has (without_region w region flags) card ≡ (if eqb (card / w) region then false else has flags card)
 has-without w region flags card = elim (cases_lt card (length flags)) [
-  | inl below ↦ get_or-map-range_with_len (λ c. if eqb (c / w) region then false else has flags c) 0 (length flags) card card false below (omega arith)
+  | inl below ↦ get_or-map-range_with_len (λ c. if eqb (c / w) region then false else has flags c) 0
+      (length flags) card card false below (omega arith)
   | inr past ↦
       get_or_past (without_region w region flags) card false (omega (arith, past, length-without w region flags))
-      ∙ sym (elim (eqb (card / w) region) as (λ b. (if b then false else has flags card) ≡ false) [ true ↦ refl | false ↦ get_or_past flags card false past ])
+      ∙ sym (elim (eqb (card / w) region) as (λ b. (if b then false else has flags card) ≡ false) [
+        | true ↦ refl
+        | false ↦ get_or_past flags card false past
+      ])
 ]
 
 -- a card lies in the region where it is between the region's first card and the next region's
@@ -72,17 +79,21 @@ in_region_is w region card some = elim (cases_lt card (region * w)) [
 -- flags that agree are the ones without the region's
 pub without_is : (w region : ℕ) (flags after : List Bool) → length after ≡ length flags
     → ((card : ℕ) → has after card ≡ (if eqb (card / w) region then false else has flags card)) → after ≡ without_region w region flags
-without_is w region flags after len each = fill_by_all (λ card. if eqb (card / w) region then false else has flags card) after (length flags) false len (λ card h. each card)
+without_is w region flags after len each =
+    fill_by_all (λ card. if eqb (card / w) region then false else has flags card) after (length flags) false len (λ card h. each card)
 
 pub cleared_by : (w region : ℕ) (flags after : List Bool) → 0 < w → length after ≡ length flags
-    → ((card : ℕ) → has after card ≡ (if is_between (region * w) (region * w + w) card then false else has flags card)) → after ≡ without_region w region flags
+    → ((card : ℕ) → has after card ≡ (if is_between (region * w) (region * w + w) card then false else has flags card))
+    → after ≡ without_region w region flags
 cleared_by w region flags after some len each =
-    without_is w region flags after len (λ card. each card ∙ ap (λ (b : Bool). if b then false else has flags card) (in_region_is w region card some))
+    without_is w region flags after len
+    (λ card. each card ∙ ap (λ (b : Bool). if b then false else has flags card) (in_region_is w region card some))
 
 pub own_gone : (w region : ℕ) (flags : List Bool) (card : ℕ) → card / w ≡ region → has (without_region w region flags) card ≡ false
 own_gone w region flags card e = has-without w region flags card ∙ rw (eq-eqb (card / w) region e) refl
 
-pub others_left : (w region : ℕ) (flags : List Bool) (card : ℕ) → card / w ≢ region → has (without_region w region flags) card ≡ has flags card
+pub others_left : (w region : ℕ) (flags : List Bool) (card : ℕ) → card / w ≢ region
+    → has (without_region w region flags) card ≡ has flags card
 others_left w region flags card ne = has-without w region flags card ∙ rw (ne_eqb (card / w) region ne) refl
 
 pub entered_here : (s : Sets) (card : ℕ) → AreSets s → card < card_count s → has (set s.entered card true) card ≡ true
@@ -106,7 +117,8 @@ all_sets l w n entered e some h each = record {
   each_card = each ∙ ap (λ (m : ℕ). m * w) (sym e);
 }
 
-with_set : (s : Sets) (region : ℕ) (new : CardSet) (entered : List Bool) → AreSets s → IsSet (length s.sets) (card_count s) new → length entered ≡ length s.entered
+with_set : (s : Sets) (region : ℕ) (new : CardSet) (entered : List Bool) → AreSets s
+    → IsSet (length s.sets) (card_count s) new → length entered ≡ length s.entered
     → AreSets (record { sets = set s.sets region new; cards_per_region = s.cards_per_region; entered = entered })
 with_set s region new entered all h len =
     all_sets (set s.sets region new) s.cards_per_region (length s.sets) entered (length-set s.sets region new) all.some_cards
@@ -115,7 +127,8 @@ with_set s region new entered all h len =
 pub AreSets-added : (s : Sets) (region card : ℕ) → AreSets s → region < length s.sets → card < card_count s → AreSets (added s region card)
 AreSets-added s region card all known h =
     with_set s region (set_with (set_of s region) card (card / s.cards_per_region)) (set s.entered card true) all
-    (IsSet-with (length s.sets) (card_count s) (set_of s region) card (card / s.cards_per_region) (all.each region (empty_set 0) known) h) (length-set s.entered card true)
+    (IsSet-with (length s.sets) (card_count s) (set_of s region) card (card / s.cards_per_region) (all.each region (empty_set 0) known) h)
+    (length-set s.entered card true)
 
 pub AreSets-cleared : (s : Sets) (region : ℕ) → AreSets s → AreSets (cleared s region)
 AreSets-cleared s region all =
@@ -123,15 +136,20 @@ AreSets-cleared s region all =
     (IsSet-empty (length s.sets) (card_count s)) (length-without s.cards_per_region region s.entered)
 
 -- ---- a card is added
-same_set : (s : Sets) (region card : ℕ) → region < length s.sets → set_of (added s region card) region ≡ set_with (set_of s region) card (card / s.cards_per_region)
-same_set s region card known = get_or-set_same s.sets region (set_with (set_of s region) card (card / s.cards_per_region)) (empty_set 0) known
+same_set : (s : Sets) (region card : ℕ) → region < length s.sets
+    → set_of (added s region card) region ≡ set_with (set_of s region) card (card / s.cards_per_region)
+same_set s region card known =
+    get_or-set_same s.sets region (set_with (set_of s region) card (card / s.cards_per_region)) (empty_set 0) known
 
 pub added_other : (s : Sets) (region card r : ℕ) → r ≢ region → set_of (added s region card) r ≡ set_of s r
-added_other s region card r differs = get_or-set_other s.sets region r (set_with (set_of s region) card (card / s.cards_per_region)) (empty_set 0) differs
+added_other s region card r differs =
+    get_or-set_other s.sets region r (set_with (set_of s region) card (card / s.cards_per_region)) (empty_set 0) differs
 
-pub covers-added : (s : Sets) (region card : ℕ) → AreSets s → region < length s.sets → card < card_count s → covers (added s region card) region card ≡ true
+pub covers-added : (s : Sets) (region card : ℕ) → AreSets s → region < length s.sets → card < card_count s
+    → covers (added s region card) region card ≡ true
 covers-added s region card shaped known h =
-    ap (λ (t : CardSet). set_covers t card (card / s.cards_per_region)) (same_set s region card known) ∙ set_covers-with (set_of s region) card (card / s.cards_per_region) (source_marked s region card shaped known h)
+    ap (λ (t : CardSet). set_covers t card (card / s.cards_per_region)) (same_set s region card known)
+    ∙ set_covers-with (set_of s region) card (card / s.cards_per_region) (source_marked s region card shaped known h)
 
 pub covers_grows : (s : Sets) (region card r c : ℕ) → region < length s.sets → covers s r c ≡ true → covers (added s region card) r c ≡ true
 covers_grows s region card r c known was =
@@ -139,7 +157,8 @@ covers_grows s region card r c known was =
     ⊎_elim
     (λ (same : r ≡ region).
     let here : set_covers (set_of s region) c k ≡ true = ap (λ i. set_covers (set_of s i) c k) (sym same) ∙ was in
-    ap (λ i. set_covers (set_of (added s region card) i) c k) same ∙ ap (λ (t : CardSet). set_covers t c k) (same_set s region card known) ∙ set_grows (set_of s region) card (card / s.cards_per_region) c k here)
+    ap (λ i. set_covers (set_of (added s region card) i) c k) same ∙ ap (λ (t : CardSet). set_covers t c k) (same_set s region card known)
+    ∙ set_grows (set_of s region) card (card / s.cards_per_region) c k here)
     (λ differs. ap (λ (t : CardSet). set_covers t c k) (added_other s region card r differs) ∙ was)
     (cases_eq r region)
 
@@ -155,38 +174,48 @@ pub right_true : (a b : Bool) → (a && b) ≡ true → b ≡ true
 right_true true b e = e
 right_true false b e = absurd (false≢true e)
 
-pub leads-added : (s : Sets) (region card : ℕ) → AreSets s → region < length s.sets → card < card_count s → may_lead (added s region card) region card ≡ true
+pub leads-added : (s : Sets) (region card : ℕ) → AreSets s → region < length s.sets → card < card_count s
+    → may_lead (added s region card) region card ≡ true
 leads-added s region card all known h =
-    both_true (covers (added s region card) region card) (has (set s.entered card true) card) (covers-added s region card all known h) (entered_here s card all h)
+    both_true (covers (added s region card) region card) (has (set s.entered card true) card)
+    (covers-added s region card all known h) (entered_here s card all h)
 
-pub leads_grow : (s : Sets) (region card r c : ℕ) → region < length s.sets → may_lead s r c ≡ true → may_lead (added s region card) r c ≡ true
+pub leads_grow : (s : Sets) (region card r c : ℕ) → region < length s.sets → may_lead s r c ≡ true
+    → may_lead (added s region card) r c ≡ true
 leads_grow s region card r c known was =
     both_true (covers (added s region card) r c) (has (set s.entered card true) c)
     (covers_grows s region card r c known (left_true (covers s r c) (has s.entered c) was))
     (entered_still s.entered card c (right_true (covers s r c) (has s.entered c) was))
 
 -- what is covered anew is the card, or lies in its region
-pub covers_only : (s : Sets) (region card c : ℕ) → region < length s.sets → covers (added s region card) region c ≡ true → (covers s region c ≡ true) ⊎ (c / s.cards_per_region ≡ card / s.cards_per_region)
+pub covers_only : (s : Sets) (region card c : ℕ) → region < length s.sets → covers (added s region card) region c ≡ true
+    → (covers s region c ≡ true) ⊎ (c / s.cards_per_region ≡ card / s.cards_per_region)
 covers_only s region card c known now =
     let w : ℕ = s.cards_per_region in
     ⊎_elim inl (λ new. inr (⊎_elim (λ e. ap (λ x. x / w) e) (λ e. e) new))
-    (set_only (set_of s region) card (card / w) c (c / w) (ap (λ (t : CardSet). set_covers t c (c / w)) (sym (same_set s region card known)) ∙ now))
+    (set_only (set_of s region) card (card / w) c (c / w)
+    (ap (λ (t : CardSet). set_covers t c (c / w)) (sym (same_set s region card known)) ∙ now))
 
-pub covers_only_card : (s : Sets) (region card c : ℕ) → region < length s.sets → length (set_of s region).inline < 16 → covers (added s region card) region c ≡ true → (covers s region c ≡ true) ⊎ (c ≡ card)
+pub covers_only_card : (s : Sets) (region card c : ℕ) → region < length s.sets → length (set_of s region).inline < 16
+    → covers (added s region card) region c ≡ true → (covers s region c ≡ true) ⊎ (c ≡ card)
 covers_only_card s region card c known few now =
     let w : ℕ = s.cards_per_region in
-    set_only_card (set_of s region) card (card / w) c (c / w) few (ap (λ (t : CardSet). set_covers t c (c / w)) (sym (same_set s region card known)) ∙ now)
+    set_only_card (set_of s region) card (card / w) c (c / w) few
+    (ap (λ (t : CardSet). set_covers t c (c / w)) (sym (same_set s region card known)) ∙ now)
 
 -- ---- a set is emptied
 pub cleared_covers : (s : Sets) (region c : ℕ) → region < length s.sets → covers (cleared s region) region c ≡ false
 cleared_covers s region c known =
-    ap (λ (t : CardSet). set_covers t c (c / s.cards_per_region)) (get_or-set_same s.sets region (empty_set (length s.sets)) (empty_set 0) known) ∙ empty_covers (length s.sets) c (c / s.cards_per_region)
+    ap (λ (t : CardSet). set_covers t c (c / s.cards_per_region))
+    (get_or-set_same s.sets region (empty_set (length s.sets)) (empty_set 0) known)
+    ∙ empty_covers (length s.sets) c (c / s.cards_per_region)
 
 pub cleared_other : (s : Sets) (region r : ℕ) → r ≢ region → set_of (cleared s region) r ≡ set_of s r
 cleared_other s region r differs = get_or-set_other s.sets region r (empty_set (length s.sets)) (empty_set 0) differs
 
 -- ---- over a run
-change_keeps : (s : Sets) (change : Change) (region card : ℕ) → region < length s.sets → LeavesSet region change → covers s region card ≡ true → covers (changed s change) region card ≡ true
+change_keeps : (s : Sets) (change : Change) (region card : ℕ) → region < length s.sets → LeavesSet region change
+    → covers s region card ≡ true → covers (changed s change) region card ≡ true
 change_keeps s (Add r c) region card known leaves was = ⊎_elim
     (λ (same : region ≡ r). covers_grows s r c region card (omega (arith, known, same)) was)
     (λ differs. ap (λ (t : CardSet). set_covers t card (card / s.cards_per_region)) (added_other s r c region differs) ∙ was)
@@ -195,7 +224,8 @@ change_keeps s (Clear r) region card known leaves was =
     ap (λ (t : CardSet). set_covers t card (card / s.cards_per_region)) (cleared_other s r region (λ e. leaves (sym e))) ∙ was
 
 -- a card that entered a set stays among those until its own region's set is emptied
-entered_keeps : (s : Sets) (change : Change) (card : ℕ) → LeavesSet (card / s.cards_per_region) change → has s.entered card ≡ true → has (changed s change).entered card ≡ true
+entered_keeps : (s : Sets) (change : Change) (card : ℕ) → LeavesSet (card / s.cards_per_region) change → has s.entered card ≡ true
+    → has (changed s change).entered card ≡ true
 entered_keeps s (Add r c) card leaves was = entered_still s.entered c card was
 entered_keeps s (Clear r) card leaves was = others_left s.cards_per_region r s.entered card (λ e. leaves (sym e)) ∙ was
 
@@ -203,28 +233,36 @@ same_size : (s : Sets) (change : Change) → (changed s change).cards_per_region
 same_size s (Add r c) = refl
 same_size s (Clear r) = refl
 
-pub run_entered : (changes : List Change) (s : Sets) (w card : ℕ) → s.cards_per_region ≡ w → All (LeavesSet (card / w)) changes → has s.entered card ≡ true → has (after_all changes s).entered card ≡ true
+pub run_entered : (changes : List Change) (s : Sets) (w card : ℕ) → s.cards_per_region ≡ w → All (LeavesSet (card / w)) changes
+    → has s.entered card ≡ true → has (after_all changes s).entered card ≡ true
 run_entered [] s w card e leave was = was
 run_entered (change ∷ changes) s w card e leave was =
     run_entered changes (changed s change) w card (same_size s change ∙ e) (All-tail (LeavesSet (card / w)) change changes leave)
-    (entered_keeps s change card (subst (λ (n : ℕ). LeavesSet (card / n) change) (sym e) (All-head (LeavesSet (card / w)) change changes leave)) was)
+    (entered_keeps s change card
+    (subst (λ (n : ℕ). LeavesSet (card / n) change) (sym e) (All-head (LeavesSet (card / w)) change changes leave)) was)
 
 length-changed : (s : Sets) (change : Change) → length (changed s change).sets ≡ length s.sets
 length-changed s (Add r c) = length-set s.sets r (set_with (set_of s r) c (c / s.cards_per_region))
 length-changed s (Clear r) = length-set s.sets r (empty_set (length s.sets))
 
-pub run_keeps : (changes : List Change) (s : Sets) (region card : ℕ) → region < length s.sets → All (LeavesSet region) changes → covers s region card ≡ true → covers (after_all changes s) region card ≡ true
+pub run_keeps : (changes : List Change) (s : Sets) (region card : ℕ) → region < length s.sets → All (LeavesSet region) changes
+    → covers s region card ≡ true → covers (after_all changes s) region card ≡ true
 run_keeps [] s region card known leave was = was
 run_keeps (change ∷ changes) s region card known leave was =
-    run_keeps changes (changed s change) region card (omega (arith, known, length-changed s change)) (All-tail (LeavesSet region) change changes leave)
+    run_keeps changes (changed s change) region card (omega (arith, known, length-changed s change))
+    (All-tail (LeavesSet region) change changes leave)
     (change_keeps s change region card known (All-head (LeavesSet region) change changes leave) was)
 
-pub added_stays : (changes : List Change) (s : Sets) (region card : ℕ) → AreSets s → region < length s.sets → card < card_count s → All (LeavesSet region) changes → covers (after_all changes (added s region card)) region card ≡ true
+pub added_stays : (changes : List Change) (s : Sets) (region card : ℕ) → AreSets s → region < length s.sets → card < card_count s
+    → All (LeavesSet region) changes → covers (after_all changes (added s region card)) region card ≡ true
 added_stays changes s region card shaped known h leave =
-    run_keeps changes (added s region card) region card (omega (arith, known, length-set s.sets region (set_with (set_of s region) card (card / s.cards_per_region)))) leave (covers-added s region card shaped known h)
+    run_keeps changes (added s region card) region card
+    (omega (arith, known, length-set s.sets region (set_with (set_of s region) card (card / s.cards_per_region)))) leave
+    (covers-added s region card shaped known h)
 
 pub leads_stays : (changes : List Change) (s : Sets) (region card : ℕ) → AreSets s → region < length s.sets → card < card_count s
-    → All (LeavesSet region) changes → All (LeavesSet (card / s.cards_per_region)) changes → may_lead (after_all changes (added s region card)) region card ≡ true
+    → All (LeavesSet region) changes → All (LeavesSet (card / s.cards_per_region)) changes
+    → may_lead (after_all changes (added s region card)) region card ≡ true
 leads_stays changes s region card shaped known h leave leave_own =
     both_true (covers (after_all changes (added s region card)) region card) (has (after_all changes (added s region card)).entered card)
     (added_stays changes s region card shaped known h leave)

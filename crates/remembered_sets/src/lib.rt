@@ -18,9 +18,9 @@
 //! A set has a fixed size: room for sixteen cards, and a bit for each region that may be marked whole. It may cover
 //! more than was added, never less, and no call but the making takes memory or fails.
 //!
-//! So that a pause doesn't look at all cards of a region that a set marks whole, one bit a card tells which cards entered a set, whichever it
-//! was, since the set of their own region was last emptied. In other cards no field leads out of its region, so `mark_cards` passes over
-//! them, and what a pause visits grows with the cards that were added, and not with the regions.
+//! So that a pause doesn't look at all cards of a region that a set marks whole, one bit a card tells which cards entered a set,
+//! whichever it was, since the set of their own region was last emptied. In other cards no field leads out of its region, so `mark_cards`
+//! passes over them, and what a pause visits grows with the cards that were added, and not with the regions.
 #![tactic(auto)]
 
 mod flags;

@@ -106,7 +106,8 @@ impl RememberedSet {
         requires known { All (λ c. c < length flags.old) self.now.inline }
         requires each { length flags.old ≡ length self.now.sources * cards_per_region }
         requires even { length entered.now ≡ length flags.old }
-        ensures flags { (c : ℕ) → has flags.new c ≡ (has flags.old c || (set_covers self.now c (c / cards_per_region) && has entered.now c)) }
+        ensures flags { (c : ℕ) → has flags.new c
+            ≡ (has flags.old c || (set_covers self.now c (c / cards_per_region) && has entered.now c)) }
         ensures len { length flags.new ≡ length flags.old }
     {
         flag_each(flags, self.inline.as_slice(), entered);

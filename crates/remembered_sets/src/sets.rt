@@ -11,7 +11,8 @@
 //! whichever it was, since the set of their own region was last emptied: a pause visits the cards of a marked region that are in it,
 //! and no others. A region's set is emptied when the region is freed, and no object in it is kept then.
 
-ghost use Rattle.std.specs.Prelude.{◌≡◌, ◌≢◌, ◌⊎◌, ◌||◌, ◌/◌, ◌<◌, All, ℕ, false, true, IfOk, Some, length, slice_get, slice_index_or, List};
+ghost use Rattle.std.specs.Prelude.{◌≡◌, ◌≢◌, ◌⊎◌, ◌||◌, ◌/◌, ◌<◌};
+ghost use Rattle.std.specs.Prelude.{All, ℕ, false, true, IfOk, Some, length, slice_get, slice_index_or, List};
 ghost use Rattle.heap_words.specs.Bits.{has};
 ghost use Rattle.remembered_sets.specs.Sets.{added, after_all, card_count, cleared, covers, empty_sets, may_lead, set_of};
 ghost use Rattle.remembered_sets.specs.Sets.{Change, AreSets, LeavesSet, Sets};
@@ -143,9 +144,9 @@ impl RememberedSets {
         self.entered.set(card.number());
     }
 
-    /// Flags the cards in which a field may lead into the region: those that its set covers and that entered a set. The other flags stay. It
-    /// costs the set's own cards, the regions that it marks and the cards of these that entered a set, and for each region a look at
-    /// words that hold 64 flags each.
+    /// Flags the cards in which a field may lead into the region: those that its set covers and that entered a set. The other flags
+    /// stay. It costs the set's own cards, the regions that it marks and the cards of these that entered a set, and for each region a
+    /// look at words that hold 64 flags each.
     pub fn mark_cards(&self, region: RegionNo, flags: &mut BoundedBits)
         requires region { region < length self.now.sets }
         requires each { length flags.old ≡ card_count self.now }
@@ -175,7 +176,8 @@ impl RememberedSets {
 pub fn add_law()
     ensures covered { (s : Sets) (region card : ℕ) → AreSets s → region < length s.sets → card < card_count s
         → covers (added s region card) region card ≡ true }
-    ensures grows { (s : Sets) (region card other c : ℕ) → region < length s.sets → covers s other c ≡ true → covers (added s region card) other c ≡ true }
+    ensures grows { (s : Sets) (region card other c : ℕ) → region < length s.sets → covers s other c ≡ true
+        → covers (added s region card) other c ≡ true }
     ensures only { (s : Sets) (region card c : ℕ) → region < length s.sets → covers (added s region card) region c ≡ true
         → (covers s region c ≡ true) ⊎ (c / s.cards_per_region ≡ card / s.cards_per_region) }
     ensures only_the_card { (s : Sets) (region card c : ℕ) → region < length s.sets → length (set_of s region).inline < 16
@@ -186,7 +188,8 @@ pub fn add_law()
         → may_lead (added s region card) region card ≡ true }
     ensures leads_still { (s : Sets) (region card other c : ℕ) → region < length s.sets → may_lead s other c ≡ true
         → may_lead (added s region card) other c ≡ true }
-    ensures entered_only { (s : Sets) (region card c : ℕ) → has (added s region card).entered c ≡ true → (has s.entered c ≡ true) ⊎ (c ≡ card) }
+    ensures entered_only { (s : Sets) (region card c : ℕ) → has (added s region card).entered c ≡ true
+        → (has s.entered c ≡ true) ⊎ (c ≡ card) }
 {}
 
 /// A cleared set covers nothing, no card of its own region has entered a set, and the other sets and cards stay.
@@ -194,7 +197,8 @@ pub fn clear_law()
     ensures nothing { (s : Sets) (region card : ℕ) → region < length s.sets → covers (cleared s region) region card ≡ false }
     ensures others { (s : Sets) (region other : ℕ) → other ≢ region → set_of (cleared s region) other ≡ set_of s other }
     ensures own { (s : Sets) (region card : ℕ) → card / s.cards_per_region ≡ region → has (cleared s region).entered card ≡ false }
-    ensures other_cards { (s : Sets) (region card : ℕ) → card / s.cards_per_region ≢ region → has (cleared s region).entered card ≡ has s.entered card }
+    ensures other_cards { (s : Sets) (region card : ℕ) → card / s.cards_per_region ≢ region
+        → has (cleared s region).entered card ≡ has s.entered card }
 {}
 
 /// A card that is added is covered until the region's set is cleared, whatever else is added and cleared. Until its own region's set is

@@ -25,5 +25,8 @@ live_size c a live = let (s, is) = something (kept_of c a) live in ap stored_siz
 pub grey_found : (c : CoreState) (o : Option ℕ) → c.marker.running ≡ true
     → MatchOption o (HasNone (is_grey c.marker.bitmaps.next c.marker.grey) 0) (IsLowest (is_grey c.marker.bitmaps.next c.marker.grey) 0)
     → IsTrue (is_some o) ↔ HasGrey c
-grey_found c None run none = (λ found. absurd (let e : false ≡ true = found in cc), λ grey. absurd (let yes = grey.grey in let never = none grey.address (omega arith) in cc))
+grey_found c None run none = (
+  λ found. absurd (let e : false ≡ true = found in cc),
+  λ grey. absurd (let yes = grey.grey in let never = none grey.address (omega arith) in cc),
+)
 grey_found c (Some a) run low = (λ yes. record { running = run; address = a; grey = low.is_in }, λ grey. refl)

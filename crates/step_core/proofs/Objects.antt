@@ -11,7 +11,8 @@ use Rattle.refinement.proofs.Holders.{object_within}
 use Rattle.step_core.specs.Stands.{name_of}
 
 -- a tile with an object's shape is an object
-pub is_object : (tile : Option Tile) (p w d : ℕ) → IsSome tile → IfSome tile (λ t. shapes.Object p w d ≡ tile_shape t) → IsSome (tile_object tile)
+pub is_object : (tile : Option Tile) (p w d : ℕ) → IsSome tile
+    → IfSome tile (λ t. shapes.Object p w d ≡ tile_shape t) → IsSome (tile_object tile)
 is_object (Some (Object s)) p w d some shape = refl
 is_object (Some (Filler n)) p w d some shape = absurd (cc)
 is_object (Some (Forwarded to n)) p w d some shape = absurd (cc)

@@ -1,5 +1,6 @@
 -- What each step of the collector does to a core.
-use Rattle.std.specs.Prelude.{◌≡◌, ◌≢◌, ◌⊎◌, ℕ, ◌+◌, ◌-◌, ◌*◌, ◌/◌, ◌<◌, ◌≤◌, ◌↔◌, true, false, Some, None, List, length, slice_get, slice_index}
+use Rattle.std.specs.Prelude.{◌≡◌, ◌≢◌, ◌⊎◌, ◌+◌, ◌-◌, ◌*◌, ◌/◌, ◌<◌, ◌≤◌, ◌↔◌}
+use Rattle.std.specs.Prelude.{ℕ, true, false, Some, None, List, length, slice_get, slice_index}
 use Rattle.heap_model.specs.Graph.{Graph, IsReachable}
 use Rattle.heap_model.specs.Heap.{Stored}
 use Rattle.heap_model.specs.Marking.{Begins}
@@ -91,8 +92,10 @@ pub record HasRemarked (n : ℕ) (c c' : CoreState) : Type 0 where
   pub same : c' ≡ record c { table = c'.table; marker = c'.marker }
   pub over : c'.marker.running ≡ false
   pub cleared : ClearsTable (views.marking_of c.table (views.with_roles_exchanged c'.marker)) c.table c'.table
-  pub ends : (s : State) → Stands s c → ForSnapshot s.snapshot (λ taken. EndsMarking taken s.graph c.table c'.table c.roots c.marker c'.marker n)
-  pub quiet : (g : Graph) → Stands (record { graph = g; snapshot = Some g }) c → (a : ℕ) (x : Stored) → kept_of c' a ≡ Some x → IsReachable g x.name
+  pub ends : (s : State) → Stands s c
+      → ForSnapshot s.snapshot (λ taken. EndsMarking taken s.graph c.table c'.table c.roots c.marker c'.marker n)
+  pub quiet : (g : Graph) → Stands (record { graph = g; snapshot = Some g }) c → (a : ℕ) (x : Stored)
+      → kept_of c' a ≡ Some x → IsReachable g x.name
   pub scans : c'.marker.scans.since ≡ n
   pub counted : c'.marker.scans.since ≡ marked_count c'.marker.grey.scanned
   pub work : ScansMore c.marker c'.marker
@@ -121,7 +124,8 @@ pub record IsAsBefore (c c' : CoreState) (k : ℕ) : Type 0 where
   pub next_top : slice_index c'.marker.tams.next k ≡ slice_index c.marker.tams.next k
   pub previous_marks : (a : ℕ) → is_in_region c.table.words_per_region k a ≡ true
       → is_marked c'.marker.bitmaps.previous a ≡ is_marked c.marker.bitmaps.previous a
-  pub next_marks : (a : ℕ) → is_in_region c.table.words_per_region k a ≡ true → is_marked c'.marker.bitmaps.next a ≡ is_marked c.marker.bitmaps.next a
+  pub next_marks : (a : ℕ) → is_in_region c.table.words_per_region k a ≡ true
+      → is_marked c'.marker.bitmaps.next a ≡ is_marked c.marker.bitmaps.next a
 
 -- regions change, with their sets, tops and marks, and else nothing does; and what is kept stays
 pub record ChangesRegions (c c' : CoreState) : Type 0 where

@@ -1,5 +1,7 @@
 -- What a pause does to a core, exactly.
-use Rattle.std.specs.Prelude.{◌≡◌, ◌↔◌, ℕ, ◌==◌, ◌+◌, ◌*◌, ◌<◌, ◌≤◌, All, Bool, true, Option, None, List, [], ◌∷◌, ◌++◌, IsSorted, Some, if◌then◌else◌, length, drop, take, count_by, slice_get, slice_index}
+use Rattle.std.specs.Prelude.{◌≡◌, ◌↔◌, ◌==◌, ◌+◌, ◌*◌, ◌<◌, ◌≤◌, ◌∷◌, ◌++◌, if◌then◌else◌}
+use Rattle.std.specs.Prelude.{ℕ, All, Bool, true, Option, None, List, [], IsSorted, Some}
+use Rattle.std.specs.Prelude.{length, drop, take, count_by, slice_get, slice_index}
 use Rattle.heap_words.specs.Sizes.{size_of}
 use Rattle.heap_words.specs.Configs.{card_words}
 use Rattle.heap_model.specs.Graph.{Graph, Object, object_named}
@@ -49,7 +51,8 @@ pub record AreCandidates (t : Table) (tams : Tops) (previous : List Bool) (runni
   pub all : (k : ℕ) → k < n → IsCandidate t tams previous running k → is_chosen rows k ≡ true
 
 -- the rows are those of the candidates whose live bounds are within a limit. The others have rows too, which stand nowhere
-pub record AreCandidatesWithin (t : Table) (tams : Tops) (previous : List Bool) (running : Bool) (limit n : ℕ) (rows : List LiveRow) : Type 0 where
+pub record AreCandidatesWithin (t : Table) (tams : Tops) (previous : List Bool) (running : Bool)
+    (limit n : ℕ) (rows : List LiveRow) : Type 0 where
   pub others : List LiveRow
   pub all : AreCandidates t tams previous running n (rows ++ others)
   pub within : All (λ row. row.live_bound ≤ limit) rows

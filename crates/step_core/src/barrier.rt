@@ -52,7 +52,8 @@ impl Core {
         requires field { field < length (fields_at self.old.table object) }
         ensures same { self.new ≡ record self.old { cards = self.new.cards } }
         ensures cards { self.new.cards ≡ noted self.old mutator (field_word object field) target.now }
-        ensures noted { IsNoted self.new.table.words_per_region (card_words self.new.config) (is_dirty self.new.cards) (field_word object field) target.now }
+        ensures noted { IsNoted self.new.table.words_per_region (card_words self.new.config) (is_dirty self.new.cards)
+            (field_word object field) target.now }
     {
         let Some(to) = target else {
             return;
@@ -74,10 +75,12 @@ impl Core {
         requires held { IsHeld (heap_of self.old) target }
         ensures shows { (g : Graph) (x : Stored) (o : Object) (v : Option ℕ) → ShowsGraph g self.old → kept_of self.old object ≡ Some x
             → object_named g x.name ≡ Some o
-            → IsShown (heap_of self.old) target v → ShowsGraph (with_changed g x.name (record o { pointers = slice_set o.pointers field v })) self.new }
+            → IsShown (heap_of self.old) target v
+            → ShowsGraph (with_changed g x.name (record o { pointers = slice_set o.pointers field v })) self.new }
         ensures keeps { (s : Graph) → KeepsFrom s self.old → KeepsFrom s self.new }
         ensures core { self.new ≡ record (with_pointer self.old mutator object field target) { marker = self.new.marker } }
-        ensures marker { Overwrites self.old.marker.running self.old.table mutator (pointer_of self.old object field) self.old.marker self.new.marker }
+        ensures marker { Overwrites self.old.marker.running self.old.table mutator (pointer_of self.old object field) self.old.marker
+            self.new.marker }
         ensures leaves { LeavesRegions self.old self.new }
     {
         self.note(mutator, object, field, &target);
@@ -91,13 +94,16 @@ impl Core {
         requires rooted { IsRoot (heap_of self.old) object }
         requires field { field < length (pointers_at self.old.table object) }
         requires held { IsHeld (heap_of self.old) target }
-        requires noted { IsNoted self.old.table.words_per_region (card_words self.old.config) (is_dirty self.old.cards) (field_word object field) target }
+        requires noted { IsNoted self.old.table.words_per_region (card_words self.old.config) (is_dirty self.old.cards)
+            (field_word object field) target }
         ensures shows { (g : Graph) (x : Stored) (o : Object) (v : Option ℕ) → ShowsGraph g self.old → kept_of self.old object ≡ Some x
             → object_named g x.name ≡ Some o
-            → IsShown (heap_of self.old) target v → ShowsGraph (with_changed g x.name (record o { pointers = slice_set o.pointers field v })) self.new }
+            → IsShown (heap_of self.old) target v
+            → ShowsGraph (with_changed g x.name (record o { pointers = slice_set o.pointers field v })) self.new }
         ensures keeps { (s : Graph) → KeepsFrom s self.old → KeepsFrom s self.new }
         ensures core { self.new ≡ record self.old { table = set_pointer self.old.table object field target; marker = self.new.marker } }
-        ensures marker { Overwrites self.old.marker.running self.old.table mutator (pointer_of self.old object field) self.old.marker self.new.marker }
+        ensures marker { Overwrites self.old.marker.running self.old.table mutator (pointer_of self.old object field) self.old.marker
+            self.new.marker }
         ensures leaves { LeavesRegions self.old self.new }
     {
         if !self.marker.running {
@@ -120,7 +126,8 @@ impl Core {
         requires word { IsWordOf (heap_of self.old) target }
         ensures shows { (g : Graph) (x : Stored) (o : Object) (v : Option ℕ) → ShowsGraph g self.old → kept_of self.old object ≡ Some x
             → object_named g x.name ≡ Some o
-            → IsShown (heap_of self.old) target v → ShowsGraph (with_changed g x.name (record o { weaks = slice_set o.weaks slot v })) self.new }
+            → IsShown (heap_of self.old) target v
+            → ShowsGraph (with_changed g x.name (record o { weaks = slice_set o.weaks slot v })) self.new }
         ensures keeps { (s : Graph) → KeepsFrom s self.old → KeepsFrom s self.new }
         ensures after { self.new ≡ with_weak self.old mutator object slot target }
         ensures leaves { LeavesRegions self.old self.new }
@@ -140,7 +147,8 @@ impl Core {
             (field_word object (weak_field self.old object slot)) target }
         ensures shows { (g : Graph) (x : Stored) (o : Object) (v : Option ℕ) → ShowsGraph g self.old → kept_of self.old object ≡ Some x
             → object_named g x.name ≡ Some o
-            → IsShown (heap_of self.old) target v → ShowsGraph (with_changed g x.name (record o { weaks = slice_set o.weaks slot v })) self.new }
+            → IsShown (heap_of self.old) target v
+            → ShowsGraph (with_changed g x.name (record o { weaks = slice_set o.weaks slot v })) self.new }
         ensures keeps { (s : Graph) → KeepsFrom s self.old → KeepsFrom s self.new }
         ensures after { self.new ≡ record self.old { table = set_weak self.old.table object slot target } }
         ensures leaves { LeavesRegions self.old self.new }

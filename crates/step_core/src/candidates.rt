@@ -7,7 +7,8 @@
 //!   next top     5        22        32, its bottom
 //! ```
 
-ghost use Rattle.std.specs.Prelude.{◌≡◌, ◌⊎◌, ℕ, ◌<◌, ◌≤◌, All, Bool, IfNone, IfSome, IsTrue, drop, length, take, count_by, ◌+◌, IsPermutation, IsSorted};
+ghost use Rattle.std.specs.Prelude.{◌≡◌, ◌⊎◌, ◌<◌, ◌≤◌, ◌+◌};
+ghost use Rattle.std.specs.Prelude.{ℕ, All, Bool, IfNone, IfSome, IsTrue, drop, length, take, count_by, IsPermutation, IsSorted};
 ghost use Rattle.std.specs.Vec.{vec_capacity};
 ghost use Rattle.regions.specs.Table.{is_free, kind_of, nth_region};
 ghost use Rattle.mark_bitmap.specs.Live.{live_bound_of};
@@ -57,7 +58,8 @@ pub(crate) fn find_candidates(
 )
     requires stands { MarkerStands table.now marker.now }
     requires room { length table.now.regions ≤ vec_capacity rows.old }
-    ensures candidates { AreCandidatesWithin table.now marker.now.tams marker.now.bitmaps.previous marker.now.running limit (length table.now.regions)
+    ensures candidates { AreCandidatesWithin table.now marker.now.tams marker.now.bitmaps.previous marker.now.running limit
+        (length table.now.regions)
         rows.new.items }
     ensures few { length rows.new.items ≤ length table.now.regions }
     ensures room { vec_capacity rows.new ≡ vec_capacity rows.old }

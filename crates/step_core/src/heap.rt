@@ -7,7 +7,8 @@ ghost use Rattle.heap_model.specs.Heap.{IsShown, IsHeld};
 ghost use Rattle.object_graph.specs.State.{State, root_places, register_place, places_of, with_root, with_nil_roots, root_at, first_state};
 ghost use Rattle.heap_words.specs.Configs.{globals_of, registers_of};
 ghost use Rattle.heap_steps.specs.Roots.{IsRegister, IsGlobal};
-ghost use Rattle.step_core.specs.Stands.{ShowsGraph, KeepsFrom, Stands, IsCore, IsWhole, heap_of, IsWordOf, IsRootWord, Leads, name_in, RemembersFields};
+ghost use Rattle.step_core.specs.Stands.{ShowsGraph, KeepsFrom, Stands, IsCore, IsWhole, heap_of};
+ghost use Rattle.step_core.specs.Stands.{IsWordOf, IsRootWord, Leads, name_in, RemembersFields};
 ghost use Rattle.cards.specs.Cards.{ListsDirtyOnce};
 ghost use Rattle.step_core.specs.Fresh.{fresh_core};
 ghost use Rattle.step_core.specs.Mutators.{register_of, with_root_word, with_nil_words};
@@ -248,7 +249,8 @@ impl Core {
         ensures word { IsWordOf (heap_of self.now) result }
         ensures rooted { IsRootWord (heap_of self.now) result }
         ensures leads { Leads self.now (register_place (places_of self.now.config) mutator register.number) result }
-        ensures shows { (g : Graph) → ShowsGraph g self.now → IsShown (heap_of self.now) result (root_at g (register_place g.places mutator register.number)) }
+        ensures shows { (g : Graph) → ShowsGraph g self.now
+            → IsShown (heap_of self.now) result (root_at g (register_place g.places mutator register.number)) }
     {
         let place = self.roots.place_of(mutator, register.number);
         self.root(place)

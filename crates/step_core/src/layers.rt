@@ -65,7 +65,8 @@ pub(crate) fn new_mutating(alloc: Global, config: &Config) -> Result<Mutating, A
     requires { Suits config.now }
     ensures closed { IfOk result (λ m. m.buffers ≡ closed config.now.buffer config.now.mutators) }
     ensures stand { IfOk result (λ m. (t : Table) → BuffersStand t m.buffers) }
-    ensures roots { IfOk result (λ m. m.roots ≡ record { places = places_of config.now; words = replicate (root_places (places_of config.now)) None }) }
+    ensures roots { IfOk result (λ m. m.roots
+        ≡ record { places = places_of config.now; words = replicate (root_places (places_of config.now)) None }) }
     ensures next { IfOk result (λ m. m.next ≡ config.now.first_name) }
     ensures names { IfOk result (λ m. m.next < 2 ^ 64) }
 {
@@ -83,7 +84,8 @@ pub(crate) fn new_mutating(alloc: Global, config: &Config) -> Result<Mutating, A
 /// Each card clean, and each remembered set empty.
 fn new_remembering(alloc: Global, config: &Config) -> Result<Remembering, AllocError>
     requires { Suits config.now }
-    ensures cards { IfOk result (λ r. r.cards ≡ clean_cards (config.now.regions * (config.now.words / card_words config.now)) config.now.mutators) }
+    ensures cards { IfOk result (λ r. r.cards
+        ≡ clean_cards (config.now.regions * (config.now.words / card_words config.now)) config.now.mutators) }
     ensures sets { IfOk result (λ r. r.sets ≡ empty_sets config.now.regions (config.now.words / card_words config.now)) }
 {
     let cards_per_region = config.words / config.card_words();
@@ -109,10 +111,12 @@ fn new_pausing(alloc: Global, config: &Config) -> Result<Pausing, AllocError>
 pub(crate) fn new_collecting(alloc: Global, config: &Config) -> Result<Collecting, AllocError>
     requires { Suits config.now }
     ensures marker { IfOk result (λ c. c.marker ≡ fresh_marker config.now) }
-    ensures stands { IfOk result (λ c. (t : Table) → length t.regions ≡ config.now.regions → t.words_per_region ≡ config.now.words → MarkerStands t c.marker) }
+    ensures stands { IfOk result (λ c. (t : Table) → length t.regions ≡ config.now.regions → t.words_per_region ≡ config.now.words
+        → MarkerStands t c.marker) }
     ensures idle { IfOk result (λ c. c.marker.running ≡ false) }
     ensures logs { IfOk result (λ c. c.marker.logs ≡ replicate config.now.mutators []) }
-    ensures cards { IfOk result (λ c. c.remembering.cards ≡ clean_cards (config.now.regions * (config.now.words / card_words config.now)) config.now.mutators) }
+    ensures cards { IfOk result (λ c. c.remembering.cards
+        ≡ clean_cards (config.now.regions * (config.now.words / card_words config.now)) config.now.mutators) }
     ensures sets { IfOk result (λ c. c.remembering.sets ≡ empty_sets config.now.regions (config.now.words / card_words config.now)) }
     ensures room { IfOk result (λ c. c.pausing.room
         ≡ record { regions = config.now.regions; cards = config.now.regions * (config.now.words / card_words config.now) }) }

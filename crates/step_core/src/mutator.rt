@@ -304,7 +304,8 @@ impl Core {
         ensures keeps { (s : Graph) → KeepsFrom s self.old → KeepsFrom s self.new }
         ensures after { ActsOn mutator (actions.NewWeak to counts weaks) result self.old self.new }
         ensures leaves { LeavesRegions self.old self.new }
-        ensures full { HasNoPlace self.old mutator (size_of counts.pointers weaks counts.values) → (name : Option ℕ) → result ≢ replies.Named name }
+        ensures full { HasNoPlace self.old mutator (size_of counts.pointers weaks counts.values) → (name : Option ℕ)
+            → result ≢ replies.Named name }
     {
         let size = counts.size(weaks);
         let Config { regions, words, .. } = self.config;
@@ -336,7 +337,8 @@ impl Core {
     pub(crate) fn act(&mut self, op: Op) -> Reply
         requires { IsOpAt (places_of self.old.config) op }
         ensures follows { (s : State) → Stands s self.old → Follows s (steps.Mutator op) result self.new }
-        ensures full { (s : State) → Stands s self.old → (result ≡ replies.Refused refusals.Full) ↔ IsFull s.graph op.mutator op.action self.old }
+        ensures full { (s : State) → Stands s self.old
+            → (result ≡ replies.Refused refusals.Full) ↔ IsFull s.graph op.mutator op.action self.old }
         ensures after { ActsOn op.mutator op.action result self.old self.new }
         ensures leaves { LeavesRegions self.old self.new }
     {

@@ -1,5 +1,6 @@
 -- The new place of a reached object.
-use Rattle.std.proofs.Common.{◌≡◌, ◌≢◌, ℕ, suc, zero, ◌+◌, ◌*◌, ◌/◌, ◌<◌, ◌≤◌, Bool, false, List, Option, Some, None, length, refl, sym, ap, ◌∙◌, subst, inl, inr, arith}
+use Rattle.std.proofs.Common.{◌≡◌, ◌≢◌, ◌+◌, ◌*◌, ◌/◌, ◌<◌, ◌≤◌, ◌∙◌}
+use Rattle.std.proofs.Common.{ℕ, suc, zero, Bool, false, List, Option, Some, None, length, refl, sym, ap, subst, inl, inr, arith}
 use Rattle.std.specs.Prelude.{IsSome, IfSome}
 use Rattle.std.proofs.lemmas.Bool.{cases_lt}
 use Rattle.heap_model.specs.Heap.{Stored}
@@ -26,9 +27,13 @@ more : (words free fill size left : ℕ) → 2 * (left + fill) ≤ (free + 1) * 
 more words zero fill size left h s n = omega arith
 more words (suc free) fill size left h s n = omega arith
 
-room_place : (words free left size : ℕ) (last : Option ℕ) → HasRoom words free last left → 0 < size → size ≤ left → CanPlace words free last size
+room_place : (words free left size : ℕ) (last : Option ℕ) → HasRoom words free last left → 0 < size
+    → size ≤ left → CanPlace words free last size
 room_place words free left size None h p s = positive words free (omega arith)
-room_place words free left size (Some fill) h p s = elim (cases_lt words (fill + size)) [ inl n ↦ inr (more words free fill size left h s n) | inr n ↦ inl n ]
+room_place words free left size (Some fill) h p s = elim (cases_lt words (fill + size)) [
+  | inl n ↦ inr (more words free fill size left h s n)
+  | inr n ↦ inl n
+]
 
 pub is_some : (o : Option Stored) (x : Stored) → o ≡ Some x → IsSome o
 is_some o x e = rw e refl
@@ -45,7 +50,8 @@ if_some : (P : ℕ → Type 0) (o : Option ℕ) → ((k : ℕ) → o ≡ Some k 
 if_some P None f = tt
 if_some P (Some k) f = f k refl
 
-module _ (p : Pause) (q : IsPause p) (t : Table) (d : Places) (turn : IsTurn p t d) (shaped : IsShaped t) (from : ℕ) (named : IsNamed (layout p) (plan p) from) where
+module _ (p : Pause) (q : IsPause p) (t : Table) (d : Places) (turn : IsTurn p t d) (shaped : IsShaped t) (from : ℕ)
+    (named : IsNamed (layout p) (plan p) from) where
   object_if : moved_to (tile_in t from) ≡ None → kept_now p t from ≡ Some named.object
   object_if un = named_object (layout p) (plan p) (space p t) d from turn.copying named un
 
@@ -53,7 +59,8 @@ module _ (p : Pause) (q : IsPause p) (t : Table) (d : Places) (turn : IsTurn p t
   tile_stands = go (moved_to (tile_in t from)) refl
     where
       go : (o : Option ℕ) → moved_to (tile_in t from) ≡ o → IsSome (tile_in t from)
-      go None e = tile_some (tile_in t from) named.object (sym (object_of t from (tile_in t from) refl) ∙ kept_object p t from named.object (object_if e))
+      go None e = tile_some (tile_in t from) named.object
+          (sym (object_of t from (tile_in t from) refl) ∙ kept_object p t from named.object (object_if e))
       go (Some b) e = moved_some (tile_in t from) b e
 
   module _ (un : moved_to (tile_in t from) ≡ None) where
@@ -81,17 +88,23 @@ module _ (p : Pause) (q : IsPause p) (t : Table) (d : Places) (turn : IsTurn p t
     within : tile_size (Object x) ≤ (space p t).left
     within =
         left_has (kept_now p t) (in_set p) (all_words p) from x
-        (let a = object_within t from x shaped object in let b = turn.table.count in let e = turn.table.size in let f : length t.regions * t.words_per_region ≡ all_words p = rw (b, e) refl in omega arith)
-        named.inside kept
+        (let a = object_within t from x shaped object in
+        let b = turn.table.count in
+        let e = turn.table.size in
+        let f : length t.regions * t.words_per_region ≡ all_words p = rw (b, e) refl in
+        omega arith) named.inside kept
 
     pub ordinary : kind_of t (from / t.words_per_region) ≡ kinds.Ordinary
-    ordinary = subst (λ (n : ℕ). kind_of t (from / n) ≡ kinds.Ordinary) (sym turn.table.size) (turn.table.chosen (from / p.start.words_per_region) named.inside)
+    ordinary = subst (λ (n : ℕ). kind_of t (from / n) ≡ kinds.Ordinary) (sym turn.table.size)
+        (turn.table.chosen (from / p.start.words_per_region) named.inside)
 
     pub untargeted : EachForwardedIn (λ to. to ≢ from) t.regions
-    untargeted = EachForwardedIn-imp (λ to. in_set p to ≡ false) (λ to. to ≢ from) t.regions (λ to o e. let a = ap (in_set p) e in let b = named.inside in absurd cc) turn.table.targets
+    untargeted = EachForwardedIn-imp (λ to. in_set p to ≡ false) (λ to. to ≢ from) t.regions
+        (λ to o e. let a = ap (in_set p) e in let b = named.inside in absurd cc) turn.table.targets
 
     pub last_known : IfSome d.last (λ k. k < length t.regions)
-    last_known = if_some (λ k. k < length t.regions) d.last (λ k e. let r = turn.taken k (turn.copying.last k e) in let a = r.2 in let b = turn.table.count in omega arith)
+    last_known = if_some (λ k. k < length t.regions) d.last
+        (λ k e. let r = turn.taken k (turn.copying.last k e) in let a = r.2 in let b = turn.table.count in omega arith)
 
     pub last_ordinary : IfSome d.last (λ k. kind_of t k ≡ kinds.Ordinary)
     last_ordinary = if_some (λ k. kind_of t k ≡ kinds.Ordinary) d.last (λ k e. (turn.taken k (turn.copying.last k e)).1)
@@ -101,7 +114,8 @@ module _ (p : Pause) (q : IsPause p) (t : Table) (d : Places) (turn : IsTurn p t
         subst (λ (n : ℕ). CanPlace t.words_per_region (free_count t) (fill_of t d.last) n) (sym size)
         (subst (λ (n : ℕ). CanPlace n (free_count t) (fill_of t d.last) (tile_size (Object x))) (sym turn.table.size)
         (subst (λ (o : Option ℕ). CanPlace p.start.words_per_region (free_count t) o (tile_size (Object x))) (filled_is p t d.last)
-        (room_place p.start.words_per_region (free_count t) (space p t).left (tile_size (Object x)) (filled (space p t) d.last) turn.copying.room (omega arith) within)))
+        (room_place p.start.words_per_region (free_count t) (space p t).left (tile_size (Object x))
+        (filled (space p t) d.last) turn.copying.room (omega arith) within)))
 
     pub count : d.words + object_words t from < 4294967296
     count = let a = size in let b = within in let c = turn.copying.limit in let e = q.plan_is.limit in omega arith
@@ -125,7 +139,8 @@ module _ (p : Pause) (q : IsPause p) (t : Table) (d : Places) (turn : IsTurn p t
       placed_at = to_space.forwarded
 
       pub placed_after : (noted : List Bool) → After p noted noted t t' d d'
-      placed_after noted = copied_after (layout p) (plan p) (space p t) (space p t') d d' from to x turn.copying to_space named kept un halves noted
+      placed_after noted =
+          copied_after (layout p) (plan p) (space p t) (space p t') d d' from to x turn.copying to_space named kept un halves noted
 
       pub placed_frame : (b : ℕ) (y : Stored) → in_set p b ≡ false → kept_now p t b ≡ Some y → kept_now p t' b ≡ Some y
       placed_frame b y = frame (layout p) (plan p) (space p t) (space p t') d d' from to x turn.copying to_space named kept un halves b y

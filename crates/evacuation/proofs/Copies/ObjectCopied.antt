@@ -1,5 +1,7 @@
 -- An object of the set is copied.
-use Rattle.std.proofs.Common.{◌≡◌, ◌≢◌, ℕ, suc, ◌+◌, ◌*◌, ◌/◌, ◌<◌, ◌≤◌, ◌⊎◌, Bool, false, List, [], ◌∷◌, ◌++◌, Option, Some, None, length, refl, sym, ap, ◌∙◌, subst, inl, inr, arith, length-append}
+use Rattle.std.proofs.Common.{◌≡◌, ◌≢◌, ◌+◌, ◌*◌, ◌/◌, ◌<◌, ◌≤◌, ◌⊎◌, ◌∷◌, ◌++◌, ◌∙◌}
+use Rattle.std.proofs.Common.{ℕ, suc, Bool, false, List, [], Option, Some, None, length, refl}
+use Rattle.std.proofs.Common.{sym, ap, subst, inl, inr, arith, length-append}
 use Rattle.std.specs.Prelude.{slice_get}
 use Rattle.std.proofs.lemmas.Bool.{cases_eq}
 use Rattle.heap_model.specs.Heap.{Heap, Stored, fields}
@@ -8,42 +10,51 @@ use Rattle.heap_model.proofs.Lists.{get-push_last, get_kept-append}
 use Rattle.heap_model.proofs.Evacuated as evacuated
 use Rattle.object_copy.specs.Copies.{Places}
 use Rattle.evacuation.specs.Evacuates.{stored_words, words_at}
-use Rattle.evacuation.specs.Space.{Layout, Plan, Space, IsPlan, IsCopying, IsTaken, IsTally, IsNamed, IsAfter, CopiesTo, GoesOn, TakesNext, HasRoom, filled, set_of, seen_as, words_of}
+use Rattle.evacuation.specs.Space.{Layout, Plan, Space, IsPlan, IsCopying, IsTaken, IsTally, IsNamed, IsAfter, CopiesTo, GoesOn}
+use Rattle.evacuation.specs.Space.{TakesNext, HasRoom, filled, set_of, seen_as, words_of}
 use Rattle.evacuation.proofs.Lists.{push_place}
 
 total_push : (kept : ℕ → Option Stored) (xs : List ℕ) (a : ℕ) → words_at kept (xs ++ a ∷ []) ≡ words_at kept xs + stored_words (kept a)
 total_push kept [] a = omega arith
 total_push kept (b ∷ xs) a = let e = total_push kept xs a in omega arith
 
-room_pushed : (words free left left' fill size : ℕ) → 2 * (left + fill) ≤ (free + 1) * words → left' + size ≡ left → 2 * (left' + (fill + size)) ≤ (free + 1) * words
+room_pushed : (words free left left' fill size : ℕ) → 2 * (left + fill) ≤ (free + 1) * words → left' + size ≡ left
+    → 2 * (left' + (fill + size)) ≤ (free + 1) * words
 room_pushed words free left left' fill size h e = omega arith
 
-room_opened : (words free left size : ℕ) (last : Option ℕ) → HasRoom words (suc free) last left → 2 * size ≤ words → size ≤ left → ((f : ℕ) → last ≡ Some f → words < f + size) → 2 * (left + 0) ≤ (free + 1) * words
+room_opened : (words free left size : ℕ) (last : Option ℕ) → HasRoom words (suc free) last left → 2 * size ≤ words → size ≤ left
+    → ((f : ℕ) → last ≡ Some f → words < f + size) → 2 * (left + 0) ≤ (free + 1) * words
 room_opened words free left size None h s l n = omega arith
 room_opened words free left size (Some f) h s l n = let k = n f refl in omega arith
 
 -- the object of the set stands there until it is forwarded
-pub named_object : (l : Layout) (p : Plan) (s : Space) (d : Places) (a : ℕ) → IsCopying l p s d → (n : IsNamed l p a) → s.forward a ≡ None → s.object a ≡ Some n.object
+pub named_object : (l : Layout) (p : Plan) (s : Space) (d : Places) (a : ℕ) → IsCopying l p s d → (n : IsNamed l p a)
+    → s.forward a ≡ None → s.object a ≡ Some n.object
 named_object l p s d a c n un = c.heap.untouched a n.inside un ∙ n.at
 
-pub named_small : (l : Layout) (p : Plan) (s : Space) (d : Places) (a : ℕ) (x : Stored) → IsPlan l p → IsCopying l p s d → IsNamed l p a → s.forward a ≡ None → s.object a ≡ Some x → 2 * words_of x ≤ l.words
+pub named_small : (l : Layout) (p : Plan) (s : Space) (d : Places) (a : ℕ) (x : Stored) → IsPlan l p → IsCopying l p s d → IsNamed l p a
+    → s.forward a ≡ None → s.object a ≡ Some x → 2 * words_of x ≤ l.words
 named_small l p s d a x q c n un at =
     let e = named_object l p s d a c n un in
     let same : n.object ≡ x = cc in
     q.small a x (n.at ∙ ap Some same) n.inside
 
 -- what is said of functions is said of those with the same values
-pub same_evacuating : (set : ℕ → Bool) (h : Heap) (f f' : ℕ → Option ℕ) (roots : List (Option ℕ)) (k k' : ℕ → Option Stored) → ((a : ℕ) → f a ≡ f' a) → ((a : ℕ) → k a ≡ k' a)
+pub same_evacuating : (set : ℕ → Bool) (h : Heap) (f f' : ℕ → Option ℕ) (roots : List (Option ℕ)) (k k' : ℕ → Option Stored)
+    → ((a : ℕ) → f a ≡ f' a) → ((a : ℕ) → k a ≡ k' a)
     → IsEvacuating set h f (record { kept = k; roots = roots }) → IsEvacuating set h f' (record { kept = k'; roots = roots })
 same_evacuating set h f f' roots k k' p q v =
     subst (λ (u : ℕ → Option Stored). IsEvacuating set h f' (record { kept = u; roots = roots })) (λ i a. q a i)
     (subst (λ (u : ℕ → Option ℕ). IsEvacuating set h u (record { kept = k; roots = roots })) (λ i a. p a i) v)
 
-pub same_tally : (set : ℕ → Bool) (h : Heap) (f f' : ℕ → Option ℕ) (w w' : ℕ) → ((a : ℕ) → f a ≡ f' a) → w ≡ w' → IsTally set h f w → IsTally set h f' w'
-same_tally set h f f' w w' p q t = subst (λ (u : ℕ). IsTally set h f' u) q (subst (λ (u : ℕ → Option ℕ). IsTally set h u w) (λ i a. p a i) t)
+pub same_tally : (set : ℕ → Bool) (h : Heap) (f f' : ℕ → Option ℕ) (w w' : ℕ) → ((a : ℕ) → f a ≡ f' a) → w ≡ w'
+    → IsTally set h f w → IsTally set h f' w'
+same_tally set h f f' w w' p q t =
+    subst (λ (u : ℕ). IsTally set h f' u) q (subst (λ (u : ℕ → Option ℕ). IsTally set h u w) (λ i a. p a i) t)
 
 module _ (l : Layout) (p : Plan) (s s' : Space) (d d' : Places) (from to : ℕ) (x : Stored)
-    (c : IsCopying l p s d) (u : CopiesTo l s s' d d' from to x) (n : IsNamed l p from) (at : s.object from ≡ Some x) (un : s.forward from ≡ None) (small : 2 * words_of x ≤ l.words) where
+    (c : IsCopying l p s d) (u : CopiesTo l s s' d d' from to x) (n : IsNamed l p from) (at : s.object from ≡ Some x)
+    (un : s.forward from ≡ None) (small : 2 * words_of x ≤ l.words) where
   abbrev k : ℕ
   k = u.region
 
@@ -68,7 +79,10 @@ module _ (l : Layout) (p : Plan) (s s' : Space) (d d' : Places) (from to : ℕ) 
   taken_cases : (j : ℕ) → IsTaken d' j → (j ≡ k) ⊎ IsTaken d j
   taken_cases j w = elim u.how [
     | inl g ↦ inr (record { at = w.at; is = ap (λ (v : List ℕ). slice_get v w.at) (sym g.regions) ∙ w.is })
-    | inr g ↦ elim (push_place d.regions k j w.at (ap (λ (v : List ℕ). slice_get v w.at) (sym g.regions) ∙ w.is)) [ inl q ↦ inl q.1 | inr q ↦ inr (record { at = w.at; is = q }) ]
+    | inr g ↦ elim (push_place d.regions k j w.at (ap (λ (v : List ℕ). slice_get v w.at) (sym g.regions) ∙ w.is)) [
+      | inl q ↦ inl q.1
+      | inr q ↦ inr (record { at = w.at; is = q })
+    ]
   ]
 
   pub taken_grows : (i j : ℕ) → slice_get d.regions i ≡ Some j → slice_get d'.regions i ≡ Some j
@@ -83,7 +97,10 @@ module _ (l : Layout) (p : Plan) (s s' : Space) (d d' : Places) (from to : ℕ) 
   is_taken : IsTaken d' k
   is_taken = elim u.how [
     | inl g ↦ taken_on k (c.last k g.last)
-    | inr g ↦ record { at = length d.regions; is = ap (λ (v : List ℕ). slice_get v (length d.regions)) g.regions ∙ get-push_last d.regions k }
+    | inr g ↦ record {
+      at = length d.regions;
+      is = ap (λ (v : List ℕ). slice_get v (length d.regions)) g.regions ∙ get-push_last d.regions k;
+    }
   ]
 
   copies : Copies (set_of l) s.forward s'.forward (seen_as s p.heap) (seen_as s' p.heap) from to x
@@ -133,7 +150,8 @@ module _ (l : Layout) (p : Plan) (s s' : Space) (d d' : Places) (from to : ℕ) 
       never : (i : ℕ) → slice_get t.from i ≡ Some from → ⊥
       never i e = let (g, b, f) = t.forwarded i from e in cc
 
-      distinct : (i j a : ℕ) → ((i ≡ length t.from) × (a ≡ from)) ⊎ (slice_get t.from i ≡ Some a) → ((j ≡ length t.from) × (a ≡ from)) ⊎ (slice_get t.from j ≡ Some a) → i ≡ j
+      distinct : (i j a : ℕ) → ((i ≡ length t.from) × (a ≡ from)) ⊎ (slice_get t.from i ≡ Some a)
+          → ((j ≡ length t.from) × (a ≡ from)) ⊎ (slice_get t.from j ≡ Some a) → i ≡ j
       distinct i j a (inl q) (inl r) = q.0 ∙ sym r.0
       distinct i j a (inl q) (inr r) = absurd (never j (r ∙ ap Some q.1))
       distinct i j a (inr q) (inl r) = absurd (never i (q ∙ ap Some r.1))
@@ -141,14 +159,16 @@ module _ (l : Layout) (p : Plan) (s s' : Space) (d d' : Places) (from to : ℕ) 
 
   room_on : GoesOn l s s' d d' k → HasRoom l.words s'.free_count (filled s' d'.last) s'.left
   room_on g =
-      let r' : 2 * (s.left + s.used k) ≤ (s.free_count + 1) * l.words = subst (λ (w : Option ℕ). HasRoom l.words s.free_count (filled s w) s.left) g.last c.room in
+      let r' : 2 * (s.left + s.used k) ≤ (s.free_count + 1) * l.words =
+      subst (λ (w : Option ℕ). HasRoom l.words s.free_count (filled s w) s.left) g.last c.room in
       rw (u.last, u.used, g.free_count) (room_pushed l.words s.free_count s.left s'.left (s.used k) (words_of x) r' (u.left clear))
 
   room_next : TakesNext l s s' d d' k (words_of x) → HasRoom l.words s'.free_count (filled s' d'.last) s'.left
   room_next g =
       let e = u.left clear in
       let next : s.free_count ≡ suc s'.free_count = (let q = g.free_count in omega arith) in
-      let r' : HasRoom l.words (suc s'.free_count) (filled s d.last) s.left = subst (λ (m : ℕ). HasRoom l.words m (filled s d.last) s.left) next c.room in
+      let r' : HasRoom l.words (suc s'.free_count) (filled s d.last) s.left =
+      subst (λ (m : ℕ). HasRoom l.words m (filled s d.last) s.left) next c.room in
       let r = room_opened l.words s'.free_count s.left (words_of x) (filled s d.last) r' small (omega arith) g.full in
       rw (u.last, u.used, g.empty) (room_pushed l.words s'.free_count s.left s'.left 0 (words_of x) r e)
 
@@ -164,9 +184,14 @@ module _ (l : Layout) (p : Plan) (s s' : Space) (d d' : Places) (from to : ℕ) 
     last_at = λ j i e f.
         let q : k ≡ j = (let z = u.last in cc) in
         elim u.how [
-          | inl g ↦ c.last_at j i (g.last ∙ ap Some q) (ap (λ (v : List ℕ). slice_get v i) (sym g.regions) ∙ f) ∙ ap (λ (v : List ℕ). length v) (sym g.regions)
+          | inl g ↦ c.last_at j i (g.last ∙ ap Some q) (ap (λ (v : List ℕ). slice_get v i) (sym g.regions) ∙ f)
+              ∙ ap (λ (v : List ℕ). length v) (sym g.regions)
           | inr g ↦ elim (push_place d.regions k j i (ap (λ (v : List ℕ). slice_get v i) (sym g.regions) ∙ f)) [
-            | inl z ↦ let e1 = ap (λ (v : List ℕ). length v) g.regions in let e2 = length-append d.regions (k ∷ []) in let e3 = z.0 in omega arith
+            | inl z ↦
+                let e1 = ap (λ (v : List ℕ). length v) g.regions in
+                let e2 = length-append d.regions (k ∷ []) in
+                let e3 = z.0 in
+                omega arith
             | inr z ↦ absurd (let a = c.apart k (record { at = i; is = z ∙ ap Some (sym q) }) in let b = g.was_free in cc)
           ]
         ];
@@ -190,7 +215,11 @@ module _ (l : Layout) (p : Plan) (s s' : Space) (d d' : Places) (from to : ℕ) 
     tally = tally c.tally;
     places = elim u.how [
       | inl g ↦ (let a = ap (λ (v : List ℕ). length v) g.regions in let b = g.room in let q = c.places in omega arith)
-      | inr g ↦ (let a = ap (λ (v : List ℕ). length v) g.regions in let e = length-append d.regions (k ∷ []) in let b = g.room in let q = c.places in omega arith)
+      | inr g ↦ (let a = ap (λ (v : List ℕ). length v) g.regions in
+          let e = length-append d.regions (k ∷ []) in
+          let b = g.room in
+          let q = c.places in
+          omega arith)
     ];
   }
 
@@ -207,7 +236,10 @@ module _ (l : Layout) (p : Plan) (s s' : Space) (d d' : Places) (from to : ℕ) 
     noted_for = λ c e. inl e;
     forward_grows = forward_on;
     taken_grows = taken_grows;
-    used_grows = λ j. elim (cases_eq j k) [ inl q ↦ subst (λ (m : ℕ). s.used m ≤ s'.used m) (sym q) (let e = u.used in omega arith) | inr q ↦ let e = u.used_same j q in omega arith ];
+    used_grows = λ j. elim (cases_eq j k) [
+      | inl q ↦ subst (λ (m : ℕ). s.used m ≤ s'.used m) (sym q) (let e = u.used in omega arith)
+      | inr q ↦ let e = u.used_same j q in omega arith
+    ];
     stays = λ b y o e. (y, frame b y o e, refl);
     new_above = λ b y o e. elim (cases_eq b to) [
       | inl q ↦ inr (let r = ap (λ (v : ℕ). v / l.words) q ∙ u.at_region in let a = u.above in rw r (omega arith))
@@ -217,5 +249,6 @@ module _ (l : Layout) (p : Plan) (s s' : Space) (d d' : Places) (from to : ℕ) 
       λ b y r e. (y, back b y e (λ q. closed_stays j w m (sym r ∙ ap (λ (v : ℕ). v / l.words) q ∙ u.at_region))),
       λ e. closed_stays j w m (let z = u.last in cc),
     );
-    fields = λ b y y' i w o e e' g. inl (let q = frame b y o e in let r : y ≡ y' = cc in subst (λ (z : Stored). slice_get (fields z) i ≡ Some w) (sym r) g);
+    fields = λ b y y' i w o e e' g.
+        inl (let q = frame b y o e in let r : y ≡ y' = cc in subst (λ (z : Stored). slice_get (fields z) i ≡ Some w) (sym r) g);
   }

@@ -1,5 +1,6 @@
 -- A copy, as copying sees it.
-use Rattle.std.proofs.Common.{◌≡◌, ℕ, ◌+◌, ◌*◌, ◌/◌, ◌<◌, ◌≤◌, ◌⊎◌, true, false, List, Option, Some, None, length, refl, sym, ap, ◌∙◌, subst, inl, inr, arith}
+use Rattle.std.proofs.Common.{◌≡◌, ◌+◌, ◌*◌, ◌/◌, ◌<◌, ◌≤◌, ◌⊎◌, ◌∙◌}
+use Rattle.std.proofs.Common.{ℕ, true, false, List, Option, Some, None, length, refl, sym, ap, subst, inl, inr, arith}
 use Rattle.std.specs.Prelude.{slice_get}
 use Rattle.std.proofs.lemmas.Bool.{cases_eq}
 use Rattle.heap_model.specs.Heap.{Stored}
@@ -32,7 +33,8 @@ ordinary_kind t k e = free_by_kind t k ∙ ap kind_is_free e
 
 module _ (p : Pause) (q : IsPause p) (t t' : Table) (d d' : Places) (turn : IsTurn p t d) (shaped : IsShaped t) (from to : ℕ) (x : Stored)
     (inside : in_set p from ≡ true) (at : kept_now p t from ≡ Some x) (small : 2 * tile_size (Object x) ≤ p.start.words_per_region)
-    (c : Copies t t' d d' from to x) (changes : (k : ℕ) → object_at t from ≡ Some x → d'.last ≡ Some k → CopiesObject t t' k from to x) where
+    (c : Copies t t' d d' from to x)
+    (changes : (k : ℕ) → object_at t from ≡ Some x → d'.last ≡ Some k → CopiesObject t t' k from to x) where
   words : t.words_per_region ≡ p.start.words_per_region
   words = turn.table.size
 
@@ -70,7 +72,12 @@ module _ (p : Pause) (q : IsPause p) (t t' : Table) (d d' : Places) (turn : IsTu
   ]
 
   at_region : to / p.start.words_per_region ≡ k
-  at_region = let a = w.at in let b = w.within in let e = words in let e' = ap (λ (n : ℕ). k * n) words in div_is to p.start.words_per_region k (omega arith) (omega arith)
+  at_region =
+      let a = w.at in
+      let b = w.within in
+      let e = words in
+      let e' = ap (λ (n : ℕ). k * n) words in
+      div_is to p.start.words_per_region k (omega arith) (omega arith)
 
   known : k < length p.start.regions
   known = let a = w.known in let b = turn.table.count in omega arith
@@ -80,7 +87,8 @@ module _ (p : Pause) (q : IsPause p) (t t' : Table) (d d' : Places) (turn : IsTu
 
   kept_copy : kept_now p t' to ≡ Some x
   kept_copy =
-      kept_fresh p t' to q size' (subst (λ (n : ℕ). n < length p.start.regions) (sym at_region) known) (ap (kind_of p.start) at_region ∙ fresh.0) ∙ object_of t' to (Some (Object x)) w.copy
+      kept_fresh p t' to q size' (subst (λ (n : ℕ). n < length p.start.regions) (sym at_region) known)
+      (ap (kind_of p.start) at_region ∙ fresh.0) ∙ object_of t' to (Some (Object x)) w.copy
 
   other : (a : ℕ) → (a ≡ from → ⊥) → (a ≡ to → ⊥) → object_at t' a ≡ object_at t a
   other a n m = object_of t' a (tile_in t a) (w.others a n m) ∙ sym (object_of t a (tile_in t a) refl)
@@ -88,7 +96,8 @@ module _ (p : Pause) (q : IsPause p) (t t' : Table) (d d' : Places) (turn : IsTu
   kept_other : (a : ℕ) → (a ≡ from → ⊥) → (a ≡ to → ⊥) → kept_now p t' a ≡ kept_now p t a
   kept_other a n m = kept_as p t t' a w.size (other a n m)
 
-  goes : (t ≡ t → ⊥) ⊎ ((c.table ≡ t) × (c.places ≡ d)) → GoesOn (layout p) (space p t) (space p t') d d' k ⊎ TakesNext (layout p) (space p t) (space p t') d d' k (words_of x)
+  goes : (t ≡ t → ⊥) ⊎ ((c.table ≡ t) × (c.places ≡ d))
+      → GoesOn (layout p) (space p t) (space p t') d d' k ⊎ TakesNext (layout p) (space p t) (space p t') d d' k (words_of x)
   goes (inl n) = absurd (n refl)
   goes (inr g) =
       let l : d.last ≡ Some k = ap (λ (y : Places). y.last) (sym g.1) ∙ c.opens.last in
@@ -99,12 +108,14 @@ module _ (p : Pause) (q : IsPause p) (t t' : Table) (d d' : Places) (turn : IsTu
         room = ap (λ (y : Places). y.room) c.places_are ∙ ap (λ (y : Places). y.room) g.1;
         free_count = w.free_same o;
         free = λ j. elim (cases_eq j k) [
-          | inl e ↦ subst (λ (m : ℕ). is_free (nth_region t' m) ≡ is_free (nth_region t m)) (sym e) (ordinary_kind t' k w.ordinary ∙ sym (ordinary_kind t k o))
+          | inl e ↦ subst (λ (m : ℕ). is_free (nth_region t' m) ≡ is_free (nth_region t m)) (sym e)
+              (ordinary_kind t' k w.ordinary ∙ sym (ordinary_kind t k o))
           | inr e ↦ free_by_kind t' j ∙ ap kind_is_free (w.kinds_same j e) ∙ sym (free_by_kind t j)
         ];
       })
 
-  takes : Takes t c.table d c.places k → ((f : ℕ) → fill_of t d.last ≡ Some f → t.words_per_region < f + tile_size (Object x)) → TakesNext (layout p) (space p t) (space p t') d d' k (words_of x)
+  takes : Takes t c.table d c.places k → ((f : ℕ) → fill_of t d.last ≡ Some f → t.words_per_region < f + tile_size (Object x))
+      → TakesNext (layout p) (space p t) (space p t') d d' k (words_of x)
   takes g full =
       let r = placing.region_taken t k g.lowest in
       record {
@@ -122,7 +133,8 @@ module _ (p : Pause) (q : IsPause p) (t t' : Table) (d d' : Places) (turn : IsTu
   copies_to = record {
     region = k;
     last = last;
-    words = ap (λ (y : Places). y.words) c.places_are ∙ ap (λ (n : ℕ). n + tile_size (Object x)) (elim c.opens.how [ inl g ↦ ap (λ (y : Places). y.words) g.1 | inr g ↦ g.0.words ]);
+    words = ap (λ (y : Places). y.words) c.places_are
+        ∙ ap (λ (n : ℕ). n + tile_size (Object x)) (elim c.opens.how [ inl g ↦ ap (λ (y : Places). y.words) g.1 | inr g ↦ g.0.words ]);
     at_region = at_region;
     above = let a = w.at in let e = ap (λ (n : ℕ). k * n) words in omega arith;
     room = kept_none p t to (object_of t to None w.was);
@@ -137,14 +149,19 @@ module _ (p : Pause) (q : IsPause p) (t t' : Table) (d d' : Places) (turn : IsTu
     used = w.used;
     used_same = w.used_same;
     left = λ out. left_less (kept_now p t) (kept_now p t') (in_set p) (all_words p) from x
-        (let a = object_within t from x shaped here in let b = turn.table.count in let e = words in let f : length t.regions * t.words_per_region ≡ all_words p = rw (b, e) refl in omega arith)
+        (let a = object_within t from x shaped here in
+        let b = turn.table.count in
+        let e = words in
+        let f : length t.regions * t.words_per_region ≡ all_words p = rw (b, e) refl in
+        omega arith)
         inside at (kept_none p t' from (object_of t' from (Some (Forwarded to (tile_size (Object x)))) w.forwarded))
         (λ b n i. kept_other b n (λ e. let f = ap (in_set p) e in let g = to_out in absurd cc));
     how = elim c.opens.how [ inl g ↦ goes (inr g) | inr g ↦ inr (takes g.0 g.1) ];
   }
 
   outside_same : (a : ℕ) (y : Stored) → in_set p a ≡ false → object_at t a ≡ Some y → object_at t' a ≡ Some y
-  outside_same a y out e = other a (λ n. let f = ap (in_set p) n in let g = inside in absurd cc) (λ n. let f = ap (object_at t) n in let g = object_of t to None w.was in absurd cc) ∙ e
+  outside_same a y out e = other a (λ n. let f = ap (in_set p) n in let g = inside in absurd cc)
+      (λ n. let f = ap (object_at t) n in let g = object_of t to None w.was in absurd cc) ∙ e
 
   from_used : kind_of p.start (from / p.start.words_per_region) ≡ kinds.Free → ⊥
   from_used f = let o = q.ordinary (from / p.start.words_per_region) inside in let n : kinds.Ordinary ≡ kinds.Free = sym o ∙ f in absurd cc
@@ -163,14 +180,21 @@ module _ (p : Pause) (q : IsPause p) (t t' : Table) (d d' : Places) (turn : IsTu
         kinds_same = λ j i n. w.kinds_same j (λ e. n (ap (kind_of p.start) e ∙ fresh.0)) ∙ s.kinds_same j i n;
         used = λ j i n. w.used_same j (λ e. n (ap (kind_of p.start) e ∙ fresh.0)) ∙ s.used j i n;
         objects = λ a y out e. let (z, f, same) = s.objects a y out e in (z, outside_same a z out f, same);
-        none = λ a out n e. other a (λ f. let g = ap (in_set p) f in let h = inside in absurd cc) (λ f. n (ap (λ (m : ℕ). kind_of p.start (m / p.start.words_per_region)) f ∙ ap (kind_of p.start) at_region ∙ fresh.0)) ∙ s.none a out n e;
-        unkept = λ a out n e. w.others a (λ f. let g = ap (in_set p) f in let h = inside in absurd cc) (λ f. n (ap (λ (m : ℕ). kind_of p.start (m / p.start.words_per_region)) f ∙ ap (kind_of p.start) at_region ∙ fresh.0)) ∙ s.unkept a out n e;
+        none = λ a out n e. other a (λ f. let g = ap (in_set p) f in let h = inside in absurd cc)
+            (λ f. n (ap (λ (m : ℕ). kind_of p.start (m / p.start.words_per_region)) f ∙ ap (kind_of p.start) at_region ∙ fresh.0))
+            ∙ s.none a out n e;
+        unkept = λ a out n e. w.others a (λ f. let g = ap (in_set p) f in let h = inside in absurd cc)
+            (λ f. n (ap (λ (m : ℕ). kind_of p.start (m / p.start.words_per_region)) f ∙ ap (kind_of p.start) at_region ∙ fresh.0))
+            ∙ s.unkept a out n e;
         filled = λ j f o. elim (cases_eq j k) [
           | inl e ↦ subst (λ (m : ℕ). 0 < used_of t' m) (sym e) (let u = w.used in omega arith)
           | inr e ↦ (let u = w.used_same j e in let b = s.filled j f (sym (w.kinds_same j e) ∙ o) in omega arith)
         ];
         small = λ a y out f e. elim (cases_eq a to) [
-          | inl g ↦ (let h = ap (object_at t') g in let i = object_of t' to (Some (Object x)) w.copy in let r : x ≡ y = cc in subst (λ (m : Stored). 2 * tile_size (Object m) ≤ p.start.words_per_region) r small)
+          | inl g ↦ (let h = ap (object_at t') g in
+              let i = object_of t' to (Some (Object x)) w.copy in
+              let r : x ≡ y = cc in
+              subst (λ (m : Stored). 2 * tile_size (Object m) ≤ p.start.words_per_region) r small)
           | inr g ↦ s.small a y out f (sym (other a (λ h. let j = ap (in_set p) h in let i = inside in absurd cc) g) ∙ e)
         ];
         moved = λ a b n e. elim (cases_eq a from) [
@@ -179,7 +203,8 @@ module _ (p : Pause) (q : IsPause p) (t t' : Table) (d d' : Places) (turn : IsTu
         ];
         live = λ a u f e. elim (cases_eq a to) [
           | inl g ↦ (x, (let h = ap (tile_in t') g in let i = w.copy in cc))
-          | inr g ↦ s.live a u f (sym (w.others a (λ h. from_used (subst (λ (m : ℕ). kind_of p.start (m / p.start.words_per_region) ≡ kinds.Free) h f)) g) ∙ e)
+          | inr g ↦ s.live a u f (sym (w.others a (λ h.
+              from_used (subst (λ (m : ℕ). kind_of p.start (m / p.start.words_per_region) ≡ kinds.Free) h f)) g) ∙ e)
         ];
         targets = copied_moved (λ a. in_set p a ≡ false) t t' d d' from to x c to_out s.targets;
       }
@@ -188,12 +213,17 @@ module _ (p : Pause) (q : IsPause p) (t t' : Table) (d d' : Places) (turn : IsTu
   unfolding copies_to
   taken_cases j is = elim copies_to.how [
     | inl g ↦ inr (record { at = is.at; is = ap (λ (v : List ℕ). slice_get v is.at) (sym g.regions) ∙ is.is })
-    | inr g ↦ elim (push_place d.regions k j is.at (ap (λ (v : List ℕ). slice_get v is.at) (sym g.regions) ∙ is.is)) [ inl e ↦ inl e.1 | inr e ↦ inr (record { at = is.at; is = e }) ]
+    | inr g ↦ elim (push_place d.regions k j is.at (ap (λ (v : List ℕ). slice_get v is.at) (sym g.regions) ∙ is.is)) [
+      | inl e ↦ inl e.1
+      | inr e ↦ inr (record { at = is.at; is = e })
+    ]
   ]
 
-  pub copy_taken : (j : ℕ) → IsTaken d' j → (kind_of p.start j ≡ kinds.Free) × (kind_of t' j ≡ kinds.Ordinary) × (j < length p.start.regions)
+  pub copy_taken : (j : ℕ) → IsTaken d' j
+      → (kind_of p.start j ≡ kinds.Free) × (kind_of t' j ≡ kinds.Ordinary) × (j < length p.start.regions)
   copy_taken j is = elim (cases_eq j k) [
-    | inl e ↦ (ap (kind_of p.start) e ∙ fresh.0, ap (kind_of t') e ∙ w.ordinary, subst (λ (m : ℕ). m < length p.start.regions) (sym e) known)
+    | inl e ↦
+        (ap (kind_of p.start) e ∙ fresh.0, ap (kind_of t') e ∙ w.ordinary, subst (λ (m : ℕ). m < length p.start.regions) (sym e) known)
     | inr e ↦ elim (taken_cases j is) [
       | inl f ↦ absurd (e f)
       | inr f ↦ let r = turn.taken j f in (r.0, w.kinds_same j e ∙ r.1, r.2)

@@ -1,6 +1,7 @@
 -- The word of a field, and its card.
 use Rattle.heap_words.specs.Configs.{max_words}
-use Rattle.std.proofs.Common.{◌≡◌, ℕ, ◌+◌, ◌*◌, ◌/◌, ◌<◌, ◌≤◌, Bool, true, false, List, Option, Some, length, refl, sym, ap, ◌∙◌, subst, inl, inr, arith, ◌⊎◌}
+use Rattle.std.proofs.Common.{◌≡◌, ◌+◌, ◌*◌, ◌/◌, ◌<◌, ◌≤◌, ◌∙◌, ◌⊎◌}
+use Rattle.std.proofs.Common.{ℕ, Bool, true, false, List, Option, Some, length, refl, sym, ap, subst, inl, inr, arith}
 use Rattle.std.specs.Prelude.{slice_get, slice_set}
 use Rattle.std.proofs.lemmas.Bool.{cases_eq, cases_lt}
 use Rattle.std.proofs.lemmas.Nat.{mul-le}
@@ -17,11 +18,15 @@ use Rattle.evacuation.proofs.Turns.KeptObjects.{kept_object}
 pub field_pointer : (p : Pause) (t : Table) (at i : ℕ) → (f : IsField (space p t) at i) → i < length (fields_at t at)
 field_pointer p t at i f = let e = fields_of t at f.object (kept_object p t at f.object f.at) in let w = f.within in rw e w
 
-pub pointer_is : (p : Pause) (t : Table) (at i : ℕ) (y : Stored) (w : Option ℕ) → kept_now p t at ≡ Some y → slice_get (fields_at t at) i ≡ Some w → slice_get (fields y) i ≡ Some w
-pointer_is p t at i y w at_is e = let q = fields_of t at y (kept_object p t at y at_is) in ap (λ (m : List (Option ℕ)). slice_get m i) (sym q) ∙ e
+pub pointer_is : (p : Pause) (t : Table) (at i : ℕ) (y : Stored) (w : Option ℕ) → kept_now p t at ≡ Some y
+    → slice_get (fields_at t at) i ≡ Some w → slice_get (fields y) i ≡ Some w
+pointer_is p t at i y w at_is e =
+    let q = fields_of t at y (kept_object p t at y at_is) in
+    ap (λ (m : List (Option ℕ)). slice_get m i) (sym q) ∙ e
 
 -- a field's word lies in the heap
-pub word_within : (p : Pause) (t : Table) (at i : ℕ) → IsShaped t → TableStays p t → (f : IsField (space p t) at i) → at + 2 + i < length p.start.regions * p.start.words_per_region
+pub word_within : (p : Pause) (t : Table) (at i : ℕ) → IsShaped t → TableStays p t → (f : IsField (space p t) at i)
+    → at + 2 + i < length p.start.regions * p.start.words_per_region
 word_within p t at i shaped s f =
     let a = object_within t at f.object shaped (kept_object p t at f.object f.at) in
     let b : length t.regions * t.words_per_region ≡ length p.start.regions * p.start.words_per_region = rw (s.count, s.size) refl in
@@ -35,14 +40,18 @@ all_small p q = q.shaped.in_all
 below : (word len n q size card : ℕ) → 0 < len → size ≡ q * len → word < n * size → card * len ≤ word → card < n * q
 below word len n q size card z e h low = elim (cases_lt card (n * q)) [
   | inl k ↦ k
-  | inr k ↦ absurd (let p = mul-le (n * q) len card len k (omega arith) in let whole : n * q * len ≡ n * size = rw e (omega arith) in omega (arith, p, whole))
+  | inr k ↦ absurd (let p = mul-le (n * q) len card len k (omega arith) in
+      let whole : n * q * len ≡ n * size = rw e (omega arith) in
+      omega (arith, p, whole))
 ]
 
-pub card_within : (p : Pause) (noted : List Bool) (word len : ℕ) → IsPause p → len ≡ p.card_words → EachCard p noted → word < length p.start.regions * p.start.words_per_region → word / len < length noted
+pub card_within : (p : Pause) (noted : List Bool) (word len : ℕ) → IsPause p → len ≡ p.card_words → EachCard p noted
+    → word < length p.start.regions * p.start.words_per_region → word / len < length noted
 card_within p noted word len q e n h =
     let z = card_has_words p.card_words p.start.words_per_region p.cards_per_region q.shaped.positive q.whole_cards in
     let low = div_low word p.card_words (word / p.card_words) z refl in
-    let k = below word p.card_words (length p.start.regions) p.cards_per_region p.start.words_per_region (word / p.card_words) z q.whole_cards h low in
+    let k = below word p.card_words (length p.start.regions) p.cards_per_region p.start.words_per_region
+    (word / p.card_words) z q.whole_cards h low in
     subst (λ (m : ℕ). word / m < length noted) (sym e) (omega (arith, k, n))
 
 pub flag_set : (noted : List Bool) (c d : ℕ) → c < length noted → c ≡ d → flag (slice_set noted c true) d ≡ true

@@ -12,16 +12,19 @@ use Rattle.evacuation.proofs.FieldUpdates.Updated.{field_named, updated_after, u
 use Rattle.evacuation.proofs.FieldUpdates.FieldCards.{pointer_is}
 use Rattle.evacuation.proofs.FieldUpdates.Written.{sets_field, write_stays, write_taken}
 
-module _ (p : Pause) (q : IsPause p) (t : Table) (d : Places) (turn : IsTurn p t d) (at i : ℕ) (out : in_set p at ≡ false) (field : IsField (space p t) at i) where
+module _ (p : Pause) (q : IsPause p) (t : Table) (d : Places) (turn : IsTurn p t d) (at i : ℕ) (out : in_set p at ≡ false)
+    (field : IsField (space p t) at i) where
   pub named : (a : ℕ) → slice_get (fields_at t at) i ≡ Some (Some a) → in_set p a ≡ true → IsNamed (layout p) (plan p) a
-  named a e inside = field_named (layout p) (plan p) (space p t) d q.plan_is turn.copying at i a field.object out field.at (pointer_is p t at i field.object (Some a) field.at e) inside
+  named a e inside = field_named (layout p) (plan p) (space p t) d q.plan_is turn.copying at i a field.object out field.at
+      (pointer_is p t at i field.object (Some a) field.at e) inside
 
   -- what a field that isn't updated names
   pub unchanged : (v : Option ℕ) → slice_get (fields_at t at) i ≡ Some v → IsClean (layout p) v → IsFieldClean (layout p) (space p t) at i
   unchanged v e c y w here f = let k = pointer_is p t at i y v here e in let same : v ≡ w = cc in subst (IsClean (layout p)) same c
 
   module _ (t1 t2 : Table) (d1 : Places) (turn1 : IsTurn p t1 d1) (after1 : (noted : List Bool) → After p noted noted t t1 d d1)
-      (frame : (b : ℕ) (y : Stored) → in_set p b ≡ false → kept_now p t b ≡ Some y → kept_now p t1 b ≡ Some y) (a b : ℕ) (names : slice_get (fields_at t at) i ≡ Some (Some a)) (inside : in_set p a ≡ true)
+      (frame : (b : ℕ) (y : Stored) → in_set p b ≡ false → kept_now p t b ≡ Some y → kept_now p t1 b ≡ Some y) (a b : ℕ)
+      (names : slice_get (fields_at t at) i ≡ Some (Some a)) (inside : in_set p a ≡ true)
       (place : moved_to (tile_in t1 a) ≡ Some b) where
     abbrev y : Stored
     y = field.object
@@ -41,31 +44,42 @@ module _ (p : Pause) (q : IsPause p) (t : Table) (d : Places) (turn : IsTurn p t
 
       pub update_turn : IsTurn p t2 d1
       update_turn = record {
-        copying = updated_copying (layout p) (plan p) (space p t1) (space p t2) d1 turn1.copying at i a b y out here named_there inside place sets;
+        copying = updated_copying (layout p) (plan p) (space p t1) (space p t2) d1 turn1.copying at i a
+            b y out here named_there inside place sets;
         table = write_stays p q t1 t2 d1 turn1 positive at i (Some b) y out here is;
         taken = write_taken p q t1 t2 d1 turn1 positive at i (Some b) y out here is;
       }
 
-      module _ (noted noted' : List Bool) (is_noted : IsNoted (layout p) noted' (field_word at i) (Some b)) (grows : (c : ℕ) → flag noted c ≡ true → flag noted' c ≡ true) (same : length noted' ≡ length noted)
-          (only : (c : ℕ) → flag noted' c ≡ true → (flag noted c ≡ true) ⊎ ((c ≡ field_word at i / p.card_words) × (b / p.start.words_per_region ≢ field_word at i / p.start.words_per_region))) where
+      module _ (noted noted' : List Bool) (is_noted : IsNoted (layout p) noted' (field_word at i) (Some b))
+          (grows : (c : ℕ) → flag noted c ≡ true → flag noted' c ≡ true) (same : length noted' ≡ length noted)
+          (only : (c : ℕ) → flag noted' c ≡ true → (flag noted c ≡ true)
+          ⊎ ((c ≡ field_word at i / p.card_words) × (b / p.start.words_per_region ≢ field_word at i / p.start.words_per_region))) where
         pub update_after : After p noted noted' t t2 d d1
         update_after =
             after_after (layout p) noted noted noted' (space p t) (space p t1) (space p t2) d d1 d1 (after1 noted)
-            (updated_after (layout p) (plan p) (space p t1) (space p t2) d1 turn1.copying at i a b y out here named_there inside place sets noted noted' is_noted grows same only)
+            (updated_after (layout p) (plan p) (space p t1) (space p t2) d1 turn1.copying at i a b y out here named_there inside place
+            sets noted noted' is_noted grows same only)
 
         pub update_settled : IsFieldSettled (layout p) noted' (space p t2) at i
-        update_settled = updated_settled (layout p) (plan p) (space p t1) (space p t2) d1 turn1.copying at i a b y out here named_there inside place sets noted noted' is_noted grows same only
+        update_settled = updated_settled (layout p) (plan p) (space p t1) (space p t2) d1 turn1.copying at i a b y out here named_there
+            inside place sets noted noted' is_noted grows same only
 
         pub update_clean : IsFieldClean (layout p) (space p t2) at i
         update_clean z w e f = (update_settled z w e f).0
 
 -- a clean field whose card is noted
-pub noted_settled : (p : Pause) (t : Table) (at i : ℕ) (noted : List Bool) (v : Option ℕ) → slice_get (fields_at t at) i ≡ Some v → IsFieldClean (layout p) (space p t) at i → IsNoted (layout p) noted (field_word at i) v → IsFieldSettled (layout p) noted (space p t) at i
+pub noted_settled : (p : Pause) (t : Table) (at i : ℕ) (noted : List Bool) (v : Option ℕ) → slice_get (fields_at t at) i ≡ Some v
+    → IsFieldClean (layout p) (space p t) at i → IsNoted (layout p) noted (field_word at i) v
+    → IsFieldSettled (layout p) noted (space p t) at i
 noted_settled p t at i noted v e c n y w here f =
     let k = pointer_is p t at i y v here e in
     let same : v ≡ w = cc in
     (c y w here f, subst (IsNoted (layout p) noted (field_word at i)) same n)
 
 -- the field of an object that stays
-pub field_after : (p : Pause) (noted noted' : List Bool) (t t' : Table) (d d' : Places) (at i : ℕ) → After p noted noted' t t' d d' → in_set p at ≡ false → IsField (space p t) at i → IsField (space p t') at i
-field_after p noted noted' t t' d d' at i a out f = let (y, e, n) = a.stays at f.object out f.at in let w = f.within in record { object = y; at = e; within = omega arith }
+pub field_after : (p : Pause) (noted noted' : List Bool) (t t' : Table) (d d' : Places) (at i : ℕ) → After p noted noted' t t' d d'
+    → in_set p at ≡ false → IsField (space p t) at i → IsField (space p t') at i
+field_after p noted noted' t t' d d' at i a out f =
+    let (y, e, n) = a.stays at f.object out f.at in
+    let w = f.within in
+    record { object = y; at = e; within = omega arith }

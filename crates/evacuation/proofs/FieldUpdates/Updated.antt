@@ -1,5 +1,6 @@
 -- A field of an object outside the set is updated.
-use Rattle.std.proofs.Common.{◌≡◌, ℕ, ◌/◌, ◌⊎◌, Bool, true, false, List, Option, Some, None, length, refl, sym, ap, ◌∙◌, subst, inl, inr, arith, ◌≢◌}
+use Rattle.std.proofs.Common.{◌≡◌, ◌/◌, ◌⊎◌, ◌∙◌, ◌≢◌}
+use Rattle.std.proofs.Common.{ℕ, Bool, true, false, List, Option, Some, None, length, refl, sym, ap, subst, inl, inr, arith}
 use Rattle.std.specs.Prelude.{slice_get, slice_set}
 use Rattle.std.proofs.lemmas.Bool.{cases_eq}
 use Rattle.std.proofs.lemmas.List.{length-set}
@@ -10,7 +11,8 @@ use Rattle.heap_model.proofs.Lists.{get-set_same, get-set_other}
 use Rattle.heap_model.proofs.Evacuated.{field_reached, field_updated}
 use Rattle.object_copy.specs.Copies.{Places}
 use Rattle.refinement.specs.Remembering.{field_word}
-use Rattle.evacuation.specs.Space.{Layout, Plan, Space, SetsField, IsPlan, IsCopying, IsNamed, IsAfter, IsObject, IsSettled, IsUpdated, IsFieldSettled, filled, flag, set_of, seen_as}
+use Rattle.evacuation.specs.Space.{Layout, Plan, Space, SetsField, IsPlan, IsCopying, IsNamed, IsAfter, IsObject, IsSettled}
+use Rattle.evacuation.specs.Space.{IsUpdated, IsFieldSettled, filled, flag, set_of, seen_as}
 use Rattle.evacuation.proofs.Copies.ObjectCopied.{same_evacuating, same_tally}
 
 -- what is reached stands there
@@ -20,7 +22,8 @@ reached_kept set h c a (ByOutside b d o p i) = c.field b p.field d p.object p.at
 reached_kept set h c a (ByInside b d o p i) = c.field b p.field d p.object p.at p.is
 
 module _ (l : Layout) (p : Plan) (s : Space) (d : Places) (q : IsPlan l p) (c : IsCopying l p s d)
-    (at i a : ℕ) (y : Stored) (out : set_of l at ≡ false) (here : s.object at ≡ Some y) (names : slice_get (fields y) i ≡ Some (Some a)) (inside : set_of l a ≡ true) where
+    (at i a : ℕ) (y : Stored) (out : set_of l at ≡ false) (here : s.object at ≡ Some y)
+    (names : slice_get (fields y) i ≡ Some (Some a)) (inside : set_of l a ≡ true) where
   pub field_named : IsNamed l p a
   field_named =
       let r = field_reached (set_of l) p.heap s.forward (seen_as s p.heap) c.heap at i a y here out names inside in
@@ -28,7 +31,8 @@ module _ (l : Layout) (p : Plan) (s : Space) (d : Places) (q : IsPlan l p) (c : 
       record { object = x; at = k; inside = inside; reached = r }
 
 module _ (l : Layout) (p : Plan) (s s' : Space) (d : Places) (c : IsCopying l p s d)
-    (at i a b : ℕ) (y : Stored) (out : set_of l at ≡ false) (here : s.object at ≡ Some y) (names : slice_get (fields y) i ≡ Some (Some a)) (inside : set_of l a ≡ true)
+    (at i a b : ℕ) (y : Stored) (out : set_of l at ≡ false) (here : s.object at ≡ Some y)
+    (names : slice_get (fields y) i ≡ Some (Some a)) (inside : set_of l a ≡ true)
     (f : s.forward a ≡ Some b) (u : SetsField s s' at i (Some b) y) where
   abbrev updated : Stored
   updated = with_field y i (Some b)
@@ -50,7 +54,8 @@ module _ (l : Layout) (p : Plan) (s s' : Space) (d : Places) (c : IsCopying l p 
   pub updated_copying : IsCopying l p s' d
   updated_copying = record {
     heap = same_evacuating (set_of l) p.heap s.forward s'.forward p.heap.roots s'.object s'.object (λ x. sym (u.forward x)) (λ x. refl)
-        (field_updated (set_of l) p.heap s.forward (seen_as s p.heap) c.heap (seen_as s' p.heap) at i a b y updated out names inside f change is_set.values is_set.shape is_set.fields_are);
+        (field_updated (set_of l) p.heap s.forward (seen_as s p.heap) c.heap (seen_as s' p.heap) at i a b y updated out names inside f
+        change is_set.values is_set.shape is_set.fields_are);
     free = λ k e. c.free k (sym (u.free k) ∙ e);
     taken = c.taken;
     last = c.last;
@@ -67,15 +72,23 @@ module _ (l : Layout) (p : Plan) (s s' : Space) (d : Places) (c : IsCopying l p 
   new_outside : set_of l b ≡ false
   new_outside = c.heap.out a b inside f
 
-  module _ (t t' : List Bool) (noted : (b / l.words ≡ field_word at i / l.words) ⊎ (flag t' (field_word at i / l.card_words) ≡ true)) (grows : (x : ℕ) → flag t x ≡ true → flag t' x ≡ true) (same : length t' ≡ length t)
-      (only : (c : ℕ) → flag t' c ≡ true → (flag t c ≡ true) ⊎ ((c ≡ field_word at i / l.card_words) × (b / l.words ≢ field_word at i / l.words))) where
+  module _ (t t' : List Bool) (noted : (b / l.words ≡ field_word at i / l.words) ⊎ (flag t' (field_word at i / l.card_words) ≡ true))
+      (grows : (x : ℕ) → flag t x ≡ true → flag t' x ≡ true) (same : length t' ≡ length t)
+      (only : (c : ℕ) → flag t' c ≡ true
+      → (flag t c ≡ true) ⊎ ((c ≡ field_word at i / l.card_words) × (b / l.words ≢ field_word at i / l.words))) where
     word_settled : (w : Option ℕ) → w ≡ Some b → IsSettled l t' (field_word at i) w
     word_settled None e = cc
     word_settled (Some x) e = let k : b ≡ x = cc in subst (λ (m : ℕ). IsSettled l t' (field_word at i) (Some m)) k (new_outside, noted)
 
-    place_cases : (j : ℕ) (w : Option ℕ) → slice_get (slice_set (fields y) i (Some b)) j ≡ Some w → ((i ≡ j) × (w ≡ Some b)) ⊎ (slice_get (fields y) j ≡ Some w)
+    place_cases : (j : ℕ) (w : Option ℕ) → slice_get (slice_set (fields y) i (Some b)) j ≡ Some w
+        → ((i ≡ j) × (w ≡ Some b)) ⊎ (slice_get (fields y) j ≡ Some w)
     place_cases j w e = elim (cases_eq i j) [
-      | inl k ↦ inl (k, (let g = get-set_same (fields y) i (Some b) (Some a) names in let e' = subst (λ (m : ℕ). slice_get (slice_set (fields y) i (Some b)) m ≡ Some w) (sym k) e in cc))
+      | inl k ↦ inl (
+        k,
+        (let g = get-set_same (fields y) i (Some b) (Some a) names in
+            let e' = subst (λ (m : ℕ). slice_get (slice_set (fields y) i (Some b)) m ≡ Some w) (sym k) e in
+            cc),
+      )
       | inr n ↦ inr (sym (get-set_other (fields y) i j (Some b) n) ∙ e)
     ]
 
@@ -88,7 +101,12 @@ module _ (l : Layout) (p : Plan) (s s' : Space) (d : Places) (c : IsCopying l p 
         word_settled w cc
 
     is_updated : (j : ℕ) (w : Option ℕ) → i ≡ j → w ≡ Some b → IsUpdated l t' (field_word at j) (Some a) w
-    is_updated j w k e = record { target = a; named = refl; inside = inside; settled = subst (λ (m : ℕ). IsSettled l t' (field_word at m) w) k (word_settled w e) }
+    is_updated j w k e = record {
+      target = a;
+      named = refl;
+      inside = inside;
+      settled = subst (λ (m : ℕ). IsSettled l t' (field_word at m) w) k (word_settled w e);
+    }
 
     pub updated_after : IsAfter l t t' s s' d d
     updated_after = record {
@@ -114,7 +132,12 @@ module _ (l : Layout) (p : Plan) (s s' : Space) (d : Places) (c : IsCopying l p 
       taken_grows = λ j k e. e;
       used_grows = λ k. let e = u.used k in omega arith;
       stays = λ x z o e. elim (cases_eq x at) [
-        | inl k ↦ (updated, ap s'.object k ∙ u.object, ap (λ (ws : List (Option ℕ)). length ws) is_set.fields_are ∙ length-set (fields y) i (Some b) ∙ ap (λ (m : Stored). length (fields m)) (let e1 = ap s.object k in let r : y ≡ z = cc in r))
+        | inl k ↦ (
+          updated,
+          ap s'.object k ∙ u.object,
+          ap (λ (ws : List (Option ℕ)). length ws) is_set.fields_are ∙ length-set (fields y) i (Some b)
+              ∙ ap (λ (m : Stored). length (fields m)) (let e1 = ap s.object k in let r : y ≡ z = cc in r),
+        )
         | inr n ↦ (z, u.others x n ∙ e, refl)
       ];
       new_above = λ x z o e. inl (was x z e);
@@ -127,7 +150,8 @@ module _ (l : Layout) (p : Plan) (s s' : Space) (d : Places) (c : IsCopying l p 
             elim (place_cases j w g') [
               | inl v ↦ inr (
                 Some a,
-                subst (λ (m : Stored). slice_get (fields m) j ≡ Some (Some a)) (sym k1) (subst (λ (m : ℕ). slice_get (fields y) m ≡ Some (Some a)) v.0 names),
+                subst (λ (m : Stored). slice_get (fields m) j ≡ Some (Some a)) (sym k1)
+                    (subst (λ (m : ℕ). slice_get (fields y) m ≡ Some (Some a)) v.0 names),
                 subst (λ (m : ℕ). IsUpdated l t' (field_word m j) (Some a) w) (sym k) (is_updated j w v.0 v.1),
               )
               | inr v ↦ inl (subst (λ (m : Stored). slice_get (fields m) j ≡ Some w) (sym k1) v)

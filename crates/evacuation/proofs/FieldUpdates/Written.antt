@@ -19,7 +19,8 @@ use Rattle.evacuation.specs.Turns.{Pause, IsPause, IsTurn, TableStays, all_words
 use Rattle.evacuation.proofs.Copies.LeftWords.{left_same}
 use Rattle.evacuation.proofs.Turns.KeptObjects.{kept_as, kept_object, kept_some}
 
-module _ (p : Pause) (q : IsPause p) (t t' : Table) (d : Places) (turn : IsTurn p t d) (positive : 0 < t.words_per_region) (at i : ℕ) (v : Option ℕ) (y : Stored)
+module _ (p : Pause) (q : IsPause p) (t t' : Table) (d : Places) (turn : IsTurn p t d)
+    (positive : 0 < t.words_per_region) (at i : ℕ) (v : Option ℕ) (y : Stored)
     (out : in_set p at ≡ false) (here : kept_now p t at ≡ Some y) (is : t' ≡ set_field t at i v) where
   object : object_at t at ≡ Some y
   object = kept_object p t at y here
@@ -50,11 +51,14 @@ module _ (p : Pause) (q : IsPause p) (t t' : Table) (d : Places) (turn : IsTurn 
     used = w.used;
     free = λ k. free_by_kind t' k ∙ ap kind_is_free (w.kinds k) ∙ sym (free_by_kind t k);
     free_count = same_free t t' w.count w.kinds;
-    left = left_same (kept_now p t) (kept_now p t') (in_set p) (all_words p) (λ a e. kept_other a (λ f. let g = ap (in_set p) f in let h = out in absurd cc));
+    left = left_same (kept_now p t) (kept_now p t') (in_set p) (all_words p)
+        (λ a e. kept_other a (λ f. let g = ap (in_set p) f in let h = out in absurd cc));
   }
 
   same : (x : Stored) → IsSameBut x y → IsSameBut x (with_field y i v)
-  same x s = let f = field_set y i v in record { name = f.name ∙ s.name; values = f.values ∙ s.values; pointers = f.shape ∙ s.pointers; weaks = field_weaks y i v ∙ s.weaks }
+  same x s =
+      let f = field_set y i v in
+      record { name = f.name ∙ s.name; values = f.values ∙ s.values; pointers = f.shape ∙ s.pointers; weaks = field_weaks y i v ∙ s.weaks }
 
   pub write_stays : TableStays p t'
   write_stays =
@@ -76,7 +80,8 @@ module _ (p : Pause) (q : IsPause p) (t t' : Table) (d : Places) (turn : IsTurn 
                   (with_field y i v, ap (object_at t') g ∙ w.is, same x (subst (IsSameBut x) m r))
               | inr n ↦ (z, other a n ∙ f, r)
             ];
-        none = λ a o n e. other a (λ f. let g = s.none a o n e in let h = ap (object_at t) f in let k = object in absurd cc) ∙ s.none a o n e;
+        none =
+            λ a o n e. other a (λ f. let g = s.none a o n e in let h = ap (object_at t) f in let k = object in absurd cc) ∙ s.none a o n e;
         unkept = λ a o n e. w.others a (λ f. stood a o n e f) ∙ s.unkept a o n e;
         filled = λ k f o. let b = s.filled k f (sym (w.kinds k) ∙ o) in let u = w.used k in omega arith;
         small = λ a x o f e. elim (cases_eq a at) [
@@ -94,11 +99,13 @@ module _ (p : Pause) (q : IsPause p) (t t' : Table) (d : Places) (turn : IsTurn 
           | inl g ↦ (with_field y i v, (let h = ap (tile_in t') g in let k = tile' in cc))
           | inr n ↦ s.live a u f (sym (w.others a n) ∙ e)
         ];
-        targets = subst (λ (u : Table). EachForwardedIn (λ a. in_set p a ≡ false) u.regions) (sym (is ∙ set_field-is t at i v y object)) (put_object-moved (λ a. in_set p a ≡ false) t at (with_field y i v) s.targets);
+        targets = subst (λ (u : Table). EachForwardedIn (λ a. in_set p a ≡ false) u.regions) (sym (is ∙ set_field-is t at i v y object))
+            (put_object-moved (λ a. in_set p a ≡ false) t at (with_field y i v) s.targets);
       }
     where
       -- what is written was kept at the start
-      stood : (a : ℕ) → in_set p a ≡ false → kind_of p.start (a / p.start.words_per_region) ≢ kinds.Free → kept_now p p.start a ≡ None → a ≡ at → ⊥
+      stood : (a : ℕ) → in_set p a ≡ false → kind_of p.start (a / p.start.words_per_region) ≢ kinds.Free
+          → kept_now p p.start a ≡ None → a ≡ at → ⊥
       stood a o n e f =
           let now : kept_now p t a ≡ Some y = ap (kept_now p t) f ∙ here in
           let start = kept_some p t p.start a y now (sym turn.table.size) in
@@ -106,5 +113,6 @@ module _ (p : Pause) (q : IsPause p) (t t' : Table) (d : Places) (turn : IsTurn 
           let some = ap (object_at t) f ∙ object in
           cc
 
-  pub write_taken : (j : ℕ) → IsTaken d j → (kind_of p.start j ≡ kinds.Free) × (kind_of t' j ≡ kinds.Ordinary) × (j < length p.start.regions)
+  pub write_taken : (j : ℕ) → IsTaken d j
+      → (kind_of p.start j ≡ kinds.Free) × (kind_of t' j ≡ kinds.Ordinary) × (j < length p.start.regions)
   write_taken j k = let r = turn.taken j k in (r.0, w.kinds j ∙ r.1, r.2)

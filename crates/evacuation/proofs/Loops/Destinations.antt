@@ -1,5 +1,6 @@
 -- What scans of copies keep.
-use Rattle.std.proofs.Common.{◌≡◌, ℕ, ◌+◌, ◌*◌, ◌/◌, ◌%◌, ◌<◌, Bool, false, List, Option, Some, None, length, refl, sym, ap, ◌∙◌, subst, inl, inr, arith}
+use Rattle.std.proofs.Common.{◌≡◌, ◌+◌, ◌*◌, ◌/◌, ◌%◌, ◌<◌, ◌∙◌}
+use Rattle.std.proofs.Common.{ℕ, Bool, false, List, Option, Some, None, length, refl, sym, ap, subst, inl, inr, arith}
 use Rattle.std.specs.Prelude.{slice_get, IsSome}
 use Rattle.std.proofs.lemmas.Bool.{cases_eq, cases_lt}
 use Rattle.heap_model.specs.Heap.{Stored}
@@ -19,12 +20,14 @@ use Rattle.evacuation.proofs.Turns.KeptObjects.{kept_fresh, kept_object, object_
 use Rattle.evacuation.proofs.Turns.Following.{object_settled_after}
 
 -- what stands in a destination is a kept object
-pub copy_there : (p : Pause) → IsPause p → (t : Table) (d : Places) → IsTurn p t d → (k : ℕ) → IsTaken d k → (a : ℕ) → a / p.start.words_per_region ≡ k → IsSome (tile_in t a) → IsObject (space p t) a
+pub copy_there : (p : Pause) → IsPause p → (t : Table) (d : Places) → IsTurn p t d → (k : ℕ) → IsTaken d k → (a : ℕ)
+    → a / p.start.words_per_region ≡ k → IsSome (tile_in t a) → IsObject (space p t) a
 copy_there p q t d turn k w a r s =
     let (u, e) = tile_there t a s in
     let free : kind_of p.start (a / p.start.words_per_region) ≡ kinds.Free = ap (kind_of p.start) r ∙ (turn.taken k w).0 in
     let (x, same) = turn.table.live a u free e in
-    let known : a / p.start.words_per_region < length p.start.regions = subst (λ (m : ℕ). m < length p.start.regions) (sym r) (turn.taken k w).2 in
+    let known : a / p.start.words_per_region < length p.start.regions =
+    subst (λ (m : ℕ). m < length p.start.regions) (sym r) (turn.taken k w).2 in
     (x, kept_fresh p t a q turn.table.size known free ∙ object_of t a (Some (Object x)) (e ∙ ap Some same))
 
 module _ (p : Pause) (q : IsPause p) (t : Table) (d : Places) (turn : IsTurn p t d) (g : IsShaped t) (k : ℕ) (w : IsTaken d k) where
@@ -41,7 +44,8 @@ module _ (p : Pause) (q : IsPause p) (t : Table) (d : Places) (turn : IsTurn p t
   pub kept_tile : (a : ℕ) (y : Stored) → kept_now p t a ≡ Some y → tile_in t a ≡ Some (Object y)
   kept_tile a y e = tile_of_object t a y (kept_object p t a y e)
 
-  pub kept_low : (a : ℕ) (y : Stored) → a / p.start.words_per_region ≡ k → kept_now p t a ≡ Some y → a < k * p.start.words_per_region + used_of t k
+  pub kept_low : (a : ℕ) (y : Stored) → a / p.start.words_per_region ≡ k → kept_now p t a ≡ Some y
+      → a < k * p.start.words_per_region + used_of t k
   kept_low a y r e =
       let r' : a / t.words_per_region ≡ k = subst (λ (n : ℕ). a / n ≡ k) (sym words) r in
       let low = tile_low t a (Object y) g (kept_tile a y e) (ap (kind_of t) r' ∙ (turn.taken k w).1) in
@@ -59,14 +63,19 @@ module _ (p : Pause) (q : IsPause p) (t : Table) (d : Places) (turn : IsTurn p t
       )
 
   -- the copy at an address was settled: those below the next one are
-  module _ (t' : Table) (d' : Places) (noted noted' : List Bool) (turn' : IsTurn p t' d') (after : After p noted noted' t t' d d') (at : ℕ) (r : at / p.start.words_per_region ≡ k) (o : IsObject (space p t) at)
+  module _ (t' : Table) (d' : Places) (noted noted' : List Bool) (turn' : IsTurn p t' d') (after : After p noted noted' t t' d d') (at : ℕ)
+      (r : at / p.start.words_per_region ≡ k) (o : IsObject (space p t) at)
       (done : AreSettledBelow p noted t k at) (settled : IsObjectSettled (layout p) noted' (space p t') at) where
-    below_at : (b : ℕ) (y : Stored) → b / p.start.words_per_region ≡ k → b < at → kept_now p t' b ≡ Some y → IsObjectSettled (layout p) noted' (space p t') b
+    below_at : (b : ℕ) (y : Stored) → b / p.start.words_per_region ≡ k → b < at → kept_now p t' b ≡ Some y
+        → IsObjectSettled (layout p) noted' (space p t') b
     below_at b y rb h e = elim (after.new_above b y (copy_outside b rb) e) [
-      | inl was ↦ object_settled_after (layout p) noted noted' (space p t) (space p t') d d' b after (copy_outside b rb) was (done b was.0 rb h was.1)
+      | inl was ↦ object_settled_after (layout p) noted noted' (space p t) (space p t') d d' b after
+          (copy_outside b rb) was (done b was.0 rb h was.1)
       | inr high ↦ absurd (
           let low = kept_low at o.0 r o.1 in
-          let s : b / p.start.words_per_region * p.start.words_per_region + used_of t (b / p.start.words_per_region) ≡ k * p.start.words_per_region + used_of t k = ap (λ (m : ℕ). m * p.start.words_per_region + used_of t m) rb in
+          let s : b / p.start.words_per_region * p.start.words_per_region + used_of t (b / p.start.words_per_region)
+          ≡ k * p.start.words_per_region + used_of t k =
+          ap (λ (m : ℕ). m * p.start.words_per_region + used_of t m) rb in
           omega arith
           )
     ]
@@ -98,13 +107,17 @@ module _ (p : Pause) (q : IsPause p) (t : Table) (d : Places) (turn : IsTurn p t
 pub record AreRegionsSettled (p : Pause) (noted : List Bool) (t : Table) (d : Places) (n : ℕ) : Type 0 where
   pub each : (m k : ℕ) → m < n → slice_get d.regions m ≡ Some k → IsRegionSettled (layout p) noted (space p t) k
 
-module _ (p : Pause) (t t' : Table) (d d' : Places) (noted noted' : List Bool) (turn : IsTurn p t d) (turn' : IsTurn p t' d') (after : After p noted noted' t t' d d') (n k : ℕ) (at : slice_get d.regions n ≡ Some k) where
-  still : (m j : ℕ) → m < n → slice_get d.regions m ≡ Some j → IsRegionSettled (layout p) noted (space p t) j → IsRegionSettled (layout p) noted' (space p t') j
+module _ (p : Pause) (t t' : Table) (d d' : Places) (noted noted' : List Bool) (turn : IsTurn p t d) (turn' : IsTurn p t' d')
+    (after : After p noted noted' t t' d d') (n k : ℕ) (at : slice_get d.regions n ≡ Some k) where
+  still : (m j : ℕ) → m < n → slice_get d.regions m ≡ Some j → IsRegionSettled (layout p) noted (space p t) j
+      → IsRegionSettled (layout p) noted' (space p t') j
   still m j h e settled b y r here =
       let w : IsTaken d j = record { at = m; is = e } in
-      let closed = after.closed j w (λ l. let z = turn.copying.last_at j m l e in let v = get_within d.regions n k at in absurd (omega arith)) in
+      let closed =
+      after.closed j w (λ l. let z = turn.copying.last_at j m l e in let v = get_within d.regions n k at in absurd (omega arith)) in
       let was = closed.0 b y r here in
-      object_settled_after (layout p) noted noted' (space p t) (space p t') d d' b after (ap (flag p.chosen) r ∙ turn.copying.taken j w) was (settled b was.0 r was.1)
+      object_settled_after (layout p) noted noted' (space p t) (space p t') d d' b after
+      (ap (flag p.chosen) r ∙ turn.copying.taken j w) was (settled b was.0 r was.1)
 
   before : (m j : ℕ) → m < n → slice_get d'.regions m ≡ Some j → slice_get d.regions m ≡ Some j
   before m j h e = go (slice_get d.regions m) refl
@@ -113,13 +126,18 @@ module _ (p : Pause) (t t' : Table) (d d' : Places) (noted noted' : List Bool) (
       go None f = absurd (let z = get_before d.regions m n k f at in omega arith)
       go (Some i) f = let g = after.taken_grows m i f in f ∙ (let same : i ≡ j = cc in ap Some same)
 
-  pub regions_more : AreRegionsSettled p noted t d n → IsRegionSettled (layout p) noted' (space p t') k → AreRegionsSettled p noted' t' d' (n + 1)
+  pub regions_more : AreRegionsSettled p noted t d n → IsRegionSettled (layout p) noted' (space p t') k
+      → AreRegionsSettled p noted' t' d' (n + 1)
   regions_more done settled = record {
     each = λ m j h e. elim (cases_eq m n) [
-      | inl same ↦ (let f = after.taken_grows n k at in let g = ap (slice_get d'.regions) same in let s : k ≡ j = cc in subst (IsRegionSettled (layout p) noted' (space p t')) s settled)
+      | inl same ↦ (let f = after.taken_grows n k at in
+          let g = ap (slice_get d'.regions) same in
+          let s : k ≡ j = cc in
+          subst (IsRegionSettled (layout p) noted' (space p t')) s settled)
       | inr other ↦ let e' = before m j (omega arith) e in still m j (omega arith) e' (done.each m j (omega arith) e')
     ];
   }
 
-pub regions_all : (p : Pause) (noted : List Bool) (t : Table) (d : Places) (n : ℕ) → AreRegionsSettled p noted t d n → slice_get d.regions n ≡ None → (k : ℕ) → IsTaken d k → IsRegionSettled (layout p) noted (space p t) k
+pub regions_all : (p : Pause) (noted : List Bool) (t : Table) (d : Places) (n : ℕ) → AreRegionsSettled p noted t d n
+    → slice_get d.regions n ≡ None → (k : ℕ) → IsTaken d k → IsRegionSettled (layout p) noted (space p t) k
 regions_all p noted t d n done none k w = done.each w.at k (get_before d.regions n w.at k none w.is) w.is

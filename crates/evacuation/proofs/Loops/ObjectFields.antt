@@ -14,14 +14,16 @@ use Rattle.evacuation.proofs.Turns.Following.{settled_after}
 pub still_field : (p : Pause) (t : Table) (at n i : ℕ) → IsStill (space p t) at n → i < n → IsField (space p t) at i
 still_field p t at n i s h = let (y, e, c) = s in record { object = y; at = e; within = omega arith }
 
-pub fields_more : (p : Pause) (noted noted' : List Bool) (t t' : Table) (d d' : Places) (at n : ℕ) → After p noted noted' t t' d d' → in_set p at ≡ false → IsObject (space p t) at
-    → AreFieldsSettled p noted t at n → IsFieldSettled (layout p) noted' (space p t') at n → AreFieldsSettled p noted' t' at (n + 1)
+pub fields_more : (p : Pause) (noted noted' : List Bool) (t t' : Table) (d d' : Places) (at n : ℕ) → After p noted noted' t t' d d'
+    → in_set p at ≡ false → IsObject (space p t) at → AreFieldsSettled p noted t at n → IsFieldSettled (layout p) noted' (space p t') at n
+    → AreFieldsSettled p noted' t' at (n + 1)
 fields_more p noted noted' t t' d d' at n a out o settled last i k = elim (cases_eq i n) [
   | inl q ↦ subst (IsFieldSettled (layout p) noted' (space p t') at) (sym q) last
   | inr q ↦ settled_after (layout p) noted noted' (space p t) (space p t') d d' at i a out o (settled i (omega arith))
 ]
 
-pub fields_all : (p : Pause) (noted : List Bool) (t : Table) (at m n : ℕ) → AreFieldsSettled p noted t at n → IsStill (space p t) at m → m ≤ n → IsObjectSettled (layout p) noted (space p t) at
+pub fields_all : (p : Pause) (noted : List Bool) (t : Table) (at m n : ℕ) → AreFieldsSettled p noted t at n → IsStill (space p t) at m
+    → m ≤ n → IsObjectSettled (layout p) noted (space p t) at
 fields_all p noted t at m n settled still h i y w e f =
     let (z, e1, count) = still in
     let same : z ≡ y = cc in

@@ -1,5 +1,6 @@
 -- Scans of the fields outside the set, card by card.
-use Rattle.std.proofs.Common.{◌≡◌, ℕ, ◌+◌, ◌*◌, ◌/◌, ◌<◌, ◌≤◌, Bool, true, false, List, [], ◌∷◌, Option, Some, length, refl, sym, ap, ◌∙◌, subst, inl, inr, arith}
+use Rattle.std.proofs.Common.{◌≡◌, ◌+◌, ◌*◌, ◌/◌, ◌<◌, ◌≤◌, ◌∷◌, ◌∙◌}
+use Rattle.std.proofs.Common.{ℕ, Bool, true, false, List, [], Option, Some, length, refl, sym, ap, subst, inl, inr, arith}
 use Rattle.std.specs.Prelude.{IsSome}
 use Rattle.std.specs.List.{AllZip}
 use Rattle.std.proofs.lemmas.Bool.{cases_eq, cases_lt}
@@ -34,20 +35,31 @@ zip_length place (x ∷ xs) [] z = absurd z
 zip_length place (x ∷ xs) (y ∷ ys) z = let k = zip_length place xs ys z.1 in omega arith
 
 -- an object that stood outside the set stands there still, with as many fields
-pub outside_stands : (p : Pause) (t : Table) (d : Places) (b : ℕ) (x : Stored) → IsTurn p t d → (plan p).heap.kept b ≡ Some x → in_set p b ≡ false → IsStill (space p t) b (length (fields x))
+pub outside_stands : (p : Pause) (t : Table) (d : Places) (b : ℕ) (x : Stored) → IsTurn p t d → (plan p).heap.kept b ≡ Some x
+    → in_set p b ≡ false → IsStill (space p t) b (length (fields x))
 outside_stands p t d b x turn at out =
     let k = turn.copying.heap.objects b b x at (rw out refl) in
     (k.part, k.at, zip_length (place_after (in_set p) (space p t).forward) (fields x) (fields k.part) k.words)
 
-pub visited_field : (p : Pause) (t : Table) (d : Places) (visited : List Bool) (b i : ℕ) → IsTurn p t d → IsVisited (layout p) (plan p) visited b i → IsField (space p t) b i
-visited_field p t d visited b i turn v = let (y, at, n) = outside_stands p t d b v.object turn v.at v.outside in let k = v.within in record { object = y; at = at; within = omega arith }
+pub visited_field : (p : Pause) (t : Table) (d : Places) (visited : List Bool) (b i : ℕ) → IsTurn p t d
+    → IsVisited (layout p) (plan p) visited b i → IsField (space p t) b i
+visited_field p t d visited b i turn v =
+    let (y, at, n) = outside_stands p t d b v.object turn v.at v.outside in
+    let k = v.within in
+    record { object = y; at = at; within = omega arith }
 
 -- the word of a visited field belongs to its object's tile
-visited_holder : (p : Pause) (t : Table) (d : Places) (visited : List Bool) (b i : ℕ) → IsTurn p t d → IsVisited (layout p) (plan p) visited b i → IsHolder t b (field_word b i)
+visited_holder : (p : Pause) (t : Table) (d : Places) (visited : List Bool) (b i : ℕ) → IsTurn p t d
+    → IsVisited (layout p) (plan p) visited b i → IsHolder t b (field_word b i)
 visited_holder p t d visited b i turn v =
     let f = visited_field p t d visited b i turn v in
     let w = f.within in
-    record { tile = Object f.object; tile_is = tile_of_object t b f.object (kept_object p t b f.object f.at); low = omega arith; high = omega (arith, length-append f.object.pointers f.object.weaks) }
+    record {
+      tile = Object f.object;
+      tile_is = tile_of_object t b f.object (kept_object p t b f.object f.at);
+      low = omega arith;
+      high = omega (arith, length-append f.object.pointers f.object.weaks);
+    }
 
 module _ (p : Pause) (q : IsPause p) (card : ℕ) where
   has_words : 0 < p.card_words
@@ -64,7 +76,8 @@ module _ (p : Pause) (q : IsPause p) (card : ℕ) where
     region w e = card_region w p.card_words t.words_per_region p.cards_per_region card g.positive (turn.table.size ∙ q.whole_cards) e
 
     -- no tile holds the card's first word: none of its words are handed out
-    pub none_there : (card * p.card_words < top_of t (card * p.card_words / t.words_per_region) → ⊥) → (visited : List Bool) → IsCardClean p visited t card
+    pub none_there : (card * p.card_words < top_of t (card * p.card_words / t.words_per_region) → ⊥)
+        → (visited : List Bool) → IsCardClean p visited t card
     none_there none visited b i v e = absurd (
         let h = holder_below t b (field_word b i) g (visited_holder p t d visited b i turn v) in
         let r = region (field_word b i) e in
@@ -78,32 +91,50 @@ module _ (p : Pause) (q : IsPause p) (card : ℕ) where
     none_inside inside visited b i v e =
         let w : ℕ = field_word b i in
         let s = holder_start t b w g (visited_holder p t d visited b i turn v) in
-        let there : w / t.words_per_region ≡ card * p.card_words / p.start.words_per_region = region w e ∙ ap (λ (n : ℕ). card * p.card_words / n) turn.table.size in
-        let ordinary : kind_of t (w / t.words_per_region) ≡ kinds.Ordinary = ap (kind_of t) there ∙ turn.table.chosen (card * p.card_words / p.start.words_per_region) inside in
+        let there : w / t.words_per_region ≡ card * p.card_words / p.start.words_per_region =
+        region w e ∙ ap (λ (n : ℕ). card * p.card_words / n) turn.table.size in
+        let ordinary : kind_of t (w / t.words_per_region) ≡ kinds.Ordinary =
+        ap (kind_of t) there ∙ turn.table.chosen (card * p.card_words / p.start.words_per_region) inside in
         elim (cases_lt (b / t.words_per_region) (w / t.words_per_region)) [
-          | inl lt ↦ absurd (let q : kinds.Ordinary ≡ kinds.Rest = sym ordinary ∙ s.run.rest (w / t.words_per_region) lt (omega arith) in cc)
+          | inl lt ↦
+              absurd (let q : kinds.Ordinary ≡ kinds.Rest = sym ordinary ∙ s.run.rest (w / t.words_per_region) lt (omega arith) in cc)
           | inr ge ↦ absurd (
               let below = s.run.below in
               let same : b / t.words_per_region ≡ w / t.words_per_region = omega arith in
-              let at : b / p.start.words_per_region ≡ card * p.card_words / p.start.words_per_region = ap (λ (n : ℕ). b / n) (sym turn.table.size) ∙ same ∙ there in
+              let at : b / p.start.words_per_region ≡ card * p.card_words / p.start.words_per_region =
+              ap (λ (n : ℕ). b / n) (sym turn.table.size) ∙ same ∙ there in
               let q : true ≡ false = sym inside ∙ ap (flag p.chosen) (sym at) ∙ v.outside in cc)
         ]
 
     -- the objects of the card's visited fields start at the first tile or behind it, in its region
-    pub onward : (first : ℕ) → IsHolder t first (card * p.card_words) → (visited : List Bool) (b i : ℕ) → IsVisited (layout p) (plan p) visited b i → field_word b i / p.card_words ≡ card → (first ≤ b) × (b / t.words_per_region ≡ first / t.words_per_region)
-    onward first h visited b i v e = holder_onward t first (card * p.card_words) b (field_word b i) g h (visited_holder p t d visited b i turn v) (low (field_word b i) e) (region (field_word b i) e)
+    pub onward : (first : ℕ) → IsHolder t first (card * p.card_words) → (visited : List Bool) (b i : ℕ)
+        → IsVisited (layout p) (plan p) visited b i → field_word b i / p.card_words ≡ card
+        → (first ≤ b) × (b / t.words_per_region ≡ first / t.words_per_region)
+    onward first h visited b i v e = holder_onward t first (card * p.card_words) b (field_word b i) g h
+        (visited_holder p t d visited b i turn v) (low (field_word b i) e) (region (field_word b i) e)
 
   -- one tile after another
-  module _ (t t' : Table) (d d' : Places) (noted noted' : List Bool) (turn : IsTurn p t d) (turn' : IsTurn p t' d') (after : After p noted noted' t t' d d') (visited : List Bool) (at : ℕ)
-      (done : AreCleanBelow p visited t card at) (clean : (i : ℕ) → IsVisited (layout p) (plan p) visited at i → field_word at i / p.card_words ≡ card → IsFieldClean (layout p) (space p t') at i) where
-    upto : (b i : ℕ) → IsVisited (layout p) (plan p) visited b i → field_word b i / p.card_words ≡ card → b ≤ at → IsFieldClean (layout p) (space p t') b i
+  module _ (t t' : Table) (d d' : Places) (noted noted' : List Bool) (turn : IsTurn p t d) (turn' : IsTurn p t' d')
+      (after : After p noted noted' t t' d d') (visited : List Bool) (at : ℕ)
+      (done : AreCleanBelow p visited t card at)
+      (clean : (i : ℕ) → IsVisited (layout p) (plan p) visited at i → field_word at i / p.card_words ≡ card
+      → IsFieldClean (layout p) (space p t') at i) where
+    upto : (b i : ℕ) → IsVisited (layout p) (plan p) visited b i → field_word b i / p.card_words ≡ card → b ≤ at
+        → IsFieldClean (layout p) (space p t') b i
     upto b i v e h = elim (cases_eq b at) [
-      | inl same ↦ subst (λ (m : ℕ). IsVisited (layout p) (plan p) visited m i → field_word m i / p.card_words ≡ card → IsFieldClean (layout p) (space p t') m i) (sym same) (clean i) v e
-      | inr other ↦ let f = visited_field p t d visited b i turn v in clean_after (layout p) noted noted' (space p t) (space p t') d d' b i after v.outside (f.object, f.at) (done b i v e (omega arith))
+      | inl same ↦ subst (λ (m : ℕ).
+          IsVisited (layout p) (plan p) visited m i → field_word m i / p.card_words ≡ card → IsFieldClean (layout p) (space p t') m i)
+          (sym same) (clean i) v e
+      | inr other ↦
+          let f = visited_field p t d visited b i turn v in
+          clean_after (layout p) noted noted' (space p t) (space p t') d d' b i after v.outside
+          (f.object, f.at) (done b i v e (omega arith))
     ]
 
     tile' : (b i : ℕ) → IsVisited (layout p) (plan p) visited b i → (y : Stored) × (tile_in t' b ≡ Some (Object y))
-    tile' b i v = let f = visited_field p t' d' visited b i turn' v in (f.object, tile_of_object t' b f.object (kept_object p t' b f.object f.at))
+    tile' b i v =
+        let f = visited_field p t' d' visited b i turn' v in
+        (f.object, tile_of_object t' b f.object (kept_object p t' b f.object f.at))
 
     pub clean_next : (next : ℕ) → IsNext t' at next → AreCleanBelow p visited t' card next
     clean_next next n b i v e h = elim (cases_lt at b) [
@@ -111,41 +142,50 @@ module _ (p : Pause) (q : IsPause p) (card : ℕ) where
       | inr below ↦ upto b i v e below
     ]
 
-    pub clean_last : IsLast t' at → ((b i : ℕ) → IsVisited (layout p) (plan p) visited b i → field_word b i / p.card_words ≡ card → b / t'.words_per_region ≡ at / t'.words_per_region) → IsCardClean p visited t' card
+    pub clean_last : IsLast t' at → ((b i : ℕ) → IsVisited (layout p) (plan p) visited b i → field_word b i / p.card_words ≡ card
+        → b / t'.words_per_region ≡ at / t'.words_per_region) → IsCardClean p visited t' card
     clean_last n same b i v e = elim (cases_lt at b) [
       | inl above ↦ (let (y, is) = tile' b i v in absurd (n b (Object y) above (same b i v e) is))
       | inr below ↦ upto b i v e below
     ]
 
   -- the cursor is behind the card
-  pub clean_past : (visited : List Bool) (t : Table) (at : ℕ) → card * p.card_words + p.card_words ≤ at → AreCleanBelow p visited t card at → IsCardClean p visited t card
+  pub clean_past : (visited : List Bool) (t : Table) (at : ℕ) → card * p.card_words + p.card_words ≤ at
+      → AreCleanBelow p visited t card at → IsCardClean p visited t card
   clean_past visited t at h done b i v e = let l = high (field_word b i) e in done b i v e (omega arith)
 
 -- ---- card after card
 pub cards_none : (p : Pause) (visited : List Bool) (t : Table) → AreClean (layout p) (plan p) visited (space p t) 0
 cards_none p visited t b i v h = absurd (omega arith)
 
-pub cards_more : (p : Pause) (t t' : Table) (d d' : Places) (noted noted' visited : List Bool) (n : ℕ) → IsTurn p t d → After p noted noted' t t' d d' → AreClean (layout p) (plan p) visited (space p t) n → IsCardClean p visited t' n
+pub cards_more : (p : Pause) (t t' : Table) (d d' : Places) (noted noted' visited : List Bool) (n : ℕ) → IsTurn p t d
+    → After p noted noted' t t' d d' → AreClean (layout p) (plan p) visited (space p t) n → IsCardClean p visited t' n
     → AreClean (layout p) (plan p) visited (space p t') (n + 1)
 cards_more p t t' d d' noted noted' visited n turn after clean card b i v h = elim (cases_eq (field_word b i / p.card_words) n) [
   | inl e ↦ card b i v e
-  | inr o ↦ let f = visited_field p t d visited b i turn v in clean_after (layout p) noted noted' (space p t) (space p t') d d' b i after v.outside (f.object, f.at) (clean b i v (omega arith))
+  | inr o ↦
+      let f = visited_field p t d visited b i turn v in
+      clean_after (layout p) noted noted' (space p t) (space p t') d d' b i after v.outside (f.object, f.at) (clean b i v (omega arith))
 ]
 
 -- cards that aren't visited are passed over
-pub cards_skipped : (p : Pause) (t : Table) (visited : List Bool) (n m : ℕ) → AreClean (layout p) (plan p) visited (space p t) n → ((a : ℕ) → n ≤ a → a < m → flag visited a ≡ false) → AreClean (layout p) (plan p) visited (space p t) m
+pub cards_skipped : (p : Pause) (t : Table) (visited : List Bool) (n m : ℕ) → AreClean (layout p) (plan p) visited (space p t) n
+    → ((a : ℕ) → n ≤ a → a < m → flag visited a ≡ false) → AreClean (layout p) (plan p) visited (space p t) m
 cards_skipped p t visited n m clean none b i v h = elim (cases_lt (field_word b i / p.card_words) n) [
   | inl low ↦ clean b i v low
   | inr high ↦ absurd (let on = v.card in let off = none (field_word b i / p.card_words) high h in cc)
 ]
 
 -- a card's words lie in the heap
-pub card_small : (p : Pause) (card : ℕ) → IsPause p → card < length p.start.regions * p.cards_per_region → card * p.card_words + p.card_words ≤ length p.start.regions * p.start.words_per_region
+pub card_small : (p : Pause) (card : ℕ) → IsPause p → card < length p.start.regions * p.cards_per_region
+    → card * p.card_words + p.card_words ≤ length p.start.regions * p.start.words_per_region
 card_small p card q h = card_within card p.card_words p.start.words_per_region p.cards_per_region (length p.start.regions) q.whole_cards h
 
-pub object_now : (p : Pause) (t : Table) (tams : Tops) (marks : List Bool) (at : ℕ) → tams ≡ p.tams → marks ≡ p.previous → IsSome (kept_in t tams marks at) → IsObject (space p t) at
+pub object_now : (p : Pause) (t : Table) (tams : Tops) (marks : List Bool) (at : ℕ) → tams ≡ p.tams → marks ≡ p.previous
+    → IsSome (kept_in t tams marks at) → IsObject (space p t) at
 unfolding kept_now
-object_now p t tams marks at e f s = some_of (kept_in t p.tams p.previous at) (subst (λ (m : List Bool). IsSome (kept_in t p.tams m at)) f (subst (λ (u : Tops). IsSome (kept_in t u marks at)) e s))
+object_now p t tams marks at e f s = some_of (kept_in t p.tams p.previous at)
+    (subst (λ (m : List Bool). IsSome (kept_in t p.tams m at)) f (subst (λ (u : Tops). IsSome (kept_in t u marks at)) e s))
 
 pub object_tile : (p : Pause) (t : Table) (at : ℕ) → IsObject (space p t) at → IsSome (tile_in t at)
 object_tile p t at o = some_tile (tile_in t at) (Object o.0) (tile_of_object t at o.0 (kept_object p t at o.0 o.1))
@@ -154,6 +194,9 @@ object_tile p t at o = some_tile (tile_in t at) (Object o.0) (tile_of_object t a
 pub region_by : (a b m n : ℕ) → m ≡ n → a / n ≡ b / n → a / m ≡ b / m
 region_by a b m n e f = subst (λ (k : ℕ). a / k ≡ b / k) (sym e) f
 
-pub clean_on : (p : Pause) (t t' : Table) (d d' : Places) (noted noted' visited : List Bool) (n : ℕ) → IsTurn p t d → After p noted noted' t t' d d' → AreClean (layout p) (plan p) visited (space p t) n → AreClean (layout p) (plan p) visited (space p t') n
+pub clean_on : (p : Pause) (t t' : Table) (d d' : Places) (noted noted' visited : List Bool) (n : ℕ) → IsTurn p t d
+    → After p noted noted' t t' d d' → AreClean (layout p) (plan p) visited (space p t) n
+    → AreClean (layout p) (plan p) visited (space p t') n
 clean_on p t t' d d' noted noted' visited n turn after clean b i v h =
-    let f = visited_field p t d visited b i turn v in clean_after (layout p) noted noted' (space p t) (space p t') d d' b i after v.outside (f.object, f.at) (clean b i v h)
+    let f = visited_field p t d visited b i turn v in
+    clean_after (layout p) noted noted' (space p t) (space p t') d d' b i after v.outside (f.object, f.at) (clean b i v h)

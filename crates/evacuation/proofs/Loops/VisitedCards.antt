@@ -18,17 +18,20 @@ module _ (t : Table) (first flags flags' : List Bool) (w n card : ℕ) (done : A
   below : (k : ℕ) → k < card → kind_of t (k / w) ≡ kinds.Free → flag flags k ≡ false
   below k lt free = elim (cases_lt k n) [ inl h ↦ done.free k h free | inr h ↦ none k h lt ]
 
-  pub cleared : kind_of t (card / w) ≡ kinds.Free → ((k : ℕ) → flag flags' k ≡ (if is_between card (card + 1) k then false else flag flags k)) → AreCleared t first flags' w (card + 1)
+  pub cleared : kind_of t (card / w) ≡ kinds.Free
+      → ((k : ℕ) → flag flags' k ≡ (if is_between card (card + 1) k then false else flag flags k)) → AreCleared t first flags' w (card + 1)
   cleared is put = record {
     in_use = λ k h. elim (cases_eq k card) [
       | inl q ↦ absurd (h (ap (λ (c : ℕ). kind_of t (c / w)) q ∙ is))
       | inr q ↦ same k q ∙ done.in_use k h
     ];
     free = λ k h f. elim (cases_eq k card) [
-      | inl q ↦ put k ∙ ap (λ (b : Bool). if b then false else flag flags k) (between_yes card (card + 1) k (omega (arith, q)) (omega (arith, q)))
+      | inl q ↦
+          put k ∙ ap (λ (b : Bool). if b then false else flag flags k) (between_yes card (card + 1) k (omega (arith, q)) (omega (arith, q)))
       | inr q ↦ same k q ∙ below k (omega (arith, h, q)) f
     ];
-    above = λ k h. put k ∙ ap (λ (b : Bool). if b then false else flag flags k) (between_no_above card (card + 1) k h) ∙ done.above k (omega (arith, h, from));
+    above = λ k h. put k ∙ ap (λ (b : Bool). if b then false else flag flags k) (between_no_above card (card + 1) k h)
+        ∙ done.above k (omega (arith, h, from));
   }
     where
       same : (k : ℕ) → k ≢ card → flag flags' k ≡ flag flags k

@@ -1,12 +1,14 @@
 -- Once all is copied.
-use Rattle.std.proofs.Common.{◌≡◌, ℕ, ◌/◌, Bool, true, false, List, [], ◌∷◌, Option, Some, None, length, refl, sym, ap, ◌∙◌, subst, inl, inr, arith}
+use Rattle.std.proofs.Common.{◌≡◌, ◌/◌, ◌∷◌, ◌∙◌}
+use Rattle.std.proofs.Common.{ℕ, Bool, true, false, List, [], Option, Some, None, length, refl, sym, ap, subst, inl, inr, arith}
 use Rattle.std.specs.Prelude.{slice_get}
 use Rattle.std.specs.List.{AllZip}
 use Rattle.std.proofs.lemmas.Bool.{cases_Bool}
 use Rattle.std.proofs.lemmas.List.{length-append}
 use Rattle.heap_model.specs.Heap.{Heap, Stored, fields}
 use Rattle.heap_model.specs.Relocation.{IsMoved, Relocates}
-use Rattle.heap_model.specs.Evacuation.{IsReached, ByRootWord, ByOutside, ByInside, place_after, IsWord, IsEvacuating, IsEvacuated, IsClean, released}
+use Rattle.heap_model.specs.Evacuation.{IsReached, ByRootWord, ByOutside, ByInside, place_after}
+use Rattle.heap_model.specs.Evacuation.{IsWord, IsEvacuating, IsEvacuated, IsClean, released}
 use Rattle.heap_model.proofs.Lists.{AllZip-get_right}
 use Rattle.heap_model.proofs.Evacuated.{evacuated_relocates, word_was, reached_exactly}
 use Rattle.regions.specs.Table.{Table}
@@ -31,8 +33,10 @@ unfolding kept_now
 start_kept p a = refl
 
 module _ (p : Pause) (q : IsPause p) (noted visited : List Bool) (t : Table) (d : Places) (roots : List (Option ℕ)) (turn : IsTurn p t d)
-    (moved : AllZip (IsMoved (place_after (in_set p) (space p t).forward)) p.roots roots) (copies : (k : ℕ) → IsTaken d k → IsRegionSettled (layout p) noted (space p t) k)
-    (each : EachCard p visited) (outside : AreClean (layout p) (plan p) visited (space p t) (length visited)) (remembered : AllVisited (layout p) (plan p) visited) where
+    (moved : AllZip (IsMoved (place_after (in_set p) (space p t).forward)) p.roots roots)
+    (copies : (k : ℕ) → IsTaken d k → IsRegionSettled (layout p) noted (space p t) k)
+    (each : EachCard p visited) (outside : AreClean (layout p) (plan p) visited (space p t) (length visited))
+    (remembered : AllVisited (layout p) (plan p) visited) where
   abbrev set : ℕ → Bool
   set = in_set p
 
@@ -52,7 +56,8 @@ module _ (p : Pause) (q : IsPause p) (noted visited : List Bool) (t : Table) (d 
   evacuating : IsEvacuating set (plan p).heap forward now
   evacuating = let c = turn.copying.heap in record {
     roots = zip_map p.roots roots moved;
-    objects = λ a b x e f. let k = c.objects a b x e f in record { part = k.part; at = k.at; name = k.name; values = k.values; shape = k.shape; words = k.words };
+    objects = λ a b x e f. let k = c.objects a b x e f in
+        record { part = k.part; at = k.at; name = k.name; values = k.values; shape = k.shape; words = k.words };
     came = c.came;
     untouched = c.untouched;
     reached = c.reached;
@@ -70,10 +75,13 @@ module _ (p : Pause) (q : IsPause p) (noted visited : List Bool) (t : Table) (d 
   clean_word a (Some b) m = place_out b a m
 
   roots_clean : IsClean set roots
-  roots_clean i a e = let (w, is, m) = AllZip-get_right (IsMoved (place_after set forward)) p.roots roots moved i (Some a) e in clean_word a w m
+  roots_clean i a e =
+      let (w, is, m) = AllZip-get_right (IsMoved (place_after set forward)) p.roots roots moved i (Some a) e in
+      clean_word a w m
 
   -- a field of an object that stood outside: where it named the set, it was visited
-  outside_clean : (b i a : ℕ) (y : Stored) → kept_now p t b ≡ Some y → set b ≡ false → (x : Stored) → (plan p).heap.kept b ≡ Some x → slice_get (fields y) i ≡ Some (Some a) → set a ≡ false
+  outside_clean : (b i a : ℕ) (y : Stored) → kept_now p t b ≡ Some y → set b ≡ false → (x : Stored) → (plan p).heap.kept b ≡ Some x
+      → slice_get (fields y) i ≡ Some (Some a) → set a ≡ false
   outside_clean b i a y at out x here e = elim (cases_Bool (set a)) [
     | inl inside ↦
         let k = turn.copying.heap.objects b b x here (rw out refl) in
@@ -85,11 +93,13 @@ module _ (p : Pause) (q : IsPause p) (noted visited : List Bool) (t : Table) (d 
         let within = get_below (fields x) i (Some a) named in
         let big = object_within p.start b x q.shaped (kept_object p p.start b x (start_kept p b ∙ here)) in
         let card = card_within p visited (field_word b i) p.card_words q refl each (omega (arith, length-append x.pointers x.weaks)) in
-        outside b i (record { object = x; at = here; outside = out; within = within; card = remembered b i a x here out named inside }) card y (Some a) at e
+        outside b i (record { object = x; at = here; outside = out; within = within; card = remembered b i a x here out named inside }) card
+        y (Some a) at e
     | inr k ↦ k
   ]
 
-  copy_clean : (b i a : ℕ) (y : Stored) → kept_now p t b ≡ Some y → IsTaken d (b / p.start.words_per_region) → slice_get (fields y) i ≡ Some (Some a) → set a ≡ false
+  copy_clean : (b i a : ℕ) (y : Stored) → kept_now p t b ≡ Some y → IsTaken d (b / p.start.words_per_region)
+      → slice_get (fields y) i ≡ Some (Some a) → set a ≡ false
   copy_clean b i a y at w e = (copies (b / p.start.words_per_region) w b y refl at i y (Some a) at e).0
 
   pub evacuated : IsEvacuated set now
@@ -99,7 +109,9 @@ module _ (p : Pause) (q : IsPause p) (noted visited : List Bool) (t : Table) (d 
         let o = turn.copying.heap.came b y at out in
         elim (cases_Bool (set o.from)) [
           | inl k ↦ (let f : forward o.from ≡ Some b = rw k at o.placed in copy_clean b i a y at (turn.copying.placed o.from b k f) e)
-          | inr k ↦ (let f : Some o.from ≡ Some b = rw k at o.placed in let same : o.from ≡ b = cc in outside_clean b i a y at out o.object (ap (plan p).heap.kept (sym same) ∙ o.at) e)
+          | inr k ↦ (let f : Some o.from ≡ Some b = rw k at o.placed in
+              let same : o.from ≡ b = cc in
+              outside_clean b i a y at out o.object (ap (plan p).heap.kept (sym same) ∙ o.at) e)
         ];
   }
 
@@ -131,6 +143,9 @@ module _ (p : Pause) (q : IsPause p) (noted visited : List Bool) (t : Table) (d 
               let f : Some o.from ≡ Some b = rw k at o.placed in
               let same : b ≡ o.from = cc in
               let here : (plan p).heap.kept b ≡ Some o.object = ap (plan p).heap.kept same ∙ o.at in
-              elim (after.fields b o.object y i w out (start_kept p b ∙ here) at e) [ inl h ↦ inl (o.object, here, h) | inr h ↦ inr h.2.settled ]
+              elim (after.fields b o.object y i w out (start_kept p b ∙ here) at e) [
+                | inl h ↦ inl (o.object, here, h)
+                | inr h ↦ inr h.2.settled
+              ]
         ];
   }

@@ -1,22 +1,32 @@
 -- One turn after another.
-use Rattle.std.proofs.Common.{◌≡◌, ℕ, get_or, ap, ◌+◌, ◌*◌, ◌/◌, ◌≤◌, Bool, true, false, List, Option, Some, None, length, refl, sym, ◌∙◌, subst, inl, inr, arith, ◌⊎◌}
+use Rattle.std.proofs.Common.{◌≡◌, ◌+◌, ◌*◌, ◌/◌, ◌≤◌, ◌∙◌, ◌⊎◌}
+use Rattle.std.proofs.Common.{ℕ, get_or, ap, Bool, true, false, List, Option, Some, None, length, refl, sym, subst, inl, inr, arith}
 use Rattle.std.specs.Prelude.{slice_get}
 use Rattle.std.proofs.lemmas.Option.{slice_get-get_or}
 use Rattle.evacuation.proofs.Lists.{get_below}
 use Rattle.heap_model.specs.Heap.{Stored, fields}
 use Rattle.object_copy.specs.Copies.{Places}
 use Rattle.refinement.specs.Remembering.{field_word}
-use Rattle.evacuation.specs.Space.{Layout, Space, IsTaken, IsAfter, NewCrossing, IsObject, IsClean, IsNoted, IsSettled, IsUpdated, IsFieldClean, IsFieldSettled, IsObjectSettled, flag, set_of}
+use Rattle.evacuation.specs.Space.{Layout, Space, IsTaken, IsAfter, NewCrossing, IsObject, IsClean, IsNoted, IsSettled, IsUpdated}
+use Rattle.evacuation.specs.Space.{IsFieldClean, IsFieldSettled, IsObjectSettled, flag, set_of}
 
-pub noted_grows : (l : Layout) (t t' : List Bool) (at : ℕ) (w : Option ℕ) → ((c : ℕ) → flag t c ≡ true → flag t' c ≡ true) → IsNoted l t at w → IsNoted l t' at w
+pub noted_grows : (l : Layout) (t t' : List Bool) (at : ℕ) (w : Option ℕ)
+    → ((c : ℕ) → flag t c ≡ true → flag t' c ≡ true) → IsNoted l t at w → IsNoted l t' at w
 noted_grows l t t' at None f s = tt
 noted_grows l t t' at (Some c) f s = elim s [ inl q ↦ inl q | inr q ↦ inr (f (at / l.card_words) q) ]
 
-pub settled_grows : (l : Layout) (t t' : List Bool) (at : ℕ) (w : Option ℕ) → ((c : ℕ) → flag t c ≡ true → flag t' c ≡ true) → IsSettled l t at w → IsSettled l t' at w
+pub settled_grows : (l : Layout) (t t' : List Bool) (at : ℕ) (w : Option ℕ) → ((c : ℕ) → flag t c ≡ true → flag t' c ≡ true)
+    → IsSettled l t at w → IsSettled l t' at w
 settled_grows l t t' at w f s = (s.0, noted_grows l t t' at w f s.1)
 
-pub updated_grows : (l : Layout) (t t' : List Bool) (at : ℕ) (v w : Option ℕ) → ((c : ℕ) → flag t c ≡ true → flag t' c ≡ true) → IsUpdated l t at v w → IsUpdated l t' at v w
-updated_grows l t t' at v w f u = record { target = u.target; named = u.named; inside = u.inside; settled = settled_grows l t t' at w f u.settled }
+pub updated_grows : (l : Layout) (t t' : List Bool) (at : ℕ) (v w : Option ℕ) → ((c : ℕ) → flag t c ≡ true → flag t' c ≡ true)
+    → IsUpdated l t at v w → IsUpdated l t' at v w
+updated_grows l t t' at v w f u = record {
+  target = u.target;
+  named = u.named;
+  inside = u.inside;
+  settled = settled_grows l t t' at w f u.settled;
+}
 
 -- a word that names nothing of the set isn't updated
 clean_stays : (l : Layout) (t : List Bool) (at : ℕ) (v w : Option ℕ) → IsClean l v → IsUpdated l t at v w → ⊥
@@ -40,7 +50,8 @@ same_after l t s d = record {
 }
 
 -- more is noted, and nothing else changes
-pub noted_after : (l : Layout) (t t' : List Bool) (s : Space) (d : Places) → ((c : ℕ) → flag t c ≡ true → flag t' c ≡ true) → length t' ≡ length t → ((c : ℕ) → flag t' c ≡ true → (flag t c ≡ true) ⊎ NewCrossing l s s d c) → IsAfter l t t' s s d d
+pub noted_after : (l : Layout) (t t' : List Bool) (s : Space) (d : Places) → ((c : ℕ) → flag t c ≡ true → flag t' c ≡ true)
+    → length t' ≡ length t → ((c : ℕ) → flag t' c ≡ true → (flag t c ≡ true) ⊎ NewCrossing l s s d c) → IsAfter l t t' s s d d
 noted_after l t t' s d f n g = record {
   noted_grows = f;
   noted_length = n;
@@ -58,7 +69,8 @@ above_more : (at a b c : ℕ) → at + b ≤ c → a ≤ b → at + a ≤ c
 above_more at a b c h k = omega arith
 
 -- a clean field stays as it is
-crossing_on : (l : Layout) (t t' t'' : List Bool) (s s' s'' : Space) (d d' d'' : Places) (c : ℕ) → IsAfter l t' t'' s' s'' d' d'' → NewCrossing l s s' d' c → NewCrossing l s s'' d'' c
+crossing_on : (l : Layout) (t t' t'' : List Bool) (s s' s'' : Space) (d d' d'' : Places) (c : ℕ) → IsAfter l t' t'' s' s'' d' d''
+    → NewCrossing l s s' d' c → NewCrossing l s s'' d'' c
 crossing_on l t t' t'' s s' s'' d d' d'' c b x =
     let (z, e, n) = b.stays x.at x.object x.outside x.here in
     let within = get_below (fields x.object) x.index (Some x.target) x.field in
@@ -73,7 +85,9 @@ crossing_on l t t' t'' s s' s'' d d' d'' c b x =
       outside = x.outside;
       field = elim (b.fields x.at x.object z x.index w x.outside x.here e is) [
         | inl h ↦ (let f = x.field in let same : w ≡ Some x.target = cc in is ∙ ap Some same)
-        | inr h ↦ absurd (let f = x.field in let same : Some x.target ≡ h.0 = (let g = h.1 in cc) in clean_stays l t'' (field_word x.at x.index) h.0 w (subst (IsClean l) same x.clean) h.2)
+        | inr h ↦ absurd (let f = x.field in
+            let same : Some x.target ≡ h.0 = (let g = h.1 in cc) in
+            clean_stays l t'' (field_word x.at x.index) h.0 w (subst (IsClean l) same x.clean) h.2)
       ];
       clean = x.clean;
       in_card = x.in_card;
@@ -81,7 +95,8 @@ crossing_on l t t' t'' s s' s'' d d' d'' c b x =
       is_new = elim x.is_new [ inl k ↦ inl (record { at = k.at; is = b.taken_grows k.at (x.at / l.words) k.is }) | inr k ↦ inr k ];
     }
 
-crossing_back : (l : Layout) (t t' : List Bool) (s s' s'' : Space) (d d' d'' : Places) (c : ℕ) → IsAfter l t t' s s' d d' → NewCrossing l s' s'' d'' c → NewCrossing l s s'' d'' c
+crossing_back : (l : Layout) (t t' : List Bool) (s s' s'' : Space) (d d' d'' : Places) (c : ℕ) → IsAfter l t t' s s' d d'
+    → NewCrossing l s' s'' d'' c → NewCrossing l s s'' d'' c
 crossing_back l t t' s s' s'' d d' d'' c a x = record {
   at = x.at;
   index = x.index;
@@ -105,7 +120,8 @@ crossing_back l t t' s s' s'' d d' d'' c a x = record {
   ];
 }
 
-pub after_after : (l : Layout) (t t' t'' : List Bool) (s s' s'' : Space) (d d' d'' : Places) → IsAfter l t t' s s' d d' → IsAfter l t' t'' s' s'' d' d'' → IsAfter l t t'' s s'' d d''
+pub after_after : (l : Layout) (t t' t'' : List Bool) (s s' s'' : Space) (d d' d'' : Places) → IsAfter l t t' s s' d d'
+    → IsAfter l t' t'' s' s'' d' d'' → IsAfter l t t'' s s'' d d''
 after_after l t t' t'' s s' s'' d d' d'' a b = record {
   noted_grows = λ j e. b.noted_grows j (a.noted_grows j e);
   noted_length = b.noted_length ∙ a.noted_length;
@@ -128,7 +144,10 @@ after_after l t t' t'' s s' s'' d d' d'' a b = record {
   fields = λ c y y' i w o e e' g.
       let (z, q, n) = a.stays c y o e in
       elim (b.fields c z y' i w o q e' g) [
-        | inl h ↦ elim (a.fields c y z i w o e q h) [ inl m ↦ inl m | inr m ↦ inr (m.0, m.1, updated_grows l t' t'' (field_word c i) m.0 w b.noted_grows m.2) ]
+        | inl h ↦ elim (a.fields c y z i w o e q h) [
+          | inl m ↦ inl m
+          | inr m ↦ inr (m.0, m.1, updated_grows l t' t'' (field_word c i) m.0 w b.noted_grows m.2)
+        ]
         | inr h ↦ elim (a.fields c y z i h.0 o e q h.1) [
           | inl m ↦ inr (h.0, m, h.2)
           | inr m ↦ absurd (clean_stays l t'' (field_word c i) h.0 w m.2.settled.0 h.2)
@@ -137,16 +156,23 @@ after_after l t t' t'' s s' s'' d d' d'' a b = record {
 }
 
 -- what is clean or settled stays so
-pub clean_after : (l : Layout) (t t' : List Bool) (s s' : Space) (d d' : Places) (b i : ℕ) → IsAfter l t t' s s' d d' → set_of l b ≡ false → IsObject s b → IsFieldClean l s b i → IsFieldClean l s' b i
+pub clean_after : (l : Layout) (t t' : List Bool) (s s' : Space) (d d' : Places) (b i : ℕ) → IsAfter l t t' s s' d d' → set_of l b ≡ false
+    → IsObject s b → IsFieldClean l s b i → IsFieldClean l s' b i
 clean_after l t t' s s' d d' b i a out o clean z w e g =
     elim (a.fields b o.0 z i w out o.1 e g) [ inl q ↦ clean o.0 w o.1 q | inr q ↦ q.2.settled.0 ]
 
-pub settled_after : (l : Layout) (t t' : List Bool) (s s' : Space) (d d' : Places) (b i : ℕ) → IsAfter l t t' s s' d d' → set_of l b ≡ false → IsObject s b → IsFieldSettled l t s b i → IsFieldSettled l t' s' b i
+pub settled_after : (l : Layout) (t t' : List Bool) (s s' : Space) (d d' : Places) (b i : ℕ) → IsAfter l t t' s s' d d' → set_of l b ≡ false
+    → IsObject s b → IsFieldSettled l t s b i → IsFieldSettled l t' s' b i
 settled_after l t t' s s' d d' b i a out o settled z w e g =
-    elim (a.fields b o.0 z i w out o.1 e g) [ inl q ↦ settled_grows l t t' (field_word b i) w a.noted_grows (settled o.0 w o.1 q) | inr q ↦ q.2.settled ]
+    elim (a.fields b o.0 z i w out o.1 e g) [
+      | inl q ↦ settled_grows l t t' (field_word b i) w a.noted_grows (settled o.0 w o.1 q)
+      | inr q ↦ q.2.settled
+    ]
 
-pub object_settled_after : (l : Layout) (t t' : List Bool) (s s' : Space) (d d' : Places) (b : ℕ) → IsAfter l t t' s s' d d' → set_of l b ≡ false → IsObject s b → IsObjectSettled l t s b → IsObjectSettled l t' s' b
+pub object_settled_after : (l : Layout) (t t' : List Bool) (s s' : Space) (d d' : Places) (b : ℕ) → IsAfter l t t' s s' d d'
+    → set_of l b ≡ false → IsObject s b → IsObjectSettled l t s b → IsObjectSettled l t' s' b
 object_settled_after l t t' s s' d d' b a out o settled i = settled_after l t t' s s' d d' b i a out o (settled i)
 
-pub taken_after : (l : Layout) (t t' : List Bool) (s s' : Space) (d d' : Places) (k : ℕ) → IsAfter l t t' s s' d d' → IsTaken d k → IsTaken d' k
+pub taken_after : (l : Layout) (t t' : List Bool) (s s' : Space) (d d' : Places) (k : ℕ)
+    → IsAfter l t t' s s' d d' → IsTaken d k → IsTaken d' k
 taken_after l t t' s s' d d' k a w = record { at = w.at; is = a.taken_grows w.at k w.is }

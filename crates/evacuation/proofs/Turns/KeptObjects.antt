@@ -1,10 +1,12 @@
 -- What is kept as objects come and go: tops at mark start and marks stay as they were at the start.
-use Rattle.std.proofs.Common.{◌≡◌, ◌≢◌, ℕ, ◌+◌, ◌*◌, ◌/◌, ◌%◌, ◌<◌, ◌≤◌, ◌⊎◌, Bool, true, false, List, Option, Some, None, length, get_or, refl, sym, ap, ◌∙◌, inl, inr, arith}
+use Rattle.std.proofs.Common.{◌≡◌, ◌≢◌, ◌+◌, ◌*◌, ◌/◌, ◌%◌, ◌<◌, ◌≤◌, ◌⊎◌, ◌∙◌}
+use Rattle.std.proofs.Common.{ℕ, Bool, true, false, List, Option, Some, None, length, get_or, refl, sym, ap, inl, inr, arith}
 use Rattle.std.specs.Prelude.{if◌then◌else◌}
 use Rattle.std.proofs.lemmas.Bool.{le-ltb}
 use Rattle.heap_model.specs.Heap.{Stored}
 use Rattle.regions.specs.Tiles.{Tile}
-use Rattle.regions.specs.Table.{Region, Free, Ordinary, First, Rest, Table, region_used, region_kind, nth_region, kind_of, used_of, object_at, tile_in, tile_object}
+use Rattle.regions.specs.Table.{Region, Free, Ordinary, First, Rest, Table, region_used, region_kind, nth_region}
+use Rattle.regions.specs.Table.{kind_of, used_of, object_at, tile_in, tile_object}
 use Rattle.regions.specs.declared.row.Kind.{Kind}
 use Rattle.regions.specs.declared.row.Kind.TheVariants as kinds
 use Rattle.mark_bitmap.specs.Marks.{is_marked}
@@ -14,7 +16,8 @@ use Rattle.evacuation.specs.Turns.{Pause, IsPause, kept_now}
 keep : Bool → Bool → Option Stored → Option Stored
 keep below marked x = if below then (if marked then x else None) else x
 
-kept_is_keep : (p : Pause) (t : Table) (a : ℕ) → kept_now p t a ≡ keep (is_below t.words_per_region p.tams.previous a) (is_marked p.previous a) (object_at t a)
+kept_is_keep : (p : Pause) (t : Table) (a : ℕ)
+    → kept_now p t a ≡ keep (is_below t.words_per_region p.tams.previous a) (is_marked p.previous a) (object_at t a)
 unfolding kept_now keep
 kept_is_keep p t a = refl
 
@@ -30,17 +33,23 @@ keep_some true true o o' y e = refl
 keep_some true false o o' y e = cc
 keep_some false m o o' y e = refl
 
-keep_same : (p : Pause) (t t' : Table) (a : ℕ) → t'.words_per_region ≡ t.words_per_region → kept_now p t' a ≡ keep (is_below t.words_per_region p.tams.previous a) (is_marked p.previous a) (object_at t' a)
+keep_same : (p : Pause) (t t' : Table) (a : ℕ) → t'.words_per_region ≡ t.words_per_region
+    → kept_now p t' a ≡ keep (is_below t.words_per_region p.tams.previous a) (is_marked p.previous a) (object_at t' a)
 keep_same p t t' a e = kept_is_keep p t' a ∙ ap (λ (n : ℕ). keep (is_below n p.tams.previous a) (is_marked p.previous a) (object_at t' a)) e
 
-pub kept_as : (p : Pause) (t t' : Table) (a : ℕ) → t'.words_per_region ≡ t.words_per_region → object_at t' a ≡ object_at t a → kept_now p t' a ≡ kept_now p t a
-kept_as p t t' a e o = keep_same p t t' a e ∙ ap (keep (is_below t.words_per_region p.tams.previous a) (is_marked p.previous a)) o ∙ sym (kept_is_keep p t a)
+pub kept_as : (p : Pause) (t t' : Table) (a : ℕ) → t'.words_per_region ≡ t.words_per_region
+    → object_at t' a ≡ object_at t a → kept_now p t' a ≡ kept_now p t a
+kept_as p t t' a e o =
+    keep_same p t t' a e ∙ ap (keep (is_below t.words_per_region p.tams.previous a) (is_marked p.previous a)) o ∙ sym (kept_is_keep p t a)
 
-pub kept_some : (p : Pause) (t t' : Table) (a : ℕ) (y : Stored) → kept_now p t a ≡ Some y → t'.words_per_region ≡ t.words_per_region → kept_now p t' a ≡ object_at t' a
-kept_some p t t' a y e w = keep_same p t t' a w ∙ keep_some (is_below t.words_per_region p.tams.previous a) (is_marked p.previous a) (object_at t a) (object_at t' a) y (sym (kept_is_keep p t a) ∙ e)
+pub kept_some : (p : Pause) (t t' : Table) (a : ℕ) (y : Stored) → kept_now p t a ≡ Some y
+    → t'.words_per_region ≡ t.words_per_region → kept_now p t' a ≡ object_at t' a
+kept_some p t t' a y e w = keep_same p t t' a w ∙ keep_some (is_below t.words_per_region p.tams.previous a) (is_marked p.previous a)
+    (object_at t a) (object_at t' a) y (sym (kept_is_keep p t a) ∙ e)
 
 pub kept_none : (p : Pause) (t : Table) (a : ℕ) → object_at t a ≡ None → kept_now p t a ≡ None
-kept_none p t a o = kept_is_keep p t a ∙ ap (keep (is_below t.words_per_region p.tams.previous a) (is_marked p.previous a)) o ∙ keep_none _ _
+kept_none p t a o =
+    kept_is_keep p t a ∙ ap (keep (is_below t.words_per_region p.tams.previous a) (is_marked p.previous a)) o ∙ keep_none _ _
 
 pub kept_object : (p : Pause) (t : Table) (a : ℕ) (y : Stored) → kept_now p t a ≡ Some y → object_at t a ≡ Some y
 kept_object p t a y e = sym (kept_some p t t a y e refl) ∙ e
@@ -65,7 +74,8 @@ cases_free kinds.Ordinary = inr (λ e. cc)
 cases_free kinds.First = inr (λ e. cc)
 cases_free kinds.Rest = inr (λ e. cc)
 
-pub not_below : (words a : ℕ) (tops : List ℕ) → get_or tops (a / words) 0 ≡ a / words * words → a / words * words ≤ a → is_below words tops a ≡ false
+pub not_below : (words a : ℕ) (tops : List ℕ) → get_or tops (a / words) 0 ≡ a / words * words
+    → a / words * words ≤ a → is_below words tops a ≡ false
 unfolding is_below
 not_below words a tops e h = le-ltb _ _ (omega arith)
 
@@ -74,7 +84,8 @@ unfolding keep
 clear m o = refl
 
 -- what stands in a region that was free at the start is kept
-pub kept_fresh : (p : Pause) (t : Table) (a : ℕ) → IsPause p → t.words_per_region ≡ p.start.words_per_region → a / p.start.words_per_region < length p.start.regions
+pub kept_fresh : (p : Pause) (t : Table) (a : ℕ) → IsPause p → t.words_per_region ≡ p.start.words_per_region
+    → a / p.start.words_per_region < length p.start.regions
     → kind_of p.start (a / p.start.words_per_region) ≡ kinds.Free → kept_now p t a ≡ object_at t a
 kept_fresh p t a q w known f =
     let k : ℕ = a / p.start.words_per_region in
@@ -85,4 +96,5 @@ kept_fresh p t a q w known f =
     let z = q.shaped.positive in
     let whole : a / p.start.words_per_region * p.start.words_per_region + a % p.start.words_per_region ≡ a = omega arith in
     let above = not_below p.start.words_per_region a p.tams.previous top (omega (arith, whole)) in
-    keep_same p p.start t a w ∙ ap (λ (b : Bool). keep b (is_marked p.previous a) (object_at t a)) above ∙ clear (is_marked p.previous a) (object_at t a)
+    keep_same p p.start t a w ∙ ap (λ (b : Bool). keep b (is_marked p.previous a) (object_at t a)) above
+    ∙ clear (is_marked p.previous a) (object_at t a)

@@ -1,5 +1,7 @@
 -- What a pause asks, from what the heap is before it.
-use Rattle.std.proofs.Common.{◌≡◌, ◌≢◌, ℕ, suc, zero, ◌+◌, ◌*◌, ◌/◌, ◌<◌, ◌≤◌, ◌^◌, Bool, true, false, List, [], ◌∷◌, Option, Some, None, length, get_or, refl, sym, ap, ◌∙◌, subst, inl, inr, arith}
+use Rattle.std.proofs.Common.{◌≡◌, ◌≢◌, ◌+◌, ◌*◌, ◌/◌, ◌<◌, ◌≤◌, ◌^◌, ◌∷◌, ◌∙◌}
+use Rattle.std.proofs.Common.{ℕ, suc, zero, Bool, true, false, List, [], Option, Some, None}
+use Rattle.std.proofs.Common.{length, get_or, refl, sym, ap, subst, inl, inr, arith}
 use Rattle.std.specs.Prelude.{slice_get, count_by, ◌||◌, ◌==◌}
 use Rattle.std.specs.List.{list_any}
 use Rattle.std.proofs.lemmas.Bool.{cases_lt, cases_Bool}
@@ -47,11 +49,16 @@ sizes_same : (o : Option Stored) → stored_size o ≡ stored_words o
 sizes_same None = refl
 sizes_same (Some x) = refl
 
-words_same : (t : Table) (tops : Tops) (previous : List Bool) (a n : ℕ) → words_from (kept_in t tops previous) a n ≡ kept_words t tops previous a n
+words_same : (t : Table) (tops : Tops) (previous : List Bool) (a n : ℕ)
+    → words_from (kept_in t tops previous) a n ≡ kept_words t tops previous a n
 words_same t tops previous a zero = refl
-words_same t tops previous a (suc n) = let e = words_same t tops previous (suc a) n in let s = sizes_same (kept_in t tops previous a) in omega arith
+words_same t tops previous a (suc n) =
+    let e = words_same t tops previous (suc a) n in
+    let s = sizes_same (kept_in t tops previous a) in
+    omega arith
 
-left_rows : (kept : ℕ → Option Stored) (words n : ℕ) (rows : List LiveRow) → 0 < words → ((i : ℕ) (r : LiveRow) → slice_get rows i ≡ Some r → words_from kept (r.region * words) words ≤ r.live_bound)
+left_rows : (kept : ℕ → Option Stored) (words n : ℕ) (rows : List LiveRow) → 0 < words
+    → ((i : ℕ) (r : LiveRow) → slice_get rows i ≡ Some r → words_from kept (r.region * words) words ≤ r.live_bound)
     → left_words kept (λ a. is_chosen rows (a / words)) n ≤ bounds rows
 left_rows kept words n [] z f = let e = left_zero kept (λ a. is_chosen [] (a / words)) n (λ a. refl) in omega arith
 left_rows kept words n (r ∷ rows) z f =
@@ -92,7 +99,8 @@ any_of f (y ∷ xs) (suc i) x e g = go (f y) (any_of f xs i x e g)
     go true q = refl
     go false q = q
 
-module _ (h : Layers) (rows : List LiveRow) (cw : ℕ) (can : CanEvacuate h rows cw) (shaped : IsShaped h.table) (flags : List Bool) (flags_are : (k : ℕ) → flag flags k ≡ is_chosen rows k) (len : length flags ≡ length h.table.regions) where
+module _ (h : Layers) (rows : List LiveRow) (cw : ℕ) (can : CanEvacuate h rows cw) (shaped : IsShaped h.table) (flags : List Bool)
+    (flags_are : (k : ℕ) → flag flags k ≡ is_chosen rows k) (len : length flags ≡ length h.table.regions) where
   abbrev pub words : ℕ
   words = h.table.words_per_region
 
@@ -167,10 +175,13 @@ module _ (h : Layers) (rows : List LiveRow) (cw : ℕ) (can : CanEvacuate h rows
   }
 
   pub start_is : (n : ℕ) → n ≡ length h.table.regions → IsTurn pause h.table (no_places n)
-  start_is n e = start_turn pause is_pause (let w = within_bounds in let r = can.room in let s = kept_now_is pause in rw s (omega (arith, w, r))) (let s = kept_now_is pause in rw s (omega arith)) n e
+  start_is n e = start_turn pause is_pause
+      (let w = within_bounds in let r = can.room in let s = kept_now_is pause in rw s (omega (arith, w, r)))
+      (let s = kept_now_is pause in rw s (omega arith)) n e
 
   pub cards_are : (n : ℕ) → n ≡ card_count h.sets → n ≡ length h.table.regions * (words / cw)
-  cards_are n e = e ∙ ap (λ (m : ℕ). m * h.sets.cards_per_region) can.fit.each_region ∙ ap (λ (m : ℕ). length h.table.regions * m) (sym per_region)
+  cards_are n e =
+      e ∙ ap (λ (m : ℕ). m * h.sets.cards_per_region) can.fit.each_region ∙ ap (λ (m : ℕ). length h.table.regions * m) (sym per_region)
 
   apart : (c w : ℕ) → IsHolder h.table c w → flag flags (c / words) ≡ false → flag flags (w / words) ≡ true → ⊥
   apart c w holder out' in' =
@@ -182,27 +193,43 @@ module _ (h : Layers) (rows : List LiveRow) (cw : ℕ) (can : CanEvacuate h rows
       ]
 
   -- a field of an object outside the set lies outside of it too
-  pub field_outside : (b i : ℕ) (x : Stored) (v : Option ℕ) → kept b ≡ Some x → slice_get (fields x) i ≡ Some v → flag flags (b / words) ≡ false
+  pub field_outside : (b i : ℕ) (x : Stored) (v : Option ℕ) → kept b ≡ Some x
+      → slice_get (fields x) i ≡ Some v → flag flags (b / words) ≡ false
       → flag flags (field_word b i / words) ≡ false
   field_outside b i x v at e out =
       let o = object b x at in
       let n = get_below (fields x) i v e in
       let big = object_within h.table b x shaped o in
-      let holder : IsHolder h.table b (field_word b i) = record { tile = Object x; tile_is = tile_of_object h.table b x o; low = omega arith; high = omega (arith, length-append x.pointers x.weaks) } in
+      let holder : IsHolder h.table b (field_word b i) = record {
+        tile = Object x;
+        tile_is = tile_of_object h.table b x o;
+        low = omega arith;
+        high = omega (arith, length-append x.pointers x.weaks);
+      } in
       elim (cases_Bool (flag flags (field_word b i / words))) [ inl q ↦ absurd (apart b (field_word b i) holder out q) | inr q ↦ q ]
 
-  module _ (visited : List Bool) (marked : (card : ℕ) → kind_of h.table (card * cw / words) ≢ kinds.Free → flag visited card ≡ list_any (λ row. may_lead h.sets row.region card) rows) where
+  module _ (visited : List Bool)
+      (marked : (card : ℕ) → kind_of h.table (card * cw / words) ≢ kinds.Free
+      → flag visited card ≡ list_any (λ row. may_lead h.sets row.region card) rows) where
     pub all_visited : AllVisited (layout pause) (plan pause) visited
     all_visited b i a x at out e inside =
         let o = object b x at in
         let n = get_below (fields x) i (Some a) e in
         let big = object_within h.table b x shaped o in
-        let holder : IsHolder h.table b (field_word b i) = record { tile = Object x; tile_is = tile_of_object h.table b x o; low = omega arith; high = omega (arith, length-append x.pointers x.weaks) } in
-        let leaves : a / words ≢ field_word b i / words = λ same. apart b (field_word b i) holder out (ap (flag flags) (sym same) ∙ inside) in
+        let holder : IsHolder h.table b (field_word b i) = record {
+          tile = Object x;
+          tile_is = tile_of_object h.table b x o;
+          low = omega arith;
+          high = omega (arith, length-append x.pointers x.weaks);
+        } in
+        let leaves : a / words ≢ field_word b i / words =
+        λ same. apart b (field_word b i) holder out (ap (flag flags) (sym same) ∙ inside) in
         let crossing : IsCrossing words kept b i a = record { object = x; kept_is = at; field_is = e; leaves = leaves } in
         let (j, row, f, g, r) = row_of (a / words) inside in
-        let same_region = card_region (field_word b i) cw words h.sets.cards_per_region (field_word b i / cw) shaped.positive can.fit.whole_cards refl in
-        let in_use : kind_of h.table (field_word b i / cw * cw / words) ≢ kinds.Free = λ f. used b (field_word b i) holder (ap (kind_of h.table) same_region ∙ f) in
+        let same_region =
+        card_region (field_word b i) cw words h.sets.cards_per_region (field_word b i / cw) shaped.positive can.fit.whole_cards refl in
+        let in_use : kind_of h.table (field_word b i / cw * cw / words) ≢ kinds.Free =
+        λ f. used b (field_word b i) holder (ap (kind_of h.table) same_region ∙ f) in
         marked (field_word b i / cw) in_use ∙ any_of (λ r'. may_lead h.sets r'.region (field_word b i / cw)) rows j row f
         (elim (can.remembers.each b i a crossing) [
           | inl d ↦ absurd (let c = can.clean (field_word b i / cw) in cc)
@@ -214,5 +241,9 @@ module _ (h : Layers) (rows : List LiveRow) (cw : ℕ) (can : CanEvacuate h rows
             let s = holder_start h.table c w shaped holder in
             elim (cases_lt (c / words) (w / words)) [
               | inl lt ↦ (let r = s.run.rest (w / words) lt (omega arith) in let n : kinds.Free ≡ kinds.Rest = sym f ∙ r in absurd cc)
-              | inr ge ↦ (let low = s.run.below in let same : c / words ≡ w / words = omega arith in let g = no_tile h.table c (ap (kind_of h.table) same ∙ f) in let e = holder.tile_is in absurd cc)
+              | inr ge ↦ (let low = s.run.below in
+                  let same : c / words ≡ w / words = omega arith in
+                  let g = no_tile h.table c (ap (kind_of h.table) same ∙ f) in
+                  let e = holder.tile_is in
+                  absurd cc)
             ]

@@ -1,11 +1,13 @@
 -- A pause begins.
-use Rattle.std.proofs.Common.{◌≡◌, ℕ, ◌*◌, ◌/◌, ◌%◌, ◌≤◌, Bool, true, false, [], Option, Some, None, length, refl, sym, ap, ◌∙◌, subst, inl, arith}
+use Rattle.std.proofs.Common.{◌≡◌, ◌*◌, ◌/◌, ◌%◌, ◌≤◌, ◌∙◌}
+use Rattle.std.proofs.Common.{ℕ, Bool, true, false, [], Option, Some, None, length, refl, sym, ap, subst, inl, arith}
 use Rattle.std.proofs.lemmas.List.Sums.{count_by-le-length}
 use Rattle.heap_model.specs.Heap.{Stored}
 use Rattle.heap_model.specs.Evacuation.{IsEvacuating}
 use Rattle.heap_model.proofs.Evacuated.{start}
 use Rattle.regions.specs.Tiles.{Tile, Object, Forwarded}
-use Rattle.regions.specs.Table.{Region, Free, Ordinary, First, Rest, Table, HasNoForwarded, is_free, kind_of, moved_to, region_at, region_kind, nth_region, region_tile, tile_in, free_count}
+use Rattle.regions.specs.Table.{Region, Free, Ordinary, First, Rest, Table, HasNoForwarded, is_free, kind_of, moved_to, region_at}
+use Rattle.regions.specs.Table.{region_kind, nth_region, region_tile, tile_in, free_count}
 use Rattle.regions.specs.Rows.{kind_is_free}
 use Rattle.regions.specs.Tiles.{Filler}
 use Rattle.regions.specs.declared.row.Kind.TheVariants as kinds
@@ -50,7 +52,8 @@ kept_start : (p : Pause) → kept_now p p.start ≡ (plan p).heap.kept
 unfolding kept_now
 kept_start p = refl
 
-module _ (p : Pause) (q : IsPause p) (room : 2 * (space p p.start).left ≤ free_count p.start * p.start.words_per_region) (limit : (space p p.start).left ≤ p.limit) (n : ℕ) (list : n ≡ length p.start.regions) where
+module _ (p : Pause) (q : IsPause p) (room : 2 * (space p p.start).left ≤ free_count p.start * p.start.words_per_region)
+    (limit : (space p p.start).left ≤ p.limit) (n : ℕ) (list : n ≡ length p.start.regions) where
   t : Table
   t = p.start
 
@@ -63,8 +66,10 @@ module _ (p : Pause) (q : IsPause p) (room : 2 * (space p p.start).left ≤ free
 
   evacuating : IsEvacuating (in_set p) (plan p).heap (space p p.start).forward (record { kept = kept_now p p.start; roots = p.roots })
   evacuating =
-      subst (λ (k : ℕ → Option Stored). IsEvacuating (in_set p) (plan p).heap (space p p.start).forward (record { kept = k; roots = p.roots })) (sym (kept_start p))
-      (subst (λ (f : ℕ → Option ℕ). IsEvacuating (in_set p) (plan p).heap f (plan p).heap) (λ i a. sym (not_moved p.start a q.unmoved) i) (start (in_set p) (plan p).heap))
+      subst (λ (k : ℕ → Option Stored).
+      IsEvacuating (in_set p) (plan p).heap (space p p.start).forward (record { kept = k; roots = p.roots })) (sym (kept_start p))
+      (subst (λ (f : ℕ → Option ℕ). IsEvacuating (in_set p) (plan p).heap f (plan p).heap)
+      (λ i a. sym (not_moved p.start a q.unmoved) i) (start (in_set p) (plan p).heap))
 
   stays : TableStays p p.start
   stays = record {

@@ -1,5 +1,7 @@
 -- The chosen regions, one after another.
-use Rattle.std.proofs.Common.{◌≡◌, ◌≢◌, ℕ, suc, zero, ◌+◌, ◌*◌, ◌/◌, ◌<◌, ◌⊎◌, Bool, true, false, List, [], ◌∷◌, ◌++◌, Some, length, get_or, set, take, refl, sym, ap, ◌∙◌, subst, inl, inr, arith, eqb}
+use Rattle.std.proofs.Common.{◌≡◌, ◌≢◌, ◌+◌, ◌*◌, ◌/◌, ◌<◌, ◌⊎◌, ◌∷◌, ◌++◌, ◌∙◌}
+use Rattle.std.proofs.Common.{ℕ, suc, zero, Bool, true, false, List, [], Some, length, get_or, set}
+use Rattle.std.proofs.Common.{take, refl, sym, ap, subst, inl, inr, arith, eqb}
 use Rattle.std.specs.Prelude.{slice_get, ◌||◌, ◌==◌, if◌then◌else◌}
 use Rattle.std.specs.List.{list_any}
 use Rattle.std.proofs.lemmas.Bool.{cases_eq, cases_Bool}
@@ -29,8 +31,11 @@ or_false false = refl
 any_push : (f : LiveRow → Bool) (rows : List LiveRow) (row : LiveRow) → list_any f (rows ++ row ∷ []) ≡ (list_any f rows || f row)
 any_push f rows row = list_any-append f rows (row ∷ []) ∙ ap (λ (b : Bool). list_any f rows || b) (or_false (f row))
 
-pub chosen_more : (rows : List LiveRow) (n : ℕ) (row : LiveRow) (k : ℕ) → n < length rows → get_or rows n row ≡ row → is_chosen (take (n + 1) rows) k ≡ (is_chosen (take n rows) k || (row.region == k))
-chosen_more rows n row k h e = ap (λ (rs : List LiveRow). is_chosen rs k) (take_more rows n row h ∙ ap (λ (r : LiveRow). take n rows ++ r ∷ []) e) ∙ any_push (λ r. r.region == k) (take n rows) row
+pub chosen_more : (rows : List LiveRow) (n : ℕ) (row : LiveRow) (k : ℕ) → n < length rows → get_or rows n row ≡ row
+    → is_chosen (take (n + 1) rows) k ≡ (is_chosen (take n rows) k || (row.region == k))
+chosen_more rows n row k h e =
+    ap (λ (rs : List LiveRow). is_chosen rs k) (take_more rows n row h ∙ ap (λ (r : LiveRow). take n rows ++ r ∷ []) e)
+    ∙ any_push (λ r. r.region == k) (take n rows) row
 
 either : (a b : Bool) → (a || b) ≡ true → (a ≡ true) ⊎ (b ≡ true)
 either true b e = inl refl
@@ -53,7 +58,8 @@ module _ (xs ys : List LiveRow) (r : ℕ) (more : (k : ℕ) → is_chosen ys k �
   old_both : (k : ℕ) → is_chosen ys k ≡ false → (is_chosen xs k ≡ false) × (k ≢ r)
   old_both k e = let n = neither (is_chosen xs k) (r == k) (sym (more k) ∙ e) in (n.0, λ q. eqb-false r k n.1 (sym q))
 
-  pub step_released : (t0 t1 t2 : Table) → 0 < t1.words_per_region → r < length t1.regions → kind_of t1 r ≡ kinds.Ordinary → t2 ≡ released t1 r → AreReleased xs t0 t1 → AreReleased ys t0 t2
+  pub step_released : (t0 t1 t2 : Table) → 0 < t1.words_per_region → r < length t1.regions → kind_of t1 r ≡ kinds.Ordinary
+      → t2 ≡ released t1 r → AreReleased xs t0 t1 → AreReleased ys t0 t2
   step_released t0 t1 t2 z known o is done =
       let w = subst (λ (u : Table). one.Releases t1 u r) (sym is) (region_released t1 r z known o) in
       record {
@@ -83,10 +89,13 @@ module _ (xs ys : List LiveRow) (r : ℕ) (more : (k : ℕ) → is_chosen ys k �
     cards = done.cards;
     count = length-set s1.sets r (empty_set (length s1.sets)) ∙ done.count;
     cleared = λ k e. elim (cases_eq k r) [
-      | inl q ↦ ap (λ (m : ℕ). get_or (set s1.sets r (empty_set (length s1.sets))) m (empty_set 0)) q ∙ get_or-set_same s1.sets r (empty_set (length s1.sets)) (empty_set 0) known ∙ ap empty_set done.count
-      | inr q ↦ get_or-set_other s1.sets r k (empty_set (length s1.sets)) (empty_set 0) q ∙ elim (new_cases k e) [ inl g ↦ done.cleared k g | inr g ↦ absurd (q (sym g)) ]
+      | inl q ↦ ap (λ (m : ℕ). get_or (set s1.sets r (empty_set (length s1.sets))) m (empty_set 0)) q
+          ∙ get_or-set_same s1.sets r (empty_set (length s1.sets)) (empty_set 0) known ∙ ap empty_set done.count
+      | inr q ↦ get_or-set_other s1.sets r k (empty_set (length s1.sets)) (empty_set 0) q
+          ∙ elim (new_cases k e) [ inl g ↦ done.cleared k g | inr g ↦ absurd (q (sym g)) ]
     ];
-    others = λ k e. let (a, b) = old_both k e in get_or-set_other s1.sets r k (empty_set (length s1.sets)) (empty_set 0) b ∙ done.others k a;
+    others = λ k e. let (a, b) = old_both k e in
+        get_or-set_other s1.sets r k (empty_set (length s1.sets)) (empty_set 0) b ∙ done.others k a;
     entered = λ card.
         has-without s1.cards_per_region r s1.entered card
         ∙ ap (λ (n : ℕ). if eqb (card / n) r then false else has s1.entered card) done.cards
@@ -96,18 +105,25 @@ module _ (xs ys : List LiveRow) (r : ℕ) (more : (k : ℕ) → is_chosen ys k �
         ∙ ap (λ (b : Bool). if b then false else has s0.entered card) (sym (more (card / s0.cards_per_region)));
   })
 
-  pub step_marks : (words : ℕ) (tops0 tops1 tops2 : List ℕ) (marks0 marks1 marks2 : List Bool) → 0 < words → r < length tops1 → tops2 ≡ set tops1 r (r * words) → length marks2 ≡ length marks1
-      → ((a : ℕ) → is_marked marks2 a ≡ (if is_in_region words r a then false else is_marked marks1 a)) → MarksAfter words xs tops0 tops1 marks0 marks1 → MarksAfter words ys tops0 tops2 marks0 marks2
+  pub step_marks : (words : ℕ) (tops0 tops1 tops2 : List ℕ) (marks0 marks1 marks2 : List Bool) → 0 < words → r < length tops1
+      → tops2 ≡ set tops1 r (r * words) → length marks2 ≡ length marks1
+      → ((a : ℕ) → is_marked marks2 a ≡ (if is_in_region words r a then false else is_marked marks1 a))
+      → MarksAfter words xs tops0 tops1 marks0 marks1 → MarksAfter words ys tops0 tops2 marks0 marks2
   step_marks words tops0 tops1 tops2 marks0 marks1 marks2 z known is len marks done = record {
     count = ap (λ (m : List ℕ). length m) is ∙ length-set tops1 r (r * words) ∙ done.count;
     each_top = λ k h. ap (λ (m : List ℕ). get_or m k 0) is ∙ rw (more k) (elim (eqb_tells r k) [
-      | inl q ↦ (let e : k ≡ r = sym q.1 in subst (λ (m : ℕ). get_or (set tops1 r (r * words)) m 0 ≡ (if is_chosen xs m || (r == m) then m * words else get_or tops0 m 0)) q.1
-          (get_or-set_same tops1 r (r * words) 0 known ∙ sym (yes (is_chosen xs r) (r == r) (r * words) (get_or tops0 r 0) (eq-eqb r r refl))))
-      | inr q ↦ get_or-set_other tops1 r k (r * words) 0 (λ e. q.1 (sym e)) ∙ done.each_top k h ∙ sym (no (is_chosen xs k) (r == k) (k * words) (get_or tops0 k 0) q.0)
+      | inl q ↦ (let e : k ≡ r = sym q.1 in
+          subst (λ (m : ℕ). get_or (set tops1 r (r * words)) m 0 ≡ (if is_chosen xs m || (r == m) then m * words else get_or tops0 m 0)) q.1
+          (get_or-set_same tops1 r (r * words) 0 known
+          ∙ sym (yes (is_chosen xs r) (r == r) (r * words) (get_or tops0 r 0) (eq-eqb r r refl))))
+      | inr q ↦ get_or-set_other tops1 r k (r * words) 0 (λ e. q.1 (sym e)) ∙ done.each_top k h
+          ∙ sym (no (is_chosen xs k) (r == k) (k * words) (get_or tops0 k 0) q.0)
     ]);
     each_word = len ∙ done.each_word;
-    each_mark = λ a. marks a ∙ ap (λ (b : Bool). if b then false else is_marked marks1 a) (region_is words r a z) ∙ ap (λ (m : Bool). if eqb r (a / words) then false else m) (done.each_mark a)
-        ∙ if_both (is_chosen xs (a / words)) (eqb r (a / words)) false (is_marked marks0 a) ∙ ap (λ (b : Bool). if b then false else is_marked marks0 a) (sym (more (a / words)));
+    each_mark = λ a. marks a ∙ ap (λ (b : Bool). if b then false else is_marked marks1 a) (region_is words r a z)
+        ∙ ap (λ (m : Bool). if eqb r (a / words) then false else m) (done.each_mark a)
+        ∙ if_both (is_chosen xs (a / words)) (eqb r (a / words)) false (is_marked marks0 a)
+        ∙ ap (λ (b : Bool). if b then false else is_marked marks0 a) (sym (more (a / words)));
   }
     where
       yes : (a b : Bool) (x y : ℕ) → b ≡ true → (if a || b then x else y) ≡ x
@@ -118,18 +134,24 @@ module _ (xs ys : List LiveRow) (r : ℕ) (more : (k : ℕ) → is_chosen ys k �
       no true b x y e = refl
       no false b x y e = rw e refl
 
-pub none_moved : (rows : List LiveRow) (words : ℕ) (t t' : Table) (r : ℕ) → 0 < t.words_per_region → r < length t.regions → kind_of t r ≡ kinds.Ordinary → t' ≡ released t r → NoneForwardedInto rows words t → NoneForwardedInto rows words t'
-none_moved rows words t t' r z known o is m = subst (NoneForwardedInto rows words) (sym (is ∙ released_one t r o)) (EachForwardedIn-set (λ to. is_chosen rows (to / words) ≡ false) t.regions r Free tt m)
+pub none_moved : (rows : List LiveRow) (words : ℕ) (t t' : Table) (r : ℕ) → 0 < t.words_per_region → r < length t.regions
+    → kind_of t r ≡ kinds.Ordinary → t' ≡ released t r → NoneForwardedInto rows words t → NoneForwardedInto rows words t'
+none_moved rows words t t' r z known o is m = subst (NoneForwardedInto rows words) (sym (is ∙ released_one t r o))
+    (EachForwardedIn-set (λ to. is_chosen rows (to / words) ≡ false) t.regions r Free tt m)
 
 -- a row isn't among those before it
-pub not_before : (rows : List LiveRow) (n : ℕ) (row : LiveRow) → AreDistinct rows → slice_get rows n ≡ Some row → is_chosen (take n rows) row.region ≡ false
+pub not_before : (rows : List LiveRow) (n : ℕ) (row : LiveRow) → AreDistinct rows → slice_get rows n ≡ Some row
+    → is_chosen (take n rows) row.region ≡ false
 not_before rows n row distinct e = go (is_chosen (take n rows) row.region) refl
   where
     found : (xs : List LiveRow) (k : ℕ) → is_chosen xs k ≡ true → (i : ℕ) × (x : LiveRow) × (slice_get xs i ≡ Some x) × (x.region ≡ k)
     found [] k q = absurd cc
     found (x ∷ xs) k q = elim (eqb_tells x.region k) [
       | inl f ↦ (0, x, refl, f.1)
-      | inr f ↦ (let q' : (eqb x.region k || is_chosen xs k) ≡ true = q in let q'' : is_chosen xs k ≡ true = rw f.0 at q' in let (i, y, g, h) = found xs k q'' in (suc i, y, g, h))
+      | inr f ↦ (let q' : (eqb x.region k || is_chosen xs k) ≡ true = q in
+          let q'' : is_chosen xs k ≡ true = rw f.0 at q' in
+          let (i, y, g, h) = found xs k q'' in
+          (suc i, y, g, h))
     ]
 
     in_take : (xs : List LiveRow) (m i : ℕ) (x : LiveRow) → slice_get (take m xs) i ≡ Some x → (i < m) × (slice_get xs i ≡ Some x)
@@ -141,7 +163,10 @@ not_before rows n row distinct e = go (is_chosen (take n rows) row.region) refl
 
     go : (b : Bool) → is_chosen (take n rows) row.region ≡ b → is_chosen (take n rows) row.region ≡ false
     go false q = q
-    go true q = absurd (let (i, x, f, g) = found (take n rows) row.region q in let (a, h) = in_take rows n i x f in let same = distinct i n x row h e g in omega arith)
+    go true q = absurd (let (i, x, f, g) = found (take n rows) row.region q in
+        let (a, h) = in_take rows n i x f in
+        let same = distinct i n x row h e g in
+        omega arith)
 
 pub kind_by : (t t' : Table) (k : ℕ) → nth_region t' k ≡ nth_region t k → kind_of t' k ≡ kind_of t k
 unfolding kind_of
@@ -149,5 +174,8 @@ kind_by t t' k e = ap region_kind e
 
 pub chosen_at : (rows : List LiveRow) (n : ℕ) (row : LiveRow) → slice_get rows n ≡ Some row → is_chosen rows row.region ≡ true
 chosen_at [] n row e = absurd cc
-chosen_at (x ∷ rows) zero row e = let same : x ≡ row = cc in let q = eq-eqb x.region row.region (ap (λ (r : LiveRow). r.region) same) in rw q refl
+chosen_at (x ∷ rows) zero row e =
+    let same : x ≡ row = cc in
+    let q = eq-eqb x.region row.region (ap (λ (r : LiveRow). r.region) same) in
+    rw q refl
 chosen_at (x ∷ rows) (suc n) row e = elim (eqb_tells x.region row.region) [ inl q ↦ rw q.0 refl | inr q ↦ rw q.0 (chosen_at rows n row e) ]

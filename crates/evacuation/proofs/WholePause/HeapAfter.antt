@@ -1,6 +1,8 @@
 -- The heap after a pause.
 use Rattle.evacuation.proofs.WholePause.Beginning.{no_tile}
-use Rattle.std.proofs.Common.{◌≡◌, ◌≢◌, ℕ, suc, zero, ◌+◌, ◌-◌, ◌*◌, ◌/◌, ◌%◌, ◌<◌, ◌≤◌, Bool, true, false, List, [], ◌∷◌, Option, Some, None, length, get_or, refl, sym, ap, ◌∙◌, subst, inl, inr, arith}
+use Rattle.std.proofs.Common.{◌≡◌, ◌≢◌, ◌+◌, ◌-◌, ◌*◌, ◌/◌, ◌%◌, ◌<◌, ◌≤◌, ◌∷◌, ◌∙◌}
+use Rattle.std.proofs.Common.{ℕ, suc, zero, Bool, true, false, List, [], Option, Some, None}
+use Rattle.std.proofs.Common.{length, get_or, refl, sym, ap, subst, inl, inr, arith}
 use Rattle.std.specs.Prelude.{nat_lt, slice_get, ◌↔◌, ◌&&◌, if◌then◌else◌}
 use Rattle.std.specs.List.Sorted.{IsStrictlyIncreasing}
 use Rattle.std.proofs.lemmas.Bool.{cases_lt, cases_Bool}
@@ -12,7 +14,8 @@ use Rattle.regions.specs.Tiles.{Tile, Object, Filler, Forwarded, tile_size, tile
 use Rattle.regions.specs.Walks.{AllPositive, region_tiles, tiles_of}
 use Rattle.regions.proofs.Tiles.Placing.{tile_at-back}
 use Rattle.regions.proofs.Walks.WalkFrom.{listed_tile}
-use Rattle.regions.specs.Table.{Region, Free, Ordinary, First, Rest, Table, EachForwarded, EachForwardedIn, HasNoForwarded, kind_of, moved_to, object_at, region_kind, nth_region, region_tile, region_used, tile_in, used_of, AreHalves}
+use Rattle.regions.specs.Table.{Region, Free, Ordinary, First, Rest, Table, EachForwarded, EachForwardedIn, HasNoForwarded, kind_of}
+use Rattle.regions.specs.Table.{moved_to, object_at, region_kind, nth_region, region_tile, region_used, tile_in, used_of, AreHalves}
 use Rattle.regions.specs.Shaped.{IsShaped}
 use Rattle.regions.specs.declared.row.Kind.TheVariants as kinds
 use Rattle.regions.proofs.LongRuns.RunLaws.{tile_of_region}
@@ -22,7 +25,8 @@ use Rattle.mark_bitmap.specs.Kept.{MarksObjects, kept_in}
 use Rattle.mark_bitmap.proofs.KeptLaws.{gone_kept}
 use Rattle.region_choice.specs.declared.LiveRow.{LiveRow}
 use Rattle.object_copy.specs.Copies.{Places}
-use Rattle.evacuation.specs.Evacuates.{AreReachedWords, CanEvacuate, Layers, MarksAfter, RegionsAfter, heap_of, kept_of, is_chosen, set_by, IsNewCrossing}
+use Rattle.evacuation.specs.Evacuates.{AreReachedWords, CanEvacuate, Layers, MarksAfter, RegionsAfter}
+use Rattle.evacuation.specs.Evacuates.{heap_of, kept_of, is_chosen, set_by, IsNewCrossing}
 use Rattle.evacuation.specs.Space.{flag, NewCrossing}
 use Rattle.evacuation.specs.Turns.{Pause, IsTurn, in_set, kept_now, plan, space, layout}
 use Rattle.evacuation.specs.Releasing.{AreReleased}
@@ -68,7 +72,9 @@ moved_tile (Some (Forwarded to n)) b e = (n, let same : to ≡ b = cc in ap (λ 
 
 -- where no tile is moved, no tile of the regions is
 next_tile : (t : Tile) (ts : List Tile) (o : ℕ) → 0 < tile_size t → tile_at (tile_size t + o) (t ∷ ts) ≡ tile_at o ts
-next_tile t ts o z = let e : tile_size t + o - (tile_size t + 0) ≡ o = omega arith in tile_at-back (t ∷ []) ts (tile_size t + o) (z, tt) (omega arith) ∙ ap (λ (m : ℕ). tile_at m ts) e
+next_tile t ts o z =
+    let e : tile_size t + o - (tile_size t + 0) ≡ o = omega arith in
+    tile_at-back (t ∷ []) ts (tile_size t + o) (z, tt) (omega arith) ∙ ap (λ (m : ℕ). tile_at m ts) e
 
 tiles_none : (ts : List Tile) → AllPositive ts → ((o to n : ℕ) → tile_at o ts ≡ Some (Forwarded to n) → ⊥) → EachForwarded (λ _. ⊥) ts
 tiles_none [] z f = tt
@@ -85,10 +91,14 @@ regions_none (Rest n ∷ rs) f = regions_none rs (λ k. f (suc k))
 
 none_moved : (t : Table) → IsShaped t → ((a to n : ℕ) → tile_in t a ≡ Some (Forwarded to n) → ⊥) → HasNoForwarded t
 unfolding tiles_of nth_region
-none_moved t g f = regions_none t.regions (λ k. tiles_none (tiles_of t k) (g.fitting k).positive (λ o to n e. f (k * t.words_per_region + o) to n (listed_tile t k o (Forwarded to n) g e)))
+none_moved t g f = regions_none t.regions
+    (λ k. tiles_none (tiles_of t k) (g.fitting k).positive
+    (λ o to n e. f (k * t.words_per_region + o) to n (listed_tile t k o (Forwarded to n) g e)))
 
-module _ (h : Layers) (rows : List LiveRow) (cw : ℕ) (can : CanEvacuate h rows cw) (shaped : IsShaped h.table) (flags : List Bool) (flags_are : (k : ℕ) → flag flags k ≡ is_chosen rows k) (len : length flags ≡ length h.table.regions)
-    (t1 : Table) (d1 : Places) (turn : IsTurn (asked.pause h rows cw can shaped flags flags_are len) t1 d1) (t2 : Table) (rel : AreReleased rows t1 t2) where
+module _ (h : Layers) (rows : List LiveRow) (cw : ℕ) (can : CanEvacuate h rows cw) (shaped : IsShaped h.table) (flags : List Bool)
+    (flags_are : (k : ℕ) → flag flags k ≡ is_chosen rows k) (len : length flags ≡ length h.table.regions)
+    (t1 : Table) (d1 : Places) (turn : IsTurn (asked.pause h rows cw can shaped flags flags_are len) t1 d1)
+    (t2 : Table) (rel : AreReleased rows t1 t2) where
   abbrev p : Pause
   p = asked.pause h rows cw can shaped flags flags_are len
 
@@ -109,13 +119,16 @@ module _ (h : Layers) (rows : List LiveRow) (cw : ℕ) (can : CanEvacuate h rows
 
   -- what stands where after the release
   tile_inside : (a : ℕ) → in_set p a ≡ true → tile_in t2 a ≡ None
-  tile_inside a e = tile_of_region t2 a Free (ap (λ (n : ℕ). nth_region t2 (a / n)) size ∙ rel.gone (a / words) (sym (flags_are (a / words)) ∙ e))
+  tile_inside a e =
+      tile_of_region t2 a Free (ap (λ (n : ℕ). nth_region t2 (a / n)) size ∙ rel.gone (a / words) (sym (flags_are (a / words)) ∙ e))
 
   tile_outside : (a : ℕ) → in_set p a ≡ false → tile_in t2 a ≡ tile_in t1 a
   tile_outside a e =
       let same : nth_region t2 (a / t2.words_per_region) ≡ nth_region t1 (a / t1.words_per_region) =
-      ap (λ (n : ℕ). nth_region t2 (a / n)) size ∙ rel.others (a / words) (sym (flags_are (a / words)) ∙ e) ∙ ap (λ (n : ℕ). nth_region t1 (a / n)) (sym turn.table.size) in
-      let tile = tile_of_region t2 a (nth_region t1 (a / t1.words_per_region)) same ∙ ap (λ (n : ℕ). region_tile (nth_region t1 (a / t1.words_per_region)) (a % n)) rel.size in
+      ap (λ (n : ℕ). nth_region t2 (a / n)) size ∙ rel.others (a / words) (sym (flags_are (a / words)) ∙ e)
+      ∙ ap (λ (n : ℕ). nth_region t1 (a / n)) (sym turn.table.size) in
+      let tile = tile_of_region t2 a (nth_region t1 (a / t1.words_per_region)) same
+      ∙ ap (λ (n : ℕ). region_tile (nth_region t1 (a / t1.words_per_region)) (a % n)) rel.size in
       tile ∙ sym (tile_of_region t1 a (nth_region t1 (a / t1.words_per_region)) refl)
 
   objects : (a : ℕ) → object_at t2 a ≡ (if in_set p a then None else object_at t1 a)
@@ -144,7 +157,9 @@ module _ (h : Layers) (rows : List LiveRow) (cw : ℕ) (can : CanEvacuate h rows
 
   not_chosen : (k : ℕ) → kind_of h.table k ≡ kinds.Free → is_chosen rows k ≡ false
   not_chosen k f = elim (cases_Bool (is_chosen rows k)) [
-    | inl e ↦ absurd (let o = asked.ordinary h rows cw can shaped flags flags_are len k (on k e) in let n : kinds.Ordinary ≡ kinds.Free = sym o ∙ f in cc)
+    | inl e ↦ absurd (let o = asked.ordinary h rows cw can shaped flags flags_are len k (on k e) in
+        let n : kinds.Ordinary ≡ kinds.Free = sym o ∙ f in
+        cc)
     | inr e ↦ e
   ]
 
@@ -153,7 +168,8 @@ module _ (h : Layers) (rows : List LiveRow) (cw : ℕ) (can : CanEvacuate h rows
     size = size;
     count = rel.count ∙ turn.table.count;
     chosen = λ k e. kind_free t2 k (rel.gone k e);
-    was_free = λ k f. let s = kind_by t1 t2 k (rel.others k (not_chosen k f)) in elim (turn.table.was_free k f) [ inl e ↦ inl (s ∙ e) | inr e ↦ inr (s ∙ e) ];
+    was_free = λ k f. let s = kind_by t1 t2 k (rel.others k (not_chosen k f)) in
+        elim (turn.table.was_free k f) [ inl e ↦ inl (s ∙ e) | inr e ↦ inr (s ∙ e) ];
     filled = λ k f o.
         let out = rel.others k (not_chosen k f) in
         let b = turn.table.filled k f (sym (kind_by t1 t2 k out) ∙ o) in
@@ -171,13 +187,15 @@ module _ (h : Layers) (rows : List LiveRow) (cw : ℕ) (can : CanEvacuate h rows
       let out = stays_out a x e in
       let here = sym (outside a out) ∙ e in
       let chosen : is_chosen rows (a / words) ≡ false = sym (flags_are (a / words)) ∙ out in
-      let kind : kind_of t1 (a / words) ≡ kinds.Ordinary = sym (kind_by t1 t2 (a / words) (rel.others (a / words) chosen)) ∙ ap (λ (n : ℕ). kind_of t2 (a / n)) (sym size) ∙ o in
+      let kind : kind_of t1 (a / words) ≡ kinds.Ordinary =
+      sym (kind_by t1 t2 (a / words) (rel.others (a / words) chosen)) ∙ ap (λ (n : ℕ). kind_of t2 (a / n)) (sym size) ∙ o in
       subst (λ (n : ℕ). 2 * tile_size (Object x) ≤ n) (sym size) (elim (cases_free (kind_of h.table (a / words))) [
         | inl f ↦ turn.table.small a x out f here
         | inr n ↦ go a x out n here kind (object_at h.table a) refl
       ])
     where
-      go : (a : ℕ) (x : Stored) → in_set p a ≡ false → kind_of h.table (a / words) ≢ kinds.Free → object_at t1 a ≡ Some x → kind_of t1 (a / words) ≡ kinds.Ordinary → (z : Option Stored) → object_at h.table a ≡ z → 2 * tile_size (Object x) ≤ words
+      go : (a : ℕ) (x : Stored) → in_set p a ≡ false → kind_of h.table (a / words) ≢ kinds.Free → object_at t1 a ≡ Some x
+          → kind_of t1 (a / words) ≡ kinds.Ordinary → (z : Option Stored) → object_at h.table a ≡ z → 2 * tile_size (Object x) ≤ words
       go a x out n here kind None f = absurd (let g = turn.table.none a out n f in cc)
       go a x out n here kind (Some z) f =
           let (y, g, s) = turn.table.objects a z out f in
@@ -188,7 +206,8 @@ module _ (h : Layers) (rows : List LiveRow) (cw : ℕ) (can : CanEvacuate h rows
           let e2 = ap (λ (m : List ℕ). length m) s.values in
           subst (λ (m : Stored). 2 * tile_size (Object m) ≤ words) same (omega arith)
 
-  module _ (tops tops' : List ℕ) (marks marks' : List Bool) (m : MarksObjects h.table tops marks) (after : MarksAfter words rows tops tops' marks marks') where
+  module _ (tops tops' : List ℕ) (marks marks' : List Bool) (m : MarksObjects h.table tops marks)
+      (after : MarksAfter words rows tops tops' marks marks') where
     top_out : (k : ℕ) → is_chosen rows k ≡ false → get_or tops' k 0 ≡ get_or tops k 0
     top_out k e = elim (cases_lt k (length tops)) [
       | inl lt ↦ after.each_top k lt ∙ ap (λ (b : Bool). if b then k * words else get_or tops k 0) e
@@ -197,14 +216,17 @@ module _ (h : Layers) (rows : List LiveRow) (cw : ℕ) (can : CanEvacuate h rows
 
     pub below_same : (a : ℕ) → in_set p a ≡ false → is_below t2.words_per_region tops' a ≡ is_below words tops a
     unfolding is_below
-    below_same a e = ap (λ (n : ℕ). is_below n tops' a) size ∙ ap (λ (n : ℕ). nat_lt a n) (top_out (a / words) (sym (flags_are (a / words)) ∙ e))
+    below_same a e =
+        ap (λ (n : ℕ). is_below n tops' a) size ∙ ap (λ (n : ℕ). nat_lt a n) (top_out (a / words) (sym (flags_are (a / words)) ∙ e))
 
     pub mark_same : (a : ℕ) → in_set p a ≡ false → is_marked marks' a ≡ is_marked marks a
     mark_same a e = after.each_mark a ∙ ap (λ (b : Bool). if b then false else is_marked marks a) (sym (flags_are (a / words)) ∙ e)
 
     marked_out : (a : ℕ) → is_marked marks' a ≡ true → in_set p a ≡ false
     marked_out a e = elim (cases_Bool (in_set p a)) [
-      | inl i ↦ absurd (let g = after.each_mark a ∙ ap (λ (b : Bool). if b then false else is_marked marks a) (sym (flags_are (a / words)) ∙ i) in cc)
+      | inl i ↦ absurd (let g =
+          after.each_mark a ∙ ap (λ (b : Bool). if b then false else is_marked marks a) (sym (flags_are (a / words)) ∙ i) in
+          cc)
       | inr o ↦ o
     ]
 
@@ -215,27 +237,38 @@ module _ (h : Layers) (rows : List LiveRow) (cw : ℕ) (can : CanEvacuate h rows
       bottom = λ k lt. let k0 : k < length h.table.regions = (let c = regions.count in omega arith) in
           let z = ap (λ (n : ℕ). k * n) size in
           elim (cases_Bool (is_chosen rows k)) [
-            | inl e ↦ (let t = after.each_top k (let c = m.each_region in omega arith) ∙ ap (λ (b : Bool). if b then k * words else get_or tops k 0) e in omega arith)
+            | inl e ↦ (let t =
+                after.each_top k (let c = m.each_region in omega arith) ∙ ap (λ (b : Bool). if b then k * words else get_or tops k 0) e in
+                omega arith)
             | inr e ↦ (let t = top_out k e in let b = m.bottom k k0 in omega arith)
           ];
       top = λ k lt. let k0 : k < length h.table.regions = (let c = regions.count in omega arith) in
           let z = ap (λ (n : ℕ). k * n) size in
           elim (cases_Bool (is_chosen rows k)) [
-            | inl e ↦ (let t = after.each_top k (let c = m.each_region in omega arith) ∙ ap (λ (b : Bool). if b then k * words else get_or tops k 0) e in omega arith)
+            | inl e ↦ (let t =
+                after.each_top k (let c = m.each_region in omega arith) ∙ ap (λ (b : Bool). if b then k * words else get_or tops k 0) e in
+                omega arith)
             | inr e ↦ (let t = top_out k e in let b = m.top k k0 in elim (cases_free (kind_of h.table k)) [
               | inl f ↦ (let u = free_used h.table k f in omega arith)
               | inr n ↦ (let u = regions.used k e n in omega arith)
             ])
           ];
-      object = λ a e. let o = marked_out a e in let (s, f) = m.object a (sym (mark_same a o) ∙ e) in let (y, g, b) = regions.objects a s (sym (flags_are (a / words)) ∙ o) f in (y, g);
+      object = λ a e. let o = marked_out a e in
+          let (s, f) = m.object a (sym (mark_same a o) ∙ e) in
+          let (y, g, b) = regions.objects a s (sym (flags_are (a / words)) ∙ o) f in
+          (y, g);
       below = λ a e. let o = marked_out a e in below_same a o ∙ m.below a (sym (mark_same a o) ∙ e);
     }
 
   -- ---- all together
-  module _ (tams' : Tops) (previous' next' : List Bool) (cards' : Cards) (sets' : Sets) (roots' : List (Option ℕ)) (noted : List Bool) (g : IsShaped t2)
-      (previous : MarksAfter words rows h.tams.previous tams'.previous h.previous previous') (next : MarksAfter words rows h.tams.next tams'.next h.next next')
-      (cleared : AreCleared rows h.sets sets') (dirty : (card : ℕ) → is_dirty cards' card ≡ flag noted card) (logs : cards'.logs ≡ h.cards.logs) (rising : IsStrictlyIncreasing cards'.queue) (each : length cards'.dirty ≡ length h.cards.dirty)
-      (moved : Relocates (place_after (in_set p) (space p t1).forward) (plan p).heap (released (in_set p) (record { kept = kept_now p t1; roots = roots' })))
+  module _ (tams' : Tops) (previous' next' : List Bool) (cards' : Cards) (sets' : Sets)
+      (roots' : List (Option ℕ)) (noted : List Bool) (g : IsShaped t2)
+      (previous : MarksAfter words rows h.tams.previous tams'.previous h.previous previous')
+      (next : MarksAfter words rows h.tams.next tams'.next h.next next')
+      (cleared : AreCleared rows h.sets sets') (dirty : (card : ℕ) → is_dirty cards' card ≡ flag noted card)
+      (logs : cards'.logs ≡ h.cards.logs) (rising : IsStrictlyIncreasing cards'.queue) (each : length cards'.dirty ≡ length h.cards.dirty)
+      (moved : Relocates (place_after (in_set p) (space p t1).forward) (plan p).heap
+      (released (in_set p) (record { kept = kept_now p t1; roots = roots' })))
       (reached : (a : ℕ) → IsReached (in_set p) (plan p).heap a → (b : ℕ) × ((space p t1).forward a ≡ Some b))
       (copied_words : AreReachedWords (in_set p) (plan p).heap d1.words) (fields : AreFieldsNoted p noted t1) (clean : AreFieldsClean p t1)
       (only : (c : ℕ) → flag noted c ≡ true → NewCrossing (layout p) (space p h.table) (space p t1) d1 c) where
@@ -248,7 +281,8 @@ module _ (h : Layers) (rows : List LiveRow) (cw : ℕ) (can : CanEvacuate h rows
     kept_after : (a : ℕ) → kept_in t2 tams' previous' a ≡ (if in_set p a then None else kept_now p t1 a)
     kept_after a =
         gone_kept t1 t2 h.tams tams' h.previous previous' (in_set p) objects
-        (λ b e. below_same h.tams.previous tams'.previous h.previous previous' can.previous previous b e ∙ ap (λ (n : ℕ). is_below n h.tams.previous b) (sym turn.table.size))
+        (λ b e. below_same h.tams.previous tams'.previous h.previous previous' can.previous previous b e
+        ∙ ap (λ (n : ℕ). is_below n h.tams.previous b) (sym turn.table.size))
         (λ b e. mark_same h.tams.previous tams'.previous h.previous previous' can.previous previous b e) a
         ∙ ap (λ (f : ℕ → Option Stored). if in_set p a then None else f a) (sym (kept_now_is p t1))
 
@@ -256,11 +290,13 @@ module _ (h : Layers) (rows : List LiveRow) (cw : ℕ) (can : CanEvacuate h rows
     same_heap = ap (λ (f : ℕ → Option Stored). record { kept = f; roots = roots' }) (λ i a. kept_after a i)
 
     relocates : Relocates (place_after (set_by h rows) forward) (heap_of h) (heap_of h')
-    relocates = subst (λ (s : ℕ → Bool). Relocates (place_after s forward) (heap_of h) (heap_of h')) (sym sets_same) (subst (Relocates (place_after (in_set p) forward) (heap_of h)) (sym same_heap) moved)
+    relocates = subst (λ (s : ℕ → Bool). Relocates (place_after s forward) (heap_of h) (heap_of h')) (sym sets_same)
+        (subst (Relocates (place_after (in_set p) forward) (heap_of h)) (sym same_heap) moved)
 
     copied : (a : ℕ) → IsReached (set_by h rows) (heap_of h) a ↔ ((set_by h rows a ≡ true) × (b : ℕ) × (forward a ≡ Some b))
     copied = subst (λ (s : ℕ → Bool). (a : ℕ) → IsReached s (heap_of h) a ↔ ((s a ≡ true) × (b : ℕ) × (forward a ≡ Some b))) (sym sets_same)
-        (λ a. (λ r. let (b, e) = reached a r in (reached_inside (in_set p) (heap_of h) a r, b, e), λ q. turn.copying.heap.reached a q.1 q.0 q.2))
+        (λ a.
+        (λ r. let (b, e) = reached a r in (reached_inside (in_set p) (heap_of h) a r, b, e), λ q. turn.copying.heap.reached a q.1 q.0 q.2))
 
     kept_there : (b : ℕ) (y : Stored) → kept_in t2 tams' previous' b ≡ Some y → (in_set p b ≡ false) × (kept_now p t1 b ≡ Some y)
     kept_there b y e = elim (cases_Bool (in_set p b)) [
@@ -269,12 +305,15 @@ module _ (h : Layers) (rows : List LiveRow) (cw : ℕ) (can : CanEvacuate h rows
     ]
 
     same_cover : (k card : ℕ) → is_chosen rows k ≡ false → covers sets' k card ≡ covers h.sets k card
-    same_cover k card e = ap (λ (n : ℕ). set_covers (set_of sets' k) card (card / n)) cleared.cards ∙ ap (λ (s : CardSet). set_covers s card (card / h.sets.cards_per_region)) (cleared.others k e)
+    same_cover k card e = ap (λ (n : ℕ). set_covers (set_of sets' k) card (card / n)) cleared.cards
+        ∙ ap (λ (s : CardSet). set_covers s card (card / h.sets.cards_per_region)) (cleared.others k e)
 
-    same_lead : (k card : ℕ) → is_chosen rows k ≡ false → is_chosen rows (card / h.sets.cards_per_region) ≡ false → may_lead sets' k card ≡ may_lead h.sets k card
+    same_lead : (k card : ℕ) → is_chosen rows k ≡ false → is_chosen rows (card / h.sets.cards_per_region) ≡ false
+        → may_lead sets' k card ≡ may_lead h.sets k card
     same_lead k card e own =
         ap (λ (b : Bool). b && has sets'.entered card) (same_cover k card e)
-        ∙ ap (λ (b : Bool). covers h.sets k card && b) (cleared.entered card ∙ ap (λ (b : Bool). if b then false else has h.sets.entered card) own)
+        ∙ ap (λ (b : Bool). covers h.sets k card && b)
+        (cleared.entered card ∙ ap (λ (b : Bool). if b then false else has h.sets.entered card) own)
 
     -- the region of a field's card is the one of the field's word
     own_region : (b i : ℕ) → field_card cw b i / h.sets.cards_per_region ≡ field_word b i / words
@@ -292,22 +331,26 @@ module _ (h : Layers) (rows : List LiveRow) (cw : ℕ) (can : CanEvacuate h rows
           let (out, here) = kept_there b x.object x.kept_is in
           let outside' = clean b i a x.object here out x.field_is in
           elim (fields.field b i x.object (Some a) here out x.field_is) [
-            | inl was ↦ (let (y, at, f) = was in elim (can.remembers.each b i a (record { object = y; kept_is = at; field_is = f; leaves = x.leaves })) [
-              | inl d ↦ absurd (let c = can.clean (field_card cw b i) in cc)
-              | inr d ↦ inr (same_lead (a / words) (field_card cw b i) (sym (flags_are (a / words)) ∙ outside') (own_stays b i y (Some a) at f out) ∙ d)
-            ])
+            | inl was ↦ (let (y, at, f) = was in
+                elim (can.remembers.each b i a (record { object = y; kept_is = at; field_is = f; leaves = x.leaves })) [
+                  | inl d ↦ absurd (let c = can.clean (field_card cw b i) in cc)
+                  | inr d ↦ inr (same_lead (a / words) (field_card cw b i)
+                      (sym (flags_are (a / words)) ∙ outside') (own_stays b i y (Some a) at f out) ∙ d)
+                ])
             | inr s ↦ elim s.1 [ inl same ↦ absurd (x.leaves same) | inr n ↦ inl (dirty (field_card cw b i) ∙ n) ]
           ];
     })
 
-    keeps_old : IsNewSet h rows → (m : Marking) → ((a : ℕ) → m.old a ≡ below_next h.table h.tams a) → KeepsOld (place_after (set_by h rows) forward) (heap_of h) m
+    keeps_old : IsNewSet h rows → (m : Marking) → ((a : ℕ) → m.old a ≡ below_next h.table h.tams a)
+        → KeepsOld (place_after (set_by h rows) forward) (heap_of h) m
     keeps_old new m old = subst (λ (s : ℕ → Bool). KeepsOld (place_after s forward) (heap_of h) m) (sym sets_same) (record {
       stays = λ a x e o. elim (cases_Bool (in_set p a)) [
         | inl i ↦ absurd (let b = young a i in let c = old a in cc)
         | inr q ↦ rw q refl
       ];
       none_comes = λ a b x e f o. elim (cases_Bool (in_set p a)) [
-        | inl i ↦ (let f' : forward a ≡ Some b = rw i at f in absurd (let c = fresh b (turn.copying.placed a b i f') in let d = old b in cc))
+        | inl i ↦
+            (let f' : forward a ≡ Some b = rw i at f in absurd (let c = fresh b (turn.copying.placed a b i f') in let d = old b in cc))
         | inr q ↦ (let f' : Some a ≡ Some b = rw q at f in cc)
       ];
     })
@@ -316,14 +359,16 @@ module _ (h : Layers) (rows : List LiveRow) (cw : ℕ) (can : CanEvacuate h rows
         bottom_of k a r t =
             let z = shaped.positive in
             let whole : a / words * words + a % words ≡ a = omega arith in
-            not_below words a h.tams.next (ap (λ (n : ℕ). get_or h.tams.next n 0) r ∙ t ∙ ap (λ (n : ℕ). n * words) (sym r)) (omega (arith, whole))
+            not_below words a h.tams.next
+            (ap (λ (n : ℕ). get_or h.tams.next n 0) r ∙ t ∙ ap (λ (n : ℕ). n * words) (sym r)) (omega (arith, whole))
 
         young : (a : ℕ) → in_set p a ≡ true → below_next h.table h.tams a ≡ false
         young a i =
             let (j, row, f, g') = asked.found rows (a / words) (sym (flags_are (a / words)) ∙ i) in
             let (lt, is) = asked.get_is rows j row f in
             let t = new j row lt in
-            let t' : get_or h.tams.next row.region 0 ≡ row.region * words = subst (λ (r : LiveRow). get_or h.tams.next r.region 0 ≡ r.region * words) is t in
+            let t' : get_or h.tams.next row.region 0 ≡ row.region * words =
+            subst (λ (r : LiveRow). get_or h.tams.next r.region 0 ≡ r.region * words) is t in
             bottom_of row.region a (sym g') t'
 
         fresh : (b : ℕ) → IsTaken d1 (b / words) → below_next h.table h.tams b ≡ false
@@ -347,7 +392,8 @@ module _ (h : Layers) (rows : List LiveRow) (cw : ℕ) (can : CanEvacuate h rows
           in_card = x.in_card;
           leaves = subst (λ (n : ℕ). x.target / n ≢ field_word x.at x.index / n) (sym size) x.leaves;
           is_new = λ before at f. elim x.is_new [
-            | inl w ↦ stood_free x.at before (turn.taken (x.at / words) w).0 (kept_object p h.table x.at before (ap (λ (k : ℕ → Option Stored). k x.at) (kept_now_is p h.table) ∙ at))
+            | inl w ↦ stood_free x.at before (turn.taken (x.at / words) w).0
+                (kept_object p h.table x.at before (ap (λ (k : ℕ → Option Stored). k x.at) (kept_now_is p h.table) ∙ at))
             | inr k ↦
                 let (v, g', i) = k before (ap (λ (q : ℕ → Option Stored). q x.at) (kept_now_is p h.table) ∙ at) in
                 let same : v ≡ x.target = cc in
@@ -362,7 +408,9 @@ module _ (h : Layers) (rows : List LiveRow) (cw : ℕ) (can : CanEvacuate h rows
 
     -- a copy stands in a destination
     place_free : (a b : ℕ) → forward a ≡ Some b → kind_of h.table (b / words) ≡ kinds.Free
-    place_free a b e = let (n, f) = moved_tile (tile_in t1 a) b e in (turn.taken (b / words) (turn.copying.placed a b (turn.table.moved a b n f) e)).0
+    place_free a b e =
+        let (n, f) = moved_tile (tile_in t1 a) b e in
+        (turn.taken (b / words) (turn.copying.placed a b (turn.table.moved a b n f) e)).0
 
     pub evacuated : HasEvacuated rows cw d1.words h h'
     evacuated = record {
@@ -374,7 +422,8 @@ module _ (h : Layers) (rows : List LiveRow) (cw : ℕ) (can : CanEvacuate h rows
       words_are = subst (λ (s : ℕ → Bool). AreReachedWords s (heap_of h) d1.words) (sym sets_same) copied_words;
       within = (let a = turn.copying.limit in let b = asked.within_bounds h rows cw can shaped flags flags_are len in omega (arith, a, b));
       regions = regions;
-      unkept = λ a o n e. tile_outside a (off (a / words) o) ∙ turn.table.unkept a (off (a / words) o) n (ap (λ (k : ℕ → Option Stored). k a) (kept_now_is p h.table) ∙ e);
+      unkept = λ a o n e. tile_outside a (off (a / words) o)
+          ∙ turn.table.unkept a (off (a / words) o) n (ap (λ (k : ℕ → Option Stored). k a) (kept_now_is p h.table) ∙ e);
       unmoved = unmoved g;
       halves = halves;
       previous = previous;
@@ -382,7 +431,10 @@ module _ (h : Layers) (rows : List LiveRow) (cw : ℕ) (can : CanEvacuate h rows
       previous_stands = marks_stand h.tams.previous tams'.previous h.previous previous' can.previous previous;
       next_stands = marks_stand h.tams.next tams'.next h.next next' can.next next;
       remembers = remembers;
-      fit = record { whole_cards = size ∙ can.fit.whole_cards ∙ ap (λ (n : ℕ). n * cw) (sym cleared.cards); each_region = cleared.count ∙ can.fit.each_region ∙ sym regions.count };
+      fit = record {
+        whole_cards = size ∙ can.fit.whole_cards ∙ ap (λ (n : ℕ). n * cw) (sym cleared.cards);
+        each_region = cleared.count ∙ can.fit.each_region ∙ sym regions.count;
+      };
       each_card = each ∙ can.each_card ∙ sym (let a = cleared.count in let b = cleared.cards in rw (a, b) refl);
       logs = logs;
       queue = rising;

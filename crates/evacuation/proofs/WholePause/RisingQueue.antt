@@ -1,5 +1,6 @@
 -- A queue to which rising numbers are appended.
-use Rattle.std.proofs.Common.{◌≡◌, ℕ, zero, suc, ◌+◌, ◌<◌, ◌≤◌, false, List, [], ◌∷◌, ◌++◌, length, get_or, cond, eqb, refl, sym, ap, subst, add-one, arith}
+use Rattle.std.proofs.Common.{◌≡◌, ◌+◌, ◌<◌, ◌≤◌, ◌∷◌, ◌++◌}
+use Rattle.std.proofs.Common.{ℕ, zero, suc, false, List, [], length, get_or, cond, eqb, refl, sym, ap, subst, add-one, arith}
 use Rattle.std.specs.Prelude.{All, if◌then◌else◌}
 use Rattle.std.specs.List.Sorted.{IsStrictlyIncreasing}
 use Rattle.std.proofs.lemmas.Bool.{eq-eqb}
@@ -22,7 +23,8 @@ rises_push [] n r b k h = absurd (omega arith)
 rises_push (x ∷ []) n r b zero h = b 0 0 (omega arith)
 rises_push (x ∷ []) n r b (suc k) h = absurd (omega arith)
 rises_push (x ∷ y ∷ xs) n r b zero h = r 0 (omega arith)
-rises_push (x ∷ y ∷ xs) n r b (suc k) h = rises_push (y ∷ xs) n (λ j g. r (suc j) (omega arith)) (λ j d g. b (suc j) d (omega arith)) k (omega arith)
+rises_push (x ∷ y ∷ xs) n r b (suc k) h =
+    rises_push (y ∷ xs) n (λ j g. r (suc j) (omega arith)) (λ j d g. b (suc j) d (omega arith)) k (omega arith)
 
 rising_push : (xs : List ℕ) (n : ℕ) → IsStrictlyIncreasing xs → All (λ x. x < n) xs → IsStrictlyIncreasing (xs ++ n ∷ [])
 rising_push xs n r b k h =

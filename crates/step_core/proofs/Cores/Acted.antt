@@ -27,12 +27,15 @@ pub record Acted (o : Op) (r : Reply) (c c' : CoreState) : Type 0 where
   pub full : (s : State) → Stands s c → (r ≡ replies.Refused refusals.Full) ↔ IsFull s.graph o.mutator o.action c
   pub after : ActsOn o.mutator o.action r c c'
 
-never_full : (g : Graph) (m : ℕ) (a b : Action) (r : Reply) (c c' : CoreState) → a ≡ b → (IsFull g m b c → ⊥) → Acts g m b r c' → (r ≡ replies.Refused refusals.Full) ↔ IsFull g m a c
-never_full g m a b r c c' e never h = ((λ full. absurd (act-not_full g m b (sym h.reply_is ∙ full))), (λ f. absurd (never (subst (λ (x : Action). IsFull g m x c) e f))))
+never_full : (g : Graph) (m : ℕ) (a b : Action) (r : Reply) (c c' : CoreState) → a ≡ b → (IsFull g m b c → ⊥) → Acts g m b r c'
+    → (r ≡ replies.Refused refusals.Full) ↔ IsFull g m a c
+never_full g m a b r c c' e never h =
+    ((λ full. absurd (act-not_full g m b (sym h.reply_is ∙ full))), (λ f. absurd (never (subst (λ (x : Action). IsFull g m x c) e f))))
 
 -- by an action that makes no object
-pub acted_by : (o : Op) (a : Action) (r : Reply) (c c' : CoreState) → o.action ≡ a → ((g : Graph) → IsFull g o.mutator a c → ⊥) → ((g : Graph) → ShowsGraph g c → Acts g o.mutator a r c')
-    → ((s : State) → Stands s c → KeepsFor (snapshot_after s.snapshot a r) c') → ActsOn o.mutator a r c c' → Acted o r c c'
+pub acted_by : (o : Op) (a : Action) (r : Reply) (c c' : CoreState) → o.action ≡ a → ((g : Graph) → IsFull g o.mutator a c → ⊥)
+    → ((g : Graph) → ShowsGraph g c → Acts g o.mutator a r c') → ((s : State) → Stands s c → KeepsFor (snapshot_after s.snapshot a r) c')
+    → ActsOn o.mutator a r c c' → Acted o r c c'
 acted_by o a r c c' e never acts keeps after = record {
   follows = λ s st. acted s o o.mutator a r c c' refl e st (acts s.graph st.shows) (keeps s st);
   full = λ s st. never_full s.graph o.mutator o.action a r c c' e (never s.graph) (acts s.graph st.shows);
@@ -40,24 +43,31 @@ acted_by o a r c c' e never acts keeps after = record {
 }
 
 -- and by one that touches no name either
-pub acted_plain : (o : Op) (a : Action) (r : Reply) (c c' : CoreState) → o.action ≡ a → touches a ≡ false → ((g : Graph) → IsFull g o.mutator a c → ⊥) → ((g : Graph) → ShowsGraph g c → Acts g o.mutator a r c')
+pub acted_plain : (o : Op) (a : Action) (r : Reply) (c c' : CoreState) → o.action ≡ a → touches a ≡ false
+    → ((g : Graph) → IsFull g o.mutator a c → ⊥) → ((g : Graph) → ShowsGraph g c → Acts g o.mutator a r c')
     → ((s : Graph) → KeepsFrom s c → KeepsFrom s c') → ActsOn o.mutator a r c c' → Acted o r c c'
 acted_plain o a r c c' e plain never acts keeps after =
     acted_by o a r c c' e never acts (λ s st. keeps_after s.snapshot o.mutator a r c c' plain after keeps st.keeps) after
 
 full_new : (g : Graph) (m : ℕ) (to : Register) (counts : Counts) (weaks : ℕ) (r : Reply) (c c' : CoreState)
-    → Acts g m (actions.NewWeak to counts weaks) r c' ⊎ RepliesFull g m (actions.NewWeak to counts weaks) c r c' → (HasNoPlace c m (size_of counts.pointers weaks counts.values) → (n : Option ℕ) → r ≢ replies.Named n)
+    → Acts g m (actions.NewWeak to counts weaks) r c' ⊎ RepliesFull g m (actions.NewWeak to counts weaks) c r c'
+    → (HasNoPlace c m (size_of counts.pointers weaks counts.values) → (n : Option ℕ) → r ≢ replies.Named n)
     → (r ≡ replies.Refused refusals.Full) ↔ IsFull g m (actions.NewWeak to counts weaks) c
-full_new g m to counts weaks r c c' (inl h) none = ((λ e. absurd (act-not_full g m (actions.NewWeak to counts weaks) (sym h.reply_is ∙ e))), (λ f. absurd (none f.1 _ (h.reply_is ∙ f.0))))
+full_new g m to counts weaks r c c' (inl h) none =
+    ((λ e. absurd (act-not_full g m (actions.NewWeak to counts weaks) (sym h.reply_is ∙ e))), (λ f. absurd (none f.1 _ (h.reply_is ∙ f.0))))
 full_new g m to counts weaks r c c' (inr h) none = ((λ e. h.full), (λ f. h.reply_is))
 
 -- a new object is made exactly where there is a place for it
-pub full_as : (g : Graph) (m : ℕ) (a : Action) (to : Register) (counts : Counts) (weaks : ℕ) (r : Reply) (c c' : CoreState) → (a ≡ actions.New to counts) ⊎ ((w : ℕ) × (a ≡ actions.NewWeak to counts w)) → weaks ≡ weaks_made a
-    → Acts g m (actions.NewWeak to counts weaks) r c' ⊎ RepliesFull g m (actions.NewWeak to counts weaks) c r c' → (HasNoPlace c m (size_of counts.pointers weaks counts.values) → (n : Option ℕ) → r ≢ replies.Named n)
+pub full_as : (g : Graph) (m : ℕ) (a : Action) (to : Register) (counts : Counts) (weaks : ℕ) (r : Reply) (c c' : CoreState)
+    → (a ≡ actions.New to counts) ⊎ ((w : ℕ) × (a ≡ actions.NewWeak to counts w)) → weaks ≡ weaks_made a
+    → Acts g m (actions.NewWeak to counts weaks) r c' ⊎ RepliesFull g m (actions.NewWeak to counts weaks) c r c'
+    → (HasNoPlace c m (size_of counts.pointers weaks counts.values) → (n : Option ℕ) → r ≢ replies.Named n)
     → (r ≡ replies.Refused refusals.Full) ↔ IsFull g m a c
 full_as g m a to counts weaks r c c' (inl e) many h none =
-    let full = subst (λ (n : ℕ). (r ≡ replies.Refused refusals.Full) ↔ IsFull g m (actions.NewWeak to counts n) c) (many ∙ ap weaks_made e) (full_new g m to counts weaks r c c' h none) in
+    let full = subst (λ (n : ℕ). (r ≡ replies.Refused refusals.Full) ↔ IsFull g m (actions.NewWeak to counts n) c) (many ∙ ap weaks_made e)
+    (full_new g m to counts weaks r c c' h none) in
     subst (λ (x : Action). (r ≡ replies.Refused refusals.Full) ↔ IsFull g m x c) (sym e) full
 full_as g m a to counts weaks r c c' (inr (w, e)) many h none =
-    let full = subst (λ (n : ℕ). (r ≡ replies.Refused refusals.Full) ↔ IsFull g m (actions.NewWeak to counts n) c) (many ∙ ap weaks_made e) (full_new g m to counts weaks r c c' h none) in
+    let full = subst (λ (n : ℕ). (r ≡ replies.Refused refusals.Full) ↔ IsFull g m (actions.NewWeak to counts n) c) (many ∙ ap weaks_made e)
+    (full_new g m to counts weaks r c c' h none) in
     subst (λ (x : Action). (r ≡ replies.Refused refusals.Full) ↔ IsFull g m x c) (sym e) full

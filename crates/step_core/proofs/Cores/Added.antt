@@ -1,5 +1,6 @@
 -- Objects and buffers in one table.
-use Rattle.std.proofs.Common.{◌≡◌, ◌≢◌, ℕ, ◌+◌, ◌-◌, ◌*◌, ◌/◌, ◌<◌, ◌≤◌, ◌⊎◌, Option, Some, None, [], ◌∷◌, length, refl, sym, ◌∙◌, ap, subst, arith, inl, inr}
+use Rattle.std.proofs.Common.{◌≡◌, ◌≢◌, ◌+◌, ◌-◌, ◌*◌, ◌/◌, ◌<◌, ◌≤◌, ◌⊎◌, ◌∷◌, ◌∙◌}
+use Rattle.std.proofs.Common.{ℕ, Option, Some, None, [], length, refl, sym, ap, subst, arith, inl, inr}
 use Rattle.std.specs.Prelude.{slice_get}
 use Rattle.std.proofs.lemmas.Bool.{cases_lt}
 use Rattle.regions.specs.Tiles.{Filler, Object, tile_size}
@@ -7,7 +8,8 @@ use Rattle.heap_model.specs.Heap.{Stored}
 use Rattle.regions.specs.Walks.{AreFitting}
 use Rattle.regions.specs.Shaped.{IsShaped}
 use Rattle.regions.specs.declared.row.Kind.TheVariants as kinds
-use Rattle.regions.specs.Table.{Table, First, with_regions, run_regions, replace_tile, remainder, tile_in, object_at, HasNoForwarded, new_object, kind_of, used_of}
+use Rattle.regions.specs.Table.{Table, First, with_regions, run_regions, replace_tile, remainder, tile_in}
+use Rattle.regions.specs.Table.{object_at, HasNoForwarded, new_object, kind_of, used_of}
 use Rattle.regions.proofs.Tiles.Placing.{Replaces, filler_replaced, tile_at-inside}
 use Rattle.regions.proofs.Tiles.Changes.{WritesObject, object_same}
 use Rattle.alloc_buffers.specs.declared.buffers.Buffer.{Buffer}
@@ -34,7 +36,9 @@ unfolding object_at
 object_live t y s e = rw e refl
 
 -- buffers stand as before where no filler changed
-pub stand_same : (t t' : Table) (b : Buffers) → length t'.regions ≡ length t.regions → ((k : ℕ) → kind_of t' k ≡ kind_of t k) → ((m : ℕ) (x : Buffer) → slice_get b.open_buffers m ≡ Some (Some x) → tile_in t' x.next ≡ tile_in t x.next) → BuffersStand t b → BuffersStand t' b
+pub stand_same : (t t' : Table) (b : Buffers) → length t'.regions ≡ length t.regions → ((k : ℕ) → kind_of t' k ≡ kind_of t k)
+    → ((m : ℕ) (x : Buffer) → slice_get b.open_buffers m ≡ Some (Some x) → tile_in t' x.next ≡ tile_in t x.next) → BuffersStand t b
+    → BuffersStand t' b
 stand_same t t' b count kinds same s = record {
   known = λ k e. rw count (s.known k e);
   ordinary = λ k e. kinds k ∙ s.ordinary k e;
@@ -60,25 +64,33 @@ pub record Fills (t t' : Table) (b : Buffers) (a : ℕ) (x : Stored) : Type 0 wh
   pub kinds : (k : ℕ) → kind_of t' k ≡ kind_of t k
   pub stand : BuffersStand t' b
 
-pub fills : (t t' : Table) (b : Buffers) (a n name p weak d : ℕ) → 0 < t.words_per_region → AreFitting t → HasNoForwarded t → tile_in t a ≡ Some (Filler n) → n ≡ 2 + p + weak + d → t' ≡ replace_tile t a (Object (new_object name p weak d) ∷ remainder (n - (2 + p + weak + d)))
-    → ((m : ℕ) (x : Buffer) → slice_get b.open_buffers m ≡ Some (Some x) → x.next ≢ a) → BuffersStand t b → Fills t t' b a (new_object name p weak d)
+pub fills : (t t' : Table) (b : Buffers) (a n name p weak d : ℕ) → 0 < t.words_per_region → AreFitting t → HasNoForwarded t
+    → tile_in t a ≡ Some (Filler n) → n ≡ 2 + p + weak + d
+    → t' ≡ replace_tile t a (Object (new_object name p weak d) ∷ remainder (n - (2 + p + weak + d)))
+    → ((m : ℕ) (x : Buffer) → slice_get b.open_buffers m ≡ Some (Some x) → x.next ≢ a) → BuffersStand t b
+    → Fills t t' b a (new_object name p weak d)
 fills t t' b a n name p weak d z fitting none h size is spare s =
     let x : Stored = new_object name p weak d in
-    let long : tile_size (Object x) ≡ n = omega (arith, length-replicate {A = Option ℕ} p None, length-replicate {A = Option ℕ} weak None, length-replicate {A = ℕ} d 0) in
+    let long : tile_size (Object x) ≡ n =
+    omega (arith, length-replicate {A = Option ℕ} p None, length-replicate {A = Option ℕ} weak None, length-replicate {A = ℕ} d 0) in
     let none_left : n - (2 + p + weak + d) ≡ 0 = omega arith in
     let is' : replace_tile t a (Object x ∷ []) ≡ t' = sym (is ∙ ap (λ (r : ℕ). replace_tile t a (Object x ∷ remainder r)) none_left) in
     let w' = filler_replaced t a n (Object x ∷ []) z fitting h (omega arith) (omega (arith, long), tt) (omega (arith, long)) tt in
     let w : Replaces t t' a n (Object x ∷ []) = subst (λ (u : Table). Replaces t u a n (Object x ∷ [])) is' w' in
     let start : a + 0 ≡ a = omega arith in
     let off : (y : ℕ) → y ≢ a → ((y < a) ⊎ (a + n ≤ y)) ⊎ ((j : ℕ) × (a + j ≡ y) × (0 < j) × (j < n)) = λ y ne.
-    elim (cases_lt y a) [ inl lt ↦ inl (inl lt) | inr ge ↦ elim (cases_lt y (a + n)) [ inl lt ↦ inr (y - a, omega arith, omega arith, omega arith) | inr past ↦ inl (inr past) ] ] in
+    elim (cases_lt y a) [
+      | inl lt ↦ inl (inl lt)
+      | inr ge ↦ elim (cases_lt y (a + n)) [ inl lt ↦ inr (y - a, omega arith, omega arith, omega arith) | inr past ↦ inl (inr past) ]
+    ] in
     record {
       is = object_live t' a x (ap (tile_in t') (sym start) ∙ w.within 0 (omega arith));
       others = λ y ne. elim (off y ne) [
         | inl out ↦ object_same t t' y (w.others y out)
         | inr q ↦
             let (j, at, lo, hi) = q in
-            object_void t' y (ap (tile_in t') (sym at) ∙ w.within j hi ∙ tile_at-inside (Object x ∷ []) 0 j (Object x) refl lo (omega (arith, long)))
+            object_void t' y (ap (tile_in t') (sym at) ∙ w.within j hi
+            ∙ tile_at-inside (Object x ∷ []) 0 j (Object x) refl lo (omega (arith, long)))
             ∙ sym (object_void t y (ap (tile_in t) (sym at) ∙ w.inside j lo hi))
       ];
       unmoved = w.unmoved none;
@@ -113,12 +125,14 @@ pub record Creates (t t' : Table) (b b' : Buffers) (a : ℕ) (x : Stored) : Type
   pub words : b'.words ≡ b.words
   pub above : (limit : ℕ → ℕ) → AreAbove t b limit → IsAbove t.words_per_region limit a × AreAbove t' b' limit
 
-creates_small : (t t1 : Table) (b b1 : Buffers) (a n name p weak d : ℕ) → 0 < t1.words_per_region → AreFitting t1 → 2 * n ≤ t.words_per_region → IsPlaced t t1 b b1 n a → n ≡ 2 + p + weak + d
+creates_small : (t t1 : Table) (b b1 : Buffers) (a n name p weak d : ℕ) → 0 < t1.words_per_region → AreFitting t1
+    → 2 * n ≤ t.words_per_region → IsPlaced t t1 b b1 n a → n ≡ 2 + p + weak + d
     → Creates t (replace_tile t1 a (Object (new_object name p weak d) ∷ [])) b b1 a (new_object name p weak d)
 creates_small t t1 b b1 a n name p weak d z fitting half placed size =
     let t2 : Table = replace_tile t1 a (Object (new_object name p weak d) ∷ []) in
     let none_left : 0 ≡ n - (2 + p + weak + d) = omega arith in
-    let w = fills t1 t2 b1 a n name p weak d z fitting placed.unmoved placed.filler size (ap (λ (r : ℕ). replace_tile t1 a (Object (new_object name p weak d) ∷ remainder r)) none_left) placed.spare placed.stand in
+    let w = fills t1 t2 b1 a n name p weak d z fitting placed.unmoved placed.filler size
+    (ap (λ (r : ℕ). replace_tile t1 a (Object (new_object name p weak d) ∷ remainder r)) none_left) placed.spare placed.stand in
     record {
       was = was_none t t1 b b1 n a placed;
       is = w.is;
@@ -127,14 +141,16 @@ creates_small t t1 b b1 a n name p weak d z fitting half placed size =
       region_size = w.region_size ∙ placed.region_size;
       region_count = w.region_count ∙ placed.count;
       kinds_stay = λ j used. w.kinds j ∙ placed.kinds_stay j used;
-      half = λ o. omega (arith, length-replicate {A = Option ℕ} p None, length-replicate {A = Option ℕ} weak None, length-replicate {A = ℕ} d 0);
+      half = λ o.
+          omega (arith, length-replicate {A = Option ℕ} p None, length-replicate {A = Option ℕ} weak None, length-replicate {A = ℕ} d 0);
       stand = w.stand;
       open_count = placed.open_count;
       words = placed.words;
       above = λ limit above. let r = placed.above limit above in (r.0, above_same t1 t2 b1 limit w.region_size w.region_count w.used r.1);
     }
 
-creates_run : (t : Table) (b : Buffers) (n k count : ℕ) (x : Stored) → IsShaped t → HasNoForwarded t → BuffersStand t b → IsRunFor t n k count
+creates_run : (t : Table) (b : Buffers) (n k count : ℕ) (x : Stored) → IsShaped t → HasNoForwarded t
+    → BuffersStand t b → IsRunFor t n k count
     → Creates t (with_regions t k count (run_regions t.words_per_region x count)) b b (k * t.words_per_region) x
 creates_run t b n k count x shaped none stand run =
     let t2 : Table = with_regions t k count (run_regions t.words_per_region x count) in
@@ -154,8 +170,10 @@ creates_run t b n k count x shaped none stand run =
         ]
       ];
       half = λ o. absurd (
-          let at : k * t.words_per_region / t.words_per_region ≡ k = row_within (k * t.words_per_region) k t.words_per_region shaped.positive (omega arith) (omega (arith, shaped.positive)) in
-          let first : kind_of t2 (k * t.words_per_region / t.words_per_region) ≡ kinds.First = ap (kind_of t2) at ∙ kind_is t2 k (First x) w.first in
+          let at : k * t.words_per_region / t.words_per_region ≡ k =
+          row_within (k * t.words_per_region) k t.words_per_region shaped.positive (omega arith) (omega (arith, shaped.positive)) in
+          let first : kind_of t2 (k * t.words_per_region / t.words_per_region) ≡ kinds.First =
+          ap (kind_of t2) at ∙ kind_is t2 k (First x) w.first in
           let no : kinds.First ≡ kinds.Ordinary = sym first ∙ o in cc);
       stand = run_stands t k count x shaped run.positive run.lowest b stand;
       open_count = refl;
@@ -164,10 +182,14 @@ creates_run t b n k count x shaped none stand run =
     }
 
 -- a new object is made in its place
-pub creates : (t t1 : Table) (b b1 : Buffers) (place : Place) (n name p weak d : ℕ) → IsShaped t → IsShaped t1 → HasNoForwarded t → BuffersStand t b → IsPlace t t1 b b1 n place → n ≡ 2 + p + weak + d
+pub creates : (t t1 : Table) (b b1 : Buffers) (place : Place) (n name p weak d : ℕ) → IsShaped t → IsShaped t1 → HasNoForwarded t
+    → BuffersStand t b → IsPlace t t1 b b1 n place → n ≡ 2 + p + weak + d
     → Creates t (made_at t1 place (new_object name p weak d)) b b1 (address_of t1 place) (new_object name p weak d)
-creates t t1 b b1 (places.Filler a) n name p weak d shaped shaped1 none stand is size = creates_small t t1 b b1 a n name p weak d shaped1.positive shaped1.fitting is.0 is.1 size
+creates t t1 b b1 (places.Filler a) n name p weak d shaped shaped1 none stand is size =
+    creates_small t t1 b b1 a n name p weak d shaped1.positive shaped1.fitting is.0 is.1 size
 creates t t1 b b1 (places.Run k count) n name p weak d shaped shaped1 none stand is size =
-    subst (λ (u : Table). Creates t (with_regions u k count (run_regions u.words_per_region (new_object name p weak d) count)) b b1 (k * u.words_per_region) (new_object name p weak d)) (sym is.1.table)
-    (subst (λ (c : Buffers). Creates t (with_regions t k count (run_regions t.words_per_region (new_object name p weak d) count)) b c (k * t.words_per_region) (new_object name p weak d)) (sym is.1.buffers)
+    subst (λ (u : Table). Creates t (with_regions u k count (run_regions u.words_per_region (new_object name p weak d) count)) b b1
+    (k * u.words_per_region) (new_object name p weak d)) (sym is.1.table)
+    (subst (λ (c : Buffers). Creates t (with_regions t k count (run_regions t.words_per_region (new_object name p weak d) count)) b c
+    (k * t.words_per_region) (new_object name p weak d)) (sym is.1.buffers)
     (creates_run t b n k count (new_object name p weak d) shaped none stand is.1.run))

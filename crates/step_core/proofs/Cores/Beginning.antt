@@ -1,5 +1,6 @@
 -- A new heap stands for the first state.
-use Rattle.std.proofs.Common.{◌≡◌, ℕ, zero, suc, ◌*◌, ◌^◌, ◌/◌, ◌<◌, ◌≤◌, false, Option, Some, None, List, [], length, get_or, replicate, refl, sym, ◌∙◌, ap, arith}
+use Rattle.std.proofs.Common.{◌≡◌, ◌*◌, ◌^◌, ◌/◌, ◌<◌, ◌≤◌, ◌∙◌}
+use Rattle.std.proofs.Common.{ℕ, zero, suc, false, Option, Some, None, List, [], length, get_or, replicate, refl, sym, ap, arith}
 use Rattle.std.specs.Prelude.{slice_get, slice_index}
 use Rattle.std.specs.List.{AllZip}
 use Rattle.std.proofs.lemmas.List.{length-replicate}
@@ -46,7 +47,19 @@ nil_shown h zero = tt
 nil_shown h (suc p) = (tt, nil_shown h p)
 
 abbrev pub first_core : Config → Marker → RoomSizes → ℕ → CoreState
-first_core g m d r = record { config = g; table = free_table g.regions g.words; buffers = closed g.buffer g.mutators; marker = m; cards = clean_cards (g.regions * (g.words / card_words g)) g.mutators; sets = empty_sets g.regions (g.words / card_words g); room = d; row_room = r; places = places_of g; roots = replicate (root_places (places_of g)) None; next = g.first_name }
+first_core g m d r = record {
+  config = g;
+  table = free_table g.regions g.words;
+  buffers = closed g.buffer g.mutators;
+  marker = m;
+  cards = clean_cards (g.regions * (g.words / card_words g)) g.mutators;
+  sets = empty_sets g.regions (g.words / card_words g);
+  room = d;
+  row_room = r;
+  places = places_of g;
+  roots = replicate (root_places (places_of g)) None;
+  next = g.first_name;
+}
 
 none_kept : (g : Config) (m : Marker) (d : RoomSizes) (r : ℕ) (a : ℕ) (x : Stored) → kept_of (first_core g m d r) a ≡ Some x → ⊥
 none_kept g m d r a x e = let none = nothing_at g.regions g.words a in let is = object_kept (first_core g m d r) a x e in cc
@@ -75,7 +88,8 @@ no_buffer (suc n) zero x e = cc
 no_buffer (suc n) (suc m) x e = no_buffer n m x e
 
 -- all lies above limits that no top is below
-first_above : (t : Table) (words mutators : ℕ) (limit : ℕ → ℕ) → ((k : ℕ) → k < length t.regions → limit k ≤ top_of t k) → AreAbove t (closed words mutators) limit
+first_above : (t : Table) (words mutators : ℕ) (limit : ℕ → ℕ) → ((k : ℕ) → k < length t.regions → limit k ≤ top_of t k)
+    → AreAbove t (closed words mutators) limit
 first_above t words mutators limit tops = record { tops = tops; buffers = λ m x e. absurd (no_buffer mutators m x e) }
 
 count_is : (n w : ℕ) → length (free_table n w).regions ≡ n
@@ -94,15 +108,18 @@ none_by (Some x) f = absurd (f x refl)
 first_none : (g : Config) (m : Marker) (d : RoomSizes) (r : ℕ) (a : ℕ) → kept_of (first_core g m d r) a ≡ None
 first_none g m d r a = none_by (kept_of (first_core g m d r) a) (λ x e. none_kept g m d r a x e)
 
-first_cards : (g : Config) → Suits g → CardsFit g (clean_cards (g.regions * (g.words / card_words g)) g.mutators) (empty_sets g.regions (g.words / card_words g))
+first_cards : (g : Config) → Suits g
+    → CardsFit g (clean_cards (g.regions * (g.words / card_words g)) g.mutators) (empty_sets g.regions (g.words / card_words g))
 first_cards g suits = record {
   whole_cards = region_cards g suits;
   each_region = length-replicate g.regions (empty_set g.regions);
-  each_card = length-replicate (g.regions * (g.words / card_words g)) false ∙ ap (λ (n : ℕ). n * (g.words / card_words g)) (sym (length-replicate g.regions (empty_set g.regions)));
+  each_card = length-replicate (g.regions * (g.words / card_words g)) false
+      ∙ ap (λ (n : ℕ). n * (g.words / card_words g)) (sym (length-replicate g.regions (empty_set g.regions)));
   each_mutator = length-replicate g.mutators [];
 }
 
-pub first_is : (g : Config) (m : Marker) (d : RoomSizes) (r : ℕ) → ((t : Table) → BuffersStand t (closed g.buffer g.mutators)) → Suits g → IsRoomFor g d → g.regions ≤ r → g.first_name < 2 ^ 64 → m.running ≡ false → m.logs ≡ replicate g.mutators []
+pub first_is : (g : Config) (m : Marker) (d : RoomSizes) (r : ℕ) → ((t : Table) → BuffersStand t (closed g.buffer g.mutators)) → Suits g
+    → IsRoomFor g d → g.regions ≤ r → g.first_name < 2 ^ 64 → m.running ≡ false → m.logs ≡ replicate g.mutators []
     → ((t : Table) → length t.regions ≡ g.regions → t.words_per_region ≡ g.words → MarkerStands t m) → IsCore (first_core g m d r)
 first_is g m d r stand suits to rows names idle logs stands =
     let t : Table = free_table g.regions g.words in
@@ -120,13 +137,16 @@ first_is g m d r stand suits to rows names idle logs stands =
         marker = st;
         above_previous = first_above t g.buffer g.mutators (slice_index m.tams.previous) st.previous.top;
         above_next = first_above t g.buffer g.mutators (slice_index m.tams.next) st.next.top;
-        room = λ k. let none = ap (λ (ls : List (List ℕ)). length (log_of ls k)) logs ∙ ap (λ (l : List ℕ). length l) (no_logs g.mutators k) in omega arith;
+        room =
+            λ k. let none = ap (λ (ls : List (List ℕ)). length (log_of ls k)) logs ∙ ap (λ (l : List ℕ). length l) (no_logs g.mutators k) in
+            omega arith;
         halves = λ a x e o. absurd (let none = nothing_at g.regions g.words a in cc);
         ends_previous = λ k a o i lt. let none = words_none t a (nothing_at g.regions g.words a) in omega (arith, none, lt);
         ends_next = λ k a o i lt. let none = words_none t a (nothing_at g.regions g.words a) in omega (arith, none, lt);
       };
       cards = first_cards g suits;
-      remembers = remembers_none (first_core g m d r).table.words_per_region (card_words g) (kept_of (first_core g m d r)) (is_dirty (first_core g m d r).cards) (may_lead (first_core g m d r).sets) (first_none g m d r);
+      remembers = remembers_none (first_core g m d r).table.words_per_region (card_words g) (kept_of (first_core g m d r))
+          (is_dirty (first_core g m d r).cards) (may_lead (first_core g m d r).sets) (first_none g m d r);
       room = to;
       rows = rows;
       placed = refl;

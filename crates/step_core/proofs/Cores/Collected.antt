@@ -39,7 +39,8 @@ kinds_stay A t t' i e r = absurd (r.used (sym e ∙ r.free))
 table_stays : (A : Type 0) (t t' : Table) (i : ℕ) → t' ≡ t → IsReclaimed t t' i → A
 table_stays A t t' i e r = kinds_stay A t t' i (ap (λ (x : Table). kind_of x i) e) r
 
-pub refused : (k k' : CollectorStep) (r : Reply) (c : CoreState) → k ≡ k' → IsCollectorReply k' r → ((s : State) → run.Collects s k' r s) → Collects k' r c c → Collected k r c c
+pub refused : (k k' : CollectorStep) (r : Reply) (c : CoreState) → k ≡ k' → IsCollectorReply k' r
+    → ((s : State) → run.Collects s k' r s) → Collects k' r c c → Collected k r c c
 refused k k' r c e reply same collects = at_step k k' r c c e (record {
   follows = λ s st. stays s k' r c c st reply (same s) refl (λ g x. x) (λ g x. x);
   collects = collects;
@@ -47,7 +48,9 @@ refused k k' r c e reply same collects = at_step k k' r c c e (record {
   config = refl;
 })
 
-pub begun : (k : CollectorStep) (c c' : CoreState) → k ≡ collector.Begin → c.marker.running ≡ false → ((g : Graph) → ShowsGraph g c → ShowsGraph g c') → ((g : Graph) → ShowsGraph g c → KeepsFrom g c') → HasBegun c c' → Collected k replies.Done c c'
+pub begun : (k : CollectorStep) (c c' : CoreState) → k ≡ collector.Begin → c.marker.running ≡ false
+    → ((g : Graph) → ShowsGraph g c → ShowsGraph g c') → ((g : Graph) → ShowsGraph g c → KeepsFrom g c')
+    → HasBegun c c' → Collected k replies.Done c c'
 begun k c c' e idle shows keeps h = at_step k collector.Begin replies.Done c c' e (record {
   follows = λ s st. begins s c c' st h.running shows keeps;
   collects = (idle, h);
@@ -55,7 +58,9 @@ begun k c c' e idle shows keeps h = at_step k collector.Begin replies.Done c c' 
   config = ap (λ (d : CoreState). d.config) h.same;
 })
 
-pub marked : (k : CollectorStep) (units : ℕ) (c c' : CoreState) → k ≡ collector.Mark units → c.marker.running ≡ true → ((g : Graph) → ShowsGraph g c → ShowsGraph g c') → ((s : Graph) → KeepsFrom s c → KeepsFrom s c') → HasMarked units c c' → Collected k replies.Done c c'
+pub marked : (k : CollectorStep) (units : ℕ) (c c' : CoreState) → k ≡ collector.Mark units → c.marker.running ≡ true
+    → ((g : Graph) → ShowsGraph g c → ShowsGraph g c') → ((s : Graph) → KeepsFrom s c → KeepsFrom s c')
+    → HasMarked units c c' → Collected k replies.Done c c'
 marked k units c c' e runs shows keeps h = at_step k (collector.Mark units) replies.Done c c' e (record {
   follows = λ s st. stays s (collector.Mark units) replies.Done c c' st tt refl (marked_running units c c' h) shows keeps;
   collects = (runs, h);
@@ -63,7 +68,8 @@ marked k units c c' e runs shows keeps h = at_step k (collector.Mark units) repl
   config = ap (λ (d : CoreState). d.config) h.same;
 })
 
-pub remarked : (k : CollectorStep) (n : ℕ) (c c' : CoreState) → k ≡ collector.Remark → c.marker.running ≡ true → ((s g : Graph) → ShowsGraph g c → KeepsFrom s c → ShowsCleared s g c') → HasRemarked n c c' → Collected k (replies.Marked n) c c'
+pub remarked : (k : CollectorStep) (n : ℕ) (c c' : CoreState) → k ≡ collector.Remark → c.marker.running ≡ true
+    → ((s g : Graph) → ShowsGraph g c → KeepsFrom s c → ShowsCleared s g c') → HasRemarked n c c' → Collected k (replies.Marked n) c c'
 remarked k n c c' e runs shows h = at_step k collector.Remark (replies.Marked n) c c' e (record {
   follows = λ s st. ends s n c c' st runs h.over shows;
   collects = (runs, h);
@@ -71,7 +77,9 @@ remarked k n c c' e runs shows h = at_step k collector.Remark (replies.Marked n)
   config = ap (λ (d : CoreState). d.config) h.same;
 })
 
-pub cleaned : (k : CollectorStep) (n : ℕ) (c c' : CoreState) → k ≡ collector.Cleanup → c.marker.running ≡ false → ((g : Graph) → ShowsGraph g c → ShowsGraph g c') → ((s : Graph) → KeepsFrom s c → KeepsFrom s c') → HasCleaned n c c' → Collected k (replies.Reclaimed n) c c'
+pub cleaned : (k : CollectorStep) (n : ℕ) (c c' : CoreState) → k ≡ collector.Cleanup → c.marker.running ≡ false
+    → ((g : Graph) → ShowsGraph g c → ShowsGraph g c') → ((s : Graph) → KeepsFrom s c → KeepsFrom s c') → HasCleaned n c c'
+    → Collected k (replies.Reclaimed n) c c'
 cleaned k n c c' e idle shows keeps h = at_step k collector.Cleanup (replies.Reclaimed n) c c' e (record {
   follows = λ s st. stays s collector.Cleanup (replies.Reclaimed n) c c' st tt refl (cleaned_running n c c' h) shows keeps;
   collects = (idle, h);
@@ -79,7 +87,9 @@ cleaned k n c c' e idle shows keeps h = at_step k collector.Cleanup (replies.Rec
   config = ap (λ (d : CoreState). d.config) h.changes.same;
 })
 
-pub refined : (k : CollectorStep) (cards n : ℕ) (c c' : CoreState) → k ≡ collector.Refine cards → ((g : Graph) → ShowsGraph g c → ShowsGraph g c') → ((s : Graph) → KeepsFrom s c → KeepsFrom s c') → HasRefined cards n c c' → Collected k (replies.Refined n) c c'
+pub refined : (k : CollectorStep) (cards n : ℕ) (c c' : CoreState) → k ≡ collector.Refine cards
+    → ((g : Graph) → ShowsGraph g c → ShowsGraph g c') → ((s : Graph) → KeepsFrom s c → KeepsFrom s c')
+    → HasRefined cards n c c' → Collected k (replies.Refined n) c c'
 refined k cards n c c' e shows keeps h = at_step k (collector.Refine cards) (replies.Refined n) c c' e (record {
   follows = λ s st. stays s (collector.Refine cards) (replies.Refined n) c c' st tt refl (refined_running cards n c c' h) shows keeps;
   collects = h;
@@ -87,7 +97,8 @@ refined k cards n c c' e shows keeps h = at_step k (collector.Refine cards) (rep
   config = ap (λ (d : CoreState). d.config) h.same;
 })
 
-pub paused : (k : CollectorStep) (budget n w : ℕ) (c c' : CoreState) → k ≡ collector.Pause budget → ((g : Graph) → ShowsGraph g c → ShowsGraph g c') → ((s : Graph) → KeepsFrom s c → KeepsFrom s c') → HasPaused budget n w c c'
+pub paused : (k : CollectorStep) (budget n w : ℕ) (c c' : CoreState) → k ≡ collector.Pause budget
+    → ((g : Graph) → ShowsGraph g c → ShowsGraph g c') → ((s : Graph) → KeepsFrom s c → KeepsFrom s c') → HasPaused budget n w c c'
     → Collected k (replies.Moved n w) c c'
 paused k budget n w c c' e shows keeps h = at_step k (collector.Pause budget) (replies.Moved n w) c c' e (record {
   follows = λ s st. stays s (collector.Pause budget) (replies.Moved n w) c c' st tt refl (paused_running budget n w c c' h) shows keeps;

@@ -18,31 +18,40 @@ use Rattle.step_core.proofs.Cores.Following.{follows_by}
 use Rattle.step_core.proofs.Cores.Snapshots.{keeps_for}
 
 -- the state stays
-pub stays : (s : State) (k : CollectorStep) (r : Reply) (c c' : CoreState) → Stands s c → IsCollectorReply k r → Collects s k r s → c'.marker.running ≡ c.marker.running → ((g : Graph) → ShowsGraph g c → ShowsGraph g c')
+pub stays : (s : State) (k : CollectorStep) (r : Reply) (c c' : CoreState) → Stands s c → IsCollectorReply k r → Collects s k r s
+    → c'.marker.running ≡ c.marker.running → ((g : Graph) → ShowsGraph g c → ShowsGraph g c')
     → ((g : Graph) → KeepsFrom g c → KeepsFrom g c') → Follows s (steps.Collector k) r c'
-stays s k r c c' st reply collects run shows keeps = follows_by s s (steps.Collector k) r c c' st (reply, collects) (shows s.graph st.shows) (keeps_for s.snapshot c c' run keeps st.keeps)
+stays s k r c c' st reply collects run shows keeps =
+    follows_by s s (steps.Collector k) r c c' st (reply, collects) (shows s.graph st.shows) (keeps_for s.snapshot c c' run keeps st.keeps)
 
 -- a refused step
-pub refuses : (s : State) (k : CollectorStep) (r : Reply) (c : CoreState) → Stands s c → IsCollectorReply k r → Collects s k r s → Follows s (steps.Collector k) r c
+pub refuses : (s : State) (k : CollectorStep) (r : Reply) (c : CoreState) → Stands s c → IsCollectorReply k r
+    → Collects s k r s → Follows s (steps.Collector k) r c
 refuses s k r c st reply collects = follows_by s s (steps.Collector k) r c c st (reply, collects) st.shows st.keeps
 
 -- marking begins: the graph is the snapshot
-pub begins : (s : State) (c c' : CoreState) → Stands s c → c'.marker.running ≡ true → ((g : Graph) → ShowsGraph g c → ShowsGraph g c') → ((g : Graph) → ShowsGraph g c → KeepsFrom g c')
-    → Follows s (steps.Collector collector.Begin) replies.Done c'
+pub begins : (s : State) (c c' : CoreState) → Stands s c → c'.marker.running ≡ true → ((g : Graph) → ShowsGraph g c → ShowsGraph g c')
+    → ((g : Graph) → ShowsGraph g c → KeepsFrom g c') → Follows s (steps.Collector collector.Begin) replies.Done c'
 begins s c c' st run shows keeps =
-    follows_by s (record { graph = s.graph; snapshot = Some s.graph }) (steps.Collector collector.Begin) replies.Done c c' st (tt, refl) (shows s.graph st.shows) (run, keeps s.graph st.shows)
+    follows_by s (record { graph = s.graph; snapshot = Some s.graph }) (steps.Collector collector.Begin) replies.Done c c' st (tt, refl)
+    (shows s.graph st.shows) (run, keeps s.graph st.shows)
 
 -- marking ends: weak slots are cleared by the snapshot, and it is given up
-pub ends : (s : State) (n : ℕ) (c c' : CoreState) → Stands s c → c.marker.running ≡ true → c'.marker.running ≡ false → ((x g : Graph) → ShowsGraph g c → KeepsFrom x c → ShowsCleared x g c')
+pub ends : (s : State) (n : ℕ) (c c' : CoreState) → Stands s c → c.marker.running ≡ true → c'.marker.running ≡ false
+    → ((x g : Graph) → ShowsGraph g c → KeepsFrom x c → ShowsCleared x g c')
     → Follows s (steps.Collector collector.Remark) (replies.Marked n) c'
 ends s n c c' st run over cleared = go s.snapshot refl st.keeps
   where
-    by_graph : (after : Graph) → ClearsBy s.snapshot s.graph after → ShowsGraph after c' → Follows s (steps.Collector collector.Remark) (replies.Marked n) c'
-    by_graph after clears shows = follows_by s (record { graph = after; snapshot = None }) (steps.Collector collector.Remark) (replies.Marked n) c c' st (tt, (refl, clears)) shows over
+    by_graph : (after : Graph) → ClearsBy s.snapshot s.graph after → ShowsGraph after c'
+        → Follows s (steps.Collector collector.Remark) (replies.Marked n) c'
+    by_graph after clears shows = follows_by s (record { graph = after; snapshot = None }) (steps.Collector collector.Remark)
+        (replies.Marked n) c c' st (tt, (refl, clears)) shows over
 
     go : (sn : Option Graph) → s.snapshot ≡ sn → KeepsFor sn c → Follows s (steps.Collector collector.Remark) (replies.Marked n) c'
     go None e k = absurd (let idle = k in cc)
-    go (Some x) e k = let end = cleared x s.graph st.shows k.1 in by_graph end.after (subst (λ (o : Option Graph). ClearsBy o s.graph end.after) (sym e) end.clears) end.shows
+    go (Some x) e k =
+        let end = cleared x s.graph st.shows k.1 in
+        by_graph end.after (subst (λ (o : Option Graph). ClearsBy o s.graph end.after) (sym e) end.clears) end.shows
 
 -- whether marking runs, where it goes on as before
 pub marked_running : (k : ℕ) (c c' : CoreState) → HasMarked k c c' → c'.marker.running ≡ c.marker.running
@@ -55,4 +64,5 @@ pub refined_running : (k n : ℕ) (c c' : CoreState) → HasRefined k n c c' →
 refined_running k n c c' h = ap (λ (d : CoreState). d.marker.running) h.same
 
 pub paused_running : (budget n w : ℕ) (c c' : CoreState) → HasPaused budget n w c c' → c'.marker.running ≡ c.marker.running
-paused_running budget n w c c' h = ap (λ (m : Marker). m.running) h.evacuates.marker ∙ ap (λ (d : CoreState). d.marker.running) h.is_ready.same
+paused_running budget n w c c' h =
+    ap (λ (m : Marker). m.running) h.evacuates.marker ∙ ap (λ (d : CoreState). d.marker.running) h.is_ready.same

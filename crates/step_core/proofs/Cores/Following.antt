@@ -1,5 +1,6 @@
 -- A step as one of the state's, and histories of them.
-use Rattle.std.proofs.Common.{◌≡◌, ℕ, ◌+◌, ◌<◌, ◌⊎◌, Option, Some, None, List, [], ◌∷◌, ◌++◌, length, take, map, get_or, refl, sym, ◌∙◌, ap, subst, arith, inl, inr}
+use Rattle.std.proofs.Common.{◌≡◌, ◌+◌, ◌<◌, ◌⊎◌, ◌∷◌, ◌++◌, ◌∙◌}
+use Rattle.std.proofs.Common.{ℕ, Option, Some, None, List, [], length, take, map, get_or, refl, sym, ap, subst, arith, inl, inr}
 use Rattle.std.specs.Prelude.{◌↔◌}
 use Rattle.std.proofs.lemmas.List.{take_more, length-map, get_or-map}
 use Rattle.heap_model.specs.Graph.{Graph, next_name}
@@ -29,48 +30,65 @@ use Rattle.step_core.specs.Answers.{Acts, Follows, IsFullStep, RepliesFull}
 use Rattle.step_core.specs.Histories.{IsHistory, Passes, Runs}
 
 -- a step that happens, and what the core shows and keeps after it
-pub follows_by : (s after : State) (step : Step) (reply : Reply) (c c' : CoreState) → Stands s c → Happens s step reply after → ShowsGraph after.graph c' → KeepsFor after.snapshot c' → Follows s step reply c'
+pub follows_by : (s after : State) (step : Step) (reply : Reply) (c c' : CoreState) → Stands s c → Happens s step reply after
+    → ShowsGraph after.graph c' → KeepsFor after.snapshot c' → Follows s step reply c'
 follows_by s after step reply c c' st happens shows keeps = record {
   after = after;
   happens = happens;
-  stands = record { shows = shows; keeps = keeps; sound = happens_sound s after step reply st.sound happens; since = happens_since s after step reply st.sound st.since happens };
+  stands = record {
+    shows = shows;
+    keeps = keeps;
+    sound = happens_sound s after step reply st.sound happens;
+    since = happens_since s after step reply st.sound st.since happens;
+  };
 }
 
 -- a mutator's step as the graph's own, and what is kept of the snapshot
-pub acted : (s : State) (o : Op) (m : ℕ) (a : Action) (reply : Reply) (c c' : CoreState) → o.mutator ≡ m → o.action ≡ a → Stands s c → Acts s.graph m a reply c' → KeepsFor (snapshot_after s.snapshot a reply) c'
+pub acted : (s : State) (o : Op) (m : ℕ) (a : Action) (reply : Reply) (c c' : CoreState) → o.mutator ≡ m → o.action ≡ a → Stands s c
+    → Acts s.graph m a reply c' → KeepsFor (snapshot_after s.snapshot a reply) c'
     → Follows s (steps.Mutator o) reply c'
 acted s o m a reply c c' em ea st h keeps =
     let g = s.graph in
     let same : act g m a ≡ act g o.mutator o.action = ap (λ (n : ℕ). act g n a) (sym em) ∙ ap (act g o.mutator) (sym ea) in
     let reply_same : (reply, (act g m a).1) ≡ act g m a = ap (λ (r : Reply). (r, (act g m a).1)) h.reply_is in
     let after : State = record { graph = (act g m a).1; snapshot = snapshot_after s.snapshot o.action reply } in
-    follows_by s after (steps.Mutator o) reply c c' st (inl (reply_same ∙ same, refl)) h.shows (subst (λ (b : Action). KeepsFor (snapshot_after s.snapshot b reply) c') (sym ea) keeps)
+    follows_by s after (steps.Mutator o) reply c c' st (inl (reply_same ∙ same, refl)) h.shows
+    (subst (λ (b : Action). KeepsFor (snapshot_after s.snapshot b reply) c') (sym ea) keeps)
 
 -- the graph creates an object, and nothing changed since there was no place
-pub refused_full : (s : State) (o : Op) (m : ℕ) (a : Action) (reply : Reply) (c c' : CoreState) → o.mutator ≡ m → o.action ≡ a → IsNew a → Stands s c → (act s.graph m a).0 ≡ replies.Named (Some (next_name s.graph))
+pub refused_full : (s : State) (o : Op) (m : ℕ) (a : Action) (reply : Reply) (c c' : CoreState) → o.mutator ≡ m → o.action ≡ a → IsNew a
+    → Stands s c → (act s.graph m a).0 ≡ replies.Named (Some (next_name s.graph))
     → reply ≡ replies.Refused refusals.Full → c' ≡ c → Follows s (steps.Mutator o) reply c'
 refused_full s o m a reply c c' em ea new st names full same =
     let g = s.graph in
     let is : act g m a ≡ act g o.mutator o.action = ap (λ (n : ℕ). act g n a) (sym em) ∙ ap (act g o.mutator) (sym ea) in
-    follows_by s s (steps.Mutator o) reply c c' st (inr ((subst IsNew (sym ea) new, sym (ap (λ (x : Outcome). x.0) is) ∙ names), full, refl))
+    follows_by s s (steps.Mutator o) reply c c' st
+    (inr ((subst IsNew (sym ea) new, sym (ap (λ (x : Outcome). x.0) is) ∙ names), full, refl))
     (subst (λ (d : CoreState). ShowsGraph g d) (sym same) st.shows) (subst (λ (d : CoreState). KeepsFor s.snapshot d) (sym same) st.keeps)
 
 -- a new object, or no place for it
-created : (s : State) (o : Op) (m : ℕ) (to : Register) (counts : Counts) (weaks : ℕ) (reply : Reply) (c c' : CoreState) → o.mutator ≡ m → o.action ≡ actions.NewWeak to counts weaks → Stands s c
-    → Acts s.graph m (actions.NewWeak to counts weaks) reply c' ⊎ RepliesFull s.graph m (actions.NewWeak to counts weaks) c reply c' → KeepsFor (snapshot_after s.snapshot (actions.NewWeak to counts weaks) reply) c'
+created : (s : State) (o : Op) (m : ℕ) (to : Register) (counts : Counts) (weaks : ℕ) (reply : Reply) (c c' : CoreState) → o.mutator ≡ m
+    → o.action ≡ actions.NewWeak to counts weaks → Stands s c
+    → Acts s.graph m (actions.NewWeak to counts weaks) reply c' ⊎ RepliesFull s.graph m (actions.NewWeak to counts weaks) c reply c'
+    → KeepsFor (snapshot_after s.snapshot (actions.NewWeak to counts weaks) reply) c'
     → Follows s (steps.Mutator o) reply c'
 created s o m to counts weaks reply c c' em ea st (inl h) keeps = acted s o m (actions.NewWeak to counts weaks) reply c c' em ea st h keeps
-created s o m to counts weaks reply c c' em ea st (inr h) keeps = refused_full s o m (actions.NewWeak to counts weaks) reply c c' em ea tt st h.full.0 h.reply_is h.same
+created s o m to counts weaks reply c c' em ea st (inr h) keeps =
+    refused_full s o m (actions.NewWeak to counts weaks) reply c c' em ea tt st h.full.0 h.reply_is h.same
 
 -- the same of an object with no weak slots
-created_plain : (s : State) (o : Op) (m : ℕ) (to : Register) (counts : Counts) (reply : Reply) (c c' : CoreState) → o.mutator ≡ m → o.action ≡ actions.New to counts → Stands s c
-    → Acts s.graph m (actions.NewWeak to counts 0) reply c' ⊎ RepliesFull s.graph m (actions.NewWeak to counts 0) c reply c' → KeepsFor (snapshot_after s.snapshot (actions.New to counts) reply) c'
+created_plain : (s : State) (o : Op) (m : ℕ) (to : Register) (counts : Counts) (reply : Reply) (c c' : CoreState) → o.mutator ≡ m
+    → o.action ≡ actions.New to counts → Stands s c
+    → Acts s.graph m (actions.NewWeak to counts 0) reply c' ⊎ RepliesFull s.graph m (actions.NewWeak to counts 0) c reply c'
+    → KeepsFor (snapshot_after s.snapshot (actions.New to counts) reply) c'
     → Follows s (steps.Mutator o) reply c'
 created_plain s o m to counts reply c c' em ea st (inl h) keeps = acted s o m (actions.New to counts) reply c c' em ea st h keeps
-created_plain s o m to counts reply c c' em ea st (inr h) keeps = refused_full s o m (actions.New to counts) reply c c' em ea tt st h.full.0 h.reply_is h.same
+created_plain s o m to counts reply c c' em ea st (inr h) keeps =
+    refused_full s o m (actions.New to counts) reply c c' em ea tt st h.full.0 h.reply_is h.same
 
 -- what it does to the core
-acts_plain : (m : ℕ) (to : Register) (counts : Counts) (r : Reply) (c c' : CoreState) → ActsOn m (actions.NewWeak to counts 0) r c c' → ActsOn m (actions.New to counts) r c c'
+acts_plain : (m : ℕ) (to : Register) (counts : Counts) (r : Reply) (c c' : CoreState) → ActsOn m (actions.NewWeak to counts 0) r c c'
+    → ActsOn m (actions.New to counts) r c c'
 acts_plain m to counts replies.Done c c' h = record { core = h.core; marker = h.marker }
 acts_plain m to counts (replies.Named v) c c' h = record { core = h.core; marker = h.marker }
 acts_plain m to counts (replies.Word w) c c' h = record { core = h.core; marker = h.marker }
@@ -82,22 +100,29 @@ acts_plain m to counts (replies.Moved n w) c c' h = record { core = h.core; mark
 acts_plain m to counts (replies.Refused why) c c' h = h
 
 -- the action makes an object with as many weak slots as it says, 0 where it says none: what it does to the core
-pub acts_as : (m : ℕ) (a : Action) (to : Register) (counts : Counts) (weaks : ℕ) (r : Reply) (c c' : CoreState) → (a ≡ actions.New to counts) ⊎ ((w : ℕ) × (a ≡ actions.NewWeak to counts w)) → weaks ≡ weaks_made a
+pub acts_as : (m : ℕ) (a : Action) (to : Register) (counts : Counts) (weaks : ℕ) (r : Reply) (c c' : CoreState)
+    → (a ≡ actions.New to counts) ⊎ ((w : ℕ) × (a ≡ actions.NewWeak to counts w)) → weaks ≡ weaks_made a
     → ActsOn m (actions.NewWeak to counts weaks) r c c' → ActsOn m a r c c'
-acts_as m a to counts weaks r c c' (inl e) many h = rw e (acts_plain m to counts r c c' (subst (λ (n : ℕ). ActsOn m (actions.NewWeak to counts n) r c c') (many ∙ ap weaks_made e) h))
-acts_as m a to counts weaks r c c' (inr (w, e)) many h = rw e (subst (λ (n : ℕ). ActsOn m (actions.NewWeak to counts n) r c c') (many ∙ ap weaks_made e) h)
+acts_as m a to counts weaks r c c' (inl e) many h =
+    rw e (acts_plain m to counts r c c' (subst (λ (n : ℕ). ActsOn m (actions.NewWeak to counts n) r c c') (many ∙ ap weaks_made e) h))
+acts_as m a to counts weaks r c c' (inr (w, e)) many h =
+    rw e (subst (λ (n : ℕ). ActsOn m (actions.NewWeak to counts n) r c c') (many ∙ ap weaks_made e) h)
 
 -- and the new object, or no place for it
-pub created_as : (s : State) (o : Op) (m : ℕ) (to : Register) (counts : Counts) (weaks : ℕ) (reply : Reply) (c c' : CoreState) → o.mutator ≡ m
+pub created_as : (s : State) (o : Op) (m : ℕ) (to : Register) (counts : Counts) (weaks : ℕ)
+    (reply : Reply) (c c' : CoreState) → o.mutator ≡ m
     → (o.action ≡ actions.New to counts) ⊎ ((w : ℕ) × (o.action ≡ actions.NewWeak to counts w)) → weaks ≡ weaks_made o.action → Stands s c
-    → Acts s.graph m (actions.NewWeak to counts weaks) reply c' ⊎ RepliesFull s.graph m (actions.NewWeak to counts weaks) c reply c' → KeepsFor (snapshot_after s.snapshot (actions.NewWeak to counts weaks) reply) c'
+    → Acts s.graph m (actions.NewWeak to counts weaks) reply c' ⊎ RepliesFull s.graph m (actions.NewWeak to counts weaks) c reply c'
+    → KeepsFor (snapshot_after s.snapshot (actions.NewWeak to counts weaks) reply) c'
     → Follows s (steps.Mutator o) reply c'
 created_as s o m to counts weaks reply c c' em (inl e) many st h keeps =
     created_plain s o m to counts reply c c' em e st
-    (subst (λ (n : ℕ). Acts s.graph m (actions.NewWeak to counts n) reply c' ⊎ RepliesFull s.graph m (actions.NewWeak to counts n) c reply c') (many ∙ ap weaks_made e) h)
-    (subst (λ (sn : Option Graph). KeepsFor sn c') (untouched s.snapshot) keeps)
+    (subst (λ (n : ℕ).
+    Acts s.graph m (actions.NewWeak to counts n) reply c' ⊎ RepliesFull s.graph m (actions.NewWeak to counts n) c reply c')
+    (many ∙ ap weaks_made e) h) (subst (λ (sn : Option Graph). KeepsFor sn c') (untouched s.snapshot) keeps)
   where
-    untouched : (sn : Option Graph) → snapshot_after sn (actions.NewWeak to counts weaks) reply ≡ snapshot_after sn (actions.New to counts) reply
+    untouched : (sn : Option Graph)
+        → snapshot_after sn (actions.NewWeak to counts weaks) reply ≡ snapshot_after sn (actions.New to counts) reply
     untouched None = refl
     untouched (Some x) = refl
 created_as s o m to counts weaks reply c c' em (inr (w, e)) many st h keeps =
@@ -108,25 +133,34 @@ created_as s o m to counts weaks reply c c' em (inr (w, e)) many st h keeps =
 pub unreached_of : (s : State) (x : Graph) (c : CoreState) → Stands s c → s.snapshot ≡ Some x → KeepsUnreached x s.graph
 unreached_of s x c st is = go s.snapshot st.sound.snapshot st.since is
   where
-    go : (sn : Option Graph) → ForSnapshot sn (λ t. IsEarlier t s.graph) → ForSnapshot sn (λ t. IsSince t s.graph) → sn ≡ Some x → KeepsUnreached x s.graph
+    go : (sn : Option Graph) → ForSnapshot sn (λ t. IsEarlier t s.graph) → ForSnapshot sn (λ t. IsSince t s.graph)
+        → sn ≡ Some x → KeepsUnreached x s.graph
     go None earlier since e = cc
-    go (Some y) earlier since e = let same : y ≡ x = cc in subst (λ (t : Graph). KeepsUnreached t s.graph) same (since_unreached y s.graph earlier since)
+    go (Some y) earlier since e =
+        let same : y ≡ x = cc in
+        subst (λ (t : Graph). KeepsUnreached t s.graph) same (since_unreached y s.graph earlier since)
 
 -- a history goes on by one event
-pub goes_on : (s : State) (c : CoreState) (es : List Event) (e : Event) (mid c' : CoreState) → Runs s c es mid → ((r : State) → Stands r mid → Follows r e.step e.reply c')
-    → Does e.step e.reply mid c' → ((r : State) → Stands r mid → (e.reply ≡ replies.Refused refusals.Full) ↔ IsFullStep r.graph e.step mid) → IsCore c' → ListsDirtyOnce c'.cards
-    → ((r : State) → Stands r c' → IsWhole r.graph c') → Runs s c (es ++ e ∷ []) c'
+pub goes_on : (s : State) (c : CoreState) (es : List Event) (e : Event) (mid c' : CoreState) → Runs s c es mid
+    → ((r : State) → Stands r mid → Follows r e.step e.reply c')
+    → Does e.step e.reply mid c' → ((r : State) → Stands r mid → (e.reply ≡ replies.Refused refusals.Full) ↔ IsFullStep r.graph e.step mid)
+    → IsCore c' → ListsDirtyOnce c'.cards → ((r : State) → Stands r c' → IsWhole r.graph c') → Runs s c (es ++ e ∷ []) c'
 goes_on s c es e mid c' r f does full core listed whole =
     let n = f r.last r.stands in
     record { last = n.after; stands = n.stands; history = more s c es r.last r.history (full r.last r.stands) n }
   where
-    more : (s : State) (c : CoreState) (es : List Event) (last : State) → IsHistory s c es last mid → (e.reply ≡ replies.Refused refusals.Full) ↔ IsFullStep last.graph e.step mid
+    more : (s : State) (c : CoreState) (es : List Event) (last : State) → IsHistory s c es last mid
+        → (e.reply ≡ replies.Refused refusals.Full) ↔ IsFullStep last.graph e.step mid
         → (n : Follows last e.step e.reply c') → IsHistory s c (es ++ e ∷ []) n.after c'
     more s c [] last h there n = (c', passes, (refl, refl))
       where
         passes : Passes s c e c'
         passes = record {
-          follows = record { after = n.after; happens = subst (λ (u : State). Happens u e.step e.reply n.after) h.0 n.happens; stands = n.stands };
+          follows = record {
+            after = n.after;
+            happens = subst (λ (u : State). Happens u e.step e.reply n.after) h.0 n.happens;
+            stands = n.stands;
+          };
           does = subst (λ (d : CoreState). Does e.step e.reply d c') h.1 does;
           full = subst (λ (d : CoreState). (e.reply ≡ replies.Refused refusals.Full) ↔ IsFullStep s.graph e.step d) h.1
               (subst (λ (u : State). (e.reply ≡ replies.Refused refusals.Full) ↔ IsFullStep u.graph e.step mid) h.0 there);
@@ -144,15 +178,19 @@ one_more f [] e = refl
 one_more f (y ∷ es) e = ap (λ xs. f y ∷ xs) (one_more f es e)
 
 -- what the events have of the first i steps, and of one step more
-pub grown : {A : Type 0} (f : Event → A) (es : List Event) (e : Event) (xs : List A) (i : ℕ) (x : A) → map f es ≡ take i xs → i < length xs → f e ≡ get_or xs i x → map f (es ++ e ∷ []) ≡ take (i + 1) xs
+pub grown : {A : Type 0} (f : Event → A) (es : List Event) (e : Event) (xs : List A) (i : ℕ) (x : A) → map f es ≡ take i xs → i < length xs
+    → f e ≡ get_or xs i x → map f (es ++ e ∷ []) ≡ take (i + 1) xs
 grown f es e xs i x h lt is =
     one_more f es e ∙ ap (λ ys. ys ++ f e ∷ []) h ∙ ap (λ y. take i xs ++ y ∷ []) is ∙ sym (take_more xs i x lt)
 
-pub grown_by : {A : Type 0} (f : Event → A) (h : Step → A) (es : List Event) (e : Event) (ss : List Step) (i : ℕ) (s : Step) → map f es ≡ take i (map h ss) → i < length ss → f e ≡ h (get_or ss i s)
+pub grown_by : {A : Type 0} (f : Event → A) (h : Step → A) (es : List Event) (e : Event) (ss : List Step) (i : ℕ) (s : Step)
+    → map f es ≡ take i (map h ss) → i < length ss → f e ≡ h (get_or ss i s)
     → map f (es ++ e ∷ []) ≡ take (i + 1) (map h ss)
-grown_by {A} f h es e ss i s same lt is = grown f es e (map h ss) i (h s) same (let same_length : length (map h ss) ≡ length ss = length-map ss h in omega arith) (is ∙ sym (get_or-map h ss i s (h s) lt))
+grown_by {A} f h es e ss i s same lt is = grown f es e (map h ss) i (h s) same
+    (let same_length : length (map h ss) ≡ length ss = length-map ss h in omega arith) (is ∙ sym (get_or-map h ss i s (h s) lt))
 
 -- the events of a history are a run of the graph
-pub history_is_run : (s : State) (c : CoreState) (es : List Event) (last : State) (c' : CoreState) → IsHistory s c es last c' → IsRun s es last
+pub history_is_run : (s : State) (c : CoreState) (es : List Event) (last : State) (c' : CoreState)
+    → IsHistory s c es last c' → IsRun s es last
 history_is_run s c [] last c' h = h.0
 history_is_run s c (e ∷ es) last c' h = (h.1.follows.after, h.1.follows.happens, history_is_run h.1.follows.after h.0 es last c' h.2)

@@ -17,7 +17,8 @@ use Rattle.object_graph.specs.Machine.{Outcome, act}
 use Rattle.heap_steps.specs.declared.step.Action.TheVariants as actions
 use Rattle.heap_steps.specs.declared.step.Reply.TheVariants as replies
 use Rattle.heap_steps.specs.declared.step.Register.{Register}
-use Rattle.step_core.specs.Stands.{places_of, CoreState, kept_of, heap_of, RemembersFields, ShowsGraph, KeepsFrom, IsCore, IsWordOf, IsRootWord, HasObject, Leads, name_in, name_of}
+use Rattle.step_core.specs.Stands.{places_of, CoreState, kept_of, heap_of, RemembersFields, ShowsGraph, KeepsFrom, IsCore, IsWordOf}
+use Rattle.step_core.specs.Stands.{IsRootWord, HasObject, Leads, name_in, name_of}
 use Rattle.step_core.specs.Cycle.{LeavesRegions}
 use Rattle.step_core.specs.Answers.{Acts}
 use Rattle.step_core.proofs.Cores.Sizes.{some_words}
@@ -25,7 +26,8 @@ use Rattle.step_core.proofs.Cores.Resting.{root_rests, object_rests}
 use Rattle.step_core.proofs.Cores.Layers.{layers_writes, follows_of}
 use Rattle.step_core.proofs.Mutating.Written.{object_written, write_keeps, root_keeps}
 use Rattle.step_core.proofs.Cores.Remembering.{remembers_on, written_fields}
-use Rattle.step_core.proofs.Mutating.Reading.{root_shown, leads, root_word, root_rooted, object_kept, pointers_there, field_held, led_object, word_object}
+use Rattle.step_core.proofs.Mutating.Reading.{root_shown, leads, root_word, root_rooted, object_kept}
+use Rattle.step_core.proofs.Mutating.Reading.{pointers_there, field_held, led_object, word_object}
 use Rattle.step_core.proofs.Mutating.Acting.{root_shows, with_root_word, write_is, write_done, field_word, slot_word}
 
 pub core_of : (k c : CoreState) → k ≡ c → IsCore k → IsCore c
@@ -54,21 +56,26 @@ registers_at k c e core = ap (λ (p : Places). p.registers) (placed_in k c e cor
 
 -- the graph has the register in the same place
 pub register_shows : (c d : CoreState) (m r : ℕ) (w : Option ℕ)
-    → ((g : Graph) (v : Option ℕ) → ShowsGraph g c → IsShown (heap_of c) w v → ShowsGraph (with_root g (register_place (places_of c.config) m r) v) d)
+    → ((g : Graph) (v : Option ℕ) → ShowsGraph g c → IsShown (heap_of c) w v
+    → ShowsGraph (with_root g (register_place (places_of c.config) m r) v) d)
     → (g : Graph) (v : Option ℕ) → ShowsGraph g c → IsShown (heap_of c) w v → ShowsGraph (with_root g (register_place g.places m r) v) d
-register_shows c d m r w each g v s shown = subst (λ (p : Places). ShowsGraph (with_root g (register_place p m r) v) d) (sym s.places) (each g v s shown)
+register_shows c d m r w each g v s shown =
+    subst (λ (p : Places). ShowsGraph (with_root g (register_place p m r) v) d) (sym s.places) (each g v s shown)
 
 -- a register's place is among the places
-pub register_inside : (c : Config) (m r : ℕ) → m < c.mutators → r < registers_of c → register_place (places_of c) m r < root_places (places_of c)
+pub register_inside : (c : Config) (m r : ℕ) → m < c.mutators → r < registers_of c
+    → register_place (places_of c) m r < root_places (places_of c)
 register_inside c m r known inside = register_within (places_of c) m r known inside
 
 pub global_inside : (c : Config) (n : ℕ) → n < globals_of c → n < root_places (places_of c)
 global_inside c n inside = omega (arith, inside)
 
 pub root_within : (k c : CoreState) (place : ℕ) → k ≡ c → IsCore k → place < root_places (places_of c.config) → place < length k.roots
-root_within k c place e core less = subst (λ (d : CoreState). place < length d.roots) (sym e) (let all = (core_of k c e core).places in omega (arith, less, all))
+root_within k c place e core less =
+    subst (λ (d : CoreState). place < length d.roots) (sym e) (let all = (core_of k c e core).places in omega (arith, less, all))
 
-pub root_facts : (k c : CoreState) (place : ℕ) (w : Option ℕ) → k ≡ c → IsCore k → place < root_places (places_of c.config) → w ≡ get_or k.roots place None → RootFacts c place w
+pub root_facts : (k c : CoreState) (place : ℕ) (w : Option ℕ) → k ≡ c → IsCore k → place < root_places (places_of c.config)
+    → w ≡ get_or k.roots place None → RootFacts c place w
 root_facts k c place w e core less r =
     let core' = core_of k c e core in
     let all = core'.places in
@@ -84,15 +91,19 @@ root_facts k c place w e core less r =
 
 -- a root word is set
 module _ (k c : CoreState) (place : ℕ) (w : Option ℕ) (e : k ≡ c) where
-  pub root_after : (g : Graph) (v : Option ℕ) → ShowsGraph g c → IsShown (heap_of c) w v → ShowsGraph (with_root g place v) (with_root_word k place w)
-  root_after = subst (λ (d : CoreState). (g : Graph) (v : Option ℕ) → ShowsGraph g d → IsShown (heap_of d) w v → ShowsGraph (with_root g place v) (with_root_word k place w)) e (λ g v s shown. root_shows g k place w v s shown)
+  pub root_after : (g : Graph) (v : Option ℕ) → ShowsGraph g c → IsShown (heap_of c) w v
+      → ShowsGraph (with_root g place v) (with_root_word k place w)
+  root_after = subst (λ (d : CoreState).
+      (g : Graph) (v : Option ℕ) → ShowsGraph g d → IsShown (heap_of d) w v → ShowsGraph (with_root g place v) (with_root_word k place w)) e
+      (λ g v s shown. root_shows g k place w v s shown)
 
   module _ (core : IsCore k) (held : IsHeld (heap_of c) w) where
     held' : IsHeld (heap_of k) w
     held' = subst (λ (d : CoreState). IsHeld (heap_of d) w) (sym e) held
 
     pub root_kept_from : (s : Graph) → KeepsFrom s c → KeepsFrom s (with_root_word k place w)
-    root_kept_from s = subst (λ (d : CoreState). KeepsFrom s d → KeepsFrom s (with_root_word k place w)) e (root_keeps core.footing.graph s k place w _ core.rests.shows held' refl)
+    root_kept_from s = subst (λ (d : CoreState). KeepsFrom s d → KeepsFrom s (with_root_word k place w)) e
+        (root_keeps core.footing.graph s k place w _ core.rests.shows held' refl)
 
     root_remembers : RemembersFields (with_root_word k place w)
     unfolding kept_of
@@ -126,7 +137,8 @@ module _ (k c : CoreState) (place : ℕ) (w : Option ℕ) (e : k ≡ c) where
 pub named_object : (k c : CoreState) (a : ℕ) → k ≡ c → IsWordOf (heap_of c) (Some a) → IsSome (object_at k.table a)
 named_object k c a e word = subst (λ (d : CoreState). IsSome (object_at d.table a)) (sym e) (word_object c a word)
 
-pub name_is : (k c : CoreState) (a n : ℕ) → k ≡ c → IsSome (object_at k.table a) → IfSome (object_at k.table a) (λ s. n ≡ s.name) → Some n ≡ name_in c.table (Some a)
+pub name_is : (k c : CoreState) (a n : ℕ) → k ≡ c → IsSome (object_at k.table a)
+    → IfSome (object_at k.table a) (λ s. n ≡ s.name) → Some n ≡ name_in c.table (Some a)
 name_is k c a n e some is = subst (λ (d : CoreState). Some n ≡ name_in d.table (Some a)) e (go (object_at k.table a) some is)
   where
     go : (o : Option Stored) → IsSome o → IfSome o (λ s. n ≡ s.name) → Some n ≡ name_of o
@@ -135,27 +147,34 @@ name_is k c a n e some is = subst (λ (d : CoreState). Some n ≡ name_in d.tabl
 
 -- the object that a register names
 pub object_led : (k c : CoreState) (place a : ℕ) → k ≡ c → IsCore k → Leads c place (Some a) → IsSome (object_at k.table a)
-object_led k c place a e core l = subst (λ (d : CoreState). IsSome (object_at d.table a)) (sym e) (led_object c place a (core_of k c e core) l)
+object_led k c place a e core l =
+    subst (λ (d : CoreState). IsSome (object_at d.table a)) (sym e) (led_object c place a (core_of k c e core) l)
 
 pub table_of : (k c : CoreState) → k ≡ c → k.table ≡ c.table
 table_of k c e = ap (λ (d : CoreState). d.table) e
 
 module _ (k c : CoreState) (e : k ≡ c) (core : IsCore k) (m : ℕ) (object : Register) (a i v : ℕ) (t : Table)
-    (l : Leads c (register_place (places_of c.config) m object.number) (Some a)) (within : i < length (values_at k.table a)) (is : t ≡ set_value k.table a i v) where
+    (l : Leads c (register_place (places_of c.config) m object.number) (Some a)) (within : i < length (values_at k.table a))
+    (is : t ≡ set_value k.table a i v) where
   write_by : (g : Graph) → ShowsGraph g k → Acts g m (actions.Write object i v) replies.Done (record k { table = t })
-  write_by g s = write_done g k s m object a (subst (λ (d : CoreState). Leads d (register_place (places_of d.config) m object.number) (Some a)) (sym e) l) i v t within (some_words k core) is
+  write_by g s = write_done g k s m object a
+      (subst (λ (d : CoreState). Leads d (register_place (places_of d.config) m object.number) (Some a)) (sym e) l) i v t within
+      (some_words k core) is
 
   pub write_after : (g : Graph) → ShowsGraph g c → Acts g m (actions.Write object i v) replies.Done (record k { table = t })
   write_after g s = write_by g (subst (λ (d : CoreState). ShowsGraph g d) (sym e) s)
 
   h : HasObject core.footing.graph k (register_place (places_of k.config) m object.number) a
-  h = subst (λ (d : CoreState). Leads d (register_place (places_of d.config) m object.number) (Some a)) (sym e) l core.footing.graph core.rests.shows
+  h = subst (λ (d : CoreState). Leads d (register_place (places_of d.config) m object.number) (Some a))
+      (sym e) l core.footing.graph core.rests.shows
 
   writes : WritesObject k.table t a h.stored (with_value h.stored i v)
-  writes = subst (λ (u : Table). WritesObject k.table u a h.stored (with_value h.stored i v)) (sym is) (value_put k.table a i v h.stored (some_words k core) (object_kept k a h.stored h.at))
+  writes = subst (λ (u : Table). WritesObject k.table u a h.stored (with_value h.stored i v)) (sym is)
+      (value_put k.table a i v h.stored (some_words k core) (object_kept k a h.stored h.at))
 
   write_set : ObjectSet (heap_of k) (heap_of (record k { table = t })) a h.stored (with_value h.stored i v)
-  write_set = object_written k (record k { table = t }) a h.stored (with_value h.stored i v) writes refl h.at (record { tams = refl; previous = refl; roots = refl })
+  write_set = object_written k (record k { table = t }) a h.stored (with_value h.stored i v) writes refl h.at
+      (record { tams = refl; previous = refl; roots = refl })
 
   keeps_by : (s : Graph) → KeepsFrom s k → KeepsFrom s (record k { table = t })
   keeps_by s f = write_keeps s k t a h.stored (with_value h.stored i v) writes refl h.at refl f
@@ -164,7 +183,8 @@ module _ (k c : CoreState) (e : k ≡ c) (core : IsCore k) (m : ℕ) (object : R
   write_kept_from s f = keeps_by s (subst (λ (d : CoreState). KeepsFrom s d) (sym e) f)
 
   pub write_leaves : LeavesRegions c (record k { table = t })
-  write_leaves = subst (λ (d : CoreState). LeavesRegions d (record k { table = t })) e (record { config = refl; in_use = λ j n u. n (sym (writes.kinds j) ∙ u) })
+  write_leaves = subst (λ (d : CoreState). LeavesRegions d (record k { table = t })) e
+      (record { config = refl; in_use = λ j n u. n (sym (writes.kinds j) ∙ u) })
 
   abbrev written : Object
   written = record h.object { values = slice_set h.object.values i v }
@@ -174,10 +194,12 @@ module _ (k c : CoreState) (e : k ≡ c) (core : IsCore k) (m : ℕ) (object : R
 
   write_sound : IsSound (act core.footing.graph m (actions.Write object i v)).1
   write_sound = subst (λ (out : Outcome). IsSound out.1) (sym (write_is core.footing.graph k core.rests.shows m object a l' i v h within))
-      (object_rests core.footing.graph k h.stored.name h.object written h.stored.pointers h.stored.weaks core.rests.shows h.named h.pointers h.weaks core.rests.sound)
+      (object_rests core.footing.graph k h.stored.name h.object written h.stored.pointers h.stored.weaks core.rests.shows
+      h.named h.pointers h.weaks core.rests.sound)
 
   write_unreached : KeepsUnreached core.footing.snapshot (act core.footing.graph m (actions.Write object i v)).1
-  write_unreached = subst (λ (out : Outcome). KeepsUnreached core.footing.snapshot out.1) (sym (write_is core.footing.graph k core.rests.shows m object a l' i v h within))
+  write_unreached = subst (λ (out : Outcome). KeepsUnreached core.footing.snapshot out.1)
+      (sym (write_is core.footing.graph k core.rests.shows m object a l' i v h within))
       (unreached_written core.footing.snapshot core.footing.graph core.rests.unreached h.stored.name h.object written h.named refl)
 
   pub write_kept : IsCore (record k { table = t })
@@ -187,10 +209,13 @@ module _ (k c : CoreState) (e : k ≡ c) (core : IsCore k) (m : ℕ) (object : R
       record {
         suits = core.suits;
         placed = core.placed;
-        layers = layers_writes k.config k.table t k.buffers k.marker a h.stored (with_value h.stored i v) writes core.layers (follows_of (record k { table = t }) _ core.footing.snapshot shows keeps) (ap (λ (n : ℕ). 2 + length h.stored.pointers + length h.stored.weaks + n) (length-set h.stored.values i v));
+        layers = layers_writes k.config k.table t k.buffers k.marker a h.stored (with_value h.stored i v) writes core.layers
+            (follows_of (record k { table = t }) _ core.footing.snapshot shows keeps)
+            (ap (λ (n : ℕ). 2 + length h.stored.pointers + length h.stored.weaks + n) (length-set h.stored.values i v));
         cards = core.cards;
         remembers = remembers_on k (record k { table = t }) refl writes.size refl refl
-            (written_fields (heap_of k) (heap_of (record k { table = t })) a h.stored (with_value h.stored i v) write_set refl) core.remembers;
+            (written_fields (heap_of k) (heap_of (record k { table = t })) a h.stored (with_value h.stored i v) write_set refl)
+            core.remembers;
         room = core.room;
         rows = core.rows;
         places = core.places;
@@ -209,17 +234,23 @@ values_of k c a e = ap (λ (d : CoreState). values_at d.table a) e
 pub weaks_of : (k c : CoreState) (a : ℕ) → k ≡ c → weaks_at k.table a ≡ weaks_at c.table a
 weaks_of k c a e = ap (λ (d : CoreState). weaks_at d.table a) e
 
-pub slot_of : (k c : CoreState) (place a i : ℕ) (w : Option ℕ) → k ≡ c → IsCore k → Leads c place (Some a) → slice_get (weaks_at k.table a) i ≡ Some w → IsWordOf (heap_of c) w
-slot_of k c place a i w e core l is = slot_word c place a i w (core_of k c e core) l (ap (λ (ps : List (Option ℕ)). slice_get ps i) (sym (weaks_of k c a e)) ∙ is)
+pub slot_of : (k c : CoreState) (place a i : ℕ) (w : Option ℕ) → k ≡ c → IsCore k → Leads c place (Some a)
+    → slice_get (weaks_at k.table a) i ≡ Some w → IsWordOf (heap_of c) w
+slot_of k c place a i w e core l is =
+    slot_word c place a i w (core_of k c e core) l (ap (λ (ps : List (Option ℕ)). slice_get ps i) (sym (weaks_of k c a e)) ∙ is)
 
-pub field_of : (k c : CoreState) (place a i : ℕ) (w : Option ℕ) → k ≡ c → IsCore k → Leads c place (Some a) → slice_get (pointers_at k.table a) i ≡ Some w → IsWordOf (heap_of c) w
-field_of k c place a i w e core l is = field_word c place a i w (core_of k c e core) l (ap (λ (ps : List (Option ℕ)). slice_get ps i) (sym (pointers_of k c a e)) ∙ is)
+pub field_of : (k c : CoreState) (place a i : ℕ) (w : Option ℕ) → k ≡ c → IsCore k → Leads c place (Some a)
+    → slice_get (pointers_at k.table a) i ≡ Some w → IsWordOf (heap_of c) w
+field_of k c place a i w e core l is =
+    field_word c place a i w (core_of k c e core) l (ap (λ (ps : List (Option ℕ)). slice_get ps i) (sym (pointers_of k c a e)) ∙ is)
 
 -- what the field of an object that a register names holds, can be stored
-pub field_can_be_stored : (k c : CoreState) (place a i : ℕ) (w : Option ℕ) → k ≡ c → IsCore k → Leads c place (Some a) → IsRoot (heap_of c) a → slice_get (pointers_at k.table a) i ≡ Some w → IsHeld (heap_of c) w
+pub field_can_be_stored : (k c : CoreState) (place a i : ℕ) (w : Option ℕ) → k ≡ c → IsCore k → Leads c place (Some a)
+    → IsRoot (heap_of c) a → slice_get (pointers_at k.table a) i ≡ Some w → IsHeld (heap_of c) w
 field_can_be_stored k c place a i w e core l root is =
     let h = l core.footing.graph (subst (λ (d : CoreState). ShowsGraph core.footing.graph d) e core.rests.shows) in
-    field_held c a i h.stored w root h.at (ap (λ (ps : List (Option ℕ)). slice_get ps i) (sym (pointers_there c a h.stored h.at) ∙ sym (pointers_of k c a e)) ∙ is)
+    field_held c a i h.stored w root h.at
+    (ap (λ (ps : List (Option ℕ)). slice_get ps i) (sym (pointers_there c a h.stored h.at) ∙ sym (pointers_of k c a e)) ∙ is)
 
 -- the core after a root word is set, by its value
 pub root_set : (k c : CoreState) → k ≡ c → (place : ℕ) (w : Option ℕ) → with_root_word k place w ≡ with_root_word c place w

@@ -25,15 +25,19 @@ unfolding kept_of
 follows_of c g s shows keeps run = can_follow s g c.table c.roots c.marker shows.shows (keeps.marking run)
 
 -- the table changes beneath the marker
-pub stands_over : (t t' : Table) (m : Marker) → MarkerStands t m → length t'.regions ≡ length t.regions → t'.words_per_region ≡ t.words_per_region
-    → ((k : ℕ) → k < length t.regions → slice_index m.tams.previous k ≤ top_of t' k) → ((k : ℕ) → k < length t.regions → slice_index m.tams.next k ≤ top_of t' k)
-    → ((a : ℕ) (x : Stored) → object_at t a ≡ Some x → (y : Stored) × (object_at t' a ≡ Some y)) → ((a : ℕ) (x : Stored) → object_at t a ≡ Some x → object_words t' a ≡ object_words t a)
+pub stands_over : (t t' : Table) (m : Marker) → MarkerStands t m → length t'.regions ≡ length t.regions
+    → t'.words_per_region ≡ t.words_per_region → ((k : ℕ) → k < length t.regions → slice_index m.tams.previous k ≤ top_of t' k)
+    → ((k : ℕ) → k < length t.regions → slice_index m.tams.next k ≤ top_of t' k)
+    → ((a : ℕ) (x : Stored) → object_at t a ≡ Some x → (y : Stored) × (object_at t' a ≡ Some y))
+    → ((a : ℕ) (x : Stored) → object_at t a ≡ Some x → object_words t' a ≡ object_words t a)
     → (m.running ≡ true → CanFollow t' m) → MarkerStands t' m
-stands_over t t' m st count size low high stays words follows = table_stands t t' m st count size low high (λ a x _ o. stays a x o) (λ a x _ o. stays a x o)
+stands_over t t' m st count size low high stays words follows =
+    table_stands t t' m st count size low high (λ a x _ o. stays a x o) (λ a x _ o. stays a x o)
     (λ a h. let o = st.previous.object a h in words a o.0 o.1) (λ a h. let o = st.next.object a h in words a o.0 o.1) follows
 
 -- an object is written over: there still is one
-still_there : (t t' : Table) (a b : ℕ) (x y z : Stored) → WritesObject t t' a x y → object_at t b ≡ Some z → (u : Stored) × (object_at t' b ≡ Some u)
+still_there : (t t' : Table) (a b : ℕ) (x y z : Stored) → WritesObject t t' a x y → object_at t b ≡ Some z
+    → (u : Stored) × (object_at t' b ≡ Some u)
 still_there t t' a b x y z w e =
     elim (cases_eq b a) [
       | inl q ↦ (y, ap (object_at t') q ∙ w.is)
@@ -41,16 +45,19 @@ still_there t t' a b x y z w e =
     ]
 
 -- the marker stands over the table with an object written
-pub marker_writes : (t t' : Table) (b : Buffers) (m : Marker) (a : ℕ) (x y : Stored) → WritesObject t t' a x y → AreAbove t b (slice_index m.tams.previous) → AreAbove t b (slice_index m.tams.next)
+pub marker_writes : (t t' : Table) (b : Buffers) (m : Marker) (a : ℕ) (x y : Stored) → WritesObject t t' a x y
+    → AreAbove t b (slice_index m.tams.previous) → AreAbove t b (slice_index m.tams.next)
     → MarkerStands t m → (m.running ≡ true → CanFollow t' m) → tile_size (Object y) ≡ tile_size (Object x) → MarkerStands t' m
 marker_writes t t' b m a x y w previous next st follows long =
     let p = above_same t t' b (slice_index m.tams.previous) w.size w.count w.used previous in
     let n = above_same t t' b (slice_index m.tams.next) w.size w.count w.used next in
-    stands_over t t' m st w.count w.size (λ k lt. p.tops k (rw w.count lt)) (λ k lt. n.tops k (rw w.count lt)) (λ c z e. still_there t t' a c x y z w e) (λ c z e. words_written t t' a x y w long c) follows
+    stands_over t t' m st w.count w.size (λ k lt. p.tops k (rw w.count lt)) (λ k lt. n.tops k (rw w.count lt))
+    (λ c z e. still_there t t' a c x y z w e) (λ c z e. words_written t t' a x y w long c) follows
 
 -- an object is written, and marking may have gone on: tops stay, and no log is full
-pub layers_changed : (config : Config) (t t' : Table) (b : Buffers) (m m' : Marker) (a : ℕ) (x y : Stored) → WritesObject t t' a x y → LayersFit config t b m → MarkerStands t' m'
-    → m'.tams ≡ m.tams → length m'.logs ≡ length m.logs → ((mutator : ℕ) → length (log_of m'.logs mutator) < 8) → tile_size (Object y) ≡ tile_size (Object x) → LayersFit config t' b m'
+pub layers_changed : (config : Config) (t t' : Table) (b : Buffers) (m m' : Marker) (a : ℕ) (x y : Stored) → WritesObject t t' a x y
+    → LayersFit config t b m → MarkerStands t' m' → m'.tams ≡ m.tams → length m'.logs ≡ length m.logs
+    → ((mutator : ℕ) → length (log_of m'.logs mutator) < 8) → tile_size (Object y) ≡ tile_size (Object x) → LayersFit config t' b m'
 layers_changed config t t' b m m' a x y w l st tams logs room long = record {
   region_size = w.size ∙ l.region_size;
   region_count = w.count ∙ l.region_count;
@@ -69,14 +76,16 @@ layers_changed config t t' b m m' a x y w l st tams logs room long = record {
 }
 
 -- an object is written, and nothing else changed
-pub layers_writes : (config : Config) (t t' : Table) (b : Buffers) (m : Marker) (a : ℕ) (x y : Stored) → WritesObject t t' a x y → LayersFit config t b m
-    → (m.running ≡ true → CanFollow t' m) → tile_size (Object y) ≡ tile_size (Object x) → LayersFit config t' b m
+pub layers_writes : (config : Config) (t t' : Table) (b : Buffers) (m : Marker) (a : ℕ) (x y : Stored)
+    → WritesObject t t' a x y → LayersFit config t b m → (m.running ≡ true → CanFollow t' m)
+    → tile_size (Object y) ≡ tile_size (Object x) → LayersFit config t' b m
 layers_writes config t t' b m a x y w l follows long =
-    layers_changed config t t' b m m a x y w l (marker_writes t t' b m a x y w l.above_previous l.above_next l.marker follows long) refl refl l.room long
+    layers_changed config t t' b m m a x y w l
+    (marker_writes t t' b m a x y w l.above_previous l.above_next l.marker follows long) refl refl l.room long
 
 -- marking goes on: tops stay, and no log is full
-pub layers_marked : (config : Config) (t : Table) (b : Buffers) (m m' : Marker) → LayersFit config t b m → MarkerStands t m' → m'.tams ≡ m.tams → length m'.logs ≡ length m.logs
-    → ((mutator : ℕ) → length (log_of m'.logs mutator) < 8) → LayersFit config t b m'
+pub layers_marked : (config : Config) (t : Table) (b : Buffers) (m m' : Marker) → LayersFit config t b m → MarkerStands t m'
+    → m'.tams ≡ m.tams → length m'.logs ≡ length m.logs → ((mutator : ℕ) → length (log_of m'.logs mutator) < 8) → LayersFit config t b m'
 layers_marked config t b m m' l st tams logs room = record {
   region_size = l.region_size;
   region_count = l.region_count;

@@ -13,7 +13,8 @@ use Rattle.heap_model.proofs.Unreached.{root_sound, changed_sound}
 use Rattle.step_core.specs.Stands.{CoreState, kept_of, heap_of, marking_of, ShowsGraph}
 
 -- a name that a word shows is below the next one
-pub shown_below : (g : Graph) (c : CoreState) (w v : Option ℕ) (n : ℕ) → ShowsGraph g c → IsShown (heap_of c) w v → v ≡ Some n → n < next_name g
+pub shown_below : (g : Graph) (c : CoreState) (w v : Option ℕ) (n : ℕ) → ShowsGraph g c
+    → IsShown (heap_of c) w v → v ≡ Some n → n < next_name g
 shown_below g c None None n s shown e = cc
 shown_below g c None (Some m) n s shown e = absurd shown
 shown_below g c (Some a) None n s shown e = absurd shown
@@ -24,25 +25,31 @@ shown_below g c (Some a) (Some m) n s shown e =
     subst (λ (k : ℕ). k < next_name g) name (named_below g x.name o.object o.named)
 
 -- so are all names of a list that words show
-fields_below : (g : Graph) (c : CoreState) (ws vs : List (Option ℕ)) → ShowsGraph g c → AllZip (IsShown (heap_of c)) ws vs → (i n : ℕ) → slice_get vs i ≡ Some (Some n) → n < next_name g
-fields_below g c ws vs s z i n e = let (w, is, shown) = AllZip-get_right (IsShown (heap_of c)) ws vs z i (Some n) e in shown_below g c w (Some n) n s shown refl
+fields_below : (g : Graph) (c : CoreState) (ws vs : List (Option ℕ)) → ShowsGraph g c → AllZip (IsShown (heap_of c)) ws vs → (i n : ℕ)
+    → slice_get vs i ≡ Some (Some n) → n < next_name g
+fields_below g c ws vs s z i n e =
+    let (w, is, shown) = AllZip-get_right (IsShown (heap_of c)) ws vs z i (Some n) e in
+    shown_below g c w (Some n) n s shown refl
 
 -- a root takes what a word shows
-pub root_rests : (g : Graph) (c : CoreState) (place : ℕ) (w v : Option ℕ) → ShowsGraph g c → IsShown (heap_of c) w v → IsSound g → IsSound (with_root g place v)
+pub root_rests : (g : Graph) (c : CoreState) (place : ℕ) (w v : Option ℕ) → ShowsGraph g c → IsShown (heap_of c) w v
+    → IsSound g → IsSound (with_root g place v)
 root_rests g c place w v s shown sound = root_sound g place v sound (λ n e. shown_below g c w v n s shown e)
 
 -- an object has other fields, which words show
-pub object_rests : (g : Graph) (c : CoreState) (n : ℕ) (o p : Object) (ps ws : List (Option ℕ)) → ShowsGraph g c → object_named g n ≡ Some o → AllZip (IsShown (heap_of c)) ps p.pointers
-    → AllZip (IsShown (heap_of c)) ws p.weaks → IsSound g → IsSound (with_changed g n p)
-object_rests g c n o p ps ws s named pointers weaks sound = changed_sound g n o p sound named (λ i k e. elim (get-append_cases p.pointers p.weaks i (Some k) e) [
-  | inl q ↦ fields_below g c ps p.pointers s pointers i k q
-  | inr q ↦ fields_below g c ws p.weaks s weaks q.0 k q.1
-])
+pub object_rests : (g : Graph) (c : CoreState) (n : ℕ) (o p : Object) (ps ws : List (Option ℕ)) → ShowsGraph g c → object_named g n ≡ Some o
+    → AllZip (IsShown (heap_of c)) ps p.pointers → AllZip (IsShown (heap_of c)) ws p.weaks → IsSound g → IsSound (with_changed g n p)
+object_rests g c n o p ps ws s named pointers weaks sound =
+    changed_sound g n o p sound named (λ i k e. elim (get-append_cases p.pointers p.weaks i (Some k) e) [
+      | inl q ↦ fields_below g c ps p.pointers s pointers i k q
+      | inr q ↦ fields_below g c ws p.weaks s weaks q.0 k q.1
+    ])
 
 -- the object that a root names was reachable in the snapshot, or is newer
-pub rooted_known : (g s : Graph) (c : CoreState) (a : ℕ) (x : Stored) → ShowsGraph g c → KeepsSnapshot s (heap_of c) (marking_of c) → IsRoot (heap_of c) a → kept_of c a ≡ Some x
-    → IsReachable s x.name ⊎ (next_name s ≤ x.name)
-rooted_known g s c a x shows keeps root at = reached_known s g (heap_of c) (marking_of c) shows.shows keeps x.name (reach (root_read g (heap_of c) (heap_of c) shows.shows root.place (Some a) root.is))
+pub rooted_known : (g s : Graph) (c : CoreState) (a : ℕ) (x : Stored) → ShowsGraph g c → KeepsSnapshot s (heap_of c) (marking_of c)
+    → IsRoot (heap_of c) a → kept_of c a ≡ Some x → IsReachable s x.name ⊎ (next_name s ≤ x.name)
+rooted_known g s c a x shows keeps root at = reached_known s g (heap_of c) (marking_of c) shows.shows keeps x.name
+    (reach (root_read g (heap_of c) (heap_of c) shows.shows root.place (Some a) root.is))
   where
     reach : (v : Option ℕ) × (slice_get g.roots root.place ≡ Some v) × IsShown (heap_of c) (Some a) v → IsReachable g x.name
     reach (None, is, shown) = absurd shown

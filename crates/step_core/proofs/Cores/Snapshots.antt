@@ -22,7 +22,8 @@ saved_running : (t : Table) (m : Marker) (mutator : ℕ) (w : Option ℕ) → (s
 saved_running t m mutator None = refl
 saved_running t m mutator (Some a) = go (below_next t m.tams a)
   where
-    go : (b : Bool) → (if b then (record m { logs = slice_set m.logs mutator (log_of m.logs mutator ++ a ∷ []) }) else m).running ≡ m.running
+    go : (b : Bool)
+        → (if b then (record m { logs = slice_set m.logs mutator (log_of m.logs mutator ++ a ∷ []) }) else m).running ≡ m.running
     go true = refl
     go false = refl
 
@@ -30,9 +31,12 @@ taken_running : (full : Bool) (t : Table) (mutator : ℕ) (m m' : Marker) → Ta
 taken_running true t mutator m m' h = h.same.running
 taken_running false t mutator m m' h = ap (λ (x : Marker). x.running) h
 
-overwrites_running : (running : Bool) (t : Table) (mutator : ℕ) (w : Option ℕ) (m m' : Marker) → Overwrites running t mutator w m m' → m'.running ≡ m.running
+overwrites_running : (running : Bool) (t : Table) (mutator : ℕ) (w : Option ℕ) (m m' : Marker)
+    → Overwrites running t mutator w m m' → m'.running ≡ m.running
 overwrites_running false t mutator w m m' h = ap (λ (x : Marker). x.running) h
-overwrites_running true t mutator w m m' h = taken_running (length (log_of (saved t m mutator w).logs mutator) == 8) t mutator (saved t m mutator w) m' h ∙ saved_running t m mutator w
+overwrites_running true t mutator w m m' h =
+    taken_running (length (log_of (saved t m mutator w).logs mutator) == 8) t mutator (saved t m mutator w) m' h
+    ∙ saved_running t m mutator w
 
 marker_running : (c : CoreState) (m : ℕ) (a : Action) (m' : Marker) → MarkerAfter c m a m' → m'.running ≡ c.marker.running
 marker_running c m (actions.New to counts) m' h = ap (λ (x : Marker). x.running) h
@@ -63,7 +67,8 @@ acts_running m a (replies.Moved n w) c c' h = marker_running c m a c'.marker h.m
 acts_running m a (replies.Refused why) c c' h = ap (λ (d : CoreState). d.marker.running) h
 
 -- the same snapshot
-pub keeps_for : (sn : Option Graph) (c c' : CoreState) → c'.marker.running ≡ c.marker.running → ((s : Graph) → KeepsFrom s c → KeepsFrom s c') → KeepsFor sn c → KeepsFor sn c'
+pub keeps_for : (sn : Option Graph) (c c' : CoreState) → c'.marker.running ≡ c.marker.running
+    → ((s : Graph) → KeepsFrom s c → KeepsFrom s c') → KeepsFor sn c → KeepsFor sn c'
 keeps_for None c c' same each k = same ∙ k
 keeps_for (Some s) c c' same each k = (same ∙ k.0, each s k.1)
 
@@ -91,11 +96,14 @@ same_after (Some s) (actions.Weaks object) r e = refl
 same_after (Some s) (actions.Scope from) r e = refl
 
 -- after a step that reads no weak slot
-pub keeps_after : (sn : Option Graph) (m : ℕ) (a : Action) (r : Reply) (c c' : CoreState) → touches a ≡ false → ActsOn m a r c c' → ((s : Graph) → KeepsFrom s c → KeepsFrom s c') → KeepsFor sn c → KeepsFor (snapshot_after sn a r) c'
-keeps_after sn m a r c c' plain acts each k = subst (λ (o : Option Graph). KeepsFor o c') (sym (same_after sn a r plain)) (keeps_for sn c c' (acts_running m a r c c' acts) each k)
+pub keeps_after : (sn : Option Graph) (m : ℕ) (a : Action) (r : Reply) (c c' : CoreState) → touches a ≡ false → ActsOn m a r c c'
+    → ((s : Graph) → KeepsFrom s c → KeepsFrom s c') → KeepsFor sn c → KeepsFor (snapshot_after sn a r) c'
+keeps_after sn m a r c c' plain acts each k =
+    subst (λ (o : Option Graph). KeepsFor o c') (sym (same_after sn a r plain)) (keeps_for sn c c' (acts_running m a r c c' acts) each k)
 
 -- after one that does
-running_too : (s : Graph) (to object : Register) (i : ℕ) (r : Reply) (c : CoreState) → c.marker.running ≡ true → ForSnapshot (snapshot_after (Some s) (actions.GetWeak to object i) r) (λ t. KeepsFrom t c)
+running_too : (s : Graph) (to object : Register) (i : ℕ) (r : Reply) (c : CoreState) → c.marker.running ≡ true
+    → ForSnapshot (snapshot_after (Some s) (actions.GetWeak to object i) r) (λ t. KeepsFrom t c)
     → KeepsFor (snapshot_after (Some s) (actions.GetWeak to object i) r) c
 running_too s to object i replies.Done c run k = (run, k)
 running_too s to object i (replies.Named v) c run k = (run, k)
@@ -107,8 +115,11 @@ running_too s to object i (replies.Refined n) c run k = (run, k)
 running_too s to object i (replies.Moved n w) c run k = (run, k)
 running_too s to object i (replies.Refused why) c run k = (run, k)
 
-pub keeps_touched : (sn : Option Graph) (m : ℕ) (to object : Register) (i : ℕ) (r : Reply) (c c' : CoreState) → ActsOn m (actions.GetWeak to object i) r c c'
-    → ((s : Graph) → sn ≡ Some s → KeepsFrom s c → ForSnapshot (snapshot_after (Some s) (actions.GetWeak to object i) r) (λ t. KeepsFrom t c')) → KeepsFor sn c
+pub keeps_touched : (sn : Option Graph) (m : ℕ) (to object : Register) (i : ℕ) (r : Reply) (c c' : CoreState)
+    → ActsOn m (actions.GetWeak to object i) r c c'
+    → ((s : Graph) → sn ≡ Some s → KeepsFrom s c
+    → ForSnapshot (snapshot_after (Some s) (actions.GetWeak to object i) r) (λ t. KeepsFrom t c')) → KeepsFor sn c
     → KeepsFor (snapshot_after sn (actions.GetWeak to object i) r) c'
 keeps_touched None m to object i r c c' acts each k = acts_running m (actions.GetWeak to object i) r c c' acts ∙ k
-keeps_touched (Some s) m to object i r c c' acts each k = running_too s to object i r c' (acts_running m (actions.GetWeak to object i) r c c' acts ∙ k.0) (each s refl k.1)
+keeps_touched (Some s) m to object i r c c' acts each k =
+    running_too s to object i r c' (acts_running m (actions.GetWeak to object i) r c c' acts ∙ k.0) (each s refl k.1)

@@ -1,5 +1,7 @@
 -- What is dead is released, one region or run after another.
-use Rattle.std.proofs.Common.{◌≡◌, ◌≢◌, ℕ, zero, suc, ◌+◌, ◌-◌, ◌*◌, ◌/◌, ◌<◌, ◌≤◌, Bool, true, false, not, List, [], ◌∷◌, Option, Some, None, length, refl, sym, ◌∙◌, ap, subst, arith, inl, inr}
+use Rattle.std.proofs.Common.{◌≡◌, ◌≢◌, ◌+◌, ◌-◌, ◌*◌, ◌/◌, ◌<◌, ◌≤◌, ◌∷◌, ◌∙◌}
+use Rattle.std.proofs.Common.{ℕ, zero, suc, Bool, true, false, not, List, [], Option, Some}
+use Rattle.std.proofs.Common.{None, length, refl, sym, ap, subst, arith, inl, inr}
 use Rattle.std.specs.Prelude.{◌↔◌, IsTrue, slice_get}
 use Rattle.std.proofs.lemmas.Bool.{cases_lt, cases_eq}
 use Rattle.std.proofs.lemmas.List.{get_or_past}
@@ -8,7 +10,8 @@ use Rattle.regions.specs.Table.{Table, Free, First, nth_region, region_kind, kin
 use Rattle.regions.specs.Shaped.{IsShaped}
 use Rattle.regions.specs.declared.row.Kind.TheVariants as kinds
 use Rattle.regions.proofs.Tiles.ShapedMade.{first_object}
-use Rattle.regions.proofs.LongRuns.Blocks.{kind_is, later_rest, next_head, block_within, first_number, rest_number, first_not_rest, reaches, alone, block_cases, product_le}
+use Rattle.regions.proofs.LongRuns.Blocks.{kind_is, later_rest, next_head, block_within, first_number, rest_number}
+use Rattle.regions.proofs.LongRuns.Blocks.{first_not_rest, reaches, alone, block_cases, product_le}
 use Rattle.mark_bitmap.specs.Marks.{is_marked}
 use Rattle.mark_bitmap.specs.Tops.{is_below, is_in_region}
 use Rattle.marker.specs.declared.marker.Marker.{Marker}
@@ -20,20 +23,24 @@ use Rattle.step_core.specs.Cleaning.{IsDeadHead, HasReleased}
 use Rattle.step_core.proofs.Cycles.Releasing.{keeps, kept_by_parts}
 
 -- whether a humongous object is kept
-pub run_new : (c : CoreState) (q : ℕ) → 0 < c.table.words_per_region → kind_of c.table q ≡ kinds.First → is_below c.table.words_per_region c.marker.tams.previous (q * c.table.words_per_region) ≡ false
+pub run_new : (c : CoreState) (q : ℕ) → 0 < c.table.words_per_region → kind_of c.table q ≡ kinds.First
+    → is_below c.table.words_per_region c.marker.tams.previous (q * c.table.words_per_region) ≡ false
     → kept_of c (q * c.table.words_per_region) ≡ None → ⊥
 run_new c q z first above none =
     let r = first_number c.table q first in
     let a : ℕ = q * c.table.words_per_region in
-    let is : kept_of c a ≡ Some r.0 = kept_by_parts c a ∙ ap (λ (b : Bool). keeps b (is_marked c.marker.bitmaps.previous a) (object_at c.table a)) above ∙ first_object c.table q r.0 z r.1 in
+    let is : kept_of c a ≡ Some r.0 = kept_by_parts c a
+    ∙ ap (λ (b : Bool). keeps b (is_marked c.marker.bitmaps.previous a) (object_at c.table a)) above ∙ first_object c.table q r.0 z r.1 in
     cc
 
-run_marked : (c : CoreState) (q : ℕ) → 0 < c.table.words_per_region → kind_of c.table q ≡ kinds.First → is_marked c.marker.bitmaps.previous (q * c.table.words_per_region) ≡ true
+run_marked : (c : CoreState) (q : ℕ) → 0 < c.table.words_per_region → kind_of c.table q ≡ kinds.First
+    → is_marked c.marker.bitmaps.previous (q * c.table.words_per_region) ≡ true
     → kept_of c (q * c.table.words_per_region) ≡ None → ⊥
 run_marked c q z first marked none =
     let r = first_number c.table q first in
     let a : ℕ = q * c.table.words_per_region in
-    let is : kept_of c a ≡ Some r.0 = kept_by_parts c a ∙ ap (λ (b : Bool). keeps (is_below c.table.words_per_region c.marker.tams.previous a) b (object_at c.table a)) marked
+    let is : kept_of c a ≡ Some r.0 =
+    kept_by_parts c a ∙ ap (λ (b : Bool). keeps (is_below c.table.words_per_region c.marker.tams.previous a) b (object_at c.table a)) marked
     ∙ keeps_marked (is_below c.table.words_per_region c.marker.tams.previous a) (object_at c.table a) ∙ first_object c.table q r.0 z r.1 in
     cc
   where
@@ -41,12 +48,17 @@ run_marked c q z first marked none =
     keeps_marked true x = refl
     keeps_marked false x = refl
 
-run_dead : (c : CoreState) (a : ℕ) → is_below c.table.words_per_region c.marker.tams.previous a ≡ true → is_marked c.marker.bitmaps.previous a ≡ false → kept_of c a ≡ None
-run_dead c a below unmarked = kept_by_parts c a ∙ ap (λ (b : Bool). keeps b (is_marked c.marker.bitmaps.previous a) (object_at c.table a)) below ∙ ap (λ (b : Bool). keeps true b (object_at c.table a)) unmarked
+run_dead : (c : CoreState) (a : ℕ) → is_below c.table.words_per_region c.marker.tams.previous a ≡ true
+    → is_marked c.marker.bitmaps.previous a ≡ false → kept_of c a ≡ None
+run_dead c a below unmarked = kept_by_parts c a
+    ∙ ap (λ (b : Bool). keeps b (is_marked c.marker.bitmaps.previous a) (object_at c.table a)) below
+    ∙ ap (λ (b : Bool). keeps true b (object_at c.table a)) unmarked
 
 -- its mark tells, where it lies below its region's top at mark start
-pub run_tells : (c : CoreState) (q : ℕ) (marked : Bool) → 0 < c.table.words_per_region → kind_of c.table q ≡ kinds.First → is_below c.table.words_per_region c.marker.tams.previous (q * c.table.words_per_region) ≡ true
-    → is_marked c.marker.bitmaps.previous (q * c.table.words_per_region) ≡ marked → IsTrue (not marked) ↔ (kept_of c (q * c.table.words_per_region) ≡ None)
+pub run_tells : (c : CoreState) (q : ℕ) (marked : Bool) → 0 < c.table.words_per_region → kind_of c.table q ≡ kinds.First
+    → is_below c.table.words_per_region c.marker.tams.previous (q * c.table.words_per_region) ≡ true
+    → is_marked c.marker.bitmaps.previous (q * c.table.words_per_region) ≡ marked
+    → IsTrue (not marked) ↔ (kept_of c (q * c.table.words_per_region) ≡ None)
 run_tells c q true z first below is = (λ h. absurd (let no : false ≡ true = h in cc), λ none. absurd (run_marked c q z first is none))
 run_tells c q false z first below is = (λ h. run_dead c (q * c.table.words_per_region) below is, λ none. refl)
 
@@ -54,28 +66,45 @@ run_tells c q false z first below is = (λ h. run_dead c (q * c.table.words_per_
 head_dead : (c : CoreState) (i k : ℕ) → IsShaped c.table → IsDeadHead c i → i ≤ k → k < i + run_length c.table i → IsDead c k
 head_dead c i k shaped (inl d) low high =
     let o = d.ordinary in
-    let one = alone c.table i shaped (λ e. let no : kinds.Ordinary ≡ kinds.First = sym o ∙ e in cc) (λ e. let no : kinds.Ordinary ≡ kinds.Rest = sym o ∙ e in cc) in
+    let one = alone c.table i shaped (λ e. let no : kinds.Ordinary ≡ kinds.First = sym o ∙ e in cc)
+    (λ e. let no : kinds.Ordinary ≡ kinds.Rest = sym o ∙ e in cc) in
     let same : k ≡ i = omega arith in
     inl (subst (λ (j : ℕ). IsDeadRegion c j) (sym same) d)
 head_dead c i k shaped (inr d) low high =
     let r = first_number c.table i d.0 in
-    inr (record { first = i; object = r.0; begins = r.1; low = low; reaches = reaches c.table i (k - i) r.0 shaped r.1 (omega arith); dead = d.1 })
+    inr (record {
+      first = i;
+      object = r.0;
+      begins = r.1;
+      low = low;
+      reaches = reaches c.table i (k - i) r.0 shaped r.1 (omega arith);
+      dead = d.1;
+    })
 
 -- and no others
-dead_head : (c : CoreState) (i k : ℕ) → IsShaped c.table → kind_of c.table i ≢ kinds.Rest → i ≤ k → k < i + run_length c.table i → IsDead c k → IsDeadHead c i
+dead_head : (c : CoreState) (i k : ℕ) → IsShaped c.table → kind_of c.table i ≢ kinds.Rest → i ≤ k
+    → k < i + run_length c.table i → IsDead c k → IsDeadHead c i
 dead_head c i k shaped head low high (inl d) = elim (cases_eq k i) [
   | inl same ↦ inl (subst (λ (j : ℕ). IsDeadRegion c j) same d)
-  | inr ne ↦ absurd (let o = d.ordinary in let rest = later_rest c.table i (k - i) k (omega arith) (omega arith) (omega arith) in let no : kinds.Rest ≡ kinds.Ordinary = sym rest ∙ o in cc)
+  | inr ne ↦ absurd (let o = d.ordinary in
+      let rest = later_rest c.table i (k - i) k (omega arith) (omega arith) (omega arith) in
+      let no : kinds.Rest ≡ kinds.Ordinary = sym rest ∙ o in
+      cc)
 ]
 dead_head c i k shaped head low high (inr d) = elim (cases_eq d.first i) [
-  | inl same ↦ inr (ap (kind_of c.table) (sym same) ∙ kind_is c.table d.first (First d.object) d.begins, ap (λ (j : ℕ). kept_of c (j * c.table.words_per_region)) (sym same) ∙ d.dead)
+  | inl same ↦ inr (
+    ap (kind_of c.table) (sym same) ∙ kind_is c.table d.first (First d.object) d.begins,
+    ap (λ (j : ℕ). kept_of c (j * c.table.words_per_region)) (sym same) ∙ d.dead,
+  )
   | inr ne ↦ absurd (elim (cases_lt d.first i) [
     | inl below ↦
         let at : d.first + (i - d.first) ≡ i = omega arith in
         let less = product_le (i - d.first) (k - d.first) c.table.words_per_region (omega arith) in
         let far = d.reaches in
         head (ap (kind_of c.table) (sym at) ∙ shaped.run d.first (i - d.first) d.object d.begins (omega arith) (omega arith))
-    | inr above ↦ (let low = d.low in first_not_rest c.table d.first d.object d.begins (later_rest c.table i (d.first - i) d.first (omega arith) (omega arith) (omega arith)))
+    | inr above ↦ (let low = d.low in
+        first_not_rest c.table d.first d.object d.begins
+        (later_rest c.table i (d.first - i) d.first (omega arith) (omega arith) (omega arith)))
   ])
 ]
 
@@ -88,7 +117,8 @@ changes_twice c0 c c' p r = record {
   kept = λ a. r.kept a ∙ p.kept a;
 }
 
-before_twice : (c0 c c' : CoreState) (k : ℕ) → c.table.words_per_region ≡ c0.table.words_per_region → IsAsBefore c0 c k → IsAsBefore c c' k → IsAsBefore c0 c' k
+before_twice : (c0 c c' : CoreState) (k : ℕ) → c.table.words_per_region ≡ c0.table.words_per_region → IsAsBefore c0 c k
+    → IsAsBefore c c' k → IsAsBefore c0 c' k
 before_twice c0 c c' k size p r = record {
   region = r.region ∙ p.region;
   set = r.set ∙ p.set;
@@ -100,19 +130,30 @@ before_twice c0 c c' k size p r = record {
   next_marks = λ a i. r.next_marks a (subst (λ (w : ℕ). is_in_region w k a ≡ true) (sym size) i) ∙ p.next_marks a i;
 }
 
-new_still : (c c' : CoreState) (k : ℕ) → c'.table.words_per_region ≡ c.table.words_per_region → length c'.sets.sets ≡ length c.sets.sets → IsAsNew c k → IsAsBefore c c' k → IsAsNew c' k
+new_still : (c c' : CoreState) (k : ℕ) → c'.table.words_per_region ≡ c.table.words_per_region → length c'.sets.sets ≡ length c.sets.sets
+    → IsAsNew c k → IsAsBefore c c' k → IsAsNew c' k
 new_still c c' k size sets p r = record {
   free = r.region ∙ p.free;
   set = r.set ∙ p.set ∙ ap empty_set (sym sets);
   entered = λ card own. let own' = ap (λ (n : ℕ). card / n) (sym r.cards) ∙ own in r.entered card own' ∙ p.entered card own';
   previous_top = r.previous_top ∙ p.previous_top ∙ ap (λ (w : ℕ). k * w) (sym size);
   next_top = r.next_top ∙ p.next_top ∙ ap (λ (w : ℕ). k * w) (sym size);
-  previous_marks = λ a i. let inside = subst (λ (w : ℕ). is_in_region w k a ≡ true) size i in r.previous_marks a inside ∙ p.previous_marks a inside;
+  previous_marks = λ a i. let inside = subst (λ (w : ℕ). is_in_region w k a ≡ true) size i in
+      r.previous_marks a inside ∙ p.previous_marks a inside;
   next_marks = λ a i. let inside = subst (λ (w : ℕ). is_in_region w k a ≡ true) size i in r.next_marks a inside ∙ p.next_marks a inside;
 }
 
 before_self : (c : CoreState) (k : ℕ) → IsAsBefore c c k
-before_self c k = record { region = refl; set = refl; cards = refl; entered = λ card own. refl; previous_top = refl; next_top = refl; previous_marks = λ a i. refl; next_marks = λ a i. refl }
+before_self c k = record {
+  region = refl;
+  set = refl;
+  cards = refl;
+  entered = λ card own. refl;
+  previous_top = refl;
+  next_top = refl;
+  previous_marks = λ a i. refl;
+  next_marks = λ a i. refl;
+}
 
 -- the dead ones among the first i regions
 pub record DeadBelow (i n : ℕ) (c : CoreState) : Type 0 where
@@ -123,7 +164,13 @@ pub record DeadBelow (i n : ℕ) (c : CoreState) : Type 0 where
   pub count : n ≡ length regions
 
 none_below : (c : CoreState) → DeadBelow 0 0 c
-none_below c = record { regions = []; distinct = λ p q k e f. absurd (nothing p k e); only = λ p k e. absurd (nothing p k e); each = λ k lt d. absurd (omega (arith, lt)); count = refl }
+none_below c = record {
+  regions = [];
+  distinct = λ p q k e f. absurd (nothing p k e);
+  only = λ p k e. absurd (nothing p k e);
+  each = λ k lt d. absurd (omega (arith, lt));
+  count = refl;
+}
   where
     nothing : (p k : ℕ) → slice_get [] p ≡ Some k → ⊥
     nothing p k e = let none : None ≡ Some k = e in cc
@@ -157,8 +204,10 @@ below_one i n c d dead = record {
 
     apart : (p q k : ℕ) → slice_get (i ∷ d.regions) p ≡ Some k → slice_get (i ∷ d.regions) q ≡ Some k → p ≡ q
     apart zero zero k e f = refl
-    apart zero (suc q) k e f = absurd (let is : Some i ≡ Some k = e in let there : slice_get d.regions q ≡ Some k = f in not_again q (there ∙ sym is))
-    apart (suc p) zero k e f = absurd (let is : Some i ≡ Some k = f in let there : slice_get d.regions p ≡ Some k = e in not_again p (there ∙ sym is))
+    apart zero (suc q) k e f =
+        absurd (let is : Some i ≡ Some k = e in let there : slice_get d.regions q ≡ Some k = f in not_again q (there ∙ sym is))
+    apart (suc p) zero k e f =
+        absurd (let is : Some i ≡ Some k = f in let there : slice_get d.regions p ≡ Some k = e in not_again p (there ∙ sym is))
     apart (suc p) (suc q) k e f = ap suc (d.distinct p q k e f)
 
     those : (p k : ℕ) → slice_get (i ∷ d.regions) p ≡ Some k → (k < i + 1) × IsDead c k
@@ -168,7 +217,8 @@ below_one i n c d dead = record {
 below_dead : (i n m : ℕ) (c : CoreState) → DeadBelow i n c → ((k : ℕ) → i ≤ k → k < i + m → IsDead c k) → DeadBelow (i + m) (n + m) c
 below_dead i n zero c d dead = subst (λ (j : ℕ). DeadBelow j (n + 0) c) (omega arith) (subst (λ (j : ℕ). DeadBelow i j c) (omega arith) d)
 below_dead i n (suc m) c d dead =
-    let more : DeadBelow (i + 1 + m) (n + 1 + m) c = below_dead (i + 1) (n + 1) m c (below_one i n c d (dead i (omega arith) (omega arith))) (λ k low high. dead k (omega arith) (omega arith)) in
+    let more : DeadBelow (i + 1 + m) (n + 1 + m) c = below_dead (i + 1) (n + 1) m c (below_one i n c d (dead i (omega arith) (omega arith)))
+    (λ k low high. dead k (omega arith) (omega arith)) in
     subst (λ (j : ℕ). DeadBelow j (n + suc m) c) (omega arith) (subst (λ (j : ℕ). DeadBelow (i + 1 + m) j c) (omega arith) more)
 
 -- so many of the first i regions were dead, and are as new; the others are as they were. No run reaches over region i
@@ -225,7 +275,8 @@ free_after t t' k e = ap region_kind e
 rest_of : (i n k : ℕ) (c0 c : CoreState) → Cleans i n c0 c → i ≤ k → nth_region c.table k ≡ nth_region c0.table k
 rest_of i n k c0 c p le = (p.others k (λ lt d. absurd (omega (arith, lt, le)))).region
 
-pub one_left : (i n m : ℕ) (c0 c : CoreState) → IsShaped c.table → Cleans i n c0 c → i < length c.table.regions → m ≡ run_length c.table i → (IsDeadHead c i → ⊥) → Cleans (i + m) n c0 c
+pub one_left : (i n m : ℕ) (c0 c : CoreState) → IsShaped c.table → Cleans i n c0 c → i < length c.table.regions → m ≡ run_length c.table i
+    → (IsDeadHead c i → ⊥) → Cleans (i + m) n c0 c
 one_left i n m c0 c shaped p known together alive = record {
   changes = p.changes;
   idle = p.idle;
@@ -256,10 +307,13 @@ used_now c i k dead low high free = elim (cases_eq k i) [
     | inl d ↦ (let o = d.ordinary in let no : kinds.Ordinary ≡ kinds.Free = sym o ∙ ap (kind_of c.table) (sym same) ∙ free in cc)
     | inr d ↦ (let o = d.0 in let no : kinds.First ≡ kinds.Free = sym o ∙ ap (kind_of c.table) (sym same) ∙ free in cc)
   ]
-  | inr ne ↦ (let rest = later_rest c.table i (k - i) k (omega arith) (omega arith) (omega arith) in let no : kinds.Rest ≡ kinds.Free = sym rest ∙ free in cc)
+  | inr ne ↦ (let rest = later_rest c.table i (k - i) k (omega arith) (omega arith) (omega arith) in
+      let no : kinds.Rest ≡ kinds.Free = sym rest ∙ free in
+      cc)
 ]
 
-pub one_cleaned : (i n m : ℕ) (c0 c c' : CoreState) → IsShaped c.table → Cleans i n c0 c → m ≡ run_length c.table i → IsDeadHead c i → HasReleased i m c c' → Cleans (i + m) (n + m) c0 c'
+pub one_cleaned : (i n m : ℕ) (c0 c c' : CoreState) → IsShaped c.table → Cleans i n c0 c → m ≡ run_length c.table i → IsDeadHead c i
+    → HasReleased i m c c' → Cleans (i + m) (n + m) c0 c'
 one_cleaned i n m c0 c c' shaped p together dead r = record {
   changes = changes_twice c0 c c' p.changes r.changes;
   idle = ap (λ (x : Marker). x.running) r.changes.marker ∙ p.idle;
@@ -268,11 +322,16 @@ one_cleaned i n m c0 c c' shaped p together dead r = record {
   done = λ k lt. elim (cases_lt k i) [
     | inl less ↦
         let same = kind_by c.table c'.table k (r.others k (inl less)).region in
-        let old = p.done k less in
-        (λ q. old.0 (record { used = q.used; free = sym same ∙ q.free }), λ d. let q = old.1 d in record { used = q.used; free = same ∙ q.free })
+        let old = p.done k less in (
+          λ q. old.0 (record { used = q.used; free = sym same ∙ q.free }),
+          λ d. let q = old.1 d in record { used = q.used; free = same ∙ q.free },
+        )
     | inr last ↦ (
       λ q. was_dead k last (omega arith),
-      λ d. record { used = λ free. used_now c i k dead last (omega arith) (kind_by c0.table c.table k (rest_of i n k c0 c p last) ∙ free); free = free_after c.table c'.table k (r.released k last lt).free },
+      λ d. record {
+        used = λ free. used_now c i k dead last (omega arith) (kind_by c0.table c.table k (rest_of i n k c0 c p last) ∙ free);
+        free = free_after c.table c'.table k (r.released k last lt).free;
+      },
     )
   ];
   dead = λ k lt d. elim (cases_lt k i) [
@@ -287,7 +346,8 @@ one_cleaned i n m c0 c c' shaped p together dead r = record {
       let step = r.dead k (inr le) in
       let old = p.rest_dead k (omega arith) in
       (λ d. old.0 (step.0 d), λ d. step.1 (old.1 d));
-  head = λ e. next_head c.table i (i + m) (omega arith) (sym (kind_by c.table c'.table (i + m) (r.others (i + m) (inr (omega arith))).region) ∙ e);
+  head = λ e.
+      next_head c.table i (i + m) (omega arith) (sym (kind_by c.table c'.table (i + m) (r.others (i + m) (inr (omega arith))).region) ∙ e);
   within = (let fits = r.within in let same = r.count in omega arith);
   counted = below_dead i n m c0 p.counted (λ k low high. was_dead k low (omega arith));
   few = (let few = p.few in omega arith);
@@ -322,10 +382,17 @@ all_cleaned i n c0 c shaped p le = record {
 }
   where
     none_past : (k : ℕ) → length c0.table.regions ≤ k → IsDead c0 k → ⊥
-    none_past k past (inl d) = let free = kind_is c0.table k Free (past_end c0.table k past) in let o = d.ordinary in let no : kinds.Ordinary ≡ kinds.Free = sym o ∙ free in cc
+    none_past k past (inl d) =
+        let free = kind_is c0.table k Free (past_end c0.table k past) in
+        let o = d.ordinary in
+        let no : kinds.Ordinary ≡ kinds.Free = sym o ∙ free in
+        cc
     none_past k past (inr d) =
         elim (cases_eq d.first k) [
-          | inl same ↦ (let free = past_end c0.table k past in let begins = d.begins in let no : First d.object ≡ Free = sym begins ∙ ap (nth_region c0.table) same ∙ free in cc)
+          | inl same ↦ (let free = past_end c0.table k past in
+              let begins = d.begins in
+              let no : First d.object ≡ Free = sym begins ∙ ap (nth_region c0.table) same ∙ free in
+              cc)
           | inr ne ↦
               let low = d.low in
               let at : d.first + (k - d.first) ≡ k = omega arith in

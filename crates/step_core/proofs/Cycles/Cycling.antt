@@ -37,13 +37,16 @@ unfolding kept_of
 can_begin k core = closed core.footing.graph (heap_of k) core.rests.shows.shows
 
 -- the same heap is shown
-shows_same : (c : CoreState) (b : Buffers) (m : Marker) → views.heap_of c.table c.roots m ≡ views.heap_of c.table c.roots c.marker → (g : Graph) → ShowsGraph g c → ShowsGraph g (with_marker c b m)
+shows_same : (c : CoreState) (b : Buffers) (m : Marker) → views.heap_of c.table c.roots m ≡ views.heap_of c.table c.roots c.marker
+    → (g : Graph) → ShowsGraph g c → ShowsGraph g (with_marker c b m)
 unfolding kept_of
 shows_same c b m e g s = record { room = s.room; places = s.places; next = s.next; shows = subst (λ (h : Heap). Shows g h) (sym e) s.shows }
 
-remembers_same : (c : CoreState) (b : Buffers) (m : Marker) → views.heap_of c.table c.roots m ≡ views.heap_of c.table c.roots c.marker → RemembersFields c → RemembersFields (with_marker c b m)
+remembers_same : (c : CoreState) (b : Buffers) (m : Marker) → views.heap_of c.table c.roots m ≡ views.heap_of c.table c.roots c.marker
+    → RemembersFields c → RemembersFields (with_marker c b m)
 unfolding kept_of
-remembers_same c b m e r = remembers_on c (with_marker c b m) refl refl refl refl (same_fields (kept_of c) (kept_of (with_marker c b m)) (λ a. ap (λ (h : Heap). h.kept a) e)) r
+remembers_same c b m e r = remembers_on c (with_marker c b m) refl refl refl refl
+    (same_fields (kept_of c) (kept_of (with_marker c b m)) (λ a. ap (λ (h : Heap). h.kept a) e)) r
 
 -- marking begins
 module _ (k : CoreState) (core : IsCore k) (b : Buffers) (m : Marker) (retires : b ≡ retired k.buffers)
@@ -51,7 +54,8 @@ module _ (k : CoreState) (core : IsCore k) (b : Buffers) (m : Marker) (retires :
     (above : (t : Table) (limit : ℕ → ℕ) → ((n : ℕ) → n < length t.regions → limit n ≤ top_of t n) → AreAbove t b limit)
     (st : MarkerStands k.table m) (running : m.running ≡ true) (logs : m.logs ≡ k.marker.logs)
     (tops : m.tams.previous ≡ k.marker.tams.previous) (marks : m.bitmaps.previous ≡ k.marker.bitmaps.previous)
-    (snapshot : (g : Graph) → Shows g (views.heap_of k.table k.roots k.marker) → KeepsSnapshot g (views.heap_of k.table k.roots m) (views.marking_of k.table m))
+    (snapshot : (g : Graph) → Shows g (views.heap_of k.table k.roots k.marker)
+    → KeepsSnapshot g (views.heap_of k.table k.roots m) (views.marking_of k.table m))
     (shaped : IsShaped k.table) (next_tops : (n : ℕ) → n < length k.table.regions → slice_index m.tams.next n ≡ top_of k.table n) where
   heap_begun : views.heap_of k.table k.roots m ≡ views.heap_of k.table k.roots k.marker
   heap_begun = previous_heap k.table k.roots k.marker m tops marks
@@ -63,7 +67,8 @@ module _ (k : CoreState) (core : IsCore k) (b : Buffers) (m : Marker) (retires :
   unfolding kept_of
   begun_keeps g s = record { earlier = (let next = s.next in omega arith); marking = λ run. snapshot g s.shows }
 
-  has_begun : Begins (views.heap_of k.table k.roots m) (views.marking_of k.table m) → m.scans ≡ restarted k.marker.scans → HasBegun k (with_marker k b m)
+  has_begun : Begins (views.heap_of k.table k.roots m) (views.marking_of k.table m)
+      → m.scans ≡ restarted k.marker.scans → HasBegun k (with_marker k b m)
   unfolding kept_of
   has_begun begins scans = record {
     same = ap (λ (x : Buffers). with_marker k x m) retires;
@@ -75,7 +80,8 @@ module _ (k : CoreState) (core : IsCore k) (b : Buffers) (m : Marker) (retires :
     previous_marks = marks;
   }
 
-  pub begun_from : (c : CoreState) → k ≡ c → Begins (views.heap_of k.table k.roots m) (views.marking_of k.table m) → m.scans ≡ restarted k.marker.scans → HasBegun c (with_marker k b m)
+  pub begun_from : (c : CoreState) → k ≡ c → Begins (views.heap_of k.table k.roots m) (views.marking_of k.table m)
+      → m.scans ≡ restarted k.marker.scans → HasBegun c (with_marker k b m)
   begun_from c e begins scans = subst (λ (d : CoreState). HasBegun d (with_marker k b m)) e (has_begun begins scans)
 
   pub begun_kept : IsCore (with_marker k b m)
@@ -86,7 +92,8 @@ module _ (k : CoreState) (core : IsCore k) (b : Buffers) (m : Marker) (retires :
       region_size = core.layers.region_size;
       region_count = core.layers.region_count;
       buffer_size = ap (λ (x : Buffers). x.words) retires ∙ core.layers.buffer_size;
-      open_buffers = ap (λ (x : Buffers). length x.open_buffers) retires ∙ length-replicate (length k.buffers.open_buffers) None ∙ core.layers.open_buffers;
+      open_buffers = ap (λ (x : Buffers). length x.open_buffers) retires
+          ∙ length-replicate (length k.buffers.open_buffers) None ∙ core.layers.open_buffers;
       logs = ap (λ (ls : List (List ℕ)). length ls) logs ∙ core.layers.logs;
       buffers = stand k.table core.layers.buffers;
       unmoved = core.layers.unmoved;
@@ -114,7 +121,8 @@ module _ (k : CoreState) (core : IsCore k) (b : Buffers) (m : Marker) (retires :
   }
 
 -- marking goes on
-module _ (k : CoreState) (core : IsCore k) (run : k.marker.running ≡ true) (m : Marker) (st : MarkerStands k.table m) (same : SameRoles k.marker m)
+module _ (k : CoreState) (core : IsCore k) (run : k.marker.running ≡ true) (m : Marker)
+    (st : MarkerStands k.table m) (same : SameRoles k.marker m)
     (snapshots : KeepsSnapshots k.table k.marker m) (logs : m.logs ≡ k.marker.logs) where
   heap_marked : views.heap_of k.table k.roots m ≡ views.heap_of k.table k.roots k.marker
   heap_marked = same_heap k.table k.roots k.marker m same
@@ -124,10 +132,14 @@ module _ (k : CoreState) (core : IsCore k) (run : k.marker.running ≡ true) (m 
 
   pub marked_keeps : (s : Graph) → KeepsFrom s k → KeepsFrom s (with_marker k k.buffers m)
   unfolding kept_of
-  marked_keeps s f = record { earlier = f.earlier; marking = λ on. snapshots s core.footing.graph k.roots core.rests.shows.shows (f.marking run) }
+  marked_keeps s f = record {
+    earlier = f.earlier;
+    marking = λ on. snapshots s core.footing.graph k.roots core.rests.shows.shows (f.marking run);
+  }
 
   has_marked : (units n : ℕ) → n ≤ units → (n < units → HasNone (is_grey m.bitmaps.next m.grey) 0) → IsMore k.marker.scans m.scans n
-      → marked_count m.grey.scanned ≡ marked_count k.marker.grey.scanned + n → Grows k.marker m → HasMarked units k (with_marker k k.buffers m)
+      → marked_count m.grey.scanned ≡ marked_count k.marker.grey.scanned + n → Grows k.marker m
+      → HasMarked units k (with_marker k k.buffers m)
   has_marked units n most none scans scanned grows = record {
     same = refl;
     units = n;
@@ -140,15 +152,19 @@ module _ (k : CoreState) (core : IsCore k) (run : k.marker.running ≡ true) (m 
     logs = logs;
   }
 
-  pub marked_from : (c : CoreState) → k ≡ c → (units n : ℕ) → n ≤ units → (n < units → HasNone (is_grey m.bitmaps.next m.grey) 0) → IsMore k.marker.scans m.scans n
-      → marked_count m.grey.scanned ≡ marked_count k.marker.grey.scanned + n → Grows k.marker m → HasMarked units c (with_marker k k.buffers m)
-  marked_from c e units n most none scans scanned grows = subst (λ (d : CoreState). HasMarked units d (with_marker k k.buffers m)) e (has_marked units n most none scans scanned grows)
+  pub marked_from : (c : CoreState) → k ≡ c → (units n : ℕ) → n ≤ units
+      → (n < units → HasNone (is_grey m.bitmaps.next m.grey) 0) → IsMore k.marker.scans m.scans n
+      → marked_count m.grey.scanned ≡ marked_count k.marker.grey.scanned + n → Grows k.marker m
+      → HasMarked units c (with_marker k k.buffers m)
+  marked_from c e units n most none scans scanned grows =
+      subst (λ (d : CoreState). HasMarked units d (with_marker k k.buffers m)) e (has_marked units n most none scans scanned grows)
 
   pub marked_kept : IsCore (with_marker k k.buffers m)
   marked_kept = record {
     suits = core.suits;
     placed = core.placed;
-    layers = layers_marked k.config k.table k.buffers k.marker m core.layers st same.tams (ap (λ (ls : List (List ℕ)). length ls) logs) (λ n. rw logs (core.layers.room n));
+    layers = layers_marked k.config k.table k.buffers k.marker m core.layers st same.tams
+        (ap (λ (ls : List (List ℕ)). length ls) logs) (λ n. rw logs (core.layers.room n));
     cards = core.cards;
     remembers = remembers_same k k.buffers m heap_marked core.remembers;
     room = core.room;
@@ -156,5 +172,10 @@ module _ (k : CoreState) (core : IsCore k) (run : k.marker.running ≡ true) (m 
     places = core.places;
     names = core.names;
     footing = core.footing;
-    rests = record { shows = marked_shows core.footing.graph core.rests.shows; keeps = marked_keeps core.footing.snapshot core.rests.keeps; sound = core.rests.sound; unreached = core.rests.unreached };
+    rests = record {
+      shows = marked_shows core.footing.graph core.rests.shows;
+      keeps = marked_keeps core.footing.snapshot core.rests.keeps;
+      sound = core.rests.sound;
+      unreached = core.rests.unreached;
+    };
   }

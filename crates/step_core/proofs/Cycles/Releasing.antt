@@ -1,5 +1,6 @@
 -- A dead region, or a dead run, is released.
-use Rattle.std.proofs.Common.{◌≡◌, ℕ, ◌+◌, ◌-◌, ◌*◌, ◌/◌, ◌<◌, ◌≤◌, ◌⊎◌, Bool, true, false, cond, List, Option, Some, None, length, refl, sym, ◌∙◌, ap, subst, arith, inl, inr}
+use Rattle.std.proofs.Common.{◌≡◌, ◌+◌, ◌-◌, ◌*◌, ◌/◌, ◌<◌, ◌≤◌, ◌⊎◌, ◌∙◌}
+use Rattle.std.proofs.Common.{ℕ, Bool, true, false, cond, List, Option, Some, None, length, refl, sym, ap, subst, arith, inl, inr}
 use Rattle.std.specs.Prelude.{◌↔◌, slice_get, slice_index, nat_lt}
 use Rattle.std.proofs.lemmas.Bool.{cases_eq}
 use Rattle.heap_model.specs.Graph.{Graph}
@@ -14,7 +15,9 @@ use Rattle.regions.specs.declared.row.Kind.TheVariants as kinds
 use Rattle.alloc_buffers.specs.Placement.{BuffersStand, AreAbove, IsAbove}
 use Rattle.alloc_buffers.proofs.Above.{stand_released}
 use Rattle.regions.proofs.Tiles.Spliced.{IsOutside}
-use Rattle.regions.proofs.LongRuns.Blocks.{Frees, kind_is, later_rest, first_not_rest, reached, alone, release_frees, object_near, object_gone, top_near, tile_near, block_cases, rest_void, first_void, first_no_filler, void_object}
+use Rattle.regions.proofs.LongRuns.Blocks.{Frees, kind_is, later_rest, first_not_rest, reached, alone}
+use Rattle.regions.proofs.LongRuns.Blocks.{release_frees, object_near, object_gone, top_near, tile_near}
+use Rattle.regions.proofs.LongRuns.Blocks.{block_cases, rest_void, first_void, first_no_filler, void_object}
 use Rattle.mark_bitmap.specs.Marks.{is_marked}
 use Rattle.mark_bitmap.specs.Tops.{is_below, is_in_region}
 use Rattle.mark_bitmap.specs.Live.{live_bound_of}
@@ -49,7 +52,9 @@ keeps_none true true = refl
 keeps_none true false = refl
 keeps_none false marked = refl
 
-pub kept_by_parts : (c : CoreState) (a : ℕ) → kept_of c a ≡ keeps (is_below c.table.words_per_region c.marker.tams.previous a) (is_marked c.marker.bitmaps.previous a) (object_at c.table a)
+pub kept_by_parts : (c : CoreState) (a : ℕ)
+    → kept_of c a
+    ≡ keeps (is_below c.table.words_per_region c.marker.tams.previous a) (is_marked c.marker.bitmaps.previous a) (object_at c.table a)
 unfolding kept_of
 kept_by_parts c a = refl
 
@@ -58,16 +63,21 @@ unfolding object_at
 object_there t a x e = object_tile (tile_in t a) x e
 
 kept_void : (c : CoreState) (a : ℕ) → object_at c.table a ≡ None → kept_of c a ≡ None
-kept_void c a e = kept_by_parts c a ∙ ap (keeps (is_below c.table.words_per_region c.marker.tams.previous a) (is_marked c.marker.bitmaps.previous a)) e ∙ keeps_none (is_below c.table.words_per_region c.marker.tams.previous a) (is_marked c.marker.bitmaps.previous a)
+kept_void c a e = kept_by_parts c a
+    ∙ ap (keeps (is_below c.table.words_per_region c.marker.tams.previous a) (is_marked c.marker.bitmaps.previous a)) e
+    ∙ keeps_none (is_below c.table.words_per_region c.marker.tams.previous a) (is_marked c.marker.bitmaps.previous a)
 
-below_near : (w w' : ℕ) (tops tops' : List ℕ) (a : ℕ) → w' ≡ w → slice_index tops' (a / w) ≡ slice_index tops (a / w) → is_below w' tops' a ≡ is_below w tops a
+below_near : (w w' : ℕ) (tops tops' : List ℕ) (a : ℕ) → w' ≡ w → slice_index tops' (a / w) ≡ slice_index tops (a / w)
+    → is_below w' tops' a ≡ is_below w tops a
 unfolding is_below
 below_near w w' tops tops' a e h = ap (λ (n : ℕ). nat_lt a (slice_index tops' (a / n))) e ∙ ap (λ (top : ℕ). nat_lt a top) h
 
 -- the region n of the core k is dead, and with it those that belong to it, m in all: their marks and tops are forgotten, their
 -- sets are emptied, and they are released
-module _ (k : CoreState) (core : IsCore k) (shaped : IsShaped k.table) (n m : ℕ) (known : n < length k.table.regions) (dead : IsDeadHead k n) (together : m ≡ run_length k.table n)
-    (mk : Marker) (idle : mk.running ≡ false) (st : MarkerStands k.table mk) (f : HasForgotten k.table.words_per_region n m k.marker mk) (ss : Sets) (empty : HasCleared n m k.sets ss) where
+module _ (k : CoreState) (core : IsCore k) (shaped : IsShaped k.table) (n m : ℕ) (known : n < length k.table.regions)
+    (dead : IsDeadHead k n) (together : m ≡ run_length k.table n)
+    (mk : Marker) (idle : mk.running ≡ false) (st : MarkerStands k.table mk) (f : HasForgotten k.table.words_per_region n m k.marker mk)
+    (ss : Sets) (empty : HasCleared n m k.sets ss) where
   abbrev after : CoreState
   after = record k { table = released k.table n; marker = mk; sets = ss }
 
@@ -85,7 +95,8 @@ module _ (k : CoreState) (core : IsCore k) (shaped : IsShaped k.table) (n m : �
   behind q low high = later_rest k.table n (q - n) q (omega arith) (omega arith) (omega (arith, together))
 
   by_itself : kind_of k.table n ≡ kinds.Ordinary → m ≡ 1
-  by_itself o = together ∙ alone k.table n shaped (λ e. let no : kinds.Ordinary ≡ kinds.First = sym o ∙ e in cc) (λ e. let no : kinds.Ordinary ≡ kinds.Rest = sym o ∙ e in cc)
+  by_itself o = together ∙ alone k.table n shaped (λ e. let no : kinds.Ordinary ≡ kinds.First = sym o ∙ e in cc)
+      (λ e. let no : kinds.Ordinary ≡ kinds.Rest = sym o ∙ e in cc)
 
   -- nothing of them was kept
   none_kept : (a : ℕ) → n ≤ a / size → a / size < n + m → kept_of k a ≡ None
@@ -94,8 +105,10 @@ module _ (k : CoreState) (core : IsCore k) (shaped : IsShaped k.table) (n m : �
     | inl d ↦
         let one = by_itself d.ordinary in
         let same : a / size ≡ n = omega arith in
-        let inside : is_in_region size n a ≡ true = ap (λ (j : ℕ). is_in_region size j a) (sym same) ∙ ranges.in_own_region size a shaped.positive in
-        dead_kept k.table k.marker.tams k.marker.bitmaps.previous n a shaped d.ordinary (dead_of_zero k.table k.marker.tams.previous k.marker.bitmaps.previous n core.layers.marker.previous known d.live_bound) inside
+        let inside : is_in_region size n a ≡ true =
+        ap (λ (j : ℕ). is_in_region size j a) (sym same) ∙ ranges.in_own_region size a shaped.positive in
+        dead_kept k.table k.marker.tams k.marker.bitmaps.previous n a shaped d.ordinary
+        (dead_of_zero k.table k.marker.tams.previous k.marker.bitmaps.previous n core.layers.marker.previous known d.live_bound) inside
     | inr d ↦ elim (cases_eq (a / size) n) [
       | inl same ↦ elim (cases_eq a (a / size * size)) [
         | inl bottom ↦ ap (kept_of k) (bottom ∙ ap (λ (j : ℕ). j * size) same) ∙ d.1
@@ -109,12 +122,17 @@ module _ (k : CoreState) (core : IsCore k) (shaped : IsShaped k.table) (n m : �
   kept_same a = elim (block_cases n m (a / size)) [
     | inl out ↦
         kept_by_parts after a
-        ∙ ap (λ (b : Bool). keeps b (is_marked mk.bitmaps.previous a) (object_at (released k.table n) a)) (below_near size (released k.table n).words_per_region k.marker.tams.previous mk.tams.previous a frees.size (f.previous_tops (a / size) out))
+        ∙ ap (λ (b : Bool). keeps b (is_marked mk.bitmaps.previous a) (object_at (released k.table n) a))
+        (below_near size (released k.table n).words_per_region k.marker.tams.previous mk.tams.previous a
+        frees.size (f.previous_tops (a / size) out))
         ∙ ap (λ (b : Bool). keeps (is_below size k.marker.tams.previous a) b (object_at (released k.table n) a)) (f.previous a out)
-        ∙ ap (keeps (is_below size k.marker.tams.previous a) (is_marked k.marker.bitmaps.previous a)) (object_near k.table (released k.table n) a frees.size (frees.others (a / size) out))
+        ∙ ap (keeps (is_below size k.marker.tams.previous a) (is_marked k.marker.bitmaps.previous a))
+        (object_near k.table (released k.table n) a frees.size (frees.others (a / size) out))
         ∙ sym (kept_by_parts k a)
     | inr q ↦
-        let gone : object_at (released k.table n) a ≡ None = object_gone (released k.table n) a (ap (λ (w : ℕ). nth_region (released k.table n) (a / w)) frees.size ∙ frees.free (a / size) q.0 q.1) in
+        let gone : object_at (released k.table n) a ≡ None =
+        object_gone (released k.table n) a
+        (ap (λ (w : ℕ). nth_region (released k.table n) (a / w)) frees.size ∙ frees.free (a / size) q.0 q.1) in
         kept_void after a gone ∙ sym (none_kept a q.0 q.1)
   ]
 
@@ -138,11 +156,17 @@ module _ (k : CoreState) (core : IsCore k) (shaped : IsShaped k.table) (n m : �
   pub release_stands : MarkerStands (released k.table n) mk
   release_stands = table_stands k.table (released k.table n) mk st frees.count frees.size
       (λ j lt. elim (block_cases n m j) [
-        | inl out ↦ let top = st.previous.top j lt in let same = top_near k.table (released k.table n) j frees.size (frees.others j out) in omega (arith, top, same)
+        | inl out ↦
+            let top = st.previous.top j lt in
+            let same = top_near k.table (released k.table n) j frees.size (frees.others j out) in
+            omega (arith, top, same)
         | inr q ↦ let low = f.low_previous j q.0 q.1 in let b = bottom_same j in omega (arith, low, b)
       ])
       (λ j lt. elim (block_cases n m j) [
-        | inl out ↦ let top = st.next.top j lt in let same = top_near k.table (released k.table n) j frees.size (frees.others j out) in omega (arith, top, same)
+        | inl out ↦
+            let top = st.next.top j lt in
+            let same = top_near k.table (released k.table n) j frees.size (frees.others j out) in
+            omega (arith, top, same)
         | inr q ↦ let low = f.low_next j q.0 q.1 in let b = bottom_same j in omega (arith, low, b)
       ])
       (λ a x marked o. elim (block_cases n m (a / size)) [
@@ -154,20 +178,27 @@ module _ (k : CoreState) (core : IsCore k) (shaped : IsShaped k.table) (n m : �
         | inr q ↦ absurd (let no = f.no_next a q.0 q.1 in cc)
       ])
       (λ a marked. elim (block_cases n m (a / size)) [
-        | inl out ↦ words_by k.table (released k.table n) a (object_near k.table (released k.table n) a frees.size (frees.others (a / size) out))
+        | inl out ↦
+            words_by k.table (released k.table n) a (object_near k.table (released k.table n) a frees.size (frees.others (a / size) out))
         | inr q ↦ absurd (let no = f.no_previous a q.0 q.1 in cc)
       ])
       (λ a marked. elim (block_cases n m (a / size)) [
-        | inl out ↦ words_by k.table (released k.table n) a (object_near k.table (released k.table n) a frees.size (frees.others (a / size) out))
+        | inl out ↦
+            words_by k.table (released k.table n) a (object_near k.table (released k.table n) a frees.size (frees.others (a / size) out))
         | inr q ↦ absurd (let no = f.no_next a q.0 q.1 in cc)
       ])
       (λ on. absurd (let e = idle in cc))
 
   -- what lay above the tops at mark start still does
-  above_after : (limit limit' : ℕ → ℕ) → ((j : ℕ) → n ≤ j → j < n + m → limit' j ≡ j * size) → ((j : ℕ) → IsOutside n m j → limit' j ≡ limit j) → AreAbove k.table k.buffers limit → AreAbove (released k.table n) k.buffers limit'
+  above_after : (limit limit' : ℕ → ℕ) → ((j : ℕ) → n ≤ j → j < n + m → limit' j ≡ j * size)
+      → ((j : ℕ) → IsOutside n m j → limit' j ≡ limit j) → AreAbove k.table k.buffers limit → AreAbove (released k.table n) k.buffers limit'
   above_after limit limit' low same above = record {
     tops = λ j lt. elim (block_cases n m j) [
-      | inl out ↦ let was = above.tops j (let c = frees.count in omega arith) in let top = top_near k.table (released k.table n) j frees.size (frees.others j out) in let e = same j out in omega (arith, was, top, e)
+      | inl out ↦
+          let was = above.tops j (let c = frees.count in omega arith) in
+          let top = top_near k.table (released k.table n) j frees.size (frees.others j out) in
+          let e = same j out in
+          omega (arith, was, top, e)
       | inr q ↦ let e = low j q.0 q.1 in let b = bottom_same j in omega (arith, e, b)
     ];
     buffers = λ i x e. subst (λ (w : ℕ). IsAbove w limit' x.next) (sym frees.size) (λ j jl jh. elim (block_cases n m j) [
@@ -181,7 +212,8 @@ module _ (k : CoreState) (core : IsCore k) (shaped : IsShaped k.table) (n m : �
   buffers_after = elim dead [
     | inl d ↦
         let gone = dead_of_zero k.table k.marker.tams.previous k.marker.bitmaps.previous n core.layers.marker.previous known d.live_bound in
-        stand_released k.table k.buffers (slice_index k.marker.tams.previous) n shaped core.layers.buffers core.layers.above_previous known d.ordinary gone.top d.other
+        stand_released k.table k.buffers (slice_index k.marker.tams.previous) n shaped core.layers.buffers
+        core.layers.above_previous known d.ordinary gone.top d.other
     | inr d ↦ record {
       known = λ j e. let lt = core.layers.buffers.known j e in let c = frees.count in omega (arith, lt, c);
       ordinary = λ j e.
@@ -193,7 +225,10 @@ module _ (k : CoreState) (core : IsCore k) (shaped : IsShaped k.table) (n m : �
       fillers = λ i x e.
           let w = core.layers.buffers.fillers i x e in
           elim (block_cases n m (x.next / size)) [
-            | inl out ↦ record { positive = w.positive; filler = tile_near k.table (released k.table n) x.next frees.size (frees.others (x.next / size) out) ∙ w.filler }
+            | inl out ↦ record {
+              positive = w.positive;
+              filler = tile_near k.table (released k.table n) x.next frees.size (frees.others (x.next / size) out) ∙ w.filler;
+            }
             | inr q ↦ absurd (no_filler d.0 x.next x.rest q.0 q.1 w.filler)
           ];
       apart = core.layers.buffers.apart;
@@ -201,7 +236,8 @@ module _ (k : CoreState) (core : IsCore k) (shaped : IsShaped k.table) (n m : �
   ]
     where
       kind_near : (j : ℕ) → IsOutside n m j → kind_of (released k.table n) j ≡ kind_of k.table j
-      kind_near j out = kind_is (released k.table n) j (nth_region k.table j) (frees.others j out) ∙ sym (kind_is k.table j (nth_region k.table j) refl)
+      kind_near j out =
+          kind_is (released k.table n) j (nth_region k.table j) (frees.others j out) ∙ sym (kind_is k.table j (nth_region k.table j) refl)
 
       not_ordinary : kind_of k.table n ≡ kinds.First → (j : ℕ) → n ≤ j → j < n + m → kind_of k.table j ≡ kinds.Ordinary → ⊥
       not_ordinary first j low high o = elim (cases_eq j n) [
@@ -209,14 +245,16 @@ module _ (k : CoreState) (core : IsCore k) (shaped : IsShaped k.table) (n m : �
         | inr ne ↦ (let rest = behind j (omega arith) high in let no : kinds.Rest ≡ kinds.Ordinary = sym rest ∙ o in cc)
       ]
 
-      no_filler : kind_of k.table n ≡ kinds.First → (a rest : ℕ) → n ≤ a / size → a / size < n + m → tile_in k.table a ≡ Some (Filler rest) → ⊥
+      no_filler : kind_of k.table n ≡ kinds.First → (a rest : ℕ) → n ≤ a / size → a / size < n + m
+          → tile_in k.table a ≡ Some (Filler rest) → ⊥
       no_filler first a rest low high e = elim (cases_eq (a / size) n) [
         | inl same ↦ first_no_filler k.table a rest (ap (kind_of k.table) same ∙ first) e
         | inr ne ↦ (let void = rest_void k.table a (behind (a / size) (omega arith) high) in cc)
       ]
 
   -- a field of a kept object lies in a region that stays
-  field_stays : (at index : ℕ) (x : Stored) (v : Option ℕ) → kept_of after at ≡ Some x → slice_get (fields x) index ≡ Some v → IsOutside n m (field_word at index / size)
+  field_stays : (at index : ℕ) (x : Stored) (v : Option ℕ) → kept_of after at ≡ Some x → slice_get (fields x) index ≡ Some v
+      → IsOutside n m (field_word at index / size)
   unfolding kept_of
   field_stays at index x v kept_is field_is =
       let here : kept_of k at ≡ Some x = sym (kept_same at) ∙ kept_is in
@@ -251,10 +289,12 @@ module _ (k : CoreState) (core : IsCore k) (shaped : IsShaped k.table) (n m : �
   field_entered at index x v kept_is field_is =
       let whole : size ≡ k.sets.cards_per_region * card_words k.config = core.layers.region_size ∙ core.cards.whole_cards in
       let own = region_of_card size (card_words k.config) k.sets.cards_per_region (field_word at index) shaped.positive whole in
-      empty.other_cards (field_card (card_words k.config) at index) (subst (λ (q : ℕ). IsOutside n m q) (sym own) (field_stays at index x v kept_is field_is))
+      empty.other_cards (field_card (card_words k.config) at index)
+      (subst (λ (q : ℕ). IsOutside n m q) (sym own) (field_stays at index x v kept_is field_is))
 
   covers_others : (r card : ℕ) → IsOutside n m r → covers k.sets r card ≡ true → covers ss r card ≡ true
-  covers_others r card out e = ap (λ (x : CardSet). set_covers x card (card / ss.cards_per_region)) (empty.others r out) ∙ ap (λ (c : ℕ). set_covers (set_of k.sets r) card (card / c)) empty.cards ∙ e
+  covers_others r card out e = ap (λ (x : CardSet). set_covers x card (card / ss.cards_per_region)) (empty.others r out)
+      ∙ ap (λ (c : ℕ). set_covers (set_of k.sets r) card (card / c)) empty.cards ∙ e
 
   remembers_after : RemembersFields after
   remembers_after =
@@ -262,7 +302,8 @@ module _ (k : CoreState) (core : IsCore k) (shaped : IsShaped k.table) (n m : �
       let field = closed core.footing.graph (heap_of after) shows.shows in
       subst (λ (w : ℕ). Remembers w (kept_of after) (card_words k.config) (is_dirty k.cards) (may_lead ss)) (sym frees.size) (record {
         each = λ at index target x.
-            let old = core.remembers.each at index target (record { object = x.object; kept_is = sym (kept_same at) ∙ x.kept_is; field_is = x.field_is; leaves = x.leaves }) in
+            let old = core.remembers.each at index target
+            (record { object = x.object; kept_is = sym (kept_same at) ∙ x.kept_is; field_is = x.field_is; leaves = x.leaves }) in
             let there = field.field at index target x.object x.kept_is x.field_is in
             elim old [
               | inl dirty ↦ inl dirty
@@ -271,7 +312,8 @@ module _ (k : CoreState) (core : IsCore k) (shaped : IsShaped k.table) (n m : �
                     let card : ℕ = field_card (card_words k.config) at index in
                     let is_in = right_true (covers k.sets (target / size) card) (has k.sets.entered card) covered in
                     inr (both_true (covers ss (target / size) card) (has ss.entered card)
-                    (covers_others (target / size) card out (left_true (covers k.sets (target / size) card) (has k.sets.entered card) covered))
+                    (covers_others (target / size) card out
+                    (left_true (covers k.sets (target / size) card) (has k.sets.entered card) covered))
                     (field_entered at index x.object (Some target) x.kept_is x.field_is ∙ is_in))
                 | inr q ↦ absurd (let none = none_there target q.0 q.1 in let kept = there.1 in cc)
               ]
@@ -282,25 +324,32 @@ module _ (k : CoreState) (core : IsCore k) (shaped : IsShaped k.table) (n m : �
   cards_fit = record {
     whole_cards = core.cards.whole_cards ∙ ap (λ (c : ℕ). c * card_words k.config) (sym empty.cards);
     each_region = empty.count ∙ core.cards.each_region;
-    each_card = core.cards.each_card ∙ ap (λ (c : ℕ). c * k.sets.cards_per_region) (sym empty.count) ∙ ap (λ (c : ℕ). length ss.sets * c) (sym empty.cards);
+    each_card = core.cards.each_card ∙ ap (λ (c : ℕ). c * k.sets.cards_per_region) (sym empty.count)
+        ∙ ap (λ (c : ℕ). length ss.sets * c) (sym empty.cards);
     each_mutator = core.cards.each_mutator;
   }
 
   kind_other : (j : ℕ) → IsOutside n m j → kind_of (released k.table n) j ≡ kind_of k.table j
-  kind_other j out = kind_is (released k.table n) j (nth_region k.table j) (frees.others j out) ∙ sym (kind_is k.table j (nth_region k.table j) refl)
+  kind_other j out =
+      kind_is (released k.table n) j (nth_region k.table j) (frees.others j out) ∙ sym (kind_is k.table j (nth_region k.table j) refl)
 
   -- a region that is ordinary afterwards is another one, and was so with the same objects
   still_ordinary : (j : ℕ) → kind_of (released k.table n) j ≡ kinds.Ordinary → IsOutside n m j
   still_ordinary j o = elim (block_cases n m j) [
     | inl out ↦ out
-    | inr q ↦ absurd (let free = kind_is (released k.table n) j Free (frees.free j q.0 q.1) in let no : kinds.Free ≡ kinds.Ordinary = sym free ∙ o in cc)
+    | inr q ↦ absurd (let free = kind_is (released k.table n) j Free (frees.free j q.0 q.1) in
+        let no : kinds.Free ≡ kinds.Ordinary = sym free ∙ o in
+        cc)
   ]
 
-  left : (j a : ℕ) → kind_of (released k.table n) j ≡ kinds.Ordinary → is_in_region size j a ≡ true → (kind_of k.table j ≡ kinds.Ordinary) × (object_words (released k.table n) a ≡ object_words k.table a)
+  left : (j a : ℕ) → kind_of (released k.table n) j ≡ kinds.Ordinary → is_in_region size j a ≡ true
+      → (kind_of k.table j ≡ kinds.Ordinary) × (object_words (released k.table n) a ≡ object_words k.table a)
   left j a o inside =
       let out = still_ordinary j o in
-      let at : IsOutside n m (a / size) = subst (λ (q : ℕ). IsOutside n m q) (sym (ranges.nth_region size j a inside)) out in
-      (sym (kind_other j out) ∙ o, words_by k.table (released k.table n) a (object_near k.table (released k.table n) a frees.size (frees.others (a / size) at)))
+      let at : IsOutside n m (a / size) = subst (λ (q : ℕ). IsOutside n m q) (sym (ranges.nth_region size j a inside)) out in (
+        sym (kind_other j out) ∙ o,
+        words_by k.table (released k.table n) a (object_near k.table (released k.table n) a frees.size (frees.others (a / size) at)),
+      )
 
   pub release_kept : IsCore after
   release_kept = record {
@@ -315,12 +364,15 @@ module _ (k : CoreState) (core : IsCore k) (shaped : IsShaped k.table) (n m : �
       buffers = buffers_after;
       unmoved = frees.unmoved core.layers.unmoved;
       marker = release_stands;
-      above_previous = above_after (slice_index k.marker.tams.previous) (slice_index mk.tams.previous) f.low_previous f.previous_tops core.layers.above_previous;
+      above_previous = above_after (slice_index k.marker.tams.previous) (slice_index mk.tams.previous) f.low_previous
+          f.previous_tops core.layers.above_previous;
       above_next = above_after (slice_index k.marker.tams.next) (slice_index mk.tams.next) f.low_next f.next_tops core.layers.above_next;
       room = λ i. rw (ap (λ (x : Marker). x.logs) f.same) (core.layers.room i);
       halves = halves_left k.table (released k.table n) shaped.positive frees.size left core.layers.halves;
-      ends_previous = ends_left k.table (released k.table n) k.marker.tams.previous mk.tams.previous frees.size left (λ j o. f.previous_tops j (still_ordinary j o)) core.layers.ends_previous;
-      ends_next = ends_left k.table (released k.table n) k.marker.tams.next mk.tams.next frees.size left (λ j o. f.next_tops j (still_ordinary j o)) core.layers.ends_next;
+      ends_previous = ends_left k.table (released k.table n) k.marker.tams.previous mk.tams.previous frees.size left
+          (λ j o. f.previous_tops j (still_ordinary j o)) core.layers.ends_previous;
+      ends_next = ends_left k.table (released k.table n) k.marker.tams.next mk.tams.next frees.size left
+          (λ j o. f.next_tops j (still_ordinary j o)) core.layers.ends_next;
     };
     cards = cards_fit;
     remembers = remembers_after;
@@ -329,13 +381,20 @@ module _ (k : CoreState) (core : IsCore k) (shaped : IsShaped k.table) (n m : �
     places = core.places;
     names = core.names;
     footing = core.footing;
-    rests = record { shows = release_shows core.footing.graph core.rests.shows; keeps = release_keeps core.footing.snapshot core.rests.keeps; sound = core.rests.sound; unreached = core.rests.unreached };
+    rests = record {
+      shows = release_shows core.footing.graph core.rests.shows;
+      keeps = release_keeps core.footing.snapshot core.rests.keeps;
+      sound = core.rests.sound;
+      unreached = core.rests.unreached;
+    };
   }
 
   -- the live bounds of the other regions
-  bound_other : (j : ℕ) → IsOutside n m j → live_bound_of (released k.table n) mk.tams.previous mk.bitmaps.previous j ≡ live_bound_of k.table k.marker.tams.previous k.marker.bitmaps.previous j
+  bound_other : (j : ℕ) → IsOutside n m j → live_bound_of (released k.table n) mk.tams.previous mk.bitmaps.previous j
+      ≡ live_bound_of k.table k.marker.tams.previous k.marker.bitmaps.previous j
   bound_other j out =
-      same_bound k.table (released k.table n) k.marker.tams.previous mk.tams.previous k.marker.bitmaps.previous mk.bitmaps.previous j shaped frees.size (frees.others j out) (f.previous_tops j out)
+      same_bound k.table (released k.table n) k.marker.tams.previous mk.tams.previous k.marker.bitmaps.previous mk.bitmaps.previous j shaped
+      frees.size (frees.others j out) (f.previous_tops j out)
       (λ a i. f.previous a (subst (λ (q : ℕ). IsOutside n m q) (sym (ranges.nth_region size j a i)) out)) core.layers.marker.previous
 
   region_other : (j : ℕ) → IsOutside n m j → IsDeadRegion after j ↔ IsDeadRegion k j
@@ -355,7 +414,10 @@ module _ (k : CoreState) (core : IsCore k) (shaped : IsShaped k.table) (n m : �
         reaches = (let e = ap (λ (w : ℕ). (j - d.first) * w) frees.size in let r = d.reaches in omega (arith, e, r));
         dead = ap (kept_of k) (sym (bottom_same d.first)) ∙ sym (kept_same (d.first * (released k.table n).words_per_region)) ∙ d.dead;
       }
-      | inr q ↦ absurd (let gone = frees.free d.first q.0 q.1 in let begins = d.begins in let no : Free ≡ First d.object = sym gone ∙ begins in cc)
+      | inr q ↦ absurd (let gone = frees.free d.first q.0 q.1 in
+          let begins = d.begins in
+          let no : Free ≡ First d.object = sym gone ∙ begins in
+          cc)
     ],
     λ d. elim (block_cases n m d.first) [
       | inl away ↦ record {

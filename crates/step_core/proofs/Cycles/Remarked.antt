@@ -1,5 +1,7 @@
 -- Marking ends in a core, and weak slots are cleared: k is the core by its fields before that.
-use Rattle.std.proofs.Common.{◌≡◌, ℕ, zero, suc, ◌+◌, ◌≤◌, ◌⊎◌, Bool, true, false, List, [], ◌∷◌, ◌++◌, Option, Some, None, length, map, refl, sym, ◌∙◌, ap, subst, arith, inl, inr}
+use Rattle.std.proofs.Common.{◌≡◌, ◌+◌, ◌≤◌, ◌⊎◌, ◌∷◌, ◌++◌, ◌∙◌}
+use Rattle.std.proofs.Common.{ℕ, zero, suc, Bool, true, false, List, [], Option, Some, None}
+use Rattle.std.proofs.Common.{length, map, refl, sym, ap, subst, arith, inl, inr}
 use Rattle.std.specs.Prelude.{slice_get, slice_index, if◌then◌else◌}
 use Rattle.std.proofs.lemmas.List.{length-map}
 use Rattle.heap_model.specs.Graph.{Graph}
@@ -49,12 +51,14 @@ word_was m (Some a) v e = go (m.old a) (m.marked a) e
     go true false q = cc
     go false marked q = q
 
-slots_were : (m : Marking) (ws : List (Option ℕ)) (i v : ℕ) → slice_get (map (cleared_word m) ws) i ≡ Some (Some v) → slice_get ws i ≡ Some (Some v)
+slots_were : (m : Marking) (ws : List (Option ℕ)) (i v : ℕ)
+    → slice_get (map (cleared_word m) ws) i ≡ Some (Some v) → slice_get ws i ≡ Some (Some v)
 slots_were m [] i v e = cc
 slots_were m (w ∷ ws) zero v e = ap Some (word_was m w v (let q : cleared_word m w ≡ Some v = cc in q))
 slots_were m (w ∷ ws) (suc i) v e = slots_were m ws i v e
 
-fields_were : (m : Marking) (ps ws : List (Option ℕ)) (i v : ℕ) → slice_get (ps ++ map (cleared_word m) ws) i ≡ Some (Some v) → slice_get (ps ++ ws) i ≡ Some (Some v)
+fields_were : (m : Marking) (ps ws : List (Option ℕ)) (i v : ℕ) → slice_get (ps ++ map (cleared_word m) ws) i ≡ Some (Some v)
+    → slice_get (ps ++ ws) i ≡ Some (Some v)
 fields_were m [] ws i v e = slots_were m ws i v e
 fields_were m (p ∷ ps) ws zero v e = e
 fields_were m (p ∷ ps) ws (suc i) v e = fields_were m ps ws i v e
@@ -94,10 +98,12 @@ module _ (m : Marking) (t t' : Table) (c : ClearsTable m t t') where
       none_before None e none = words_none t' a none ∙ sym (words_none t a e)
       none_before (Some x) e none = absurd (
           elim (bool_cases (m.marked a)) [
-            | inl marked ↦ (let is = c.kept a (inl marked) in let q : None ≡ cleared_object m (Some x) = sym none ∙ is ∙ ap (cleared_object m) e in cc)
+            | inl marked ↦
+                (let is = c.kept a (inl marked) in let q : None ≡ cleared_object m (Some x) = sym none ∙ is ∙ ap (cleared_object m) e in cc)
             | inr unmarked ↦ elim (bool_cases (m.old a)) [
               | inl old ↦ (let is = c.dead a unmarked old in let q : None ≡ Some x = sym none ∙ is ∙ e in cc)
-              | inr new ↦ (let is = c.kept a (inr new) in let q : None ≡ cleared_object m (Some x) = sym none ∙ is ∙ ap (cleared_object m) e in cc)
+              | inr new ↦
+                  (let is = c.kept a (inr new) in let q : None ≡ cleared_object m (Some x) = sym none ∙ is ∙ ap (cleared_object m) e in cc)
             ]
           ])
 
@@ -105,7 +111,10 @@ module _ (m : Marking) (t t' : Table) (c : ClearsTable m t t') where
       go None e = none_before (object_at t a) refl e
       go (Some y) e =
           let w = was_object m t t' a y c e in
-          words_are t' a y e ∙ elim w.is [ inl q ↦ ap (λ (z : Stored). tile_size (Object z)) q | inr q ↦ ap (λ (z : Stored). tile_size (Object z)) q ∙ cleared_size m w.before ] ∙ sym (words_are t a w.before w.was)
+          words_are t' a y e ∙ elim w.is [
+            | inl q ↦ ap (λ (z : Stored). tile_size (Object z)) q
+            | inr q ↦ ap (λ (z : Stored). tile_size (Object z)) q ∙ cleared_size m w.before
+          ] ∙ sym (words_are t a w.before w.was)
 
   above_cleared : (b : Buffers) (limit : ℕ → ℕ) → AreAbove t b limit → AreAbove t' b limit
   above_cleared b limit above = record {
@@ -114,11 +123,14 @@ module _ (m : Marking) (t t' : Table) (c : ClearsTable m t t') where
   }
 
   buffers_cleared : (b : Buffers) → BuffersStand t b → BuffersStand t' b
-  buffers_cleared b s = stand_same t t' b c.count c.kinds (λ i x e. let f = s.fillers i x e in c.tiles x.next (object_none t x.next x.rest f.filler)) s
+  buffers_cleared b s =
+      stand_same t t' b c.count c.kinds (λ i x e. let f = s.fillers i x e in c.tiles x.next (object_none t x.next x.rest f.filler)) s
 
 -- marking ends
-module _ (k : CoreState) (core : IsCore k) (run : k.marker.running ≡ true) (t : Table) (m : Marker) (n : ℕ) (st : MarkerStands t m) (over : m.running ≡ false)
-    (exact : EndsExactly k.table t k.marker m n) (clears : ClearsTable (views.marking_of k.table (views.with_roles_exchanged m)) k.table t) (tops : m.tams ≡ exchanged k.marker.tams) (logs : length m.logs ≡ length k.marker.logs) where
+module _ (k : CoreState) (core : IsCore k) (run : k.marker.running ≡ true) (t : Table) (m : Marker) (n : ℕ)
+    (st : MarkerStands t m) (over : m.running ≡ false) (exact : EndsExactly k.table t k.marker m n)
+    (clears : ClearsTable (views.marking_of k.table (views.with_roles_exchanged m)) k.table t) (tops : m.tams ≡ exchanged k.marker.tams)
+    (logs : length m.logs ≡ length k.marker.logs) where
   abbrev after : CoreState
   after = record k { table = t; marker = m }
 
@@ -150,7 +162,8 @@ module _ (k : CoreState) (core : IsCore k) (run : k.marker.running ≡ true) (t 
   own = exact.ends core.footing.snapshot core.footing.graph k.roots core.rests.shows.shows (core.rests.keeps.marking run)
 
   -- what is kept then was kept before, and its fields are nil or as they were
-  was_crossing : (a i v : ℕ) → IsCrossing k.table.words_per_region (kept_of after) a i v → IsCrossing k.table.words_per_region (kept_of k) a i v
+  was_crossing : (a i v : ℕ) → IsCrossing k.table.words_per_region (kept_of after) a i v
+      → IsCrossing k.table.words_per_region (kept_of k) a i v
   unfolding kept_of
   was_crossing a i v x =
       let w = own.kept a x.object x.kept_is in
@@ -161,18 +174,22 @@ module _ (k : CoreState) (core : IsCore k) (run : k.marker.running ≡ true) (t 
         kept_is = w.was;
         field_is = subst (λ (z : Stored). slice_get (fields z) i ≡ Some (Some v)) same (elim o.is [
           | inl q ↦ subst (λ (z : Stored). slice_get (fields z) i ≡ Some (Some v)) q x.field_is
-          | inr q ↦ fields_were marks o.before.pointers o.before.weaks i v (subst (λ (z : Stored). slice_get (fields z) i ≡ Some (Some v)) q x.field_is)
+          | inr q ↦ fields_were marks o.before.pointers o.before.weaks i v
+              (subst (λ (z : Stored). slice_get (fields z) i ≡ Some (Some v)) q x.field_is)
         ]);
         leaves = x.leaves;
       }
 
   remarked_remembers : RemembersFields after
-  remarked_remembers = subst (λ (words : ℕ). Remembers words (kept_of after) (card_words k.config) (is_dirty k.cards) (may_lead k.sets)) (sym clears.size)
+  remarked_remembers =
+      subst (λ (words : ℕ). Remembers words (kept_of after) (card_words k.config) (is_dirty k.cards) (may_lead k.sets)) (sym clears.size)
       (record { each = λ a i v x. core.remembers.each a i v (was_crossing a i v x) })
 
-  module _ (scans : m.scans.since ≡ n) (counted : m.scans.since ≡ marked_count m.grey.scanned) (work : ScansMore k.marker m) (scanned : (a : ℕ) → is_marked k.marker.grey.scanned a ≡ true → is_marked m.grey.scanned a ≡ true)
+  module _ (scans : m.scans.since ≡ n) (counted : m.scans.since ≡ marked_count m.grey.scanned) (work : ScansMore k.marker m)
+      (scanned : (a : ℕ) → is_marked k.marker.grey.scanned a ≡ true → is_marked m.grey.scanned a ≡ true)
       (previous : m.bitmaps.next ≡ k.marker.bitmaps.previous) where
-    ends_for : (sn : Option Graph) (g : Graph) → ShowsGraph g k → KeepsFor sn k → ForSnapshot sn (λ s. EndsMarking s g k.table t k.roots k.marker m n)
+    ends_for : (sn : Option Graph) (g : Graph) → ShowsGraph g k → KeepsFor sn k
+        → ForSnapshot sn (λ s. EndsMarking s g k.table t k.roots k.marker m n)
     unfolding kept_of
     ends_for None g shows keeps = tt
     ends_for (Some s) g shows keeps = exact.ends s g k.roots shows.shows (keeps.1.marking run)

@@ -21,47 +21,61 @@ use Rattle.heap_steps.specs.declared.step.Refusal.TheVariants as refusals
 use Rattle.heap_steps.specs.declared.step.Register.{Register}
 use Rattle.step_core.specs.Stands.{CoreState, kept_of, heap_of, ShowsGraph, IsCore, IsWordOf, HasObject, Leads, name_in}
 use Rattle.step_core.specs.Answers.{Acts}
-use Rattle.step_core.proofs.Mutating.Reading.{field_shown, slot_shown, no_field, no_slot, no_value, shown_name, object_kept, pointers_there, weaks_there, AllZip-length}
+use Rattle.step_core.proofs.Mutating.Reading.{field_shown, slot_shown, no_field, no_slot, no_value, shown_name}
+use Rattle.step_core.proofs.Mutating.Reading.{object_kept, pointers_there, weaks_there, AllZip-length}
 use Rattle.step_core.proofs.Mutating.Written.{SamePlaces, object_written}
 
-pub acts_by : (g : Graph) (m : ℕ) (a : Action) (reply : Reply) (c : CoreState) (out : Outcome) → act g m a ≡ out → reply ≡ out.0 → ShowsGraph out.1 c → Acts g m a reply c
-acts_by g m a reply c out e r s = record { reply_is = r ∙ sym (ap (λ (o : Outcome). o.0) e); shows = subst (λ (o : Outcome). ShowsGraph o.1 c) (sym e) s }
+pub acts_by : (g : Graph) (m : ℕ) (a : Action) (reply : Reply) (c : CoreState) (out : Outcome) → act g m a ≡ out → reply ≡ out.0
+    → ShowsGraph out.1 c → Acts g m a reply c
+acts_by g m a reply c out e r s = record {
+  reply_is = r ∙ sym (ap (λ (o : Outcome). o.0) e);
+  shows = subst (λ (o : Outcome). ShowsGraph o.1 c) (sym e) s;
+}
 
-on_found : (g : Graph) (c : CoreState) (s : ShowsGraph g c) (m a : ℕ) (r : Register) (f : ℕ → Object → Outcome) (h : HasObject g c (register_place (places_of c.config) m r.number) a) → on_object g m r f ≡ f h.stored.name h.object
-on_found g c s m a r f h = ap (λ (p : Places). on_name g (root_at g (register_place p m r.number)) f) s.places ∙ ap (λ (o : Option ℕ). on_name g o f) h.root ∙ ap (λ (o : Option Object). on_contents g o (f h.stored.name)) h.found
+on_found : (g : Graph) (c : CoreState) (s : ShowsGraph g c) (m a : ℕ) (r : Register) (f : ℕ → Object → Outcome)
+    (h : HasObject g c (register_place (places_of c.config) m r.number) a) → on_object g m r f ≡ f h.stored.name h.object
+on_found g c s m a r f h = ap (λ (p : Places). on_name g (root_at g (register_place p m r.number)) f) s.places
+    ∙ ap (λ (o : Option ℕ). on_name g o f) h.root ∙ ap (λ (o : Option Object). on_contents g o (f h.stored.name)) h.found
 
 -- the core with another word in a root place
 abbrev pub with_root_word : CoreState → ℕ → Option ℕ → CoreState
 with_root_word c place w = record c { roots = slice_set c.roots place w }
 
-pub root_shows : (g : Graph) (c : CoreState) (place : ℕ) (w v : Option ℕ) → ShowsGraph g c → IsShown (heap_of c) w v → ShowsGraph (with_root g place v) (with_root_word c place w)
+pub root_shows : (g : Graph) (c : CoreState) (place : ℕ) (w v : Option ℕ) → ShowsGraph g c → IsShown (heap_of c) w v
+    → ShowsGraph (with_root g place v) (with_root_word c place w)
 unfolding kept_of
 root_shows g c place w v s shown = record {
   room = s.room;
   places = s.places;
   next = s.next;
-  shows = root_set_shows g (heap_of c) (heap_of (with_root_word c place w)) s.shows place w v shown (record { kept = λ a. refl; roots = refl });
+  shows =
+      root_set_shows g (heap_of c) (heap_of (with_root_word c place w)) s.shows place w v shown (record { kept = λ a. refl; roots = refl });
 }
 
 pub values_there : (c : CoreState) (a : ℕ) (x : Stored) → kept_of c a ≡ Some x → values_at c.table a ≡ x.values
 unfolding values_at
 values_there c a x e = ap object_values (object_kept c a x e)
 
-pub field_word : (c : CoreState) (place a i : ℕ) (w : Option ℕ) → IsCore c → Leads c place (Some a) → slice_get (pointers_at c.table a) i ≡ Some w → IsWordOf (heap_of c) w
+pub field_word : (c : CoreState) (place a i : ℕ) (w : Option ℕ) → IsCore c → Leads c place (Some a)
+    → slice_get (pointers_at c.table a) i ≡ Some w → IsWordOf (heap_of c) w
 field_word c place a i w k l e =
     let h = l k.footing.graph k.rests.shows in
-    let f = field_shown k.footing.graph c place a i w h (ap (λ (ps : List (Option ℕ)). slice_get ps i) (sym (pointers_there c a h.stored h.at)) ∙ e) in
+    let f = field_shown k.footing.graph c place a i w h
+    (ap (λ (ps : List (Option ℕ)). slice_get ps i) (sym (pointers_there c a h.stored h.at)) ∙ e) in
     record { name = f.name; shown = f.shown }
 
-pub slot_word : (c : CoreState) (place a i : ℕ) (w : Option ℕ) → IsCore c → Leads c place (Some a) → slice_get (weaks_at c.table a) i ≡ Some w → IsWordOf (heap_of c) w
+pub slot_word : (c : CoreState) (place a i : ℕ) (w : Option ℕ) → IsCore c → Leads c place (Some a)
+    → slice_get (weaks_at c.table a) i ≡ Some w → IsWordOf (heap_of c) w
 slot_word c place a i w k l e =
     let h = l k.footing.graph k.rests.shows in
-    let f = slot_shown k.footing.graph c place a i w h (ap (λ (ps : List (Option ℕ)). slice_get ps i) (sym (weaks_there c a h.stored h.at)) ∙ e) in
+    let f =
+    slot_shown k.footing.graph c place a i w h (ap (λ (ps : List (Option ℕ)). slice_get ps i) (sym (weaks_there c a h.stored h.at)) ∙ e) in
     record { name = f.name; shown = f.shown }
 
 -- the core with another object of the same name at an address
-pub object_shows : (g : Graph) (c c' : CoreState) (a : ℕ) (x y : Stored) (o p : Object) → ShowsGraph g c → SamePlaces c c' → ObjectSet (heap_of c) (heap_of c') a x y
-    → object_named g x.name ≡ Some o → AllZip (IsShown (heap_of c)) y.pointers p.pointers → AllZip (IsShown (heap_of c)) y.weaks p.weaks → y.values ≡ p.values
+pub object_shows : (g : Graph) (c c' : CoreState) (a : ℕ) (x y : Stored) (o p : Object) → ShowsGraph g c → SamePlaces c c'
+    → ObjectSet (heap_of c) (heap_of c') a x y → object_named g x.name ≡ Some o → AllZip (IsShown (heap_of c)) y.pointers p.pointers
+    → AllZip (IsShown (heap_of c)) y.weaks p.weaks → y.values ≡ p.values
     → ShowsGraph (with_changed g x.name p) c'
 object_shows g c c' a x y o p s same set named pointers weaks values = record {
   room = s.room ∙ sym (ap (λ (k : Config). k.regions * k.words) same.config);
@@ -72,66 +86,83 @@ object_shows g c c' a x y o p s same set named pointers weaks values = record {
 
 module _ (g : Graph) (c : CoreState) (s : ShowsGraph g c) (m : ℕ) (object : Register) where
   module _ (a : ℕ) (l : Leads c (register_place (places_of c.config) m object.number) (Some a)) where
-    pub get_past : (to : Register) (i : ℕ) → length (pointers_at c.table a) ≤ i → Acts g m (actions.Get to object i) (replies.Refused refusals.NoField) c
+    pub get_past : (to : Register) (i : ℕ) → length (pointers_at c.table a) ≤ i
+        → Acts g m (actions.Get to object i) (replies.Refused refusals.NoField) c
     get_past to i k =
         let h = l g s in
         let none = no_field g c _ a i h (rw (pointers_there c a h.stored h.at) at k) in
-        acts_by g m (actions.Get to object i) (replies.Refused refusals.NoField) c (refused g refusals.NoField) (on_found g c s m a object _ h ∙ rw none refl) refl s
+        acts_by g m (actions.Get to object i) (replies.Refused refusals.NoField) c (refused g refusals.NoField)
+        (on_found g c s m a object _ h ∙ rw none refl) refl s
 
-    pub put_past : (i : ℕ) (value : Option Register) → length (pointers_at c.table a) ≤ i → Acts g m (actions.Put object i value) (replies.Refused refusals.NoField) c
+    pub put_past : (i : ℕ) (value : Option Register) → length (pointers_at c.table a) ≤ i
+        → Acts g m (actions.Put object i value) (replies.Refused refusals.NoField) c
     put_past i value k =
         let h = l g s in
         let none = no_field g c _ a i h (rw (pointers_there c a h.stored h.at) at k) in
-        acts_by g m (actions.Put object i value) (replies.Refused refusals.NoField) c (refused g refusals.NoField) (on_found g c s m a object _ h ∙ rw none refl) refl s
+        acts_by g m (actions.Put object i value) (replies.Refused refusals.NoField) c (refused g refusals.NoField)
+        (on_found g c s m a object _ h ∙ rw none refl) refl s
 
-    pub get_weak_past : (to : Register) (i : ℕ) → length (weaks_at c.table a) ≤ i → Acts g m (actions.GetWeak to object i) (replies.Refused refusals.NoField) c
+    pub get_weak_past : (to : Register) (i : ℕ) → length (weaks_at c.table a) ≤ i
+        → Acts g m (actions.GetWeak to object i) (replies.Refused refusals.NoField) c
     get_weak_past to i k =
         let h = l g s in
         let none = no_slot g c _ a i h (rw (weaks_there c a h.stored h.at) at k) in
-        acts_by g m (actions.GetWeak to object i) (replies.Refused refusals.NoField) c (refused g refusals.NoField) (on_found g c s m a object _ h ∙ rw none refl) refl s
+        acts_by g m (actions.GetWeak to object i) (replies.Refused refusals.NoField) c (refused g refusals.NoField)
+        (on_found g c s m a object _ h ∙ rw none refl) refl s
 
-    pub put_weak_past : (i : ℕ) (value : Option Register) → length (weaks_at c.table a) ≤ i → Acts g m (actions.PutWeak object i value) (replies.Refused refusals.NoField) c
+    pub put_weak_past : (i : ℕ) (value : Option Register) → length (weaks_at c.table a) ≤ i
+        → Acts g m (actions.PutWeak object i value) (replies.Refused refusals.NoField) c
     put_weak_past i value k =
         let h = l g s in
         let none = no_slot g c _ a i h (rw (weaks_there c a h.stored h.at) at k) in
-        acts_by g m (actions.PutWeak object i value) (replies.Refused refusals.NoField) c (refused g refusals.NoField) (on_found g c s m a object _ h ∙ rw none refl) refl s
+        acts_by g m (actions.PutWeak object i value) (replies.Refused refusals.NoField) c (refused g refusals.NoField)
+        (on_found g c s m a object _ h ∙ rw none refl) refl s
 
     pub read_past : (i : ℕ) → length (values_at c.table a) ≤ i → Acts g m (actions.Read object i) (replies.Refused refusals.NoField) c
     read_past i k =
         let h = l g s in
         let none = no_value g c _ a i h (rw (values_there c a h.stored h.at) at k) in
-        acts_by g m (actions.Read object i) (replies.Refused refusals.NoField) c (refused g refusals.NoField) (on_found g c s m a object _ h ∙ rw none refl) refl s
+        acts_by g m (actions.Read object i) (replies.Refused refusals.NoField) c (refused g refusals.NoField)
+        (on_found g c s m a object _ h ∙ rw none refl) refl s
 
     pub write_past : (i v : ℕ) → length (values_at c.table a) ≤ i → Acts g m (actions.Write object i v) (replies.Refused refusals.NoField) c
     write_past i v k =
         let h = l g s in
         let none = no_value g c _ a i h (rw (values_there c a h.stored h.at) at k) in
-        acts_by g m (actions.Write object i v) (replies.Refused refusals.NoField) c (refused g refusals.NoField) (on_found g c s m a object _ h ∙ rw none refl) refl s
+        acts_by g m (actions.Write object i v) (replies.Refused refusals.NoField) c (refused g refusals.NoField)
+        (on_found g c s m a object _ h ∙ rw none refl) refl s
 
     -- get: the register that the field goes to
-    pub get_done : (to : Register) (i : ℕ) (w : Option ℕ) (n : Option ℕ) (c' : CoreState) → slice_get (pointers_at c.table a) i ≡ Some w → n ≡ name_in c.table w
-        → ((g : Graph) (v : Option ℕ) → ShowsGraph g c → IsShown (heap_of c) w v → ShowsGraph (with_root g (register_place g.places m to.number) v) c')
+    pub get_done : (to : Register) (i : ℕ) (w : Option ℕ) (n : Option ℕ) (c' : CoreState)
+        → slice_get (pointers_at c.table a) i ≡ Some w → n ≡ name_in c.table w
+        → ((g : Graph) (v : Option ℕ) → ShowsGraph g c → IsShown (heap_of c) w v
+        → ShowsGraph (with_root g (register_place g.places m to.number) v) c')
         → Acts g m (actions.Get to object i) (replies.Named n) c'
     get_done to i w n c' e name after =
         let h = l g s in
         let f = field_shown g c _ a i w h (ap (λ (ps : List (Option ℕ)). slice_get ps i) (sym (pointers_there c a h.stored h.at)) ∙ e) in
         let there = f.there in
-        acts_by g m (actions.Get to object i) (replies.Named n) c' (replies.Named f.name, with_root g (register_place g.places m to.number) f.name)
+        acts_by g m (actions.Get to object i) (replies.Named n) c'
+        (replies.Named f.name, with_root g (register_place g.places m to.number) f.name)
         (on_found g c s m a object _ h ∙ rw there refl) (ap replies.Named (name ∙ shown_name c w f.name f.shown)) (after g f.name s f.shown)
 
     -- the same of a weak slot
-    pub get_weak_done : (to : Register) (i : ℕ) (w : Option ℕ) (n : Option ℕ) (c' : CoreState) → slice_get (weaks_at c.table a) i ≡ Some w → n ≡ name_in c.table w
-        → ((g : Graph) (v : Option ℕ) → ShowsGraph g c → IsShown (heap_of c) w v → ShowsGraph (with_root g (register_place g.places m to.number) v) c')
+    pub get_weak_done : (to : Register) (i : ℕ) (w : Option ℕ) (n : Option ℕ) (c' : CoreState)
+        → slice_get (weaks_at c.table a) i ≡ Some w → n ≡ name_in c.table w
+        → ((g : Graph) (v : Option ℕ) → ShowsGraph g c → IsShown (heap_of c) w v
+        → ShowsGraph (with_root g (register_place g.places m to.number) v) c')
         → Acts g m (actions.GetWeak to object i) (replies.Named n) c'
     get_weak_done to i w n c' e name after =
         let h = l g s in
         let f = slot_shown g c _ a i w h (ap (λ (ps : List (Option ℕ)). slice_get ps i) (sym (weaks_there c a h.stored h.at)) ∙ e) in
         let there = f.there in
-        acts_by g m (actions.GetWeak to object i) (replies.Named n) c' (replies.Named f.name, with_root g (register_place g.places m to.number) f.name)
+        acts_by g m (actions.GetWeak to object i) (replies.Named n) c'
+        (replies.Named f.name, with_root g (register_place g.places m to.number) f.name)
         (on_found g c s m a object _ h ∙ rw there refl) (ap replies.Named (name ∙ shown_name c w f.name f.shown)) (after g f.name s f.shown)
 
     -- what the reply names is what the slot shows
-    pub slot_named : (i : ℕ) (w n v : Option ℕ) → slice_get (weaks_at c.table a) i ≡ Some w → n ≡ name_in c.table w → replies.Named n ≡ replies.Named v → IsShown (heap_of c) w v
+    pub slot_named : (i : ℕ) (w n v : Option ℕ) → slice_get (weaks_at c.table a) i ≡ Some w → n ≡ name_in c.table w
+        → replies.Named n ≡ replies.Named v → IsShown (heap_of c) w v
     slot_named i w n v e name reply =
         let h = l g s in
         let f = slot_shown g c _ a i w h (ap (λ (ps : List (Option ℕ)). slice_get ps i) (sym (weaks_there c a h.stored h.at)) ∙ e) in
@@ -141,25 +172,33 @@ module _ (g : Graph) (c : CoreState) (s : ShowsGraph g c) (m : ℕ) (object : Re
     pub weaks_done : (n : ℕ) → n ≡ length (weaks_at c.table a) → Acts g m (actions.Weaks object) (replies.Word n) c
     weaks_done n e =
         let h = l g s in
-        let count : n ≡ length h.object.weaks = e ∙ ap (λ (ps : List (Option ℕ)). length ps) (weaks_there c a h.stored h.at) ∙ AllZip-length (IsShown (heap_of c)) h.stored.weaks h.object.weaks h.weaks in
-        acts_by g m (actions.Weaks object) (replies.Word n) c (replies.Word (length h.object.weaks), g) (on_found g c s m a object _ h) (ap replies.Word count) s
+        let count : n ≡ length h.object.weaks = e ∙ ap (λ (ps : List (Option ℕ)). length ps) (weaks_there c a h.stored h.at)
+        ∙ AllZip-length (IsShown (heap_of c)) h.stored.weaks h.object.weaks h.weaks in
+        acts_by g m (actions.Weaks object) (replies.Word n) c (replies.Word (length h.object.weaks), g)
+        (on_found g c s m a object _ h) (ap replies.Word count) s
 
     pub read_done : (i w : ℕ) → slice_get (values_at c.table a) i ≡ Some w → Acts g m (actions.Read object i) (replies.Word w) c
     read_done i w e =
         let h = l g s in
-        let there : slice_get h.object.values i ≡ Some w = ap (λ (ps : List ℕ). slice_get ps i) (sym (values_there c a h.stored h.at ∙ h.values)) ∙ e in
+        let there : slice_get h.object.values i ≡ Some w =
+        ap (λ (ps : List ℕ). slice_get ps i) (sym (values_there c a h.stored h.at ∙ h.values)) ∙ e in
         acts_by g m (actions.Read object i) (replies.Word w) c (replies.Word w, g) (on_found g c s m a object _ h ∙ rw there refl) refl s
 
-    pub shape_done : (p d : ℕ) → p ≡ length (pointers_at c.table a) → d ≡ length (values_at c.table a) → Acts g m (actions.Shape object) (replies.Shape p d) c
+    pub shape_done : (p d : ℕ) → p ≡ length (pointers_at c.table a) → d ≡ length (values_at c.table a)
+        → Acts g m (actions.Shape object) (replies.Shape p d) c
     shape_done p d ep ed =
         let h = l g s in
-        let np : p ≡ length h.object.pointers = ep ∙ ap (λ (ps : List (Option ℕ)). length ps) (pointers_there c a h.stored h.at) ∙ AllZip-length (IsShown (heap_of c)) h.stored.pointers h.object.pointers h.pointers in
+        let np : p ≡ length h.object.pointers = ep ∙ ap (λ (ps : List (Option ℕ)). length ps) (pointers_there c a h.stored h.at)
+        ∙ AllZip-length (IsShown (heap_of c)) h.stored.pointers h.object.pointers h.pointers in
         let nd : d ≡ length h.object.values = ed ∙ ap (λ (ps : List ℕ). length ps) (values_there c a h.stored h.at ∙ h.values) in
-        acts_by g m (actions.Shape object) (replies.Shape p d) c (replies.Shape (length h.object.pointers) (length h.object.values), g) (on_found g c s m a object _ h) (ap (λ n. replies.Shape n d) np ∙ ap (λ n. replies.Shape (length h.object.pointers) n) nd) s
+        acts_by g m (actions.Shape object) (replies.Shape p d) c (replies.Shape (length h.object.pointers) (length h.object.values), g)
+        (on_found g c s m a object _ h) (ap (λ n. replies.Shape n d) np ∙ ap (λ n. replies.Shape (length h.object.pointers) n) nd) s
 
     -- put: the store
-    pub put_done : (i : ℕ) (value : Option Register) (w : Option ℕ) (c' : CoreState) → i < length (pointers_at c.table a) → IsShown (heap_of c) w (stored g m value)
-        → ((g : Graph) (x : Stored) (o : Object) (v : Option ℕ) → ShowsGraph g c → kept_of c a ≡ Some x → object_named g x.name ≡ Some o → IsShown (heap_of c) w v
+    pub put_done : (i : ℕ) (value : Option Register) (w : Option ℕ) (c' : CoreState) → i < length (pointers_at c.table a)
+        → IsShown (heap_of c) w (stored g m value)
+        → ((g : Graph) (x : Stored) (o : Object) (v : Option ℕ) → ShowsGraph g c → kept_of c a ≡ Some x
+        → object_named g x.name ≡ Some o → IsShown (heap_of c) w v
         → ShowsGraph (with_changed g x.name (record o { pointers = slice_set o.pointers i v })) c')
         → Acts g m (actions.Put object i value) replies.Done c'
     put_done i value w c' k shown after =
@@ -172,8 +211,10 @@ module _ (g : Graph) (c : CoreState) (s : ShowsGraph g c) (m : ℕ) (object : Re
         acts_by g m (actions.Put object i value) replies.Done c' (replies.Done, with_changed g h.stored.name p)
         (on_found g c s m a object _ h ∙ rw there refl) refl (after g h.stored h.object v s h.at h.named shown)
 
-    pub put_weak_done : (i : ℕ) (value : Option Register) (w : Option ℕ) (c' : CoreState) → i < length (weaks_at c.table a) → IsShown (heap_of c) w (stored g m value)
-        → ((g : Graph) (x : Stored) (o : Object) (v : Option ℕ) → ShowsGraph g c → kept_of c a ≡ Some x → object_named g x.name ≡ Some o → IsShown (heap_of c) w v
+    pub put_weak_done : (i : ℕ) (value : Option Register) (w : Option ℕ) (c' : CoreState) → i < length (weaks_at c.table a)
+        → IsShown (heap_of c) w (stored g m value)
+        → ((g : Graph) (x : Stored) (o : Object) (v : Option ℕ) → ShowsGraph g c → kept_of c a ≡ Some x
+        → object_named g x.name ≡ Some o → IsShown (heap_of c) w v
         → ShowsGraph (with_changed g x.name (record o { weaks = slice_set o.weaks i v })) c')
         → Acts g m (actions.PutWeak object i value) replies.Done c'
     put_weak_done i value w c' k shown after =
@@ -187,10 +228,12 @@ module _ (g : Graph) (c : CoreState) (s : ShowsGraph g c) (m : ℕ) (object : Re
         (on_found g c s m a object _ h ∙ rw there refl) refl (after g h.stored h.object v s h.at h.named shown)
 
     pub write_is : (i v : ℕ) (h : HasObject g c (register_place (places_of c.config) m object.number) a) → i < length (values_at c.table a)
-        → act g m (actions.Write object i v) ≡ (replies.Done, with_changed g h.stored.name (record h.object { values = slice_set h.object.values i v }))
+        → act g m (actions.Write object i v)
+        ≡ (replies.Done, with_changed g h.stored.name (record h.object { values = slice_set h.object.values i v }))
     write_is i v h k =
         let k' : i < length h.stored.values = rw (values_there c a h.stored h.at) at k in
-        let there : slice_get h.object.values i ≡ Some (get_or h.stored.values i 0) = ap (λ (ps : List ℕ). slice_get ps i) (sym h.values) ∙ slice_get-get_or h.stored.values i 0 k' in
+        let there : slice_get h.object.values i ≡ Some (get_or h.stored.values i 0) =
+        ap (λ (ps : List ℕ). slice_get ps i) (sym h.values) ∙ slice_get-get_or h.stored.values i 0 k' in
         on_found g c s m a object _ h ∙ rw there refl
 
     pub write_done : (i v : ℕ) (t : Table) → i < length (values_at c.table a) → 0 < c.table.words_per_region → t ≡ set_value c.table a i v
@@ -198,8 +241,11 @@ module _ (g : Graph) (c : CoreState) (s : ShowsGraph g c) (m : ℕ) (object : Re
     write_done i v t k z e =
         let h = l g s in
         let p : Object = record h.object { values = slice_set h.object.values i v } in
-        let writes = subst (λ (u : Table). WritesObject c.table u a h.stored (with_value h.stored i v)) (sym e) (value_put c.table a i v h.stored z (object_kept c a h.stored h.at)) in
+        let writes = subst (λ (u : Table). WritesObject c.table u a h.stored (with_value h.stored i v)) (sym e)
+        (value_put c.table a i v h.stored z (object_kept c a h.stored h.at)) in
         acts_by g m (actions.Write object i v) replies.Done (record c { table = t }) (replies.Done, with_changed g h.stored.name p)
         (write_is i v h k) refl
         (object_shows g c (record c { table = t }) a h.stored (with_value h.stored i v) h.object p s (record { config = refl; next = refl })
-        (object_written c (record c { table = t }) a h.stored (with_value h.stored i v) writes refl h.at (record { tams = refl; previous = refl; roots = refl })) h.named h.pointers h.weaks (ap (λ (ps : List ℕ). slice_set ps i v) h.values))
+        (object_written c (record c { table = t }) a h.stored (with_value h.stored i v) writes refl h.at
+        (record { tams = refl; previous = refl; roots = refl })) h.named h.pointers h.weaks
+        (ap (λ (ps : List ℕ). slice_set ps i v) h.values))

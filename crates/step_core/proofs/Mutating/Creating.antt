@@ -1,5 +1,6 @@
 -- A new object.
-use Rattle.std.proofs.Common.{◌≡◌, ◌≢◌, ℕ, zero, suc, ◌+◌, ◌-◌, ◌*◌, ◌/◌, ◌^◌, ◌<◌, ◌≤◌, false, Some, None, List, [], ◌∷◌, replicate, refl, sym, ◌∙◌, ap, subst, arith, inl, inr}
+use Rattle.std.proofs.Common.{◌≡◌, ◌≢◌, ◌+◌, ◌-◌, ◌*◌, ◌/◌, ◌^◌, ◌<◌, ◌≤◌, ◌∷◌, ◌∙◌}
+use Rattle.std.proofs.Common.{ℕ, zero, suc, false, Some, None, List, [], replicate, refl, sym, ap, subst, arith, inl, inr}
 use Rattle.std.proofs.lemmas.Bool.{cases_eq}
 use Rattle.std.specs.Prelude.{◌==◌, slice_set, slice_index, nat_lt}
 use Rattle.std.specs.List.{AllZip}
@@ -43,7 +44,9 @@ not_below a b le = grind (arith, common_steps, nat_tests)
 not_same : (a b : ℕ) → a ≢ b → (a == b) ≡ false
 not_same a b ne = grind (arith, common_steps, nat_tests)
 
-made_is : (g : Graph) (m p weak d : ℕ) (to : Register) → 2 + p + weak + d ≤ g.room → next_name g ≢ 2 ^ 64 - 1 → made g m to (record { pointers = p; values = d }) weak ≡ (replies.Named (Some (next_name g)), with_object g (fresh p weak d) (register_place g.places m to.number))
+made_is : (g : Graph) (m p weak d : ℕ) (to : Register) → 2 + p + weak + d ≤ g.room → next_name g ≢ 2 ^ 64 - 1
+    → made g m to (record { pointers = p; values = d }) weak
+    ≡ (replies.Named (Some (next_name g)), with_object g (fresh p weak d) (register_place g.places m to.number))
 made_is g m p weak d to h n =
     let fits : nat_lt g.room (2 + p + weak + d) ≡ false = not_below g.room (2 + p + weak + d) h in
     let there : (next_name g == 2 ^ 64 - 1) ≡ false = not_same (next_name g) (2 ^ 64 - 1) n in
@@ -66,7 +69,8 @@ above_below words tops a z above = lt-not (above (a / words) (omega arith) (omeg
     lt-not le = grind (arith, common_steps, nat_tests)
 
 module _ (k : CoreState) (m : ℕ) (to : Register) (t2 : Table) (b1 : Buffers) (a p weak d : ℕ)
-    (core : IsCore k) (makes : Creates k.table t2 k.buffers b1 a (new_object k.next p weak d)) (room : 2 + p + weak + d ≤ k.config.regions * k.config.words) (names : k.next ≢ 2 ^ 64 - 1) where
+    (core : IsCore k) (makes : Creates k.table t2 k.buffers b1 a (new_object k.next p weak d))
+    (room : 2 + p + weak + d ≤ k.config.regions * k.config.words) (names : k.next ≢ 2 ^ 64 - 1) where
   words : t2.words_per_region ≡ k.table.words_per_region
   words = makes.region_size
 
@@ -77,56 +81,75 @@ module _ (k : CoreState) (m : ℕ) (to : Register) (t2 : Table) (b1 : Buffers) (
   abbrev new : ℕ → CoreState
   new place = with_new k t2 b1 place a
 
-  kept_new : (place y : ℕ) → kept_of (new place) y ≡ kept_by (object_at t2) (is_below k.table.words_per_region k.marker.tams.previous) (is_marked k.marker.bitmaps.previous) y
+  kept_new : (place y : ℕ) → kept_of (new place) y
+      ≡ kept_by (object_at t2) (is_below k.table.words_per_region k.marker.tams.previous) (is_marked k.marker.bitmaps.previous) y
   unfolding kept_of
   kept_new place y = rw words refl
 
   added : (place : ℕ) → ObjectAdded (heap_of k) (heap_of (new place)) a (new_object k.next p weak d) place
   added place = record {
-    was = kept_is k a ∙ kept_above (object_at k.table) (is_below k.table.words_per_region k.marker.tams.previous) (is_marked k.marker.bitmaps.previous) a below ∙ makes.was;
-    is = kept_new place a ∙ kept_above (object_at t2) (is_below k.table.words_per_region k.marker.tams.previous) (is_marked k.marker.bitmaps.previous) a below ∙ makes.is;
+    was = kept_is k a ∙ kept_above (object_at k.table) (is_below k.table.words_per_region k.marker.tams.previous)
+        (is_marked k.marker.bitmaps.previous) a below ∙ makes.was;
+    is = kept_new place a
+        ∙ kept_above (object_at t2) (is_below k.table.words_per_region k.marker.tams.previous) (is_marked k.marker.bitmaps.previous) a below
+        ∙ makes.is;
     nil = λ i b e. nil_get p i b e;
-    others = λ y ne. kept_new place y ∙ kept_same (object_at k.table) (object_at t2) (is_below k.table.words_per_region k.marker.tams.previous) (is_marked k.marker.bitmaps.previous) y (makes.others y ne) ∙ sym (kept_is k y);
+    others = λ y ne. kept_new place y ∙ kept_same (object_at k.table) (object_at t2)
+        (is_below k.table.words_per_region k.marker.tams.previous) (is_marked k.marker.bitmaps.previous) y (makes.others y ne)
+        ∙ sym (kept_is k y);
     roots = refl;
   }
     where
       below : is_below k.table.words_per_region k.marker.tams.previous a ≡ false
       below = new_below k.marker.tams.previous core.layers.above_previous
 
-  new_shows : (g : Graph) → ShowsGraph g k → ShowsGraph (with_object g (fresh p weak d) (register_place (places_of k.config) m to.number)) (with_new k t2 b1 (register_place (places_of k.config) m to.number) a)
+  new_shows : (g : Graph) → ShowsGraph g k → ShowsGraph (with_object g (fresh p weak d) (register_place (places_of k.config) m to.number))
+      (with_new k t2 b1 (register_place (places_of k.config) m to.number) a)
   new_shows g s = record {
     room = s.room;
     places = s.places;
     next = (let next = s.next in let len = length-append g.objects (fresh p weak d ∷ []) in omega arith);
-    shows = object_added_shows g (heap_of k) (heap_of (with_new k t2 b1 (register_place (places_of k.config) m to.number) a)) s.shows a (new_object k.next p weak d) (fresh p weak d) (register_place (places_of k.config) m to.number) (added (register_place (places_of k.config) m to.number)) (sym s.next)
+    shows = object_added_shows g (heap_of k) (heap_of (with_new k t2 b1 (register_place (places_of k.config) m to.number) a)) s.shows a
+        (new_object k.next p weak d) (fresh p weak d) (register_place (places_of k.config) m to.number)
+        (added (register_place (places_of k.config) m to.number)) (sym s.next)
         (nil_shown (heap_of k) p) (nil_shown (heap_of k) weak) refl;
   }
 
   -- the graph has its roots in the same places
-  new_there : (g : Graph) → ShowsGraph g k → ShowsGraph (with_object g (fresh p weak d) (register_place g.places m to.number)) (with_new k t2 b1 (register_place (places_of k.config) m to.number) a)
-  new_there g s = subst (λ (q : Places). ShowsGraph (with_object g (fresh p weak d) (register_place q m to.number)) (with_new k t2 b1 (register_place (places_of k.config) m to.number) a)) (sym s.places) (new_shows g s)
+  new_there : (g : Graph) → ShowsGraph g k → ShowsGraph (with_object g (fresh p weak d) (register_place g.places m to.number))
+      (with_new k t2 b1 (register_place (places_of k.config) m to.number) a)
+  new_there g s = subst (λ (q : Places). ShowsGraph (with_object g (fresh p weak d) (register_place q m to.number))
+      (with_new k t2 b1 (register_place (places_of k.config) m to.number) a)) (sym s.places) (new_shows g s)
 
-  pub new_acts : (g : Graph) → ShowsGraph g k → Acts g m (actions.NewWeak to (record { pointers = p; values = d }) weak) (replies.Named (Some k.next)) (with_new k t2 b1 (register_place (places_of k.config) m to.number) a)
+  pub new_acts : (g : Graph) → ShowsGraph g k
+      → Acts g m (actions.NewWeak to (record { pointers = p; values = d }) weak) (replies.Named (Some k.next))
+      (with_new k t2 b1 (register_place (places_of k.config) m to.number) a)
   new_acts g s =
       let next = s.next in
       let fits : 2 + p + weak + d ≤ g.room = rw s.room room in
       let there : next_name g ≢ 2 ^ 64 - 1 = λ h. names (sym next ∙ h) in
-      acts_by g m (actions.NewWeak to (record { pointers = p; values = d }) weak) (replies.Named (Some k.next)) (with_new k t2 b1 (register_place (places_of k.config) m to.number) a) (replies.Named (Some (next_name g)), with_object g (fresh p weak d) (register_place g.places m to.number))
+      acts_by g m (actions.NewWeak to (record { pointers = p; values = d }) weak) (replies.Named (Some k.next))
+      (with_new k t2 b1 (register_place (places_of k.config) m to.number) a)
+      (replies.Named (Some (next_name g)), with_object g (fresh p weak d) (register_place g.places m to.number))
       (made_is g m p weak d to fits there) (ap (λ (j : ℕ). replies.Named (Some j)) (sym next)) (new_there g s)
 
   pub new_keeps : (s : Graph) → KeepsFrom s k → KeepsFrom s (with_new k t2 b1 (register_place (places_of k.config) m to.number) a)
   new_keeps s f = record {
     earlier = (let le = f.earlier in omega arith);
-    marking = λ run. subst (λ (marks : Marking). KeepsSnapshot s (heap_of (new (register_place (places_of k.config) m to.number))) marks) (sym (marking_same k.table t2 k.marker words))
-        (object_added (IsReachable s) (next_name s) (heap_of k) (marking_of k) (f.marking run) (heap_of (new (register_place (places_of k.config) m to.number))) a (new_object k.next p weak d) (register_place (places_of k.config) m to.number)
-        (new_below k.marker.tams.next core.layers.above_next) f.earlier (added (register_place (places_of k.config) m to.number)));
+    marking = λ run. subst (λ (marks : Marking). KeepsSnapshot s (heap_of (new (register_place (places_of k.config) m to.number))) marks)
+        (sym (marking_same k.table t2 k.marker words))
+        (object_added (IsReachable s) (next_name s) (heap_of k) (marking_of k) (f.marking run)
+        (heap_of (new (register_place (places_of k.config) m to.number))) a (new_object k.next p weak d)
+        (register_place (places_of k.config) m to.number) (new_below k.marker.tams.next core.layers.above_next) f.earlier
+        (added (register_place (places_of k.config) m to.number)));
   }
 
   new_leaves_by : LeavesRegions k (with_new k t2 b1 (register_place (places_of k.config) m to.number) a)
   new_leaves_by = record { config = refl; in_use = λ j used free. used (sym (makes.kinds_stay j used) ∙ free) }
 
   pub new_leaves : (c : CoreState) → k ≡ c → LeavesRegions c (with_new k t2 b1 (register_place (places_of k.config) m to.number) a)
-  new_leaves c e = subst (λ (d : CoreState). LeavesRegions d (with_new k t2 b1 (register_place (places_of k.config) m to.number) a)) e new_leaves_by
+  new_leaves c e =
+      subst (λ (d : CoreState). LeavesRegions d (with_new k t2 b1 (register_place (places_of k.config) m to.number) a)) e new_leaves_by
 
   pub new_kept : IsCore (with_new k t2 b1 (register_place (places_of k.config) m to.number) a)
   new_kept =
@@ -152,22 +175,34 @@ module _ (k : CoreState) (m : ℕ) (to : Register) (t2 : Table) (b1 : Buffers) (
           above_previous = previous;
           above_next = next;
           room = core.layers.room;
-          halves = halves_added k.table t2 a (new_object k.next p weak d) words makes.kinds_stay makes.is makes.others (some_words k core) makes.half core.layers.halves;
-          ends_previous = ends_added k.table t2 a (new_object k.next p weak d) words makes.kinds_stay makes.is makes.others k.marker.tams.previous (makes.above (slice_index k.marker.tams.previous) core.layers.above_previous).0 core.layers.ends_previous;
-          ends_next = ends_added k.table t2 a (new_object k.next p weak d) words makes.kinds_stay makes.is makes.others k.marker.tams.next (makes.above (slice_index k.marker.tams.next) core.layers.above_next).0 core.layers.ends_next;
+          halves = halves_added k.table t2 a (new_object k.next p weak d) words makes.kinds_stay makes.is makes.others
+              (some_words k core) makes.half core.layers.halves;
+          ends_previous = ends_added k.table t2 a (new_object k.next p weak d) words makes.kinds_stay makes.is
+              makes.others k.marker.tams.previous
+              (makes.above (slice_index k.marker.tams.previous) core.layers.above_previous).0 core.layers.ends_previous;
+          ends_next = ends_added k.table t2 a (new_object k.next p weak d) words makes.kinds_stay makes.is makes.others k.marker.tams.next
+              (makes.above (slice_index k.marker.tams.next) core.layers.above_next).0 core.layers.ends_next;
         };
         cards = core.cards;
-        remembers = remembers_new k (new (register_place (places_of k.config) m to.number)) a (new_object k.next p weak d) (register_place (places_of k.config) m to.number) refl words refl refl (added (register_place (places_of k.config) m to.number)) (λ i b e. nil_fields k.next p weak d i b e) core.remembers;
+        remembers = remembers_new k (new (register_place (places_of k.config) m to.number)) a (new_object k.next p weak d)
+            (register_place (places_of k.config) m to.number) refl words refl refl (added (register_place (places_of k.config) m to.number))
+            (λ i b e. nil_fields k.next p weak d i b e) core.remembers;
         room = core.room;
         rows = core.rows;
         places = length-set k.roots (register_place (places_of k.config) m to.number) (Some a) ∙ core.places;
         names = (let old = core.names in omega arith);
-        footing = record { graph = with_object g (fresh p weak d) (register_place (places_of k.config) m to.number); snapshot = core.footing.snapshot };
+        footing = record {
+          graph = with_object g (fresh p weak d) (register_place (places_of k.config) m to.number);
+          snapshot = core.footing.snapshot;
+        };
         rests = record {
           shows = shows;
           keeps = keeps;
-          sound = object_sound g (fresh p weak d) (register_place (places_of k.config) m to.number) core.rests.sound (λ i n e. nil_fields k.next p weak d i n e);
-          unreached = unreached_object core.footing.snapshot g core.rests.unreached (fresh p weak d) (register_place (places_of k.config) m to.number) (let next = core.rests.shows.next in let early = core.rests.keeps.earlier in omega (arith, next, early));
+          sound = object_sound g (fresh p weak d) (register_place (places_of k.config) m to.number) core.rests.sound
+              (λ i n e. nil_fields k.next p weak d i n e);
+          unreached = unreached_object core.footing.snapshot g core.rests.unreached (fresh p weak d)
+              (register_place (places_of k.config) m to.number)
+              (let next = core.rests.shows.next in let early = core.rests.keeps.earlier in omega (arith, next, early));
         };
       }
     where

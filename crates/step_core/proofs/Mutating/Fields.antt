@@ -4,7 +4,8 @@ use Rattle.std.specs.Prelude.{slice_get, slice_set, replicate}
 use Rattle.heap_model.specs.Heap.{Stored, fields}
 use Rattle.heap_model.proofs.Lists.{get-append_cases}
 use Rattle.regions.proofs.Words.Fields.{with_pointer, with_weak}
-use Rattle.regions.specs.Table.{Table, new_object, object_at, pointers_at, weaks_at, fields_at, object_pointers, object_weaks, object_fields}
+use Rattle.regions.specs.Table.{Table, new_object, object_at, pointers_at, weaks_at}
+use Rattle.regions.specs.Table.{fields_at, object_pointers, object_weaks, object_fields}
 use Rattle.std.proofs.lemmas.List.{length-append}
 
 set_front : (xs ys : List (Option ℕ)) (i : ℕ) (v : Option ℕ) → i < length xs → slice_set xs i v ++ ys ≡ slice_set (xs ++ ys) i v
@@ -39,4 +40,7 @@ nil_get (suc p) zero b e = cc
 nil_get (suc p) (suc i) b e = nil_get p i b e
 
 pub nil_fields : (name p weak d i b : ℕ) → slice_get (fields (new_object name p weak d)) i ≡ Some (Some b) → ⊥
-nil_fields name p weak d i b e = elim (get-append_cases (replicate p None) (replicate weak None) i (Some b) e) [ inl q ↦ nil_get p i b q | inr q ↦ nil_get weak q.0 b q.1 ]
+nil_fields name p weak d i b e = elim (get-append_cases (replicate p None) (replicate weak None) i (Some b) e) [
+  | inl q ↦ nil_get p i b q
+  | inr q ↦ nil_get weak q.0 b q.1
+]

@@ -1,5 +1,6 @@
 -- A field's card is made dirty before a pointer is stored.
-use Rattle.std.proofs.Common.{◌≡◌, ℕ, ◌+◌, ◌*◌, ◌/◌, ◌<◌, ◌≤◌, Bool, true, false, Option, Some, List, length, refl, sym, ◌∙◌, ap, subst, arith, inl, inr}
+use Rattle.std.proofs.Common.{◌≡◌, ◌+◌, ◌*◌, ◌/◌, ◌<◌, ◌≤◌, ◌∙◌}
+use Rattle.std.proofs.Common.{ℕ, Bool, true, false, Option, Some, List, length, refl, sym, ap, subst, arith, inl, inr}
 use Rattle.std.specs.Prelude.{◌||◌, ◌==◌}
 use Rattle.heap_model.specs.Heap.{Heap, Stored, IsRoot, IsHeld, IsShown}
 use Rattle.regions.specs.Table.{Table, object_at, fields_at}
@@ -22,16 +23,19 @@ use Rattle.step_core.specs.Stands.{CoreState, kept_of, heap_of, ShowsGraph, Keep
 use Rattle.step_core.proofs.Mutating.Reading.{object_kept, fields_there}
 use Rattle.step_core.proofs.Mutating.Storing.{rooted}
 
-tile_of : (t : Table) (a : ℕ) (x : Stored) → IsShaped t → object_at t a ≡ Some x → a + tile_size (Object x) ≤ length t.regions * t.words_per_region
+tile_of : (t : Table) (a : ℕ) (x : Stored) → IsShaped t → object_at t a ≡ Some x
+    → a + tile_size (Object x) ≤ length t.regions * t.words_per_region
 unfolding object_at
 tile_of t a x shaped e = shaped.within a (Object x) (object_tile _ x e)
 
 -- the word of a field lies in the heap
-pub field_inside : (k : CoreState) (a i : ℕ) → IsCore k → IsShaped k.table → IsRoot (heap_of k) a → i < length (fields_at k.table a) → a + 2 + i < length k.table.regions * k.table.words_per_region
+pub field_inside : (k : CoreState) (a i : ℕ) → IsCore k → IsShaped k.table → IsRoot (heap_of k) a → i < length (fields_at k.table a)
+    → a + 2 + i < length k.table.regions * k.table.words_per_region
 field_inside k a i core shaped root within =
     let r = rooted k a core root in
     let whole = tile_of k.table a r.stored shaped (object_kept k a r.stored r.at) in
-    let count = ap (λ (ps : List (Option ℕ)). length ps) (fields_there k a r.stored r.at) ∙ length-append r.stored.pointers r.stored.weaks in
+    let count =
+    ap (λ (ps : List (Option ℕ)). length ps) (fields_there k a r.stored r.at) ∙ length-append r.stored.pointers r.stored.weaks in
     omega (arith, whole, count, within)
 
 -- a card has a word
@@ -40,20 +44,25 @@ some_card k core = let least = (card_between k.config core.suits).0 in omega ari
 
 -- a region has as many cards as its words have
 pub cards_a_region : (k : CoreState) → IsCore k → k.config.words / card_words k.config ≡ k.sets.cards_per_region
-cards_a_region k core = ap (λ (n : ℕ). n / card_words k.config) core.cards.whole_cards ∙ mul-div_cancel k.sets.cards_per_region (some_card k core)
+cards_a_region k core =
+    ap (λ (n : ℕ). n / card_words k.config) core.cards.whole_cards ∙ mul-div_cancel k.sets.cards_per_region (some_card k core)
 
 below : (word n cards card : ℕ) → 0 < card → word < n * (cards * card) → word / card < n * cards
 below word n cards card some lt = (div-lt_iff_lt-mul some).1 (subst (λ (m : ℕ). word < m) (sym (mul_assoc n cards card)) lt)
 
 -- and its card is one of the cards
-pub card_inside : (k : CoreState) (word : ℕ) → IsCore k → word < length k.table.regions * k.table.words_per_region → word / card_words k.config < length k.cards.dirty
+pub card_inside : (k : CoreState) (word : ℕ) → IsCore k → word < length k.table.regions * k.table.words_per_region
+    → word / card_words k.config < length k.cards.dirty
 card_inside k word core lt =
     let fit = core.cards in
     let card : ℕ = card_words k.config in
     let words : k.table.words_per_region ≡ k.sets.cards_per_region * card = core.layers.region_size ∙ fit.whole_cards in
     let regions : length k.table.regions ≡ length k.sets.sets = core.layers.region_count ∙ sym fit.each_region in
-    let lt' : word < length k.sets.sets * (k.sets.cards_per_region * card) = subst (λ (n : ℕ). word < n * (k.sets.cards_per_region * card)) regions (subst (λ (w : ℕ). word < length k.table.regions * w) words lt) in
-    subst (λ (n : ℕ). word / card < n) (sym fit.each_card) (below word (length k.sets.sets) k.sets.cards_per_region card (some_card k core) lt')
+    let lt' : word < length k.sets.sets * (k.sets.cards_per_region * card) =
+    subst (λ (n : ℕ). word < n * (k.sets.cards_per_region * card)) regions
+    (subst (λ (w : ℕ). word < length k.table.regions * w) words lt) in
+    subst (λ (n : ℕ). word / card < n) (sym fit.each_card)
+    (below word (length k.sets.sets) k.sets.cards_per_region card (some_card k core) lt')
 
 or_right : (b d : Bool) → d ≡ true → (b || d) ≡ true
 or_right true d e = refl
@@ -63,16 +72,20 @@ same_card : (n : ℕ) (b : Bool) → ((n == n) || b) ≡ true
 same_card n b = grind (arith, common_steps, nat_tests)
 
 -- the core with another card dirty
-module _ (k : CoreState) (core : IsCore k) (m card : ℕ) (cs : Cards) (known : card < length k.cards.dirty) (is : cs ≡ dirtied k.cards m card)
+module _ (k : CoreState) (core : IsCore k) (m card : ℕ) (cs : Cards)
+    (known : card < length k.cards.dirty) (is : cs ≡ dirtied k.cards m card)
     (cards : length cs.dirty ≡ length k.cards.dirty) (mutators : length cs.logs ≡ length k.cards.logs) where
   stays : (other : ℕ) → is_dirty k.cards other ≡ true → is_dirty cs other ≡ true
-  stays other d = ap (λ (x : Cards). is_dirty x other) is ∙ dirty_after k.cards m card other known ∙ or_right (other == card) (is_dirty k.cards other) d
+  stays other d =
+      ap (λ (x : Cards). is_dirty x other) is ∙ dirty_after k.cards m card other known ∙ or_right (other == card) (is_dirty k.cards other) d
 
   pub now_dirty : is_dirty cs card ≡ true
   now_dirty = ap (λ (x : Cards). is_dirty x card) is ∙ dirty_after k.cards m card card known ∙ same_card card (is_dirty k.cards card)
 
-  pub noted_so : (a i : ℕ) (target : Option ℕ) (to : ℕ) → target ≡ Some to → card ≡ field_word a i / card_words k.config → IsNoted k.table.words_per_region (card_words k.config) (is_dirty cs) (field_word a i) target
-  noted_so a i target to e at = subst (λ (t : Option ℕ). IsNoted k.table.words_per_region (card_words k.config) (is_dirty cs) (field_word a i) t) (sym e)
+  pub noted_so : (a i : ℕ) (target : Option ℕ) (to : ℕ) → target ≡ Some to → card ≡ field_word a i / card_words k.config
+      → IsNoted k.table.words_per_region (card_words k.config) (is_dirty cs) (field_word a i) target
+  noted_so a i target to e at =
+      subst (λ (t : Option ℕ). IsNoted k.table.words_per_region (card_words k.config) (is_dirty cs) (field_word a i) t) (sym e)
       (inr (ap (is_dirty cs) (sym at) ∙ now_dirty))
 
   pub dirtied_kept : IsCore (record k { cards = cs })
@@ -87,14 +100,19 @@ module _ (k : CoreState) (core : IsCore k) (m card : ℕ) (cs : Cards) (known : 
       each_card = cards ∙ core.cards.each_card;
       each_mutator = mutators ∙ core.cards.each_mutator;
     };
-    remembers = remembered.remembers_on k.table.words_per_region (card_words k.config) (kept_of k) (kept_of k) (is_dirty k.cards) (is_dirty cs) (may_lead k.sets) (may_lead k.sets)
-        (λ a i v x. inl x) stays (λ a i v c x e. e) core.remembers;
+    remembers = remembered.remembers_on k.table.words_per_region (card_words k.config) (kept_of k) (kept_of k) (is_dirty k.cards)
+        (is_dirty cs) (may_lead k.sets) (may_lead k.sets) (λ a i v x. inl x) stays (λ a i v c x e. e) core.remembers;
     room = core.room;
     rows = core.rows;
     places = core.places;
     names = core.names;
     footing = core.footing;
-    rests = record { shows = shows_too core.footing.graph core.rests.shows; keeps = keeps_too core.footing.snapshot core.rests.keeps; sound = core.rests.sound; unreached = core.rests.unreached };
+    rests = record {
+      shows = shows_too core.footing.graph core.rests.shows;
+      keeps = keeps_too core.footing.snapshot core.rests.keeps;
+      sound = core.rests.sound;
+      unreached = core.rests.unreached;
+    };
   }
     where
       shows_too : (g : Graph) → ShowsGraph g k → ShowsGraph g (record k { cards = cs })
@@ -117,7 +135,8 @@ word_noted c c' w e h = subst (λ (x : Heap). IsWordOf x w) (sym (heap_noted c c
 pub kept_noted : (c c' : CoreState) (a : ℕ) → c' ≡ record c { cards = c'.cards } → kept_of c' a ≡ kept_of c a
 kept_noted c c' a e = ap (λ (x : Heap). x.kept a) (heap_noted c c' e)
 
-pub shown_noted : (c c' : CoreState) (w v : Option ℕ) → c' ≡ record c { cards = c'.cards } → IsShown (heap_of c) w v → IsShown (heap_of c') w v
+pub shown_noted : (c c' : CoreState) (w v : Option ℕ) → c' ≡ record c { cards = c'.cards }
+    → IsShown (heap_of c) w v → IsShown (heap_of c') w v
 shown_noted c c' w v e h = subst (λ (x : Heap). IsShown x w v) (sym (heap_noted c c' e)) h
 
 shows_with : (c : CoreState) (cs : Cards) (g : Graph) → ShowsGraph g c → ShowsGraph g (record c { cards = cs })
@@ -135,8 +154,10 @@ pub keeps_noted : (c c' : CoreState) (s : Graph) → c' ≡ record c { cards = c
 keeps_noted c c' s e f = subst (λ (d : CoreState). KeepsFrom s d) (sym e) (keeps_with c c'.cards s f)
 
 -- a card whose first word lies in the heap is one of the cards
-pub card_known : (k : CoreState) (card regions words : ℕ) → IsCore k → regions ≡ length k.table.regions → words ≡ k.table.words_per_region → card * card_words k.config < regions * words → card < length k.cards.dirty
+pub card_known : (k : CoreState) (card regions words : ℕ) → IsCore k → regions ≡ length k.table.regions → words ≡ k.table.words_per_region
+    → card * card_words k.config < regions * words → card < length k.cards.dirty
 card_known k card regions words core er ew lt =
     let long : ℕ = card_words k.config in
-    let lt' : card * long < length k.table.regions * k.table.words_per_region = subst (λ (n : ℕ). card * long < n * k.table.words_per_region) er (subst (λ (w : ℕ). card * long < regions * w) ew lt) in
+    let lt' : card * long < length k.table.regions * k.table.words_per_region =
+    subst (λ (n : ℕ). card * long < n * k.table.words_per_region) er (subst (λ (w : ℕ). card * long < regions * w) ew lt) in
     subst (λ (n : ℕ). n < length k.cards.dirty) (mul-div_cancel card (some_card k core)) (card_inside k (card * long) core lt')

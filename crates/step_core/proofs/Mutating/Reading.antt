@@ -1,5 +1,6 @@
 -- What is read of a core, in the words of its graph.
-use Rattle.std.proofs.Common.{◌≡◌, ℕ, zero, suc, ◌<◌, ◌≤◌, Option, Some, None, List, [], ◌∷◌, length, get_or, refl, sym, ◌∙◌, ap, subst, arith, inr}
+use Rattle.std.proofs.Common.{◌≡◌, ◌<◌, ◌≤◌, ◌∷◌, ◌∙◌}
+use Rattle.std.proofs.Common.{ℕ, zero, suc, Option, Some, None, List, [], length, get_or, refl, sym, ap, subst, arith, inr}
 use Rattle.std.specs.Prelude.{slice_get, IsSome}
 use Rattle.std.specs.List.{AllZip}
 use Rattle.std.proofs.lemmas.Option.{slice_get-get_or}
@@ -13,7 +14,8 @@ use Rattle.regions.specs.Shaped.{IsShaped}
 use Rattle.regions.proofs.Tiles.InUse.{object_in_use}
 use Rattle.marker.proofs.Views.{kept_object}
 use Rattle.object_graph.specs.State.{State, root_at}
-use Rattle.step_core.specs.Stands.{CoreState, kept_of, heap_of, ShowsGraph, Stands, IsCore, IsWordOf, IsRootWord, HasObject, Leads, name_in, name_of, IsWhole}
+use Rattle.step_core.specs.Stands.{CoreState, kept_of, heap_of, ShowsGraph, Stands, IsCore, IsWordOf}
+use Rattle.step_core.specs.Stands.{IsRootWord, HasObject, Leads, name_in, name_of, IsWhole}
 
 pub get_or-get : {A : Type 0} (xs : List A) (i : ℕ) (d x : A) → slice_get xs i ≡ Some x → get_or xs i d ≡ x
 get_or-get [] i d x e = cc
@@ -25,7 +27,8 @@ pub record RootRead (g : Graph) (c : CoreState) (place : ℕ) (w : Option ℕ) :
   pub here : slice_get c.roots place ≡ Some w
   pub shown : IsShown (heap_of c) w (root_at g place)
 
-pub root_shown : (g : Graph) (c : CoreState) (place : ℕ) (w : Option ℕ) → ShowsGraph g c → place < length c.roots → w ≡ get_or c.roots place None → RootRead g c place w
+pub root_shown : (g : Graph) (c : CoreState) (place : ℕ) (w : Option ℕ) → ShowsGraph g c → place < length c.roots
+    → w ≡ get_or c.roots place None → RootRead g c place w
 root_shown g c place w s k e =
     let here : slice_get c.roots place ≡ Some w = slice_get-get_or c.roots place None k ∙ ap Some (sym e) in
     let (v, is, shown) = root_read g (heap_of c) (heap_of c) s.shows place w here in
@@ -39,7 +42,8 @@ pub shown_there : (h : Heap) (a : ℕ) (v : Option ℕ) → IsShown h (Some a) v
 shown_there h a None s = absurd s
 shown_there h a (Some n) s = (s.0, s.1, ap Some (sym s.2))
 
-object_there : (g : Graph) (c : CoreState) (place a : ℕ) → ShowsGraph g c → IsShown (heap_of c) (Some a) (root_at g place) → HasObject g c place a
+object_there : (g : Graph) (c : CoreState) (place a : ℕ) → ShowsGraph g c
+    → IsShown (heap_of c) (Some a) (root_at g place) → HasObject g c place a
 object_there g c place a s shown =
     let (x, at, root) = shown_there (heap_of c) a (root_at g place) shown in
     let o = s.shows.objects a x at in
@@ -59,10 +63,15 @@ pub leads : (c : CoreState) (place : ℕ) (w : Option ℕ) → place < length c.
 leads c place None k e = λ g s. shown_nil (heap_of c) (root_at g place) (root_shown g c place None s k e).shown
 leads c place (Some a) k e = λ g s. object_there g c place a s (root_shown g c place (Some a) s k e).shown
 
-pub root_word : (c : CoreState) (place : ℕ) (w : Option ℕ) → IsCore c → place < length c.roots → w ≡ get_or c.roots place None → IsWordOf (heap_of c) w
-root_word c place w i k e = record { name = root_at i.footing.graph place; shown = (root_shown i.footing.graph c place w i.rests.shows k e).shown }
+pub root_word : (c : CoreState) (place : ℕ) (w : Option ℕ) → IsCore c → place < length c.roots
+    → w ≡ get_or c.roots place None → IsWordOf (heap_of c) w
+root_word c place w i k e = record {
+  name = root_at i.footing.graph place;
+  shown = (root_shown i.footing.graph c place w i.rests.shows k e).shown;
+}
 
-pub root_rooted : (c : CoreState) (place : ℕ) (w : Option ℕ) → place < length c.roots → w ≡ get_or c.roots place None → IsRootWord (heap_of c) w
+pub root_rooted : (c : CoreState) (place : ℕ) (w : Option ℕ) → place < length c.roots
+    → w ≡ get_or c.roots place None → IsRootWord (heap_of c) w
 root_rooted c place None k e = tt
 root_rooted c place (Some a) k e = record { place = place; is = slice_get-get_or c.roots place None k ∙ ap Some (sym e) }
 
@@ -87,7 +96,8 @@ unfolding fields_at
 fields_there c a x e = ap object_fields (object_kept c a x e)
 
 -- what a pointer of an object holds that a root names can be stored
-pub field_held : (c : CoreState) (b i : ℕ) (x : Stored) (w : Option ℕ) → IsRoot (heap_of c) b → kept_of c b ≡ Some x → slice_get x.pointers i ≡ Some w → IsHeld (heap_of c) w
+pub field_held : (c : CoreState) (b i : ℕ) (x : Stored) (w : Option ℕ) → IsRoot (heap_of c) b → kept_of c b ≡ Some x
+    → slice_get x.pointers i ≡ Some w → IsHeld (heap_of c) w
 field_held c b i x None root at is = tt
 field_held c b i x (Some a) root at is = inr (b, root, record { object = x; at = at; field = i; is = is })
 
@@ -97,12 +107,14 @@ pub record FieldRead (c : CoreState) (vs : List (Option ℕ)) (i : ℕ) (w : Opt
   pub there : slice_get vs i ≡ Some name
   pub shown : IsShown (heap_of c) w name
 
-pub field_shown : (g : Graph) (c : CoreState) (place a i : ℕ) (w : Option ℕ) (h : HasObject g c place a) → slice_get h.stored.pointers i ≡ Some w → FieldRead c h.object.pointers i w
+pub field_shown : (g : Graph) (c : CoreState) (place a i : ℕ) (w : Option ℕ) (h : HasObject g c place a)
+    → slice_get h.stored.pointers i ≡ Some w → FieldRead c h.object.pointers i w
 field_shown g c place a i w h e =
     let (v, is, shown) = AllZip-get (IsShown (heap_of c)) h.stored.pointers h.object.pointers h.pointers i w e in
     record { name = v; there = is; shown = shown }
 
-pub slot_shown : (g : Graph) (c : CoreState) (place a i : ℕ) (w : Option ℕ) (h : HasObject g c place a) → slice_get h.stored.weaks i ≡ Some w → FieldRead c h.object.weaks i w
+pub slot_shown : (g : Graph) (c : CoreState) (place a i : ℕ) (w : Option ℕ) (h : HasObject g c place a)
+    → slice_get h.stored.weaks i ≡ Some w → FieldRead c h.object.weaks i w
 slot_shown g c place a i w h e =
     let (v, is, shown) = AllZip-get (IsShown (heap_of c)) h.stored.weaks h.object.weaks h.weaks i w e in
     record { name = v; there = is; shown = shown }
@@ -118,17 +130,20 @@ AllZip-length R [] (y ∷ ys) z = absurd z
 AllZip-length R (x ∷ xs) [] z = absurd z
 AllZip-length R (x ∷ xs) (y ∷ ys) z = ap suc (AllZip-length R xs ys z.1)
 
-pub no_field : (g : Graph) (c : CoreState) (place a i : ℕ) (h : HasObject g c place a) → length h.stored.pointers ≤ i → slice_get h.object.pointers i ≡ None
+pub no_field : (g : Graph) (c : CoreState) (place a i : ℕ) (h : HasObject g c place a)
+    → length h.stored.pointers ≤ i → slice_get h.object.pointers i ≡ None
 no_field g c place a i h k =
     let e = AllZip-length (IsShown (heap_of c)) h.stored.pointers h.object.pointers h.pointers in
     past_end h.object.pointers i (omega arith)
 
-pub no_slot : (g : Graph) (c : CoreState) (place a i : ℕ) (h : HasObject g c place a) → length h.stored.weaks ≤ i → slice_get h.object.weaks i ≡ None
+pub no_slot : (g : Graph) (c : CoreState) (place a i : ℕ) (h : HasObject g c place a)
+    → length h.stored.weaks ≤ i → slice_get h.object.weaks i ≡ None
 no_slot g c place a i h k =
     let e = AllZip-length (IsShown (heap_of c)) h.stored.weaks h.object.weaks h.weaks in
     past_end h.object.weaks i (omega arith)
 
-pub no_value : (g : Graph) (c : CoreState) (place a i : ℕ) (h : HasObject g c place a) → length h.stored.values ≤ i → slice_get h.object.values i ≡ None
+pub no_value : (g : Graph) (c : CoreState) (place a i : ℕ) (h : HasObject g c place a)
+    → length h.stored.values ≤ i → slice_get h.object.values i ≡ None
 no_value g c place a i h k = past_end h.object.values i (rw (← h.values) k)
 
 -- the name of what a word shows

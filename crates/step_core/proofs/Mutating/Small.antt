@@ -1,12 +1,14 @@
 -- Objects of ordinary regions: none has more than half a region's words, and none reaches over its region's top at mark start.
-use Rattle.std.proofs.Common.{◌≡◌, ◌≢◌, ℕ, ◌*◌, ◌/◌, ◌%◌, ◌<◌, ◌≤◌, ◌⊎◌, true, List, Option, Some, None, length, get_or, refl, sym, ◌∙◌, ap, subst, arith, inl, inr}
+use Rattle.std.proofs.Common.{◌≡◌, ◌≢◌, ◌*◌, ◌/◌, ◌%◌, ◌<◌, ◌≤◌, ◌⊎◌, ◌∙◌}
+use Rattle.std.proofs.Common.{ℕ, true, List, Option, Some, None, length, get_or, refl, sym, ap, subst, arith, inl, inr}
 use Rattle.std.specs.Prelude.{slice_index}
 use Rattle.std.proofs.lemmas.Bool.{cases_eq}
 use Rattle.std.proofs.lemmas.List.{get_or_past}
 use Rattle.std.proofs.lemmas.Bool.{cases_lt}
 use Rattle.heap_model.specs.Heap.{Stored}
 use Rattle.regions.specs.Tiles.{Object, tile_size}
-use Rattle.regions.specs.Table.{Table, Region, Free, Ordinary, First, Rest, region_kind, nth_region, region_at, region_tile, tile_in, tile_object, kind_of, object_at, object_words, stored_size, top_of, AreHalves}
+use Rattle.regions.specs.Table.{Table, Region, Free, Ordinary, First, Rest, region_kind, nth_region, region_at, region_tile, tile_in}
+use Rattle.regions.specs.Table.{tile_object, kind_of, object_at, object_words, stored_size, top_of, AreHalves}
 use Rattle.regions.specs.Shaped.{IsShaped}
 use Rattle.regions.specs.declared.row.Kind.{Kind}
 use Rattle.regions.specs.declared.row.Kind.TheVariants as kinds
@@ -35,23 +37,27 @@ option_is None = inr refl
 option_is (Some x) = inl (x, refl)
 
 -- the same kinds and sizes
-module _ (t t' : Table) (size : t'.words_per_region ≡ t.words_per_region) (kinds_same : (k : ℕ) → kind_of t' k ≡ kind_of t k) (words : (a : ℕ) → object_words t' a ≡ object_words t a) where
+module _ (t t' : Table) (size : t'.words_per_region ≡ t.words_per_region) (kinds_same : (k : ℕ) → kind_of t' k ≡ kind_of t k)
+    (words : (a : ℕ) → object_words t' a ≡ object_words t a) where
   pub halves_same : AreHalves t → AreHalves t'
   halves_same h = λ a x e o.
       let long = words_are t' a x e in
       elim (option_is (object_at t a)) [
         | inl some ↦
-            let was : kind_of t (a / t.words_per_region) ≡ kinds.Ordinary = sym (kinds_same (a / t.words_per_region)) ∙ ap (λ (w : ℕ). kind_of t' (a / w)) (sym size) ∙ o in
+            let was : kind_of t (a / t.words_per_region) ≡ kinds.Ordinary =
+            sym (kinds_same (a / t.words_per_region)) ∙ ap (λ (w : ℕ). kind_of t' (a / w)) (sym size) ∙ o in
             let le = h a some.0 some.1 was in
             omega (arith, words a, size, le, long, words_are t a some.0 some.1)
         | inr none ↦ omega (arith, words a, long, words_none t a none)
       ]
 
   pub ends_same : (tops : List ℕ) → EndsBelow t tops → EndsBelow t' tops
-  ends_same tops e = λ k a o i lt. let le = e k a (sym (kinds_same k) ∙ o) (subst (λ (w : ℕ). is_in_region w k a ≡ true) size i) lt in omega (arith, words a, le)
+  ends_same tops e = λ k a o i lt. let le = e k a (sym (kinds_same k) ∙ o) (subst (λ (w : ℕ). is_in_region w k a ≡ true) size i) lt in
+      omega (arith, words a, le)
 
 -- an object is written over by one of its size
-pub words_written : (t t' : Table) (a : ℕ) (x y : Stored) → WritesObject t t' a x y → tile_size (Object y) ≡ tile_size (Object x) → (b : ℕ) → object_words t' b ≡ object_words t b
+pub words_written : (t t' : Table) (a : ℕ) (x y : Stored) → WritesObject t t' a x y → tile_size (Object y) ≡ tile_size (Object x)
+    → (b : ℕ) → object_words t' b ≡ object_words t b
 words_written t t' a x y w long b =
     elim (cases_eq b a) [
       | inl q ↦ ap (object_words t') q ∙ words_are t' a y w.is ∙ long ∙ sym (ap (object_words t) q ∙ words_are t a x w.was)
@@ -83,9 +89,11 @@ pub inside_own : (words a : ℕ) → 0 < words → is_in_region words (a / words
 inside_own words a z = in_region words (a / words) a (omega arith) (omega arith)
 
 -- one more object, where regions in use stay what they are
-module _ (t t' : Table) (a : ℕ) (x : Stored) (size : t'.words_per_region ≡ t.words_per_region) (stay : (j : ℕ) → kind_of t j ≢ kinds.Free → kind_of t' j ≡ kind_of t j)
+module _ (t t' : Table) (a : ℕ) (x : Stored) (size : t'.words_per_region ≡ t.words_per_region)
+    (stay : (j : ℕ) → kind_of t j ≢ kinds.Free → kind_of t' j ≡ kind_of t j)
     (is : object_at t' a ≡ Some x) (others : (y : ℕ) → y ≢ a → object_at t' y ≡ object_at t y) where
-  pub halves_added : 0 < t.words_per_region → (kind_of t' (a / t.words_per_region) ≡ kinds.Ordinary → 2 * tile_size (Object x) ≤ t.words_per_region) → AreHalves t → AreHalves t'
+  pub halves_added : 0 < t.words_per_region
+      → (kind_of t' (a / t.words_per_region) ≡ kinds.Ordinary → 2 * tile_size (Object x) ≤ t.words_per_region) → AreHalves t → AreHalves t'
   halves_added z half h = λ b y e o.
       let at : kind_of t' (b / t.words_per_region) ≡ kinds.Ordinary = ap (λ (w : ℕ). kind_of t' (b / w)) (sym size) ∙ o in
       let long = words_are t' b y e in
@@ -125,23 +133,27 @@ unfolding kind_of nth_region
 ordinary_known t k o =
     elim (cases_lt k (length t.regions)) [
       | inl lt ↦ lt
-      | inr past ↦ absurd (let none : region_kind (get_or t.regions k Free) ≡ kinds.Free = ap region_kind (get_or_past t.regions k Free past) in cc)
+      | inr past ↦
+          absurd (let none : region_kind (get_or t.regions k Free) ≡ kinds.Free = ap region_kind (get_or_past t.regions k Free past) in cc)
     ]
 
 -- no object reaches over its region's top
-pub ends_at_tops : (t : Table) (tops : List ℕ) → IsShaped t → ((k : ℕ) → k < length t.regions → slice_index tops k ≡ top_of t k) → EndsBelow t tops
+pub ends_at_tops : (t : Table) (tops : List ℕ) → IsShaped t
+    → ((k : ℕ) → k < length t.regions → slice_index tops k ≡ top_of t k) → EndsBelow t tops
 ends_at_tops t tops shaped top = λ k a o i lt.
     let is = top k (ordinary_known t k o) in
     elim (option_cases (object_at t a)) [
       | inl none ↦ let no = words_none t a none in omega (arith, no, lt)
       | inr some ↦
-          let end = (spans t k shaped o).ends a some.0 (region_low t.words_per_region k a i) (region_high t.words_per_region k a i) some.1 in
+          let end =
+          (spans t k shaped o).ends a some.0 (region_low t.words_per_region k a i) (region_high t.words_per_region k a i) some.1 in
           omega (arith, words_are t a some.0 some.1, end, is)
     ]
 
 -- regions that are ordinary now were so, with the same objects, and have the tops that they had
 pub halves_left : (t t' : Table) → 0 < t.words_per_region → t'.words_per_region ≡ t.words_per_region
-    → ((k a : ℕ) → kind_of t' k ≡ kinds.Ordinary → is_in_region t.words_per_region k a ≡ true → (kind_of t k ≡ kinds.Ordinary) × (object_words t' a ≡ object_words t a))
+    → ((k a : ℕ) → kind_of t' k ≡ kinds.Ordinary → is_in_region t.words_per_region k a ≡ true
+    → (kind_of t k ≡ kinds.Ordinary) × (object_words t' a ≡ object_words t a))
     → AreHalves t → AreHalves t'
 halves_left t t' z size same h = λ a x e o.
     let at : kind_of t' (a / t.words_per_region) ≡ kinds.Ordinary = ap (λ (w : ℕ). kind_of t' (a / w)) (sym size) ∙ o in
@@ -153,7 +165,8 @@ halves_left t t' z size same h = λ a x e o.
     ]
 
 pub ends_left : (t t' : Table) (tops tops' : List ℕ) → t'.words_per_region ≡ t.words_per_region
-    → ((k a : ℕ) → kind_of t' k ≡ kinds.Ordinary → is_in_region t.words_per_region k a ≡ true → (kind_of t k ≡ kinds.Ordinary) × (object_words t' a ≡ object_words t a))
+    → ((k a : ℕ) → kind_of t' k ≡ kinds.Ordinary → is_in_region t.words_per_region k a ≡ true
+    → (kind_of t k ≡ kinds.Ordinary) × (object_words t' a ≡ object_words t a))
     → ((k : ℕ) → kind_of t' k ≡ kinds.Ordinary → slice_index tops' k ≡ slice_index tops k)
     → EndsBelow t tops → EndsBelow t' tops'
 ends_left t t' tops tops' size same top e = λ k a o i lt.

@@ -40,17 +40,21 @@ pub record Rooted (c : CoreState) (a : ℕ) : Type 0 where
   pub at : kept_of c a ≡ Some stored
 
 pub rooted : (c : CoreState) (a : ℕ) → IsCore c → IsRoot (heap_of c) a → Rooted c a
-rooted c a core r = let (x, at) = (closed core.footing.graph (heap_of c) core.rests.shows.shows).root r.place a r.is in record { stored = x; at = at }
+rooted c a core r =
+    let (x, at) = (closed core.footing.graph (heap_of c) core.rests.shows.shows).root r.place a r.is in
+    record { stored = x; at = at }
 
 pub is_kept : (c : CoreState) (a : ℕ) (x : Stored) → kept_of c a ≡ Some x → IsKept c.table c.marker a
 unfolding kept_of
 is_kept c a x e = record { object = x; is = e }
 
 -- what the field held is kept
-pub overwritten_kept : (c : CoreState) (a i b : ℕ) (w : Option ℕ) → IsCore c → Rooted c a → slice_get (pointers_at c.table a) i ≡ Some w → w ≡ Some b → IsKept c.table c.marker b
+pub overwritten_kept : (c : CoreState) (a i b : ℕ) (w : Option ℕ) → IsCore c → Rooted c a → slice_get (pointers_at c.table a) i ≡ Some w
+    → w ≡ Some b → IsKept c.table c.marker b
 overwritten_kept c a i b w core r is e =
     let all = closed core.footing.graph (heap_of c) core.rests.shows.shows in
-    let there : slice_get r.stored.pointers i ≡ Some (Some b) = ap (λ (ps : List (Option ℕ)). slice_get ps i) (sym (pointers_there c a r.stored r.at)) ∙ is ∙ ap Some e in
+    let there : slice_get r.stored.pointers i ≡ Some (Some b) =
+    ap (λ (ps : List (Option ℕ)). slice_get ps i) (sym (pointers_there c a r.stored r.at)) ∙ is ∙ ap Some e in
     let (x, at) = all.field a i b r.stored r.at (get-append_left r.stored.pointers r.stored.weaks i (Some b) there) in
     is_kept c b x at
 
@@ -62,8 +66,8 @@ with_store c t m = record c { table = t; marker = m }
 pub same_keeping : (c : CoreState) (t : Table) (m : Marker) → SameRoles c.marker m → SameKeeping c (with_store c t m)
 same_keeping c t m same = record { tams = ap (λ tams. Tops.previous tams) same.tams; previous = same.previous; roots = refl }
 
-module _ (k : CoreState) (core : IsCore k) (a i : ℕ) (w : Option ℕ) (t : Table) (root : IsRoot (heap_of k) a) (within : i < length (pointers_at k.table a))
-    (held : IsHeld (heap_of k) w) (is : t ≡ set_pointer k.table a i w) (r : Rooted k a)
+module _ (k : CoreState) (core : IsCore k) (a i : ℕ) (w : Option ℕ) (t : Table) (root : IsRoot (heap_of k) a)
+    (within : i < length (pointers_at k.table a)) (held : IsHeld (heap_of k) w) (is : t ≡ set_pointer k.table a i w) (r : Rooted k a)
     (noted : IsNoted k.table.words_per_region (card_words k.config) (is_dirty k.cards) (field_word a i) w) where
   abbrev pub x : Stored
   x = r.stored
@@ -72,7 +76,8 @@ module _ (k : CoreState) (core : IsCore k) (a i : ℕ) (w : Option ℕ) (t : Tab
   at = r.at
 
   pub writes : WritesObject k.table t a x (with_pointer x i w)
-  writes = subst (λ (u : Table). WritesObject k.table u a x (with_pointer x i w)) (sym is) (pointer_put k.table a i w x (some_words k core) (object_kept k a x at))
+  writes = subst (λ (u : Table). WritesObject k.table u a x (with_pointer x i w)) (sym is)
+      (pointer_put k.table a i w x (some_words k core) (object_kept k a x at))
 
   module _ (m : Marker) (same : SameRoles k.marker m) where
     abbrev after : CoreState
@@ -82,29 +87,39 @@ module _ (k : CoreState) (core : IsCore k) (a i : ℕ) (w : Option ℕ) (t : Tab
     set_in = object_written k after a x (with_pointer x i w) writes refl at (same_keeping k t m same)
 
     -- the heap shows the graph with the field changed
-    pub store_shows : (g : Graph) (y : Stored) (o : Object) (v : Option ℕ) → ShowsGraph g k → kept_of k a ≡ Some y → object_named g y.name ≡ Some o → IsShown (heap_of k) w v
+    pub store_shows : (g : Graph) (y : Stored) (o : Object) (v : Option ℕ) → ShowsGraph g k → kept_of k a ≡ Some y
+        → object_named g y.name ≡ Some o → IsShown (heap_of k) w v
         → ShowsGraph (with_changed g y.name (record o { pointers = slice_set o.pointers i v })) after
     store_shows g y o v s aty named shown =
         let at_x = at in
         let here : y ≡ x = cc in
         let shown_object = s.shows.objects a x at in
-        let same_object : shown_object.object ≡ o = let e1 = shown_object.named in let e2 = ap (λ (z : Stored). object_named g z.name) here in cc in
-        let pointers : AllZip (IsShown (heap_of k)) x.pointers o.pointers = subst (λ (q : Object). AllZip (IsShown (heap_of k)) x.pointers q.pointers) same_object shown_object.pointers in
-        let weaks : AllZip (IsShown (heap_of k)) x.weaks o.weaks = subst (λ (q : Object). AllZip (IsShown (heap_of k)) x.weaks q.weaks) same_object shown_object.weaks in
+        let same_object : shown_object.object ≡ o =
+        let e1 = shown_object.named in
+        let e2 = ap (λ (z : Stored). object_named g z.name) here in
+        cc in
+        let pointers : AllZip (IsShown (heap_of k)) x.pointers o.pointers =
+        subst (λ (q : Object). AllZip (IsShown (heap_of k)) x.pointers q.pointers) same_object shown_object.pointers in
+        let weaks : AllZip (IsShown (heap_of k)) x.weaks o.weaks =
+        subst (λ (q : Object). AllZip (IsShown (heap_of k)) x.weaks q.weaks) same_object shown_object.weaks in
         let values : x.values ≡ o.values = shown_object.values ∙ ap (λ (q : Object). q.values) same_object in
         let p : Object = record o { pointers = slice_set o.pointers i v } in
         subst (λ (z : Stored). ShowsGraph (with_changed g z.name p) after) (sym here)
-        (object_shows g k after a x (with_pointer x i w) o p s (record { config = refl; next = refl }) set_in (ap (λ (z : Stored). object_named g z.name) (sym here) ∙ named)
+        (object_shows g k after a x (with_pointer x i w) o p s (record { config = refl; next = refl }) set_in
+        (ap (λ (z : Stored). object_named g z.name) (sym here) ∙ named)
         (AllZip-set (IsShown (heap_of k)) x.pointers o.pointers pointers i w v shown) weaks values)
 
     -- the old value was saved, so what is to be marked still will be
-    pub store_keeps : (was : Option ℕ) → slice_get (pointers_at k.table a) i ≡ Some was → IsSaved (views.marking_of k.table k.marker) (views.marking_of k.table m) was
+    pub store_keeps : (was : Option ℕ) → slice_get (pointers_at k.table a) i ≡ Some was
+        → IsSaved (views.marking_of k.table k.marker) (views.marking_of k.table m) was
         → (s : Graph) → KeepsFrom s k → KeepsFrom s after
     store_keeps was there saved s f = record {
       earlier = f.earlier;
       marking = λ run. subst (λ (marks : Marking). KeepsSnapshot s (heap_of after) marks) (sym (marking_same k.table t m writes.size))
-          (object_set (IsReachable s) (next_name s) core.footing.graph (heap_of k) (marking_of k) core.rests.shows.shows (f.marking (sym same.running ∙ run)) (heap_of after) (views.marking_of k.table m)
-          a x (with_pointer x i w) i was w root held (ap (λ (ps : List (Option ℕ)). slice_get ps i) (sym (pointers_there k a x at)) ∙ there) set_in refl saved);
+          (object_set (IsReachable s) (next_name s) core.footing.graph (heap_of k) (marking_of k) core.rests.shows.shows
+          (f.marking (sym same.running ∙ run)) (heap_of after) (views.marking_of k.table m)
+          a x (with_pointer x i w) i was w root held
+          (ap (λ (ps : List (Option ℕ)). slice_get ps i) (sym (pointers_there k a x at)) ∙ there) set_in refl saved);
     }
 
   inside : i < length x.pointers
@@ -115,7 +130,8 @@ module _ (k : CoreState) (core : IsCore k) (a i : ℕ) (w : Option ℕ) (t : Tab
 
   -- the field's card is noted, so all stays remembered
   pub store_remembers : (m : Marker) (same : SameRoles k.marker m) → RemembersFields (with_store k t m)
-  store_remembers m same = remembers_stored k (with_store k t m) a i w x (with_pointer x i w) refl writes.size refl refl (set_in m same) (pointer_fields x i w inside) noted core.remembers
+  store_remembers m same = remembers_stored k (with_store k t m) a i w x (with_pointer x i w) refl writes.size refl refl (set_in m same)
+      (pointer_fields x i w inside) noted core.remembers
 
   -- while marking doesn't run there is nothing to save
   pub idle_keeps : k.marker.running ≡ false → (s : Graph) → KeepsFrom s k → KeepsFrom s (with_store k t k.marker)
@@ -131,7 +147,10 @@ module _ (k : CoreState) (core : IsCore k) (a i : ℕ) (w : Option ℕ) (t : Tab
       name : (u : Option ℕ) → IsHeld (heap_of k) u → (v : Option ℕ) × IsShown (heap_of k) u v
       name None h = (None, tt)
       name (Some b) (inl r) = let o = rooted k b core r in all b o.stored o.at
-      name (Some b) (inr p) = let (z, e) = (closed core.footing.graph (heap_of k) core.rests.shows.shows).field p.0 p.2.field b p.2.object p.2.at (get-append_left p.2.object.pointers p.2.object.weaks p.2.field (Some b) p.2.is) in all b z e
+      name (Some b) (inr p) =
+          let (z, e) = (closed core.footing.graph (heap_of k) core.rests.shows.shows).field p.0 p.2.field b p.2.object p.2.at
+          (get-append_left p.2.object.pointers p.2.object.weaks p.2.field (Some b) p.2.is) in
+          all b z e
 
   -- the graph that the invariant knows, with the field changed
   abbrev pub graph_after : Graph
@@ -147,7 +166,8 @@ module _ (k : CoreState) (core : IsCore k) (a i : ℕ) (w : Option ℕ) (t : Tab
   sound_after : IsSound graph_after
   sound_after =
       let o = core.rests.shows.shows.objects a x at in
-      object_rests core.footing.graph k x.name o.object (record o.object { pointers = slice_set o.object.pointers i held_name.0 }) (slice_set x.pointers i w) x.weaks core.rests.shows o.named
+      object_rests core.footing.graph k x.name o.object (record o.object { pointers = slice_set o.object.pointers i held_name.0 })
+      (slice_set x.pointers i w) x.weaks core.rests.shows o.named
       (AllZip-set (IsShown (heap_of k)) x.pointers o.object.pointers o.pointers i w held_name.0 held_name.1) o.weaks core.rests.sound
 
   -- the core after a store while marking doesn't run
@@ -155,7 +175,8 @@ module _ (k : CoreState) (core : IsCore k) (a i : ℕ) (w : Option ℕ) (t : Tab
   idle_kept idle = record {
     suits = core.suits;
     placed = core.placed;
-    layers = layers_writes k.config k.table t k.buffers k.marker a x (with_pointer x i w) writes core.layers (λ run. absurd cc) (ap (λ (n : ℕ). 2 + n + length x.weaks + length x.values) (length-set x.pointers i w));
+    layers = layers_writes k.config k.table t k.buffers k.marker a x (with_pointer x i w) writes core.layers (λ run. absurd cc)
+        (ap (λ (n : ℕ). 2 + n + length x.weaks + length x.values) (length-set x.pointers i w));
     cards = core.cards;
     remembers = store_remembers k.marker same_roles;
     room = core.room;
@@ -181,17 +202,22 @@ module _ (k : CoreState) (core : IsCore k) (a i : ℕ) (w : Option ℕ) (t : Tab
     mid_keeps = store_keeps m same was there saved
 
     pub mid_follows : m.running ≡ true → CanFollow t m
-    mid_follows = follows_of (with_store k t m) graph_after core.footing.snapshot (shows_after m same) (mid_keeps core.footing.snapshot core.rests.keeps)
+    mid_follows =
+        follows_of (with_store k t m) graph_after core.footing.snapshot (shows_after m same)
+        (mid_keeps core.footing.snapshot core.rests.keeps)
 
     pub mid_stands : MarkerStands t m
     mid_stands =
         let tams = same.tams in
-        marker_writes k.table t k.buffers m a x (with_pointer x i w) writes (rw tams core.layers.above_previous) (rw tams core.layers.above_next) st mid_follows (ap (λ (n : ℕ). 2 + n + length x.weaks + length x.values) (length-set x.pointers i w))
+        marker_writes k.table t k.buffers m a x (with_pointer x i w) writes (rw tams core.layers.above_previous)
+        (rw tams core.layers.above_next) st mid_follows
+        (ap (λ (n : ℕ). 2 + n + length x.weaks + length x.values) (length-set x.pointers i w))
 
     unreached_after : k.marker.running ≡ true → KeepsUnreached core.footing.snapshot graph_after
     unreached_after run =
         let o = core.rests.shows.shows.objects a x at in
-        unreached_changed core.footing.snapshot core.footing.graph core.rests.unreached x.name o.object (record o.object { pointers = slice_set o.object.pointers i held_name.0 }) o.named
+        unreached_changed core.footing.snapshot core.footing.graph core.rests.unreached x.name o.object
+        (record o.object { pointers = slice_set o.object.pointers i held_name.0 }) o.named
         (rooted_known core.footing.graph core.footing.snapshot k a x core.rests.shows (core.rests.keeps.marking run) root at)
 
     -- a log of eight was taken, or none was full
@@ -213,7 +239,8 @@ module _ (k : CoreState) (core : IsCore k) (a i : ℕ) (w : Option ℕ) (t : Tab
           record {
             suits = core.suits;
             placed = core.placed;
-            layers = layers_changed k.config k.table t k.buffers k.marker m2 a x (with_pointer x i w) writes core.layers st2 same2.tams logs room (ap (λ (n : ℕ). 2 + n + length x.weaks + length x.values) (length-set x.pointers i w));
+            layers = layers_changed k.config k.table t k.buffers k.marker m2 a x (with_pointer x i w) writes core.layers st2 same2.tams logs
+                room (ap (λ (n : ℕ). 2 + n + length x.weaks + length x.values) (length-set x.pointers i w));
             cards = core.cards;
             remembers = store_remembers m2 same2;
             room = core.room;
@@ -221,5 +248,10 @@ module _ (k : CoreState) (core : IsCore k) (a i : ℕ) (w : Option ℕ) (t : Tab
             places = core.places;
             names = core.names;
             footing = record { graph = graph_after; snapshot = core.footing.snapshot };
-            rests = record { shows = shows_after m2 same2; keeps = keeps; sound = sound_after; unreached = unreached_after (sym same.running ∙ run) };
+            rests = record {
+              shows = shows_after m2 same2;
+              keeps = keeps;
+              sound = sound_after;
+              unreached = unreached_after (sym same.running ∙ run);
+            };
           }

@@ -39,7 +39,8 @@ module _ (k : CoreState) (core : IsCore k) (place : ℕ) (w : Option ℕ) (m : M
   set_in : RootSet (heap_of k) (heap_of (with_touch k place w m)) place w
   set_in = record { kept = kept_same; roots = refl }
 
-  shows_by : (g : Graph) (v : Option ℕ) → ShowsGraph g k → IsShown (heap_of k) w v → ShowsGraph (with_root g place v) (with_touch k place w m)
+  shows_by : (g : Graph) (v : Option ℕ) → ShowsGraph g k → IsShown (heap_of k) w v
+      → ShowsGraph (with_root g place v) (with_touch k place w m)
   shows_by g v s shown = record {
     room = s.room;
     places = s.places;
@@ -48,10 +49,12 @@ module _ (k : CoreState) (core : IsCore k) (place : ℕ) (w : Option ℕ) (m : M
   }
 
   remembers_by : RemembersFields (with_touch k place w m)
-  remembers_by = remembers_on k (with_touch k place w m) refl refl refl refl (same_fields (kept_of k) (kept_of (with_touch k place w m)) kept_same) core.remembers
+  remembers_by = remembers_on k (with_touch k place w m) refl refl refl refl
+      (same_fields (kept_of k) (kept_of (with_touch k place w m)) kept_same) core.remembers
 
   -- what every core keeps, where the snapshot of the touched name is kept
-  kept_by_touch : (v : Option ℕ) → IsShown (heap_of k) w v → KeepsFrom (touched core.footing.snapshot v) (with_touch k place w m) → MarkerStands k.table m → length m.logs ≡ length k.marker.logs
+  kept_by_touch : (v : Option ℕ) → IsShown (heap_of k) w v → KeepsFrom (touched core.footing.snapshot v) (with_touch k place w m)
+      → MarkerStands k.table m → length m.logs ≡ length k.marker.logs
       → ((mutator : ℕ) → length (log_of m.logs mutator) < 8) → IsCore (with_touch k place w m)
   kept_by_touch v shown keeps st logs room = record {
     suits = core.suits;
@@ -68,7 +71,8 @@ module _ (k : CoreState) (core : IsCore k) (place : ℕ) (w : Option ℕ) (m : M
       shows = shows_by core.footing.graph v core.rests.shows shown;
       keeps = keeps;
       sound = root_rests core.footing.graph k place w v core.rests.shows shown core.rests.sound;
-      unreached = unreached_root (touched core.footing.snapshot v) core.footing.graph (unreached_touched core.footing.snapshot core.footing.graph core.rests.unreached v) place v;
+      unreached = unreached_root (touched core.footing.snapshot v) core.footing.graph
+          (unreached_touched core.footing.snapshot core.footing.graph core.rests.unreached v) place v;
     };
   }
 
@@ -77,19 +81,23 @@ module _ (k : CoreState) (core : IsCore k) (place : ℕ) (w : Option ℕ) (m : M
 
   -- the target was saved
   module _ (run : k.marker.running ≡ true) (kept : IsSaved (views.marking_of k.table k.marker) (views.marking_of k.table m) w) where
-    saved_by : (s g : Graph) (v : Option ℕ) → ShowsGraph g k → KeepsUnreached s g → IsShown (heap_of k) w v → KeepsFrom s k → KeepsFrom (touched s v) (with_touch k place w m)
+    saved_by : (s g : Graph) (v : Option ℕ) → ShowsGraph g k → KeepsUnreached s g → IsShown (heap_of k) w v → KeepsFrom s k
+        → KeepsFrom (touched s v) (with_touch k place w m)
     saved_by s g v shows u shown f = record {
       earlier = earlier_by s v f;
-      marking = λ on. touched_invariant s g (heap_of k) (marking_of k) shows.shows (f.marking run) u (core.layers.marker.scanned_marked run) (heap_of (with_touch k place w m)) (marking_of (with_touch k place w m)) place w v shown set_in kept;
+      marking = λ on. touched_invariant s g (heap_of k) (marking_of k) shows.shows (f.marking run) u (core.layers.marker.scanned_marked run)
+          (heap_of (with_touch k place w m)) (marking_of (with_touch k place w m)) place w v shown set_in kept;
     }
 
     -- and then a log was taken
     module _ (m2 : Marker) (then : SameRoles m m2) (snapshots : KeepsSnapshots k.table m m2) where
-      taken_by : (s g : Graph) (v : Option ℕ) → ShowsGraph g k → KeepsUnreached s g → IsShown (heap_of k) w v → KeepsFrom s k → KeepsFrom (touched s v) (with_touch k place w m2)
+      taken_by : (s g : Graph) (v : Option ℕ) → ShowsGraph g k → KeepsUnreached s g → IsShown (heap_of k) w v → KeepsFrom s k
+          → KeepsFrom (touched s v) (with_touch k place w m2)
       unfolding kept_of
       taken_by s g v shows u shown f = record {
         earlier = earlier_by s v f;
-        marking = λ on. snapshots (touched s v) (with_root g place v) (slice_set k.roots place w) (shows_by g v shows shown).shows ((saved_by s g v shows u shown f).marking (same.running ∙ run));
+        marking = λ on. snapshots (touched s v) (with_root g place v) (slice_set k.roots place w) (shows_by g v shows shown).shows
+            ((saved_by s g v shows u shown f).marking (same.running ∙ run));
       }
 
 -- by the core's value
@@ -99,55 +107,76 @@ module _ (k c : CoreState) (e : k ≡ c) (core : IsCore k) (place : ℕ) (w : Op
 
   -- what the word leads to is kept
   pub word_kept : (b : ℕ) → w ≡ Some b → IsKept k.table k.marker b
-  word_kept b is = let there = shown_there (heap_of k) b word'.name (subst (λ (u : Option ℕ). IsShown (heap_of k) u word'.name) is word'.shown) in is_kept k b there.0 there.1
+  word_kept b is =
+      let there = shown_there (heap_of k) b word'.name (subst (λ (u : Option ℕ). IsShown (heap_of k) u word'.name) is word'.shown) in
+      is_kept k b there.0 there.1
 
-  pub touch_shows : (m : Marker) → SameRoles k.marker m → (g : Graph) (v : Option ℕ) → ShowsGraph g c → IsShown (heap_of c) w v → ShowsGraph (with_root g place v) (with_touch k place w m)
-  touch_shows m same = subst (λ (d : CoreState). (g : Graph) (v : Option ℕ) → ShowsGraph g d → IsShown (heap_of d) w v → ShowsGraph (with_root g place v) (with_touch k place w m)) e (shows_by k core place w m same)
+  pub touch_shows : (m : Marker) → SameRoles k.marker m → (g : Graph) (v : Option ℕ) → ShowsGraph g c → IsShown (heap_of c) w v
+      → ShowsGraph (with_root g place v) (with_touch k place w m)
+  touch_shows m same = subst (λ (d : CoreState).
+      (g : Graph) (v : Option ℕ) → ShowsGraph g d → IsShown (heap_of d) w v → ShowsGraph (with_root g place v) (with_touch k place w m)) e
+      (shows_by k core place w m same)
 
   pub touch_leaves : (m : Marker) → LeavesRegions c (with_touch k place w m)
   touch_leaves m = subst (λ (d : CoreState). LeavesRegions d (with_touch k place w m)) e (record { config = refl; in_use = λ j used. used })
 
   -- while marking doesn't run
   module _ (idle : k.marker.running ≡ false) where
-    pub idle_shows : (g : Graph) (v : Option ℕ) → ShowsGraph g c → IsShown (heap_of c) w v → ShowsGraph (with_root g place v) (with_touch k place w k.marker)
+    pub idle_shows : (g : Graph) (v : Option ℕ) → ShowsGraph g c → IsShown (heap_of c) w v
+        → ShowsGraph (with_root g place v) (with_touch k place w k.marker)
     idle_shows = touch_shows k.marker (same_roles k.marker)
 
     idle_by : (s : Graph) (v : Option ℕ) → KeepsFrom s k → KeepsFrom (touched s v) (with_touch k place w k.marker)
     idle_by s v f = record { earlier = earlier_by k core place w k.marker (same_roles k.marker) s v f; marking = λ run. absurd cc }
 
-    pub idle_keeps : (s g : Graph) (v : Option ℕ) → ShowsGraph g c → KeepsUnreached s g → IsShown (heap_of c) w v → KeepsFrom s c → KeepsFrom (touched s v) (with_touch k place w k.marker)
+    pub idle_keeps : (s g : Graph) (v : Option ℕ) → ShowsGraph g c → KeepsUnreached s g → IsShown (heap_of c) w v → KeepsFrom s c
+        → KeepsFrom (touched s v) (with_touch k place w k.marker)
     idle_keeps s g v shows u shown f = idle_by s v (subst (λ (d : CoreState). KeepsFrom s d) (sym e) f)
 
     pub idle_kept : IsCore (with_touch k place w k.marker)
-    idle_kept = kept_by_touch k core place w k.marker (same_roles k.marker) word'.name word'.shown (idle_by core.footing.snapshot word'.name core.rests.keeps) core.layers.marker refl core.layers.room
+    idle_kept = kept_by_touch k core place w k.marker (same_roles k.marker) word'.name word'.shown
+        (idle_by core.footing.snapshot word'.name core.rests.keeps) core.layers.marker refl core.layers.room
 
   -- while it runs
-  module _ (run : k.marker.running ≡ true) (m : Marker) (same : SameRoles k.marker m) (kept : IsSaved (views.marking_of k.table k.marker) (views.marking_of k.table m) w)
+  module _ (run : k.marker.running ≡ true) (m : Marker) (same : SameRoles k.marker m)
+      (kept : IsSaved (views.marking_of k.table k.marker) (views.marking_of k.table m) w)
       (m2 : Marker) (then : SameRoles m m2) (snapshots : KeepsSnapshots k.table m m2) where
     same2 : SameRoles k.marker m2
     same2 = record { previous = then.previous ∙ same.previous; tams = then.tams ∙ same.tams; running = then.running ∙ same.running }
 
-    pub taken_shows : (g : Graph) (v : Option ℕ) → ShowsGraph g c → IsShown (heap_of c) w v → ShowsGraph (with_root g place v) (with_touch k place w m2)
+    pub taken_shows : (g : Graph) (v : Option ℕ) → ShowsGraph g c → IsShown (heap_of c) w v
+        → ShowsGraph (with_root g place v) (with_touch k place w m2)
     taken_shows = touch_shows m2 same2
 
-    pub taken_keeps : (s g : Graph) (v : Option ℕ) → ShowsGraph g c → KeepsUnreached s g → IsShown (heap_of c) w v → KeepsFrom s c → KeepsFrom (touched s v) (with_touch k place w m2)
+    pub taken_keeps : (s g : Graph) (v : Option ℕ) → ShowsGraph g c → KeepsUnreached s g → IsShown (heap_of c) w v → KeepsFrom s c
+        → KeepsFrom (touched s v) (with_touch k place w m2)
     taken_keeps s g v shows u shown f =
-        taken_by k core place w m same run kept m2 then snapshots s g v (subst (λ (d : CoreState). ShowsGraph g d) (sym e) shows) u (subst (λ (d : CoreState). IsShown (heap_of d) w v) (sym e) shown) (subst (λ (d : CoreState). KeepsFrom s d) (sym e) f)
+        taken_by k core place w m same run kept m2
+        then snapshots s g v (subst (λ (d : CoreState). ShowsGraph g d) (sym e) shows) u
+        (subst (λ (d : CoreState). IsShown (heap_of d) w v) (sym e) shown) (subst (λ (d : CoreState). KeepsFrom s d) (sym e) f)
 
-    pub taken_kept : MarkerStands k.table m2 → length m2.logs ≡ length k.marker.logs → ((mutator : ℕ) → length (log_of m2.logs mutator) < 8) → IsCore (with_touch k place w m2)
+    pub taken_kept : MarkerStands k.table m2 → length m2.logs ≡ length k.marker.logs
+        → ((mutator : ℕ) → length (log_of m2.logs mutator) < 8) → IsCore (with_touch k place w m2)
     taken_kept st logs room = kept_by_touch k core place w m2 same2 word'.name word'.shown
-        (taken_by k core place w m same run kept m2 then snapshots core.footing.snapshot core.footing.graph word'.name core.rests.shows core.rests.unreached word'.shown core.rests.keeps) st logs room
+        (taken_by k core place w m same run kept m2
+        then snapshots core.footing.snapshot core.footing.graph word'.name core.rests.shows
+        core.rests.unreached word'.shown core.rests.keeps) st logs room
 
 -- what it does to the marker
-module _ (k c : CoreState) (e : k ≡ c) (mutator : ℕ) (w : Option ℕ) (run : k.marker.running ≡ true) (m m' : Marker) (is : m ≡ saved k.table k.marker mutator w) where
-  overwrites : TakesFull (length (log_of m.logs mutator) == 8) k.table mutator m m' → Overwrites c.marker.running c.table mutator w c.marker m'
+module _ (k c : CoreState) (e : k ≡ c) (mutator : ℕ) (w : Option ℕ) (run : k.marker.running ≡ true) (m m' : Marker)
+    (is : m ≡ saved k.table k.marker mutator w) where
+  overwrites : TakesFull (length (log_of m.logs mutator) == 8) k.table mutator m m'
+      → Overwrites c.marker.running c.table mutator w c.marker m'
   overwrites taken =
-      let all : TakesFull (length (log_of (saved k.table k.marker mutator w).logs mutator) == 8) k.table mutator (saved k.table k.marker mutator w) m'
+      let all : TakesFull (length (log_of (saved k.table k.marker mutator w).logs mutator) == 8) k.table
+      mutator (saved k.table k.marker mutator w) m'
       = subst (λ (x : Marker). TakesFull (length (log_of x.logs mutator) == 8) k.table mutator x m') is taken in
-      let on : Overwrites k.marker.running k.table mutator w k.marker m' = subst (λ (b : Bool). Overwrites b k.table mutator w k.marker m') (sym run) all in
+      let on : Overwrites k.marker.running k.table mutator w k.marker m' =
+      subst (λ (b : Bool). Overwrites b k.table mutator w k.marker m') (sym run) all in
       subst (λ (d : CoreState). Overwrites d.marker.running d.table mutator w d.marker m') e on
 
-  pub touched_full : (length (log_of m.logs mutator) == 8) ≡ true → HasTakenLog k.table mutator m m' → Overwrites c.marker.running c.table mutator w c.marker m'
+  pub touched_full : (length (log_of m.logs mutator) == 8) ≡ true → HasTakenLog k.table mutator m m'
+      → Overwrites c.marker.running c.table mutator w c.marker m'
   touched_full full taken = overwrites (subst (λ (b : Bool). TakesFull b k.table mutator m m') (sym full) taken)
 
   pub touched_room : (length (log_of m.logs mutator) == 8) ≡ false → m' ≡ m → Overwrites c.marker.running c.table mutator w c.marker m'

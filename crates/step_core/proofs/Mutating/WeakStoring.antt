@@ -40,8 +40,10 @@ slot_within k c a i e within =
     let count = fields_count k.table a in
     omega (arith, count, within')
 
-module _ (k : CoreState) (core : IsCore k) (a i : ℕ) (w : Option ℕ) (t : Table) (root : IsRoot (heap_of k) a) (within : i < length (weaks_at k.table a)) (word : IsWordOf (heap_of k) w)
-    (noted : IsNoted k.table.words_per_region (card_words k.config) (is_dirty k.cards) (field_word a (weak_field k a i)) w) (is : t ≡ set_weak k.table a i w) where
+module _ (k : CoreState) (core : IsCore k) (a i : ℕ) (w : Option ℕ) (t : Table) (root : IsRoot (heap_of k) a)
+    (within : i < length (weaks_at k.table a)) (word : IsWordOf (heap_of k) w)
+    (noted : IsNoted k.table.words_per_region (card_words k.config) (is_dirty k.cards) (field_word a (weak_field k a i)) w)
+    (is : t ≡ set_weak k.table a i w) where
   r : Rooted k a
   r = rooted k a core root
 
@@ -52,25 +54,33 @@ module _ (k : CoreState) (core : IsCore k) (a i : ℕ) (w : Option ℕ) (t : Tab
   after = record k { table = t }
 
   writes : WritesObject k.table t a x (with_weak x i w)
-  writes = subst (λ (u : Table). WritesObject k.table u a x (with_weak x i w)) (sym is) (weak_put k.table a i w x (some_words k core) (object_kept k a x r.at))
+  writes = subst (λ (u : Table). WritesObject k.table u a x (with_weak x i w)) (sym is)
+      (weak_put k.table a i w x (some_words k core) (object_kept k a x r.at))
 
   set_in : ObjectSet (heap_of k) (heap_of after) a x (with_weak x i w)
   set_in = object_written k after a x (with_weak x i w) writes refl r.at (record { tams = refl; previous = refl; roots = refl })
 
   -- the heap shows the graph with the slot changed
-  shows_by : (g : Graph) (y : Stored) (o : Object) (v : Option ℕ) → ShowsGraph g k → kept_of k a ≡ Some y → object_named g y.name ≡ Some o → IsShown (heap_of k) w v
+  shows_by : (g : Graph) (y : Stored) (o : Object) (v : Option ℕ) → ShowsGraph g k → kept_of k a ≡ Some y
+      → object_named g y.name ≡ Some o → IsShown (heap_of k) w v
       → ShowsGraph (with_changed g y.name (record o { weaks = slice_set o.weaks i v })) after
   shows_by g y o v s aty named shown =
       let at_x = r.at in
       let here : y ≡ x = cc in
       let shown_object = s.shows.objects a x r.at in
-      let same_object : shown_object.object ≡ o = let e1 = shown_object.named in let e2 = ap (λ (z : Stored). object_named g z.name) here in cc in
-      let pointers : AllZip (IsShown (heap_of k)) x.pointers o.pointers = subst (λ (q : Object). AllZip (IsShown (heap_of k)) x.pointers q.pointers) same_object shown_object.pointers in
-      let weaks : AllZip (IsShown (heap_of k)) x.weaks o.weaks = subst (λ (q : Object). AllZip (IsShown (heap_of k)) x.weaks q.weaks) same_object shown_object.weaks in
+      let same_object : shown_object.object ≡ o =
+      let e1 = shown_object.named in
+      let e2 = ap (λ (z : Stored). object_named g z.name) here in
+      cc in
+      let pointers : AllZip (IsShown (heap_of k)) x.pointers o.pointers =
+      subst (λ (q : Object). AllZip (IsShown (heap_of k)) x.pointers q.pointers) same_object shown_object.pointers in
+      let weaks : AllZip (IsShown (heap_of k)) x.weaks o.weaks =
+      subst (λ (q : Object). AllZip (IsShown (heap_of k)) x.weaks q.weaks) same_object shown_object.weaks in
       let values : x.values ≡ o.values = shown_object.values ∙ ap (λ (q : Object). q.values) same_object in
       let p : Object = record o { weaks = slice_set o.weaks i v } in
       subst (λ (z : Stored). ShowsGraph (with_changed g z.name p) after) (sym here)
-      (object_shows g k after a x (with_weak x i w) o p s (record { config = refl; next = refl }) set_in (ap (λ (z : Stored). object_named g z.name) (sym here) ∙ named)
+      (object_shows g k after a x (with_weak x i w) o p s (record { config = refl; next = refl }) set_in
+      (ap (λ (z : Stored). object_named g z.name) (sym here) ∙ named)
       pointers (AllZip-set (IsShown (heap_of k)) x.weaks o.weaks weaks i w v shown) values)
 
   keeps_by : (s : Graph) → KeepsFrom s k → KeepsFrom s after
@@ -82,7 +92,8 @@ module _ (k : CoreState) (core : IsCore k) (a i : ℕ) (w : Option ℕ) (t : Tab
   remembers_by : RemembersFields after
   remembers_by =
       let field : weak_field k a i ≡ length x.pointers + i = ap (λ (ps : List (Option ℕ)). length ps + i) (pointers_there k a x r.at) in
-      remembers_stored k after a (weak_field k a i) w x (with_weak x i w) refl writes.size refl refl set_in (weak_fields x i w ∙ ap (λ (n : ℕ). slice_set (x.pointers ++ x.weaks) n w) (sym field)) noted core.remembers
+      remembers_stored k after a (weak_field k a i) w x (with_weak x i w) refl writes.size refl refl set_in
+      (weak_fields x i w ∙ ap (λ (n : ℕ). slice_set (x.pointers ++ x.weaks) n w) (sym field)) noted core.remembers
 
   abbrev changed : Object
   changed = let o = core.rests.shows.shows.objects a x r.at in record o.object { weaks = slice_set o.object.weaks i word.name }
@@ -93,10 +104,13 @@ module _ (k : CoreState) (core : IsCore k) (a i : ℕ) (w : Option ℕ) (t : Tab
   sound_after : IsSound graph_after
   sound_after =
       let o = core.rests.shows.shows.objects a x r.at in
-      object_rests core.footing.graph k x.name o.object changed x.pointers (slice_set x.weaks i w) core.rests.shows o.named o.pointers (AllZip-set (IsShown (heap_of k)) x.weaks o.object.weaks o.weaks i w word.name word.shown) core.rests.sound
+      object_rests core.footing.graph k x.name o.object changed x.pointers (slice_set x.weaks i w) core.rests.shows o.named o.pointers
+      (AllZip-set (IsShown (heap_of k)) x.weaks o.object.weaks o.weaks i w word.name word.shown) core.rests.sound
 
   unreached_after : KeepsUnreached core.footing.snapshot graph_after
-  unreached_after = let o = core.rests.shows.shows.objects a x r.at in unreached_written core.footing.snapshot core.footing.graph core.rests.unreached x.name o.object changed o.named refl
+  unreached_after =
+      let o = core.rests.shows.shows.objects a x r.at in
+      unreached_written core.footing.snapshot core.footing.graph core.rests.unreached x.name o.object changed o.named refl
 
   kept_by_store : IsCore after
   kept_by_store =
@@ -106,7 +120,8 @@ module _ (k : CoreState) (core : IsCore k) (a i : ℕ) (w : Option ℕ) (t : Tab
       record {
         suits = core.suits;
         placed = core.placed;
-        layers = layers_writes k.config k.table t k.buffers k.marker a x (with_weak x i w) writes core.layers (follows_of after graph_after core.footing.snapshot shows keeps)
+        layers = layers_writes k.config k.table t k.buffers k.marker a x (with_weak x i w) writes core.layers
+            (follows_of after graph_after core.footing.snapshot shows keeps)
             (ap (λ (n : ℕ). 2 + length x.pointers + n + length x.values) (length-set x.weaks i w));
         cards = core.cards;
         remembers = remembers_by;
@@ -119,8 +134,10 @@ module _ (k : CoreState) (core : IsCore k) (a i : ℕ) (w : Option ℕ) (t : Tab
       }
 
 -- the same by the core's value c: k is the core by its fields
-module _ (k c : CoreState) (e : k ≡ c) (core : IsCore k) (a i : ℕ) (w : Option ℕ) (root : IsRoot (heap_of c) a) (within : i < length (weaks_at c.table a)) (word : IsWordOf (heap_of c) w)
-    (noted : IsNoted c.table.words_per_region (card_words c.config) (is_dirty c.cards) (field_word a (weak_field c a i)) w) (t : Table) (is : t ≡ set_weak k.table a i w) where
+module _ (k c : CoreState) (e : k ≡ c) (core : IsCore k) (a i : ℕ) (w : Option ℕ) (root : IsRoot (heap_of c) a)
+    (within : i < length (weaks_at c.table a)) (word : IsWordOf (heap_of c) w)
+    (noted : IsNoted c.table.words_per_region (card_words c.config) (is_dirty c.cards) (field_word a (weak_field c a i)) w)
+    (t : Table) (is : t ≡ set_weak k.table a i w) where
   root' : IsRoot (heap_of k) a
   root' = subst (λ (d : CoreState). IsRoot (heap_of d) a) (sym e) root
 
@@ -131,18 +148,23 @@ module _ (k c : CoreState) (e : k ≡ c) (core : IsCore k) (a i : ℕ) (w : Opti
   word' = subst (λ (d : CoreState). IsWordOf (heap_of d) w) (sym e) word
 
   noted' : IsNoted k.table.words_per_region (card_words k.config) (is_dirty k.cards) (field_word a (weak_field k a i)) w
-  noted' = subst (λ (d : CoreState). IsNoted d.table.words_per_region (card_words d.config) (is_dirty d.cards) (field_word a (weak_field d a i)) w) (sym e) noted
+  noted' = subst (λ (d : CoreState).
+      IsNoted d.table.words_per_region (card_words d.config) (is_dirty d.cards) (field_word a (weak_field d a i)) w) (sym e) noted
 
   pub weak_kept : IsCore (record k { table = t })
   weak_kept = kept_by_store k core a i w t root' within' word' noted' is
 
-  pub weak_shows : (g : Graph) (y : Stored) (o : Object) (v : Option ℕ) → ShowsGraph g c → kept_of c a ≡ Some y → object_named g y.name ≡ Some o → IsShown (heap_of c) w v
+  pub weak_shows : (g : Graph) (y : Stored) (o : Object) (v : Option ℕ) → ShowsGraph g c → kept_of c a ≡ Some y
+      → object_named g y.name ≡ Some o → IsShown (heap_of c) w v
       → ShowsGraph (with_changed g y.name (record o { weaks = slice_set o.weaks i v })) (record k { table = t })
-  weak_shows = subst (λ (d : CoreState). (g : Graph) (y : Stored) (o : Object) (v : Option ℕ) → ShowsGraph g d → kept_of d a ≡ Some y → object_named g y.name ≡ Some o → IsShown (heap_of d) w v
-      → ShowsGraph (with_changed g y.name (record o { weaks = slice_set o.weaks i v })) (record k { table = t })) e (shows_by k core a i w t root' within' word' noted' is)
+  weak_shows = subst (λ (d : CoreState). (g : Graph) (y : Stored) (o : Object) (v : Option ℕ) → ShowsGraph g d → kept_of d a ≡ Some y
+      → object_named g y.name ≡ Some o → IsShown (heap_of d) w v
+      → ShowsGraph (with_changed g y.name (record o { weaks = slice_set o.weaks i v })) (record k { table = t })) e
+      (shows_by k core a i w t root' within' word' noted' is)
 
   pub weak_keeps : (s : Graph) → KeepsFrom s c → KeepsFrom s (record k { table = t })
   weak_keeps s f = keeps_by k core a i w t root' within' word' noted' is s (subst (λ (d : CoreState). KeepsFrom s d) (sym e) f)
 
   pub weak_leaves : LeavesRegions c (record k { table = t })
-  weak_leaves = subst (λ (d : CoreState). LeavesRegions d (record k { table = t })) e (leaves_by k core a i w t root' within' word' noted' is)
+  weak_leaves =
+      subst (λ (d : CoreState). LeavesRegions d (record k { table = t })) e (leaves_by k core a i w t root' within' word' noted' is)

@@ -26,15 +26,18 @@ pub record SameKeeping (c c' : CoreState) : Type 0 where
   pub roots : c'.roots ≡ c.roots
 
 -- another object where one is kept
-kept_changed : (tiles tiles' : ℕ → Option Stored) (below marked : ℕ → Bool) (a : ℕ) (x y : Stored) → kept_by tiles below marked a ≡ Some x → tiles' a ≡ Some y → kept_by tiles' below marked a ≡ Some y
+kept_changed : (tiles tiles' : ℕ → Option Stored) (below marked : ℕ → Bool) (a : ℕ) (x y : Stored) → kept_by tiles below marked a ≡ Some x
+    → tiles' a ≡ Some y → kept_by tiles' below marked a ≡ Some y
 kept_changed tiles tiles' below marked a x y was is = go (below a) (marked a) was
   where
-    go : (b k : Bool) → (if b then (if k then tiles a else None) else tiles a) ≡ Some x → (if b then (if k then tiles' a else None) else tiles' a) ≡ Some y
+    go : (b k : Bool) → (if b then (if k then tiles a else None) else tiles a) ≡ Some x
+        → (if b then (if k then tiles' a else None) else tiles' a) ≡ Some y
     go true true e = is
     go true false e = cc
     go false k e = is
 
-pub kept_same : (tiles tiles' : ℕ → Option Stored) (below marked : ℕ → Bool) (a : ℕ) → tiles' a ≡ tiles a → kept_by tiles' below marked a ≡ kept_by tiles below marked a
+pub kept_same : (tiles tiles' : ℕ → Option Stored) (below marked : ℕ → Bool) (a : ℕ) → tiles' a ≡ tiles a
+    → kept_by tiles' below marked a ≡ kept_by tiles below marked a
 kept_same tiles tiles' below marked a e = rw e refl
 
 -- what isn't below the top is kept as it is
@@ -43,22 +46,27 @@ kept_above tiles below marked a e = rw e refl
 
 -- what is kept of another table, by the old marks and tops
 kept_over : (c c' : CoreState) (a : ℕ) → c'.table.words_per_region ≡ c.table.words_per_region → SameKeeping c c'
-    → kept_of c' a ≡ kept_by (object_at c'.table) (is_below c.table.words_per_region c.marker.tams.previous) (is_marked c.marker.bitmaps.previous) a
+    → kept_of c' a
+    ≡ kept_by (object_at c'.table) (is_below c.table.words_per_region c.marker.tams.previous) (is_marked c.marker.bitmaps.previous) a
 unfolding kept_of
 kept_over c c' a size same = rw (size, same.tams, same.previous) refl
 
-pub kept_is : (c : CoreState) (a : ℕ) → kept_of c a ≡ kept_by (object_at c.table) (is_below c.table.words_per_region c.marker.tams.previous) (is_marked c.marker.bitmaps.previous) a
+pub kept_is : (c : CoreState) (a : ℕ) → kept_of c a
+    ≡ kept_by (object_at c.table) (is_below c.table.words_per_region c.marker.tams.previous) (is_marked c.marker.bitmaps.previous) a
 unfolding kept_of
 kept_is c a = refl
 
 -- an object is written
-pub object_written : (c c' : CoreState) (a : ℕ) (x y : Stored) → WritesObject c.table c'.table a x y → y.name ≡ x.name → kept_of c a ≡ Some x → SameKeeping c c'
-    → ObjectSet (heap_of c) (heap_of c') a x y
+pub object_written : (c c' : CoreState) (a : ℕ) (x y : Stored) → WritesObject c.table c'.table a x y → y.name ≡ x.name
+    → kept_of c a ≡ Some x → SameKeeping c c' → ObjectSet (heap_of c) (heap_of c') a x y
 object_written c c' a x y w name at same = record {
   was = at;
-  is = kept_over c c' a w.size same ∙ kept_changed (object_at c.table) (object_at c'.table) (is_below c.table.words_per_region c.marker.tams.previous) (is_marked c.marker.bitmaps.previous) a x y (sym (kept_is c a) ∙ at) w.is;
+  is = kept_over c c' a w.size same ∙ kept_changed (object_at c.table) (object_at c'.table)
+      (is_below c.table.words_per_region c.marker.tams.previous) (is_marked c.marker.bitmaps.previous) a x y (sym (kept_is c a) ∙ at) w.is;
   name = name;
-  others = λ b n. kept_over c c' b w.size same ∙ kept_same (object_at c.table) (object_at c'.table) (is_below c.table.words_per_region c.marker.tams.previous) (is_marked c.marker.bitmaps.previous) b (object_same c.table c'.table b (w.others b n)) ∙ sym (kept_is c b);
+  others = λ b n. kept_over c c' b w.size same ∙ kept_same (object_at c.table) (object_at c'.table)
+      (is_below c.table.words_per_region c.marker.tams.previous) (is_marked c.marker.bitmaps.previous) b
+      (object_same c.table c'.table b (w.others b n)) ∙ sym (kept_is c b);
   roots = same.roots;
 }
 
@@ -67,18 +75,22 @@ pub marking_same : (t t' : Table) (m : Marker) → t'.words_per_region ≡ t.wor
 marking_same t t' m e = rw e refl
 
 -- a root word set keeps what there is of the snapshot
-pub root_keeps : (g s : Graph) (c : CoreState) (place : ℕ) (w : Option ℕ) (roots : List (Option ℕ)) → ShowsGraph g c → IsHeld (heap_of c) w → roots ≡ slice_set c.roots place w → KeepsFrom s c → KeepsFrom s (record c { roots = roots })
+pub root_keeps : (g s : Graph) (c : CoreState) (place : ℕ) (w : Option ℕ) (roots : List (Option ℕ)) → ShowsGraph g c → IsHeld (heap_of c) w
+    → roots ≡ slice_set c.roots place w → KeepsFrom s c → KeepsFrom s (record c { roots = roots })
 unfolding kept_of
 root_keeps g s c place w roots shows held is k = record {
   earlier = k.earlier;
-  marking = λ run. root_set (IsReachable s) (next_name s) g (heap_of c) (marking_of c) shows.shows (k.marking run) (heap_of (record c { roots = roots })) place w held (record { kept = λ a. refl; roots = is });
+  marking = λ run. root_set (IsReachable s) (next_name s) g (heap_of c) (marking_of c) shows.shows (k.marking run)
+      (heap_of (record c { roots = roots })) place w held (record { kept = λ a. refl; roots = is });
 }
 
 -- a write to data words
-pub write_keeps : (s : Graph) (c : CoreState) (t : Table) (a : ℕ) (x y : Stored) → WritesObject c.table t a x y → y.name ≡ x.name → kept_of c a ≡ Some x → y.pointers ≡ x.pointers → KeepsFrom s c → KeepsFrom s (record c { table = t })
+pub write_keeps : (s : Graph) (c : CoreState) (t : Table) (a : ℕ) (x y : Stored) → WritesObject c.table t a x y → y.name ≡ x.name
+    → kept_of c a ≡ Some x → y.pointers ≡ x.pointers → KeepsFrom s c → KeepsFrom s (record c { table = t })
 write_keeps s c t a x y w name at pointers k = record {
   earlier = k.earlier;
-  marking = λ run. subst (λ (m : Marking). KeepsSnapshot s (heap_of (record c { table = t })) m) (sym (marking_same c.table t c.marker w.size))
+  marking =
+      λ run. subst (λ (m : Marking). KeepsSnapshot s (heap_of (record c { table = t })) m) (sym (marking_same c.table t c.marker w.size))
       (values_set (IsReachable s) (next_name s) (heap_of c) (heap_of (record c { table = t })) (marking_of c) (k.marking run) a x y
       (object_written c (record c { table = t }) a x y w name at (record { tams = refl; previous = refl; roots = refl })) pointers);
 }

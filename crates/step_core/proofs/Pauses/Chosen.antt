@@ -1,5 +1,7 @@
 -- What is known of the chosen regions.
-use Rattle.std.proofs.Common.{◌≡◌, ℕ, zero, suc, ◌*◌, ◌+◌, ◌<◌, ◌≤◌, Bool, true, false, cond, eqb, List, [], ◌∷◌, ◌++◌, Some, length, get_or, set, take, refl, sym, ◌∙◌, ap, subst, arith, inl, inr, get_or-set_same, get_or-set_other, length-set}
+use Rattle.std.proofs.Common.{◌≡◌, ◌*◌, ◌+◌, ◌<◌, ◌≤◌, ◌∷◌, ◌++◌, ◌∙◌}
+use Rattle.std.proofs.Common.{ℕ, zero, suc, Bool, true, false, cond, eqb, List, [], Some, length, get_or, set, take, refl, sym, ap, subst}
+use Rattle.std.proofs.Common.{arith, inl, inr, get_or-set_same, get_or-set_other, length-set}
 use Rattle.std.specs.Prelude.{All, count_by, ◌==◌, ◌||◌, if◌then◌else◌, slice_get, slice_index}
 use Rattle.std.proofs.lemmas.Bool.{cases_eq, eq-eqb, eqb-true, ne_eqb}
 use Rattle.std.proofs.lemmas.List.{get_or_append_left, length-append}
@@ -24,7 +26,8 @@ abbrev bit : ℕ → LiveRow → ℕ
 bit k row = cond (eqb row.region k) 1 0
 
 -- a row that is there counts
-counted_at : (rows : List LiveRow) (j : ℕ) (x : LiveRow) (k : ℕ) → slice_get rows j ≡ Some x → x.region ≡ k → 1 ≤ count_by (λ row. row.region == k) rows
+counted_at : (rows : List LiveRow) (j : ℕ) (x : LiveRow) (k : ℕ) → slice_get rows j ≡ Some x → x.region ≡ k
+    → 1 ≤ count_by (λ row. row.region == k) rows
 counted_at [] j x k e r = absurd (let f = e in cc)
 counted_at (y ∷ rows) zero x k e r =
     let same : y ≡ x = cc in
@@ -38,27 +41,35 @@ CountsOnce rows = (k : ℕ) → count_by (λ row. row.region == k) rows ≤ 1
 fewer : (z : LiveRow) (rows : List LiveRow) → CountsOnce (z ∷ rows) → CountsOnce rows
 fewer z rows once k = omega (arith, sum_by-cons (bit k) z rows, once k)
 
-alone : (z : LiveRow) (rows : List LiveRow) (j : ℕ) (y : LiveRow) → CountsOnce (z ∷ rows) → slice_get rows j ≡ Some y → y.region ≡ z.region → ⊥
+alone : (z : LiveRow) (rows : List LiveRow) (j : ℕ) (y : LiveRow) → CountsOnce (z ∷ rows)
+    → slice_get rows j ≡ Some y → y.region ≡ z.region → ⊥
 alone z rows j y once ey e =
     let here = sum_by-cons (bit z.region) z rows in
     let one = ap {B = ℕ} (λ b. cond b 1 0) (eq-eqb z.region z.region refl) in
     omega (arith, here, one, counted_at rows j y z.region ey e, once z.region)
 
-distinct_at : (rows : List LiveRow) (i j : ℕ) (x y : LiveRow) → CountsOnce rows → slice_get rows i ≡ Some x → slice_get rows j ≡ Some y → x.region ≡ y.region → i ≡ j
+distinct_at : (rows : List LiveRow) (i j : ℕ) (x y : LiveRow) → CountsOnce rows → slice_get rows i ≡ Some x
+    → slice_get rows j ≡ Some y → x.region ≡ y.region → i ≡ j
 distinct_at [] i j x y once ex ey e = absurd (let f = ex in cc)
 distinct_at (z ∷ rows) zero zero x y once ex ey e = refl
-distinct_at (z ∷ rows) zero (suc j) x y once ex ey e = let same : z ≡ x = cc in absurd (alone z rows j y once ey (sym e ∙ ap (λ (r : LiveRow). r.region) (sym same)))
-distinct_at (z ∷ rows) (suc i) zero x y once ex ey e = let same : z ≡ y = cc in absurd (alone z rows i x once ex (e ∙ ap (λ (r : LiveRow). r.region) (sym same)))
+distinct_at (z ∷ rows) zero (suc j) x y once ex ey e =
+    let same : z ≡ x = cc in
+    absurd (alone z rows j y once ey (sym e ∙ ap (λ (r : LiveRow). r.region) (sym same)))
+distinct_at (z ∷ rows) (suc i) zero x y once ex ey e =
+    let same : z ≡ y = cc in
+    absurd (alone z rows i x once ex (e ∙ ap (λ (r : LiveRow). r.region) (sym same)))
 distinct_at (z ∷ rows) (suc i) (suc j) x y once ex ey e = ap suc (distinct_at rows i j x y (fewer z rows once) ex ey e)
 
 -- where each region counts once at most, rows are distinct
 distinct_by : (rows : List LiveRow) → CountsOnce rows → AreDistinct rows
 distinct_by rows once = λ i j x y ex ey e. distinct_at rows i j x y once ex ey e
 
-module _ (t : Table) (tams : Tops) (previous : List Bool) (running : Bool) (budget : ℕ) (chosen : List LiveRow) (choice : IsChosen t tams previous running budget chosen) where
+module _ (t : Table) (tams : Tops) (previous : List Bool) (running : Bool) (budget : ℕ) (chosen : List LiveRow)
+    (choice : IsChosen t tams previous running budget chosen) where
   -- what holds of all candidates' rows holds of the chosen ones
   of_chosen : (P : LiveRow → Type 0) → All P choice.rows → All P chosen
-  of_chosen P a = All_left P chosen choice.best.part.rest (All-permutation P choice.rows (chosen ++ choice.best.part.rest) choice.best.part.whole a)
+  of_chosen P a =
+      All_left P chosen choice.best.part.rest (All-permutation P choice.rows (chosen ++ choice.best.part.rest) choice.best.part.whole a)
 
   pub chosen_rows : All (IsRowOf t tams.previous previous) chosen
   chosen_rows = of_chosen (IsRowOf t tams.previous previous) choice.candidates.are_rows.each
@@ -104,15 +115,20 @@ module _ (t : Table) (tams : Tops) (previous : List Bool) (running : Bool) (budg
       ap (λ (j : ℕ). slice_index tams.next j) (sym r.region) ∙ r.candidate.all_new run ∙ ap (λ (j : ℕ). j * t.words_per_region) r.region
 
 -- one region more is forgotten
-more_cases : (xs ys : List LiveRow) (q j : ℕ) (was now old : List ℕ) → is_chosen ys j ≡ (is_chosen xs j || (q == j)) → now ≡ set was q 0 → q < length was
-    → slice_index was j ≡ (if is_chosen xs j then 0 else slice_index old j) → slice_index now j ≡ (if is_chosen ys j then 0 else slice_index old j)
+more_cases : (xs ys : List LiveRow) (q j : ℕ) (was now old : List ℕ)
+    → is_chosen ys j ≡ (is_chosen xs j || (q == j)) → now ≡ set was q 0 → q < length was
+    → slice_index was j ≡ (if is_chosen xs j then 0 else slice_index old j)
+    → slice_index now j ≡ (if is_chosen ys j then 0 else slice_index old j)
 more_cases xs ys q j was now old more is known before = elim (cases_eq j q) [
   | inl same ↦
       let here : is_chosen ys j ≡ true = more ∙ ap (λ (b : Bool). is_chosen xs j || b) (eq-eqb q j (sym same)) ∙ or_true (is_chosen xs j) in
-      ap (λ (l : List ℕ). slice_index l j) is ∙ ap (slice_index (set was q 0)) same ∙ get_or-set_same was q 0 0 known ∙ sym (ap (λ (b : Bool). if b then 0 else slice_index old j) here)
+      ap (λ (l : List ℕ). slice_index l j) is ∙ ap (slice_index (set was q 0)) same ∙ get_or-set_same was q 0 0 known
+      ∙ sym (ap (λ (b : Bool). if b then 0 else slice_index old j) here)
   | inr apart ↦
-      let there : is_chosen ys j ≡ is_chosen xs j = more ∙ ap (λ (b : Bool). is_chosen xs j || b) (ne_eqb q j (λ e. apart (sym e))) ∙ or_false (is_chosen xs j) in
-      ap (λ (l : List ℕ). slice_index l j) is ∙ get_or-set_other was q j 0 0 apart ∙ before ∙ sym (ap (λ (b : Bool). if b then 0 else slice_index old j) there)
+      let there : is_chosen ys j ≡ is_chosen xs j =
+      more ∙ ap (λ (b : Bool). is_chosen xs j || b) (ne_eqb q j (λ e. apart (sym e))) ∙ or_false (is_chosen xs j) in
+      ap (λ (l : List ℕ). slice_index l j) is ∙ get_or-set_other was q j 0 0 apart ∙ before
+      ∙ sym (ap (λ (b : Bool). if b then 0 else slice_index old j) there)
 ]
   where
     or_true : (b : Bool) → (b || true) ≡ true
@@ -123,13 +139,16 @@ more_cases xs ys q j was now old more is known before = elim (cases_eq j q) [
     or_false true = refl
     or_false false = refl
 
-pub one_more_forgotten : (rows : List LiveRow) (n : ℕ) (row : LiveRow) (l0 l l' : LiveCounts) → n < length rows → get_or rows n row ≡ row → row.region < length l.previous → row.region < length l.next
+pub one_more_forgotten : (rows : List LiveRow) (n : ℕ) (row : LiveRow) (l0 l l' : LiveCounts) → n < length rows → get_or rows n row ≡ row
+    → row.region < length l.previous → row.region < length l.next
     → l' ≡ with_none l row.region → AreForgotten (take n rows) l0 l → AreForgotten (take (n + 1) rows) l0 l'
 one_more_forgotten rows n row l0 l l' inside is known known' e f =
     let more = λ (j : ℕ). chosen_more rows n row j inside is in
     record {
-      previous = λ j. more_cases (take n rows) (take (n + 1) rows) row.region j l.previous l'.previous l0.previous (more j) (ap (λ (x : LiveCounts). x.previous) e) known (f.previous j);
-      next = λ j. more_cases (take n rows) (take (n + 1) rows) row.region j l.next l'.next l0.next (more j) (ap (λ (x : LiveCounts). x.next) e) known' (f.next j);
+      previous = λ j. more_cases (take n rows) (take (n + 1) rows) row.region j l.previous l'.previous l0.previous (more j)
+          (ap (λ (x : LiveCounts). x.previous) e) known (f.previous j);
+      next = λ j. more_cases (take n rows) (take (n + 1) rows) row.region j l.next l'.next l0.next (more j)
+          (ap (λ (x : LiveCounts). x.next) e) known' (f.next j);
       each_previous = ap (λ (x : LiveCounts). length x.previous) e ∙ length-set l.previous row.region 0 ∙ f.each_previous;
       each_next = ap (λ (x : LiveCounts). length x.next) e ∙ length-set l.next row.region 0 ∙ f.each_next;
     }

@@ -36,7 +36,8 @@ module _ (g : Graph) (h : Heap) (shows : Shows g h) (set : ℕ → Bool) where
   names_get (a ∷ rest) zero n e = record { address = a; there = refl; name = (let same : name_at (h.kept a) ≡ n = cc in same) }
   names_get (a ∷ rest) (suc i) n e = let r = names_get rest i n e in record { address = r.address; there = r.there; name = r.name }
 
-  names_there : (addresses : List ℕ) (i a : ℕ) → slice_get addresses i ≡ Some a → slice_get (names_of addresses) i ≡ Some (name_at (h.kept a))
+  names_there : (addresses : List ℕ) (i a : ℕ) → slice_get addresses i ≡ Some a
+      → slice_get (names_of addresses) i ≡ Some (name_at (h.kept a))
   unfolding names_of
   names_there [] i a e = absurd (let f = e in cc)
   names_there (b ∷ rest) zero a e = let same : b ≡ a = cc in ap (λ (c : ℕ). Some (name_at (h.kept c))) same
@@ -53,11 +54,14 @@ module _ (g : Graph) (h : Heap) (shows : Shows g h) (set : ℕ → Bool) where
       let count = AllZip-length (IsShown h) x.pointers o.object.pointers o.pointers in
       let slots = AllZip-length (IsShown h) x.weaks o.object.weaks o.weaks in
       let values = ap (λ (vs : List ℕ). length vs) o.values in
-      let in_graph : named_words (object_named g (name_at (h.kept a))) ≡ 2 + length o.object.pointers + length o.object.weaks + length o.object.values = ap (λ (n : ℕ). named_words (object_named g n)) (name_is a x e) ∙ ap named_words o.named in
+      let in_graph : named_words (object_named g (name_at (h.kept a)))
+      ≡ 2 + length o.object.pointers + length o.object.weaks + length o.object.values =
+      ap (λ (n : ℕ). named_words (object_named g n)) (name_is a x e) ∙ ap named_words o.named in
       let in_heap : stored_words (h.kept a) ≡ tile_size (Object x) = ap stored_words e in
       omega (arith, in_graph, in_heap, count, slots, values)
 
-  words_same : (addresses : List ℕ) → ((i a : ℕ) → slice_get addresses i ≡ Some a → (x : Stored) × (h.kept a ≡ Some x)) → words_of g (names_of addresses) ≡ words_at h.kept addresses
+  words_same : (addresses : List ℕ) → ((i a : ℕ) → slice_get addresses i ≡ Some a → (x : Stored) × (h.kept a ≡ Some x))
+      → words_of g (names_of addresses) ≡ words_at h.kept addresses
   unfolding names_of
   words_same [] kept = refl
   words_same (a ∷ rest) kept =
@@ -66,7 +70,8 @@ module _ (g : Graph) (h : Heap) (shows : Shows g h) (set : ℕ → Bool) where
 
   pub copied_names : (w : ℕ) → AreReachedWords set h w → AreCopiedNames g set h w
   copied_names w r =
-      let kept : (i a : ℕ) → slice_get r.addresses i ≡ Some a → (x : Stored) × (h.kept a ≡ Some x) = λ i a e. reached_kept a (r.reached i a e) in
+      let kept : (i a : ℕ) → slice_get r.addresses i ≡ Some a → (x : Stored) × (h.kept a ≡ Some x) =
+      λ i a e. reached_kept a (r.reached i a e) in
       record {
         names = names_of r.addresses;
         distinct = λ i j n ei ej.
@@ -74,12 +79,19 @@ module _ (g : Graph) (h : Heap) (shows : Shows g h) (set : ℕ → Bool) where
             let q = names_get r.addresses j n ej in
             let x = kept i p.address p.there in
             let y = kept j q.address q.there in
-            let same = shows.distinct p.address q.address x.0 y.0 x.1 y.1 (sym (name_is p.address x.0 x.1) ∙ p.name ∙ sym q.name ∙ name_is q.address y.0 y.1) in
+            let same = shows.distinct p.address q.address x.0 y.0 x.1 y.1
+            (sym (name_is p.address x.0 x.1) ∙ p.name ∙ sym q.name ∙ name_is q.address y.0 y.1) in
             r.distinct i j p.address p.there (q.there ∙ ap Some (sym same));
         copied = λ i n e.
             let p = names_get r.addresses i n e in
             let x = kept i p.address p.there in
-            record { address = p.address; object = x.0; at = x.1; named = sym (name_is p.address x.0 x.1) ∙ p.name; reached = r.reached i p.address p.there };
+            record {
+              address = p.address;
+              object = x.0;
+              at = x.1;
+              named = sym (name_is p.address x.0 x.1) ∙ p.name;
+              reached = r.reached i p.address p.there;
+            };
         each = λ n c.
             let (i, there) = r.each c.address c.reached in
             (i, names_there r.addresses i c.address there ∙ ap Some (name_is c.address c.object c.at ∙ c.named));

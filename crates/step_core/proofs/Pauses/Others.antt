@@ -1,10 +1,13 @@
 -- Candidates whose live bounds are within a limit, and the rows of the others, which the code doesn't write.
-use Rattle.std.proofs.Common.{◌≡◌, ◌⊎◌, ℕ, ◌+◌, ◌-◌, ◌*◌, ◌<◌, ◌≤◌, min, Option, None, Bool, true, false, List, [], ◌∷◌, ◌++◌, length, get_or, take, drop, refl, sym, ◌∙◌, ap, subst, arith, inl, inr, is_lt, append_assoc}
+use Rattle.std.proofs.Common.{◌≡◌, ◌⊎◌, ◌+◌, ◌-◌, ◌*◌, ◌<◌, ◌≤◌, ◌∷◌, ◌++◌, ◌∙◌}
+use Rattle.std.proofs.Common.{ℕ, min, Option, None, Bool, true, false, List, [], length, get_or, take, drop, refl, sym}
+use Rattle.std.proofs.Common.{ap, subst, arith, inl, inr, is_lt, append_assoc}
 use Rattle.std.specs.Prelude.{All, IfNone, IsPermutation, IsSorted, Some, slice_index, count_by}
 use Rattle.std.proofs.lemmas.Bool.{cases_lt}
 use Rattle.std.proofs.lemmas.List.{length-append, length-take-le, take-append-le, drop-append-le}
 use Rattle.std.proofs.lemmas.List.Elements.{All-append, All-take, All-weaker}
-use Rattle.std.proofs.lemmas.List.Sorted.{All-permutation, IsPermutation-refl, IsPermutation-to_front, IsPermutation-append_left, IsPermutation-append_right}
+use Rattle.std.proofs.lemmas.List.Sorted.{All-permutation, IsPermutation-refl, IsPermutation-to_front}
+use Rattle.std.proofs.lemmas.List.Sorted.{IsPermutation-append_left, IsPermutation-append_right}
 use Rattle.regions.specs.Table.{Table, is_free, kind_of}
 use Rattle.regions.specs.declared.row.Kind.TheVariants as kinds
 use Rattle.mark_bitmap.specs.Tops.{Tops}
@@ -31,7 +34,8 @@ module _ (t : Table) (tams : Tops) (previous : List Bool) (running : Bool) (limi
   }
 
   -- a region that is no candidate
-  pub within_passed : (n : ℕ) (rows : List LiveRow) → AreCandidatesWithin t tams previous running limit n rows → (IsCandidate t tams previous running n → ⊥) → AreCandidatesWithin t tams previous running limit (n + 1) rows
+  pub within_passed : (n : ℕ) (rows : List LiveRow) → AreCandidatesWithin t tams previous running limit n rows
+      → (IsCandidate t tams previous running n → ⊥) → AreCandidatesWithin t tams previous running limit (n + 1) rows
   within_passed n rows w none = record {
     others = w.others;
     all = row_passed t tams previous running n (rows ++ w.others) w.all none;
@@ -40,7 +44,8 @@ module _ (t : Table) (tams : Tops) (previous : List Bool) (running : Bool) (limi
   }
 
   -- a candidate beyond the limit
-  pub within_beyond : (n : ℕ) (rows : List LiveRow) → AreCandidatesWithin t tams previous running limit n rows → n < length t.regions → IsCandidate t tams previous running n
+  pub within_beyond : (n : ℕ) (rows : List LiveRow) → AreCandidatesWithin t tams previous running limit n rows
+      → n < length t.regions → IsCandidate t tams previous running n
       → limit < live_bound_of t tams.previous previous n → AreCandidatesWithin t tams previous running limit (n + 1) rows
   within_beyond n rows w known c high =
       let row : LiveRow = record { region = n; live_bound = live_bound_of t tams.previous previous n } in
@@ -53,29 +58,36 @@ module _ (t : Table) (tams : Tops) (previous : List Bool) (running : Bool) (limi
       }
 
   -- the row of a candidate within it
-  pub within_written : (n : ℕ) (rows : List LiveRow) (row : LiveRow) → AreCandidatesWithin t tams previous running limit n rows → n < length t.regions → row.region ≡ n
-      → row.live_bound ≡ live_bound_of t tams.previous previous n → row.live_bound ≤ limit → IsCandidate t tams previous running n → AreCandidatesWithin t tams previous running limit (n + 1) (rows ++ row ∷ [])
+  pub within_written : (n : ℕ) (rows : List LiveRow) (row : LiveRow)
+      → AreCandidatesWithin t tams previous running limit n rows → n < length t.regions → row.region ≡ n
+      → row.live_bound ≡ live_bound_of t tams.previous previous n → row.live_bound ≤ limit → IsCandidate t tams previous running n
+      → AreCandidatesWithin t tams previous running limit (n + 1) (rows ++ row ∷ [])
   within_written n rows row w known at bound low c =
-      let last : IsPermutation (rows ++ (w.others ++ row ∷ [])) (rows ++ (row ∷ w.others)) = IsPermutation-append_right rows (w.others ++ row ∷ []) (row ∷ w.others) (IsPermutation-to_front w.others row) in
+      let last : IsPermutation (rows ++ (w.others ++ row ∷ [])) (rows ++ (row ∷ w.others)) =
+      IsPermutation-append_right rows (w.others ++ row ∷ []) (row ∷ w.others) (IsPermutation-to_front w.others row) in
       let whole : IsPermutation ((rows ++ w.others) ++ row ∷ []) ((rows ++ row ∷ []) ++ w.others) =
       subst (λ (l : List LiveRow). IsPermutation l ((rows ++ row ∷ []) ++ w.others)) (sym (append_assoc rows w.others (row ∷ [])))
       (subst (λ (l : List LiveRow). IsPermutation (rows ++ (w.others ++ row ∷ [])) l) (sym (append_assoc rows (row ∷ []) w.others)) last) in
       record {
         others = w.others;
-        all = candidates_sorted t tams previous running (n + 1) ((rows ++ w.others) ++ row ∷ []) ((rows ++ row ∷ []) ++ w.others) whole (row_written t tams previous running n (rows ++ w.others) row w.all known at bound c);
+        all = candidates_sorted t tams previous running (n + 1) ((rows ++ w.others) ++ row ∷ []) ((rows ++ row ∷ []) ++ w.others) whole
+            (row_written t tams previous running n (rows ++ w.others) row w.all known at bound c);
         within = All-append (λ r. r.live_bound ≤ limit) rows (row ∷ []) w.within (All_one (λ r. r.live_bound ≤ limit) row low);
         beyond = w.beyond;
       }
 
 -- no live bound up to a limit was found: the region is no candidate, or one beyond the limit
-pub beyond_or_none : (t : Table) (tams : Tops) (previous : List Bool) (running : Bool) (k limit most : ℕ) (found : Option ℕ) → kind_of t k ≡ kinds.Ordinary → (running ≡ true → slice_index tams.next k ≡ k * t.words_per_region)
+pub beyond_or_none : (t : Table) (tams : Tops) (previous : List Bool) (running : Bool) (k limit most : ℕ) (found : Option ℕ)
+    → kind_of t k ≡ kinds.Ordinary → (running ≡ true → slice_index tams.next k ≡ k * t.words_per_region)
     → most ≡ min limit (t.words_per_region - 1) → 0 < t.words_per_region → IfNone found (most < live_bound_of t tams.previous previous k)
-    → IfNone found ((IsCandidate t tams previous running k → ⊥) ⊎ (IsCandidate t tams previous running k × (limit < live_bound_of t tams.previous previous k)))
+    → IfNone found ((IsCandidate t tams previous running k → ⊥)
+    ⊎ (IsCandidate t tams previous running k × (limit < live_bound_of t tams.previous previous k)))
 beyond_or_none t tams previous running k limit most (Some x) ordinary all_new is some more = tt
-beyond_or_none t tams previous running k limit most None ordinary all_new is some more = elim (cases_lt (live_bound_of t tams.previous previous k) t.words_per_region) [
-  | inl less ↦ inr (record { ordinary = ordinary; frees = less; all_new = all_new }, omega (arith, is, more, less))
-  | inr full ↦ inl (λ c. let frees = c.frees in absurd (omega (arith, frees, full)))
-]
+beyond_or_none t tams previous running k limit most None ordinary all_new is some more =
+    elim (cases_lt (live_bound_of t tams.previous previous k) t.words_per_region) [
+      | inl less ↦ inr (record { ordinary = ordinary; frees = less; all_new = all_new }, omega (arith, is, more, less))
+      | inr full ↦ inl (λ c. let frees = c.frees in absurd (omega (arith, frees, full)))
+    ]
 
 -- ---- the choice
 -- the rows that were taken, and the others: no others are better, those without a row neither

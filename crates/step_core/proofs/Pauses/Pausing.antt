@@ -1,5 +1,6 @@
 -- The chosen regions are evacuated in a core: k is the core by its fields before that.
-use Rattle.std.proofs.Common.{◌≡◌, ◌≢◌, ℕ, ◌+◌, ◌*◌, ◌/◌, ◌<◌, ◌≤◌, Bool, true, false, not, ◌&&◌, List, Option, Some, length, get_or, refl, sym, ◌∙◌, ap, subst, arith, inl, inr}
+use Rattle.std.proofs.Common.{◌≡◌, ◌≢◌, ◌+◌, ◌*◌, ◌/◌, ◌<◌, ◌≤◌, ◌&&◌, ◌∙◌}
+use Rattle.std.proofs.Common.{ℕ, Bool, true, false, not, List, Option, Some, length, get_or, refl, sym, ap, subst, arith, inl, inr}
 use Rattle.std.specs.Prelude.{All, ◌↔◌, slice_index, nat_lt, if◌then◌else◌}
 use Rattle.std.proofs.lemmas.Bool.{cases_lt, cases_Bool}
 use Rattle.std.proofs.lemmas.Grind.{common_steps}
@@ -47,7 +48,8 @@ use Rattle.step_core.proofs.Pauses.Ready.{ready_config, ready_table, ready_marke
 use Rattle.step_core.proofs.Pauses.Refined.{can_scan}
 use Rattle.step_core.proofs.Cores.Sizes.{some_words}
 use Rattle.step_core.proofs.Mutating.Small.{option_is, free_region, words_are, words_none, kind_cases, ordinary_known}
-use Rattle.step_core.proofs.Pauses.Chosen.{chosen_rows, chosen_candidates, chosen_distinct, chosen_room, chosen_within, chosen_ordinary, chosen_new}
+use Rattle.step_core.proofs.Pauses.Chosen.{chosen_rows, chosen_candidates, chosen_distinct}
+use Rattle.step_core.proofs.Pauses.Chosen.{chosen_room, chosen_within, chosen_ordinary, chosen_new}
 
 -- there is a flag for each card
 pub cards_room : (k : CoreState) → IsCore k → k.room.cards ≡ card_count k.sets
@@ -63,7 +65,8 @@ unfolding kind_of used_of
 free_top_by t k e = ap (region_used t.words_per_region) (free_region (nth_region t k) e)
 
 module _ (k : CoreState) (core : IsCore k) (budget : ℕ) (chosen : List LiveRow)
-    (choice : IsChosen k.table k.marker.tams k.marker.bitmaps.previous k.marker.running budget chosen) (clean : (card : ℕ) → is_dirty k.cards card ≡ false) where
+    (choice : IsChosen k.table k.marker.tams k.marker.bitmaps.previous k.marker.running budget chosen)
+    (clean : (card : ℕ) → is_dirty k.cards card ≡ false) where
   words : ℕ
   words = k.table.words_per_region
 
@@ -90,7 +93,8 @@ module _ (k : CoreState) (core : IsCore k) (budget : ℕ) (chosen : List LiveRow
 
   -- each chosen region is one of which words are counted
   pub chosen_known : (counts : List ℕ) → length counts ≡ length k.table.regions → All (λ row. row.region < length counts) chosen
-  chosen_known counts count = All_to (IsRowOf k.table k.marker.tams.previous k.marker.bitmaps.previous) (λ row. row.region < length counts) (λ x r. omega (arith, r.known, count)) chosen
+  chosen_known counts count = All_to (IsRowOf k.table k.marker.tams.previous k.marker.bitmaps.previous) (λ row. row.region < length counts)
+      (λ x r. omega (arith, r.known, count)) chosen
       (chosen_rows k.table k.marker.tams k.marker.bitmaps.previous k.marker.running budget chosen choice)
 
   pub next_count : length k.marker.live.next ≡ length k.table.regions
@@ -99,11 +103,21 @@ module _ (k : CoreState) (core : IsCore k) (budget : ℕ) (chosen : List LiveRow
     | inr off ↦ (core.layers.marker.live_next off).each_region
   ]
 
-  module _ (t : Table) (tams : Tops) (bm : Bitmaps) (cs : Cards) (ss : Sets) (roots : List (Option ℕ)) (w : ℕ) (r : RoomSizes) (n : ℕ) (live : LiveCounts)
-      (ev : HasEvacuated chosen (card_words k.config) w (layers_of k) (record { table = t; tams = tams; previous = bm.previous; next = bm.next; cards = cs; sets = ss; roots = roots }))
+  module _ (t : Table) (tams : Tops) (bm : Bitmaps) (cs : Cards) (ss : Sets) (roots : List (Option ℕ)) (w : ℕ)
+      (r : RoomSizes) (n : ℕ) (live : LiveCounts)
+      (ev : HasEvacuated chosen (card_words k.config) w (layers_of k)
+      (record { table = t; tams = tams; previous = bm.previous; next = bm.next; cards = cs; sets = ss; roots = roots }))
       (forgets : AreForgotten chosen k.marker.live live) where
     abbrev marker : Marker
-    marker = record { bitmaps = bm; tams = tams; grey = k.marker.grey; logs = k.marker.logs; running = k.marker.running; scans = k.marker.scans; live = live }
+    marker = record {
+      bitmaps = bm;
+      tams = tams;
+      grey = k.marker.grey;
+      logs = k.marker.logs;
+      running = k.marker.running;
+      scans = k.marker.scans;
+      live = live;
+    }
 
     abbrev after : CoreState
     after = record k { table = t; marker = marker; cards = cs; sets = ss; room = r; row_room = n; roots = roots }
@@ -113,30 +127,41 @@ module _ (k : CoreState) (core : IsCore k) (budget : ℕ) (chosen : List LiveRow
 
     pub paused_shows : (g : Graph) → ShowsGraph g k → ShowsGraph g after
     unfolding kept_of
-    paused_shows g s = record { room = s.room; places = s.places; next = s.next; shows = relocated_shows place g (heap_of k) (heap_of after) s.shows ev.relocates }
+    paused_shows g s = record {
+      room = s.room;
+      places = s.places;
+      next = s.next;
+      shows = relocated_shows place g (heap_of k) (heap_of after) s.shows ev.relocates;
+    }
 
     -- ---- tops at mark start and marks
     top_past : (tops : List ℕ) (j : ℕ) → length tops ≡ length k.table.regions → length k.table.regions ≤ j → slice_index tops j ≡ 0
     top_past tops j count le = get_or_past tops j 0 (omega (arith, count, le))
 
-    tops_left : (tops tops' : List ℕ) (marks marks' : List Bool) → MarksAfter k.table.words_per_region chosen tops tops' marks marks' → length tops ≡ length k.table.regions
+    tops_left : (tops tops' : List ℕ) (marks marks' : List Bool)
+        → MarksAfter k.table.words_per_region chosen tops tops' marks marks' → length tops ≡ length k.table.regions
         → (j : ℕ) → is_chosen chosen j ≡ false → slice_index tops' j ≡ slice_index tops j
     tops_left tops tops' marks marks' m count j out =
         elim (cases_lt j (length k.table.regions)) [
-          | inl lt ↦ m.each_top j (omega (arith, count, lt)) ∙ ap (λ (b : Bool). if b then j * k.table.words_per_region else slice_index tops j) out
+          | inl lt ↦ m.each_top j (omega (arith, count, lt))
+              ∙ ap (λ (b : Bool). if b then j * k.table.words_per_region else slice_index tops j) out
           | inr past ↦ top_past tops' j (m.count ∙ count) past ∙ sym (top_past tops j count past)
         ]
 
-    tops_chosen : (tops tops' : List ℕ) (marks marks' : List Bool) → MarksAfter k.table.words_per_region chosen tops tops' marks marks' → length tops ≡ length k.table.regions
+    tops_chosen : (tops tops' : List ℕ) (marks marks' : List Bool)
+        → MarksAfter k.table.words_per_region chosen tops tops' marks marks' → length tops ≡ length k.table.regions
         → (j : ℕ) → is_chosen chosen j ≡ true → slice_index tops' j ≡ j * k.table.words_per_region
     tops_chosen tops tops' marks marks' m count j inside =
-        let known = ordinary_known k.table j (chosen_ordinary k.table k.marker.tams k.marker.bitmaps.previous k.marker.running budget chosen choice j inside) in
-        m.each_top j (omega (arith, count, known)) ∙ ap (λ (b : Bool). if b then j * k.table.words_per_region else slice_index tops j) inside
+        let known = ordinary_known k.table j
+        (chosen_ordinary k.table k.marker.tams k.marker.bitmaps.previous k.marker.running budget chosen choice j inside) in
+        m.each_top j (omega (arith, count, known))
+        ∙ ap (λ (b : Bool). if b then j * k.table.words_per_region else slice_index tops j) inside
 
     next_same : k.marker.running ≡ true → (j : ℕ) → slice_index tams.next j ≡ slice_index k.marker.tams.next j
     next_same run j =
         elim (cases_Bool (is_chosen chosen j)) [
-          | inl inside ↦ tops_chosen k.marker.tams.next tams.next k.marker.bitmaps.next bm.next ev.next core.layers.marker.next.each_region j inside
+          | inl inside ↦
+              tops_chosen k.marker.tams.next tams.next k.marker.bitmaps.next bm.next ev.next core.layers.marker.next.each_region j inside
               ∙ sym (chosen_new k.table k.marker.tams k.marker.bitmaps.previous k.marker.running budget chosen choice j run inside)
           | inr out ↦ tops_left k.marker.tams.next tams.next k.marker.bitmaps.next bm.next ev.next core.layers.marker.next.each_region j out
         ]
@@ -148,13 +173,15 @@ module _ (k : CoreState) (core : IsCore k) (budget : ℕ) (chosen : List LiveRow
         ∙ ap (λ (m : ℕ). nat_lt a m) (next_same run (a / k.table.words_per_region))
 
     -- nothing of the set is marked while marking runs
-    none_marked : k.marker.running ≡ true → (a : ℕ) → set_in k.table.words_per_region chosen a ≡ true → is_marked k.marker.bitmaps.next a ≡ false
+    none_marked : k.marker.running ≡ true → (a : ℕ) → set_in k.table.words_per_region chosen a ≡ true
+        → is_marked k.marker.bitmaps.next a ≡ false
     unfolding is_below
     none_marked run a inside =
         elim (cases_Bool (is_marked k.marker.bitmaps.next a)) [
           | inl marked ↦
               let below = core.layers.marker.next.below a marked in
-              let bottom = chosen_new k.table k.marker.tams k.marker.bitmaps.previous k.marker.running budget chosen choice (a / k.table.words_per_region) run inside in
+              let bottom = chosen_new k.table k.marker.tams k.marker.bitmaps.previous k.marker.running budget chosen choice
+              (a / k.table.words_per_region) run inside in
               let z = some_words k core in
               absurd (not_below a (slice_index k.marker.tams.next (a / k.table.words_per_region)) below (omega (arith, bottom)))
           | inr no_mark ↦ no_mark
@@ -166,7 +193,8 @@ module _ (k : CoreState) (core : IsCore k) (budget : ℕ) (chosen : List LiveRow
     marks_same : k.marker.running ≡ true → (a : ℕ) → is_marked bm.next a ≡ is_marked k.marker.bitmaps.next a
     marks_same run a =
         elim (cases_Bool (set_in k.table.words_per_region chosen a)) [
-          | inl inside ↦ ev.next.each_mark a ∙ ap (λ (b : Bool). if b then false else is_marked k.marker.bitmaps.next a) inside ∙ sym (none_marked run a inside)
+          | inl inside ↦ ev.next.each_mark a ∙ ap (λ (b : Bool). if b then false else is_marked k.marker.bitmaps.next a) inside
+              ∙ sym (none_marked run a inside)
           | inr out ↦ ev.next.each_mark a ∙ ap (λ (b : Bool). if b then false else is_marked k.marker.bitmaps.next a) out
         ]
 
@@ -184,8 +212,10 @@ module _ (k : CoreState) (core : IsCore k) (budget : ℕ) (chosen : List LiveRow
       earlier = f.earlier;
       marking = λ run.
           let keeps : KeepsOld place (heap_of k) (marking_of k) = ev.keeps_old (all_new run) (marking_of k) (λ a. refl) in
-          let moved = relocated_invariant place core.footing.graph (heap_of k) (heap_of after) core.rests.shows.shows ev.relocates (IsReachable s) (next_name s) (marking_of k) (f.marking run) keeps in
-          same_invariant (IsReachable s) (next_name s) (heap_of after) (heap_of after) (marking_of k) (marking_of after) (record { kept = λ a. refl; roots = refl }) (same_marking run) moved;
+          let moved = relocated_invariant place core.footing.graph (heap_of k) (heap_of after) core.rests.shows.shows ev.relocates
+          (IsReachable s) (next_name s) (marking_of k) (f.marking run) keeps in
+          same_invariant (IsReachable s) (next_name s) (heap_of after) (heap_of after) (marking_of k) (marking_of after)
+          (record { kept = λ a. refl; roots = refl }) (same_marking run) moved;
     }
 
     -- ---- the layers
@@ -193,49 +223,67 @@ module _ (k : CoreState) (core : IsCore k) (budget : ℕ) (chosen : List LiveRow
     newer run = λ j.
         elim (cases_Bool (is_chosen chosen j)) [
           | inl inside ↦
-              let p = tops_chosen k.marker.tams.previous tams.previous k.marker.bitmaps.previous bm.previous ev.previous core.layers.marker.previous.each_region j inside in
-              let q = tops_chosen k.marker.tams.next tams.next k.marker.bitmaps.next bm.next ev.next core.layers.marker.next.each_region j inside in
+              let p = tops_chosen k.marker.tams.previous tams.previous k.marker.bitmaps.previous bm.previous ev.previous
+              core.layers.marker.previous.each_region j inside in
+              let q =
+              tops_chosen k.marker.tams.next tams.next k.marker.bitmaps.next bm.next ev.next core.layers.marker.next.each_region j inside in
               omega (arith, p, q)
           | inr out ↦
-              let p = tops_left k.marker.tams.previous tams.previous k.marker.bitmaps.previous bm.previous ev.previous core.layers.marker.previous.each_region j out in
-              let q = tops_left k.marker.tams.next tams.next k.marker.bitmaps.next bm.next ev.next core.layers.marker.next.each_region j out in
+              let p = tops_left k.marker.tams.previous tams.previous k.marker.bitmaps.previous bm.previous ev.previous
+              core.layers.marker.previous.each_region j out in
+              let q =
+              tops_left k.marker.tams.next tams.next k.marker.bitmaps.next bm.next ev.next core.layers.marker.next.each_region j out in
               omega (arith, p, q, core.layers.marker.newer run j)
         ]
 
     -- an object outside of the set has as many words as before
     same_long : (x y : Stored) → IsSameBut x y → tile_size (Object y) ≡ tile_size (Object x)
-    same_long x y s = let pointers = s.pointers in let weaks = s.weaks in let values = ap (λ (vs : List ℕ). length vs) s.values in omega (arith, pointers, weaks, values)
+    same_long x y s =
+        let pointers = s.pointers in
+        let weaks = s.weaks in
+        let values = ap (λ (vs : List ℕ). length vs) s.values in
+        omega (arith, pointers, weaks, values)
 
-    words_stay : (a : ℕ) (x : Stored) → set_in k.table.words_per_region chosen a ≡ false → object_at k.table a ≡ Some x → object_words t a ≡ object_words k.table a
+    words_stay : (a : ℕ) (x : Stored) → set_in k.table.words_per_region chosen a ≡ false → object_at k.table a ≡ Some x
+        → object_words t a ≡ object_words k.table a
     words_stay a x outside o =
         let (y, is, same) = ev.regions.objects a x outside o in
         words_are t a y is ∙ same_long x y same ∙ sym (words_are k.table a x o)
 
     -- what is counted of marks from which those of the set go
-    counts_after : (marks marks' : List Bool) (counts counts' : List ℕ) → CountsWords k.table marks counts → ((a : ℕ) → is_marked marks a ≡ true → (x : Stored) × (object_at k.table a ≡ Some x))
+    counts_after : (marks marks' : List Bool) (counts counts' : List ℕ) → CountsWords k.table marks counts
+        → ((a : ℕ) → is_marked marks a ≡ true → (x : Stored) × (object_at k.table a ≡ Some x))
         → ((a : ℕ) → is_marked marks' a ≡ (if set_in k.table.words_per_region chosen a then false else is_marked marks a))
-        → ((j : ℕ) → slice_index counts' j ≡ (if is_chosen chosen j then 0 else slice_index counts j)) → length counts' ≡ length counts → CountsWords t marks' counts'
+        → ((j : ℕ) → slice_index counts' j ≡ (if is_chosen chosen j then 0 else slice_index counts j))
+        → length counts' ≡ length counts → CountsWords t marks' counts'
     counts_after marks marks' counts counts' c object each now len = record {
       each_region = len ∙ c.each_region ∙ sym ev.regions.count;
-      each = λ j lt. count_at j (omega (arith, lt, ev.regions.count)) ∙ ap (λ (v : ℕ). marked_words t marks' (j * v) v) (sym ev.regions.size);
+      each =
+          λ j lt. count_at j (omega (arith, lt, ev.regions.count)) ∙ ap (λ (v : ℕ). marked_words t marks' (j * v) v) (sym ev.regions.size);
     }
       where
-        here : (j a : ℕ) → j * k.table.words_per_region ≤ a → a < j * k.table.words_per_region + k.table.words_per_region → set_in k.table.words_per_region chosen a ≡ is_chosen chosen j
+        here : (j a : ℕ) → j * k.table.words_per_region ≤ a → a < j * k.table.words_per_region + k.table.words_per_region
+            → set_in k.table.words_per_region chosen a ≡ is_chosen chosen j
         here j a low high = ap (is_chosen chosen) (ranges.div_is a k.table.words_per_region j low high)
 
-        count_at : (j : ℕ) → j < length k.table.regions → slice_index counts' j ≡ marked_words t marks' (j * k.table.words_per_region) k.table.words_per_region
+        count_at : (j : ℕ) → j < length k.table.regions
+            → slice_index counts' j ≡ marked_words t marks' (j * k.table.words_per_region) k.table.words_per_region
         count_at j known = elim (cases_Bool (is_chosen chosen j)) [
           | inl inside ↦
               now j ∙ ap (λ (b : Bool). if b then 0 else slice_index counts j) inside
-              ∙ sym (none_words t marks' k.table.words_per_region (j * k.table.words_per_region) (λ a low high. each a ∙ ap (λ (b : Bool). if b then false else is_marked marks a) (here j a low high ∙ inside)))
+              ∙ sym (none_words t marks' k.table.words_per_region (j * k.table.words_per_region)
+              (λ a low high. each a ∙ ap (λ (b : Bool). if b then false else is_marked marks a) (here j a low high ∙ inside)))
           | inr out ↦
               now j ∙ ap (λ (b : Bool). if b then 0 else slice_index counts j) out ∙ c.each j known
-              ∙ sym (marked_words_same k.table t marks marks' k.table.words_per_region (j * k.table.words_per_region) (λ a low high. each a ∙ ap (λ (b : Bool). if b then false else is_marked marks a) (here j a low high ∙ out))
+              ∙ sym (marked_words_same k.table t marks marks' k.table.words_per_region (j * k.table.words_per_region)
+              (λ a low high. each a ∙ ap (λ (b : Bool). if b then false else is_marked marks a) (here j a low high ∙ out))
               (λ a low high marked. let o = object a marked in words_stay a o.0 (here j a low high ∙ out) o.1))
         ]
 
     -- nothing of the set is scanned while marking runs
-    scanned_after : k.marker.running ≡ true → (a : ℕ) → is_marked k.marker.grey.scanned a ≡ (if set_in k.table.words_per_region chosen a then false else is_marked k.marker.grey.scanned a)
+    scanned_after : k.marker.running ≡ true → (a : ℕ)
+        → is_marked k.marker.grey.scanned a
+        ≡ (if set_in k.table.words_per_region chosen a then false else is_marked k.marker.grey.scanned a)
     scanned_after run a = elim (cases_Bool (set_in k.table.words_per_region chosen a)) [
       | inl inside ↦ elim (cases_Bool (is_marked k.marker.grey.scanned a)) [
         | inl scanned ↦ absurd (let marked = core.layers.marker.scanned_marked run a scanned in let none = none_marked run a inside in cc)
@@ -249,29 +297,38 @@ module _ (k : CoreState) (core : IsCore k) (budget : ℕ) (chosen : List LiveRow
       previous = ev.previous_stands;
       next = ev.next_stands;
       scanned = core.layers.marker.scanned ∙ sym ev.next.each_word;
-      finger = λ run a lt. ap (λ (b : Bool). b && not (is_marked k.marker.grey.scanned a)) (marks_same run a) ∙ core.layers.marker.finger run a lt;
+      finger = λ run a lt.
+          ap (λ (b : Bool). b && not (is_marked k.marker.grey.scanned a)) (marks_same run a) ∙ core.layers.marker.finger run a lt;
       newer = newer;
-      follows = λ run. follows_of after core.footing.graph core.footing.snapshot (paused_shows core.footing.graph core.rests.shows) (paused_keeps core.footing.snapshot core.rests.keeps) run;
+      follows = λ run. follows_of after core.footing.graph core.footing.snapshot (paused_shows core.footing.graph core.rests.shows)
+          (paused_keeps core.footing.snapshot core.rests.keeps) run;
       idle = core.layers.marker.idle;
       scanned_marked = λ run a e. marks_same run a ∙ core.layers.marker.scanned_marked run a e;
       counted = core.layers.marker.counted;
-      live = counts_after k.marker.bitmaps.previous bm.previous k.marker.live.previous live.previous core.layers.marker.live core.layers.marker.previous.object ev.previous.each_mark forgets.previous forgets.each_previous;
-      live_next = λ off. counts_after k.marker.bitmaps.next bm.next k.marker.live.next live.next (core.layers.marker.live_next off) core.layers.marker.next.object ev.next.each_mark forgets.next forgets.each_next;
-      live_scanned = λ run. counts_after k.marker.grey.scanned k.marker.grey.scanned k.marker.live.next live.next (core.layers.marker.live_scanned run)
-          (λ a e. core.layers.marker.next.object a (core.layers.marker.scanned_marked run a e)) (scanned_after run) forgets.next forgets.each_next;
+      live = counts_after k.marker.bitmaps.previous bm.previous k.marker.live.previous live.previous core.layers.marker.live
+          core.layers.marker.previous.object ev.previous.each_mark forgets.previous forgets.each_previous;
+      live_next = λ off. counts_after k.marker.bitmaps.next bm.next k.marker.live.next live.next (core.layers.marker.live_next off)
+          core.layers.marker.next.object ev.next.each_mark forgets.next forgets.each_next;
+      live_scanned =
+          λ run. counts_after k.marker.grey.scanned k.marker.grey.scanned k.marker.live.next live.next (core.layers.marker.live_scanned run)
+          (λ a e. core.layers.marker.next.object a (core.layers.marker.scanned_marked run a e))
+          (scanned_after run) forgets.next forgets.each_next;
     }
 
     -- the objects of a region that stays have the sizes that they had
-    words_left : (j a : ℕ) → is_chosen chosen j ≡ false → kind_of k.table j ≢ kinds.Free → is_in_region k.table.words_per_region j a ≡ true → object_words t a ≡ object_words k.table a
+    words_left : (j a : ℕ) → is_chosen chosen j ≡ false → kind_of k.table j ≢ kinds.Free → is_in_region k.table.words_per_region j a ≡ true
+        → object_words t a ≡ object_words k.table a
     words_left j a out used inside =
         let row : a / k.table.words_per_region ≡ j = ranges.nth_region k.table.words_per_region j a inside in
         let outside : set_in k.table.words_per_region chosen a ≡ false = ap (is_chosen chosen) row ∙ out in
         elim (option_is (object_at k.table a)) [
           | inl some ↦ words_stay a some.0 outside some.1
-          | inr none ↦ words_none t a (ev.regions.none a outside (λ e. used (ap (kind_of k.table) (sym row) ∙ e)) none) ∙ sym (words_none k.table a none)
+          | inr none ↦ words_none t a (ev.regions.none a outside (λ e. used (ap (kind_of k.table) (sym row) ∙ e)) none)
+              ∙ sym (words_none k.table a none)
         ]
 
-    ends_after : (tops tops' : List ℕ) (marks marks' : List Bool) → MarksAfter k.table.words_per_region chosen tops tops' marks marks' → MarksObjects k.table tops marks
+    ends_after : (tops tops' : List ℕ) (marks marks' : List Bool)
+        → MarksAfter k.table.words_per_region chosen tops tops' marks marks' → MarksObjects k.table tops marks
         → EndsBelow k.table tops → EndsBelow t tops'
     ends_after tops tops' marks marks' m before ends = λ j a o i lt.
         let inside : is_in_region k.table.words_per_region j a ≡ true = subst (λ (x : ℕ). is_in_region x j a ≡ true) ev.regions.size i in
@@ -299,15 +356,20 @@ module _ (k : CoreState) (core : IsCore k) (budget : ℕ) (chosen : List LiveRow
         buffer_size = core.layers.buffer_size;
         open_buffers = core.layers.open_buffers;
         logs = core.layers.logs;
-        buffers = subst (λ (b : Buffers). BuffersStand t b) (sym closed_all) (closed_stand t k.buffers.words (length k.buffers.open_buffers));
+        buffers =
+            subst (λ (b : Buffers). BuffersStand t b) (sym closed_all) (closed_stand t k.buffers.words (length k.buffers.open_buffers));
         unmoved = ev.unmoved;
         marker = marker_stands;
-        above_previous = retired_above t k.buffers (length k.buffers.open_buffers) (slice_index tams.previous) (ap (λ (b : Buffers). b.open_buffers) closed_all) ev.previous_stands.top;
-        above_next = retired_above t k.buffers (length k.buffers.open_buffers) (slice_index tams.next) (ap (λ (b : Buffers). b.open_buffers) closed_all) ev.next_stands.top;
+        above_previous = retired_above t k.buffers (length k.buffers.open_buffers) (slice_index tams.previous)
+            (ap (λ (b : Buffers). b.open_buffers) closed_all) ev.previous_stands.top;
+        above_next = retired_above t k.buffers (length k.buffers.open_buffers) (slice_index tams.next)
+            (ap (λ (b : Buffers). b.open_buffers) closed_all) ev.next_stands.top;
         room = core.layers.room;
         halves = ev.halves;
-        ends_previous = ends_after k.marker.tams.previous tams.previous k.marker.bitmaps.previous bm.previous ev.previous core.layers.marker.previous core.layers.ends_previous;
-        ends_next = ends_after k.marker.tams.next tams.next k.marker.bitmaps.next bm.next ev.next core.layers.marker.next core.layers.ends_next;
+        ends_previous = ends_after k.marker.tams.previous tams.previous k.marker.bitmaps.previous bm.previous ev.previous
+            core.layers.marker.previous core.layers.ends_previous;
+        ends_next =
+            ends_after k.marker.tams.next tams.next k.marker.bitmaps.next bm.next ev.next core.layers.marker.next core.layers.ends_next;
       }
 
       pub paused_kept : r ≡ k.room → n ≡ k.row_room → length roots ≡ length k.roots → IsCore after
@@ -328,7 +390,12 @@ module _ (k : CoreState) (core : IsCore k) (budget : ℕ) (chosen : List LiveRow
         places = places ∙ core.places;
         names = core.names;
         footing = core.footing;
-        rests = record { shows = paused_shows core.footing.graph core.rests.shows; keeps = paused_keeps core.footing.snapshot core.rests.keeps; sound = core.rests.sound; unreached = core.rests.unreached };
+        rests = record {
+          shows = paused_shows core.footing.graph core.rests.shows;
+          keeps = paused_keeps core.footing.snapshot core.rests.keeps;
+          sound = core.rests.sound;
+          unreached = core.rests.unreached;
+        };
       }
 
       -- exactly the chosen regions are reclaimed
@@ -338,7 +405,12 @@ module _ (k : CoreState) (core : IsCore k) (budget : ℕ) (chosen : List LiveRow
           | inl inside ↦ inside
           | inr out ↦ absurd (p.used (sym (ev.regions.kinds_same j out p.used) ∙ p.free))
         ],
-        λ inside. record { used = λ free. (let ordinary = chosen_ordinary k.table k.marker.tams k.marker.bitmaps.previous k.marker.running budget chosen choice j inside in cc); free = ev.regions.chosen j inside },
+        λ inside. record {
+          used = λ free. (let ordinary =
+              chosen_ordinary k.table k.marker.tams k.marker.bitmaps.previous k.marker.running budget chosen choice j inside in
+              cc);
+          free = ev.regions.chosen j inside;
+        },
       )
 
       evacuates_best : r ≡ k.room → n ≡ k.row_room → (m : ℕ) → m ≡ length chosen → EvacuatesBest budget m w k k after
@@ -347,7 +419,9 @@ module _ (k : CoreState) (core : IsCore k) (budget : ℕ) (chosen : List LiveRow
         chosen = chosen;
         choice = choice;
         regions = count;
-        within = (let most = ev.within in let le = chosen_within k.table k.marker.tams k.marker.bitmaps.previous k.marker.running budget chosen choice in omega (arith, most, le));
+        within = (let most = ev.within in
+            let le = chosen_within k.table k.marker.tams k.marker.bitmaps.previous k.marker.running budget chosen choice in
+            omega (arith, most, le));
         names = λ g s. copied_names g (heap_of k) s.shows (set_in k.table.words_per_region chosen) w ev.words_are;
         reclaimed = reclaimed;
         same = rw (room_same, rows_same) refl;
@@ -356,8 +430,10 @@ module _ (k : CoreState) (core : IsCore k) (budget : ℕ) (chosen : List LiveRow
         evacuated = ev;
       }
 
-      pub evacuates_from : r ≡ k.room → n ≡ k.row_room → (c : CoreState) → k ≡ c → (m : ℕ) → m ≡ length chosen → EvacuatesBest budget m w c c after
-      evacuates_from room_same rows_same c e m count = subst (λ (d : CoreState). EvacuatesBest budget m w d d after) e (evacuates_best room_same rows_same m count)
+      pub evacuates_from : r ≡ k.room → n ≡ k.row_room → (c : CoreState) → k ≡ c → (m : ℕ)
+          → m ≡ length chosen → EvacuatesBest budget m w c c after
+      evacuates_from room_same rows_same c e m count =
+          subst (λ (d : CoreState). EvacuatesBest budget m w d d after) e (evacuates_best room_same rows_same m count)
 
 -- what was made ready shows what it showed
 still_shows : (c k : CoreState) → IsReady c k → (g : Graph) → ShowsGraph g c → ShowsGraph g k
@@ -385,6 +461,7 @@ paused_ready c k c' budget n w ready p = record {
     same = p.same;
     marker = p.marker;
     counts = p.counts;
-    evacuated = subst (λ (g : Config). HasEvacuated p.chosen (card_words g) w (layers_of k) (layers_of c')) (ready_config c k ready) p.evacuated;
+    evacuated =
+        subst (λ (g : Config). HasEvacuated p.chosen (card_words g) w (layers_of k) (layers_of c')) (ready_config c k ready) p.evacuated;
   };
 }

@@ -1,5 +1,7 @@
 -- Before a pause: buffers are closed, and every card is refined. k is the core by its fields.
-use Rattle.std.proofs.Common.{◌≡◌, ℕ, suc, ◌+◌, ◌*◌, ◌/◌, ◌<◌, ◌≤◌, Bool, true, false, Option, None, List, [], ◌∷◌, get_or, length, take, replicate, sum_by, refl, sym, ◌∙◌, ap, subst, arith, inl, inr}
+use Rattle.std.proofs.Common.{◌≡◌, ◌+◌, ◌*◌, ◌/◌, ◌<◌, ◌≤◌, ◌∷◌, ◌∙◌}
+use Rattle.std.proofs.Common.{ℕ, suc, Bool, true, false, Option, None, List, [], get_or, length, take}
+use Rattle.std.proofs.Common.{replicate, sum_by, refl, sym, ap, subst, arith, inl, inr}
 use Rattle.std.specs.Prelude.{slice_index, if◌then◌else◌}
 use Rattle.std.proofs.lemmas.List.{length-replicate, take_all}
 use Rattle.std.proofs.lemmas.List.Folds.{sum_by-replicate}
@@ -31,10 +33,12 @@ module _ (k : CoreState) (b : Buffers) (cs : Cards) where
   closed_keeps s f = record { earlier = f.earlier; marking = f.marking }
 
   module _ (core : IsCore k) (is : b ≡ closed k.buffers.words (length k.buffers.open_buffers)) (stand : (t : Table) → BuffersStand t b)
-      (above : (t : Table) (limit : ℕ → ℕ) → ((n : ℕ) → n < length t.regions → limit n ≤ top_of t n) → AreAbove t b limit) (flush : cs ≡ flushed k.cards) where
+      (above : (t : Table) (limit : ℕ → ℕ) → ((n : ℕ) → n < length t.regions → limit n ≤ top_of t n) → AreAbove t b limit)
+      (flush : cs ≡ flushed k.cards) where
     closed_remembers : RemembersFields (with_closed k b cs)
     unfolding kept_of
-    closed_remembers = subst (λ (x : Cards). Remembers k.table.words_per_region (kept_of k) (card_words k.config) (is_dirty x) (may_lead k.sets)) (sym flush) core.remembers
+    closed_remembers = subst (λ (x : Cards).
+        Remembers k.table.words_per_region (kept_of k) (card_words k.config) (is_dirty x) (may_lead k.sets)) (sym flush) core.remembers
 
     pub closed_kept : IsCore (with_closed k b cs)
     closed_kept = record {
@@ -44,7 +48,8 @@ module _ (k : CoreState) (b : Buffers) (cs : Cards) where
         region_size = core.layers.region_size;
         region_count = core.layers.region_count;
         buffer_size = ap (λ (x : Buffers). x.words) is ∙ core.layers.buffer_size;
-        open_buffers = ap (λ (x : Buffers). length x.open_buffers) is ∙ length-replicate {A = Option Buffer} (length k.buffers.open_buffers) None ∙ core.layers.open_buffers;
+        open_buffers = ap (λ (x : Buffers). length x.open_buffers) is
+            ∙ length-replicate {A = Option Buffer} (length k.buffers.open_buffers) None ∙ core.layers.open_buffers;
         logs = core.layers.logs;
         buffers = stand k.table;
         unmoved = core.layers.unmoved;
@@ -60,7 +65,8 @@ module _ (k : CoreState) (b : Buffers) (cs : Cards) where
         whole_cards = core.cards.whole_cards;
         each_region = core.cards.each_region;
         each_card = ap (λ (x : Cards). length x.dirty) flush ∙ core.cards.each_card;
-        each_mutator = ap (λ (x : Cards). length x.logs) flush ∙ length-replicate {A = List ℕ} (length k.cards.logs) [] ∙ core.cards.each_mutator;
+        each_mutator =
+            ap (λ (x : Cards). length x.logs) flush ∙ length-replicate {A = List ℕ} (length k.cards.logs) [] ∙ core.cards.each_mutator;
       };
       remembers = closed_remembers;
       room = core.room;
@@ -68,7 +74,12 @@ module _ (k : CoreState) (b : Buffers) (cs : Cards) where
       places = core.places;
       names = core.names;
       footing = core.footing;
-      rests = record { shows = closed_shows core.footing.graph core.rests.shows; keeps = closed_keeps core.footing.snapshot core.rests.keeps; sound = core.rests.sound; unreached = core.rests.unreached };
+      rests = record {
+        shows = closed_shows core.footing.graph core.rests.shows;
+        keeps = closed_keeps core.footing.snapshot core.rests.keeps;
+        sound = core.rests.sound;
+        unreached = core.rests.unreached;
+      };
     }
 
 -- where nothing is listed no card is dirty
@@ -88,40 +99,56 @@ none_dirty t n card once queue logs = go (is_dirty t card) (omega (arith, listed
 -- flags of which none is set
 all_clear : (flags : List Bool) → ((n : ℕ) → get_or flags n false ≡ false) → flags ≡ replicate (length flags) false
 all_clear [] none = refl
-all_clear (b ∷ flags) none = let here : b ≡ false = none 0 in let rest = all_clear flags (λ n. none (suc n)) in ap (λ (x : Bool). x ∷ flags) here ∙ ap (λ (xs : List Bool). false ∷ xs) rest
+all_clear (b ∷ flags) none =
+    let here : b ≡ false = none 0 in
+    let rest = all_clear flags (λ n. none (suc n)) in
+    ap (λ (x : Bool). x ∷ flags) here ∙ ap (λ (xs : List Bool). false ∷ xs) rest
 
 -- as many cards as before
 cards_stay : (c c' : CoreState) → IsCore c → IsCore c' → c'.config ≡ c.config → length c'.cards.dirty ≡ length c.cards.dirty
 cards_stay c c' core core' same =
-    let per : c'.sets.cards_per_region ≡ c.sets.cards_per_region = sym (cards_a_region c' core') ∙ ap (λ (x : Config). x.words / card_words x) same ∙ cards_a_region c core in
+    let per : c'.sets.cards_per_region ≡ c.sets.cards_per_region =
+    sym (cards_a_region c' core') ∙ ap (λ (x : Config). x.words / card_words x) same ∙ cards_a_region c core in
     let count = core'.cards.each_region ∙ ap (λ (x : Config). x.regions) same ∙ sym core.cards.each_region in
-    core'.cards.each_card ∙ ap (λ (n : ℕ). n * c'.sets.cards_per_region) count ∙ ap (λ (n : ℕ). length c.sets.sets * n) per ∙ sym core.cards.each_card
+    core'.cards.each_card ∙ ap (λ (n : ℕ). n * c'.sets.cards_per_region) count
+    ∙ ap (λ (n : ℕ). length c.sets.sets * n) per ∙ sym core.cards.each_card
 
-cards_are : (t : Cards) (dirty : List Bool) (logs : List (List ℕ)) (queue : List ℕ) → t.dirty ≡ dirty → t.logs ≡ logs → t.queue ≡ queue → t ≡ record { dirty = dirty; logs = logs; queue = queue }
+cards_are : (t : Cards) (dirty : List Bool) (logs : List (List ℕ)) (queue : List ℕ) → t.dirty ≡ dirty → t.logs ≡ logs → t.queue ≡ queue
+    → t ≡ record { dirty = dirty; logs = logs; queue = queue }
 cards_are t dirty logs queue ed el eq =
-    ap (λ (xs : List Bool). record t { dirty = xs }) ed ∙ ap (λ (ls : List (List ℕ)). record { dirty = dirty; logs = ls; queue = t.queue }) el ∙ ap (λ (xs : List ℕ). record { dirty = dirty; logs = logs; queue = xs }) eq
+    ap (λ (xs : List Bool). record t { dirty = xs }) ed
+    ∙ ap (λ (ls : List (List ℕ)). record { dirty = dirty; logs = ls; queue = t.queue }) el
+    ∙ ap (λ (xs : List ℕ). record { dirty = dirty; logs = logs; queue = xs }) eq
 
 -- nothing is listed, and so nothing is dirty
-all_clean : (c c' : CoreState) → IsCore c → IsCore c' → c'.config ≡ c.config → ListsDirtyOnce c'.cards → c'.cards.queue ≡ [] → c'.cards.logs ≡ replicate (length c.cards.logs) []
-    → c'.cards ≡ clean_cards (length c.cards.dirty) (length c.cards.logs)
+all_clean : (c c' : CoreState) → IsCore c → IsCore c' → c'.config ≡ c.config → ListsDirtyOnce c'.cards → c'.cards.queue ≡ []
+    → c'.cards.logs ≡ replicate (length c.cards.logs) [] → c'.cards ≡ clean_cards (length c.cards.dirty) (length c.cards.logs)
 all_clean c c' core core' same once queue logs =
     let dirty : c'.cards.dirty ≡ replicate (length c.cards.dirty) false
-    = all_clear c'.cards.dirty (λ card. none_dirty c'.cards (length c.cards.logs) card once queue logs) ∙ ap (λ (n : ℕ). replicate n false) (cards_stay c c' core core' same) in
+    = all_clear c'.cards.dirty (λ card. none_dirty c'.cards (length c.cards.logs) card once queue logs)
+    ∙ ap (λ (n : ℕ). replicate n false) (cards_stay c c' core core' same) in
     cards_are c'.cards (replicate (length c.cards.dirty) false) (replicate (length c.cards.logs) []) [] dirty logs queue
 
 -- other buffers and cards change nothing of which fields lead where
-leads_closed : (k : CoreState) (b : Buffers) (cs : Cards) (x region : ℕ) → LeadsInto k.table.words_per_region (kept_of (with_closed k b cs)) (card_words k.config) x region → LeadsInto k.table.words_per_region (kept_of k) (card_words k.config) x region
+leads_closed : (k : CoreState) (b : Buffers) (cs : Cards) (x region : ℕ)
+    → LeadsInto k.table.words_per_region (kept_of (with_closed k b cs)) (card_words k.config) x region
+    → LeadsInto k.table.words_per_region (kept_of k) (card_words k.config) x region
 unfolding kept_of
 leads_closed k b cs x region l = l
 
-gains_closed : (k c' : CoreState) (b : Buffers) (cs : Cards) (cards : List ℕ) → GainsCards cards (with_closed k b cs) c' → GainsCards cards k c'
+gains_closed : (k c' : CoreState) (b : Buffers) (cs : Cards) (cards : List ℕ)
+    → GainsCards cards (with_closed k b cs) c' → GainsCards cards k c'
 gains_closed k c' b cs cards g = record {
   stays = g.stays;
-  only = λ region card e. elim (g.only region card e) [ inl was ↦ inl was | inr new ↦ inr (new.0, new.1, leads_closed k b cs new.0 region new.2, new.3) ];
+  only = λ region card e. elim (g.only region card e) [
+    | inl was ↦ inl was
+    | inr new ↦ inr (new.0, new.1, leads_closed k b cs new.0 region new.2, new.3)
+  ];
 }
 
 -- the queue was refined whole, so no card is dirty
-pub is_ready : (k c c' : CoreState) (b : Buffers) (cs : Cards) (n m : ℕ) → k ≡ c → b ≡ closed k.buffers.words (length k.buffers.open_buffers) → cs ≡ flushed k.cards
+pub is_ready : (k c c' : CoreState) (b : Buffers) (cs : Cards) (n m : ℕ) → k ≡ c
+    → b ≡ closed k.buffers.words (length k.buffers.open_buffers) → cs ≡ flushed k.cards
     → n ≡ length cs.queue → HasRefined n m (with_closed k b cs) c' → ListsDirtyOnce c'.cards → IsCore k → IsCore c' → IsReady c c'
 unfolding kept_of
 is_ready k c c' b cs n m e is flush all r once core core' =
@@ -129,10 +156,12 @@ is_ready k c c' b cs n m e is flush all r once core core' =
     let queue : c'.cards.queue ≡ [] = r.queue ∙ drop_of_length-le cs.queue (let le = count in omega arith) in
     let logs : c'.cards.logs ≡ replicate (length k.cards.logs) [] = r.logs ∙ ap (λ (x : Cards). x.logs) flush in
     let clean = all_clean k c' core core' (ap (λ (d : CoreState). d.config) r.same) once queue logs in
-    let whole : take m cs.queue ≡ (flushed k.cards).queue = take_all m cs.queue (let le = count in omega arith) ∙ ap (λ (x : Cards). x.queue) flush in
+    let whole : take m cs.queue ≡ (flushed k.cards).queue =
+    take_all m cs.queue (let le = count in omega arith) ∙ ap (λ (x : Cards). x.queue) flush in
     subst (λ (d : CoreState). IsReady d c') e (record {
       same = r.same ∙ ap (λ (x : Buffers). record k { buffers = x; cards = c'.cards; sets = c'.sets }) is
-          ∙ ap (λ (x : Cards). record k { buffers = closed k.buffers.words (length k.buffers.open_buffers); cards = x; sets = c'.sets }) clean;
+          ∙ ap (λ (x : Cards).
+          record k { buffers = closed k.buffers.words (length k.buffers.open_buffers); cards = x; sets = c'.sets }) clean;
       sets = rw (← whole) (gains_closed k c' b cs (take m cs.queue) r.sets);
     })
 

@@ -1,5 +1,7 @@
 -- Cards are refined in a core, one after another: k is the core by its fields.
-use Rattle.std.proofs.Common.{◌≡◌, ℕ, zero, suc, ◌+◌, ◌/◌, ◌<◌, ◌≤◌, ◌⊎◌, Bool, true, false, Some, List, [], ◌∷◌, length, take, drop, min, get_or, refl, sym, ◌∙◌, ap, subst, arith, inl, inr}
+use Rattle.std.proofs.Common.{◌≡◌, ◌+◌, ◌/◌, ◌<◌, ◌≤◌, ◌⊎◌, ◌∷◌, ◌∙◌}
+use Rattle.std.proofs.Common.{ℕ, zero, suc, Bool, true, false, Some, List, [], length, take, drop}
+use Rattle.std.proofs.Common.{min, get_or, refl, sym, ap, subst, arith, inl, inr}
 use Rattle.std.specs.Prelude.{Contains, slice_get}
 use Rattle.heap_model.specs.Graph.{Graph}
 use Rattle.heap_model.proofs.Shown.{closed}
@@ -29,13 +31,17 @@ can_scan k core = record {
     each_region = core.cards.each_region ∙ sym core.layers.region_count;
   };
   each_word = core.layers.marker.previous.each_word;
-  inside = closed_inside k.table k.marker.tams k.marker.bitmaps.previous k.roots (closed core.footing.graph (heap_of k) core.rests.shows.shows);
+  inside =
+      closed_inside k.table k.marker.tams k.marker.bitmaps.previous k.roots (closed core.footing.graph (heap_of k) core.rests.shows.shows);
 }
 
-module _ (k : CoreState) (core : IsCore k) (result : Bool) (cs : Cards) (ss : Sets) (scan : CanScan k.table k.marker.tams k.marker.bitmaps.previous (card_words k.config) ss) (count : length cs.dirty ≡ card_count ss)
-    (refines : Refines result k.table.words_per_region (kept_in k.table k.marker.tams k.marker.bitmaps.previous) (card_words k.config) k.cards cs k.sets ss)
-    (remembers : Remembers k.table.words_per_region (kept_in k.table k.marker.tams k.marker.bitmaps.previous) (card_words k.config) (is_dirty k.cards) (may_lead k.sets)
-    → Remembers k.table.words_per_region (kept_in k.table k.marker.tams k.marker.bitmaps.previous) (card_words k.config) (is_dirty cs) (may_lead ss)) where
+module _ (k : CoreState) (core : IsCore k) (result : Bool) (cs : Cards) (ss : Sets)
+    (scan : CanScan k.table k.marker.tams k.marker.bitmaps.previous (card_words k.config) ss) (count : length cs.dirty ≡ card_count ss)
+    (refines : Refines result k.table.words_per_region (kept_in k.table k.marker.tams k.marker.bitmaps.previous)
+    (card_words k.config) k.cards cs k.sets ss)
+    (remembers : Remembers k.table.words_per_region (kept_in k.table k.marker.tams k.marker.bitmaps.previous)
+    (card_words k.config) (is_dirty k.cards) (may_lead k.sets) → Remembers k.table.words_per_region (kept_in
+    k.table k.marker.tams k.marker.bitmaps.previous) (card_words k.config) (is_dirty cs) (may_lead ss)) where
   pub cards_show : (g : Graph) → ShowsGraph g k → ShowsGraph g (with_cards k cs ss)
   unfolding kept_of
   cards_show g s = record { room = s.room; places = s.places; next = s.next; shows = s.shows }
@@ -44,7 +50,9 @@ module _ (k : CoreState) (core : IsCore k) (result : Bool) (cs : Cards) (ss : Se
   unfolding kept_of
   cards_keep s f = record { earlier = f.earlier; marking = f.marking }
 
-  logs_stay : (b : Bool) → Refines b k.table.words_per_region (kept_in k.table k.marker.tams k.marker.bitmaps.previous) (card_words k.config) k.cards cs k.sets ss → cs.logs ≡ k.cards.logs
+  logs_stay : (b : Bool)
+      → Refines b k.table.words_per_region (kept_in k.table k.marker.tams k.marker.bitmaps.previous)
+      (card_words k.config) k.cards cs k.sets ss → cs.logs ≡ k.cards.logs
   logs_stay true r = r.taken.logs
   logs_stay false r = ap (λ (x : Cards). x.logs) r.1
 
@@ -66,28 +74,46 @@ module _ (k : CoreState) (core : IsCore k) (result : Bool) (cs : Cards) (ss : Se
     places = core.places;
     names = core.names;
     footing = core.footing;
-    rests = record { shows = cards_show core.footing.graph core.rests.shows; keeps = cards_keep core.footing.snapshot core.rests.keeps; sound = core.rests.sound; unreached = core.rests.unreached };
+    rests = record {
+      shows = cards_show core.footing.graph core.rests.shows;
+      keeps = cards_keep core.footing.snapshot core.rests.keeps;
+      sound = core.rests.sound;
+      unreached = core.rests.unreached;
+    };
   }
 
   -- what sets cover once the card was added
-  gains : (card : ℕ) → AddsCard k.table.words_per_region (kept_in k.table k.marker.tams k.marker.bitmaps.previous) (card_words k.config) card k.sets ss → GainsCards (card ∷ []) k (with_cards k cs ss)
+  gains : (card : ℕ)
+      → AddsCard k.table.words_per_region (kept_in k.table k.marker.tams k.marker.bitmaps.previous) (card_words k.config) card k.sets ss
+      → GainsCards (card ∷ []) k (with_cards k cs ss)
   unfolding kept_of
   gains card adds =
-      let inside = subst (λ (n : ℕ). LeadsInside k.table.words_per_region n (kept_in k.table k.marker.tams k.marker.bitmaps.previous)) (core.layers.region_count ∙ sym core.cards.each_region) (can_scan k core).inside in
-      let g = adds_gains k.table.words_per_region (kept_in k.table k.marker.tams k.marker.bitmaps.previous) (card_words k.config) card k.sets ss inside adds in
+      let inside = subst (λ (n : ℕ). LeadsInside k.table.words_per_region n (kept_in k.table k.marker.tams k.marker.bitmaps.previous))
+      (core.layers.region_count ∙ sym core.cards.each_region) (can_scan k core).inside in
+      let g = adds_gains k.table.words_per_region (kept_in k.table k.marker.tams k.marker.bitmaps.previous)
+      (card_words k.config) card k.sets ss inside adds in
       record {
         stays = g.stays;
-        only = λ region c e. elim (g.only region c e) [ inl was ↦ inl was | inr new ↦ inr (card, contained (card ∷ []) 0 card refl, new.0, new.1) ];
+        only = λ region c e. elim (g.only region c e) [
+          | inl was ↦ inl was
+          | inr new ↦ inr (card, contained (card ∷ []) 0 card refl, new.0, new.1)
+        ];
       }
 
-  one_refined : (b : Bool) → Refines b k.table.words_per_region (kept_in k.table k.marker.tams k.marker.bitmaps.previous) (card_words k.config) k.cards cs k.sets ss → RefinesCard b k (with_cards k cs ss)
-  one_refined true r = (r.card, record { same = refl; queue = r.taken.queue; logs = r.taken.logs; sets = gains r.card r.adds; cards_per_region = per_region })
+  one_refined : (b : Bool)
+      → Refines b k.table.words_per_region (kept_in k.table k.marker.tams k.marker.bitmaps.previous)
+      (card_words k.config) k.cards cs k.sets ss → RefinesCard b k (with_cards k cs ss)
+  one_refined true r = (
+    r.card,
+    record { same = refl; queue = r.taken.queue; logs = r.taken.logs; sets = gains r.card r.adds; cards_per_region = per_region },
+  )
     where
       per_region : ss.cards_per_region ≡ k.sets.cards_per_region
       per_region =
           let card : ℕ = card_words k.config in
           let some = some_card k core in
-          sym (ap (λ (n : ℕ). n / card) (sym core.layers.region_size ∙ scan.fit.whole_cards) ∙ mul-div_cancel ss.cards_per_region some) ∙ cards_a_region k core
+          sym (ap (λ (n : ℕ). n / card) (sym core.layers.region_size ∙ scan.fit.whole_cards) ∙ mul-div_cancel ss.cards_per_region some)
+          ∙ cards_a_region k core
   one_refined false r = (r.0, same)
     where
       same : with_cards k cs ss ≡ k
@@ -110,7 +136,8 @@ pub record RefinesSome (i : ℕ) (c0 c : CoreState) : Type 0 where
   pub logs : c.cards.logs ≡ c0.cards.logs
   pub stays : (region card : ℕ) → covers c0.sets region card ≡ true → covers c.sets region card ≡ true
   pub only : (region card : ℕ) → covers c.sets region card ≡ true → (covers c0.sets region card ≡ true)
-      ⊎ ((x : ℕ) × IsEarly i c0.cards.queue x × LeadsInto c0.table.words_per_region (kept_of c0) (card_words c0.config) x region × (card / c0.sets.cards_per_region ≡ x / c0.sets.cards_per_region))
+      ⊎ ((x : ℕ) × IsEarly i c0.cards.queue x × LeadsInto c0.table.words_per_region (kept_of c0) (card_words c0.config) x region
+      × (card / c0.sets.cards_per_region ≡ x / c0.sets.cards_per_region))
   pub cards_per_region : c.sets.cards_per_region ≡ c0.sets.cards_per_region
 
 drop_next : (q rest : List ℕ) (i card : ℕ) → drop i q ≡ card ∷ rest → (i + 1 ≤ length q) × (rest ≡ drop (i + 1) q)
@@ -140,7 +167,9 @@ one_only n card h = let (place, lt, is) = h in go place lt (sym is)
     go (suc p) lt is = absurd (omega (arith, lt))
 
 -- other cards and sets change nothing of which fields lead where
-leads_same : (c : CoreState) (cs : Cards) (ss : Sets) (x region : ℕ) → LeadsInto c.table.words_per_region (kept_of (with_cards c cs ss)) (card_words c.config) x region → LeadsInto c.table.words_per_region (kept_of c) (card_words c.config) x region
+leads_same : (c : CoreState) (cs : Cards) (ss : Sets) (x region : ℕ)
+    → LeadsInto c.table.words_per_region (kept_of (with_cards c cs ss)) (card_words c.config) x region
+    → LeadsInto c.table.words_per_region (kept_of c) (card_words c.config) x region
 unfolding kept_of
 leads_same c cs ss x region l = l
 
@@ -189,7 +218,12 @@ has_refined k i c0 c p count = record {
     stays = p.stays;
     only = λ region card e. elim (p.only region card e) [
       | inl was ↦ inl was
-      | inr new ↦ inr (new.0, contained (take i c0.cards.queue) new.1.place new.0 (early_get i c0.cards.queue new.1.place new.0 new.1.front new.1.is), new.2, new.3)
+      | inr new ↦ inr (
+        new.0,
+        contained (take i c0.cards.queue) new.1.place new.0 (early_get i c0.cards.queue new.1.place new.0 new.1.front new.1.is),
+        new.2,
+        new.3,
+      )
     ];
   };
 }
@@ -197,7 +231,8 @@ has_refined k i c0 c p count = record {
 -- the queue was empty before
 pub queue_ended : (k i : ℕ) (c0 c c' : CoreState) → RefinesSome i c0 c → i ≤ k → RefinesCard false c c' → HasRefined k i c0 c'
 queue_ended k i c0 c c' p le (none, same) =
-    subst (λ (d : CoreState). HasRefined k i c0 d) (sym same) (has_refined k i c0 c p (let few = p.few in let past = drop_all c0.cards.queue i (sym p.queue ∙ none) in omega arith))
+    subst (λ (d : CoreState). HasRefined k i c0 d) (sym same)
+    (has_refined k i c0 c p (let few = p.few in let past = drop_all c0.cards.queue i (sym p.queue ∙ none) in omega arith))
 
 -- so many were refined
 pub all_refined : (k i : ℕ) (c0 c : CoreState) → RefinesSome i c0 c → i ≤ k → k ≤ i → HasRefined k k c0 c

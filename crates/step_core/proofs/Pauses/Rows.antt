@@ -1,5 +1,6 @@
 -- The candidates of a pause, region by region.
-use Rattle.std.proofs.Common.{◌≡◌, ℕ, zero, suc, ◌+◌, ◌<◌, ◌≤◌, Bool, true, false, cond, eqb, List, [], ◌∷◌, ◌++◌, length, get_or, refl, sym, ◌∙◌, ap, subst, arith, inl, inr}
+use Rattle.std.proofs.Common.{◌≡◌, ◌+◌, ◌<◌, ◌≤◌, ◌∷◌, ◌++◌, ◌∙◌}
+use Rattle.std.proofs.Common.{ℕ, zero, suc, Bool, true, false, cond, eqb, List, [], length, get_or, refl, sym, ap, subst, arith, inl, inr}
 use Rattle.std.specs.Prelude.{All, IsPermutation, count_by, ◌==◌, ◌||◌}
 use Rattle.std.specs.List.{list_any}
 use Rattle.std.proofs.lemmas.Bool.{cases_eq, cases_lt, eq-eqb, ne_eqb}
@@ -34,14 +35,20 @@ none_of [] n a = refl
 none_of (x ∷ rows) n a =
     let first : x.region < n = a 0 x (omega arith) in
     let other : eqb x.region n ≡ false = ne_eqb x.region n (λ e. omega (arith, e, first)) in
-    omega (arith, sum_by-cons (bit n) x rows, ap {B = ℕ} (λ b. cond b 1 0) other, none_of rows n (λ k d lt. a (suc k) d (omega (arith, lt))))
+    omega (
+      arith,
+      sum_by-cons (bit n) x rows,
+      ap {B = ℕ} (λ b. cond b 1 0) other,
+      none_of rows n (λ k d lt. a (suc k) d (omega (arith, lt))),
+    )
 
 module _ (t : Table) (tams : Tops) (previous : List Bool) (running : Bool) where
   further : (n : ℕ) (row : LiveRow) → IsCandidateRow t tams previous running n row → IsCandidateRow t tams previous running (n + 1) row
   further n row c = record { candidate = c.candidate; below = (let lt = c.below in omega arith) }
 
   -- a region that is no candidate is passed
-  pub row_passed : (n : ℕ) (rows : List LiveRow) → AreCandidates t tams previous running n rows → (IsCandidate t tams previous running n → ⊥) → AreCandidates t tams previous running (n + 1) rows
+  pub row_passed : (n : ℕ) (rows : List LiveRow) → AreCandidates t tams previous running n rows
+      → (IsCandidate t tams previous running n → ⊥) → AreCandidates t tams previous running (n + 1) rows
   row_passed n rows c other = record {
     are_rows = c.are_rows;
     each = All_map (IsCandidateRow t tams previous running n) (IsCandidateRow t tams previous running (n + 1)) (further n) rows c.each;
@@ -65,10 +72,12 @@ module _ (t : Table) (tams : Tops) (previous : List Bool) (running : Bool) where
   has_last rows row =
       let here : (eqb row.region row.region || false) ≡ true = ap (λ (b : Bool). b || false) (eq-eqb row.region row.region refl) in
       list_any-append (λ (r : LiveRow). r.region == row.region) rows (row ∷ [])
-      ∙ any_right (list_any (λ (r : LiveRow). r.region == row.region) rows) (list_any (λ (r : LiveRow). r.region == row.region) (row ∷ [])) here
+      ∙ any_right (list_any (λ (r : LiveRow). r.region == row.region) rows)
+      (list_any (λ (r : LiveRow). r.region == row.region) (row ∷ [])) here
 
   -- the row of a candidate is written
-  pub row_written : (n : ℕ) (rows : List LiveRow) (row : LiveRow) → AreCandidates t tams previous running n rows → n < length t.regions → row.region ≡ n → row.live_bound ≡ live_bound_of t tams.previous previous n
+  pub row_written : (n : ℕ) (rows : List LiveRow) (row : LiveRow) → AreCandidates t tams previous running n rows → n < length t.regions
+      → row.region ≡ n → row.live_bound ≡ live_bound_of t tams.previous previous n
       → IsCandidate t tams previous running n → AreCandidates t tams previous running (n + 1) (rows ++ row ∷ [])
   row_written n rows row c known at bound is =
       let is_row : IsRowOf t tams.previous previous row = record {
@@ -80,16 +89,22 @@ module _ (t : Table) (tams : Tops) (previous : List Bool) (running : Bool) where
         candidate = subst (λ (j : ℕ). IsCandidate t tams previous running j) (sym at) is;
         below = omega arith;
       } in
-      let below : All (λ row. row.region < n) rows = All_map (IsCandidateRow t tams previous running n) (λ row. row.region < n) (λ x r. r.below) rows c.each in
+      let below : All (λ row. row.region < n) rows =
+      All_map (IsCandidateRow t tams previous running n) (λ row. row.region < n) (λ x r. r.below) rows c.each in
       record {
         are_rows = record {
-          each = All-append (IsRowOf t tams.previous previous) rows (row ∷ []) c.are_rows.each (All_one (IsRowOf t tams.previous previous) row is_row);
+          each = All-append (IsRowOf t tams.previous previous) rows (row ∷ []) c.are_rows.each
+              (All_one (IsRowOf t tams.previous previous) row is_row);
           once = λ k. once_more k below;
         };
-        each = All-append (IsCandidateRow t tams previous running (n + 1)) rows (row ∷ []) (All_map (IsCandidateRow t tams previous running n) (IsCandidateRow t tams previous running (n + 1)) (further n) rows c.each) (All_one (IsCandidateRow t tams previous running (n + 1)) row is_here);
+        each = All-append (IsCandidateRow t tams previous running (n + 1)) rows (row ∷ [])
+            (All_map (IsCandidateRow t tams previous running n) (IsCandidateRow t tams previous running (n + 1)) (further n) rows c.each)
+            (All_one (IsCandidateRow t tams previous running (n + 1)) row is_here);
         all = λ k lt cand. elim (cases_lt k n) [
           | inl less ↦ has_left rows (row ∷ []) k (c.all k less cand)
-          | inr last ↦ let same : row.region ≡ k = omega arith in subst (λ (j : ℕ). is_chosen (rows ++ row ∷ []) j ≡ true) same (has_last rows row)
+          | inr last ↦
+              let same : row.region ≡ k = omega arith in
+              subst (λ (j : ℕ). is_chosen (rows ++ row ∷ []) j ≡ true) same (has_last rows row)
         ];
       }
     where
@@ -101,14 +116,15 @@ module _ (t : Table) (tams : Tops) (previous : List Bool) (running : Bool) where
             | inl q ↦
                 let none = none_of rows n below in
                 let same : n ≡ k = sym at ∙ q in
-                let none' : count_by (λ (r : LiveRow). r.region == k) rows ≡ 0 = subst (λ (j : ℕ). count_by (λ (r : LiveRow). r.region == j) rows ≡ 0) same none in
+                let none' : count_by (λ (r : LiveRow). r.region == k) rows ≡ 0 =
+                subst (λ (j : ℕ). count_by (λ (r : LiveRow). r.region == j) rows ≡ 0) same none in
                 omega (arith, sum, one, none', ap {B = ℕ} (λ b. cond b 1 0) (eq-eqb row.region k q))
             | inr ne ↦ omega (arith, sum, one, c.are_rows.once k, ap {B = ℕ} (λ b. cond b 1 0) (ne_eqb row.region k ne))
           ]
 
 -- the same rows in another order
-pub candidates_sorted : (t : Table) (tams : Tops) (previous : List Bool) (running : Bool) (n : ℕ) (xs ys : List LiveRow) → IsPermutation xs ys
-    → AreCandidates t tams previous running n xs → AreCandidates t tams previous running n ys
+pub candidates_sorted : (t : Table) (tams : Tops) (previous : List Bool) (running : Bool) (n : ℕ)
+    (xs ys : List LiveRow) → IsPermutation xs ys → AreCandidates t tams previous running n xs → AreCandidates t tams previous running n ys
 candidates_sorted t tams previous running n xs ys same c = record {
   are_rows = record {
     each = All-permutation (IsRowOf t tams.previous previous) xs ys same c.are_rows.each;

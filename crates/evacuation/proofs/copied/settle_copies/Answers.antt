@@ -33,13 +33,16 @@ loop-region-preserved g c =
     let e = sym c.region.ensures.region ∙ c.in-Some.is in
     record {
       turn = c.settle_region.ensures.turn;
-      after = after_after (layout g.pause) c.args.noted.now c.loop-region.noted c.settle_region.new.noted _ _ _ _ _ _ v.after c.settle_region.ensures.after;
+      after = after_after (layout g.pause) c.args.noted.now c.loop-region.noted c.settle_region.new.noted _ _ _ _ _
+          _ v.after c.settle_region.ensures.after;
       each = c.settle_region.ensures.each_card;
-      done = regions_more g.pause c.loop-region.table c.settle_region.new.table c.loop-region.destinations c.settle_region.new.destinations c.loop-region.noted c.settle_region.new.noted v.turn c.settle_region.ensures.turn c.settle_region.ensures.after
+      done = regions_more g.pause c.loop-region.table c.settle_region.new.table c.loop-region.destinations c.settle_region.new.destinations
+          c.loop-region.noted c.settle_region.new.noted v.turn c.settle_region.ensures.turn c.settle_region.ensures.after
           c.loop-region.n c.in-Some.region e v.done c.settle_region.ensures.settled;
     }
 
 pub returns-clause-settled : goal.returns-clause-settled
 returns-clause-settled g c =
     let e : c.region.result ≡ None = search rules in
-    regions_all g.pause c.loop-region.noted c.loop-region.table c.loop-region.destinations c.loop-region.n c.loop-region.invariant.done (sym c.region.ensures.region ∙ e)
+    regions_all g.pause c.loop-region.noted c.loop-region.table c.loop-region.destinations c.loop-region.n
+    c.loop-region.invariant.done (sym c.region.ensures.region ∙ e)

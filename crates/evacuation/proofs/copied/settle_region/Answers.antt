@@ -34,7 +34,8 @@ overflow_mul-bottom g c =
     let known = (turn.taken c.args.region destination).2 in
     let count = turn.table.count in
     let b = bound c.args.region (length c.args.table.now.regions) c.args.table.now.words_per_region (omega arith) c.law.ensures.in_all in
-    let e = at_bottom c.number.result c.args.region c.words_per_region.result c.args.table.now.words_per_region c.args.table.now.words_per_region c.number.ensures c.words_per_region.ensures refl in
+    let e = at_bottom c.number.result c.args.region c.words_per_region.result c.args.table.now.words_per_region
+    c.args.table.now.words_per_region c.number.ensures c.words_per_region.ensures refl in
     rw e (omega (arith, b))
 
 pub top-requires : goal.top-requires
@@ -47,31 +48,39 @@ top-requires g c =
 pub returns-then-word-bottom-clause-settled : goal.returns-then-word-bottom-clause-settled
 returns-then-word-bottom-clause-settled g c =
     let (premises, (turn, (flags, (card, (each, destination))))) = c.requires in
-    let e = at_bottom c.number.result c.args.region c.words_per_region.result c.args.table.now.words_per_region c.args.table.now.words_per_region c.number.ensures c.words_per_region.ensures refl in
+    let e = at_bottom c.number.result c.args.region c.words_per_region.result c.args.table.now.words_per_region
+    c.args.table.now.words_per_region c.number.ensures c.words_per_region.ensures refl in
     let a = c.if-word-bottom.true in
     let b = c.word.ensures in
     let t = c.top.ensures in
-    scans.none_there g.pause premises c.args.table.now c.args.destinations.now turn c.law.ensures c.args.region destination (omega (arith, e, a, b, t)) c.args.noted.now
+    scans.none_there g.pause premises c.args.table.now c.args.destinations.now turn c.law.ensures c.args.region destination
+    (omega (arith, e, a, b, t)) c.args.noted.now
 
 pub tiles-init : goal.tiles-init
 tiles-init g c =
     let (premises, (turn, (flags, (card, (each, destination))))) = c.requires in
-    let e = at_bottom c.number.result c.args.region c.words_per_region.result c.args.table.now.words_per_region c.args.table.now.words_per_region c.number.ensures c.words_per_region.ensures refl in
-    let f = at_bottom c.number.result c.args.region c.words_per_region.result c.args.table.now.words_per_region g.pause.start.words_per_region c.number.ensures c.words_per_region.ensures turn.table.size in
+    let e = at_bottom c.number.result c.args.region c.words_per_region.result c.args.table.now.words_per_region
+    c.args.table.now.words_per_region c.number.ensures c.words_per_region.ensures refl in
+    let f = at_bottom c.number.result c.args.region c.words_per_region.result c.args.table.now.words_per_region
+    g.pause.start.words_per_region c.number.ensures c.words_per_region.ensures turn.table.size in
     let a = c.if-word-bottom.false in
     let b = c.word.ensures in
     let t = c.top.ensures in
     let at = c.new-at.ensures in
     let z = premises.shaped.positive in
-    let used : 0 < used_of c.args.table.now c.args.region = filled c.word.result (c.number.result * c.words_per_region.result) (used_of c.args.table.now c.args.region) a (omega (arith, e, b, t)) in
+    let used : 0 < used_of c.args.table.now c.args.region =
+    filled c.word.result (c.number.result * c.words_per_region.result)
+    (used_of c.args.table.now c.args.region) a (omega (arith, e, b, t)) in
     let (u, there) = steps.bottom_tile c.args.table.now c.args.region c.law.ensures (turn.taken c.args.region destination).1 used in
-    let region : c.new-at.result / g.pause.start.words_per_region ≡ c.args.region = div_is c.new-at.result g.pause.start.words_per_region c.args.region (omega (arith, f, at)) (omega (arith, f, at, z)) in
+    let region : c.new-at.result / g.pause.start.words_per_region ≡ c.args.region =
+    div_is c.new-at.result g.pause.start.words_per_region c.args.region (omega (arith, f, at)) (omega (arith, f, at, z)) in
     record {
       turn = turn;
       after = same_after (layout g.pause) c.args.noted.now (space g.pause c.args.table.now) c.args.destinations.now;
       each = each;
       region = region;
-      object = scans.copy_object g.pause premises c.args.table.now c.args.destinations.now turn c.law.ensures c.args.region destination c.new-at.result region
+      object = scans.copy_object g.pause premises c.args.table.now c.args.destinations.now turn c.law.ensures
+          c.args.region destination c.new-at.result region
           (steps.some_tile (tile_in c.args.table.now c.new-at.result) u (ap (tile_in c.args.table.now) (at ∙ e) ∙ there));
       done = λ x y r low k. absurd (below_bottom x g.pause.start.words_per_region c.args.region z r (omega (arith, f, at, low)));
     }
@@ -80,29 +89,38 @@ pub settle_object-requires : goal.settle_object-requires
 settle_object-requires g c =
     let (premises, (turn, (flags, (card, (each, destination))))) = c.requires in
     let v = c.tiles.invariant in
-    let w = taken_after (layout g.pause) c.args.noted.now c.tiles.noted (space g.pause c.args.table.now) (space g.pause c.tiles.table) c.args.destinations.now c.tiles.destinations c.args.region v.after destination in
-    let out = scans.copy_outside g.pause premises c.tiles.table c.tiles.destinations v.turn c.law-in-tiles.ensures c.args.region w c.tiles.at v.region in
+    let w = taken_after (layout g.pause) c.args.noted.now c.tiles.noted (space g.pause c.args.table.now) (space g.pause c.tiles.table)
+    c.args.destinations.now c.tiles.destinations c.args.region v.after destination in
+    let out = scans.copy_outside g.pause premises c.tiles.table c.tiles.destinations v.turn
+    c.law-in-tiles.ensures c.args.region w c.tiles.at v.region in
     (premises, (v.turn, (flags, (card, (v.each, (out, (v.object, subst (IsTaken c.tiles.destinations) (sym v.region) w)))))))
 
 pub next_tile-requires : goal.next_tile-requires
 next_tile-requires g c =
     let (premises, (turn, (flags, (card, (each, destination))))) = c.requires in
     let v = c.tiles.invariant in
-    let w = taken_after (layout g.pause) c.args.noted.now c.tiles.noted (space g.pause c.args.table.now) (space g.pause c.tiles.table) c.args.destinations.now c.tiles.destinations c.args.region v.after destination in
-    let out = scans.copy_outside g.pause premises c.tiles.table c.tiles.destinations v.turn c.law-in-tiles.ensures c.args.region w c.tiles.at v.region in
+    let w = taken_after (layout g.pause) c.args.noted.now c.tiles.noted (space g.pause c.args.table.now) (space g.pause c.tiles.table)
+    c.args.destinations.now c.tiles.destinations c.args.region v.after destination in
+    let out = scans.copy_outside g.pause premises c.tiles.table c.tiles.destinations v.turn
+    c.law-in-tiles.ensures c.args.region w c.tiles.at v.region in
     let (y, here, n) = c.settle_object.ensures.after.stays c.tiles.at v.object.0 out v.object.1 in
-    steps.some_tile (tile_in c.settle_object.new.table c.tiles.at) (Object y) (tile_of_object c.settle_object.new.table c.tiles.at y (kept_object g.pause c.settle_object.new.table c.tiles.at y here))
+    steps.some_tile (tile_in c.settle_object.new.table c.tiles.at) (Object y)
+    (tile_of_object c.settle_object.new.table c.tiles.at y (kept_object g.pause c.settle_object.new.table c.tiles.at y here))
 
 pub tiles-smaller : goal.tiles-smaller
 tiles-smaller g c =
     let (premises, (turn, (flags, (card, (each, destination))))) = c.requires in
     let v = c.tiles.invariant in
-    let w = taken_after (layout g.pause) c.args.noted.now c.tiles.noted (space g.pause c.args.table.now) (space g.pause c.tiles.table) c.args.destinations.now c.tiles.destinations c.args.region v.after destination in
-    let out = scans.copy_outside g.pause premises c.tiles.table c.tiles.destinations v.turn c.law-in-tiles.ensures c.args.region w c.tiles.at v.region in
+    let w = taken_after (layout g.pause) c.args.noted.now c.tiles.noted (space g.pause c.args.table.now) (space g.pause c.tiles.table)
+    c.args.destinations.now c.tiles.destinations c.args.region v.after destination in
+    let out = scans.copy_outside g.pause premises c.tiles.table c.tiles.destinations v.turn
+    c.law-in-tiles.ensures c.args.region w c.tiles.at v.region in
     let n = c.in-Some.ensures.next in
     let size = c.settle_object.ensures.turn.table.size in
-    let e1 : c.in-Some.next / c.settle_object.new.table.words_per_region ≡ c.tiles.at / c.settle_object.new.table.words_per_region = n.region in
-    let e2 : c.in-Some.next / g.pause.start.words_per_region ≡ c.tiles.at / g.pause.start.words_per_region = subst (λ (m : ℕ). c.in-Some.next / m ≡ c.tiles.at / m) size e1 in
+    let e1 : c.in-Some.next / c.settle_object.new.table.words_per_region ≡ c.tiles.at / c.settle_object.new.table.words_per_region =
+    n.region in
+    let e2 : c.in-Some.next / g.pause.start.words_per_region ≡ c.tiles.at / g.pause.start.words_per_region =
+    subst (λ (m : ℕ). c.in-Some.next / m ≡ c.tiles.at / m) size e1 in
     let region : c.in-Some.next / g.pause.start.words_per_region ≡ c.args.region = e2 ∙ v.region in
     let high = div_high c.in-Some.next g.pause.start.words_per_region c.args.region premises.shaped.positive region in
     let up = n.above in
@@ -112,35 +130,51 @@ pub tiles-preserved : goal.tiles-preserved
 tiles-preserved g c =
     let (premises, (turn, (flags, (card, (each, destination))))) = c.requires in
     let v = c.tiles.invariant in
-    let w = taken_after (layout g.pause) c.args.noted.now c.tiles.noted (space g.pause c.args.table.now) (space g.pause c.tiles.table) c.args.destinations.now c.tiles.destinations c.args.region v.after destination in
-    let out = scans.copy_outside g.pause premises c.tiles.table c.tiles.destinations v.turn c.law-in-tiles.ensures c.args.region w c.tiles.at v.region in
+    let w = taken_after (layout g.pause) c.args.noted.now c.tiles.noted (space g.pause c.args.table.now) (space g.pause c.tiles.table)
+    c.args.destinations.now c.tiles.destinations c.args.region v.after destination in
+    let out = scans.copy_outside g.pause premises c.tiles.table c.tiles.destinations v.turn
+    c.law-in-tiles.ensures c.args.region w c.tiles.at v.region in
     let n = c.in-Some.ensures.next in
     let size = c.settle_object.ensures.turn.table.size in
-    let e1 : c.in-Some.next / c.settle_object.new.table.words_per_region ≡ c.tiles.at / c.settle_object.new.table.words_per_region = n.region in
-    let e2 : c.in-Some.next / g.pause.start.words_per_region ≡ c.tiles.at / g.pause.start.words_per_region = subst (λ (m : ℕ). c.in-Some.next / m ≡ c.tiles.at / m) size e1 in
+    let e1 : c.in-Some.next / c.settle_object.new.table.words_per_region ≡ c.tiles.at / c.settle_object.new.table.words_per_region =
+    n.region in
+    let e2 : c.in-Some.next / g.pause.start.words_per_region ≡ c.tiles.at / g.pause.start.words_per_region =
+    subst (λ (m : ℕ). c.in-Some.next / m ≡ c.tiles.at / m) size e1 in
     let region : c.in-Some.next / g.pause.start.words_per_region ≡ c.args.region = e2 ∙ v.region in
-    let w' = taken_after (layout g.pause) c.tiles.noted c.settle_object.new.noted (space g.pause c.tiles.table) (space g.pause c.settle_object.new.table) c.tiles.destinations c.settle_object.new.destinations c.args.region c.settle_object.ensures.after w in
+    let w' = taken_after (layout g.pause) c.tiles.noted c.settle_object.new.noted (space g.pause c.tiles.table)
+    (space g.pause c.settle_object.new.table) c.tiles.destinations c.settle_object.new.destinations
+    c.args.region c.settle_object.ensures.after w in
     record {
       turn = c.settle_object.ensures.turn;
-      after = after_after (layout g.pause) c.args.noted.now c.tiles.noted c.settle_object.new.noted _ _ _ _ _ _ v.after c.settle_object.ensures.after;
+      after = after_after (layout g.pause) c.args.noted.now c.tiles.noted c.settle_object.new.noted _ _ _ _
+          _ _ v.after c.settle_object.ensures.after;
       each = c.settle_object.ensures.each_card;
       region = region;
-      object = scans.copy_there g.pause premises c.settle_object.new.table c.settle_object.new.destinations c.settle_object.ensures.turn c.args.region w' c.in-Some.next region n.tile;
-      done = scans.done_next g.pause premises c.tiles.table c.tiles.destinations v.turn c.law-in-tiles.ensures c.args.region w c.settle_object.new.table c.settle_object.new.destinations c.tiles.noted c.settle_object.new.noted c.settle_object.ensures.turn c.settle_object.ensures.after c.tiles.at v.region v.object v.done c.settle_object.ensures.settled c.in-Some.next n;
+      object = scans.copy_there g.pause premises c.settle_object.new.table c.settle_object.new.destinations c.settle_object.ensures.turn
+          c.args.region w' c.in-Some.next region n.tile;
+      done = scans.done_next g.pause premises c.tiles.table c.tiles.destinations v.turn c.law-in-tiles.ensures c.args.region w
+          c.settle_object.new.table c.settle_object.new.destinations c.tiles.noted c.settle_object.new.noted c.settle_object.ensures.turn
+          c.settle_object.ensures.after c.tiles.at v.region v.object v.done c.settle_object.ensures.settled c.in-Some.next n;
     }
 
 pub returns-clause-after : goal.returns-clause-after
 returns-clause-after g c =
     let (premises, (turn, (flags, (card, (each, destination))))) = c.requires in
     let v = c.tiles.invariant in
-    let w = taken_after (layout g.pause) c.args.noted.now c.tiles.noted (space g.pause c.args.table.now) (space g.pause c.tiles.table) c.args.destinations.now c.tiles.destinations c.args.region v.after destination in
-    let out = scans.copy_outside g.pause premises c.tiles.table c.tiles.destinations v.turn c.law-in-tiles.ensures c.args.region w c.tiles.at v.region in
+    let w = taken_after (layout g.pause) c.args.noted.now c.tiles.noted (space g.pause c.args.table.now) (space g.pause c.tiles.table)
+    c.args.destinations.now c.tiles.destinations c.args.region v.after destination in
+    let out = scans.copy_outside g.pause premises c.tiles.table c.tiles.destinations v.turn
+    c.law-in-tiles.ensures c.args.region w c.tiles.at v.region in
     after_after (layout g.pause) c.args.noted.now c.tiles.noted c.settle_object.new.noted _ _ _ _ _ _ v.after c.settle_object.ensures.after
 
 pub returns-clause-settled : goal.returns-clause-settled
 returns-clause-settled g c =
     let (premises, (turn, (flags, (card, (each, destination))))) = c.requires in
     let v = c.tiles.invariant in
-    let w = taken_after (layout g.pause) c.args.noted.now c.tiles.noted (space g.pause c.args.table.now) (space g.pause c.tiles.table) c.args.destinations.now c.tiles.destinations c.args.region v.after destination in
-    let out = scans.copy_outside g.pause premises c.tiles.table c.tiles.destinations v.turn c.law-in-tiles.ensures c.args.region w c.tiles.at v.region in
-    scans.done_last g.pause premises c.tiles.table c.tiles.destinations v.turn c.law-in-tiles.ensures c.args.region w c.settle_object.new.table c.settle_object.new.destinations c.tiles.noted c.settle_object.new.noted c.settle_object.ensures.turn c.settle_object.ensures.after c.tiles.at v.region v.object v.done c.settle_object.ensures.settled c.in_default.ensures.last
+    let w = taken_after (layout g.pause) c.args.noted.now c.tiles.noted (space g.pause c.args.table.now) (space g.pause c.tiles.table)
+    c.args.destinations.now c.tiles.destinations c.args.region v.after destination in
+    let out = scans.copy_outside g.pause premises c.tiles.table c.tiles.destinations v.turn
+    c.law-in-tiles.ensures c.args.region w c.tiles.at v.region in
+    scans.done_last g.pause premises c.tiles.table c.tiles.destinations v.turn c.law-in-tiles.ensures c.args.region w
+    c.settle_object.new.table c.settle_object.new.destinations c.tiles.noted c.settle_object.new.noted c.settle_object.ensures.turn
+    c.settle_object.ensures.after c.tiles.at v.region v.object v.done c.settle_object.ensures.settled c.in_default.ensures.last

@@ -4,17 +4,21 @@ use Rattle.evacuation.proofs.FieldUpdates.FieldCards.{field_pointer}
 use Rattle.evacuation.proofs.fields.update_field.Goals as goal
 
 pub get_field-requires : goal.get_field-requires
-get_field-requires g c = let (premises, (turn, (flags, (card, (each, (outside, field)))))) = c.requires in field_pointer g.pause c.args.table.now c.args.at c.args.field field
+get_field-requires g c =
+    let (premises, (turn, (flags, (card, (each, (outside, field)))))) = c.requires in
+    field_pointer g.pause c.args.table.now c.args.at c.args.field field
 
 pub returns-in_default-clause-clean : goal.returns-in_default-clause-clean
 returns-in_default-clause-clean g c =
     let (premises, (turn, (flags, (card, (each, (outside, field)))))) = c.requires in
-    updates.unchanged g.pause premises c.args.table.now c.args.destinations.now turn c.args.at c.args.field outside field None c.in_default.ensures tt
+    updates.unchanged g.pause premises c.args.table.now c.args.destinations.now turn c.args.at c.args.field
+    outside field None c.in_default.ensures tt
 
 pub returns-then-not-is_inside-clause-clean : goal.returns-then-not-is_inside-clause-clean
 returns-then-not-is_inside-clause-clean g c =
     let (premises, (turn, (flags, (card, (each, (outside, field)))))) = c.requires in
-    updates.unchanged g.pause premises c.args.table.now c.args.destinations.now turn c.args.at c.args.field outside field (Some c.in-Some.target) c.in-Some.ensures (sym c.is_inside.ensures ∙ c.if-not-is_inside.true)
+    updates.unchanged g.pause premises c.args.table.now c.args.destinations.now turn c.args.at c.args.field outside field
+    (Some c.in-Some.target) c.in-Some.ensures (sym c.is_inside.ensures ∙ c.if-not-is_inside.true)
 
 pub redirect-requires : goal.redirect-requires
 redirect-requires g c =

@@ -18,16 +18,39 @@ pub first_tile-requires : goal.first_tile-requires
 first_tile-requires g c =
     let (premises, (turn, (flags, (card, (each, (tams, (marks, known))))))) = c.requires in
     let a = card_small g.pause c.args.card premises known in
-    let z = card_has_words g.pause.card_words g.pause.start.words_per_region g.pause.cards_per_region premises.shaped.positive premises.whole_cards in
-    let e : length c.args.table.now.regions * c.args.table.now.words_per_region ≡ length g.pause.start.regions * g.pause.start.words_per_region = rw (turn.table.count, turn.table.size) refl in
+    let z = card_has_words g.pause.card_words g.pause.start.words_per_region g.pause.cards_per_region
+    premises.shaped.positive premises.whole_cards in
+    let e : length c.args.table.now.regions * c.args.table.now.words_per_region
+    ≡ length g.pause.start.regions * g.pause.start.words_per_region =
+    rw (turn.table.count, turn.table.size) refl in
     let w = c.new-bottom.ensures in
     let f = ap (λ (n : ℕ). c.args.card * n) card in
     omega (arith, a, z, e, w, f)
 
 pub update_tiles-requires : goal.update_tiles-requires
 update_tiles-requires g c =
-    let (premises, (turn, (flags, (card, (each, (tams, (marks, known))))))) = c.requires in
-    (premises, (turn, (flags, (card, (each, (tams, (marks, (known, subst (λ (n : ℕ). IsHolder c.args.table.now c.in-Some.first n) c.new-bottom.ensures c.in-Some.ensures.holder))))))))
+    let (premises, (turn, (flags, (card, (each, (tams, (marks, known))))))) = c.requires in (
+      premises,
+      (
+        turn,
+        (
+          flags,
+          (
+            card,
+            (
+              each,
+              (
+                tams,
+                (
+                  marks,
+                  (known, subst (λ (n : ℕ). IsHolder c.args.table.now c.in-Some.first n) c.new-bottom.ensures c.in-Some.ensures.holder),
+                ),
+              ),
+            ),
+          ),
+        ),
+      ),
+    )
 
 pub returns-then-is_inside-clause-clean : goal.returns-then-is_inside-clause-clean
 returns-then-is_inside-clause-clean g c =
@@ -41,4 +64,6 @@ returns-in_default-clause-clean g c =
     let (premises, (turn, (flags, (card, (each, (tams, (marks, known))))))) = c.requires in
     let w : c.new-bottom.result ≡ c.args.card * g.pause.card_words = c.new-bottom.ensures ∙ ap (λ (n : ℕ). c.args.card * n) card in
     none_there g.pause premises c.args.card c.args.table.now c.args.destinations.now turn c.law.ensures
-    (λ low. let k = c.in_default.ensures.found.1 (subst (λ (n : ℕ). n < top_of c.args.table.now (n / c.args.table.now.words_per_region)) (sym w) low) in absurd cc)
+    (λ low. let k =
+    c.in_default.ensures.found.1 (subst (λ (n : ℕ). n < top_of c.args.table.now (n / c.args.table.now.words_per_region)) (sym w) low) in
+    absurd cc)

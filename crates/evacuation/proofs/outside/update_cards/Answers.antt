@@ -24,14 +24,19 @@ update_card-requires g c =
 pub loop-card-preserved : goal.loop-card-preserved
 loop-card-preserved g c =
     let v = c.loop-card.invariant in
-    let before = cards_skipped g.pause c.loop-card.table c.args.visited.now c.loop-card.start c.in-Some.card v.clean c.in-Some.ensures.lowest.lowest in
+    let before =
+    cards_skipped g.pause c.loop-card.table c.args.visited.now c.loop-card.start c.in-Some.card v.clean c.in-Some.ensures.lowest.lowest in
     record {
       turn = c.update_card.ensures.turn;
-      after = after_after (layout g.pause) c.args.noted.now c.loop-card.noted c.update_card.new.noted _ _ _ _ _ _ v.after c.update_card.ensures.after;
+      after = after_after (layout g.pause) c.args.noted.now c.loop-card.noted c.update_card.new.noted _ _ _
+          _ _ _ v.after c.update_card.ensures.after;
       each = c.update_card.ensures.each_card;
       inside = omega (arith, c.in-Some.ensures.within);
-      clean = cards_more g.pause c.loop-card.table c.update_card.new.table c.loop-card.destinations c.update_card.new.destinations c.loop-card.noted c.update_card.new.noted c.args.visited.now c.in-Some.card v.turn c.update_card.ensures.after before (c.update_card.ensures.clean c.args.visited.now);
+      clean = cards_more g.pause c.loop-card.table c.update_card.new.table c.loop-card.destinations c.update_card.new.destinations
+          c.loop-card.noted c.update_card.new.noted c.args.visited.now c.in-Some.card v.turn c.update_card.ensures.after before
+          (c.update_card.ensures.clean c.args.visited.now);
     }
 
 pub returns-clause-clean : goal.returns-clause-clean
-returns-clause-clean g c = cards_skipped g.pause c.loop-card.table c.args.visited.now c.loop-card.start (length c.args.visited.now) c.loop-card.invariant.clean (λ a h k. c.in_default.ensures.lowest a h)
+returns-clause-clean g c = cards_skipped g.pause c.loop-card.table c.args.visited.now c.loop-card.start (length c.args.visited.now)
+    c.loop-card.invariant.clean (λ a h k. c.in_default.ensures.lowest a h)

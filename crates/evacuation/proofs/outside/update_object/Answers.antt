@@ -19,7 +19,8 @@ use Rattle.evacuation.proofs.outside.update_object.Goals as goal
 pub overflow_add-first : goal.overflow_add-first
 overflow_add-first g c =
     let (premises, (turn, (flags, (card, (each, (known, (outside, object))))))) = c.requires in
-    let a = object_within c.args.table.now c.args.at object.0 c.law.ensures (kept_object g.pause c.args.table.now c.args.at object.0 object.1) in
+    let a =
+    object_within c.args.table.now c.args.at object.0 c.law.ensures (kept_object g.pause c.args.table.now c.args.at object.0 object.1) in
     let s = c.law.ensures.in_all in
     let w = c.word-first.ensures in
     omega (arith, a, s, w)
@@ -50,15 +51,38 @@ loop-field-init g c =
       turn = turn;
       after = same_after (layout g.pause) c.args.noted.now (space g.pause c.args.table.now) c.args.destinations.now;
       each = each;
-      still = (object.0, object.1, sym (c.field_count-count.ensures ∙ ap length (fields_of c.args.table.now c.args.at object.0 (kept_object g.pause c.args.table.now c.args.at object.0 object.1))));
+      still = (
+        object.0,
+        object.1,
+        sym (c.field_count-count.ensures
+            ∙ ap length (fields_of c.args.table.now c.args.at object.0 (kept_object g.pause c.args.table.now c.args.at object.0 object.1))),
+      );
       clean = λ i l h. absurd (omega arith);
     }
 
 pub update_field-requires : goal.update_field-requires
 update_field-requires g c =
     let (premises, (turn, (flags, (card, (each, (known, (outside, object))))))) = c.requires in
-    let v = c.loop-field.invariant in
-    (premises, (v.turn, (flags, (card, (v.each, (outside, still_field g.pause c.loop-field.table c.args.at c.field_count-count.result c.loop-field.field v.still (let t = c.loop-field-test.true in let m = c.min-end.ensures in omega arith)))))))
+    let v = c.loop-field.invariant in (
+      premises,
+      (
+        v.turn,
+        (
+          flags,
+          (
+            card,
+            (
+              v.each,
+              (
+                outside,
+                still_field g.pause c.loop-field.table c.args.at c.field_count-count.result c.loop-field.field v.still
+                    (let t = c.loop-field-test.true in let m = c.min-end.ensures in omega arith),
+              ),
+            ),
+          ),
+        ),
+      ),
+    )
 
 pub loop-field-preserved : goal.loop-field-preserved
 loop-field-preserved g c =
@@ -68,12 +92,16 @@ loop-field-preserved g c =
     let (z, here, same) = c.update_field.ensures.after.stays c.args.at y outside at in
     record {
       turn = c.update_field.ensures.turn;
-      after = after_after (layout g.pause) c.args.noted.now c.loop-field.noted c.update_field.new.noted _ _ _ _ _ _ v.after c.update_field.ensures.after;
+      after = after_after (layout g.pause) c.args.noted.now c.loop-field.noted c.update_field.new.noted _ _ _ _
+          _ _ v.after c.update_field.ensures.after;
       each = c.update_field.ensures.each_card;
       still = (z, here, same ∙ count);
       clean = λ i l h. elim (cases_eq i c.loop-field.field) [
-        | inl e ↦ subst (IsFieldClean (layout g.pause) (space g.pause c.update_field.new.table) c.args.at) (sym e) c.update_field.ensures.clean
-        | inr n ↦ clean_after (layout g.pause) c.loop-field.noted c.update_field.new.noted (space g.pause c.loop-field.table) (space g.pause c.update_field.new.table) c.loop-field.destinations c.update_field.new.destinations c.args.at i c.update_field.ensures.after outside (y, at) (v.clean i l (omega arith))
+        | inl e ↦
+            subst (IsFieldClean (layout g.pause) (space g.pause c.update_field.new.table) c.args.at) (sym e) c.update_field.ensures.clean
+        | inr n ↦ clean_after (layout g.pause) c.loop-field.noted c.update_field.new.noted (space g.pause c.loop-field.table)
+            (space g.pause c.update_field.new.table) c.loop-field.destinations c.update_field.new.destinations c.args.at i
+            c.update_field.ensures.after outside (y, at) (v.clean i l (omega arith))
       ];
     }
 
@@ -81,9 +109,11 @@ pub returns-clause-clean : goal.returns-clause-clean
 returns-clause-clean g c =
     let (premises, (turn, (flags, (card, (each, (known, (outside, object))))))) = c.requires in
     let v = c.loop-field.invariant in
-    let z = card_has_words g.pause.card_words g.pause.start.words_per_region g.pause.cards_per_region premises.shaped.positive premises.whole_cards in
+    let z = card_has_words g.pause.card_words g.pause.start.words_per_region g.pause.cards_per_region
+    premises.shaped.positive premises.whole_cards in
     let z' : 0 < c.args.card_words = omega arith in
-    let k = fields_in_card c.args.card_words c.args.card c.args.at c.field_count-count.result c.word-first.result c.args.card c.saturating_sub-start.result c.saturating_sub.result c.min-end.result z' c.word-first.ensures refl
+    let k = fields_in_card c.args.card_words c.args.card c.args.at c.field_count-count.result c.word-first.result c.args.card
+    c.saturating_sub-start.result c.saturating_sub.result c.min-end.result z' c.word-first.ensures refl
     c.saturating_sub-start.ensures c.saturating_sub.ensures c.min-end.ensures in
     λ i e y w here f.
     let (x, at, count) = v.still in

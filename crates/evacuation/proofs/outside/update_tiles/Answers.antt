@@ -29,14 +29,17 @@ overflow_add-end g c =
 pub tiles-init : goal.tiles-init
 tiles-init g c =
     let (premises, (turn, (flags, (card, (each, (tams, (marks, (known, holder)))))))) = c.requires in
-    let held : IsHolder c.args.table.now c.args.first (c.args.card * g.pause.card_words) = subst (λ (n : ℕ). IsHolder c.args.table.now c.args.first (c.args.card * n)) card holder in
+    let held : IsHolder c.args.table.now c.args.first (c.args.card * g.pause.card_words) =
+    subst (λ (n : ℕ). IsHolder c.args.table.now c.args.first (c.args.card * n)) card holder in
     record {
       turn = turn;
       after = same_after (layout g.pause) c.args.noted.now (space g.pause c.args.table.now) c.args.destinations.now;
       each = each;
       tile = some_tile (tile_in c.args.table.now c.args.first) holder.tile holder.tile_is;
       region = refl;
-      clean = λ visited b i v e h. absurd (let o = (onward g.pause premises c.args.card c.args.table.now c.args.destinations.now turn c.law.ensures c.args.first held visited b i v e).0 in omega arith);
+      clean = λ visited b i v e h. absurd (let o = (onward g.pause premises c.args.card c.args.table.now c.args.destinations.now turn
+          c.law.ensures c.args.first held visited b i v e).0 in
+          omega arith);
     }
 
 pub update_tile-requires : goal.update_tile-requires
@@ -50,45 +53,58 @@ tiles-smaller g c =
     let (premises, (turn, (flags, (card, (each, (tams, (marks, (known, holder)))))))) = c.requires in
     let v = c.tiles.invariant in
     let n = c.in-Some.ensures.next in
-    let r = region_by c.in-Some.next c.tiles.at g.pause.start.words_per_region c.update_tile.new.table.words_per_region (sym c.update_tile.ensures.turn.table.size) n.region in
-    let high = div_high c.in-Some.next g.pause.start.words_per_region (c.args.first / g.pause.start.words_per_region) premises.shaped.positive (r ∙ v.region) in
+    let r = region_by c.in-Some.next c.tiles.at g.pause.start.words_per_region c.update_tile.new.table.words_per_region
+    (sym c.update_tile.ensures.turn.table.size) n.region in
+    let high = div_high c.in-Some.next g.pause.start.words_per_region (c.args.first / g.pause.start.words_per_region)
+    premises.shaped.positive (r ∙ v.region) in
     let up = n.above in
-    smaller (c.args.first / g.pause.start.words_per_region * g.pause.start.words_per_region + g.pause.start.words_per_region) c.tiles.at c.in-Some.next up high
+    smaller (c.args.first / g.pause.start.words_per_region * g.pause.start.words_per_region
+    + g.pause.start.words_per_region) c.tiles.at c.in-Some.next up high
 
 pub tiles-preserved : goal.tiles-preserved
 tiles-preserved g c =
     let (premises, (turn, (flags, (card, (each, (tams, (marks, (known, holder)))))))) = c.requires in
     let v = c.tiles.invariant in
     let n = c.in-Some.ensures.next in
-    let r = region_by c.in-Some.next c.tiles.at g.pause.start.words_per_region c.update_tile.new.table.words_per_region (sym c.update_tile.ensures.turn.table.size) n.region in
+    let r = region_by c.in-Some.next c.tiles.at g.pause.start.words_per_region c.update_tile.new.table.words_per_region
+    (sym c.update_tile.ensures.turn.table.size) n.region in
     record {
       turn = c.update_tile.ensures.turn;
-      after = after_after (layout g.pause) c.args.noted.now c.tiles.noted c.update_tile.new.noted _ _ _ _ _ _ v.after c.update_tile.ensures.after;
+      after = after_after (layout g.pause) c.args.noted.now c.tiles.noted c.update_tile.new.noted _ _ _
+          _ _ _ v.after c.update_tile.ensures.after;
       each = c.update_tile.ensures.each_card;
       tile = n.tile;
       region = r ∙ v.region;
-      clean = λ visited. clean_next g.pause premises c.args.card c.tiles.table c.update_tile.new.table c.tiles.destinations c.update_tile.new.destinations c.tiles.noted c.update_tile.new.noted v.turn c.update_tile.ensures.turn c.update_tile.ensures.after visited c.tiles.at
-          (v.clean visited) (c.update_tile.ensures.clean visited) c.in-Some.next n;
+      clean = λ visited. clean_next g.pause premises c.args.card c.tiles.table c.update_tile.new.table c.tiles.destinations
+          c.update_tile.new.destinations c.tiles.noted c.update_tile.new.noted v.turn c.update_tile.ensures.turn
+          c.update_tile.ensures.after visited c.tiles.at (v.clean visited) (c.update_tile.ensures.clean visited) c.in-Some.next n;
     }
 
 pub returns-then-word-end-clause-clean : goal.returns-then-word-end-clause-clean
 returns-then-word-end-clause-clean g c =
     let (premises, (turn, (flags, (card, (each, (tams, (marks, (known, holder)))))))) = c.requires in
     let v = c.tiles.invariant in
-    let e : c.args.card * c.args.card_words + c.args.card_words ≡ c.args.card * g.pause.card_words + g.pause.card_words = ap (λ (n : ℕ). c.args.card * n + n) card in
-    λ visited. clean_past g.pause premises c.args.card visited c.tiles.table c.tiles.at (let t = c.if-word-end.true in let w = c.word.ensures in omega (arith, e, t, w)) (v.clean visited)
+    let e : c.args.card * c.args.card_words + c.args.card_words ≡ c.args.card * g.pause.card_words + g.pause.card_words =
+    ap (λ (n : ℕ). c.args.card * n + n) card in
+    λ visited. clean_past g.pause premises c.args.card visited c.tiles.table c.tiles.at
+    (let t = c.if-word-end.true in let w = c.word.ensures in omega (arith, e, t, w)) (v.clean visited)
 
 pub returns-in_default-clause-after : goal.returns-in_default-clause-after
-returns-in_default-clause-after g c = after_after (layout g.pause) c.args.noted.now c.tiles.noted c.update_tile.new.noted _ _ _ _ _ _ c.tiles.invariant.after c.update_tile.ensures.after
+returns-in_default-clause-after g c = after_after (layout g.pause) c.args.noted.now c.tiles.noted c.update_tile.new.noted _ _ _ _ _ _
+    c.tiles.invariant.after c.update_tile.ensures.after
 
 pub returns-in_default-clause-clean : goal.returns-in_default-clause-clean
 returns-in_default-clause-clean g c =
     let (premises, (turn, (flags, (card, (each, (tams, (marks, (known, holder)))))))) = c.requires in
     let v = c.tiles.invariant in
-    let held : IsHolder c.args.table.now c.args.first (c.args.card * g.pause.card_words) = subst (λ (n : ℕ). IsHolder c.args.table.now c.args.first (c.args.card * n)) card holder in
-    λ visited. clean_last g.pause premises c.args.card c.tiles.table c.update_tile.new.table c.tiles.destinations c.update_tile.new.destinations c.tiles.noted c.update_tile.new.noted v.turn c.update_tile.ensures.turn c.update_tile.ensures.after visited c.tiles.at
-    (v.clean visited) (c.update_tile.ensures.clean visited) c.in_default.ensures.last
+    let held : IsHolder c.args.table.now c.args.first (c.args.card * g.pause.card_words) =
+    subst (λ (n : ℕ). IsHolder c.args.table.now c.args.first (c.args.card * n)) card holder in
+    λ visited. clean_last g.pause premises c.args.card c.tiles.table c.update_tile.new.table c.tiles.destinations
+    c.update_tile.new.destinations c.tiles.noted c.update_tile.new.noted v.turn c.update_tile.ensures.turn
+    c.update_tile.ensures.after visited c.tiles.at (v.clean visited) (c.update_tile.ensures.clean visited) c.in_default.ensures.last
     (λ b i w e.
-    let o = (onward g.pause premises c.args.card c.args.table.now c.args.destinations.now turn c.law.ensures c.args.first held visited b i w e).1 in
+    let o =
+    (onward g.pause premises c.args.card c.args.table.now c.args.destinations.now turn c.law.ensures c.args.first held visited b i w e).1 in
     let s = region_by b c.args.first g.pause.start.words_per_region c.args.table.now.words_per_region (sym turn.table.size) o in
-    region_by b c.tiles.at c.update_tile.new.table.words_per_region g.pause.start.words_per_region c.update_tile.ensures.turn.table.size (s ∙ sym v.region))
+    region_by b c.tiles.at c.update_tile.new.table.words_per_region g.pause.start.words_per_region
+    c.update_tile.ensures.turn.table.size (s ∙ sym v.region))

@@ -13,5 +13,6 @@ ghost-copy_reached a = record {
   chosen = a.set.now;
   card_words = a.card_words;
   cards_per_region = a.table.now.words_per_region / a.card_words;
-  limit = left_words (kept_in a.table.now a.tams.now a.marks.now) (λ b. flag a.set.now (b / a.table.now.words_per_region)) (length a.table.now.regions * a.table.now.words_per_region);
+  limit = left_words (kept_in a.table.now a.tams.now a.marks.now) (λ b. flag a.set.now (b / a.table.now.words_per_region))
+      (length a.table.now.regions * a.table.now.words_per_region);
 }

@@ -7,7 +7,9 @@ abbrev pub invariant-loop-row : goal.invariant-loop-row
 invariant-loop-row l = record {
   table : AreReleased (take l.row-index l.rows) l.initial.table l.table;
   unmoved : NoneForwardedInto l.rows l.initial.table.words_per_region l.table;
-  previous : MarksAfter l.initial.table.words_per_region (take l.row-index l.rows) l.initial.tams.previous l.tams.previous l.initial.bitmaps.previous l.bitmaps.previous;
-  next : MarksAfter l.initial.table.words_per_region (take l.row-index l.rows) l.initial.tams.next l.tams.next l.initial.bitmaps.next l.bitmaps.next;
+  previous : MarksAfter l.initial.table.words_per_region (take l.row-index l.rows) l.initial.tams.previous l.tams.previous
+      l.initial.bitmaps.previous l.bitmaps.previous;
+  next : MarksAfter l.initial.table.words_per_region (take l.row-index l.rows) l.initial.tams.next
+      l.tams.next l.initial.bitmaps.next l.bitmaps.next;
   sets : AreCleared (take l.row-index l.rows) l.initial.sets l.sets;
 }

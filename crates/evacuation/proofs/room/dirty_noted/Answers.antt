@@ -21,7 +21,8 @@ loop-card-preserved c = record {
   rise =
       subst (λ (q : List ℕ). RiseBelow (c.in-Some.card + 1) q)
       (sym (ap (λ (t : Cards). t.queue) c.append.ensures ∙ ap (λ (n : ℕ). c.loop-card.cards.queue ++ n ∷ []) c.new.ensures))
-      (rise_push c.in-Some.card c.loop-card.cards.queue (rise_to c.loop-card.start c.in-Some.card c.loop-card.cards.queue c.in-Some.ensures.lowest.at_least c.loop-card.invariant.rise));
+      (rise_push c.in-Some.card c.loop-card.cards.queue
+      (rise_to c.loop-card.start c.in-Some.card c.loop-card.cards.queue c.in-Some.ensures.lowest.at_least c.loop-card.invariant.rise));
   inside = omega (arith, c.in-Some.ensures.within);
   logs = grind (arith, common_steps);
   len = grind (arith, common_steps);

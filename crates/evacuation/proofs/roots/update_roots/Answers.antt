@@ -14,14 +14,16 @@ new_word-new-requires g c =
     let (premises, (turn, (flags, (start, none)))) = c.requires in
     let next = c.in-Some.ensures.lowest in
     let here = named_word c.loop-place.roots.words c.loop-place.from c.in-Some.place c.get-word.result next c.get-word.ensures in
-    let moved = roots_past (place_after (in_set g.pause) (space g.pause c.loop-place.table).forward) g.pause.roots c.loop-place.roots.words c.loop-place.from c.in-Some.place next.nil_before c.loop-place.invariant.roots next.from_on in (
+    let moved = roots_past (place_after (in_set g.pause) (space g.pause c.loop-place.table).forward) g.pause.roots c.loop-place.roots.words
+    c.loop-place.from c.in-Some.place next.nil_before c.loop-place.invariant.roots next.from_on in (
       premises,
       (
         c.loop-place.invariant.turn,
         (
           flags,
           λ a e inside.
-              root_named (layout g.pause) (plan g.pause) (place_after (in_set g.pause) (space g.pause c.loop-place.table).forward) c.loop-place.roots.words c.in-Some.place a premises.plan_is moved (here ∙ ap Some e) inside,
+              root_named (layout g.pause) (plan g.pause) (place_after (in_set g.pause) (space g.pause c.loop-place.table).forward)
+              c.loop-place.roots.words c.in-Some.place a premises.plan_is moved (here ∙ ap Some e) inside,
         ),
       ),
     )
@@ -29,24 +31,30 @@ new_word-new-requires g c =
 pub returns-then-regions-eq0-clause-moved : goal.returns-then-regions-eq0-clause-moved
 returns-then-regions-eq0-clause-moved g c =
     let (premises, (turn, (flags, (start, none)))) = c.requires in
-    subst (λ (ws : List (Option ℕ)). AllZip (IsMoved (place_after (in_set g.pause) (space g.pause c.args.table.now).forward)) ws c.args.roots.now.words) start
+    subst (λ (ws : List (Option ℕ)).
+    AllZip (IsMoved (place_after (in_set g.pause) (space g.pause c.args.table.now).forward)) ws c.args.roots.now.words) start
     (roots_stay (in_set g.pause) (space g.pause c.args.table.now).forward (none c.if-regions-eq0.true) c.args.roots.now.words)
 
 pub loop-place-preserved : goal.loop-place-preserved
 loop-place-preserved g c =
     let next = c.in-Some.ensures.lowest in
     let here = named_word c.loop-place.roots.words c.loop-place.from c.in-Some.place c.get-word.result next c.get-word.ensures in
-    let moved = roots_past (place_after (in_set g.pause) (space g.pause c.loop-place.table).forward) g.pause.roots c.loop-place.roots.words c.loop-place.from c.in-Some.place next.nil_before c.loop-place.invariant.roots next.from_on in
+    let moved = roots_past (place_after (in_set g.pause) (space g.pause c.loop-place.table).forward) g.pause.roots c.loop-place.roots.words
+    c.loop-place.from c.in-Some.place next.nil_before c.loop-place.invariant.roots next.from_on in
     let after = c.new_word-new.ensures.after [] in
     record {
       turn = c.new_word-new.ensures.turn;
-      after = λ noted. after_after (layout g.pause) noted noted noted _ _ _ _ _ _ (c.loop-place.invariant.after noted) (c.new_word-new.ensures.after noted);
-      roots = subst (λ (u : RootTable). AreRootsMoved (place_after (in_set g.pause) (space g.pause c.new_word-new.new.table).forward) g.pause.roots u.words (c.in-Some.place + 1)) (sym c.update.ensures)
-          (roots_more (in_set g.pause) (space g.pause c.loop-place.table).forward (space g.pause c.new_word-new.new.table).forward after.forward_grows
+      after = λ noted. after_after (layout g.pause) noted noted noted _ _ _ _ _ _
+          (c.loop-place.invariant.after noted) (c.new_word-new.ensures.after noted);
+      roots = subst (λ (u : RootTable). AreRootsMoved (place_after (in_set g.pause) (space g.pause c.new_word-new.new.table).forward)
+          g.pause.roots u.words (c.in-Some.place + 1)) (sym c.update.ensures)
+          (roots_more (in_set g.pause) (space g.pause c.loop-place.table).forward
+          (space g.pause c.new_word-new.new.table).forward after.forward_grows
           g.pause.roots c.loop-place.roots.words c.in-Some.place _ c.new_word-new.result moved here c.new_word-new.ensures.word.moved);
       places = ap (λ (u : RootTable). u.places) c.update.ensures ∙ c.loop-place.invariant.places;
     }
 
 pub returns-clause-moved : goal.returns-clause-moved
 returns-clause-moved g c =
-    roots_rest (place_after (in_set g.pause) (space g.pause c.loop-place.table).forward) g.pause.roots c.loop-place.roots.words c.loop-place.from c.loop-place.invariant.roots c.in_default.ensures.lowest
+    roots_rest (place_after (in_set g.pause) (space g.pause c.loop-place.table).forward) g.pause.roots c.loop-place.roots.words
+    c.loop-place.from c.loop-place.invariant.roots c.in_default.ensures.lowest

@@ -9,7 +9,15 @@ use Rattle.evacuation.proofs.tests.pause_held.Goals as goal
 
 pub evacuate-moved-requires-clause-can : goal.evacuate-moved-requires-clause-can
 evacuate-moved-requires-clause-can c =
-    let h : Layers = record { table = c.in_ok-table.table; tams = c.in_ok-tams.tams; previous = c.in_ok-bitmaps.bitmaps.previous; next = c.in_ok-bitmaps.bitmaps.next; cards = c.in_ok-cards.cards; sets = c.add.new.self; roots = c.in_ok-roots.roots.words } in
+    let h : Layers = record {
+      table = c.in_ok-table.table;
+      tams = c.in_ok-tams.tams;
+      previous = c.in_ok-bitmaps.bitmaps.previous;
+      next = c.in_ok-bitmaps.bitmaps.next;
+      cards = c.in_ok-cards.cards;
+      sets = c.add.new.self;
+      roots = c.in_ok-roots.roots.words;
+    } in
     let fresh : IsFresh by_weak_slot one_card h = record {
       table_is = c.in_ok-table.ensures;
       previous_tops = c.in_ok-tams.ensures.previous;
@@ -17,16 +25,22 @@ evacuate-moved-requires-clause-can c =
       previous = c.in_ok-bitmaps.ensures.previous;
       next = c.in_ok-bitmaps.ensures.next;
       cards = c.in_ok-cards.ensures;
-      sets_are = c.add.ensures.after ∙ ap (λ (s : Sets). added s c.new-5.result c.new-6.result) c.in_ok-sets.ensures ∙ ap (λ (n : ℕ). added (empty_sets 4 2) n c.new-6.result) c.new-5.ensures ∙ ap (λ (n : ℕ). added (empty_sets 4 2) 1 n) c.new-6.ensures;
+      sets_are = c.add.ensures.after ∙ ap (λ (s : Sets). added s c.new-5.result c.new-6.result) c.in_ok-sets.ensures
+          ∙ ap (λ (n : ℕ). added (empty_sets 4 2) n c.new-6.result) c.new-5.ensures
+          ∙ ap (λ (n : ℕ). added (empty_sets 4 2) 1 n) c.new-6.ensures;
       roots = c.in_ok-roots.ensures;
     } in
-    subst (λ (n : ℕ). CanEvacuate h (record { region = n; live_bound = 2 } ∷ []) 8) (sym c.new-8.ensures) (can_evacuate by_weak_slot one_card (record { region = 1; live_bound = 2 }) weak_suited h fresh)
+    subst (λ (n : ℕ). CanEvacuate h (record { region = n; live_bound = 2 } ∷ []) 8) (sym c.new-8.ensures)
+    (can_evacuate by_weak_slot one_card (record { region = 1; live_bound = 2 }) weak_suited h fresh)
 
 pub evacuate-moved-requires-clause-each_region : goal.evacuate-moved-requires-clause-each_region
-evacuate-moved-requires-clause-each_region c = ap (λ (r : RoomSizes). r.regions) c.in_ok-room.ensures ∙ sym (ap (λ (t : Table). length t.regions) c.in_ok-table.ensures)
+evacuate-moved-requires-clause-each_region c =
+    ap (λ (r : RoomSizes). r.regions) c.in_ok-room.ensures ∙ sym (ap (λ (t : Table). length t.regions) c.in_ok-table.ensures)
 
 pub evacuate-moved-requires-clause-each_card : goal.evacuate-moved-requires-clause-each_card
-evacuate-moved-requires-clause-each_card c = ap (λ (r : RoomSizes). r.cards) c.in_ok-room.ensures ∙ sym (ap card_count (c.add.ensures.after ∙ ap (λ (s : Sets). added s c.new-5.result c.new-6.result) c.in_ok-sets.ensures ∙ ap (λ (n : ℕ). added (empty_sets 4 2) n c.new-6.result) c.new-5.ensures ∙ ap (λ (n : ℕ). added (empty_sets 4 2) 1 n) c.new-6.ensures))
+evacuate-moved-requires-clause-each_card c = ap (λ (r : RoomSizes). r.cards) c.in_ok-room.ensures
+    ∙ sym (ap card_count (c.add.ensures.after ∙ ap (λ (s : Sets). added s c.new-5.result c.new-6.result) c.in_ok-sets.ensures
+    ∙ ap (λ (n : ℕ). added (empty_sets 4 2) n c.new-6.result) c.new-5.ensures ∙ ap (λ (n : ℕ). added (empty_sets 4 2) 1 n) c.new-6.ensures))
 
 pub returns-clause-count : goal.returns-clause-count
 returns-clause-count c = c.evacuate-moved.ensures.evacuated.regions.count ∙ ap (λ (t : Table). length t.regions) c.in_ok-table.ensures

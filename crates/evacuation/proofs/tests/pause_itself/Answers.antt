@@ -9,7 +9,15 @@ use Rattle.evacuation.proofs.tests.pause_itself.Goals as goal
 
 pub evacuate-moved-requires-clause-can : goal.evacuate-moved-requires-clause-can
 evacuate-moved-requires-clause-can c =
-    let h : Layers = record { table = c.in_ok-table.table; tams = c.in_ok-tams.tams; previous = c.in_ok-bitmaps.bitmaps.previous; next = c.in_ok-bitmaps.bitmaps.next; cards = c.in_ok-cards.cards; sets = c.in_ok-sets.sets; roots = c.in_ok-roots.roots.words } in
+    let h : Layers = record {
+      table = c.in_ok-table.table;
+      tams = c.in_ok-tams.tams;
+      previous = c.in_ok-bitmaps.bitmaps.previous;
+      next = c.in_ok-bitmaps.bitmaps.next;
+      cards = c.in_ok-cards.cards;
+      sets = c.in_ok-sets.sets;
+      roots = c.in_ok-roots.roots.words;
+    } in
     let fresh : IsFresh itself (empty_sets 4 2) h = record {
       table_is = c.in_ok-table.ensures;
       previous_tops = c.in_ok-tams.ensures.previous;
@@ -20,10 +28,12 @@ evacuate-moved-requires-clause-can c =
       sets_are = c.in_ok-sets.ensures;
       roots = c.in_ok-roots.ensures;
     } in
-    subst (λ (n : ℕ). CanEvacuate h (record { region = n; live_bound = 4 } ∷ []) 8) (sym c.new-6.ensures) (can_evacuate itself (empty_sets 4 2) (record { region = 0; live_bound = 4 }) itself_suited h fresh)
+    subst (λ (n : ℕ). CanEvacuate h (record { region = n; live_bound = 4 } ∷ []) 8) (sym c.new-6.ensures)
+    (can_evacuate itself (empty_sets 4 2) (record { region = 0; live_bound = 4 }) itself_suited h fresh)
 
 pub evacuate-moved-requires-clause-each_region : goal.evacuate-moved-requires-clause-each_region
-evacuate-moved-requires-clause-each_region c = ap (λ (r : RoomSizes). r.regions) c.in_ok-room.ensures ∙ sym (ap (λ (t : Table). length t.regions) c.in_ok-table.ensures)
+evacuate-moved-requires-clause-each_region c =
+    ap (λ (r : RoomSizes). r.regions) c.in_ok-room.ensures ∙ sym (ap (λ (t : Table). length t.regions) c.in_ok-table.ensures)
 
 pub evacuate-moved-requires-clause-each_card : goal.evacuate-moved-requires-clause-each_card
 evacuate-moved-requires-clause-each_card c = ap (λ (r : RoomSizes). r.cards) c.in_ok-room.ensures ∙ sym (ap card_count c.in_ok-sets.ensures)

@@ -20,11 +20,14 @@ pub returns-else-not-lies_below_previous : goal.returns-else-not-lies_below_prev
 returns-else-not-lies_below_previous c =
     let tile = subst (λ (s : Shape). IsPlacedTile c.args.table.now c.args.at s) c.in-Object.is c.requires.tile in
     let below : below_previous c.args.table.now c.args.tams.now c.args.at ≡ true = cc in
-    kept_marked c.args.table.now c.args.tams.now c.args.marks.now c.args.at c.get.result below c.get.ensures (shape_object c.args.table.now c.args.at _ _ _ tile)
+    kept_marked c.args.table.now c.args.tams.now c.args.marks.now c.args.at c.get.result below c.get.ensures
+    (shape_object c.args.table.now c.args.at _ _ _ tile)
 
 pub returns-in-Filler : goal.returns-in-Filler
 returns-in-Filler c =
     kept_nothing c.args.table.now c.args.tams.now c.args.marks.now c.args.at (⊎_elim
-    (λ p. shape_filler c.args.table.now c.args.at p.0 (subst (λ (s : Shape). IsPlacedTile c.args.table.now c.args.at s) p.1 c.requires.tile))
-    (λ p. shape_forwarded c.args.table.now c.args.at p.0 p.1 (subst (λ (s : Shape). IsPlacedTile c.args.table.now c.args.at s) p.2 c.requires.tile))
+    (λ p.
+    shape_filler c.args.table.now c.args.at p.0 (subst (λ (s : Shape). IsPlacedTile c.args.table.now c.args.at s) p.1 c.requires.tile))
+    (λ p. shape_forwarded c.args.table.now c.args.at p.0 p.1
+    (subst (λ (s : Shape). IsPlacedTile c.args.table.now c.args.at s) p.2 c.requires.tile))
     c.in-Filler.is)

@@ -21,44 +21,62 @@ overflow_mul-number c =
 pub first_tile-requires : goal.first_tile-requires
 first_tile-requires c =
     let e = card_end c.args.table.now c.args.card_words c.args.card c.args.sets.now c.requires.stands.fit c.requires.card in
-    let z = card_has_words c.args.card_words c.args.table.now.words_per_region c.args.sets.now.cards_per_region c.law.ensures.positive c.requires.stands.fit.whole_cards in
-    let from : c.new-from.result ≡ c.args.card * c.args.card_words = c.new-from.ensures ∙ ap (λ (n : ℕ). n * c.args.card_words) c.number.ensures in
+    let z = card_has_words c.args.card_words c.args.table.now.words_per_region c.args.sets.now.cards_per_region
+    c.law.ensures.positive c.requires.stands.fit.whole_cards in
+    let from : c.new-from.result ≡ c.args.card * c.args.card_words =
+    c.new-from.ensures ∙ ap (λ (n : ℕ). n * c.args.card_words) c.number.ensures in
     omega (arith, e, z, from)
 
 pub returns-clause-covered : goal.returns-clause-covered
 returns-clause-covered c =
-    let from : c.new-from.result ≡ c.args.card * c.args.card_words = c.new-from.ensures ∙ ap (λ (n : ℕ). n * c.args.card_words) c.number.ensures in
+    let from : c.new-from.result ≡ c.args.card * c.args.card_words =
+    c.new-from.ensures ∙ ap (λ (n : ℕ). n * c.args.card_words) c.number.ensures in
     let holder = subst (λ (w : ℕ). IsHolder c.args.table.now c.in-Some.first w) from c.in-Some.ensures.holder in
-    card_covered c.args.table.now c.law.ensures (kept_in c.args.table.now c.args.tams.now c.args.marks.now) (kept_object c.args.table.now c.args.tams.now c.args.marks.now)
-    c.args.card_words c.args.card c.in-Some.first c.args.sets.now.cards_per_region c.requires.stands.fit.whole_cards (may_lead c.scan_tiles.new.sets) holder c.scan_tiles.ensures.covered
+    card_covered c.args.table.now c.law.ensures (kept_in c.args.table.now c.args.tams.now c.args.marks.now)
+    (kept_object c.args.table.now c.args.tams.now c.args.marks.now)
+    c.args.card_words c.args.card c.in-Some.first c.args.sets.now.cards_per_region c.requires.stands.fit.whole_cards
+    (may_lead c.scan_tiles.new.sets) holder c.scan_tiles.ensures.covered
 
 pub returns-clause-gains : goal.returns-clause-gains
 returns-clause-gains c =
-    let inside = subst (λ (n : ℕ). LeadsInside c.args.table.now.words_per_region n (kept_in c.args.table.now c.args.tams.now c.args.marks.now)) (sym c.requires.stands.fit.each_region) c.requires.stands.inside in
-    adds_gains c.args.table.now.words_per_region (kept_in c.args.table.now c.args.tams.now c.args.marks.now) c.args.card_words c.args.card c.args.sets.now c.scan_tiles.new.sets inside c.scan_tiles.ensures.adds
+    let inside = subst (λ (n : ℕ).
+    LeadsInside c.args.table.now.words_per_region n (kept_in c.args.table.now c.args.tams.now c.args.marks.now))
+    (sym c.requires.stands.fit.each_region) c.requires.stands.inside in
+    adds_gains c.args.table.now.words_per_region (kept_in c.args.table.now c.args.tams.now c.args.marks.now) c.args.card_words c.args.card
+    c.args.sets.now c.scan_tiles.new.sets inside c.scan_tiles.ensures.adds
 
 pub returns-clause-leads : goal.returns-clause-leads
 returns-clause-leads c =
-    let inside = subst (λ (n : ℕ). LeadsInside c.args.table.now.words_per_region n (kept_in c.args.table.now c.args.tams.now c.args.marks.now)) (sym c.requires.stands.fit.each_region) c.requires.stands.inside in
-    adds_lead c.args.table.now.words_per_region (kept_in c.args.table.now c.args.tams.now c.args.marks.now) c.args.card_words c.args.card c.args.sets.now c.scan_tiles.new.sets inside c.scan_tiles.ensures.adds
+    let inside = subst (λ (n : ℕ).
+    LeadsInside c.args.table.now.words_per_region n (kept_in c.args.table.now c.args.tams.now c.args.marks.now))
+    (sym c.requires.stands.fit.each_region) c.requires.stands.inside in
+    adds_lead c.args.table.now.words_per_region (kept_in c.args.table.now c.args.tams.now c.args.marks.now) c.args.card_words c.args.card
+    c.args.sets.now c.scan_tiles.new.sets inside c.scan_tiles.ensures.adds
 
 pub returns-clause-stands : goal.returns-clause-stands
 returns-clause-stands c = record {
-  fit = (adds_fit c.args.table.now (kept_in c.args.table.now c.args.tams.now c.args.marks.now) c.args.card_words c.args.card c.args.sets.now c.scan_tiles.new.sets c.requires.stands.fit c.scan_tiles.ensures.adds).0;
+  fit = (adds_fit c.args.table.now (kept_in c.args.table.now c.args.tams.now c.args.marks.now) c.args.card_words c.args.card c.args.sets.now
+      c.scan_tiles.new.sets c.requires.stands.fit c.scan_tiles.ensures.adds).0;
   each_word = c.requires.stands.each_word;
   inside = c.requires.stands.inside;
 }
 
 pub returns-clause-count : goal.returns-clause-count
 returns-clause-count c =
-    (adds_fit c.args.table.now (kept_in c.args.table.now c.args.tams.now c.args.marks.now) c.args.card_words c.args.card c.args.sets.now c.scan_tiles.new.sets c.requires.stands.fit c.scan_tiles.ensures.adds).1
+    (adds_fit c.args.table.now (kept_in c.args.table.now c.args.tams.now c.args.marks.now) c.args.card_words c.args.card c.args.sets.now
+    c.scan_tiles.new.sets c.requires.stands.fit c.scan_tiles.ensures.adds).1
 
 pub returns-in_default-clause-covered : goal.returns-in_default-clause-covered
 returns-in_default-clause-covered c =
-    let from : c.new-from.result ≡ c.args.card * c.args.card_words = c.new-from.ensures ∙ ap (λ (n : ℕ). n * c.args.card_words) c.number.ensures in
-    let high : top_of c.args.table.now (c.args.card * c.args.card_words / c.args.table.now.words_per_region) ≤ c.args.card * c.args.card_words = subst (λ (w : ℕ). top_of c.args.table.now (w / c.args.table.now.words_per_region) ≤ w) from (elim (cases_lt c.new-from.result (top_of c.args.table.now (c.new-from.result / c.args.table.now.words_per_region))) [
+    let from : c.new-from.result ≡ c.args.card * c.args.card_words =
+    c.new-from.ensures ∙ ap (λ (n : ℕ). n * c.args.card_words) c.number.ensures in
+    let high : top_of c.args.table.now (c.args.card * c.args.card_words / c.args.table.now.words_per_region)
+    ≤ c.args.card * c.args.card_words =
+    subst (λ (w : ℕ). top_of c.args.table.now (w / c.args.table.now.words_per_region) ≤ w) from
+    (elim (cases_lt c.new-from.result (top_of c.args.table.now (c.new-from.result / c.args.table.now.words_per_region))) [
       | inl lt ↦ absurd (let y = c.in_default.ensures.found.1 lt in cc)
       | inr ge ↦ ge
     ]) in
-    card_empty c.args.table.now c.law.ensures (kept_in c.args.table.now c.args.tams.now c.args.marks.now) (kept_object c.args.table.now c.args.tams.now c.args.marks.now)
+    card_empty c.args.table.now c.law.ensures (kept_in c.args.table.now c.args.tams.now c.args.marks.now)
+    (kept_object c.args.table.now c.args.tams.now c.args.marks.now)
     c.args.card_words c.args.card 0 c.args.sets.now.cards_per_region c.requires.stands.fit.whole_cards (may_lead c.args.sets.now) high

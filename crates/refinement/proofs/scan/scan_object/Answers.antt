@@ -25,31 +25,44 @@ overflow_add-to c =
 pub scan_field-last-requires-clause-regions : goal.scan_field-last-requires-clause-regions
 scan_field-last-requires-clause-regions c =
     let p = c.loop-field.invariant.0 (object_at c.args.table.now) refl in
-    (adds_fit c.args.table.now (object_at c.args.table.now) c.args.card_words c.args.card c.args.sets.now c.loop-field.sets c.requires.fit p.adds).0.each_region
+    (adds_fit c.args.table.now (object_at c.args.table.now) c.args.card_words c.args.card
+    c.args.sets.now c.loop-field.sets c.requires.fit p.adds).0.each_region
 
 pub scan_field-last-requires-clause-card : goal.scan_field-last-requires-clause-card
 scan_field-last-requires-clause-card c =
     let p = c.loop-field.invariant.0 (object_at c.args.table.now) refl in
-    let e = (adds_fit c.args.table.now (object_at c.args.table.now) c.args.card_words c.args.card c.args.sets.now c.loop-field.sets c.requires.fit p.adds).1 in
+    let e = (adds_fit c.args.table.now (object_at c.args.table.now) c.args.card_words c.args.card
+    c.args.sets.now c.loop-field.sets c.requires.fit p.adds).1 in
     subst (λ (n : ℕ). c.args.card < n) (sym e) c.requires.card
 
 pub loop-field-preserved : goal.loop-field-preserved
 loop-field-preserved c = (
   λ kept same.
       let p = c.loop-field.invariant.0 kept same in
-      let z = card_has_words c.args.card_words c.args.table.now.words_per_region c.args.sets.now.cards_per_region c.law.ensures.positive c.requires.fit.whole_cards in
-      let r = fields_in_card c.args.card_words c.args.card c.args.object c.field_count-count.result c.word-first.result c.number.result c.saturating_sub-start.result c.saturating_sub.result c.min-end.result z c.word-first.ensures c.number.ensures c.saturating_sub-start.ensures c.saturating_sub.ensures c.min-end.ensures in
-      partly_next c.args.table.now kept c.args.card_words c.args.card c.args.object c.saturating_sub-start.result c.loop-field.field (c.loop-field.field + 1) c.args.sets.now c.loop-field.sets c.scan_field-last.new.sets same c.requires.inside
+      let z = card_has_words c.args.card_words c.args.table.now.words_per_region c.args.sets.now.cards_per_region
+      c.law.ensures.positive c.requires.fit.whole_cards in
+      let r = fields_in_card c.args.card_words c.args.card c.args.object c.field_count-count.result c.word-first.result c.number.result
+      c.saturating_sub-start.result c.saturating_sub.result c.min-end.result z c.word-first.ensures c.number.ensures
+      c.saturating_sub-start.ensures c.saturating_sub.ensures c.min-end.ensures in
+      partly_next c.args.table.now kept c.args.card_words c.args.card c.args.object c.saturating_sub-start.result c.loop-field.field
+      (c.loop-field.field + 1) c.args.sets.now c.loop-field.sets c.scan_field-last.new.sets same c.requires.inside
       (adds_fit c.args.table.now kept c.args.card_words c.args.card c.args.sets.now c.loop-field.sets c.requires.fit p.adds).0.each_region
-      (omega (arith, r.within, c.field_count-count.ensures, c.loop-field-test.true)) (r.in_card c.loop-field.field (c.loop-field.auto.field) c.loop-field-test.true) refl c.scan_field-last.ensures.after c.scan_field-last.ensures.covered p,
+      (omega (arith, r.within, c.field_count-count.ensures, c.loop-field-test.true))
+      (r.in_card c.loop-field.field (c.loop-field.auto.field) c.loop-field-test.true) refl
+      c.scan_field-last.ensures.after c.scan_field-last.ensures.covered p,
   c.scan_field-last.ensures.last,
 )
 
 pub returns-clause-scanned : goal.returns-clause-scanned
 returns-clause-scanned c = λ kept same.
-    let z = card_has_words c.args.card_words c.args.table.now.words_per_region c.args.sets.now.cards_per_region c.law.ensures.positive c.requires.fit.whole_cards in
-    let r = fields_in_card c.args.card_words c.args.card c.args.object c.field_count-count.result c.word-first.result c.number.result c.saturating_sub-start.result c.saturating_sub.result c.min-end.result z c.word-first.ensures c.number.ensures c.saturating_sub-start.ensures c.saturating_sub.ensures c.min-end.ensures in
-    partly_last c.args.table.now kept c.args.card_words c.args.card c.args.object c.field_count-count.result c.saturating_sub-start.result c.min-end.result c.loop-field.field c.args.sets.now c.loop-field.sets same c.field_count-count.ensures r c.loop-field-test.false (c.loop-field.invariant.0 kept same)
+    let z = card_has_words c.args.card_words c.args.table.now.words_per_region c.args.sets.now.cards_per_region
+    c.law.ensures.positive c.requires.fit.whole_cards in
+    let r = fields_in_card c.args.card_words c.args.card c.args.object c.field_count-count.result c.word-first.result c.number.result
+    c.saturating_sub-start.result c.saturating_sub.result c.min-end.result z c.word-first.ensures c.number.ensures
+    c.saturating_sub-start.ensures c.saturating_sub.ensures c.min-end.ensures in
+    partly_last c.args.table.now kept c.args.card_words c.args.card c.args.object c.field_count-count.result
+    c.saturating_sub-start.result c.min-end.result c.loop-field.field c.args.sets.now c.loop-field.sets same c.field_count-count.ensures
+    r c.loop-field-test.false (c.loop-field.invariant.0 kept same)
 
 pub returns-clause-last : goal.returns-clause-last
 returns-clause-last c = c.loop-field.invariant.1

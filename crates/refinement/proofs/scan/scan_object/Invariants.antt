@@ -6,5 +6,6 @@ use Rattle.refinement.proofs.Fields.{IsPartly}
 use Rattle.refinement.proofs.scan.scan_object.Given as goal
 
 abbrev pub invariant-loop-field : goal.invariant-loop-field
-invariant-loop-field l = ((kept : ℕ → Option Stored) → kept l.object ≡ object_at l.table l.object → IsPartly l.table.words_per_region kept l.card_words l.card l.object l.start l.field l.fn.sets l.sets)
+invariant-loop-field l = ((kept : ℕ → Option Stored) → kept l.object ≡ object_at l.table l.object
+    → IsPartly l.table.words_per_region kept l.card_words l.card l.object l.start l.field l.fn.sets l.sets)
     × ((region : ℕ) → l.last ≡ Some region → may_lead l.sets region l.card ≡ true)

@@ -24,12 +24,15 @@ overflow_add-end c =
 
 pub loop-at-init : goal.loop-at-init
 loop-at-init c =
-    let z = card_has_words c.args.card_words c.args.table.now.words_per_region c.args.sets.now.cards_per_region c.law.ensures.positive c.requires.stands.fit.whole_cards in
+    let z = card_has_words c.args.card_words c.args.table.now.words_per_region c.args.sets.now.cards_per_region
+    c.law.ensures.positive c.requires.stands.fit.whole_cards in
     let h = c.requires.holder in
     let walk = c.into_iter-at-iterator.ensures.into_iter_gives ∙ c.walk_from-at-items.ensures in
     record {
-      adds = adds_none c.args.table.now.words_per_region (kept_in c.args.table.now c.args.tams.now c.args.marks.now) c.args.card_words c.args.card c.args.sets.now;
-      turn = turn_first c.args.table.now c.law.ensures (kept_in c.args.table.now c.args.tams.now c.args.marks.now) (kept_object c.args.table.now c.args.tams.now c.args.marks.now)
+      adds = adds_none c.args.table.now.words_per_region (kept_in c.args.table.now c.args.tams.now c.args.marks.now)
+          c.args.card_words c.args.card c.args.sets.now;
+      turn = turn_first c.args.table.now c.law.ensures (kept_in c.args.table.now c.args.tams.now c.args.marks.now)
+          (kept_object c.args.table.now c.args.tams.now c.args.marks.now)
           c.args.card_words c.args.card c.args.first (may_lead c.args.sets.now) c.into_iter-at-iterator.result h.tile h.tile_is walk;
       count = count_first c.args.table.now c.args.card_words c.args.card c.args.first c.into_iter-at-iterator.result c.law.ensures z h walk;
       last = λ region e. absurd (cc);
@@ -40,27 +43,37 @@ returns-then-word-end-clause-adds c = c.loop-at.invariant.adds
 
 pub returns-then-word-end-clause-covered : goal.returns-then-word-end-clause-covered
 returns-then-word-end-clause-covered c =
-    let z = card_has_words c.args.card_words c.args.table.now.words_per_region c.args.sets.now.cards_per_region c.law.ensures.positive c.requires.stands.fit.whole_cards in
-    turn_past c.args.table.now c.law.ensures (kept_in c.args.table.now c.args.tams.now c.args.marks.now) (kept_object c.args.table.now c.args.tams.now c.args.marks.now)
-    c.args.card_words c.args.card c.args.first (may_lead c.loop-at.sets) c.loop-at.at-iterator c.next.new.self c.in-Some.at c.in-Some.shape z c.loop-at.invariant.turn c.in-Some.ensures.steps
-    (let end : c.number.result * c.args.card_words ≡ c.args.card * c.args.card_words = ap (λ (n : ℕ). n * c.args.card_words) c.number.ensures in omega (arith, end, c.word.ensures, c.if-word-end.true))
+    let z = card_has_words c.args.card_words c.args.table.now.words_per_region c.args.sets.now.cards_per_region
+    c.law.ensures.positive c.requires.stands.fit.whole_cards in
+    turn_past c.args.table.now c.law.ensures (kept_in c.args.table.now c.args.tams.now c.args.marks.now)
+    (kept_object c.args.table.now c.args.tams.now c.args.marks.now)
+    c.args.card_words c.args.card c.args.first (may_lead c.loop-at.sets) c.loop-at.at-iterator c.next.new.self c.in-Some.at c.in-Some.shape
+    z c.loop-at.invariant.turn c.in-Some.ensures.steps
+    (let end : c.number.result * c.args.card_words ≡ c.args.card * c.args.card_words =
+    ap (λ (n : ℕ). n * c.args.card_words) c.number.ensures in
+    omega (arith, end, c.word.ensures, c.if-word-end.true))
 
 pub is_kept-requires-clause-tile : goal.is_kept-requires-clause-tile
 is_kept-requires-clause-tile c =
-    turn_placed c.args.table.now c.law.ensures (kept_in c.args.table.now c.args.tams.now c.args.marks.now) (kept_object c.args.table.now c.args.tams.now c.args.marks.now)
-    c.args.card_words c.args.card c.args.first (may_lead c.loop-at.sets) c.loop-at.at-iterator c.next.new.self c.in-Some.at c.in-Some.shape c.loop-at.invariant.turn c.in-Some.ensures.steps
+    turn_placed c.args.table.now c.law.ensures (kept_in c.args.table.now c.args.tams.now c.args.marks.now)
+    (kept_object c.args.table.now c.args.tams.now c.args.marks.now)
+    c.args.card_words c.args.card c.args.first (may_lead c.loop-at.sets) c.loop-at.at-iterator c.next.new.self c.in-Some.at c.in-Some.shape
+    c.loop-at.invariant.turn c.in-Some.ensures.steps
 
 pub scan_object-last-requires-clause-inside : goal.scan_object-last-requires-clause-inside
 scan_object-last-requires-clause-inside c =
-    fields_inside c.args.table.now (kept_in c.args.table.now c.args.tams.now c.args.marks.now) c.in-Some.at (kept_object c.args.table.now c.args.tams.now c.args.marks.now) c.requires.stands.inside (c.is_kept.ensures.0 c.if-is_kept.true)
+    fields_inside c.args.table.now (kept_in c.args.table.now c.args.tams.now c.args.marks.now) c.in-Some.at
+    (kept_object c.args.table.now c.args.tams.now c.args.marks.now) c.requires.stands.inside (c.is_kept.ensures.0 c.if-is_kept.true)
 
 pub scan_object-last-requires-clause-fit : goal.scan_object-last-requires-clause-fit
 scan_object-last-requires-clause-fit c =
-    (adds_fit c.args.table.now (kept_in c.args.table.now c.args.tams.now c.args.marks.now) c.args.card_words c.args.card c.args.sets.now c.loop-at.sets c.requires.stands.fit c.loop-at.invariant.adds).0
+    (adds_fit c.args.table.now (kept_in c.args.table.now c.args.tams.now c.args.marks.now) c.args.card_words c.args.card c.args.sets.now
+    c.loop-at.sets c.requires.stands.fit c.loop-at.invariant.adds).0
 
 pub scan_object-last-requires-clause-card : goal.scan_object-last-requires-clause-card
 scan_object-last-requires-clause-card c =
-    let e = (adds_fit c.args.table.now (kept_in c.args.table.now c.args.tams.now c.args.marks.now) c.args.card_words c.args.card c.args.sets.now c.loop-at.sets c.requires.stands.fit c.loop-at.invariant.adds).1 in
+    let e = (adds_fit c.args.table.now (kept_in c.args.table.now c.args.tams.now c.args.marks.now) c.args.card_words c.args.card
+    c.args.sets.now c.loop-at.sets c.requires.stands.fit c.loop-at.invariant.adds).1 in
     subst (λ (n : ℕ). c.args.card < n) (sym e) c.requires.card
 
 pub loop-at-preserved-then-is_kept : goal.loop-at-preserved-then-is_kept
@@ -71,13 +84,17 @@ loop-at-preserved-then-is_kept c =
     let p = c.loop-at.invariant in
     let same = same_object c.args.table.now kept c.in-Some.at stands (c.is_kept.ensures.0 c.if-is_kept.true) in
     let q = c.scan_object-last.ensures.scanned kept same in
-    let fit = (adds_fit c.args.table.now kept c.args.card_words c.args.card c.args.sets.now c.loop-at.sets c.requires.stands.fit p.adds).0 in
+    let fit =
+    (adds_fit c.args.table.now kept c.args.card_words c.args.card c.args.sets.now c.loop-at.sets c.requires.stands.fit p.adds).0 in
     let inside = subst (λ (n : ℕ). LeadsInside words n kept) (sym fit.each_region) c.requires.stands.inside in
     record {
       adds = adds_more words kept c.args.card_words c.args.card c.args.sets.now c.loop-at.sets c.scan_object-last.new.sets p.adds q.adds;
-      turn = turn_next c.args.table.now c.law.ensures kept stands c.args.card_words c.args.card c.args.first (may_lead c.loop-at.sets) (may_lead c.scan_object-last.new.sets) c.loop-at.at-iterator c.next.new.self c.in-Some.at c.in-Some.shape
-          p.turn c.in-Some.ensures.steps (adds_lead words kept c.args.card_words c.args.card c.loop-at.sets c.scan_object-last.new.sets inside q.adds) q.covered;
-      count = count_next c.args.card_words c.args.card c.loop-at.looked c.in-Some.at c.in-Some.shape c.loop-at.at-iterator c.next.new.self p.count c.in-Some.ensures.steps c.word.result c.number.result c.word.ensures c.number.ensures c.if-word-end.false;
+      turn = turn_next c.args.table.now c.law.ensures kept stands c.args.card_words c.args.card c.args.first (may_lead c.loop-at.sets)
+          (may_lead c.scan_object-last.new.sets) c.loop-at.at-iterator c.next.new.self c.in-Some.at c.in-Some.shape
+          p.turn c.in-Some.ensures.steps
+          (adds_lead words kept c.args.card_words c.args.card c.loop-at.sets c.scan_object-last.new.sets inside q.adds) q.covered;
+      count = count_next c.args.card_words c.args.card c.loop-at.looked c.in-Some.at c.in-Some.shape c.loop-at.at-iterator c.next.new.self
+          p.count c.in-Some.ensures.steps c.word.result c.number.result c.word.ensures c.number.ensures c.if-word-end.false;
       last = c.scan_object-last.ensures.last;
     }
 
@@ -88,9 +105,12 @@ loop-at-preserved c =
     let none = not_kept kept c.in-Some.at c.is_kept.result c.is_kept.ensures.1 c.if-is_kept.false in
     record {
       adds = p.adds;
-      turn = turn_next c.args.table.now c.law.ensures kept (kept_object c.args.table.now c.args.tams.now c.args.marks.now) c.args.card_words c.args.card c.args.first (may_lead c.loop-at.sets) (may_lead c.loop-at.sets) c.loop-at.at-iterator c.next.new.self c.in-Some.at c.in-Some.shape
-          p.turn c.in-Some.ensures.steps (λ r card was. was) (covered_dead c.args.table.now.words_per_region kept c.args.card_words c.args.card c.in-Some.at (may_lead c.loop-at.sets) none);
-      count = count_next c.args.card_words c.args.card c.loop-at.looked c.in-Some.at c.in-Some.shape c.loop-at.at-iterator c.next.new.self p.count c.in-Some.ensures.steps c.word.result c.number.result c.word.ensures c.number.ensures c.if-word-end.false;
+      turn = turn_next c.args.table.now c.law.ensures kept (kept_object c.args.table.now c.args.tams.now c.args.marks.now)
+          c.args.card_words c.args.card c.args.first (may_lead c.loop-at.sets) (may_lead c.loop-at.sets) c.loop-at.at-iterator
+          c.next.new.self c.in-Some.at c.in-Some.shape p.turn c.in-Some.ensures.steps (λ r card was. was)
+          (covered_dead c.args.table.now.words_per_region kept c.args.card_words c.args.card c.in-Some.at (may_lead c.loop-at.sets) none);
+      count = count_next c.args.card_words c.args.card c.loop-at.looked c.in-Some.at c.in-Some.shape c.loop-at.at-iterator c.next.new.self
+          p.count c.in-Some.ensures.steps c.word.result c.number.result c.word.ensures c.number.ensures c.if-word-end.false;
       last = p.last;
     }
 
@@ -99,5 +119,7 @@ returns-clause-adds c = c.loop-at.invariant.adds
 
 pub returns-clause-covered : goal.returns-clause-covered
 returns-clause-covered c =
-    turn_last c.args.table.now c.law.ensures (kept_in c.args.table.now c.args.tams.now c.args.marks.now) (kept_object c.args.table.now c.args.tams.now c.args.marks.now)
-    c.args.card_words c.args.card c.args.first (may_lead c.loop-at.sets) c.loop-at.at-iterator c.loop-at.invariant.turn c.in-None.ensures.steps.0
+    turn_last c.args.table.now c.law.ensures (kept_in c.args.table.now c.args.tams.now c.args.marks.now)
+    (kept_object c.args.table.now c.args.tams.now c.args.marks.now)
+    c.args.card_words c.args.card c.args.first (may_lead c.loop-at.sets) c.loop-at.at-iterator
+    c.loop-at.invariant.turn c.in-None.ensures.steps.0

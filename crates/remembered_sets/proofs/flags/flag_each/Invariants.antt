@@ -5,6 +5,7 @@ use Rattle.remembered_sets.proofs.flags.flag_each.Given as goal
 
 abbrev pub invariant-loop-card : goal.invariant-loop-card
 invariant-loop-card l = record {
-  flags : (k : ℕ) → get_or l.flags k false ≡ (get_or l.initial.flags k false || (list_any (λ x. eqb x k) (take l.card-index l.cards) && get_or l.entered k false));
+  flags : (k : ℕ) → get_or l.flags k false
+      ≡ (get_or l.initial.flags k false || (list_any (λ x. eqb x k) (take l.card-index l.cards) && get_or l.entered k false));
   len : length l.flags ≡ length l.initial.flags;
 }

@@ -6,7 +6,8 @@ use Rattle.remembered_sets.proofs.flags.flag_sources.Given as goal
 
 abbrev pub invariant-loop-source : goal.invariant-loop-source
 invariant-loop-source l = record {
-  below : (k : ℕ) → k / l.cards_per_region < l.start → has l.flags k ≡ (has l.initial.flags k || (has l.sources (k / l.cards_per_region) && has l.entered k));
+  below : (k : ℕ) → k / l.cards_per_region < l.start
+      → has l.flags k ≡ (has l.initial.flags k || (has l.sources (k / l.cards_per_region) && has l.entered k));
   above : (k : ℕ) → l.start ≤ k / l.cards_per_region → has l.flags k ≡ has l.initial.flags k;
   len : length l.flags ≡ length l.initial.flags;
   inside : l.start ≤ length l.sources;

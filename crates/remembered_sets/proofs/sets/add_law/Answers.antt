@@ -1,4 +1,5 @@
-use Rattle.remembered_sets.proofs.Laws.{covers-added, covers_grows, covers_only, covers_only_card, added_other, leads-added, leads_grow, entered_only}
+use Rattle.remembered_sets.proofs.Laws.{covers-added, covers_grows, covers_only, covers_only_card}
+use Rattle.remembered_sets.proofs.Laws.{added_other, leads-added, leads_grow, entered_only}
 use Rattle.remembered_sets.proofs.sets.add_law.Goals as goal
 
 pub returns-clause-covered : goal.returns-clause-covered

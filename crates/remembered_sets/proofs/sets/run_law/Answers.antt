@@ -5,4 +5,5 @@ pub returns-clause-covered : goal.returns-clause-covered
 returns-clause-covered c = λ s region card changes shaped known h leave. added_stays changes s region card shaped known h leave
 
 pub returns-clause-leads : goal.returns-clause-leads
-returns-clause-leads c = λ s region card changes shaped known h leave leave_own. leads_stays changes s region card shaped known h leave leave_own
+returns-clause-leads c =
+    λ s region card changes shaped known h leave leave_own. leads_stays changes s region card shaped known h leave leave_own

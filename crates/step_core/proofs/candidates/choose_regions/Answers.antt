@@ -11,8 +11,10 @@ returns-clause-chosen c =
     let r = c.choose_rows.ensures in
     let same : copy_limit c.words_per_region-words.result c.args.budget c.free_count-free.result ≡ c.limit_of-limit.result =
     sym (c.limit_of-limit.ensures ∙ ap (λ (b : ℕ). copy_limit c.words_per_region-words.result b c.free_count-free.result) c.from.ensures) in
-    let limit : c.limit_of-limit.result ≡ copy_limit c.args.table.now.words_per_region c.args.budget (count_by is_free c.args.table.now.regions) =
-    sym same ∙ ap (λ (w : ℕ). copy_limit w c.args.budget c.free_count-free.result) c.words_per_region-words.ensures ∙ ap (λ (f : ℕ). copy_limit c.args.table.now.words_per_region c.args.budget f) c.free_count-free.ensures in
+    let limit : c.limit_of-limit.result
+    ≡ copy_limit c.args.table.now.words_per_region c.args.budget (count_by is_free c.args.table.now.regions) =
+    sym same ∙ ap (λ (w : ℕ). copy_limit w c.args.budget c.free_count-free.result) c.words_per_region-words.ensures
+    ∙ ap (λ (f : ℕ). copy_limit c.args.table.now.words_per_region c.args.budget f) c.free_count-free.ensures in
     let rows = c.choose_rows.new.rows.items in
     let n = c.choose_rows.result in
     front_within c.args.table.now c.args.marker.now.tams c.args.marker.now.bitmaps.previous c.args.marker.now.running c.args.budget n

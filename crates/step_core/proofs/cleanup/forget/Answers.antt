@@ -11,7 +11,10 @@ loop-i-preserved c =
     record {
       stands = f.stands;
       idle = f.running;
-      forgotten = one_forgotten _ c.args.first c.loop-i.i c.new-region.result c.args.marker.now c.loop-i.marker c.forget.new.self c.law.ensures.positive p.forgotten at
-          (omega (arith, inside, p.stands.previous.each_region)) (omega (arith, inside, p.stands.next.each_region)) f.previous f.next f.tops (marker_is c.loop-i.marker c.forget.new.self f.grey f.logs (f.running ∙ sym p.idle) f.scans);
-      cleared = one_cleared c.args.first c.loop-i.i c.new-region.result c.args.sets.now c.loop-i.sets c.clear.new.self p.cleared at (omega (arith, inside, p.cleared.count, c.requires.each)) c.clear.ensures;
+      forgotten = one_forgotten _ c.args.first c.loop-i.i c.new-region.result c.args.marker.now c.loop-i.marker
+          c.forget.new.self c.law.ensures.positive p.forgotten at (omega (arith, inside, p.stands.previous.each_region))
+          (omega (arith, inside, p.stands.next.each_region)) f.previous f.next f.tops
+          (marker_is c.loop-i.marker c.forget.new.self f.grey f.logs (f.running ∙ sym p.idle) f.scans);
+      cleared = one_cleared c.args.first c.loop-i.i c.new-region.result c.args.sets.now c.loop-i.sets c.clear.new.self p.cleared at
+          (omega (arith, inside, p.cleared.count, c.requires.each)) c.clear.ensures;
     }

@@ -16,6 +16,9 @@ overflow_mul-number c =
     let run = rw c.in-Run.is at c.requires in
     let known = (takes _ _ _ (new_object 0 0 0 0) c.law.ensures run.positive run.lowest).known in
     let some = run.positive in
-    let fits = row_fits c.in-Run.first c.args.table.now.words_per_region (length c.args.table.now.regions) c.args.table.now.words_per_region (omega arith) (omega arith) in
-    let at : c.number.result * c.words_per_region-words.result ≡ c.in-Run.first * c.args.table.now.words_per_region = ap (λ (n : ℕ). n * c.words_per_region-words.result) c.number.ensures ∙ ap (λ (n : ℕ). c.in-Run.first * n) c.words_per_region-words.ensures in
+    let fits = row_fits c.in-Run.first c.args.table.now.words_per_region (length c.args.table.now.regions)
+    c.args.table.now.words_per_region (omega arith) (omega arith) in
+    let at : c.number.result * c.words_per_region-words.result ≡ c.in-Run.first * c.args.table.now.words_per_region =
+    ap (λ (n : ℕ). n * c.words_per_region-words.result) c.number.ensures
+    ∙ ap (λ (n : ℕ). c.in-Run.first * n) c.words_per_region-words.ensures in
     omega (arith, at, fits, c.law.ensures.in_all)

@@ -8,4 +8,5 @@ name-requires c = is_object _ c.in-Object.pointers c.in-Object.weaks c.in-Object
 
 pub returns-in-Object : goal.returns-in-Object
 unfolding object_at
-returns-in-Object c = has_name _ c.name.result (is_object _ c.in-Object.pointers c.in-Object.weaks c.in-Object.values c.requires c.in-Object.ensures) c.name.ensures
+returns-in-Object c = has_name _ c.name.result
+    (is_object _ c.in-Object.pointers c.in-Object.weaks c.in-Object.values c.requires c.in-Object.ensures) c.name.ensures

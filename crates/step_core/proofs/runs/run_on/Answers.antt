@@ -12,10 +12,14 @@ loop-step-preserved c =
     record {
       history = λ s st. subst (λ (es : List Event). Runs s c.args.core.now es c.step-reply.new.self) (sym events)
           (goes_on s c.args.core.now c.loop-step.done.events _ c.loop-step.core c.step-reply.new.self (c.loop-step.invariant.history s st)
-          c.step-reply.ensures.follows c.step-reply.ensures.does c.step-reply.ensures.full c.remembers.ensures.core c.remembers.ensures.cards c.whole.ensures);
-      steps = ap (λ (es : List Event). map step_in es) events ∙ grown step_in c.loop-step.done.events _ c.args.steps.now c.loop-step.step-index _ c.loop-step.invariant.steps c.loop-step-test.true refl;
+          c.step-reply.ensures.follows c.step-reply.ensures.does c.step-reply.ensures.full c.remembers.ensures.core
+          c.remembers.ensures.cards c.whole.ensures);
+      steps = ap (λ (es : List Event). map step_in es) events
+          ∙ grown step_in c.loop-step.done.events _ c.args.steps.now c.loop-step.step-index _
+          c.loop-step.invariant.steps c.loop-step-test.true refl;
       actors = ap (λ (es : List Event). map actor_in es) events
-          ∙ grown_by actor_in actor_of c.loop-step.done.events _ c.args.steps.now c.loop-step.step-index _ c.loop-step.invariant.actors c.loop-step-test.true c.actor_of.ensures.actor;
+          ∙ grown_by actor_in actor_of c.loop-step.done.events _ c.args.steps.now c.loop-step.step-index _ c.loop-step.invariant.actors
+          c.loop-step-test.true c.actor_of.ensures.actor;
       config = c.step-reply.ensures.config ∙ c.loop-step.invariant.config;
       done = ap (λ (r : EventList). r.config) pushed ∙ c.loop-step.invariant.done;
     }

@@ -19,7 +19,8 @@ returns-clause-history c =
     record {
       core = subst IsCore fresh c.in-Ok.ensures.core;
       stands = subst (λ (d : CoreState). Stands (first_state config) d) fresh stands;
-      runs = subst (λ (d : CoreState). Runs (first_state config) d c.in-Ok-run_on.done.events c.run_on.new.core) fresh (c.in-Ok-run_on.ensures.runs _ stands);
+      runs = subst (λ (d : CoreState). Runs (first_state config) d c.in-Ok-run_on.done.events c.run_on.new.core)
+          fresh (c.in-Ok-run_on.ensures.runs _ stands);
     }
 
 pub returns-clause-run : goal.returns-clause-run

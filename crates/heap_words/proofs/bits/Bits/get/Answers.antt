@@ -12,5 +12,7 @@ pub returns : goal.returns
 returns c =
     let inside : c.args.number < length c.args.self.now = c.requires in
     rw (← c.self.view_is)
-    (bit_read _ _ c.args.number (get_or_read c.self.inside.words.items _ _ (word_inside _ _ _ _ c.args.number refl c.self.view_is (long_enough _ _ _ c.self.inside.words.ok.0 c.self.invariant) inside) c.index.ensures 0)
-    ∙ sym (has-flags_of _ _ c.args.number (number_inside _ _ _ c.args.number c.self.view_is inside)))
+    (bit_read _ _ c.args.number
+    (get_or_read c.self.inside.words.items _ _
+    (word_inside _ _ _ _ c.args.number refl c.self.view_is (long_enough _ _ _ c.self.inside.words.ok.0 c.self.invariant) inside)
+    c.index.ensures 0) ∙ sym (has-flags_of _ _ c.args.number (number_inside _ _ _ c.args.number c.self.view_is inside)))

@@ -14,9 +14,20 @@ index-word-requires c =
 pub returns-then-word-eq0-clause-lowest : goal.returns-then-word-eq0-clause-lowest
 returns-then-word-eq0-clause-lowest c =
     let known : 64 * c.args.group < length c.args.self.now = c.requires in
-    let inside : c.args.group < length c.self.inside.words.items = omega (arith, known, c.self.invariant, c.self.inside.words.ok.0, length-flags_of c.self.inside.words.items c.self.inside.len, ap length c.self.view_is) in
-    let w : IsWord (bit_of c.self.inside.words.items) (64 * c.args.group) c.args.group c.index-word.result.now = group_word c.self.inside.words.items c.args.group c.index-word.result.now (get_or_read c.self.inside.words.items _ _ inside c.index-word.ensures 0) (omega arith) in
-    none_left _ _ c.self.inside.len (64 * c.args.group) (64 * c.args.group + 64) (64 * (c.args.group + 1)) (bits_agree _ _ _ c.self.view_is) (none_in_word _ _ _ _ w (none_yet _ _) c.if-word-eq0.true) (omega arith)
+    let inside : c.args.group < length c.self.inside.words.items =
+    omega (
+      arith,
+      known,
+      c.self.invariant,
+      c.self.inside.words.ok.0,
+      length-flags_of c.self.inside.words.items c.self.inside.len,
+      ap length c.self.view_is,
+    ) in
+    let w : IsWord (bit_of c.self.inside.words.items) (64 * c.args.group) c.args.group c.index-word.result.now =
+    group_word c.self.inside.words.items c.args.group c.index-word.result.now
+    (get_or_read c.self.inside.words.items _ _ inside c.index-word.ensures 0) (omega arith) in
+    none_left _ _ c.self.inside.len (64 * c.args.group) (64 * c.args.group + 64) (64 * (c.args.group + 1)) (bits_agree _ _ _ c.self.view_is)
+    (none_in_word _ _ _ _ w (none_yet _ _) c.if-word-eq0.true) (omega arith)
 
 pub overflow_mul-found : goal.overflow_mul-found
 overflow_mul-found c =
@@ -32,16 +43,38 @@ overflow_add-found c =
 pub returns-then-found-self-clause-lowest : goal.returns-then-found-self-clause-lowest
 returns-then-found-self-clause-lowest c =
     let known : 64 * c.args.group < length c.args.self.now = c.requires in
-    let inside : c.args.group < length c.self.inside.words.items = omega (arith, known, c.self.invariant, c.self.inside.words.ok.0, length-flags_of c.self.inside.words.items c.self.inside.len, ap length c.self.view_is) in
-    let w : IsWord (bit_of c.self.inside.words.items) (64 * c.args.group) c.args.group c.index-word.result.now = group_word c.self.inside.words.items c.args.group c.index-word.result.now (get_or_read c.self.inside.words.items _ _ inside c.index-word.ensures 0) (omega arith) in
+    let inside : c.args.group < length c.self.inside.words.items =
+    omega (
+      arith,
+      known,
+      c.self.invariant,
+      c.self.inside.words.ok.0,
+      length-flags_of c.self.inside.words.items c.self.inside.len,
+      ap length c.self.view_is,
+    ) in
+    let w : IsWord (bit_of c.self.inside.words.items) (64 * c.args.group) c.args.group c.index-word.result.now =
+    group_word c.self.inside.words.items c.args.group c.index-word.result.now
+    (get_or_read c.self.inside.words.items _ _ inside c.index-word.ensures 0) (omega arith) in
     found_inside _ _ c.self.inside.len _ _ _ (bits_agree _ _ _ c.self.view_is) w (none_yet _ _) (omega arith) c.if-found-self.true
 
 pub returns-then-found-self-clause-within : goal.returns-then-found-self-clause-within
-returns-then-found-self-clause-within c = omega (arith, c.if-found-self.true, length-flags_of c.self.inside.words.items c.self.inside.len, ap length c.self.view_is)
+returns-then-found-self-clause-within c =
+    omega (arith, c.if-found-self.true, length-flags_of c.self.inside.words.items c.self.inside.len, ap length c.self.view_is)
 
 pub returns-else-found-self-clause-lowest : goal.returns-else-found-self-clause-lowest
 returns-else-found-self-clause-lowest c =
     let known : 64 * c.args.group < length c.args.self.now = c.requires in
-    let inside : c.args.group < length c.self.inside.words.items = omega (arith, known, c.self.invariant, c.self.inside.words.ok.0, length-flags_of c.self.inside.words.items c.self.inside.len, ap length c.self.view_is) in
-    let w : IsWord (bit_of c.self.inside.words.items) (64 * c.args.group) c.args.group c.index-word.result.now = group_word c.self.inside.words.items c.args.group c.index-word.result.now (get_or_read c.self.inside.words.items _ _ inside c.index-word.ensures 0) (omega arith) in
-    found_past _ _ c.self.inside.len _ (64 * c.args.group + 64) _ _ (bits_agree _ _ _ c.self.view_is) w (none_yet _ _) (omega arith) (omega (arith, c.if-found-self.false))
+    let inside : c.args.group < length c.self.inside.words.items =
+    omega (
+      arith,
+      known,
+      c.self.invariant,
+      c.self.inside.words.ok.0,
+      length-flags_of c.self.inside.words.items c.self.inside.len,
+      ap length c.self.view_is,
+    ) in
+    let w : IsWord (bit_of c.self.inside.words.items) (64 * c.args.group) c.args.group c.index-word.result.now =
+    group_word c.self.inside.words.items c.args.group c.index-word.result.now
+    (get_or_read c.self.inside.words.items _ _ inside c.index-word.ensures 0) (omega arith) in
+    found_past _ _ c.self.inside.len _ (64 * c.args.group + 64) _ _ (bits_agree _ _ _ c.self.view_is) w (none_yet _ _)
+    (omega arith) (omega (arith, c.if-found-self.false))

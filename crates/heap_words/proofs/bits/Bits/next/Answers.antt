@@ -4,4 +4,5 @@ use Rattle.heap_words.proofs.LowestBits.{none_at_all}
 use Rattle.heap_words.proofs.bits.Bits.next.Goals as goal
 
 pub returns-clause-lowest : goal.returns-clause-lowest
-returns-clause-lowest c = none_at_all c.args.self.now c.args.from c.self.inside.len c.next_below.result (omega (arith, length-flags_of c.self.inside.words.items c.self.inside.len, ap length c.self.view_is)) c.next_below.ensures.lowest
+returns-clause-lowest c = none_at_all c.args.self.now c.args.from c.self.inside.len c.next_below.result
+    (omega (arith, length-flags_of c.self.inside.words.items c.self.inside.len, ap length c.self.view_is)) c.next_below.ensures.lowest

@@ -11,7 +11,9 @@ index_mut-requires c =
 pub returns : goal.returns
 returns c =
     let inside : c.args.number < length c.args.self.now = c.requires in
-    let word : c.args.number / 64 < length c.self.inside.words.items = word_inside _ _ _ _ c.args.number refl c.self.view_is (long_enough _ _ _ c.self.inside.words.ok.0 c.self.invariant) inside in
+    let word : c.args.number / 64 < length c.self.inside.words.items =
+    word_inside _ _ _ _ c.args.number refl c.self.view_is (long_enough _ _ _ c.self.inside.words.ok.0 c.self.invariant) inside in
     rw (← c.self.view_is)
-    (flags_of-remove _ _ _ _ (number_inside _ _ _ c.args.number c.self.view_is inside) (long_enough _ _ _ c.self.inside.words.ok.0 c.self.invariant)
+    (flags_of-remove _ _ _ _ (number_inside _ _ _ c.args.number c.self.view_is inside)
+    (long_enough _ _ _ c.self.inside.words.ok.0 c.self.invariant)
     (get_or_read c.self.inside.words.items _ _ word c.index_mut.ensures.value 0))

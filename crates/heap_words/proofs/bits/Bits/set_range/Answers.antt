@@ -4,5 +4,7 @@ use Rattle.heap_words.proofs.bits.Bits.set_range.Goals as goal
 
 pub returns-then-first-past-clause-flags : goal.returns-then-first-past-clause-flags
 returns-then-first-past-clause-flags c =
-    three_parts true c.args.self.now c.set_part.new.self c.put_groups.new.self c.set_part-then-first-past.new.self c.args.from (64 * c.div_ceil-first.result) (64 * (c.args.to / 64)) c.args.to
-    (omega (arith, c.div_ceil-first.ensures)) (omega (arith, c.if-first-past.true)) (omega arith) c.set_part.ensures.flags c.put_groups.ensures.flags c.set_part-then-first-past.ensures.flags
+    three_parts true c.args.self.now c.set_part.new.self c.put_groups.new.self c.set_part-then-first-past.new.self c.args.from
+    (64 * c.div_ceil-first.result) (64 * (c.args.to / 64)) c.args.to
+    (omega (arith, c.div_ceil-first.ensures)) (omega (arith, c.if-first-past.true)) (omega arith) c.set_part.ensures.flags
+    c.put_groups.ensures.flags c.set_part-then-first-past.ensures.flags

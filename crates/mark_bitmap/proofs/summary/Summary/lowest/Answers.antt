@@ -6,11 +6,18 @@ use Rattle.mark_bitmap.proofs.summary.Summary.lowest.Goals as goal
 pub returns-clause-lowest : goal.returns-clause-lowest
 returns-clause-lowest c =
     let i = c.self.inside in
-    let group = lowest_member (has i.groups) i.blocks c.in_ok-block.block (Some c.in_ok-group.group) c.self.invariant.block_summary c.in_ok-block.ensures c.in_ok-group.ensures in
-    rw (← c.self.view_is) (lowest_member (has i.members) i.groups c.in_ok-group.group c.lowest_of-2.result c.self.invariant.group_summary group c.lowest_of-2.ensures)
+    let group = lowest_member (has i.groups) i.blocks c.in_ok-block.block (Some c.in_ok-group.group) c.self.invariant.block_summary
+    c.in_ok-block.ensures c.in_ok-group.ensures in
+    rw (← c.self.view_is)
+    (lowest_member (has i.members) i.groups c.in_ok-group.group c.lowest_of-2.result
+    c.self.invariant.group_summary group c.lowest_of-2.ensures)
 
 pub returns-clause-within : goal.returns-clause-within
 returns-clause-within c =
     let i = c.self.inside in
-    let group = lowest_member (has i.groups) i.blocks c.in_ok-block.block (Some c.in_ok-group.group) c.self.invariant.block_summary c.in_ok-block.ensures c.in_ok-group.ensures in
-    rw (← c.self.view_is) (found_within i.members c.lowest_of-2.result (lowest_member (has i.members) i.groups c.in_ok-group.group c.lowest_of-2.result c.self.invariant.group_summary group c.lowest_of-2.ensures))
+    let group = lowest_member (has i.groups) i.blocks c.in_ok-block.block (Some c.in_ok-group.group) c.self.invariant.block_summary
+    c.in_ok-block.ensures c.in_ok-group.ensures in
+    rw (← c.self.view_is)
+    (found_within i.members c.lowest_of-2.result
+    (lowest_member (has i.members) i.groups c.in_ok-group.group c.lowest_of-2.result
+    c.self.invariant.group_summary group c.lowest_of-2.ensures))

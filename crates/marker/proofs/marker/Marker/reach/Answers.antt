@@ -19,7 +19,8 @@ returns-clause-stands c =
     let below : below_next c.args.table.now c.args.self.now.tams c.in-Some.at ≡ true = cc in
     let finger = c.add.ensures.fingers c.args.self.now.bitmaps.next (c.requires.stands.finger c.requires.running) in
     set_stands c.args.table.now c.args.self.now c.in-Some.at c.set.new.self c.add.new.self c.requires.stands c.requires.running below
-    (c.requires.kept c.in-Some.at c.in-Some.is below) c.set.ensures (ap (λ (g : Scans). g.scanned) c.add.ensures.added) (rw c.set.ensures finger)
+    (c.requires.kept c.in-Some.at c.in-Some.is below) c.set.ensures
+    (ap (λ (g : Scans). g.scanned) c.add.ensures.added) (rw c.set.ensures finger)
 
 pub returns-clause-marks : goal.returns-clause-marks
 returns-clause-marks c =
@@ -30,4 +31,8 @@ returns-clause-marks c =
 pub add-requires : goal.add-requires
 add-requires c =
     let below : below_next c.args.table.now c.args.self.now.tams c.in-Some.at ≡ true = cc in
-    omega (arith, old_within c.args.table.now c.args.self.now c.in-Some.at c.law.ensures.positive c.requires.stands below, c.requires.stands.scanned)
+    omega (
+      arith,
+      old_within c.args.table.now c.args.self.now c.in-Some.at c.law.ensures.positive c.requires.stands below,
+      c.requires.stands.scanned,
+    )

@@ -22,4 +22,5 @@ returns-clause-leads c =
 pub invariant_of-self : goal.invariant_of-self
 invariant_of-self c =
     let all : AreSets c.args.self.now = subst AreSets c.self.view_is c.self.invariant in
-    subst AreSets (sym (returns-clause-after c)) (AreSets-added c.args.self.now c.args.region c.args.card all c.requires.region c.requires.card)
+    subst AreSets (sym (returns-clause-after c))
+    (AreSets-added c.args.self.now c.args.region c.args.card all c.requires.region c.requires.card)

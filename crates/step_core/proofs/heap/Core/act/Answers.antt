@@ -5,11 +5,13 @@ use Rattle.step_core.proofs.Cores.Acted.{Acted, acted_by, acted_plain, full_as}
 use Rattle.step_core.proofs.heap.Core.act.Goals as goal
 
 pub returns-in-New-clause-follows : goal.returns-in-New-clause-follows
-returns-in-New-clause-follows c = λ s st. created_as s c.args.op _ _ _ _ _ _ _ refl c.in-New.is c.weaks_of.ensures st (c.new_object.ensures.acts s.graph st.shows)
+returns-in-New-clause-follows c =
+    λ s st. created_as s c.args.op _ _ _ _ _ _ _ refl c.in-New.is c.weaks_of.ensures st (c.new_object.ensures.acts s.graph st.shows)
     (keeps_after s.snapshot _ _ _ _ _ refl c.new_object.ensures.after c.new_object.ensures.keeps st.keeps)
 
 pub returns-in-New-clause-full : goal.returns-in-New-clause-full
-returns-in-New-clause-full c = λ s st. full_as s.graph _ _ _ _ _ _ _ _ c.in-New.is c.weaks_of.ensures (c.new_object.ensures.acts s.graph st.shows) c.new_object.ensures.full
+returns-in-New-clause-full c = λ s st.
+    full_as s.graph _ _ _ _ _ _ _ _ c.in-New.is c.weaks_of.ensures (c.new_object.ensures.acts s.graph st.shows) c.new_object.ensures.full
 
 pub returns-in-New-clause-after : goal.returns-in-New-clause-after
 returns-in-New-clause-after c = acts_as _ _ _ _ _ _ _ _ c.in-New.is c.weaks_of.ensures c.new_object.ensures.after
@@ -63,7 +65,8 @@ pub returns-in-Write-clause-after : goal.returns-in-Write-clause-after
 returns-in-Write-clause-after c = (write c).after
 
 move_register : (c : goal.After-move_register) → Acted c.args.op c.move_register.result c.args.self.now c.move_register.new.self
-move_register c = acted_plain c.args.op _ _ _ _ c.in-Move.is refl (λ g f. f) c.move_register.ensures.acts c.move_register.ensures.keeps c.move_register.ensures.after
+move_register c = acted_plain c.args.op _ _ _ _ c.in-Move.is refl (λ g f. f) c.move_register.ensures.acts
+    c.move_register.ensures.keeps c.move_register.ensures.after
 
 pub returns-in-Move-clause-follows : goal.returns-in-Move-clause-follows
 returns-in-Move-clause-follows c = (move_register c).follows
@@ -75,7 +78,8 @@ pub returns-in-Move-clause-after : goal.returns-in-Move-clause-after
 returns-in-Move-clause-after c = (move_register c).after
 
 drop_register : (c : goal.After-drop_register) → Acted c.args.op c.drop_register.result c.args.self.now c.drop_register.new.self
-drop_register c = acted_plain c.args.op _ _ _ _ c.in-Drop.is refl (λ g f. f) c.drop_register.ensures.acts c.drop_register.ensures.keeps c.drop_register.ensures.after
+drop_register c = acted_plain c.args.op _ _ _ _ c.in-Drop.is refl (λ g f. f) c.drop_register.ensures.acts
+    c.drop_register.ensures.keeps c.drop_register.ensures.after
 
 pub returns-in-Drop-clause-follows : goal.returns-in-Drop-clause-follows
 returns-in-Drop-clause-follows c = (drop_register c).follows
@@ -124,7 +128,8 @@ returns-in-Shape-clause-after c = (shape c).after
 
 get_weak : (c : goal.After-get_weak) → Acted c.args.op c.get_weak.result c.args.self.now c.get_weak.new.self
 get_weak c = acted_by c.args.op _ _ _ _ c.in-GetWeak.is (λ g f. f) c.get_weak.ensures.acts
-    (λ s st. keeps_touched s.snapshot _ _ _ _ _ _ _ c.get_weak.ensures.after (λ x is f. c.get_weak.ensures.keeps x s.graph st.shows (unreached_of s x _ st is) f) st.keeps) c.get_weak.ensures.after
+    (λ s st. keeps_touched s.snapshot _ _ _ _ _ _ _ c.get_weak.ensures.after
+    (λ x is f. c.get_weak.ensures.keeps x s.graph st.shows (unreached_of s x _ st is) f) st.keeps) c.get_weak.ensures.after
 
 pub returns-in-GetWeak-clause-follows : goal.returns-in-GetWeak-clause-follows
 returns-in-GetWeak-clause-follows c = (get_weak c).follows
@@ -136,7 +141,8 @@ pub returns-in-GetWeak-clause-after : goal.returns-in-GetWeak-clause-after
 returns-in-GetWeak-clause-after c = (get_weak c).after
 
 put_weak : (c : goal.After-put_weak) → Acted c.args.op c.put_weak.result c.args.self.now c.put_weak.new.self
-put_weak c = acted_plain c.args.op _ _ _ _ c.in-PutWeak.is refl (λ g f. f) c.put_weak.ensures.acts c.put_weak.ensures.keeps c.put_weak.ensures.after
+put_weak c =
+    acted_plain c.args.op _ _ _ _ c.in-PutWeak.is refl (λ g f. f) c.put_weak.ensures.acts c.put_weak.ensures.keeps c.put_weak.ensures.after
 
 pub returns-in-PutWeak-clause-follows : goal.returns-in-PutWeak-clause-follows
 returns-in-PutWeak-clause-follows c = (put_weak c).follows

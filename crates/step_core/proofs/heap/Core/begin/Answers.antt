@@ -7,16 +7,20 @@ begin-requires-clause-closed c = can_begin _ c.self.invariant
 
 pub invariant_of-self : goal.invariant_of-self
 invariant_of-self c = let r = c.retire_all.ensures in let b = c.begin.ensures in
-    begun_kept _ c.self.invariant _ _ r.retired r.stand r.above b.stands b.running b.logs b.previous_tops b.previous_marks b.snapshot c.law.ensures b.tops
+    begun_kept _ c.self.invariant _ _ r.retired r.stand r.above b.stands b.running b.logs b.previous_tops
+    b.previous_marks b.snapshot c.law.ensures b.tops
 
 pub returns-clause-shows : goal.returns-clause-shows
 returns-clause-shows c = let r = c.retire_all.ensures in let b = c.begin.ensures in
-    λ g s. begun_shows _ c.self.invariant _ _ r.retired r.stand r.above b.stands b.running b.logs b.previous_tops b.previous_marks b.snapshot c.law.ensures b.tops g (to_fields _ _ c.self.view_is (λ d. ShowsGraph g d) s)
+    λ g s. begun_shows _ c.self.invariant _ _ r.retired r.stand r.above b.stands b.running b.logs b.previous_tops b.previous_marks
+    b.snapshot c.law.ensures b.tops g (to_fields _ _ c.self.view_is (λ d. ShowsGraph g d) s)
 
 pub returns-clause-keeps : goal.returns-clause-keeps
 returns-clause-keeps c = let r = c.retire_all.ensures in let b = c.begin.ensures in
-    λ g s. begun_keeps _ c.self.invariant _ _ r.retired r.stand r.above b.stands b.running b.logs b.previous_tops b.previous_marks b.snapshot c.law.ensures b.tops g (to_fields _ _ c.self.view_is (λ d. ShowsGraph g d) s)
+    λ g s. begun_keeps _ c.self.invariant _ _ r.retired r.stand r.above b.stands b.running b.logs b.previous_tops b.previous_marks
+    b.snapshot c.law.ensures b.tops g (to_fields _ _ c.self.view_is (λ d. ShowsGraph g d) s)
 
 pub returns-clause-begun : goal.returns-clause-begun
 returns-clause-begun c = let r = c.retire_all.ensures in let b = c.begin.ensures in
-    begun_from _ c.self.invariant _ _ r.retired r.stand r.above b.stands b.running b.logs b.previous_tops b.previous_marks b.snapshot c.law.ensures b.tops _ c.self.view_is b.begins b.scans
+    begun_from _ c.self.invariant _ _ r.retired r.stand r.above b.stands b.running b.logs b.previous_tops b.previous_marks b.snapshot
+    c.law.ensures b.tops _ c.self.view_is b.begins b.scans

@@ -17,9 +17,11 @@ pub overflow_add-number : goal.overflow_add-number
 overflow_add-number c =
     let at = c.new-region.ensures in
     let law = c.law-in-loop-number.ensures in
-    let known : c.loop-number.number < length c.self-in-loop-number.inside.table.regions = omega (arith, c.loop-number-test.true, c.region_count.ensures) in
+    let known : c.loop-number.number < length c.self-in-loop-number.inside.table.regions =
+    omega (arith, c.loop-number-test.true, c.region_count.ensures) in
     let fits = block_within c.self-in-loop-number.inside.table c.loop-number.number known in
-    let together : c.run_length-together.result ≡ run_length c.self-in-loop-number.inside.table c.loop-number.number = c.run_length-together.ensures ∙ ap (run_length c.self-in-loop-number.inside.table) at in
+    let together : c.run_length-together.result ≡ run_length c.self-in-loop-number.inside.table c.loop-number.number =
+    c.run_length-together.ensures ∙ ap (run_length c.self-in-loop-number.inside.table) at in
     omega (arith, fits, together, c.region_count.ensures, c.region_count.type_inv)
 
 pub loop-number-preserved : goal.loop-number-preserved
@@ -27,30 +29,42 @@ loop-number-preserved c =
     let at = c.new-region.ensures in
     let view = c.self-in-loop-number.view_is in
     let shaped : IsShaped c.loop-number.self.table = subst (λ (d : CoreState). IsShaped d.table) view c.law-in-loop-number.ensures in
-    let known : c.loop-number.number < length c.loop-number.self.table.regions = (let same = ap (λ (d : CoreState). length d.table.regions) view in omega (arith, c.loop-number-test.true, c.region_count.ensures, same)) in
+    let known : c.loop-number.number < length c.loop-number.self.table.regions =
+    (let same = ap (λ (d : CoreState). length d.table.regions) view in
+    omega (arith, c.loop-number-test.true, c.region_count.ensures, same)) in
     let together : c.run_length-together.result ≡ run_length c.loop-number.self.table c.loop-number.number =
-    c.run_length-together.ensures ∙ ap (λ (d : CoreState). run_length d.table c.new-region.result) view ∙ ap (run_length c.loop-number.self.table) at in
+    c.run_length-together.ensures ∙ ap (λ (d : CoreState). run_length d.table c.new-region.result) view
+    ∙ ap (run_length c.loop-number.self.table) at in
     let p = c.loop-number.invariant in
     elim c.if-is_dead.branch [
       | then-is_dead w ↦
           let r = w.release.ensures in
           let dead : IsDeadHead c.loop-number.self c.loop-number.number = rw at at (c.is_dead.ensures.0 w.if-is_dead.true) in
-          let released : HasReleased c.loop-number.number c.run_length-together.result c.loop-number.self w.release.new.self = rw at at r.released in
+          let released : HasReleased c.loop-number.number c.run_length-together.result c.loop-number.self w.release.new.self =
+          rw at at r.released in
           record {
             shows = λ g s. subst (λ (d : CoreState). ShowsGraph g d) (sym w.self-is) (r.shows g (p.shows g s));
             keeps = λ s f. subst (λ (d : CoreState). KeepsFrom s d) (sym w.self-is) (r.keeps s (p.keeps s f));
-            cleans = subst (λ (d : CoreState). Cleans (c.loop-number.number + c.run_length-together.result) c.if-is_dead.count c.args.self.now d) (sym w.self-is)
-                (subst (λ (n : ℕ). Cleans (c.loop-number.number + c.run_length-together.result) n c.args.self.now w.release.new.self) (sym w.count-is)
-                (one_cleaned c.loop-number.number c.loop-number.count c.run_length-together.result c.args.self.now c.loop-number.self w.release.new.self shaped p.cleans together dead released));
+            cleans = subst (λ (d : CoreState).
+                Cleans (c.loop-number.number + c.run_length-together.result) c.if-is_dead.count c.args.self.now d) (sym w.self-is)
+                (subst (λ (n : ℕ).
+                Cleans (c.loop-number.number + c.run_length-together.result) n c.args.self.now w.release.new.self) (sym w.count-is)
+                (one_cleaned c.loop-number.number c.loop-number.count c.run_length-together.result c.args.self.now c.loop-number.self
+                w.release.new.self shaped p.cleans together dead released));
           }
       | else-is_dead w ↦
           record {
             shows = λ g s. subst (λ (d : CoreState). ShowsGraph g d) (sym w.self-is) (p.shows g s);
             keeps = λ s f. subst (λ (d : CoreState). KeepsFrom s d) (sym w.self-is) (p.keeps s f);
-            cleans = subst (λ (d : CoreState). Cleans (c.loop-number.number + c.run_length-together.result) c.if-is_dead.count c.args.self.now d) (sym w.self-is)
-                (subst (λ (n : ℕ). Cleans (c.loop-number.number + c.run_length-together.result) n c.args.self.now c.loop-number.self) (sym w.count-is)
-                (one_left c.loop-number.number c.loop-number.count c.run_length-together.result c.args.self.now c.loop-number.self shaped p.cleans known together
-                (λ dead. let yes = c.is_dead.ensures.1 (subst (λ (n : ℕ). IsDeadHead c.loop-number.self n) (sym at) dead) in let no = w.if-is_dead.false in cc)));
+            cleans = subst (λ (d : CoreState).
+                Cleans (c.loop-number.number + c.run_length-together.result) c.if-is_dead.count c.args.self.now d) (sym w.self-is)
+                (subst (λ (n : ℕ).
+                Cleans (c.loop-number.number + c.run_length-together.result) n c.args.self.now c.loop-number.self) (sym w.count-is)
+                (one_left c.loop-number.number c.loop-number.count c.run_length-together.result c.args.self.now
+                c.loop-number.self shaped p.cleans known together
+                (λ dead. let yes = c.is_dead.ensures.1 (subst (λ (n : ℕ). IsDeadHead c.loop-number.self n) (sym at) dead) in
+                let no = w.if-is_dead.false in
+                cc)));
           }
     ]
 
@@ -59,4 +73,5 @@ returns-clause-cleaned c =
     let shaped : IsShaped c.args.self.now.table = subst (λ (d : CoreState). IsShaped d.table) c.self.view_is c.law.ensures in
     let same = ap (λ (d : CoreState). length d.table.regions) c.self-in-loop-number.view_is in
     let p = c.loop-number.invariant.cleans in
-    all_cleaned c.loop-number.number c.loop-number.count c.args.self.now c.loop-number.self shaped p (omega (arith, c.loop-number-test.false, c.region_count.ensures, same, p.size))
+    all_cleaned c.loop-number.number c.loop-number.count c.args.self.now c.loop-number.self shaped p
+    (omega (arith, c.loop-number-test.false, c.region_count.ensures, same, p.size))

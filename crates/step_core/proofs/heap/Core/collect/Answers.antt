@@ -6,7 +6,8 @@ use Rattle.step_core.proofs.Cores.Collected.{Collected, running_is, refused, beg
 use Rattle.step_core.proofs.heap.Core.collect.Goals as goal
 
 refused_begin : (c : goal.Then-self) → Collected c.args.step (replies.Refused refusals.MarkRunning) c.args.self.now c.args.self.now
-refused_begin c = refused c.args.step collector.Begin (replies.Refused refusals.MarkRunning) c.args.self.now c.in-Begin.is tt (λ s. refl) (running_is _ _ _ c.self.view_is c.if-self.true, refl)
+refused_begin c = refused c.args.step collector.Begin (replies.Refused refusals.MarkRunning) c.args.self.now c.in-Begin.is tt (λ s. refl)
+    (running_is _ _ _ c.self.view_is c.if-self.true, refl)
 
 pub returns-then-self-clause-follows : goal.returns-then-self-clause-follows
 returns-then-self-clause-follows c = (refused_begin c).follows
@@ -21,7 +22,8 @@ pub returns-then-self-clause-config : goal.returns-then-self-clause-config
 returns-then-self-clause-config c = (refused_begin c).config
 
 after_begin : (c : goal.After-begin) → Collected c.args.step replies.Done c.args.self.now c.begin.new.self
-after_begin c = begun _ _ _ c.in-Begin.is (running_is _ _ _ c.self.view_is c.if-self.false) c.begin.ensures.shows c.begin.ensures.keeps c.begin.ensures.begun
+after_begin c = begun _ _ _ c.in-Begin.is (running_is _ _ _ c.self.view_is c.if-self.false) c.begin.ensures.shows
+    c.begin.ensures.keeps c.begin.ensures.begun
 
 pub returns-else-self-clause-follows : goal.returns-else-self-clause-follows
 returns-else-self-clause-follows c = (after_begin c).follows
@@ -36,7 +38,8 @@ pub returns-else-self-clause-config : goal.returns-else-self-clause-config
 returns-else-self-clause-config c = (after_begin c).config
 
 refused_mark : (c : goal.Then-not-self) → Collected c.args.step (replies.Refused refusals.NotMarking) c.args.self.now c.args.self.now
-refused_mark c = refused c.args.step (collector.Mark c.in-Mark.units) (replies.Refused refusals.NotMarking) c.args.self.now c.in-Mark.is tt (λ s. refl) (running_is _ _ _ c.self-in-Mark.view_is c.if-not-self.true, refl)
+refused_mark c = refused c.args.step (collector.Mark c.in-Mark.units) (replies.Refused refusals.NotMarking) c.args.self.now c.in-Mark.is tt
+    (λ s. refl) (running_is _ _ _ c.self-in-Mark.view_is c.if-not-self.true, refl)
 
 pub returns-then-not-self-clause-follows : goal.returns-then-not-self-clause-follows
 returns-then-not-self-clause-follows c = (refused_mark c).follows
@@ -51,7 +54,8 @@ pub returns-then-not-self-clause-config : goal.returns-then-not-self-clause-conf
 returns-then-not-self-clause-config c = (refused_mark c).config
 
 after_mark : (c : goal.After-mark) → Collected c.args.step replies.Done c.args.self.now c.mark.new.self
-after_mark c = marked _ _ _ _ c.in-Mark.is (running_is _ _ _ c.self-in-Mark.view_is c.if-not-self.false) c.mark.ensures.shows c.mark.ensures.keeps c.mark.ensures.marked
+after_mark c = marked _ _ _ _ c.in-Mark.is (running_is _ _ _ c.self-in-Mark.view_is c.if-not-self.false) c.mark.ensures.shows
+    c.mark.ensures.keeps c.mark.ensures.marked
 
 pub returns-else-not-self-clause-follows : goal.returns-else-not-self-clause-follows
 returns-else-not-self-clause-follows c = (after_mark c).follows
@@ -66,7 +70,8 @@ pub returns-else-not-self-clause-config : goal.returns-else-not-self-clause-conf
 returns-else-not-self-clause-config c = (after_mark c).config
 
 refused_remark : (c : goal.Then-not-self-2) → Collected c.args.step (replies.Refused refusals.NotMarking) c.args.self.now c.args.self.now
-refused_remark c = refused c.args.step collector.Remark (replies.Refused refusals.NotMarking) c.args.self.now c.in-Remark.is tt (λ s. refl) (running_is _ _ _ c.self-in-Remark.view_is c.if-not-self-2.true, refl)
+refused_remark c = refused c.args.step collector.Remark (replies.Refused refusals.NotMarking) c.args.self.now c.in-Remark.is tt (λ s. refl)
+    (running_is _ _ _ c.self-in-Remark.view_is c.if-not-self-2.true, refl)
 
 pub returns-then-not-self-2-clause-follows : goal.returns-then-not-self-2-clause-follows
 returns-then-not-self-2-clause-follows c = (refused_remark c).follows
@@ -81,7 +86,8 @@ pub returns-then-not-self-2-clause-config : goal.returns-then-not-self-2-clause-
 returns-then-not-self-2-clause-config c = (refused_remark c).config
 
 after_remark : (c : goal.After-remark) → Collected c.args.step (replies.Marked c.remark.result) c.args.self.now c.remark.new.self
-after_remark c = remarked _ _ _ _ c.in-Remark.is (running_is _ _ _ c.self-in-Remark.view_is c.if-not-self-2.false) c.remark.ensures.shows c.remark.ensures.remarked
+after_remark c = remarked _ _ _ _ c.in-Remark.is (running_is _ _ _ c.self-in-Remark.view_is c.if-not-self-2.false)
+    c.remark.ensures.shows c.remark.ensures.remarked
 
 pub returns-else-not-self-2-clause-follows : goal.returns-else-not-self-2-clause-follows
 returns-else-not-self-2-clause-follows c = (after_remark c).follows
@@ -96,7 +102,8 @@ pub returns-else-not-self-2-clause-config : goal.returns-else-not-self-2-clause-
 returns-else-not-self-2-clause-config c = (after_remark c).config
 
 refused_cleanup : (c : goal.Then-self-2) → Collected c.args.step (replies.Refused refusals.MarkRunning) c.args.self.now c.args.self.now
-refused_cleanup c = refused c.args.step collector.Cleanup (replies.Refused refusals.MarkRunning) c.args.self.now c.in-Cleanup.is tt (λ s. refl) (running_is _ _ _ c.self-in-Cleanup.view_is c.if-self-2.true, refl)
+refused_cleanup c = refused c.args.step collector.Cleanup (replies.Refused refusals.MarkRunning) c.args.self.now c.in-Cleanup.is tt
+    (λ s. refl) (running_is _ _ _ c.self-in-Cleanup.view_is c.if-self-2.true, refl)
 
 pub returns-then-self-2-clause-follows : goal.returns-then-self-2-clause-follows
 returns-then-self-2-clause-follows c = (refused_cleanup c).follows
@@ -111,7 +118,8 @@ pub returns-then-self-2-clause-config : goal.returns-then-self-2-clause-config
 returns-then-self-2-clause-config c = (refused_cleanup c).config
 
 after_cleanup : (c : goal.After-cleanup) → Collected c.args.step (replies.Reclaimed c.cleanup.result) c.args.self.now c.cleanup.new.self
-after_cleanup c = cleaned _ _ _ _ c.in-Cleanup.is (running_is _ _ _ c.self-in-Cleanup.view_is c.if-self-2.false) c.cleanup.ensures.shows c.cleanup.ensures.keeps c.cleanup.ensures.cleaned
+after_cleanup c = cleaned _ _ _ _ c.in-Cleanup.is (running_is _ _ _ c.self-in-Cleanup.view_is c.if-self-2.false) c.cleanup.ensures.shows
+    c.cleanup.ensures.keeps c.cleanup.ensures.cleaned
 
 pub returns-else-self-2-clause-follows : goal.returns-else-self-2-clause-follows
 returns-else-self-2-clause-follows c = (after_cleanup c).follows
@@ -140,7 +148,8 @@ returns-in-Refine-clause-reclaims c = (after_refine c).reclaims
 pub returns-in-Refine-clause-config : goal.returns-in-Refine-clause-config
 returns-in-Refine-clause-config c = (after_refine c).config
 
-after_pause : (c : goal.After-struct_known-1) → Collected c.args.step (replies.Moved c.pause-moved.result.regions c.pause-moved.result.words) c.args.self.now c.pause-moved.new.self
+after_pause : (c : goal.After-struct_known-1)
+    → Collected c.args.step (replies.Moved c.pause-moved.result.regions c.pause-moved.result.words) c.args.self.now c.pause-moved.new.self
 after_pause c = paused _ _ _ _ _ _ c.in-Pause.is c.pause-moved.ensures.shows c.pause-moved.ensures.keeps c.pause-moved.ensures.paused
 
 pub returns-in-Pause-clause-follows : goal.returns-in-Pause-clause-follows

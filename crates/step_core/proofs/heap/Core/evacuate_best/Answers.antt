@@ -4,13 +4,15 @@ use Rattle.cards.specs.Cards.{is_dirty}
 use Rattle.step_core.specs.Stands.{ShowsGraph, KeepsFrom}
 use Rattle.step_core.proofs.Mutating.Reading.{AllZip-length}
 use Rattle.step_core.proofs.Cycles.Cycling.{to_fields}
-use Rattle.step_core.proofs.Pauses.Pausing.{can_evacuate, chosen_known, next_count, cards_room, paused_shows, paused_keeps, paused_kept, evacuates_from}
+use Rattle.step_core.proofs.Pauses.Pausing.{can_evacuate, chosen_known, next_count, cards_room}
+use Rattle.step_core.proofs.Pauses.Pausing.{paused_shows, paused_keeps, paused_kept, evacuates_from}
 use Rattle.step_core.proofs.heap.Core.evacuate_best.Goals as goal
 
 pub evacuate-requires-clause-can : goal.evacuate-requires-clause-can
 evacuate-requires-clause-can c =
     let clean = to_fields _ _ c.self.view_is (λ d. (card : ℕ) → is_dirty d.cards card ≡ false) c.requires.clean in
-    rw (c.card_words.ensures, c.deref-2.ensures.value) (can_evacuate _ c.self.invariant c.args.budget _ c.choose_regions-count.ensures.chosen clean)
+    rw (c.card_words.ensures, c.deref-2.ensures.value)
+    (can_evacuate _ c.self.invariant c.args.budget _ c.choose_regions-count.ensures.chosen clean)
 
 pub evacuate-requires-clause-each_region : goal.evacuate-requires-clause-each_region
 evacuate-requires-clause-each_region c = c.self.invariant.room.regions ∙ sym c.self.invariant.layers.region_count
@@ -21,45 +23,58 @@ evacuate-requires-clause-each_card c = cards_room _ c.self.invariant
 pub forget_counts-requires-clause-previous : goal.forget_counts-requires-clause-previous
 forget_counts-requires-clause-previous c =
     let clean = to_fields _ _ c.self.view_is (λ d. (card : ℕ) → is_dirty d.cards card ≡ false) c.requires.clean in
-    rw c.deref.ensures.value (chosen_known _ c.self.invariant c.args.budget _ c.choose_regions-count.ensures.chosen clean _ c.self.invariant.layers.marker.live.each_region)
+    rw c.deref.ensures.value
+    (chosen_known _ c.self.invariant c.args.budget _ c.choose_regions-count.ensures.chosen clean _
+    c.self.invariant.layers.marker.live.each_region)
 
 pub forget_counts-requires-clause-next : goal.forget_counts-requires-clause-next
 forget_counts-requires-clause-next c =
     let clean = to_fields _ _ c.self.view_is (λ d. (card : ℕ) → is_dirty d.cards card ≡ false) c.requires.clean in
-    rw c.deref.ensures.value (chosen_known _ c.self.invariant c.args.budget _ c.choose_regions-count.ensures.chosen clean _ (next_count _ c.self.invariant c.args.budget _ c.choose_regions-count.ensures.chosen clean))
+    rw c.deref.ensures.value
+    (chosen_known _ c.self.invariant c.args.budget _ c.choose_regions-count.ensures.chosen clean _
+    (next_count _ c.self.invariant c.args.budget _ c.choose_regions-count.ensures.chosen clean))
 
 pub invariant_of-self : goal.invariant_of-self
 invariant_of-self c =
     let clean = to_fields _ _ c.self.view_is (λ d. (card : ℕ) → is_dirty d.cards card ≡ false) c.requires.clean in
-    let closed_all = to_fields _ _ c.self.view_is (λ d. d.buffers ≡ closed d.buffers.words (length d.buffers.open_buffers)) c.requires.closed in
+    let closed_all =
+    to_fields _ _ c.self.view_is (λ d. d.buffers ≡ closed d.buffers.words (length d.buffers.open_buffers)) c.requires.closed in
     let e = c.evacuate.ensures in
     let ev = rw (c.card_words.ensures, c.deref-2.ensures.value) at e.evacuated in
     let places = sym (AllZip-length _ _ _ ev.relocates.roots) in
-    rw e.places (paused_kept _ c.self.invariant c.args.budget _ c.choose_regions-count.ensures.chosen clean _ _ _ _ _ _ _ _ _ _ ev (rw c.deref.ensures.value at c.forget_counts.ensures) closed_all e.room c.choose_regions-count.ensures.room places)
+    rw e.places (paused_kept _ c.self.invariant c.args.budget _ c.choose_regions-count.ensures.chosen clean _ _ _ _ _ _ _ _ _ _ ev
+    (rw c.deref.ensures.value at c.forget_counts.ensures) closed_all e.room c.choose_regions-count.ensures.room places)
 
 pub returns-clause-shows : goal.returns-clause-shows
 returns-clause-shows c =
     let clean = to_fields _ _ c.self.view_is (λ d. (card : ℕ) → is_dirty d.cards card ≡ false) c.requires.clean in
-    let closed_all = to_fields _ _ c.self.view_is (λ d. d.buffers ≡ closed d.buffers.words (length d.buffers.open_buffers)) c.requires.closed in
+    let closed_all =
+    to_fields _ _ c.self.view_is (λ d. d.buffers ≡ closed d.buffers.words (length d.buffers.open_buffers)) c.requires.closed in
     let e = c.evacuate.ensures in
     let ev = rw (c.card_words.ensures, c.deref-2.ensures.value) at e.evacuated in
     let places = sym (AllZip-length _ _ _ ev.relocates.roots) in
-    λ g' s. rw e.places (paused_shows _ c.self.invariant c.args.budget _ c.choose_regions-count.ensures.chosen clean _ _ _ _ _ _ _ _ _ _ ev (rw c.deref.ensures.value at c.forget_counts.ensures) g' (to_fields _ _ c.self.view_is (λ d. ShowsGraph g' d) s))
+    λ g' s. rw e.places (paused_shows _ c.self.invariant c.args.budget _ c.choose_regions-count.ensures.chosen clean _ _ _ _ _ _ _ _ _ _ ev
+    (rw c.deref.ensures.value at c.forget_counts.ensures) g' (to_fields _ _ c.self.view_is (λ d. ShowsGraph g' d) s))
 
 pub returns-clause-keeps : goal.returns-clause-keeps
 returns-clause-keeps c =
     let clean = to_fields _ _ c.self.view_is (λ d. (card : ℕ) → is_dirty d.cards card ≡ false) c.requires.clean in
-    let closed_all = to_fields _ _ c.self.view_is (λ d. d.buffers ≡ closed d.buffers.words (length d.buffers.open_buffers)) c.requires.closed in
+    let closed_all =
+    to_fields _ _ c.self.view_is (λ d. d.buffers ≡ closed d.buffers.words (length d.buffers.open_buffers)) c.requires.closed in
     let e = c.evacuate.ensures in
     let ev = rw (c.card_words.ensures, c.deref-2.ensures.value) at e.evacuated in
     let places = sym (AllZip-length _ _ _ ev.relocates.roots) in
-    λ s f. rw e.places (paused_keeps _ c.self.invariant c.args.budget _ c.choose_regions-count.ensures.chosen clean _ _ _ _ _ _ _ _ _ _ ev (rw c.deref.ensures.value at c.forget_counts.ensures) s (to_fields _ _ c.self.view_is (λ d. KeepsFrom s d) f))
+    λ s f. rw e.places (paused_keeps _ c.self.invariant c.args.budget _ c.choose_regions-count.ensures.chosen clean _ _ _ _ _ _ _ _ _ _ ev
+    (rw c.deref.ensures.value at c.forget_counts.ensures) s (to_fields _ _ c.self.view_is (λ d. KeepsFrom s d) f))
 
 pub returns-clause-evacuates : goal.returns-clause-evacuates
 returns-clause-evacuates c =
     let clean = to_fields _ _ c.self.view_is (λ d. (card : ℕ) → is_dirty d.cards card ≡ false) c.requires.clean in
-    let closed_all = to_fields _ _ c.self.view_is (λ d. d.buffers ≡ closed d.buffers.words (length d.buffers.open_buffers)) c.requires.closed in
+    let closed_all =
+    to_fields _ _ c.self.view_is (λ d. d.buffers ≡ closed d.buffers.words (length d.buffers.open_buffers)) c.requires.closed in
     let e = c.evacuate.ensures in
     let ev = rw (c.card_words.ensures, c.deref-2.ensures.value) at e.evacuated in
     let places = sym (AllZip-length _ _ _ ev.relocates.roots) in
-    rw e.places (evacuates_from _ c.self.invariant c.args.budget _ c.choose_regions-count.ensures.chosen clean _ _ _ _ _ _ _ _ _ _ ev (rw c.deref.ensures.value at c.forget_counts.ensures) closed_all e.room c.choose_regions-count.ensures.room _ c.self.view_is _ (e.regions ∙ ap (λ xs. length (take c.choose_regions-count.result xs)) c.deref-2.ensures.value))
+    rw e.places (evacuates_from _ c.self.invariant c.args.budget _ c.choose_regions-count.ensures.chosen clean _ _ _ _ _ _ _ _ _ _ ev
+    (rw c.deref.ensures.value at c.forget_counts.ensures) closed_all e.room c.choose_regions-count.ensures.room _ c.self.view_is _
+    (e.regions ∙ ap (λ xs. length (take c.choose_regions-count.result xs)) c.deref-2.ensures.value))

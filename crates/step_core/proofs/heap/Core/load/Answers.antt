@@ -5,4 +5,7 @@ use Rattle.step_core.proofs.heap.Core.load.Goals as goal
 
 pub returns-clause-acts : goal.returns-clause-acts
 returns-clause-acts c = λ g s. let shown = c.root-value.ensures.shows g s in
-    record { reply_is = ap replies.Named (c.name_of-name.ensures ∙ shown_name _ _ _ shown); shows = c.set_register.ensures.shows g _ s shown }
+    record {
+      reply_is = ap replies.Named (c.name_of-name.ensures ∙ shown_name _ _ _ shown);
+      shows = c.set_register.ensures.shows g _ s shown;
+    }

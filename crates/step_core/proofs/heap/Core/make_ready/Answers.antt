@@ -15,5 +15,7 @@ pub returns-clause-keeps : goal.returns-clause-keeps
 returns-clause-keeps c = λ s f. c.refine.ensures.keeps s (closed_keeps _ _ _ s (to_fields _ _ c.self.view_is (λ d. KeepsFrom s d) f))
 
 pub returns-clause-ready : goal.returns-clause-ready
-returns-clause-ready c = is_ready _ _ _ _ _ _ _ c.self.view_is c.close_all.ensures.closed c.flush_all.ensures c.queued-queued.ensures c.refine.ensures.refined
-    (to_fields _ _ (sym c.self-2.view_is) (λ d. ListsDirtyOnce d.cards) c.law.ensures.listed) c.self.invariant (to_fields _ _ (sym c.self-2.view_is) (λ d. IsCore d) c.self-2.invariant)
+returns-clause-ready c =
+    is_ready _ _ _ _ _ _ _ c.self.view_is c.close_all.ensures.closed c.flush_all.ensures c.queued-queued.ensures c.refine.ensures.refined
+    (to_fields _ _ (sym c.self-2.view_is) (λ d. ListsDirtyOnce d.cards) c.law.ensures.listed) c.self.invariant
+    (to_fields _ _ (sym c.self-2.view_is) (λ d. IsCore d) c.self-2.invariant)

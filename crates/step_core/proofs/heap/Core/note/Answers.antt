@@ -44,5 +44,5 @@ returns-then-leads_out-clause-noted c =
     let known = subst (λ (n : ℕ). n < length c.self.inside.cards.dirty) (sym card)
     (card_inside _ c.field-word.result c.self.invariant (omega (arith, inside, c.field-word.ensures))) in
     let d = c.dirty.ensures in
-    noted_so _ c.self.invariant c.args.mutator c.new.result _ known d.after d.cards d.mutators c.args.object c.args.field c.args.target.now c.in-Some.to c.in-Some.is
-    (card ∙ ap (λ (n : ℕ). n / card_words c.self.inside.config) c.field-word.ensures)
+    noted_so _ c.self.invariant c.args.mutator c.new.result _ known d.after d.cards d.mutators c.args.object c.args.field
+    c.args.target.now c.in-Some.to c.in-Some.is (card ∙ ap (λ (n : ℕ). n / card_words c.self.inside.config) c.field-word.ensures)

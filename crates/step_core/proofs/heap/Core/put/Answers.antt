@@ -9,9 +9,12 @@ pointer_count-requires c = let l = c.in-Some.ensures.leads in object_led _ _ _ _
 
 pub returns-then-field-pointer_count-clause-acts : goal.returns-then-field-pointer_count-clause-acts
 returns-then-field-pointer_count-clause-acts c = let l = c.in-Some.ensures.leads in
-    λ g s. put_past g _ s c.args.mutator c.args.object _ l c.args.field c.args.value (let count = c.pointer_count.ensures ∙ ap (λ (t : Table). length (pointers_at t c.in-Some.at)) (table_of _ _ c.self.view_is) in omega arith)
+    λ g s. put_past g _ s c.args.mutator c.args.object _ l c.args.field c.args.value
+    (let count = c.pointer_count.ensures ∙ ap (λ (t : Table). length (pointers_at t c.in-Some.at)) (table_of _ _ c.self.view_is) in
+    omega arith)
 
 pub returns-clause-acts : goal.returns-clause-acts
 returns-clause-acts c = let l = c.in-Some.ensures.leads in
-    λ g s. put_done g _ s c.args.mutator c.args.object _ l c.args.field c.args.value _ _ (let count = c.pointer_count.ensures ∙ ap (λ (t : Table). length (pointers_at t c.in-Some.at)) (table_of _ _ c.self.view_is) in omega arith)
-    (c.stored-target.ensures.shows g s) c.store.ensures.shows
+    λ g s. put_done g _ s c.args.mutator c.args.object _ l c.args.field c.args.value _ _
+    (let count = c.pointer_count.ensures ∙ ap (λ (t : Table). length (pointers_at t c.in-Some.at)) (table_of _ _ c.self.view_is) in
+    omega arith) (c.stored-target.ensures.shows g s) c.store.ensures.shows

@@ -8,9 +8,11 @@ weak_count-requires c = let l = c.in-Some.ensures.leads in object_led _ _ _ _ c.
 
 pub returns-then-slot-weak_count-clause-acts : goal.returns-then-slot-weak_count-clause-acts
 returns-then-slot-weak_count-clause-acts c = let l = c.in-Some.ensures.leads in
-    λ g s. put_weak_past g _ s c.args.mutator c.args.object _ l c.args.slot c.args.value (let count = c.weak_count.ensures ∙ ap (λ (ps : List (Option ℕ)). length ps) (weaks_of _ _ c.in-Some.at c.self.view_is) in omega arith)
+    λ g s. put_weak_past g _ s c.args.mutator c.args.object _ l c.args.slot c.args.value
+    (let count = c.weak_count.ensures ∙ ap (λ (ps : List (Option ℕ)). length ps) (weaks_of _ _ c.in-Some.at c.self.view_is) in omega arith)
 
 pub returns-clause-acts : goal.returns-clause-acts
 returns-clause-acts c = let l = c.in-Some.ensures.leads in
-    λ g s. put_weak_done g _ s c.args.mutator c.args.object _ l c.args.slot c.args.value _ _ (let count = c.weak_count.ensures ∙ ap (λ (ps : List (Option ℕ)). length ps) (weaks_of _ _ c.in-Some.at c.self.view_is) in omega arith)
+    λ g s. put_weak_done g _ s c.args.mutator c.args.object _ l c.args.slot c.args.value _ _
+    (let count = c.weak_count.ensures ∙ ap (λ (ps : List (Option ℕ)). length ps) (weaks_of _ _ c.in-Some.at c.self.view_is) in omega arith)
     (c.stored-target.ensures.shows g s) c.store_weak.ensures.shows

@@ -9,8 +9,10 @@ value_count-requires c = let l = c.in-Some.ensures.leads in object_led _ _ _ _ c
 
 pub returns-then-field-value_count-clause-acts : goal.returns-then-field-value_count-clause-acts
 returns-then-field-value_count-clause-acts c = let l = c.in-Some.ensures.leads in
-    λ g s. read_past g _ s c.args.mutator c.args.object _ l c.args.field (let count = c.value_count.ensures ∙ ap (λ (ps : List ℕ). length ps) (values_of _ _ c.in-Some.at c.self.view_is) in omega arith)
+    λ g s. read_past g _ s c.args.mutator c.args.object _ l c.args.field
+    (let count = c.value_count.ensures ∙ ap (λ (ps : List ℕ). length ps) (values_of _ _ c.in-Some.at c.self.view_is) in omega arith)
 
 pub returns-clause-acts : goal.returns-clause-acts
 returns-clause-acts c = let l = c.in-Some.ensures.leads in
-    λ g s. read_done g _ s c.args.mutator c.args.object _ l c.args.field c.get_value.result (ap (λ (ps : List ℕ). slice_get ps c.args.field) (sym (values_of _ _ c.in-Some.at c.self.view_is)) ∙ c.get_value.ensures)
+    λ g s. read_done g _ s c.args.mutator c.args.object _ l c.args.field c.get_value.result
+    (ap (λ (ps : List ℕ). slice_get ps c.args.field) (sym (values_of _ _ c.in-Some.at c.self.view_is)) ∙ c.get_value.ensures)

@@ -3,13 +3,15 @@ use Rattle.step_core.proofs.heap.Core.refine.Goals as goal
 
 pub returns-then-not-refine_card-clause-refined : goal.returns-then-not-refine_card-clause-refined
 returns-then-not-refine_card-clause-refined c =
-    queue_ended c.args.cards c.loop-done.done c.args.self.now c.loop-done.self c.refine_card.new.self c.loop-done.invariant.refines c.loop-done.auto.done-end c.if-not-refine_card.ensures.refined
+    queue_ended c.args.cards c.loop-done.done c.args.self.now c.loop-done.self c.refine_card.new.self c.loop-done.invariant.refines
+    c.loop-done.auto.done-end c.if-not-refine_card.ensures.refined
 
 pub loop-done-preserved : goal.loop-done-preserved
 loop-done-preserved c = record {
   shows = λ g s. c.refine_card.ensures.shows g (c.loop-done.invariant.shows g s);
   keeps = λ s f. c.refine_card.ensures.keeps s (c.loop-done.invariant.keeps s f);
-  refines = one_more c.loop-done.done c.args.self.now c.loop-done.self c.refine_card.new.self c.loop-done.invariant.refines c.if-not-refine_card.ensures.refined;
+  refines = one_more c.loop-done.done c.args.self.now c.loop-done.self c.refine_card.new.self
+      c.loop-done.invariant.refines c.if-not-refine_card.ensures.refined;
 }
 
 pub returns-clause-refined : goal.returns-clause-refined

@@ -10,15 +10,21 @@ pub refine_one-requires-clause-cards : goal.refine_one-requires-clause-cards
 refine_one-requires-clause-cards c = c.self.invariant.cards.each_card
 
 pub invariant_of-self : goal.invariant_of-self
-invariant_of-self c = let r = rw c.card_words.ensures at c.refine_one.ensures in refined_kept _ c.self.invariant _ _ _ r.stands r.cards r.refines r.remembers
+invariant_of-self c =
+    let r = rw c.card_words.ensures at c.refine_one.ensures in
+    refined_kept _ c.self.invariant _ _ _ r.stands r.cards r.refines r.remembers
 
 pub returns-clause-shows : goal.returns-clause-shows
 returns-clause-shows c = let r = rw c.card_words.ensures at c.refine_one.ensures in
-    λ g s. cards_show _ c.self.invariant _ _ _ r.stands r.cards r.refines r.remembers g (to_fields _ _ c.self.view_is (λ d. ShowsGraph g d) s)
+    λ g s.
+    cards_show _ c.self.invariant _ _ _ r.stands r.cards r.refines r.remembers g (to_fields _ _ c.self.view_is (λ d. ShowsGraph g d) s)
 
 pub returns-clause-keeps : goal.returns-clause-keeps
 returns-clause-keeps c = let r = rw c.card_words.ensures at c.refine_one.ensures in
-    λ s f. cards_keep _ c.self.invariant _ _ _ r.stands r.cards r.refines r.remembers s (to_fields _ _ c.self.view_is (λ d. KeepsFrom s d) f)
+    λ s f.
+    cards_keep _ c.self.invariant _ _ _ r.stands r.cards r.refines r.remembers s (to_fields _ _ c.self.view_is (λ d. KeepsFrom s d) f)
 
 pub returns-clause-refined : goal.returns-clause-refined
-returns-clause-refined c = let r = rw c.card_words.ensures at c.refine_one.ensures in refined_from _ c.self.invariant _ _ _ r.stands r.cards r.refines r.remembers _ c.self.view_is
+returns-clause-refined c =
+    let r = rw c.card_words.ensures at c.refine_one.ensures in
+    refined_from _ c.self.invariant _ _ _ r.stands r.cards r.refines r.remembers _ c.self.view_is

@@ -26,7 +26,9 @@ invariant_of-self c =
     let dead = to_fields _ _ c.self.view_is (λ d. IsDeadHead d c.args.region) c.requires.dead in
     let idle = to_fields _ _ c.self.view_is (λ d. d.marker.running ≡ false) c.requires.idle in
     let f = c.forget.ensures in
-    rw c.release.ensures (release_kept _ c.self.invariant c.law.ensures c.args.region c.args.count known dead together _ (ap (λ (x : Marker). x.running) f.forgotten.same ∙ idle) f.stands f.forgotten _ f.cleared)
+    rw c.release.ensures
+    (release_kept _ c.self.invariant c.law.ensures c.args.region c.args.count known dead together _
+    (ap (λ (x : Marker). x.running) f.forgotten.same ∙ idle) f.stands f.forgotten _ f.cleared)
 
 pub returns-clause-shows : goal.returns-clause-shows
 returns-clause-shows c =
@@ -35,7 +37,10 @@ returns-clause-shows c =
     let dead = to_fields _ _ c.self.view_is (λ d. IsDeadHead d c.args.region) c.requires.dead in
     let idle = to_fields _ _ c.self.view_is (λ d. d.marker.running ≡ false) c.requires.idle in
     let f = c.forget.ensures in
-    λ g s. rw c.release.ensures (release_shows _ c.self.invariant c.law.ensures c.args.region c.args.count known dead together _ (ap (λ (x : Marker). x.running) f.forgotten.same ∙ idle) f.stands f.forgotten _ f.cleared g (to_fields _ _ c.self.view_is (λ d. ShowsGraph g d) s))
+    λ g s. rw c.release.ensures
+    (release_shows _ c.self.invariant c.law.ensures c.args.region c.args.count known dead together _
+    (ap (λ (x : Marker). x.running) f.forgotten.same ∙ idle) f.stands f.forgotten _ f.cleared g
+    (to_fields _ _ c.self.view_is (λ d. ShowsGraph g d) s))
 
 pub returns-clause-released : goal.returns-clause-released
 returns-clause-released c =
@@ -44,4 +49,6 @@ returns-clause-released c =
     let dead = to_fields _ _ c.self.view_is (λ d. IsDeadHead d c.args.region) c.requires.dead in
     let idle = to_fields _ _ c.self.view_is (λ d. d.marker.running ≡ false) c.requires.idle in
     let f = c.forget.ensures in
-    rw c.release.ensures (released_from _ c.self.invariant c.law.ensures c.args.region c.args.count known dead together _ (ap (λ (x : Marker). x.running) f.forgotten.same ∙ idle) f.stands f.forgotten _ f.cleared _ c.self.view_is)
+    rw c.release.ensures
+    (released_from _ c.self.invariant c.law.ensures c.args.region c.args.count known dead together _
+    (ap (λ (x : Marker). x.running) f.forgotten.same ∙ idle) f.stands f.forgotten _ f.cleared _ c.self.view_is)

@@ -13,4 +13,5 @@ returns-clause-shows c = let b = c.finish.ensures in let run = to_fields _ _ c.s
 
 pub returns-clause-remarked : goal.returns-clause-remarked
 returns-clause-remarked c = let b = c.finish.ensures in let run = to_fields _ _ c.self.view_is (λ d. d.marker.running ≡ true) c.requires in
-    remarked_from _ c.self.invariant run _ _ _ b.stands b.over b.exact b.cleared b.tops b.mutators b.scans b.counted b.work b.scanned b.marks _ c.self.view_is
+    remarked_from _ c.self.invariant run _ _ _ b.stands b.over b.exact b.cleared b.tops b.mutators b.scans b.counted
+    b.work b.scanned b.marks _ c.self.view_is

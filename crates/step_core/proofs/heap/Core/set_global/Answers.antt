@@ -4,7 +4,8 @@ use Rattle.step_core.proofs.Cores.Keeping.{placed_in, root_kept, root_kept_from,
 use Rattle.step_core.proofs.heap.Core.set_global.Goals as goal
 
 pub set_global-requires : goal.set_global-requires
-set_global-requires c = subst (λ (p : Places). c.args.global.number < p.globals) (sym (placed_in _ _ c.self.view_is c.self.invariant)) c.requires.global
+set_global-requires c =
+    subst (λ (p : Places). c.args.global.number < p.globals) (sym (placed_in _ _ c.self.view_is c.self.invariant)) c.requires.global
 
 pub invariant_of-self : goal.invariant_of-self
 invariant_of-self c = rw c.set_global.ensures (root_kept _ _ _ _ c.self.view_is c.self.invariant c.requires.held c.requires.word)

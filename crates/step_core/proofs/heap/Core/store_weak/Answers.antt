@@ -13,13 +13,15 @@ pointer_count-requires c = rooted_object _ _ c.args.object c.self.view_is c.self
 pub overflow_add-index : goal.overflow_add-index
 overflow_add-index c =
     let within = slot_within _ _ c.args.object c.args.slot c.self.view_is c.requires.slot in
-    let inside = field_inside _ c.args.object _ c.self.invariant c.law.ensures (to_fields _ _ c.self.view_is (λ d. IsRoot (heap_of d) c.args.object) c.requires.rooted) within in
+    let inside = field_inside _ c.args.object _ c.self.invariant c.law.ensures
+    (to_fields _ _ c.self.view_is (λ d. IsRoot (heap_of d) c.args.object) c.requires.rooted) within in
     omega (arith, inside, c.law.ensures.in_all, c.pointer_count.ensures)
 
 pub note-requires-clause-field : goal.note-requires-clause-field
 note-requires-clause-field c =
     let within = slot_within _ _ c.args.object c.args.slot c.self.view_is c.requires.slot in
-    let at = subst (λ (n : ℕ). n + c.args.slot < length (fields_at c.self.inside.table c.args.object)) (sym c.pointer_count.ensures) within in
+    let at =
+    subst (λ (n : ℕ). n + c.args.slot < length (fields_at c.self.inside.table c.args.object)) (sym c.pointer_count.ensures) within in
     subst (λ (d : CoreState). c.pointer_count.result + c.args.slot < length (fields_at d.table c.args.object)) c.self.view_is at
 
 pub store_weak_noted-requires-clause-word : goal.store_weak_noted-requires-clause-word
@@ -28,7 +30,8 @@ store_weak_noted-requires-clause-word c = word_noted c.args.self.now c.note.new.
 pub returns-clause-shows : goal.returns-clause-shows
 returns-clause-shows c = λ g x o v s at named shown.
     let same = c.note.ensures.same in
-    c.store_weak_noted.ensures.shows g x o v (shows_noted c.args.self.now c.note.new.self g same s) (kept_noted c.args.self.now c.note.new.self c.args.object same ∙ at) named
+    c.store_weak_noted.ensures.shows g x o v (shows_noted c.args.self.now c.note.new.self g same s)
+    (kept_noted c.args.self.now c.note.new.self c.args.object same ∙ at) named
     (shown_noted c.args.self.now c.note.new.self c.args.target v same shown)
 
 pub returns-clause-keeps : goal.returns-clause-keeps

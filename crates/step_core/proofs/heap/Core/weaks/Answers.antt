@@ -8,4 +8,5 @@ weak_count-requires c = let l = c.in-Some.ensures.leads in object_led _ _ _ _ c.
 
 pub returns-clause-acts : goal.returns-clause-acts
 returns-clause-acts c = let l = c.in-Some.ensures.leads in
-    λ g s. weaks_done g _ s c.args.mutator c.args.object _ l _ (c.from.ensures ∙ c.weak_count.ensures ∙ ap (λ (ps : List (Option ℕ)). length ps) (weaks_of _ _ c.in-Some.at c.self.view_is))
+    λ g s. weaks_done g _ s c.args.mutator c.args.object _ l _
+    (c.from.ensures ∙ c.weak_count.ensures ∙ ap (λ (ps : List (Option ℕ)). length ps) (weaks_of _ _ c.in-Some.at c.self.view_is))

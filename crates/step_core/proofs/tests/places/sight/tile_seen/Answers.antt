@@ -8,7 +8,8 @@ use Rattle.step_core.specs.Stands.{CoreState}
 use Rattle.step_core.proofs.tests.places.sight.tile_seen.Goals as goal
 
 -- a tile with an object's shape is an object
-is_object : (tile : Option Tile) (p w d : ℕ) → IsSome tile → IfSome tile (λ t. shapes.Object p w d ≡ tile_shape t) → IsSome (tile_object tile)
+is_object : (tile : Option Tile) (p w d : ℕ) → IsSome tile
+    → IfSome tile (λ t. shapes.Object p w d ≡ tile_shape t) → IsSome (tile_object tile)
 is_object (Some (Object s)) p w d some shape = refl
 is_object (Some (Filler n)) p w d some shape = absurd (cc)
 is_object (Some (Forwarded to n)) p w d some shape = absurd (cc)
@@ -17,5 +18,7 @@ is_object None p w d some shape = absurd (cc)
 pub object_seen-requires : goal.object_seen-requires
 unfolding object_at
 object_seen-requires c =
-    let shape = subst (λ (k : CoreState). IfSome (tile_in k.table c.args.at) (λ t. shapes.Object c.in-Object.pointers c.in-Object.weaks c.in-Object.values ≡ tile_shape t)) c.core.view_is c.in-Object.ensures in
+    let shape = subst (λ (k : CoreState).
+    IfSome (tile_in k.table c.args.at) (λ t. shapes.Object c.in-Object.pointers c.in-Object.weaks c.in-Object.values ≡ tile_shape t))
+    c.core.view_is c.in-Object.ensures in
     is_object _ c.in-Object.pointers c.in-Object.weaks c.in-Object.values c.requires shape
