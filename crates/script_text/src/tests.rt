@@ -415,7 +415,6 @@ fn printed_faults(rt: HostRuntime) -> Result<(), Fail> {
     Ok(())
 }
 
-/// Notes an event of a mutator.
 fn push_op(record: &mut Record, mutator: u32, action: Action, reply: Reply) -> Result<(), Fail> {
     let event = Event {
         actor: Actor::Mutator(mutator),
@@ -429,7 +428,6 @@ fn push_op(record: &mut Record, mutator: u32, action: Action, reply: Reply) -> R
     Ok(())
 }
 
-/// Notes an event of the collector.
 fn push_collector(record: &mut Record, step: CollectorStep, reply: Reply) -> Result<(), Fail> {
     record.push(Event {
         actor: Actor::Collector,
