@@ -56,7 +56,7 @@ int main(int words, char **word)
     double tenth = 1.0 / 10, read;
     uint64_t bits;
     if (deepest < SHALLOWEST || deepest > 17) m_die("usage: gcbench [DEPTH], a depth of 4 to 17");
-    if (deepest > 12) m_sizes.words = 16384, m_sizes.regions = 512;
+    if (deepest > 12) m_sizes.words = 16384, m_sizes.regions = deepest <= 16 ? 400 : 800;
     m_start();
     make_tree(deepest + 2, FRAME);
     m_scope(FRAME);
