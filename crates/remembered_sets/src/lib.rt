@@ -19,8 +19,8 @@
 //! more than was added, never less, and no call but the making takes memory or fails.
 //!
 //! So that a pause doesn't look at all cards of a region that a set marks whole, one bit a card tells which cards entered a set,
-//! whichever it was, since the set of their own region was last emptied. In other cards no field leads out of its region, so `mark_cards`
-//! passes over them, and what a pause visits grows with the cards that were added, and not with the regions.
+//! whichever it was, since the set of their own region was last emptied. In another card that isn't dirty no field leads out of its
+//! region, so `mark_cards` passes over it, and what a pause visits grows with the cards that were added, and not with the regions.
 #![tactic(auto)]
 
 mod flags;
