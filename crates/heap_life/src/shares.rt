@@ -9,7 +9,6 @@ ghost use Rattle.step_core.specs.Measures.{live_in};
 ghost use Rattle.heap_life.specs.Shares.{part_in, AreSharesOf};
 
 use heap_words::addr::{Addr, RegionNo};
-use mark_bitmap::live::live_bound;
 use regions::{Kind, Shape};
 use step_core::Core;
 
@@ -116,9 +115,8 @@ pub fn live_words(core: &Core, region: RegionNo) -> u32
     ensures { result ≡ live_in core.now region }
 {
     core.remembers();
-    let marker = core.marker();
     match core.table().kind(region) {
-        Kind::Ordinary => live_bound(core.table(), &marker.tams, &marker.bitmaps.previous, region),
+        Kind::Ordinary => core.marker().live_bound(core.table(), region),
         Kind::First => run_words(core, region),
         Kind::Free | Kind::Rest => 0,
     }

@@ -9,7 +9,6 @@ use crate::card_lines::write_remembered;
 use crate::names::write_name;
 use crate::pieces::{write_number, write_text};
 use heap_words::addr::{Addr, RegionNo};
-use mark_bitmap::live::live_bound;
 use refinement::is_kept;
 use regions::{Kind, RegionTable, Shape};
 use std::io::{Result, Write};
@@ -171,9 +170,7 @@ fn write_live<W: Write>(core: &Core, writer: &mut W, region: RegionNo) -> Result
     requires ordinary { kind_of core.now.table region ≡ kinds.Ordinary }
 {
     core.remembers();
-    let marker = core.marker();
-    let previous = &marker.bitmaps.previous;
-    let live = live_bound(core.table(), &marker.tams, previous, region);
+    let live = core.marker().live_bound(core.table(), region);
     write!(writer, ", live bound {live}")
 }
 

@@ -1,5 +1,4 @@
 -- How large live bounds are, and how they are summed.
-use Rattle.heap_words.specs.Configs.{max_region_words}
 use Rattle.std.proofs.Common.{◌≡◌, ◌+◌, ◌-◌, ◌*◌, ◌<◌, ◌≤◌, ◌∙◌}
 use Rattle.std.proofs.Common.{ℕ, zero, suc, Bool, true, false, List, Option, Some, None, length, get_or, refl, sym, ap, arith}
 use Rattle.std.specs.Prelude.{if◌then◌else◌}
@@ -9,10 +8,10 @@ use Rattle.regions.specs.Tiles.{Object, tile_size}
 use Rattle.regions.specs.Table.{Table, kind_of, top_of, object_at, stored_size, object_words}
 use Rattle.regions.specs.Shaped.{IsShaped}
 use Rattle.regions.specs.declared.row.Kind.TheVariants as kinds
-use Rattle.mark_bitmap.specs.Marks.{is_marked, IsLowest}
+use Rattle.mark_bitmap.specs.Marks.{is_marked}
 use Rattle.mark_bitmap.specs.Tops.{Tops, below_previous}
 use Rattle.mark_bitmap.specs.Kept.{MarksObjects, kept_in}
-use Rattle.mark_bitmap.specs.Live.{marked_words, kept_words, live_bound_of, MarksEndBelow}
+use Rattle.mark_bitmap.specs.Live.{marked_words, kept_words, live_bound_of}
 use Rattle.mark_bitmap.proofs.Ranges.{below_in}
 use Rattle.mark_bitmap.proofs.Spans.{Spans, spans, chosen_words, IsChoice, chosen_le}
 use Rattle.mark_bitmap.proofs.LiveWords.{in_region, tops_le, none_words}
@@ -61,25 +60,6 @@ marked_le t marks k limit a n p ends low high =
 pub marked_used : (t : Table) (marks : List Bool) (k a n : ℕ) → Spans t k → k * t.words_per_region ≤ a
     → a + n ≤ k * t.words_per_region + t.words_per_region → marked_words t marks a n ≤ top_of t k - a
 marked_used t marks k a n p low high = marked_le t marks k (top_of t k) a n p (λ x s l h _ e. p.ends x s l h e) low high
-
-marked_below_top : (t : Table) (tops : List ℕ) (marks : List Bool) (k n : ℕ) → Spans t k
-    → MarksEndBelow t tops marks k → n ≤ t.words_per_region
-    → marked_words t marks (k * t.words_per_region) n ≤ get_or tops k 0 - k * t.words_per_region
-unfolding object_words
-marked_below_top t tops marks k n p below small =
-    marked_le t marks k (get_or tops k 0) (k * t.words_per_region) n p
-    (λ x s l h marked e. omega (arith, below x (in_region t.words_per_region k x l h) marked, ap stored_size e)) (omega arith)
-    (omega (arith, small))
-
-pub bound_le : (t : Table) (tops : List ℕ) (marks : List Bool) (k : ℕ) → IsShaped t → MarksObjects t tops marks → k < length t.regions
-    → kind_of t k ≡ kinds.Ordinary → MarksEndBelow t tops marks k
-    → live_bound_of t tops marks k ≤ t.words_per_region
-unfolding live_bound_of
-bound_le t tops marks k shape m known ordinary below =
-    let p = spans t k shape ordinary in
-    let top = tops_le t tops marks k shape m in
-    let marked = marked_below_top t tops marks k (get_or tops k 0 - k * t.words_per_region) p below (omega (arith, top)) in
-    omega (arith, marked, m.bottom k known, m.top k known, p.top_le)
 
 pub bound_le_twice : (t : Table) (tops : List ℕ) (marks : List Bool) (k : ℕ) → IsShaped t → MarksObjects t tops marks
     → k < length t.regions → kind_of t k ≡ kinds.Ordinary → live_bound_of t tops marks k ≤ 2 * t.words_per_region
@@ -160,60 +140,11 @@ marked_split t marks (suc n) m (suc whole) a b e f =
 abbrev pub words_between : Table → List Bool → ℕ → ℕ → ℕ
 words_between t marks from to = marked_words t marks from (to - from)
 
-pub words_start : (t : Table) (marks : List Bool) (from at : ℕ) → at ≡ from → 0 ≡ words_between t marks from at
-words_start t marks from at e = let none : at - from ≡ 0 = omega (arith, e) in sym (ap (marked_words t marks from) none)
-
 pub words_stay : (t : Table) (marks : List Bool) (from at to : ℕ) → from ≤ at → at ≤ to
     → ((a : ℕ) → at ≤ a → a < to → is_marked marks a ≡ false) → words_between t marks from to ≡ words_between t marks from at
 words_stay t marks from at to low high none =
     let split = marked_split t marks (at - from) (to - at) (to - from) from at (omega (arith, low, high)) (omega (arith, low)) in
     omega (arith, split, none_words t marks (to - at) at (λ x l h. none x l (omega (arith, h, high))))
-
-pub words_more : (t : Table) (marks : List Bool) (from at found next : ℕ) → from ≤ at → IsLowest (is_marked marks) at found
-    → next ≡ found + 1 → words_between t marks from next ≡ words_between t marks from at + object_words t found
-words_more t marks from at found next low l e =
-    let split =
-    marked_split t marks (found - from) 1 (next - from) from found (omega (arith, low, l.at_least, e)) (omega (arith, low, l.at_least)) in
-    let here : (if is_marked marks found then object_words t found else 0) ≡ object_words t found =
-    ap (λ b. if b then object_words t found else 0) l.is_in in
-    omega (arith, split, here, words_stay t marks from at found low l.at_least l.lowest)
-
--- they grow with the addresses
-pub words_grow : (t : Table) (marks : List Bool) (from at to : ℕ) → from ≤ at → at ≤ to
-    → words_between t marks from at ≤ words_between t marks from to
-words_grow t marks from at to low high =
-    let split = marked_split t marks (at - from) (to - at) (to - from) from at (omega (arith, low, high)) (omega (arith, low)) in
-    omega (arith, split)
-
--- in a region it is no more than the region's words
-pub words_small : (t : Table) (marks : List Bool) (k from to : ℕ) → IsShaped t → kind_of t k ≡ kinds.Ordinary
-    → from ≡ k * t.words_per_region → from ≤ to → to ≤ k * t.words_per_region + t.words_per_region
-    → words_between t marks from to ≤ max_region_words
-words_small t marks k from to shape ordinary e low high =
-    let p = spans t k shape ordinary in
-    omega (arith, marked_used t marks k from (to - from) p (omega (arith, e)) (omega (arith, low, high)), p.top_le, shape.small, e)
-
--- a search from one address to the next: the marks found so far, and what follows
-module _ (t : Table) (marks : List Bool) (from at live : ℕ) (low : from ≤ at) (so_far : live ≡ words_between t marks from at) where
-  pub words_all : (to bottom top : ℕ) → at ≤ to → from ≡ bottom → to ≡ top → ((a : ℕ) → at ≤ a → a < to → is_marked marks a ≡ false)
-      → live ≡ marked_words t marks bottom (top - bottom)
-  words_all to bottom top high e f none =
-      so_far ∙ sym (words_stay t marks from at to low high none)
-      ∙ ap (λ (x : ℕ). words_between t marks x to) e ∙ ap (words_between t marks bottom) f
-
-  pub words_next : (found next size : ℕ) → IsLowest (is_marked marks) at found → next ≡ found + 1 → size ≡ object_words t found
-      → live + size ≡ words_between t marks from next
-  words_next found next size l e s = omega (arith, so_far, s, words_more t marks from at found next low l e)
-
-  pub words_fit : (k found size : ℕ) → IsShaped t → kind_of t k ≡ kinds.Ordinary → from ≡ k * t.words_per_region
-      → found < k * t.words_per_region + t.words_per_region → IsLowest (is_marked marks) at found
-      → size ≡ object_words t found → live + size ≤ max_region_words
-  words_fit k found size shape ordinary e high l s =
-      omega (
-        arith,
-        words_next found (found + 1) size l refl s,
-        words_small t marks k from (found + 1) shape ordinary e (omega (arith, low, l.at_least)) (omega (arith, high)),
-      )
 
 -- the live bound in its two parts
 pub bound_is : (t : Table) (tops : List ℕ) (marks : List Bool) (k below top start : ℕ)

@@ -1,10 +1,9 @@
 -- The words of marked and of kept objects.
-use Rattle.std.proofs.Common.{◌≡◌, ◌≢◌, ◌↔◌, ◌+◌, ◌-◌, ◌*◌, ◌/◌, ◌%◌, ◌<◌, ◌≤◌, ◌∙◌}
-use Rattle.std.proofs.Common.{inl, inr, ℕ, zero, suc, Bool, true, false, not, eqb, List, Option}
-use Rattle.std.proofs.Common.{Some, None, length, get_or, refl, sym, ap, arith}
-use Rattle.std.specs.Prelude.{if◌then◌else◌, MatchOption, IfSome, IsTrue}
-use Rattle.std.specs.Option.{is_some}
-use Rattle.std.proofs.lemmas.Bool.{cases_lt, cases_eq, cases_Bool, eq-eqb, ne_eqb, le-leb, lt-ltb, le-ltb, and_parts, ltb-true, leb-true}
+use Rattle.std.proofs.Common.{◌≡◌, ◌+◌, ◌-◌, ◌*◌, ◌/◌, ◌%◌, ◌<◌, ◌≤◌, ◌∙◌}
+use Rattle.std.proofs.Common.{inl, inr, ℕ, zero, suc, Bool, true, false, List}
+use Rattle.std.proofs.Common.{None, length, get_or, refl, sym, ap, arith}
+use Rattle.std.specs.Prelude.{if◌then◌else◌}
+use Rattle.std.proofs.lemmas.Bool.{cases_lt, cases_Bool, le-leb, lt-ltb, le-ltb, and_parts, ltb-true, leb-true}
 use Rattle.std.proofs.lemmas.List.{get_or_past}
 use Rattle.regions.specs.Tiles.{total_size}
 use Rattle.regions.specs.Table.{Table, Region, Free, Ordinary, First, Rest, region_tile, region_at, nth_region, region_kind, kind_of}
@@ -12,7 +11,7 @@ use Rattle.regions.specs.Table.{region_used, used_of, top_of, tile_in, tile_obje
 use Rattle.regions.specs.Walks.{region_tiles, tiles_of}
 use Rattle.regions.specs.Shaped.{IsShaped}
 use Rattle.regions.specs.declared.row.Kind.TheVariants as kinds
-use Rattle.mark_bitmap.specs.Marks.{is_marked, HasNoneBelow, IsLowest}
+use Rattle.mark_bitmap.specs.Marks.{is_marked}
 use Rattle.mark_bitmap.specs.Tops.{Tops, is_in_region}
 use Rattle.mark_bitmap.specs.Kept.{MarksObjects, kept_in}
 use Rattle.mark_bitmap.specs.Live.{marked_words, live_bound_of}
@@ -145,13 +144,6 @@ dead_of_zero t tops marks k m known e = record {
       (omega (arith, e)) low (omega (arith, low, high));
 }
 
-pub zero_of_dead : (t : Table) (tops : List ℕ) (marks : List Bool) (k : ℕ) → IsDead t tops marks k → live_bound_of t tops marks k ≡ 0
-unfolding live_bound_of
-zero_of_dead t tops marks k d =
-    let none =
-    none_words t marks (get_or tops k 0 - k * t.words_per_region) (k * t.words_per_region) (λ x l h. d.none x l (omega (arith, l, h))) in
-    omega (arith, none, d.top)
-
 -- and nothing of the region is kept then
 pub dead_kept : (t : Table) (tops : Tops) (previous : List Bool) (k a : ℕ) → IsShaped t
     → kind_of t k ≡ kinds.Ordinary → IsDead t tops.previous previous k
@@ -171,39 +163,3 @@ dead_kept t tops previous k a shape ordinary d inside =
           ] in
           rw (below ∙ le-ltb a top above) nothing
     ]
-
--- the top at mark start isn't the top
-pub not_dead : (t : Table) (tops : List ℕ) (marks : List Bool) (k top start : ℕ) → MarksObjects t tops marks → k < length t.regions
-    → top ≡ top_of t k → start ≡ get_or tops k 0 → not (eqb top start) ≡ true → live_bound_of t tops marks k ≢ 0
-not_dead t tops marks k top start m known top_is start_is differ zero_is =
-    let d = dead_of_zero t tops marks k m known zero_is in
-    let same : top ≡ start = omega (arith, top_is, start_is, d.top) in
-    let e : eqb top start ≡ true = eq-eqb top start same in
-    cc
-
--- a search below the top at mark start decides
-pub dead_found : (t : Table) (tops : List ℕ) (marks : List Bool) (k bottom start : ℕ) (found : Option ℕ) (is_none : Bool)
-    → MarksObjects t tops marks → k < length t.regions → get_or tops k 0 ≡ top_of t k
-    → bottom ≡ k * t.words_per_region → start ≡ get_or tops k 0
-    → MatchOption found (HasNoneBelow (is_marked marks) bottom start) (IsLowest (is_marked marks) bottom) → IfSome found (λ x. x < start)
-    → is_some found ≡ not is_none → IsTrue is_none ↔ (live_bound_of t tops marks k ≡ 0)
-dead_found t tops marks k bottom start None true m known top low end none below e = (
-  λ yes. zero_of_dead t tops marks k (record { top = top; none = λ a h under. none a (omega (arith, h, low)) (omega (arith, under, end)) }),
-  λ zero_is. refl,
-)
-dead_found t tops marks k bottom start None false m known top low end none below e = absurd (cc)
-dead_found t tops marks k bottom start (Some found) true m known top low end l below e = absurd (cc)
-dead_found t tops marks k bottom start (Some found) false m known top low end l below e = (
-  λ yes. absurd (cc),
-  λ zero_is. absurd (let f =
-      (dead_of_zero t tops marks k m known zero_is).none found (omega (arith, low, l.at_least)) (omega (arith, below, end)) in
-      let g = l.is_in in
-      cc),
-)
-
-pub same_tops : (t : Table) (tops : List ℕ) (k top start : ℕ) → top ≡ top_of t k → start ≡ get_or tops k 0
-    → not (eqb top start) ≡ false → get_or tops k 0 ≡ top_of t k
-same_tops t tops k top start top_is start_is e = elim (cases_eq top start) [
-  | inl same ↦ omega (arith, same, top_is, start_is)
-  | inr apart ↦ absurd (let f = ne_eqb top start apart in cc)
-]

@@ -1,8 +1,8 @@
 -- The live bound of a region: no fewer words than its kept objects have.
-use Rattle.std.specs.Prelude.{◌≡◌, ℕ, zero, suc, ◌+◌, ◌-◌, ◌*◌, ◌≤◌, Bool, true, List, slice_index, if◌then◌else◌}
+use Rattle.std.specs.Prelude.{ℕ, zero, suc, ◌+◌, ◌-◌, ◌*◌, Bool, List, slice_index, if◌then◌else◌}
 use Rattle.regions.specs.Table.{Table, object_words, stored_size, top_of}
 use Rattle.mark_bitmap.specs.Marks.{is_marked}
-use Rattle.mark_bitmap.specs.Tops.{Tops, is_in_region}
+use Rattle.mark_bitmap.specs.Tops.{Tops}
 use Rattle.mark_bitmap.specs.Kept.{kept_in}
 
 -- the words of the marked objects that start at one of n addresses from a on
@@ -20,8 +20,3 @@ kept_words t tops previous a (suc n) = stored_size (kept_in t tops previous a) +
 unfoldable pub live_bound_of : Table → List ℕ → List Bool → ℕ → ℕ
 live_bound_of t tops marks k =
     marked_words t marks (k * t.words_per_region) (slice_index tops k - k * t.words_per_region) + (top_of t k - slice_index tops k)
-
--- no marked object of region k reaches over the region's top at mark start
-abbrev pub MarksEndBelow : Table → List ℕ → List Bool → ℕ → Type 0
-MarksEndBelow t tops marks k =
-    (a : ℕ) → is_in_region t.words_per_region k a ≡ true → is_marked marks a ≡ true → a + object_words t a ≤ slice_index tops k

@@ -18,7 +18,7 @@
 //! `marks` is the set, `bitmaps` the two roles, `tams` the tops at mark start, `grey` the objects that are marked and
 //! not scanned, by fingers (`held`) at the words that have some, with a `summary` above them. `kept` says what is kept, and
 //! `objects` that marks stand at objects, in words that a heap's invariant can carry, with the laws that each change keeps
-//! them. `live` bounds the words of a region's kept objects from above, and tells a region that has none.
+//! them. `live` says what the words of a region's marked objects tell of its kept ones.
 #![tactic(auto)]
 
 pub mod bitmaps;
@@ -30,5 +30,3 @@ pub mod marks;
 pub mod objects;
 pub mod summary;
 pub mod tams;
-#[cfg(test)]
-mod tests;

@@ -22,7 +22,6 @@ ghost use Rattle.step_core.specs.Cleaning.{IsDeadHead, HasForgotten, HasCleared,
 
 use crate::heap::Core;
 use heap_words::addr::{Addr, RegionNo};
-use mark_bitmap::live;
 use marker::Marker;
 use regions::{Kind, RegionTable};
 use remembered_sets::RememberedSets;
@@ -61,12 +60,7 @@ impl Core {
         if self.buffers.is_current(region) {
             return false;
         }
-        live::is_dead(
-            &self.table,
-            &self.marker.tams,
-            &self.marker.bitmaps.previous,
-            region,
-        )
+        self.marker.live_bound(&self.table, region) == 0
     }
 
     /// Whether the humongous object that begins in a region isn't kept.
