@@ -41,7 +41,7 @@ fn is_free(table: &RegionTable, region: RegionNo) -> bool
     }
 }
 
-/// Clears the flags of the cards of free regions.
+/// Clears the flags of the cards of free regions: one look for each region that has a flagged card.
 fn clear_free(visited: &mut BoundedBits, table: &RegionTable, cards_per_region: u32)
     requires some_cards { 0 < cards_per_region }
     requires each { length visited.old ≡ length table.now.regions * cards_per_region }
@@ -53,10 +53,12 @@ fn clear_free(visited: &mut BoundedBits, table: &RegionTable, cards_per_region: 
     visited.law();
     let mut start = 0;
     while let Some(card) = visited.next(start) {
-        if is_free(table, RegionNo::new(quotient(card, cards_per_region))) {
-            visited.clear_range(card, card + 1);
+        let region = quotient(card, cards_per_region);
+        let end = (region + 1) * cards_per_region;
+        if is_free(table, RegionNo::new(region)) {
+            visited.clear_range(card, end);
         }
-        start = card + 1;
+        start = end;
     }
 }
 
