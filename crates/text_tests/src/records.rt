@@ -1,6 +1,6 @@
 //! What no clause says: the worked examples, the printed forms, and readers and writers that fail.
 
-use crate::{
+use script_text::{
     Kind, LineBuffer, LineFault, NextFault, ReadFault, WatchedReader, WatchedWriter, WriteFault,
     parse, parse_record, read_text, write_record,
 };
