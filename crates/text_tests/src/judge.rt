@@ -2,10 +2,10 @@
 
 mod reasons;
 
-use heap_steps::{
-    Action, Actor, CollectorStep, Counts, Event, GlobalRoot, Op, Record, Refusal, Register, Reply,
-    Step,
+use crate::actions::{
+    g, get, get_weak, named, new, new_weak, put, put_nil, put_weak, r, read, write,
 };
+use heap_steps::{Action, Actor, CollectorStep, Event, Op, Record, Refusal, Reply, Step};
 use heap_words::config::{Config, Format};
 use object_graph::{Graph, Verdict, check};
 use std::alloc::{AllocError, Global};
@@ -22,60 +22,6 @@ fn config(first_name: u64) -> Config {
         mutators: 1,
         first_name,
     }
-}
-
-fn r(number: u32) -> Register {
-    Register { number }
-}
-
-fn new(to: u32, pointers: u32, values: u32) -> Action {
-    Action::New {
-        to: r(to),
-        counts: Counts { pointers, values },
-    }
-}
-
-fn get(to: u32, object: u32, field: u32) -> Action {
-    Action::Get {
-        to: r(to),
-        object: r(object),
-        field,
-    }
-}
-
-fn read(object: u32, field: u32) -> Action {
-    Action::Read {
-        object: r(object),
-        field,
-    }
-}
-
-fn put(object: u32, field: u32, value: u32) -> Action {
-    Action::Put {
-        object: r(object),
-        field,
-        value: Some(r(value)),
-    }
-}
-
-fn put_nil(object: u32, field: u32) -> Action {
-    Action::Put {
-        object: r(object),
-        field,
-        value: None,
-    }
-}
-
-fn write(object: u32, field: u32, value: u64) -> Action {
-    Action::Write {
-        object: r(object),
-        field,
-        value,
-    }
-}
-
-fn named(name: u64) -> Reply {
-    Reply::Named(Some(name))
 }
 
 /// Takes an action of the one mutator.
@@ -125,12 +71,12 @@ fn moves_roots(rt: HostRuntime) -> Result<(), Fail> {
         from: r(0),
     };
     let save = Action::Save {
-        to: GlobalRoot { number: 15 },
+        to: g(15),
         from: r(3),
     };
     let load = Action::Load {
         to: r(4),
-        from: GlobalRoot { number: 15 },
+        from: g(15),
     };
     let rows = [
         (new(0, 1, 1), Reply::Named(Some(0))),
@@ -321,30 +267,6 @@ fn judges_names_from_the_first(rt: HostRuntime) -> Result<(), Fail> {
     assert_eq!(rt; record.config().first_name, 7);
     check_verdict(&rt, alloc, &record, Verdict::No(3))?;
     Ok(())
-}
-
-fn new_weak(to: u32, pointers: u32, weaks: u8, values: u32) -> Action {
-    Action::NewWeak {
-        to: r(to),
-        counts: Counts { pointers, values },
-        weaks,
-    }
-}
-
-fn get_weak(to: u32, object: u32, slot: u32) -> Action {
-    Action::GetWeak {
-        to: r(to),
-        object: r(object),
-        slot,
-    }
-}
-
-fn put_weak(object: u32, slot: u32, value: u32) -> Action {
-    Action::PutWeak {
-        object: r(object),
-        slot,
-        value: Some(r(value)),
-    }
 }
 
 fn collected(step: CollectorStep, reply: Reply) -> Event {
@@ -660,7 +582,7 @@ fn framed() -> Config {
 fn leaves_frames(rt: HostRuntime) -> Result<(), Fail> {
     let mut graph = Graph::new(rt.alloc(), &framed())?;
     let save = Action::Save {
-        to: GlobalRoot { number: 0 },
+        to: g(0),
         from: r(3),
     };
     let scope = Action::Scope { from: r(2) };
@@ -674,7 +596,7 @@ fn leaves_frames(rt: HostRuntime) -> Result<(), Fail> {
         (
             Action::Load {
                 to: r(2),
-                from: GlobalRoot { number: 0 },
+                from: g(0),
             },
             Reply::Named(Some(1)),
         ),

@@ -2,15 +2,19 @@
 //! They go by public calls alone and stand apart from the crates that they try, so that these are proved once, and the crates above them
 //! needn't wait. The crate has nothing else, and nothing stands on it.
 //!
-//! `records` has texts of scripts and records (`script_text`), `views` views written by hand (`heap_view`), `lives` a page (`heap_life`),
-//! `judge` the graph's replies, verdicts and their reasons (`object_graph`).
+//! `scripts` and `records` try `script_text`, `views` tries `heap_view`, `lives` a page of `heap_life`, and `judge` tries `object_graph`:
+//! the graph's replies, and verdicts with their reasons. `actions` makes steps for them.
 #![tactic(auto)]
 
+#[cfg(test)]
+mod actions;
 #[cfg(test)]
 mod judge;
 #[cfg(test)]
 mod lives;
 #[cfg(test)]
 mod records;
+#[cfg(test)]
+mod scripts;
 #[cfg(test)]
 mod views;

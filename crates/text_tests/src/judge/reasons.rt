@@ -1,6 +1,7 @@
 //! What the judge tells of an event that may not happen.
 
-use super::{collected, config, done, get, may_be, misread, new, push};
+use super::{collected, config, done, may_be, misread, push};
+use crate::actions::{get, new};
 use heap_steps::{CollectorStep, Event, Record, Refusal, Reply};
 use object_graph::{Finding, Given, explain};
 use std::alloc::{AllocError, Global};
