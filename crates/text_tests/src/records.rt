@@ -268,9 +268,15 @@ fn push_ops(record: &mut Record) -> Result<(), Fail> {
         (put_nil(0, 3), Reply::Done),
         (put(0, 3, 7), Reply::Refused(Refusal::Nil)),
         (read(7, 0), Reply::Word(0)),
-        (write(7, 1, 18_446_744_073_709_551_615), Reply::Refused(Refusal::NoField)),
+        (
+            write(7, 1, 18_446_744_073_709_551_615),
+            Reply::Refused(Refusal::NoField),
+        ),
         (copy, Reply::Refused(Refusal::Full)),
-        (Action::Drop { register: r(7) }, Reply::Refused(Refusal::TooBig)),
+        (
+            Action::Drop { register: r(7) },
+            Reply::Refused(Refusal::TooBig),
+        ),
         (load, Reply::Refused(Refusal::NamesSpent)),
         (save, Reply::Word(10_000_000_000_000_000_000)),
         (Action::Shape { object: r(7) }, shape),
@@ -319,8 +325,18 @@ fn push_collections(record: &mut Record) -> Result<(), Fail> {
     for (step, reply) in collections {
         push_collector(record, Actor::Collector, step, reply)?;
     }
-    push_collector(record, Actor::Marker(0), CollectorStep::Mark(4), Reply::Done)?;
-    push_collector(record, Actor::Refiner(7), CollectorStep::Refine(1), Reply::Refined(0))
+    push_collector(
+        record,
+        Actor::Marker(0),
+        CollectorStep::Mark(4),
+        Reply::Done,
+    )?;
+    push_collector(
+        record,
+        Actor::Refiner(7),
+        CollectorStep::Refine(1),
+        Reply::Refined(0),
+    )
 }
 
 /// A record with each form of step, reply and actor.
