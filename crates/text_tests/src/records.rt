@@ -217,17 +217,22 @@ fn beginnings_of_records(rt: HostRuntime) -> Result<(), Fail> {
     Ok(())
 }
 
+/// Adds an event, where the record's sizes allow it.
+fn push(record: &mut Record, event: Event) -> Result<(), Fail> {
+    if !event.is_in(&record.config()) {
+        return Err(Fail::from("the sizes don't allow it"));
+    }
+    record.push(event)?;
+    Ok(())
+}
+
 fn push_op(record: &mut Record, mutator: u32, action: Action, reply: Reply) -> Result<(), Fail> {
     let event = Event {
         actor: Actor::Mutator(mutator),
         step: Step::Mutator(Op { mutator, action }),
         reply,
     };
-    if !event.is_in(&record.config()) {
-        return Err(Fail::from("the sizes don't allow it"));
-    }
-    record.push(event)?;
-    Ok(())
+    push(record, event)
 }
 
 fn push_collector(
@@ -236,12 +241,12 @@ fn push_collector(
     step: CollectorStep,
     reply: Reply,
 ) -> Result<(), Fail> {
-    record.push(Event {
+    let event = Event {
         actor,
         step: Step::Collector(step),
         reply,
-    })?;
-    Ok(())
+    };
+    push(record, event)
 }
 
 /// Each form of a mutator's action, and each form of its reply.
