@@ -24,8 +24,6 @@ mod pieces;
 mod redraw;
 mod region_text;
 mod shares;
-#[cfg(test)]
-mod tests;
 mod tile_text;
 
 pub use draw::draw_script;

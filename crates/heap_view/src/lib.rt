@@ -36,8 +36,6 @@ mod pieces;
 mod region_lines;
 mod review;
 mod root_lines;
-#[cfg(test)]
-mod tests;
 mod view;
 
 pub use glance::{Glance, write_glance};

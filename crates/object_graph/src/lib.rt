@@ -55,8 +55,6 @@ mod objects;
 mod pointer;
 mod roots;
 mod search;
-#[cfg(test)]
-mod tests;
 
 pub use given::Given;
 pub use graph::Graph;

@@ -37,8 +37,6 @@ mod fault;
 mod hints;
 mod laws;
 mod read;
-#[cfg(test)]
-mod tests;
 mod write;
 
 pub use fault::{Kind, LineFault, ReadFault, WriteFault, put_fault};

@@ -1,140 +1,19 @@
-//! What no clause says: the worked examples, the printed forms, and readers and writers that fail.
+//! Texts of records: each fault with its line, records that are read back, the printed forms, and readers and writers that fail.
 
-use crate::{
+use crate::actions::{
+    g, get, get_weak, named, new, new_weak, put, put_nil, put_weak, r, read, write,
+};
+use crate::scripts::CONFIG;
+use heap_steps::{Action, Actor, CollectorStep, Event, Op, Record, Refusal, Reply, Step};
+use script_text::{
     Kind, LineBuffer, LineFault, NextFault, ReadFault, WatchedReader, WatchedWriter, WriteFault,
-    parse, parse_record, read_text, write_record,
+    parse_record, read_text, write_record,
 };
-use heap_steps::{
-    Action, Actor, CollectorStep, Counts, Event, GlobalRoot, Op, Record, Refusal, Register, Reply,
-    Step,
-};
-use heap_words::config::{Config, Format};
 use std::alloc::{AllocError, Global};
 use std::io;
 use std::io::{ErrorKind, Read, Write};
 use std::process::Abort;
 use std::test::Fail;
-
-const CONFIG: Config = Config {
-    format: Format::V1,
-    regions: 4,
-    words: 16,
-    buffer: 8,
-    mutators: 2,
-    first_name: 0,
-};
-
-#[test]
-fn good_script(rt: HostRuntime) -> Result<(), Fail> {
-    let text =
-        b"heap 4 16 8 2 0\n0 new r0 1 4294967295\n1 get r7 r0 0\n0 read r1 10\ngc pause 4294967295\n";
-    let Ok(plan) = parse(rt.alloc(), text) else {
-        return Err(Fail::from("this is a script"));
-    };
-    assert_eq!(rt; plan.config(), CONFIG);
-    let steps = [
-        Step::Mutator(Op {
-            mutator: 0,
-            action: Action::New {
-                to: Register { number: 0 },
-                counts: Counts {
-                    pointers: 1,
-                    values: 4_294_967_295,
-                },
-            },
-        }),
-        Step::Mutator(Op {
-            mutator: 1,
-            action: Action::Get {
-                to: Register { number: 7 },
-                object: Register { number: 0 },
-                field: 0,
-            },
-        }),
-        Step::Mutator(Op {
-            mutator: 0,
-            action: Action::Read {
-                object: Register { number: 1 },
-                field: 10,
-            },
-        }),
-        Step::Collector(CollectorStep::Pause(4_294_967_295)),
-    ];
-    assert_eq!(rt; plan.steps(), steps.as_slice());
-    Ok(())
-}
-
-/// The fault of a text; none where it is a script.
-fn fault_of(alloc: Global, text: &[u8]) -> Option<LineFault> {
-    match parse(alloc, text) {
-        Ok(_) => None,
-        Err(fault) => Some(fault),
-    }
-}
-
-/// Faulty texts, each with the line and the kind of its fault.
-const FAULTS: [(&str, u64, Kind); 38] = [
-    ("", 1, Kind::BadHeap),
-    ("\n", 1, Kind::BadHeap),
-    ("heap 4 16 8 1 0", 1, Kind::Cut),
-    ("heap 4 16 8 1\n", 1, Kind::BadHeap),
-    ("heap 4 16 8 1 0 0\n", 1, Kind::BadHeap),
-    ("heap 4 16 8 1 0 \n", 1, Kind::BadHeap),
-    ("heap 4294967296 16 8 1 0\n", 1, Kind::BadHeap),
-    ("heap 4 16 8 1 18446744073709551616\n", 1, Kind::BadHeap),
-    ("heap 4 16 8 1 0\n0 new r8 1 1\n", 2, Kind::BadStep),
-    ("heap 4 16 8 1 0\n0 new r0 01 1\n", 2, Kind::BadStep),
-    ("heap 4 16 8 1 0\n0 new r0 +1 1\n", 2, Kind::BadStep),
-    ("heap 4 16 8 1 0\n0 new r0 1 4294967296\n", 2, Kind::BadStep),
-    ("heap 4 16 8 1 0\n0 new r0 1 1 1 1 1 1\n", 2, Kind::BadStep),
-    ("heap 4 16 8 1 0\n0 newweak r0 1 256 1\n", 2, Kind::BadStep),
-    ("heap 4 16 8 1 0\n0 newweak r0 1 1\n", 2, Kind::BadStep),
-    ("heap 4 16 8 1 0\n0 new r0 1 1 1\n", 2, Kind::BadStep),
-    ("heap 4 16 8 1 0\n0 getweak r0 nil 0\n", 2, Kind::BadStep),
-    ("heap 4 16 8 1 0\n0 putweak r0 0 g0\n", 2, Kind::BadStep),
-    ("heap 4 16 8 1 0\n0 weaks r0 0\n", 2, Kind::BadStep),
-    ("heap 4 16 8 1 0\n0  new r0 1 1\n", 2, Kind::BadStep),
-    ("heap 4 16 8 1 0\n0 new r0 1 1 \n", 2, Kind::BadStep),
-    ("heap 4 16 8 1 0\n1 drop r0\n", 2, Kind::BadActor),
-    ("heap 4 16 8 1 0\n00 drop r0\n", 2, Kind::BadActor),
-    ("heap 4 16 8 1 0\nm0 mark 4\n", 2, Kind::BadActor),
-    ("heap 4 16 8 1 0\n0 begin\n", 2, Kind::BadStep),
-    ("heap 4 16 8 1 0\n\n", 2, Kind::BadActor),
-    ("heap 4 16 8 1 0\ngc pause\n", 2, Kind::BadStep),
-    ("heap 4 16 8 1 0\ngc pause 4294967296\n", 2, Kind::BadStep),
-    ("heap 4 16 8 1 0\n0 read r0 0\nx\ny\n", 3, Kind::BadActor),
-    ("heap 4 16 8 1 0\nx\n0 read r0 0", 2, Kind::BadActor),
-    ("heap 4 16 8 1 0\n0 load r0 g16\n", 2, Kind::BadStep),
-    ("heap2 4 16 8 1 0 8\n0 scope r0\n", 2, Kind::BadStep),
-    ("heap3 4 16 8 1 0 8 1\n", 1, Kind::BadHeap),
-    ("heap3 4 16 8 1 0 8 1 4294967296\n", 1, Kind::BadHeap),
-    ("heap3 4 16 8 1 0 8 1 9\n0 drop r08\n", 2, Kind::BadStep),
-    ("heap3 4 16 8 1 0 8 1 9\n0 save g1 r8\n", 2, Kind::BadStep),
-    (
-        "heap3 4 16 8 1 0 8 1 4294967295\n0 scope r4294967296\n",
-        2,
-        Kind::BadStep,
-    ),
-    (
-        "heap3 4 16 8 1 0 8 65536 65536\n0 save g65535 r65535\n0 scope r10\n0 drop r65536\n",
-        4,
-        Kind::BadStep,
-    ),
-];
-
-/// Compares the fault of a text.
-fn check_fault(rt: &impl Abort, alloc: Global, text: &str, line: u64, kind: Kind) {
-    let fault = fault_of(alloc, text.as_bytes());
-    assert_eq!(rt; fault, Some(LineFault { line, kind }), "{text}");
-}
-
-#[test]
-fn faults(rt: HostRuntime) -> Result<(), Fail> {
-    for (text, line, kind) in FAULTS {
-        check_fault(&rt, rt.alloc(), text, line, kind);
-    }
-    Ok(())
-}
 
 /// The fault of a record's text; none where it is a record.
 fn record_fault_of(alloc: Global, text: &[u8]) -> Option<LineFault> {
@@ -338,80 +217,12 @@ fn beginnings_of_records(rt: HostRuntime) -> Result<(), Fail> {
     Ok(())
 }
 
-#[test]
-fn long_lines(rt: HostRuntime) -> Result<(), Fail> {
-    let alloc = rt.alloc();
-    for (count, kind) in [(118u64, Kind::BadStep), (119u64, Kind::LongLine)] {
-        let mut text = Vec::from_slice(alloc, b"heap 4 16 8 1 0\n0 ")?;
-        for _ in 0..count {
-            text.push(b'a')?;
-        }
-        text.push(b'\n')?;
-        let fault = fault_of(alloc, text.as_slice());
-        assert_eq!(rt; fault, Some(LineFault { line: 2, kind }), "{count}");
+/// Adds an event, where the record's sizes allow it.
+fn push(record: &mut Record, event: Event) -> Result<(), Fail> {
+    if !event.is_in(&record.config()) {
+        return Err(Fail::from("the sizes don't allow it"));
     }
-    Ok(())
-}
-
-#[test]
-fn beginnings(rt: HostRuntime) -> Result<(), Fail> {
-    let alloc = rt.alloc();
-    let text = b"heap 4 16 8 2 0\n0 new r0 1 1\n1 read r0 0\n".as_slice();
-    let mut line = 1u64;
-    for (end, byte) in text.iter().enumerate() {
-        let fault = fault_of(alloc, &text[..end]);
-        if end == 0 {
-            assert_eq!(rt;
-                fault,
-                Some(LineFault {
-                    line: 1,
-                    kind: Kind::BadHeap
-                })
-            );
-        } else if text[end - 1] == b'\n' {
-            assert_eq!(rt; fault, None, "{end}");
-        } else {
-            assert_eq!(rt;
-                fault,
-                Some(LineFault {
-                    line,
-                    kind: Kind::Cut
-                }),
-                "{end}"
-            );
-        }
-        if *byte == b'\n' {
-            line = line.wrapping_add(1);
-        }
-    }
-    assert_eq!(rt; line, 4);
-    assert_eq!(rt; fault_of(alloc, text), None);
-    Ok(())
-}
-
-#[test]
-fn printed_faults(rt: HostRuntime) -> Result<(), Fail> {
-    let alloc = rt.alloc();
-    let kinds = [
-        (Kind::Cut, "line 12: 1 Cut"),
-        (Kind::LongLine, "line 12: 2 LongLine"),
-        (Kind::BadHeap, "line 12: 3 BadHeap"),
-        (Kind::BadActor, "line 12: 4 BadActor"),
-        (Kind::BadStep, "line 12: 5 BadStep"),
-        (Kind::BadCount, "line 12: 6 BadCount"),
-        (Kind::BadReply, "line 12: 7 BadReply"),
-        (Kind::NoMemory, "line 12: 8 NoMemory"),
-    ];
-    for (kind, text) in kinds {
-        let fault = LineFault { line: 12, kind };
-        assert_eq!(rt; format!(in alloc; "{fault}")?.as_str(), text);
-    }
-    let read = ReadFault::CannotRead;
-    let write = WriteFault::NoMemory;
-    assert_eq!(rt;
-        format!(in alloc; "{read}, {write}")?.as_str(),
-        "1 CannotRead, 2 NoMemory"
-    );
+    record.push(event)?;
     Ok(())
 }
 
@@ -421,169 +232,124 @@ fn push_op(record: &mut Record, mutator: u32, action: Action, reply: Reply) -> R
         step: Step::Mutator(Op { mutator, action }),
         reply,
     };
-    if !event.is_in(&record.config()) {
-        return Err(Fail::from("the sizes don't allow it"));
-    }
-    record.push(event)?;
-    Ok(())
+    push(record, event)
 }
 
-fn push_collector(record: &mut Record, step: CollectorStep, reply: Reply) -> Result<(), Fail> {
-    record.push(Event {
-        actor: Actor::Collector,
+fn push_collector(
+    record: &mut Record,
+    actor: Actor,
+    step: CollectorStep,
+    reply: Reply,
+) -> Result<(), Fail> {
+    let event = Event {
+        actor,
         step: Step::Collector(step),
         reply,
-    })?;
+    };
+    push(record, event)
+}
+
+/// Each form of a mutator's action, and each form of its reply.
+fn push_ops(record: &mut Record) -> Result<(), Fail> {
+    let shape = Reply::Shape {
+        pointers: 5,
+        values: 60,
+    };
+    let copy = Action::Move {
+        to: r(0),
+        from: r(7),
+    };
+    let load = Action::Load {
+        to: r(0),
+        from: g(0),
+    };
+    let save = Action::Save {
+        to: g(15),
+        from: r(7),
+    };
+    let ops = [
+        (new(0, 4, 4_294_967_295), named(18_446_744_073_709_551_615)),
+        (get(7, 0, 10), Reply::Named(None)),
+        (put_nil(0, 3), Reply::Done),
+        (put(0, 3, 7), Reply::Refused(Refusal::Nil)),
+        (read(7, 0), Reply::Word(0)),
+        (
+            write(7, 1, 18_446_744_073_709_551_615),
+            Reply::Refused(Refusal::NoField),
+        ),
+        (copy, Reply::Refused(Refusal::Full)),
+        (
+            Action::Drop { register: r(7) },
+            Reply::Refused(Refusal::TooBig),
+        ),
+        (load, Reply::Refused(Refusal::NamesSpent)),
+        (save, Reply::Word(10_000_000_000_000_000_000)),
+        (Action::Shape { object: r(7) }, shape),
+    ];
+    for (action, reply) in ops {
+        push_op(record, 1, action, reply)?;
+    }
     Ok(())
 }
 
-/// A record with each form of step, reply and actor.
-fn many_forms(alloc: Global) -> Result<Record, Fail> {
-    let a = Register { number: 0 };
-    let b = Register { number: 7 };
-    let first = GlobalRoot { number: 0 };
-    let last = GlobalRoot { number: 15 };
-    let mut record = Record::new(alloc, CONFIG);
+/// The same of actions on weak slots.
+fn push_weak_ops(record: &mut Record) -> Result<(), Fail> {
+    let too_big = Reply::Refused(Refusal::TooBig);
+    let nil = Action::PutWeak {
+        object: r(7),
+        slot: 3,
+        value: None,
+    };
     let ops = [
-        (
-            Action::New {
-                to: a,
-                counts: Counts {
-                    pointers: 4,
-                    values: 4_294_967_295,
-                },
-            },
-            Reply::Named(Some(18_446_744_073_709_551_615)),
-        ),
-        (
-            Action::Get {
-                to: b,
-                object: a,
-                field: 10,
-            },
-            Reply::Named(None),
-        ),
-        (
-            Action::Put {
-                object: a,
-                field: 3,
-                value: None,
-            },
-            Reply::Done,
-        ),
-        (
-            Action::Put {
-                object: a,
-                field: 3,
-                value: Some(b),
-            },
-            Reply::Refused(Refusal::Nil),
-        ),
-        (
-            Action::Read {
-                object: b,
-                field: 0,
-            },
-            Reply::Word(0),
-        ),
-        (
-            Action::Write {
-                object: b,
-                field: 1,
-                value: 18_446_744_073_709_551_615,
-            },
-            Reply::Refused(Refusal::NoField),
-        ),
-        (
-            Action::Move { to: a, from: b },
-            Reply::Refused(Refusal::Full),
-        ),
-        (
-            Action::Drop { register: b },
-            Reply::Refused(Refusal::TooBig),
-        ),
-        (
-            Action::Load { to: a, from: first },
-            Reply::Refused(Refusal::NamesSpent),
-        ),
-        (
-            Action::Save { to: last, from: b },
-            Reply::Word(10_000_000_000_000_000_000),
-        ),
-        (
-            Action::Shape { object: b },
-            Reply::Shape {
-                pointers: 5,
-                values: 60,
-            },
-        ),
-        (
-            Action::NewWeak {
-                to: b,
-                counts: Counts {
-                    pointers: 4_294_967_295,
-                    values: 0,
-                },
-                weaks: 255,
-            },
-            Reply::Refused(Refusal::TooBig),
-        ),
-        (
-            Action::GetWeak {
-                to: b,
-                object: a,
-                slot: 254,
-            },
-            Reply::Named(Some(0)),
-        ),
-        (
-            Action::PutWeak {
-                object: b,
-                slot: 3,
-                value: None,
-            },
-            Reply::Done,
-        ),
-        (
-            Action::PutWeak {
-                object: b,
-                slot: 0,
-                value: Some(a),
-            },
-            Reply::Refused(Refusal::Nil),
-        ),
-        (Action::Weaks { object: a }, Reply::Word(255)),
+        (new_weak(7, 4_294_967_295, 255, 0), too_big),
+        (get_weak(7, 0, 254), named(0)),
+        (nil, Reply::Done),
+        (put_weak(7, 0, 0), Reply::Refused(Refusal::Nil)),
+        (Action::Weaks { object: r(0) }, Reply::Word(255)),
     ];
     for (action, reply) in ops {
-        push_op(&mut record, 1, action, reply)?;
+        push_op(record, 1, action, reply)?;
     }
+    Ok(())
+}
+
+/// Each step of the collector, each form of its reply, and each actor.
+fn push_collections(record: &mut Record) -> Result<(), Fail> {
+    let moved = Reply::Moved {
+        regions: 2,
+        words: 31,
+    };
     let collections = [
         (CollectorStep::Begin, Reply::Refused(Refusal::MarkRunning)),
         (CollectorStep::Mark(9), Reply::Refused(Refusal::NotMarking)),
         (CollectorStep::Remark, Reply::Marked(7)),
         (CollectorStep::Cleanup, Reply::Reclaimed(99)),
         (CollectorStep::Refine(100), Reply::Refined(1000)),
-        (
-            CollectorStep::Pause(0),
-            Reply::Moved {
-                regions: 2,
-                words: 31,
-            },
-        ),
+        (CollectorStep::Pause(0), moved),
     ];
     for (step, reply) in collections {
-        push_collector(&mut record, step, reply)?;
+        push_collector(record, Actor::Collector, step, reply)?;
     }
-    record.push(Event {
-        actor: Actor::Marker(0),
-        step: Step::Collector(CollectorStep::Mark(4)),
-        reply: Reply::Done,
-    })?;
-    record.push(Event {
-        actor: Actor::Refiner(7),
-        step: Step::Collector(CollectorStep::Refine(1)),
-        reply: Reply::Refined(0),
-    })?;
+    push_collector(
+        record,
+        Actor::Marker(0),
+        CollectorStep::Mark(4),
+        Reply::Done,
+    )?;
+    push_collector(
+        record,
+        Actor::Refiner(7),
+        CollectorStep::Refine(1),
+        Reply::Refined(0),
+    )
+}
+
+/// A record with each form of step, reply and actor.
+fn many_forms(alloc: Global) -> Result<Record, Fail> {
+    let mut record = Record::new(alloc, CONFIG);
+    push_ops(&mut record)?;
+    push_weak_ops(&mut record)?;
+    push_collections(&mut record)?;
     Ok(record)
 }
 
@@ -691,11 +457,7 @@ fn long_record(rt: HostRuntime) -> Result<(), Fail> {
     let mut record = Record::new(alloc, CONFIG);
     let mut text = String::from_str(alloc, "heap 4 16 8 2 0\n")?;
     for count in 1..2001u64 {
-        let action = Action::Read {
-            object: Register { number: 3 },
-            field: 5,
-        };
-        push_op(&mut record, 0, action, Reply::Word(count))?;
+        push_op(&mut record, 0, read(3, 5), Reply::Word(count))?;
         write!(text, "{count} 0 read r3 5 = {count}\n")?;
     }
     let mut writer = WatchedWriter::new(Vec::new(alloc));

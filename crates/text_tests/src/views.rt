@@ -1,6 +1,6 @@
 //! Views of small heaps, written by hand, and a writer that fails.
 
-use crate::write_view;
+use heap_view::write_view;
 use script_text::parse;
 use std::alloc::Global;
 use std::io;

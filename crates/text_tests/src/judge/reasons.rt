@@ -1,9 +1,9 @@
 //! What the judge tells of an event that may not happen.
 
-use super::{collected, config, done, get, may_be, misread, new, push};
-use crate::given::Given;
-use crate::judge::{Finding, explain};
+use super::{collected, config, done, may_be, misread, push};
+use crate::actions::{get, new};
 use heap_steps::{CollectorStep, Event, Record, Refusal, Reply};
+use object_graph::{Finding, Given, explain};
 use std::alloc::{AllocError, Global};
 use std::process::Abort;
 use std::test::Fail;

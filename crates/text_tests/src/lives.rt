@@ -1,6 +1,6 @@
 //! The lines of a small life, written by hand, and its page.
 
-use crate::{live, page_of, planned};
+use heap_life::{live, page_of, planned};
 use script_text::parse;
 use std::alloc::Global;
 use std::process::Abort;

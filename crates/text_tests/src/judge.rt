@@ -1,16 +1,13 @@
-//! Each step once, each refusal of the graph, objects in one list of words, and small records before the judge.
+//! Each step once, each refusal of the graph, objects whose fields lie side by side, and small records before the judge.
 
 mod reasons;
 
-use crate::graph::Graph;
-use crate::judge::{Verdict, check};
-use crate::objects::Objects;
-use crate::pointer::Pointer;
-use heap_steps::{
-    Action, Actor, CollectorStep, Counts, Event, GlobalRoot, Op, Plan, Record, Refusal, Register,
-    Reply, Step,
+use crate::actions::{
+    g, get, get_weak, named, new, new_weak, put, put_nil, put_weak, r, read, write,
 };
+use heap_steps::{Action, Actor, CollectorStep, Event, Op, Record, Refusal, Reply, Step};
 use heap_words::config::{Config, Format};
+use object_graph::{Graph, Verdict, check};
 use std::alloc::{AllocError, Global};
 use std::process::Abort;
 use std::test::Fail;
@@ -24,32 +21,6 @@ fn config(first_name: u64) -> Config {
         buffer: 8,
         mutators: 1,
         first_name,
-    }
-}
-
-fn r(number: u32) -> Register {
-    Register { number }
-}
-
-fn new(to: u32, pointers: u32, values: u32) -> Action {
-    Action::New {
-        to: r(to),
-        counts: Counts { pointers, values },
-    }
-}
-
-fn get(to: u32, object: u32, field: u32) -> Action {
-    Action::Get {
-        to: r(to),
-        object: r(object),
-        field,
-    }
-}
-
-fn read(object: u32, field: u32) -> Action {
-    Action::Read {
-        object: r(object),
-        field,
     }
 }
 
@@ -75,16 +46,6 @@ fn check_replies(
 
 #[test]
 fn reads_and_writes_objects(rt: HostRuntime) -> Result<(), Fail> {
-    let put = Action::Put {
-        object: r(0),
-        field: 0,
-        value: Some(r(1)),
-    };
-    let write = Action::Write {
-        object: r(2),
-        field: 1,
-        value: 9,
-    };
     let shape = Reply::Shape {
         pointers: 1,
         values: 1,
@@ -92,9 +53,9 @@ fn reads_and_writes_objects(rt: HostRuntime) -> Result<(), Fail> {
     let rows = [
         (new(0, 1, 1), Reply::Named(Some(0))),
         (new(1, 0, 2), Reply::Named(Some(1))),
-        (put, Reply::Done),
+        (put(0, 0, 1), Reply::Done),
         (get(2, 0, 0), Reply::Named(Some(1))),
-        (write, Reply::Done),
+        (write(2, 1, 9), Reply::Done),
         (read(1, 1), Reply::Word(9)),
         (Action::Shape { object: r(0) }, shape),
     ];
@@ -110,12 +71,12 @@ fn moves_roots(rt: HostRuntime) -> Result<(), Fail> {
         from: r(0),
     };
     let save = Action::Save {
-        to: GlobalRoot { number: 15 },
+        to: g(15),
         from: r(3),
     };
     let load = Action::Load {
         to: r(4),
-        from: GlobalRoot { number: 15 },
+        from: g(15),
     };
     let rows = [
         (new(0, 1, 1), Reply::Named(Some(0))),
@@ -146,168 +107,68 @@ fn refuses_in_order(rt: HostRuntime) -> Result<(), Fail> {
     Ok(())
 }
 
-fn counts(pointers: u32, values: u32) -> Counts {
-    Counts { pointers, values }
-}
-
-/// A pointer's name, where the object and the field are there.
-fn pointer(objects: &Objects, place: usize, field: u32) -> Option<Option<u64>> {
-    if place < objects.len() {
-        Some(objects.get_pointer(place, field)?.name())
-    } else {
-        None
-    }
-}
-
-fn value(objects: &Objects, place: usize, field: u32) -> Option<u64> {
-    if place < objects.len() {
-        objects.get_value(place, field)
-    } else {
-        None
-    }
-}
-
-/// Sets the pointer, where the object and the field are there.
-fn set_pointer(objects: &mut Objects, place: usize, field: u32, value: Pointer) {
-    if place < objects.len() {
-        if field < objects.pointer_count(place) {
-            objects.set_pointer(place, field, value);
-        }
-    }
-}
-
-fn set_value(objects: &mut Objects, place: usize, field: u32, value: u64) {
-    if place < objects.len() {
-        if field < objects.value_count(place) {
-            objects.set_value(place, field, value);
-        }
-    }
-}
-
-/// What a weak slot holds, where the object and the slot are there.
-fn weak(objects: &Objects, place: usize, slot: u32) -> Option<Option<u64>> {
-    if place < objects.len() {
-        Some(objects.get_weak(place, slot)?.name())
-    } else {
-        None
-    }
-}
-
-/// Sets the weak slot, where the object and the slot are there.
-fn set_weak(objects: &mut Objects, place: usize, slot: u32, value: Pointer) {
-    if place < objects.len() {
-        if slot < u32::from(objects.weak_count(place)) {
-            objects.set_weak(place, slot, value);
-        }
-    }
-}
-
-/// Adds objects of so many pointers, data words and weak slots.
-fn push_all(objects: &mut Objects, rows: &[(u32, u32, u8)]) -> Result<(), AllocError> {
-    for (pointers, values, weaks) in rows {
-        objects.push(counts(*pointers, *values), *weaks)?;
-    }
-    Ok(())
-}
-
-/// Compares what pointers name: rows of a place, a field and the name.
-fn check_pointers(rt: &impl Abort, objects: &Objects, rows: &[(usize, u32, Option<Option<u64>>)]) {
-    for (place, field, name) in rows {
-        assert_eq!(rt; pointer(objects, *place, *field), *name);
-    }
-}
-
-/// The same of weak slots.
-fn check_weaks(rt: &impl Abort, objects: &Objects, rows: &[(usize, u32, Option<Option<u64>>)]) {
-    for (place, slot, name) in rows {
-        assert_eq!(rt; weak(objects, *place, *slot), *name);
-    }
-}
-
-/// The same of data words.
-fn check_values(rt: &impl Abort, objects: &Objects, rows: &[(usize, u32, Option<u64>)]) {
-    for (place, field, word) in rows {
-        assert_eq!(rt; value(objects, *place, *field), *word);
-    }
-}
-
 /// Four objects, of which some fields are set, and then a fifth.
-fn fill(objects: &mut Objects) -> Result<(), AllocError> {
-    push_all(objects, &[(2, 1, 0), (0, 0, 0), (0, 2, 0), (1, 0, 0)])?;
-    set_pointer(objects, 0, 1, Pointer::to(u64::MAX - 1));
-    set_value(objects, 0, 0, 7);
-    set_value(objects, 2, 1, u64::MAX);
-    set_pointer(objects, 3, 0, Pointer::to(0));
-    push_all(objects, &[(1, 1, 3)])
+fn fill(rt: &impl Abort, graph: &mut Graph, names: &[u64; 5]) -> Result<(), AllocError> {
+    let rows = [
+        (new(0, 2, 1), named(names[0])),
+        (new(1, 0, 0), named(names[1])),
+        (new(2, 0, 2), named(names[2])),
+        (new(3, 1, 0), named(names[3])),
+        (put(0, 1, 3), Reply::Done),
+        (write(0, 0, 7), Reply::Done),
+        (write(2, 1, u64::MAX), Reply::Done),
+        (put(3, 0, 0), Reply::Done),
+        (new_weak(4, 1, 3, 1), named(names[4])),
+    ];
+    check_replies(rt, graph, &rows)
 }
 
 /// Compares the fields of these five.
-fn check_filled(rt: &impl Abort, objects: &Objects) {
-    let pointers = [
-        (0, 0, Some(None)),
-        (0, 1, Some(Some(u64::MAX - 1))),
-        (0, 2, None),
-        (1, 0, None),
-        (3, 0, Some(Some(0))),
-        (4, 0, Some(None)),
+fn check_filled(rt: &impl Abort, graph: &mut Graph, names: &[u64; 5]) -> Result<(), AllocError> {
+    let no_field = Reply::Refused(Refusal::NoField);
+    let rows = [
+        (get(5, 0, 0), Reply::Named(None)),
+        (get(5, 0, 1), named(names[3])),
+        (get(5, 0, 2), no_field),
+        (get(5, 1, 0), no_field),
+        (get(5, 3, 0), named(names[0])),
+        (get(5, 4, 0), Reply::Named(None)),
+        (read(0, 0), Reply::Word(7)),
+        (read(0, 1), no_field),
+        (read(1, 0), no_field),
+        (read(2, 0), Reply::Word(0)),
+        (read(2, 1), Reply::Word(u64::MAX)),
+        (read(4, 0), Reply::Word(0)),
     ];
-    let values = [
-        (0, 0, Some(7)),
-        (0, 1, None),
-        (1, 0, None),
-        (2, 0, Some(0)),
-        (2, 1, Some(u64::MAX)),
-        (4, 0, Some(0)),
-    ];
-    assert_eq!(rt; objects.len(), 5);
-    check_pointers(rt, objects, &pointers);
-    check_values(rt, objects, &values);
+    check_replies(rt, graph, &rows)
 }
+
+/// The first names that there are, and the last.
+const NAMES: [[u64; 5]; 2] = [
+    [0, 1, 2, 3, 4],
+    [
+        u64::MAX - 5,
+        u64::MAX - 4,
+        u64::MAX - 3,
+        u64::MAX - 2,
+        u64::MAX - 1,
+    ],
+];
 
 #[test]
 fn keeps_objects_apart(rt: HostRuntime) -> Result<(), Fail> {
-    let mut objects = Objects::new(rt.alloc());
-    fill(&mut objects)?;
-    check_filled(&rt, &objects);
-    set_pointer(&mut objects, 3, 0, Pointer::nil());
-    let pointers = [(3, 0, Some(None)), (0, 1, Some(Some(u64::MAX - 1)))];
-    check_pointers(&rt, &objects, &pointers);
-    Ok(())
-}
-
-/// Sets some fields of the second object and the third.
-fn set_slots(objects: &mut Objects) {
-    set_weak(objects, 1, 254, Pointer::to(9));
-    set_weak(objects, 2, 0, Pointer::to(0));
-    set_value(objects, 1, 0, 7);
-    set_pointer(objects, 2, 0, Pointer::to(3));
-}
-
-/// Compares the fields that were set, and some beside them.
-fn check_slots(rt: &impl Abort, objects: &Objects) {
-    let weaks = [
-        (1, 253, Some(None)),
-        (1, 254, Some(Some(9))),
-        (2, 0, Some(Some(0))),
-        (2, 1, Some(None)),
-    ];
-    check_weaks(rt, objects, &weaks);
-    check_values(rt, objects, &[(1, 0, Some(7)), (2, 0, Some(0))]);
-    check_pointers(rt, objects, &[(2, 0, Some(Some(3)))]);
-}
-
-#[test]
-fn keeps_weak_slots_apart(rt: HostRuntime) -> Result<(), Fail> {
-    let mut objects = Objects::new(rt.alloc());
-    objects.push(counts(1, 1), 0)?;
-    assert_eq!(rt; objects.has_weaks(), false);
-    push_all(&mut objects, &[(1, 1, 255), (1, 1, 2)])?;
-    assert_eq!(rt; objects.has_weaks(), true);
-    let nil = [(0, 0, None), (1, 254, Some(None)), (1, 255, None)];
-    check_weaks(&rt, &objects, &nil);
-    set_slots(&mut objects);
-    check_slots(&rt, &objects);
-    check_weaks(&rt, &objects.copy()?, &[(1, 254, Some(Some(9)))]);
+    for names in NAMES {
+        let mut graph = Graph::new(rt.alloc(), &config(names[0]))?;
+        fill(&rt, &mut graph, &names)?;
+        check_filled(&rt, &mut graph, &names)?;
+        let rows = [
+            (put(0, 1, 4), Reply::Done),
+            (put_nil(3, 0), Reply::Done),
+            (get(5, 3, 0), Reply::Named(None)),
+            (get(5, 0, 1), named(names[4])),
+        ];
+        check_replies(&rt, &mut graph, &rows)?;
+    }
     Ok(())
 }
 
@@ -408,30 +269,6 @@ fn judges_names_from_the_first(rt: HostRuntime) -> Result<(), Fail> {
     Ok(())
 }
 
-fn new_weak(to: u32, pointers: u32, weaks: u8, values: u32) -> Action {
-    Action::NewWeak {
-        to: r(to),
-        counts: Counts { pointers, values },
-        weaks,
-    }
-}
-
-fn get_weak(to: u32, object: u32, slot: u32) -> Action {
-    Action::GetWeak {
-        to: r(to),
-        object: r(object),
-        slot,
-    }
-}
-
-fn put_weak(object: u32, slot: u32, value: u32) -> Action {
-    Action::PutWeak {
-        object: r(object),
-        slot,
-        value: Some(r(value)),
-    }
-}
-
 fn collected(step: CollectorStep, reply: Reply) -> Event {
     Event {
         actor: Actor::Collector,
@@ -505,6 +342,103 @@ fn look(rt: &impl Abort, history: &mut Record, to: u32, name: u64) -> Result<(),
         history,
         done(Action::Drop { register: r(to) }, Reply::Done),
     )?;
+    Ok(())
+}
+
+/// A heap of 512 words, which has room for an object with 255 weak slots.
+fn roomy() -> Config {
+    Config {
+        words: 128,
+        ..config(0)
+    }
+}
+
+/// Adds actions of the one mutator with their replies.
+fn push_rows(
+    rt: &impl Abort,
+    history: &mut Record,
+    rows: &[(Action, Reply)],
+) -> Result<(), AllocError> {
+    for (action, reply) in rows {
+        push(rt, history, done(*action, *reply))?;
+    }
+    Ok(())
+}
+
+/// An object without weak slots, which a marking finds; one with 255 and one with two; and objects up to #9, in r4.
+fn slots_made(rt: &impl Abort, history: &mut Record) -> Result<(), AllocError> {
+    push(rt, history, done(new(0, 1, 1), named(0)))?;
+    mark(rt, history, 1)?;
+    let no_field = Reply::Refused(Refusal::NoField);
+    let rows = [
+        (new_weak(1, 1, 255, 1), named(1)),
+        (new_weak(2, 1, 2, 1), named(2)),
+        (get_weak(7, 0, 0), no_field),
+        (get_weak(7, 1, 254), Reply::Named(None)),
+        (get_weak(7, 1, 255), no_field),
+        (new(3, 0, 0), named(3)),
+    ];
+    push_rows(rt, history, &rows)?;
+    for name in 4..10u64 {
+        push(rt, history, done(new(4, 0, 0), named(name)))?;
+    }
+    Ok(())
+}
+
+/// Some fields of #1 and #2 are set; these hold that, and those beside them nothing.
+fn slots_set(rt: &impl Abort, history: &mut Record) -> Result<(), AllocError> {
+    let rows = [
+        (put_weak(1, 254, 4), Reply::Done),
+        (put_weak(2, 0, 0), Reply::Done),
+        (write(1, 0, 7), Reply::Done),
+        (put(2, 0, 3), Reply::Done),
+        (get_weak(7, 1, 253), Reply::Named(None)),
+        (get_weak(7, 1, 254), named(9)),
+        (get_weak(7, 2, 0), named(0)),
+        (get_weak(7, 2, 1), Reply::Named(None)),
+        (read(1, 0), Reply::Word(7)),
+        (read(2, 0), Reply::Word(0)),
+        (get(7, 2, 0), named(3)),
+    ];
+    push_rows(rt, history, &rows)
+}
+
+/// When marking begins, #2 alone leads to #3. So the slot that holds #3 keeps it, though by the end of marking nothing leads there.
+fn slots_copied(rt: &impl Abort, history: &mut Record) -> Result<(), AllocError> {
+    let rows = [
+        (put_weak(1, 253, 3), Reply::Done),
+        (Action::Drop { register: r(3) }, Reply::Done),
+        (Action::Drop { register: r(7) }, Reply::Done),
+    ];
+    push_rows(rt, history, &rows)?;
+    push(rt, history, collected(CollectorStep::Begin, Reply::Done))?;
+    push(rt, history, done(put_nil(2, 0), Reply::Done))?;
+    push(
+        rt,
+        history,
+        collected(CollectorStep::Remark, Reply::Marked(5)),
+    )?;
+    let kept = [
+        (get_weak(7, 1, 253), named(3)),
+        (get_weak(7, 1, 254), named(9)),
+    ];
+    push_rows(rt, history, &kept)
+}
+
+#[test]
+fn keeps_weak_slots_apart(rt: HostRuntime) -> Result<(), Fail> {
+    let alloc = rt.alloc();
+    let mut record = Record::new(alloc, roomy());
+    slots_made(&rt, &mut record)?;
+    slots_set(&rt, &mut record)?;
+    slots_copied(&rt, &mut record)?;
+    mark(&rt, &mut record, 4)?;
+    let cleared = [
+        (get_weak(7, 1, 253), Reply::Named(None)),
+        (get_weak(7, 1, 254), named(9)),
+    ];
+    push_rows(&rt, &mut record, &cleared)?;
+    check_verdict(&rt, alloc, &record, Verdict::Yes(38))?;
     Ok(())
 }
 
@@ -648,7 +582,7 @@ fn framed() -> Config {
 fn leaves_frames(rt: HostRuntime) -> Result<(), Fail> {
     let mut graph = Graph::new(rt.alloc(), &framed())?;
     let save = Action::Save {
-        to: GlobalRoot { number: 0 },
+        to: g(0),
         from: r(3),
     };
     let scope = Action::Scope { from: r(2) };
@@ -662,7 +596,7 @@ fn leaves_frames(rt: HostRuntime) -> Result<(), Fail> {
         (
             Action::Load {
                 to: r(2),
-                from: GlobalRoot { number: 0 },
+                from: g(0),
             },
             Reply::Named(Some(1)),
         ),
