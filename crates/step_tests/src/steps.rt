@@ -344,13 +344,14 @@ fn check_remembered(rt: &impl Abort, core: &Core) {
 /// Whether a region remembers a card, and whether the card is dirty. None where there is no such region or card.
 pub(crate) fn remembers(core: &Core, region: u32, card: u32) -> Option<(bool, bool)> {
     core.remembers();
-    core.table().law();
-    let regions = core.table().region_count();
+    let table = core.table();
+    table.law();
+    let regions = table.region_count();
     let length = core.config().card_words();
     if card >= 1024 || length > 64 || region >= regions {
         return None;
     }
-    if card * length >= regions * core.table().words_per_region() {
+    if card * length >= regions * table.words_per_region() {
         return None;
     }
     let covered = core.sets().covers(RegionNo::new(region), Card::new(card));
