@@ -1,8 +1,9 @@
-//! Tests of whole steps of the heap. They go by the public calls of `step_core`, and stand apart from it so that the crates above it needn't
-//! wait for them. The crate has nothing else, and nothing stands on it.
+//! Tests of whole steps of the heap. They stand apart from `step_core`, so that neither the crates above it nor its must-fail edits have to
+//! wait for them, and go by its public calls alone. Nothing stands on this crate.
 //!
-//! `steps` has each action and each step of the collector with its reply, `humongous` objects of more than half a region, `weak` weak slots,
-//! `pauses` where copies come to stand, and `places` pauses, ends of marking and steps on weak slots in drawn heaps, each beside a plain one.
+//! `steps` has each action and each step of the collector with its reply, `humongous` objects of more than half a region, `weak` weak
+//! slots, `pauses` where copies come to stand, and `places` pauses, ends of marking and steps on weak slots in drawn heaps, each compared
+//! with a plain one.
 #![tactic(auto)]
 
 #[cfg(test)]
