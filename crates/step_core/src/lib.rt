@@ -64,6 +64,3 @@ mod step;
 pub use heap::Core;
 pub use names::object_name;
 pub use runs::{run, run_to_core};
-
-#[cfg(test)]
-mod tests;

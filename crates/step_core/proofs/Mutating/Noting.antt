@@ -152,12 +152,3 @@ shows_noted c c' g e s = subst (λ (d : CoreState). ShowsGraph g d) (sym e) (sho
 
 pub keeps_noted : (c c' : CoreState) (s : Graph) → c' ≡ record c { cards = c'.cards } → KeepsFrom s c → KeepsFrom s c'
 keeps_noted c c' s e f = subst (λ (d : CoreState). KeepsFrom s d) (sym e) (keeps_with c c'.cards s f)
-
--- a card whose first word lies in the heap is one of the cards
-pub card_known : (k : CoreState) (card regions words : ℕ) → IsCore k → regions ≡ length k.table.regions → words ≡ k.table.words_per_region
-    → card * card_words k.config < regions * words → card < length k.cards.dirty
-card_known k card regions words core er ew lt =
-    let long : ℕ = card_words k.config in
-    let lt' : card * long < length k.table.regions * k.table.words_per_region =
-    subst (λ (n : ℕ). card * long < n * k.table.words_per_region) er (subst (λ (w : ℕ). card * long < regions * w) ew lt) in
-    subst (λ (n : ℕ). n < length k.cards.dirty) (mul-div_cancel card (some_card k core)) (card_inside k (card * long) core lt')

@@ -14,8 +14,7 @@ mod plain;
 mod sight;
 mod weak;
 
-use super::{act, collect, remembers};
-use crate::Core;
+use crate::steps::{act, collect, remembers};
 use drawn::{action, below, collection, growth, sizes, weak_growth, weak_readings};
 use heap_steps::{Action, CollectorStep, Counts, Register, Reply};
 use plain::{PlainPause, part_of, plain_pause};
@@ -24,6 +23,7 @@ use sight::{FIELDS, Sight, look, named};
 use std::alloc::Global;
 use std::process::Abort;
 use std::test::Fail;
+use step_core::Core;
 use weak::{PlainCycle, changed, heap_marked, place_of};
 
 /// What happened in all scripts together.

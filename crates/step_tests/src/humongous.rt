@@ -1,12 +1,12 @@
 //! Humongous objects: which regions they take, and when they go. Regions have 16 words.
 
-use super::pauses::{begin, check, cleanup, forget, get, make, pause, put, refine, remark};
-use super::{act, collect, register, remembers};
-use crate::Core;
+use crate::pauses::{begin, check, cleanup, forget, get, make, pause, put, refine, remark};
+use crate::steps::{act, collect, register, remembers};
 use heap_steps::{Action, CollectorStep, Counts, Reply};
 use heap_words::config::{Config, Format};
 use std::process::Abort;
 use std::test::Fail;
+use step_core::Core;
 
 /// Half a region, one word more, a region, one word more. Then regions 1 and 5 are free, which aren't adjacent: 17 words find
 /// no place, 16 and 9 do.

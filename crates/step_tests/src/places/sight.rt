@@ -3,10 +3,10 @@
 ghost use Rattle.std.specs.Prelude.{◌<◌, IsSome};
 ghost use Rattle.regions.specs.Table.{object_at, tile_in};
 
-use crate::Core;
 use heap_words::addr::{Addr, RegionNo};
 use regions::{Kind, Shape};
 use std::alloc::{AllocError, Global};
+use step_core::Core;
 
 /// How many fields an object of a drawn heap has at most.
 pub(crate) const FIELDS: usize = 24;
@@ -85,8 +85,9 @@ impl Sight {
 fn field_of(core: &Core, at: Addr, field: u32) -> Option<u32>
     requires { IsSome (object_at core.now.table at) }
 {
-    if field < core.table.field_count(at) {
-        core.table.get_field(at, field).map(|target| target.word())
+    let table = core.table();
+    if field < table.field_count(at) {
+        table.get_field(at, field).map(|target| target.word())
     } else {
         None
     }
@@ -97,7 +98,7 @@ fn fields_of(core: &Core, at: Addr) -> [Option<u32>; FIELDS]
     requires { IsSome (object_at core.now.table at) }
 {
     let mut fields = [None; FIELDS];
-    let count = core.table.field_count(at) as usize;
+    let count = core.table().field_count(at) as usize;
     for number in 0..FIELDS.min(count) {
         fields[number] = field_of(core, at, number as u32);
     }
@@ -108,14 +109,15 @@ fn fields_of(core: &Core, at: Addr) -> [Option<u32>; FIELDS]
 fn object_seen(core: &Core, at: Addr, previous: u32) -> Seen
     requires { IsSome (object_at core.now.table at) }
 {
-    let marks = &core.marker.bitmaps.previous;
+    let table = core.table();
+    let marks = &core.marker().bitmaps.previous;
     let marked = at.word() < marks.len() && marks.get(at);
     Seen {
         at: at.word(),
-        size: core.table.object_size(at),
-        name: core.table.name(at),
-        pointers: core.table.pointer_count(at),
-        weaks: core.table.weak_count(at),
+        size: table.object_size(at),
+        name: table.name(at),
+        pointers: table.pointer_count(at),
+        weaks: table.weak_count(at),
         kept: marked || at.word() >= previous,
         fields: fields_of(core, at),
     }
@@ -125,7 +127,7 @@ fn object_seen(core: &Core, at: Addr, previous: u32) -> Seen
 fn tile_seen(core: &Core, at: Addr, previous: u32) -> Option<Seen>
     requires { IsSome (tile_in core.now.table at) }
 {
-    match core.table.tile(at) {
+    match core.table().tile(at) {
         Shape::Object { .. } => Some(object_seen(core, at, previous)),
         Shape::Filler { .. } | Shape::Forwarded { .. } => None,
     }
@@ -133,11 +135,12 @@ fn tile_seen(core: &Core, at: Addr, previous: u32) -> Option<Seen>
 
 /// The object that starts at a word.
 fn word_seen(core: &Core, word: u32, previous: u32) -> Option<Seen> {
-    core.table.law();
-    if word >= core.table.region_count() * core.table.words_per_region() {
+    let table = core.table();
+    table.law();
+    if word >= table.region_count() * table.words_per_region() {
         return None;
     }
-    let at = core.table.first_tile(Addr::new(word))?;
+    let at = table.first_tile(Addr::new(word))?;
     if at.word() != word {
         return None;
     }
@@ -146,7 +149,7 @@ fn word_seen(core: &Core, word: u32, previous: u32) -> Option<Seen> {
 
 /// The object that a root place names.
 pub(crate) fn named(core: &Core, place: usize) -> Option<Seen> {
-    match core.roots.as_slice().get(place) {
+    match core.roots().as_slice().get(place) {
         Some(Some(at)) => word_seen(core, at.word(), 0),
         _ => None,
     }
@@ -156,13 +159,16 @@ pub(crate) fn named(core: &Core, place: usize) -> Option<Seen> {
 fn space_seen(core: &Core, number: u32) -> Space
     requires { number < core.now.config.regions }
 {
+    core.remembers();
     let region = RegionNo::new(number);
+    let table = core.table();
+    let tams = &core.marker().tams;
     Space {
         number,
-        kind: core.table.kind(region),
-        top: core.table.top(region).word(),
-        previous: core.marker.tams.previous(region).word(),
-        next: core.marker.tams.next(region).word(),
+        kind: table.kind(region),
+        top: table.top(region).word(),
+        previous: tams.previous(region).word(),
+        next: tams.next(region).word(),
     }
 }
 
@@ -186,7 +192,7 @@ pub(crate) fn look(alloc: Global, core: &Core) -> Result<Sight, AllocError> {
         }
     }
     let mut roots = Vec::new(alloc);
-    for root in core.roots.as_slice() {
+    for root in core.roots().as_slice() {
         roots.push(root.map(|target| target.word()))?;
     }
     Ok(Sight {

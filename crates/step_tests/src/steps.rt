@@ -2,12 +2,6 @@
 
 ghost use Rattle.std.specs.Prelude.{◌≡◌};
 
-mod humongous;
-mod pauses;
-mod places;
-mod weak;
-
-use crate::{Core, run};
 use heap_steps::{
     Action, CollectorStep, Counts, GlobalRoot, Op, Refusal, Register, Reply, RunFault, Step,
 };
@@ -15,6 +9,7 @@ use heap_words::addr::{Card, RegionNo};
 use heap_words::config::{Config, Format, NewFault};
 use std::process::Abort;
 use std::test::Fail;
+use step_core::{Core, run};
 
 const CONFIG: Config = Config {
     format: Format::V1,
@@ -25,7 +20,7 @@ const CONFIG: Config = Config {
     first_name: 7,
 };
 
-fn register(number: u32) -> Register
+pub(crate) fn register(number: u32) -> Register
     ensures { result.number ≡ number }
 {
     Register { number }
@@ -147,12 +142,12 @@ fn every_action(rt: HostRuntime) -> Result<(), Fail> {
 }
 
 /// A step of the collector.
-fn collect(core: &mut Core, step: CollectorStep) -> Reply {
+pub(crate) fn collect(core: &mut Core, step: CollectorStep) -> Reply {
     core.step(Step::Collector(step))
 }
 
 /// A mutator's action, None for one that the heap's sizes don't allow.
-fn act(core: &mut Core, mutator: u32, action: Action) -> Option<Reply> {
+pub(crate) fn act(core: &mut Core, mutator: u32, action: Action) -> Option<Reply> {
     let step = Step::Mutator(Op { mutator, action });
     let config = core.config();
     if step.is_in(&config) {
@@ -347,18 +342,20 @@ fn check_remembered(rt: &impl Abort, core: &Core) {
 }
 
 /// Whether a region remembers a card, and whether the card is dirty. None where there is no such region or card.
-fn remembers(core: &Core, region: u32, card: u32) -> Option<(bool, bool)> {
-    core.table.law();
-    let regions = core.table.region_count();
-    let length = core.config.card_words();
+pub(crate) fn remembers(core: &Core, region: u32, card: u32) -> Option<(bool, bool)> {
+    core.remembers();
+    let table = core.table();
+    table.law();
+    let regions = table.region_count();
+    let length = core.config().card_words();
     if card >= 1024 || length > 64 || region >= regions {
         return None;
     }
-    if card * length >= regions * core.table.words_per_region() {
+    if card * length >= regions * table.words_per_region() {
         return None;
     }
-    let covered = core.sets.covers(RegionNo::new(region), Card::new(card));
-    Some((covered, core.cards.is_dirty(Card::new(card))))
+    let covered = core.sets().covers(RegionNo::new(region), Card::new(card));
+    Some((covered, core.cards().is_dirty(Card::new(card))))
 }
 
 /// A run of two steps has an event for each, and the calls that tell a proof something change nothing.

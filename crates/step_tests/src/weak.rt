@@ -2,13 +2,13 @@
 
 ghost use Rattle.std.specs.Prelude.{◌≡◌, ◌<◌};
 
-use super::{act, collect, register};
-use crate::Core;
+use crate::steps::{act, collect, register};
 use heap_steps::{Action, CollectorStep, Counts, Refusal, Reply};
 use heap_words::config::{Config, Format};
 use std::alloc::Global;
 use std::process::Abort;
 use std::test::Fail;
+use step_core::Core;
 
 const WEAK: Config = Config {
     format: Format::V1,

@@ -2,31 +2,31 @@
 
 ghost use Rattle.std.specs.Prelude.{◌≡◌, ◌<◌};
 
-use super::{act, collect, register};
-use crate::Core;
+use crate::steps::{act, collect, register};
 use heap_steps::{Action, CollectorStep, Counts, Reply};
 use heap_words::addr::Addr;
 use heap_words::config::{Config, Format};
 use std::alloc::Global;
 use std::process::Abort;
 use std::test::Fail;
+use step_core::Core;
 
 /// A mutator's action, a step of the collector with its reply, or where the tile of a card's first word starts.
 #[derive(Clone, Copy)]
-pub(super) enum Line {
+pub(crate) enum Line {
     Act(Action),
     Collect(CollectorStep, Reply),
     FirstTile(u32, Option<u32>),
 }
 
-pub(super) fn make(to: u32, pointers: u32, values: u32) -> Line {
+pub(crate) fn make(to: u32, pointers: u32, values: u32) -> Line {
     Line::Act(Action::New {
         to: register(to),
         counts: Counts { pointers, values },
     })
 }
 
-pub(super) fn get(to: u32, object: u32, field: u32) -> Line {
+pub(crate) fn get(to: u32, object: u32, field: u32) -> Line {
     Line::Act(Action::Get {
         to: register(to),
         object: register(object),
@@ -34,7 +34,7 @@ pub(super) fn get(to: u32, object: u32, field: u32) -> Line {
     })
 }
 
-pub(super) fn put(object: u32, field: u32, value: u32) -> Line {
+pub(crate) fn put(object: u32, field: u32, value: u32) -> Line {
     Line::Act(Action::Put {
         object: register(object),
         field,
@@ -50,43 +50,44 @@ fn put_nil(object: u32, field: u32) -> Line {
     })
 }
 
-pub(super) fn forget(number: u32) -> Line {
+pub(crate) fn forget(number: u32) -> Line {
     Line::Act(Action::Drop {
         register: register(number),
     })
 }
 
-pub(super) fn begin() -> Line {
+pub(crate) fn begin() -> Line {
     Line::Collect(CollectorStep::Begin, Reply::Done)
 }
 
-pub(super) fn remark(marked: u32) -> Line {
+pub(crate) fn remark(marked: u32) -> Line {
     Line::Collect(CollectorStep::Remark, Reply::Marked(marked))
 }
 
-pub(super) fn cleanup(reclaimed: u32) -> Line {
+pub(crate) fn cleanup(reclaimed: u32) -> Line {
     Line::Collect(CollectorStep::Cleanup, Reply::Reclaimed(reclaimed))
 }
 
-pub(super) fn pause(budget: u32, regions: u32, words: u32) -> Line {
+pub(crate) fn pause(budget: u32, regions: u32, words: u32) -> Line {
     Line::Collect(
         CollectorStep::Pause(budget),
         Reply::Moved { regions, words },
     )
 }
 
-pub(super) fn refine(cards: u32, refined: u32) -> Line {
+pub(crate) fn refine(cards: u32, refined: u32) -> Line {
     Line::Collect(CollectorStep::Refine(cards), Reply::Refined(refined))
 }
 
 /// Where the tile of a card's first word starts, none above the region's top.
 fn first_tile(core: &Core, card: u32) -> Option<u32> {
-    core.table.law();
-    let words = core.table.region_count() * core.table.words_per_region();
+    let table = core.table();
+    table.law();
+    let words = table.region_count() * table.words_per_region();
     if words / 8 <= card {
         return None;
     }
-    match core.table.first_tile(Addr::new(card * 8)) {
+    match table.first_tile(Addr::new(card * 8)) {
         Some(at) => Some(at.word()),
         None => None,
     }
@@ -94,18 +95,15 @@ fn first_tile(core: &Core, card: u32) -> Option<u32> {
 
 /// Where the object starts that a register of mutator 0 names.
 fn place_of(core: &Core, number: u32) -> Option<u32> {
-    let config = core.config();
-    if config.mutators == 0 || config.registers() <= number {
-        return None;
-    }
-    match core.register(0, register(number)) {
-        Some(at) => Some(at.word()),
-        None => None,
+    let place = core.globals() as usize + number as usize;
+    match core.roots().as_slice().get(place) {
+        Some(Some(at)) => Some(at.word()),
+        _ => None,
     }
 }
 
 /// Does the lines with mutator 0, and compares the collector's replies; then each register's object stands at its place.
-pub(super) fn check(
+pub(crate) fn check(
     rt: &impl Abort,
     alloc: Global,
     regions: u32,
