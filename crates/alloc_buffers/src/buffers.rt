@@ -1,6 +1,6 @@
 //! The open buffers of the mutators, and the region that new ones are cut from.
 
-ghost use Rattle.std.specs.Prelude.{◌≡◌, ℕ, ◌<◌, ◌≤◌, ◌↔◌, length, Option, Some, None, replicate, IsTrue, IfOk, slice_get};
+ghost use Rattle.std.specs.Prelude.{◌≡◌, ℕ, ◌<◌, ◌≤◌, ◌↔◌, length, Some, None, replicate, IsTrue, IfOk, slice_get};
 ghost use Rattle.regions.specs.Table.{Table, top_of};
 ghost use Rattle.alloc_buffers.specs.Placement.{BuffersStand, AreAbove, buffer_of};
 

@@ -7,7 +7,7 @@
 
 ghost use Rattle.std.specs.List.{concat};
 ghost use Rattle.std.specs.Prelude.{◌≡◌, ◌⊎◌, ◌||◌, ◌&&◌, ◌==◌, ◌<◌, ◌∷◌};
-ghost use Rattle.std.specs.Prelude.{Contains, ℕ, false, true, not, All, IfNone, IfOk, IfSome, List, [], length, slice_get, slice_index_or};
+ghost use Rattle.std.specs.Prelude.{Contains, ℕ, false, true, not, All, IfNone, IfOk, IfSome, [], length, slice_get, slice_index_or};
 ghost use Rattle.std.specs.Prelude.{slice_set, Some};
 ghost use Rattle.cards.specs.Cards.{appended, clean_cards, dirtied, flushed, is_dirty, Cards, ListsDirtyOnce};
 

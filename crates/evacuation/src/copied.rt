@@ -1,6 +1,6 @@
 //! The copies, breadth first: each destination in turn, and in it each copy, those too that come meanwhile.
 
-ghost use Rattle.std.specs.Prelude.{◌≡◌, ◌<◌, ◌*◌, ◌/◌, ℕ, Bool, List, Some, false};
+ghost use Rattle.std.specs.Prelude.{◌≡◌, ◌*◌, ◌/◌, ℕ, Some, false};
 ghost use Rattle.evacuation.specs.Space.{IsObject, IsObjectSettled, IsRegionSettled, IsTaken};
 ghost use Rattle.evacuation.specs.Turns.{Pause, IsPause, IsTurn, After, EachCard, in_set, layout, space};
 

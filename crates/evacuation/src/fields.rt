@@ -1,11 +1,9 @@
 //! One word that is updated: what it names is copied, unless it was before.
 
-ghost use Rattle.std.specs.Prelude.{◌≡◌, ◌≢◌, ◌⊎◌, ◌*◌, ◌/◌, ◌<◌, ℕ, Bool, true, false, List, Option, Some, length, slice_get};
+ghost use Rattle.std.specs.Prelude.{◌≡◌, ◌≢◌, ◌⊎◌, ◌*◌, ◌/◌, ◌<◌, ℕ, Bool, true, false, List, Some, length, slice_get};
 ghost use Rattle.heap_model.specs.Heap.{Stored};
 ghost use Rattle.regions.specs.Table.{fields_at, tile_in, moved_to};
-ghost use Rattle.refinement.specs.Remembering.{field_word};
-ghost use Rattle.evacuation.specs.Space.{flag, set_of, IsField, IsNamed, IsNewWord, IsNoted};
-ghost use Rattle.evacuation.specs.Space.{IsFieldClean, IsFieldSettled, IsObject, IsTaken};
+ghost use Rattle.evacuation.specs.Space.{flag, IsField, IsNamed, IsNewWord, IsNoted, IsFieldClean, IsFieldSettled, IsTaken};
 ghost use Rattle.evacuation.specs.Turns.{Pause, IsPause, IsTurn, After, EachCard, in_set, layout, plan, space, kept_now};
 
 use heap_words::addr::{Addr, Ptr};

@@ -1,6 +1,6 @@
 //! The pause.
 
-ghost use Rattle.std.specs.Prelude.{◌≡◌, ℕ, List, Bool, Option, Some, ◌+◌, length, ◌⊎◌, true, false};
+ghost use Rattle.std.specs.Prelude.{◌≡◌, ℕ, Some, ◌+◌, length, ◌⊎◌, true, false};
 ghost use Rattle.remembered_sets.specs.Sets.{card_count};
 ghost use Rattle.heap_model.specs.Relocation.{Relocates};
 ghost use Rattle.heap_model.specs.Evacuation.{IsReached, place_after, released};
@@ -8,7 +8,7 @@ ghost use Rattle.evacuation.specs.Evacuates.{AreReachedWords};
 ghost use Rattle.evacuation.specs.Space.{flag, AllVisited, NewCrossing};
 ghost use Rattle.evacuation.specs.Turns.{Pause, IsPause, IsTurn, EachCard, AreFieldsClean};
 ghost use Rattle.evacuation.specs.Turns.{AreFieldsNoted, in_set, kept_now, layout, plan, space};
-ghost use Rattle.evacuation.specs.Evacuates.{Layers, CanEvacuate, HasEvacuated};
+ghost use Rattle.evacuation.specs.Evacuates.{CanEvacuate, HasEvacuated};
 
 use crate::copied::settle_copies;
 use crate::outside::update_cards;

@@ -1,9 +1,9 @@
 //! The regions of the set are released: they have no marks then, their tops at mark start are their bottoms, and their
 //! remembered sets are empty.
 
-ghost use Rattle.std.specs.Prelude.{◌≡◌, ◌≢◌, ◌*◌, ◌/◌, ◌<◌, ℕ, All, false, List, if◌then◌else◌, length};
+ghost use Rattle.std.specs.Prelude.{◌≡◌, ◌≢◌, ◌*◌, ◌/◌, ◌<◌, ℕ, All, false, if◌then◌else◌, length};
 ghost use Rattle.regions.specs.declared.row.Kind.TheVariants as kinds;
-ghost use Rattle.evacuation.specs.Evacuates.{is_chosen, AreDistinct, MarksAfter};
+ghost use Rattle.evacuation.specs.Evacuates.{AreDistinct, MarksAfter};
 ghost use Rattle.evacuation.specs.Releasing.{AreCleared, AreReleased, NoneForwardedInto};
 ghost use Rattle.regions.specs.Table.{kind_of, released, EachForwardedIn};
 ghost use Rattle.mark_bitmap.specs.Marks.{is_marked};

@@ -15,7 +15,6 @@ ghost use Rattle.std.specs.List.Sorted.{IsStrictlyIncreasing};
 ghost use Rattle.cards.specs.Cards.{is_dirty};
 ghost use Rattle.evacuation.specs.Evacuates.{is_chosen};
 ghost use Rattle.evacuation.specs.Space.{flag};
-ghost use Rattle.evacuation.specs.Rooms.{RoomSizes};
 
 use cards::CardTable;
 use heap_words::addr::Card;

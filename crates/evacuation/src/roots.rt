@@ -1,6 +1,6 @@
 //! The roots.
 
-ghost use Rattle.std.specs.Prelude.{◌≡◌, ℕ, Bool, false, List, Option};
+ghost use Rattle.std.specs.Prelude.{◌≡◌, ℕ, Bool, false, List};
 ghost use Rattle.std.specs.List.{AllZip};
 ghost use Rattle.heap_model.specs.Relocation.{IsMoved};
 ghost use Rattle.heap_model.specs.Evacuation.{place_after};

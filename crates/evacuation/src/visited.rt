@@ -1,7 +1,7 @@
 //! The cards that a pause visits: those in which a field may lead into a chosen region, as the remembered sets tell, but for cards of
 //! regions that are free. Copies come there, and a copy's fields are settled where it stands.
 
-ghost use Rattle.std.specs.Prelude.{◌≡◌, ◌≢◌, ◌<◌, ◌≤◌, ◌*◌, ◌/◌, ℕ, All, true, false, length};
+ghost use Rattle.std.specs.Prelude.{◌≡◌, ◌≢◌, ◌<◌, ◌*◌, ◌/◌, ℕ, All, true, false, length};
 ghost use Rattle.std.specs.List.{list_any};
 ghost use Rattle.remembered_sets.specs.Sets.{card_count, may_lead};
 ghost use Rattle.regions.specs.Table.{kind_of};

@@ -14,7 +14,7 @@ ghost use Rattle.object_graph.specs.State.{State};
 ghost use Rattle.step_core.specs.Stands.{Stands};
 ghost use Rattle.heap_steps.specs.Faults.{IsRunFault};
 ghost use Rattle.step_core.specs.Histories.{Runs, step_in, actor_in, actor_of};
-ghost use Rattle.heap_life.specs.Paces.{counts, one_if, IsDue, IsPaceFor, most_moments};
+ghost use Rattle.heap_life.specs.Paces.{counts, one_if, IsDue, most_moments};
 ghost use Rattle.heap_life.specs.Lives.{moved_by, IsMomentFrom, HasMoment, NotesIf, IsLifeOf};
 
 use crate::moment_text::Teller;

@@ -1,6 +1,6 @@
 //! Weak slots: what a mutator reads from one while marking runs, and their clearing when it ends.
 
-ghost use Rattle.std.specs.Prelude.{◌≡◌, ◌≢◌, ℕ, ◌<◌, ◌≤◌, ◌⊎◌, ◌↔◌, Bool, true, Option, Some, None, slice_get};
+ghost use Rattle.std.specs.Prelude.{◌≡◌, ◌≢◌, ℕ, ◌<◌, ◌≤◌, ◌⊎◌, ◌↔◌, Bool, true, Option, Some, slice_get};
 ghost use Rattle.heap_model.specs.Graph.{Graph, Object, IsReachable, IsSound, next_name, object_named, object_fields, with_root};
 ghost use Rattle.heap_model.specs.Graph.{with_object, with_changed};
 ghost use Rattle.heap_model.specs.Heap.{Heap, IsShown, Shows, RootSet};

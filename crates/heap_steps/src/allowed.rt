@@ -1,8 +1,8 @@
 //! Which steps the sizes of a heap allow: tests of what plans, records and heaps ask for.
 
 ghost use Rattle.std.specs.Prelude.{◌≡◌, ◌↔◌, ◌<◌, ◌&&◌, ℕ, IsTrue};
-ghost use Rattle.heap_steps.specs.Roots.{has_register, has_global, has_value, names_roots, NamesRoots, IsOpAt};
-ghost use Rattle.heap_steps.specs.Actors.{has_action, allows, IsOp, IsStep, IsStepOf, IsEvent};
+ghost use Rattle.heap_steps.specs.Roots.{has_register, has_global, has_value, names_roots, IsOpAt};
+ghost use Rattle.heap_steps.specs.Actors.{has_action, allows, IsOp, IsStep, IsEvent};
 
 use crate::step::{Action, Actor, CollectorStep, Event, GlobalRoot, Op, Register, Step};
 use heap_words::config::{Config, Format};

@@ -1,6 +1,6 @@
 //! Roots, and what each mutator has: its registers, its buffer and its logs.
 
-ghost use Rattle.std.specs.Prelude.{◌<◌, length};
+ghost use Rattle.std.specs.Prelude.{◌<◌};
 
 use crate::card_lines::write_card_log;
 use crate::names::write_name;

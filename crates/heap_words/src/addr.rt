@@ -1,6 +1,6 @@
 //! Addresses, which count words from 0, and the numbers of regions and cards.
 
-ghost use Rattle.std.specs.Prelude.{◌≡◌, ℕ, ◌<◌, ◌^◌};
+ghost use Rattle.std.specs.Prelude.{◌≡◌, ℕ};
 ghost use Rattle.heap_words.specs.Sizes.{field_word};
 
 use std::marker::Model;

@@ -12,7 +12,7 @@
 //! number, and to go over its members costs the members and the words between them.
 
 ghost use Rattle.std.specs.Prelude.{◌≡◌, ◌+◌, ◌*◌, ◌^◌, ◌<◌, ◌≤◌, if◌then◌else◌};
-ghost use Rattle.std.specs.Prelude.{ℕ, List, Bool, false, true, IfOk, IfSome, length, MatchOption, replicate, slice_index, slice_set};
+ghost use Rattle.std.specs.Prelude.{ℕ, false, true, IfOk, IfSome, length, MatchOption, replicate, slice_index, slice_set};
 ghost use Rattle.std.specs.Int.{bit_at};
 ghost use Rattle.heap_words.specs.Bits.{has, has_alone, is_between, HasNone, HasNoneBelow, IsLowest};
 
@@ -27,7 +27,7 @@ pub struct Bits {
 }
 
 impl Model for Bits {
-    ghost use Rattle.std.specs.Prelude.{ℕ, List, Bool, ◌≤◌, ◌*◌, vec_len};
+    ghost use Rattle.std.specs.Prelude.{List, Bool, ◌≤◌, ◌*◌, vec_len};
     ghost use Rattle.heap_words.specs.BitWords.{flags_of};
 
     ghost Value = { List Bool };

@@ -9,7 +9,7 @@
 //! few members come into, few words. The bounds widen as members come, and close when the set is cleared.
 
 ghost use Rattle.std.specs.Prelude.{◌≡◌, ◌^◌, ◌<◌, ◌≤◌, if◌then◌else◌};
-ghost use Rattle.std.specs.Prelude.{ℕ, max, Bool, false, true, IfOk, IfSome, length, MatchOption, replicate, slice_set};
+ghost use Rattle.std.specs.Prelude.{ℕ, max, false, true, IfOk, IfSome, length, MatchOption, replicate, slice_set};
 ghost use Rattle.heap_words.specs.Bits.{has, is_between, HasNone, IsLowest};
 
 use crate::bits::Bits;

@@ -1,5 +1,5 @@
 //! Headers and the words that they are written as.
-ghost use Rattle.std.specs.Prelude.{◌≡◌, ℕ, ◌+◌, ◌<◌, ◌≤◌, ◌^◌, IfSome, IfNone, ◌≢◌, Some};
+ghost use Rattle.std.specs.Prelude.{◌≡◌, ◌<◌, ◌^◌, IfSome, IfNone, ◌≢◌, Some};
 ghost use Rattle.heap_words.specs.Sizes.{size_of};
 ghost use Rattle.heap_words.specs.Headers.{header_word, IsHeader, header_of, pointer_of, pointer_word};
 

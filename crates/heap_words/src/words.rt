@@ -230,16 +230,7 @@ impl Words {
         object.field(fields) + field as usize
     }
 
-    /// A data word of the object at an address, counted from 0 behind the fields that its header tells.
-    pub fn get_value(&self, object: Addr, field: u32) -> u64
-        requires at { object < length self.now }
-        requires within { field_word object (field_count_at self.now object) + field < length self.now }
-        ensures { result ≡ slice_index self.now (field_word object (field_count_at self.now object) + field) }
-    {
-        self.items[self.data_place(object, field)]
-    }
-
-    /// A data word of the object at an address, as `get_value` reads it. One is there, so its header isn't looked at for that.
+    /// A data word of the object at an address, counted from 0 behind its fields. One is there, so its header isn't looked at for that.
     pub fn value(&self, object: Addr, field: u32) -> u64
         requires within { field_word object (field_count_at self.now object) + field < length self.now }
         requires object { IsSome (counts_of (header_at self.now object)) }
@@ -361,8 +352,8 @@ mod tests {
         assert_eq!(rt; words.object_at(copy), Some(small()));
         assert_eq!(rt; words.name(copy), 7);
         assert_eq!(rt; words.get_field(copy, 0), Some(Addr::new(8)));
-        assert_eq!(rt; words.get_value(copy, 0), 0);
-        assert_eq!(rt; words.get_value(copy, 1), 9);
+        assert_eq!(rt; words.value(copy, 0), 0);
+        assert_eq!(rt; words.value(copy, 1), 9);
         let size = FillerSize::new(2);
         assert_eq!(rt; words.header(Addr::new(6)), Some(Header::Filler { size }));
         let to = Addr::new(8);
@@ -404,7 +395,7 @@ mod tests {
         assert_eq!(rt; words.get_field(object, 0), None);
         assert_eq!(rt; words.get_field(object, 1), Some(Addr::new(9)));
         assert_eq!(rt; words.get_field(object, 2), Some(object));
-        assert_eq!(rt; words.get_value(object, 0), 5);
+        assert_eq!(rt; words.value(object, 0), 5);
         Ok(())
     }
 }

@@ -9,7 +9,7 @@
 //! others it costs no way down the levels of their summary and up again. The others that are set are counted, so where there
 //! is none nobody looks for one.
 
-ghost use Rattle.std.specs.Prelude.{◌≡◌, ℕ, ◌<◌, false, true, IfOk, IfSome, length, MatchOption, Option, replicate, slice_set};
+ghost use Rattle.std.specs.Prelude.{◌≡◌, ◌<◌, false, true, IfOk, IfSome, length, MatchOption, replicate, slice_set};
 ghost use Rattle.heap_words.specs.Bits.{has, HasNone, IsLowest};
 ghost use Rattle.mark_bitmap.specs.Marks.{marked_count};
 ghost use Rattle.mark_bitmap.specs.Held.{held_without};

@@ -9,7 +9,7 @@
 //!   release         a region's marks go, and both its tops              fewer_law, reset_law, table_law
 //! ```
 
-ghost use Rattle.std.specs.Prelude.{◌≡◌, ℕ, ◌+◌, ◌*◌, ◌<◌, ◌≤◌, Bool, true, false, List, Some, length, replicate, slice_index, slice_set};
+ghost use Rattle.std.specs.Prelude.{◌≡◌, ℕ, ◌*◌, ◌<◌, ◌≤◌, Bool, true, false, List, Some, length, replicate, slice_index, slice_set};
 ghost use Rattle.heap_model.specs.Heap.{Stored};
 ghost use Rattle.regions.specs.Table.{Table, free_table, object_at, top_of, used_of};
 ghost use Rattle.mark_bitmap.specs.Marks.{is_marked};

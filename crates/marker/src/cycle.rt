@@ -1,11 +1,11 @@
 //! The beginning of marking, deletion logs, and its end.
 
-ghost use Rattle.std.specs.Prelude.{◌≡◌, ◌≢◌, ◌<◌, ◌≤◌, ◌==◌, if◌then◌else◌, ◌+◌, ◌*◌};
-ghost use Rattle.std.specs.Prelude.{ℕ, List, [], Bool, true, false, Option, Some, Contains, length, slice_index, slice_set};
+ghost use Rattle.std.specs.Prelude.{◌≡◌, ◌≢◌, ◌<◌, ◌≤◌, ◌==◌, if◌then◌else◌, ◌*◌};
+ghost use Rattle.std.specs.Prelude.{ℕ, [], true, false, Some, Contains, length, slice_index, slice_set};
 ghost use Rattle.heap_model.specs.Graph.{Graph};
 ghost use Rattle.heap_model.specs.Heap.{Shows, IsClosed};
 ghost use Rattle.heap_model.specs.Marking.{KeepsSnapshot, Begins, IsSaved};
-ghost use Rattle.regions.specs.Table.{Table, top_of};
+ghost use Rattle.regions.specs.Table.{top_of};
 ghost use Rattle.mark_bitmap.specs.Marks.{is_marked, marked_count};
 ghost use Rattle.mark_bitmap.specs.Tops.{exchanged, is_in_region, with_bottom};
 ghost use Rattle.satb_log.specs.Logs.{log_of};

@@ -9,7 +9,7 @@
 //!   forget    the region's is 0                            the region's is 0
 //! ```
 
-ghost use Rattle.std.specs.Prelude.{◌≡◌, ℕ, ◌+◌, ◌*◌, ◌<◌, ◌^◌, IfOk, length, replicate, slice_index};
+ghost use Rattle.std.specs.Prelude.{◌≡◌, ◌+◌, ◌<◌, ◌^◌, IfOk, length, replicate, slice_index};
 ghost use Rattle.regions.specs.Table.{kind_of};
 ghost use Rattle.regions.specs.declared.row.Kind.TheVariants as kinds;
 ghost use Rattle.mark_bitmap.specs.Live.{live_bound_of};

@@ -5,8 +5,8 @@
 //!   scanned  marked, and so are its old targets as they were at the scan
 //! ```
 
-ghost use Rattle.std.specs.Prelude.{◌≡◌, ℕ, ◌+◌, ◌<◌, ◌≤◌, List, Bool, true, Option, Some, length, slice_set};
-ghost use Rattle.regions.specs.Table.{Table, pointers_at};
+ghost use Rattle.std.specs.Prelude.{◌≡◌, ℕ, ◌+◌, ◌<◌, ◌≤◌, true, Some, length, slice_set};
+ghost use Rattle.regions.specs.Table.{pointers_at};
 ghost use Rattle.mark_bitmap.specs.Marks.{marked_count, HasNone};
 ghost use Rattle.mark_bitmap.specs.Tops.{below_next};
 ghost use Rattle.mark_bitmap.specs.Grey.{is_grey};

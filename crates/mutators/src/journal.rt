@@ -217,8 +217,8 @@ fn are_ended(scripts: &[Vec<Step>], places: &[usize]) -> bool
 }
 
 impl Journal {
-    ghost use Rattle.mutators.specs.Journals.{JournalState, Keeps, mutators_of, script_at};
-    ghost use Rattle.mutators.specs.Turns.{TurnIs, SamePlan, IsCast, next_step, next_at};
+    ghost use Rattle.mutators.specs.Journals.{Keeps, mutators_of, script_at};
+    ghost use Rattle.mutators.specs.Turns.{TurnIs, SamePlan, IsCast, next_step};
 
     /// A new heap of the plan, each script at its beginning, and no events.
     ///

@@ -1,7 +1,7 @@
 //! The regions that copies go to.
 
 ghost use Rattle.std.specs.Prelude.{◌≡◌, ◌<◌, ◌+◌, ◌^◌, ◌∷◌, [], ◌++◌, IfOk, Some, length, slice_get};
-ghost use Rattle.object_copy.specs.Copies.{Places, no_places};
+ghost use Rattle.object_copy.specs.Copies.{no_places};
 
 use heap_words::addr::RegionNo;
 use std::alloc::{AllocError, Global};

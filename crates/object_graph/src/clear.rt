@@ -1,6 +1,6 @@
 //! Weak slots become nil that hold a name which isn't flagged.
 
-ghost use Rattle.std.specs.Prelude.{◌≡◌, ◌<◌, length, map, slice_get, slice_set};
+ghost use Rattle.std.specs.Prelude.{◌≡◌, ◌<◌, length, map, slice_set};
 ghost use Rattle.heap_model.specs.Weak.{cleared_slot, cleared_names};
 ghost use Rattle.object_graph.specs.Fields.{object_in};
 ghost use Rattle.object_graph.specs.Reached.{flag_of};

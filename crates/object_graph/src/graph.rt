@@ -1,6 +1,6 @@
 //! The graph of objects by name, and what each step of a mutator does to it.
 
-ghost use Rattle.std.specs.Prelude.{◌≡◌, ◌<◌, ◌≤◌, ◌+◌, ◌*◌, ◌↔◌, ◌≢◌, length, IsTrue, IsOk, IfOk, OnErr};
+ghost use Rattle.std.specs.Prelude.{◌≡◌, ◌<◌, ◌↔◌, ◌≢◌, length, IsTrue, IsOk, IfOk, OnErr};
 
 use crate::clear::clear_all;
 use crate::objects::Objects;
@@ -60,7 +60,6 @@ impl Drop for Graph {
 
 impl Graph {
     ghost use Rattle.object_graph.specs.State.{root_at, register_place, index_of, first_graph};
-    ghost use Rattle.heap_model.specs.Graph as model;
     ghost use Rattle.heap_model.specs.Graph.{next_name, with_root};
     ghost use Rattle.heap_model.specs.Weak.{cleared_graph};
     ghost use Rattle.object_graph.specs.Run.{Creates};

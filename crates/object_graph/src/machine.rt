@@ -1,6 +1,6 @@
 //! The graph with its snapshot, which takes events.
 
-ghost use Rattle.std.specs.Prelude.{◌≡◌, ◌<◌, ◌++◌, Some, None, reverse, IsTrue, IfOk, OnOk, ◌↔◌};
+ghost use Rattle.std.specs.Prelude.{◌≡◌, ◌++◌, None, reverse, IsTrue, IfOk, OnOk, ◌↔◌};
 ghost use Rattle.heap_model.specs.Graph as model;
 ghost use Rattle.heap_model.specs.Weak.{touched, AreReached};
 ghost use Rattle.object_graph.specs.State.{State, HoldsNames, IsSoundState, first_state};

@@ -2,14 +2,14 @@
 use Rattle.std.proofs.Common.{◌≡◌, ◌⊎◌, ◌/◌, ◌<◌, ◌∷◌, ◌++◌, ◌∙◌}
 use Rattle.std.proofs.Common.{inl, inr, ℕ, true, false, Option, Some, None, List, [], length, All, ⊎_elim, refl, sym, ap, subst, length-set}
 use Rattle.std.specs.Prelude.{slice_get, slice_set, nat_lt, Bool, if◌then◌else◌}
-use Rattle.std.proofs.lemmas.Bool.{cases_eq}
+use Rattle.std.proofs.lemmas.Bool.{cases_eq, and_parts}
 use Rattle.std.proofs.lemmas.List.{set-get_or}
 use Rattle.std.proofs.lemmas.Bool.Decides.{eqb_tells}
 use Rattle.std.proofs.lemmas.List.Elements.{All-nil, All-cons, All-head, All-tail, All-append}
 use Rattle.heap_model.specs.Heap.{Stored, fields}
 use Rattle.heap_words.specs.Bits.{has}
 use Rattle.remembered_sets.specs.Sets.{Sets, CardSet, empty_set, added, covers, may_lead, set_of, set_covers, set_with}
-use Rattle.remembered_sets.proofs.Laws.{covers_grows, covers_only, added_other, leads_grow, left_true, right_true}
+use Rattle.remembered_sets.proofs.Laws.{covers_grows, covers_only, added_other, leads_grow}
 use Rattle.refinement.specs.Remembering.{IsCrossing, LeadsInto, LeadsInside, Gains, field_word, field_card}
 use Rattle.refinement.specs.Refining.{added_to, AddsCard, with_field}
 
@@ -159,8 +159,7 @@ field_grows words card word n (Some v) s u known e r c was =
 pub added_covered : (s : Sets) (region card : ℕ) → may_lead s region card ≡ true → added s region card ≡ s
 added_covered s region card e =
     let set : CardSet = set_of s region in
-    let covered : covers s region card ≡ true = left_true (covers s region card) (has s.entered card) e in
-    let is_in : has s.entered card ≡ true = right_true (covers s region card) (has s.entered card) e in
+    let (covered, is_in) = and_parts (covers s region card) (has s.entered card) e in
     let same : set_with set card (card / s.cards_per_region) ≡ set =
     ap (λ (b : Bool). if b then set else if nat_lt (length set.inline) 16
     then record { inline = set.inline ++ card ∷ []; sources = set.sources }

@@ -1,6 +1,6 @@
 //! Refinement of one card.
 
-ghost use Rattle.std.specs.Prelude.{◌≡◌, ◌↔◌, [], IsTrue, length};
+ghost use Rattle.std.specs.Prelude.{◌≡◌, length};
 ghost use Rattle.mark_bitmap.specs.Kept.{kept_in};
 ghost use Rattle.cards.specs.Cards.{is_dirty};
 ghost use Rattle.remembered_sets.specs.Sets.{card_count, may_lead};

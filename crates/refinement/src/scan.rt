@@ -11,7 +11,7 @@
 //! Of the fields, those marked `*` lie in the card; those of a dead object aren't looked at. In a run of regions A is the
 //! run's one object, however far below the card it starts.
 
-ghost use Rattle.std.specs.Prelude.{◌≡◌, ◌≢◌, ◌↔◌, true, ℕ, ◌+◌, ◌*◌, ◌/◌, ◌<◌, ◌≤◌, Option, Some, IsSome, IsTrue, length, slice_get};
+ghost use Rattle.std.specs.Prelude.{◌≡◌, ◌≢◌, ◌↔◌, true, ℕ, ◌*◌, ◌/◌, ◌<◌, ◌≤◌, Option, Some, IsSome, IsTrue, length, slice_get};
 ghost use Rattle.heap_model.specs.Heap.{Stored};
 ghost use Rattle.regions.specs.Table.{object_at, fields_at};
 ghost use Rattle.regions.specs.Walks.{IsHolder, IsPlacedTile};

@@ -1,11 +1,9 @@
 //! Walks over a region's tiles, the tile behind another one, and the tile that holds a word.
-ghost use Rattle.std.specs.Prelude.{◌≡◌, ◌↔◌, ◌+◌, ◌*◌, ◌/◌, ◌%◌, ◌<◌, length, IsSome, IsTrue, IfSome, IfNone};
+ghost use Rattle.std.specs.Prelude.{◌≡◌, ◌↔◌, ◌*◌, ◌/◌, ◌%◌, ◌<◌, length, IsSome, IfSome, IfNone};
 ghost use Rattle.std.specs.Iterator.{YieldsFirst, item_count};
 ghost use Rattle.regions.specs.Tiles.{total_size};
-ghost use Rattle.regions.specs.Table.{kind_of, tile_in, top_of};
-ghost use Rattle.regions.specs.declared.row.Kind.TheVariants as kinds;
-ghost use Rattle.regions.specs.Walks.{tiles_of, placed, walk_rest, IsCut, IsWalk, IsTileBehind};
-ghost use Rattle.regions.specs.Walks.{IsHolder, IsRunStart, IsLowest, IsNext, IsLast};
+ghost use Rattle.regions.specs.Table.{tile_in, top_of};
+ghost use Rattle.regions.specs.Walks.{tiles_of, placed, walk_rest, IsCut, IsWalk, IsTileBehind, IsHolder, IsLowest, IsNext, IsLast};
 
 use crate::row::{Kind, Shape};
 use crate::table::{RegionTable, shape_at, size_at};

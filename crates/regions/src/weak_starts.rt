@@ -13,7 +13,7 @@
 //! bit a word and one a region, all reserved when the table is made.
 
 ghost use Rattle.std.specs.Prelude.{◌≡◌, ◌+◌, ◌*◌, ◌^◌, ◌<◌, ◌≤◌, if◌then◌else◌};
-ghost use Rattle.std.specs.Prelude.{ℕ, IfOk, IfSome, MatchOption, false, length, replicate, slice_set};
+ghost use Rattle.std.specs.Prelude.{ℕ, IfOk, MatchOption, false, length, replicate};
 ghost use Rattle.heap_words.specs.Bits.{has, is_between, HasNone, IsLowest};
 ghost use Rattle.regions.specs.WeakStarts.{noted, forgotten, IsNextWithWeaks};
 

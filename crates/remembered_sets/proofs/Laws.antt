@@ -2,10 +2,9 @@
 use Rattle.std.proofs.Common.{◌≡◌, ◌≢◌, ◌⊎◌, ◌+◌, ◌-◌, ◌*◌, ◌/◌, ◌%◌, ◌<◌, ◌≤◌, if◌then◌else◌, ◌∙◌}
 use Rattle.std.proofs.Common.{inl, inr, ℕ, Bool, true, false, eqb, refl, sym, subst, ap, ⊎_elim, arith}
 use Rattle.std.proofs.Common.{List, [], ◌∷◌, length, set, All, get_or-set_same, get_or-set_other, length-set}
-use Rattle.std.specs.Prelude.{◌&&◌}
 use Rattle.std.proofs.Math.Nat.{lt_of_mul-lt-mul_right, lt_irrefl}
 use Rattle.std.proofs.lemmas.Nat.{div-mul-add}
-use Rattle.std.proofs.lemmas.Bool.{cases_eq, cases_lt, eq-eqb, ne_eqb, false≢true}
+use Rattle.std.proofs.lemmas.Bool.{cases_eq, cases_lt, eq-eqb, ne_eqb, and_from, and_parts}
 use Rattle.std.proofs.lemmas.List.Elements.{All-head, All-tail, All-set}
 use Rattle.std.proofs.lemmas.List.{get_or_past}
 use Rattle.std.proofs.lemmas.List.FromFn.{fill_by_all, length-map-range_with_len, get_or-map-range_with_len}
@@ -163,29 +162,18 @@ covers_grows s region card r c known was =
     (cases_eq r region)
 
 -- ---- where a field may lead
-pub both_true : (a b : Bool) → a ≡ true → b ≡ true → (a && b) ≡ true
-both_true a b e f = rw (e, f) refl
-
-pub left_true : (a b : Bool) → (a && b) ≡ true → a ≡ true
-left_true true b e = refl
-left_true false b e = e
-
-pub right_true : (a b : Bool) → (a && b) ≡ true → b ≡ true
-right_true true b e = e
-right_true false b e = absurd (false≢true e)
-
 pub leads-added : (s : Sets) (region card : ℕ) → AreSets s → region < length s.sets → card < card_count s
     → may_lead (added s region card) region card ≡ true
 leads-added s region card all known h =
-    both_true (covers (added s region card) region card) (has (set s.entered card true) card)
+    and_from (covers (added s region card) region card) (has (set s.entered card true) card)
     (covers-added s region card all known h) (entered_here s card all h)
 
 pub leads_grow : (s : Sets) (region card r c : ℕ) → region < length s.sets → may_lead s r c ≡ true
     → may_lead (added s region card) r c ≡ true
 leads_grow s region card r c known was =
-    both_true (covers (added s region card) r c) (has (set s.entered card true) c)
-    (covers_grows s region card r c known (left_true (covers s r c) (has s.entered c) was))
-    (entered_still s.entered card c (right_true (covers s r c) (has s.entered c) was))
+    let (covered, is_in) = and_parts (covers s r c) (has s.entered c) was in
+    and_from (covers (added s region card) r c) (has (set s.entered card true) c)
+    (covers_grows s region card r c known covered) (entered_still s.entered card c is_in)
 
 -- what is covered anew is the card, or lies in its region
 pub covers_only : (s : Sets) (region card c : ℕ) → region < length s.sets → covers (added s region card) region c ≡ true
@@ -264,6 +252,6 @@ pub leads_stays : (changes : List Change) (s : Sets) (region card : ℕ) → Are
     → All (LeavesSet region) changes → All (LeavesSet (card / s.cards_per_region)) changes
     → may_lead (after_all changes (added s region card)) region card ≡ true
 leads_stays changes s region card shaped known h leave leave_own =
-    both_true (covers (after_all changes (added s region card)) region card) (has (after_all changes (added s region card)).entered card)
+    and_from (covers (after_all changes (added s region card)) region card) (has (after_all changes (added s region card)).entered card)
     (added_stays changes s region card shaped known h leave)
     (run_entered changes (added s region card) s.cards_per_region card refl leave_own (entered_here s card shaped h))

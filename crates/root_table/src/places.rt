@@ -1,6 +1,6 @@
 //! Where roots stand.
 
-ghost use Rattle.std.specs.Prelude.{◌≡◌, ◌<◌, ◌≤◌, ◌+◌, ◌*◌, ◌^◌};
+ghost use Rattle.std.specs.Prelude.{◌≡◌, ◌<◌, ◌≤◌};
 ghost use Rattle.heap_model.specs.Graph as model;
 ghost use Rattle.root_table.specs.Roots.{places_of, row_start};
 

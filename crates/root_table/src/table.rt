@@ -1,9 +1,9 @@
 //! The table of roots.
 
-ghost use Rattle.std.specs.Prelude.{◌≡◌, ◌<◌, ◌≤◌, ◌+◌, ◌-◌, ◌*◌, ◌^◌};
-ghost use Rattle.std.specs.Prelude.{None, IfOk, IfSome, IsSome, length, MatchOption, replicate, slice_get, slice_index_or, slice_set};
+ghost use Rattle.std.specs.Prelude.{◌≡◌, ◌<◌, ◌≤◌, ◌+◌, ◌-◌, ◌^◌};
+ghost use Rattle.std.specs.Prelude.{None, IfOk, IfSome, IsSome, length, MatchOption, replicate, slice_index_or, slice_set};
 ghost use Rattle.heap_model.specs.Graph.{register_place, root_places, with_nils};
-ghost use Rattle.root_table.specs.Roots.{row_start, row_length, AreNil, IsNextNamed};
+ghost use Rattle.root_table.specs.Roots.{row_start, AreNil, IsNextNamed};
 ghost use Rattle.root_table.specs.Bounds.{AreStarts};
 
 use crate::places::Places;

@@ -8,9 +8,8 @@
 //! ```
 
 ghost use Rattle.std.specs.Prelude.{◌≡◌, ◌⊎◌, ◌<◌, ◌≤◌, ◌+◌};
-ghost use Rattle.std.specs.Prelude.{ℕ, All, Bool, IfNone, IfSome, IsTrue, drop, length, take, count_by, IsPermutation, IsSorted};
+ghost use Rattle.std.specs.Prelude.{All, IfNone, IfSome, drop, length, take, IsPermutation, IsSorted};
 ghost use Rattle.std.specs.Vec.{vec_capacity};
-ghost use Rattle.regions.specs.Table.{is_free, kind_of, nth_region};
 ghost use Rattle.mark_bitmap.specs.Live.{live_bound_of};
 ghost use Rattle.marker.specs.Stands.{MarkerStands};
 ghost use Rattle.region_choice.specs.Choice.{copy_limit, live_sum, row_cmp, ComeFirst, IsBestWithin};

@@ -15,15 +15,12 @@
 //! (`barrier`), and what they make lies at or above
 //! the tops at mark start, so that it is kept without a mark.
 
-ghost use Rattle.std.specs.Prelude.{◌≡◌, ◌↔◌, ◌<◌, ◌≤◌, ◌+◌, ℕ, true, false, Some, IsTrue, length, count_by};
+ghost use Rattle.std.specs.Prelude.{◌≡◌, true, false};
 ghost use Rattle.heap_model.specs.Graph.{Graph};
-ghost use Rattle.regions.specs.Table.{is_free};
-ghost use Rattle.heap_steps.specs.declared.step.Reply.TheVariants as replies;
-ghost use Rattle.step_core.specs.Stands.{ShowsGraph, KeepsFrom, Stands};
-ghost use Rattle.step_core.specs.Cycle.{HasBegun, HasMarked, HasRemarked, HasCleaned, ShowsCleared};
+ghost use Rattle.step_core.specs.Stands.{ShowsGraph, KeepsFrom};
+ghost use Rattle.step_core.specs.Cycle.{HasBegun, HasMarked, HasRemarked, ShowsCleared};
 
 use crate::heap::Core;
-use heap_steps::{Refusal, Reply};
 
 impl Core {
     /// Marking begins, with the present graph as its snapshot. It doesn't run yet.

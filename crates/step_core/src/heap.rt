@@ -1,11 +1,11 @@
 //! The core: the heap's layers in one value, and its root places.
 
-ghost use Rattle.std.specs.Prelude.{◌≡◌, ℕ, ◌<◌, ◌≤◌, ◌+◌, ◌-◌, ◌*◌, length, Option, Some, None, slice_index_or, IfOk, IfErr, OnOk};
+ghost use Rattle.std.specs.Prelude.{◌≡◌, ℕ, ◌<◌, ◌-◌, length, Option, None, slice_index_or, IfOk, IfErr, OnOk};
 ghost use Rattle.heap_words.specs.Configs.{Suits, IsNewFault};
 ghost use Rattle.heap_model.specs.Graph.{Graph};
 ghost use Rattle.heap_model.specs.Heap.{IsShown, IsHeld};
 ghost use Rattle.object_graph.specs.State.{State, root_places, register_place, places_of, with_root, with_nil_roots, root_at, first_state};
-ghost use Rattle.heap_words.specs.Configs.{globals_of, registers_of};
+ghost use Rattle.heap_words.specs.Configs.{registers_of};
 ghost use Rattle.heap_steps.specs.Roots.{IsRegister, IsGlobal};
 ghost use Rattle.step_core.specs.Stands.{ShowsGraph, KeepsFrom, Stands, IsCore, IsWhole, heap_of};
 ghost use Rattle.step_core.specs.Stands.{IsWordOf, IsRootWord, Leads, name_in, RemembersFields};
@@ -19,7 +19,7 @@ use alloc_buffers::AllocBuffers;
 use cards::CardTable;
 use evacuation::PauseRoom;
 use heap_steps::{GlobalRoot, Register};
-use heap_words::addr::{Addr, Ptr};
+use heap_words::addr::Ptr;
 use heap_words::config::{Config, NewFault};
 use marker::Marker;
 use region_choice::LiveRow;

@@ -3,7 +3,7 @@
 //! Making one may be refused for memory, and then those that were made before it are dropped. Each function here makes two or three, and
 //! `Core::new` three: the proof of one that makes all eight grows with each way out, past any useful time.
 
-ghost use Rattle.std.specs.Prelude.{◌≡◌, ℕ, ◌<◌, ◌*◌, ◌/◌, ◌^◌, length, None, [], false, replicate, IfOk, vec_capacity};
+ghost use Rattle.std.specs.Prelude.{◌≡◌, ◌<◌, ◌*◌, ◌/◌, ◌^◌, length, None, [], false, replicate, IfOk, vec_capacity};
 ghost use Rattle.heap_words.specs.Configs.{Suits, card_words};
 ghost use Rattle.regions.specs.Table.{Table};
 ghost use Rattle.alloc_buffers.specs.Placement.{BuffersStand, closed};

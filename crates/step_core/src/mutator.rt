@@ -1,8 +1,8 @@
 //! The mutator's steps.
 
-ghost use Rattle.std.specs.Prelude.{◌≡◌, ℕ, ◌<◌, ◌≤◌, ◌+◌, ◌*◌, ◌↔◌, ◌≢◌, ◌⊎◌, Option, Some, None};
+ghost use Rattle.std.specs.Prelude.{◌≡◌, ℕ, ◌<◌, ◌↔◌, ◌≢◌, ◌⊎◌, Option, Some};
 ghost use Rattle.heap_words.specs.Sizes.{size_of};
-ghost use Rattle.heap_model.specs.Graph.{Graph, next_name};
+ghost use Rattle.heap_model.specs.Graph.{Graph};
 ghost use Rattle.heap_model.specs.Heap.{IsShown};
 ghost use Rattle.heap_model.specs.Weak.{KeepsUnreached};
 ghost use Rattle.object_graph.specs.State.{State, ForSnapshot, places_of};

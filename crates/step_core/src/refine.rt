@@ -6,7 +6,6 @@
 //!   then         queue 3          region 1 covers 5        region 3 covers 2 5
 //! ```
 
-ghost use Rattle.std.specs.Prelude.{◌≡◌};
 ghost use Rattle.heap_model.specs.Graph.{Graph};
 ghost use Rattle.step_core.specs.Stands.{ShowsGraph, KeepsFrom};
 ghost use Rattle.step_core.specs.Refining.{RefinesCard, HasRefined};

@@ -1,6 +1,6 @@
 //! A list of steps, one after another, in a new heap.
 
-ghost use Rattle.std.specs.Prelude.{◌≡◌, ◌<◌, All, IfOk, IfErr, OnOk, map};
+ghost use Rattle.std.specs.Prelude.{◌≡◌, All, IfOk, IfErr, OnOk, map};
 ghost use Rattle.heap_words.specs.Configs.{Suits};
 ghost use Rattle.object_graph.specs.State.{State, first_state};
 ghost use Rattle.object_graph.specs.Run.{IsRun};
@@ -11,7 +11,7 @@ ghost use Rattle.heap_steps.specs.Faults.{IsRunFault};
 ghost use Rattle.step_core.specs.Histories.{Runs, RunsTo, RunsFromNew, step_in, actor_in, actor_of};
 
 use crate::heap::Core;
-use heap_steps::{Actor, Event, Op, Record, RunFault, Step, run_fault};
+use heap_steps::{Actor, Event, Record, RunFault, Step, run_fault};
 use heap_words::config::Config;
 use std::alloc::{AllocError, Global};
 

@@ -1,6 +1,6 @@
 //! A step: a mutator's, or the collector's.
 
-ghost use Rattle.std.specs.Prelude.{◌≡◌, ◌↔◌, ℕ, ◌<◌};
+ghost use Rattle.std.specs.Prelude.{◌≡◌, ◌↔◌, ℕ};
 ghost use Rattle.heap_steps.specs.Actors.{IsStep};
 ghost use Rattle.heap_steps.specs.declared.step.Step.TheVariants as steps;
 ghost use Rattle.heap_steps.specs.declared.step.Reply.TheVariants as replies;

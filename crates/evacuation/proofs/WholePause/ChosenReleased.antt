@@ -4,6 +4,7 @@ use Rattle.std.proofs.Common.{ℕ, suc, zero, Bool, true, false, List, [], Some,
 use Rattle.std.proofs.Common.{take, refl, sym, ap, subst, inl, inr, arith, eqb}
 use Rattle.std.specs.Prelude.{slice_get, ◌||◌, ◌==◌, if◌then◌else◌}
 use Rattle.std.specs.List.{list_any}
+use Rattle.std.specs.Cmp.{nat_eq_equiv}
 use Rattle.std.proofs.lemmas.Bool.{cases_eq, cases_Bool}
 use Rattle.std.proofs.lemmas.List.Folds.{list_any-append}
 use Rattle.std.proofs.lemmas.List.{get_or-set_same, get_or-set_other, length-set, take_more}
@@ -72,12 +73,6 @@ module _ (xs ys : List LiveRow) (r : ℕ) (more : (k : ℕ) → is_chosen ys k �
         others = λ k e. let (a, b) = old_both k e in w.others k b ∙ done.others k a;
       }
 
-  eqb_turned : (a b : ℕ) → eqb a b ≡ eqb b a
-  eqb_turned a b = elim (eqb_tells a b) [
-    | inl q ↦ q.0 ∙ sym (eq-eqb b a (sym q.1))
-    | inr q ↦ elim (eqb_tells b a) [ inl r ↦ absurd (q.1 (sym r.1)) | inr r ↦ q.0 ∙ sym r.0 ]
-  ]
-
   if_both : {A : Type 0} (a b : Bool) (x y : A) → (if b then x else (if a then x else y)) ≡ (if a || b then x else y)
   if_both true true x y = refl
   if_both true false x y = refl
@@ -99,7 +94,7 @@ module _ (xs ys : List LiveRow) (r : ℕ) (more : (k : ℕ) → is_chosen ys k �
     entered = λ card.
         has-without s1.cards_per_region r s1.entered card
         ∙ ap (λ (n : ℕ). if eqb (card / n) r then false else has s1.entered card) done.cards
-        ∙ ap (λ (b : Bool). if b then false else has s1.entered card) (eqb_turned (card / s0.cards_per_region) r)
+        ∙ ap (λ (b : Bool). if b then false else has s1.entered card) (nat_eq_equiv.symm (card / s0.cards_per_region) r)
         ∙ ap (λ (b : Bool). if eqb r (card / s0.cards_per_region) then false else b) (done.entered card)
         ∙ if_both (is_chosen xs (card / s0.cards_per_region)) (eqb r (card / s0.cards_per_region)) false (has s0.entered card)
         ∙ ap (λ (b : Bool). if b then false else has s0.entered card) (sym (more (card / s0.cards_per_region)));

@@ -1,7 +1,6 @@
 //! Steps, read from the words of their lines.
 
 ghost use Rattle.std.specs.Prelude.{◌≡◌, ◌<◌, ◌∷◌, [], Some, map, IfOk};
-ghost use Rattle.script_text.specs.Reading.{number_of, small, register_of, global_of, value_of};
 ghost use Rattle.script_text.specs.Reading.{new_of, get_of, put_of, write_of, read_of, move_of, drop_of, load_of, save_of, shape_of};
 ghost use Rattle.script_text.specs.Reading.{new_weak_of, get_weak_of, put_weak_of, weaks_of, scope_of};
 ghost use Rattle.script_text.specs.Reading.{longest_action_of, long_action_of, pair_action_of, lone_action_of, action_of};

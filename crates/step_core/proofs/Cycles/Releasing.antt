@@ -2,7 +2,7 @@
 use Rattle.std.proofs.Common.{◌≡◌, ◌+◌, ◌-◌, ◌*◌, ◌/◌, ◌<◌, ◌≤◌, ◌⊎◌, ◌∙◌}
 use Rattle.std.proofs.Common.{ℕ, Bool, true, false, cond, List, Option, Some, None, length, refl, sym, ap, subst, arith, inl, inr}
 use Rattle.std.specs.Prelude.{◌↔◌, slice_get, slice_index, nat_lt}
-use Rattle.std.proofs.lemmas.Bool.{cases_eq}
+use Rattle.std.proofs.lemmas.Bool.{cases_eq, and_from, and_parts}
 use Rattle.heap_model.specs.Graph.{Graph}
 use Rattle.heap_model.specs.Heap.{Stored, fields}
 use Rattle.heap_model.proofs.Changed.{same_shows}
@@ -29,7 +29,6 @@ use Rattle.marker.proofs.Forgotten.{table_stands}
 use Rattle.cards.specs.Cards.{is_dirty}
 use Rattle.heap_words.specs.Bits.{has}
 use Rattle.remembered_sets.specs.Sets.{Sets, CardSet, covers, may_lead, set_covers, set_of, empty_set}
-use Rattle.remembered_sets.proofs.Laws.{both_true, left_true, right_true}
 use Rattle.refinement.specs.Remembering.{Remembers, field_card, field_word}
 use Rattle.refinement.proofs.Fields.{region_of_card}
 use Rattle.refinement.proofs.Holders.{kept_object}
@@ -310,10 +309,9 @@ module _ (k : CoreState) (core : IsCore k) (shaped : IsShaped k.table) (n m : �
               | inr covered ↦ elim (block_cases n m (target / size)) [
                 | inl out ↦
                     let card : ℕ = field_card (card_words k.config) at index in
-                    let is_in = right_true (covers k.sets (target / size) card) (has k.sets.entered card) covered in
-                    inr (both_true (covers ss (target / size) card) (has ss.entered card)
-                    (covers_others (target / size) card out
-                    (left_true (covers k.sets (target / size) card) (has k.sets.entered card) covered))
+                    let (was, is_in) = and_parts (covers k.sets (target / size) card) (has k.sets.entered card) covered in
+                    inr (and_from (covers ss (target / size) card) (has ss.entered card)
+                    (covers_others (target / size) card out was)
                     (field_entered at index x.object (Some target) x.kept_is x.field_is ∙ is_in))
                 | inr q ↦ absurd (let none = none_there target q.0 q.1 in let kept = there.1 in cc)
               ]

@@ -18,7 +18,7 @@ use Rattle.regions.specs.Tiles.{Object, tile_size}
 use Rattle.regions.specs.Table.{Table, nth_region, region_used, kind_of, object_at, object_words, used_of}
 use Rattle.regions.specs.declared.row.Kind.TheVariants as kinds
 use Rattle.alloc_buffers.specs.Placement as placement
-use Rattle.alloc_buffers.specs.Placement.{Buffers, BuffersStand, AreAbove}
+use Rattle.alloc_buffers.specs.Placement.{Buffers, BuffersStand}
 use Rattle.alloc_buffers.proofs.Placed.{closed_stand, retired_above}
 use Rattle.mark_bitmap.specs.Marks.{is_marked}
 use Rattle.mark_bitmap.specs.Tops.{Tops, is_below, is_in_region, below_next, AreNewer}
