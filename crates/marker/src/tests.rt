@@ -1,6 +1,6 @@
 //! Marking over tables made by hand.
 
-ghost use Rattle.std.specs.Prelude.{◌≡◌, ℕ, ◌<◌, ◌^◌, true, false, Some, length, slice_get, IfOk, IfSome};
+ghost use Rattle.std.specs.Prelude.{◌≡◌, ℕ, true, false, Some, length, slice_get, IfOk, IfSome};
 ghost use Rattle.heap_words.specs.Configs.{Suits};
 ghost use Rattle.regions.specs.Table.{HasObject};
 ghost use Rattle.mark_bitmap.specs.Tops.{below_previous};
@@ -8,7 +8,7 @@ ghost use Rattle.marker.specs.Stands.{MarkerStands, IsKept};
 ghost use Rattle.marker.specs.Samples.{IsLinked, LeadToObjects, Keeps};
 
 use crate::marker::Marker;
-use heap_words::addr::{Addr, Ptr, RegionNo};
+use heap_words::addr::{Addr, RegionNo};
 use heap_words::config::{Config, Format};
 use heap_words::header::{Count, FillerSize, HeaderCounts};
 use regions::{Kind, RegionTable, Shape};
