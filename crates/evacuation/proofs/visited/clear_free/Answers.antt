@@ -17,7 +17,8 @@ loop-card-preserved-then-is_free c =
     ap (kind_of c.args.table.now) (sym (c.new.ensures ∙ c.quotient-region.ensures)) ∙ c.is_free.ensures.yes c.if-is_free.true in
     record {
       flags = cleared c.args.table.now c.args.visited.now c.loop-card.visited c.clear_range.new.self w c.loop-card.start card
-          ((c.quotient-region.result + 1) * w) i.flags low.at_least low.lowest (omega (arith, whole, at.0)) whole free c.clear_range.ensures.flags;
+          ((c.quotient-region.result + 1) * w) i.flags low.at_least low.lowest (omega (arith, whole, at.0)) whole free
+          c.clear_range.ensures.flags;
       inside = omega (arith, whole, at.1, c.clear_range.ensures.len, i.len, c.requires.each);
       len = c.clear_range.ensures.len ∙ i.len;
     }
