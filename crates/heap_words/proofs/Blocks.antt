@@ -4,6 +4,7 @@ use Rattle.std.proofs.Common.{inl, inr, ℕ, zero, suc, List, [], length, take, 
 use Rattle.std.proofs.Common.{arith, add-zero, zero-add, replicate, drop-cons}
 use Rattle.std.proofs.lemmas.List.{length-append, length-take, length-drop, append_assoc, set_at, replicate_more}
 use Rattle.std.proofs.lemmas.List.{length-replicate, get_or-append_right, get_or-drop, take_more}
+use Rattle.std.proofs.lemmas.List.{take_at, take-append-le, drop-append-le}
 use lib.Seq.{paste}
 use Rattle.heap_words.specs.Contents.{put}
 
@@ -115,3 +116,33 @@ copied_two ws from to size i s t apart h =
           | inr a ↦ inl (omega arith)
         ] in
         read_apart ws to (from + j) (take i (drop from ws)) side
+
+-- ---- words in front of others
+put_length : (ws : List ℕ) (n : ℕ) (block : List ℕ) → n + length block ≤ length ws → length (put ws n block) ≡ length ws
+put_length ws zero block h = simp (length-append, length-drop) (omega arith)
+put_length [] (suc n) block h = absurd (omega arith)
+put_length (w ∷ ws) (suc n) block h = ap suc (put_length ws n block (omega arith))
+
+put_front : (ws rest : List ℕ) (n : ℕ) (block : List ℕ) → n + length block ≤ length ws
+    → put (ws ++ rest) n block ≡ put ws n block ++ rest
+put_front ws rest zero block h =
+    ap (λ (xs : List ℕ). block ++ xs) (drop-append-le (length block) ws rest (omega arith))
+    ∙ sym (append_assoc block (drop (length block) ws) rest)
+put_front [] rest (suc n) block h = absurd (omega arith)
+put_front (w ∷ ws) rest (suc n) block h = ap (λ xs. w ∷ xs) (put_front ws rest n block (omega arith))
+
+-- what is read of the words in front
+pub read_front : (ws rest : List ℕ) (from m : ℕ) → from + m ≤ length ws → take m (drop from (ws ++ rest)) ≡ take m (drop from ws)
+read_front ws rest from m h =
+    ap (take m) (drop-append-le from ws rest (omega arith))
+    ∙ take-append-le m (drop from ws) rest (simp length-drop (omega arith))
+
+-- the words with those in front written back, and the zeros behind them
+pub put_back : (ws new : List ℕ) (count len n : ℕ) (block : List ℕ) → len ≡ length ws → new ≡ put ws n block → n + length block ≤ len
+    → take len (new ++ drop (length new) ws) ++ replicate {A = ℕ} (count - length (take len (new ++ drop (length new) ws))) 0
+    ≡ put (ws ++ replicate {A = ℕ} (count - length ws) 0) n block
+put_back ws new count len n block e is h =
+    let long : length new ≡ length ws = ap (λ (xs : List ℕ). length xs) is ∙ put_length ws n block (omega arith) in
+    let all : take len (new ++ drop (length new) ws) ≡ new = take_at new (drop (length new) ws) len (long ∙ sym e) in
+    let zeros : List ℕ = replicate {A = ℕ} (count - length ws) 0 in
+    rw (all, long) (ap (λ (xs : List ℕ). xs ++ zeros) is ∙ sym (put_front ws zeros n block (omega arith)))

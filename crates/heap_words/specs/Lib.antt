@@ -1,5 +1,6 @@
 pub mod Headers
 pub mod Contents
+pub mod Memory
 pub mod Configs
 pub mod Bits
 pub mod BitWords

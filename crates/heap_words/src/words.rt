@@ -6,12 +6,23 @@
 //!   object              + 1    + 2          + 2 + p        + 2 + p + w    + 2 + p + w + d
 //!   | header: p, w, d   | name | p pointers | w weak slots | d data words |
 //! ```
+//!
+//! A heap begins with no word written, and its words are written from the first one on as they are used for the first time:
+//!
+//! ```text
+//!   | 0 .. written | written .. count          |
+//!   | words        | each 0, and never touched |
+//! ```
+//!
+//! `reach` writes 0 up to an address, and each other access is to a word that is written. So a large heap costs at first what is used
+//! of it.
 
-ghost use Rattle.std.specs.Prelude.{◌≡◌, ◌+◌, ◌^◌, ◌<◌, ◌≤◌, ◌⊎◌, ◌∷◌};
+ghost use Rattle.std.specs.Prelude.{◌≡◌, ◌+◌, ◌^◌, ◌<◌, ◌≤◌, ◌⊎◌, ◌∷◌, [], max};
 ghost use Rattle.std.specs.Prelude.{true, length, replicate, slice_index, slice_set, take, drop, IfOk, IsSome, Some};
 ghost use Rattle.heap_words.specs.Sizes.{field_word, size_of};
 ghost use Rattle.heap_words.specs.Headers.{header_of, header_word, pointer_of, pointer_word};
 ghost use Rattle.heap_words.specs.Contents.{put, header_at, counts_of, pointer_count, pointer_count_at, field_count, field_count_at};
+ghost use Rattle.heap_words.specs.Memory.{memory};
 ghost use Rattle.heap_words.specs.declared.header.Header.TheVariants as headers;
 
 use crate::addr::{Addr, Ptr};
@@ -22,18 +33,24 @@ use crate::header::{
 use std::alloc::{AllocError, Global};
 use std::marker::Model;
 
-/// All words of a heap, in address order. Clauses see the list of the words.
+/// All words of a heap, in address order. Clauses see the list of all words, and how many of them are written.
 #[derive(Drop)]
 pub struct Words {
+    /// The words that are written. There is room for all.
     items: Vec<u64>,
+    /// How many words the heap has.
+    count: usize,
 }
 
 impl Model for Words {
-    ghost use Rattle.std.specs.Prelude.{List, ℕ};
+    ghost use Rattle.std.specs.Prelude.{◌≤◌, length, vec_capacity};
+    ghost use Rattle.heap_words.specs.Memory.{Memory, memory};
 
-    ghost Value = { List ℕ };
+    ghost Value = { Memory };
 
-    ghost view = { λ w. w.items.items };
+    ghost view = { λ w. memory w.items.items w.count };
+
+    ghost invariant = { λ w. (length w.items.items ≤ w.count) × (w.count ≤ vec_capacity w.items) };
 }
 
 /// Writes a header, a name and as many zeros as there are fields.
@@ -143,85 +160,99 @@ fn fields_in(word: u64) -> u32
 }
 
 impl Words {
-    /// So many words, each 0.
+    /// So many words, each 0 and none written. No call takes memory afterwards.
     pub fn new(alloc: Global, count: usize) -> Result<Words, AllocError>
-        ensures { IfOk result (λ words. words ≡ replicate count 0) }
+        ensures { IfOk result (λ words. words ≡ memory [] count) }
     {
         Ok(Words {
-            items: vec![in alloc; 0; count]?,
+            items: Vec::with_capacity(alloc, count)?,
+            count,
         })
     }
 
-    /// How many words there are.
-    pub fn len(&self) -> usize
-        ensures { result ≡ length self.now }
+    /// How many words are written, from the first one on.
+    pub fn written(&self) -> usize
+        ensures { result ≡ self.now.written }
     {
         self.items.len()
     }
 
+    /// The words below an address are written: 0 where they weren't.
+    #[inline(always)]
+    pub fn reach(&mut self, end: u32)
+        requires { end ≤ length self.old.all }
+        ensures all { self.new.all ≡ self.old.all }
+        ensures written { self.new.written ≡ max self.old.written end }
+    {
+        if self.items.len() < end as usize {
+            self.items.resize(end as usize, 0).unwrap();
+        }
+    }
+
     /// The header at an address, None if the word there is ill-formed.
     pub fn header(&self, at: Addr) -> Option<Header>
-        requires { at < length self.now }
-        ensures { result ≡ header_at self.now at }
+        requires { at < self.now.written }
+        ensures { result ≡ header_at self.now.all at }
     {
         decode_header(self.items[at.word() as usize])
     }
 
     /// How many pointers, weak slots and data words the object at an address has, None if no object's header is there.
     pub fn object_at(&self, at: Addr) -> Option<HeaderCounts>
-        requires { at < length self.now }
-        ensures { result ≡ counts_of (header_at self.now at) }
+        requires { at < self.now.written }
+        ensures { result ≡ counts_of (header_at self.now.all at) }
     {
         counts_in(self.items[at.word() as usize])
     }
 
     /// How many pointers the object at an address has. One is there, so its header isn't looked at for that.
     pub fn pointer_count(&self, object: Addr) -> u32
-        requires within { object < length self.now }
-        requires object { IsSome (counts_of (header_at self.now object)) }
-        ensures { result ≡ pointer_count_at self.now object }
+        requires within { object < self.now.written }
+        requires object { IsSome (counts_of (header_at self.now.all object)) }
+        ensures { result ≡ pointer_count_at self.now.all object }
     {
         pointers_in(self.items[object.word() as usize])
     }
 
     /// How many pointers, weak slots and data words the object at an address has. One is there, so its header isn't looked at for that.
     pub fn counts(&self, object: Addr) -> HeaderCounts
-        requires within { object < length self.now }
-        requires object { IsSome (counts_of (header_at self.now object)) }
-        ensures { counts_of (header_at self.now object) ≡ Some result }
+        requires within { object < self.now.written }
+        requires object { IsSome (counts_of (header_at self.now.all object)) }
+        ensures { counts_of (header_at self.now.all object) ≡ Some result }
     {
         object_counts(self.items[object.word() as usize])
     }
 
     /// The name of the object at an address, which stands behind its header.
     pub fn name(&self, object: Addr) -> u64
-        requires { object + 1 < length self.now }
-        ensures { result ≡ slice_index self.now (object + 1) }
+        requires { object + 1 < self.now.written }
+        ensures { result ≡ slice_index self.now.all (object + 1) }
     {
         self.items[object.word() as usize + 1]
     }
 
     /// A field of the object at an address, counted from 0: its pointers, then its weak slots.
     pub fn get_field(&self, object: Addr, field: u32) -> Ptr
-        requires { field_word object field < length self.now }
-        ensures { result ≡ pointer_of (slice_index self.now (field_word object field)) }
+        requires { field_word object field < self.now.written }
+        ensures { result ≡ pointer_of (slice_index self.now.all (field_word object field)) }
     {
         decode_pointer(self.items[object.field(field)])
     }
 
     /// Sets a field of the object at an address.
     pub fn set_field(&mut self, object: Addr, field: u32, target: Ptr)
-        requires { field_word object field < length self.old }
-        ensures word { self.new ≡ slice_set self.old (field_word object field) (pointer_word target) }
+        requires { field_word object field < self.old.written }
+        ensures word { self.new.all ≡ slice_set self.old.all (field_word object field) (pointer_word target) }
         ensures back { pointer_of (pointer_word target) ≡ target }
+        ensures written { self.new.written ≡ self.old.written }
     {
         self.items[object.field(field)] = encode_pointer(target);
     }
 
     /// Where a data word of the object at an address is.
     fn data_place(&self, object: Addr, field: u32) -> usize
-        requires { object < length self.now }
-        ensures { result ≡ field_word object (field_count_at self.now object) + field }
+        requires { object < self.now.written }
+        ensures { result ≡ field_word object (field_count_at self.now.all object) + field }
     {
         let fields = match self.object_at(object) {
             Some(counts) => counts.pointers.get() + u32::from(counts.weaks),
@@ -232,9 +263,9 @@ impl Words {
 
     /// A data word of the object at an address, counted from 0 behind its fields. One is there, so its header isn't looked at for that.
     pub fn value(&self, object: Addr, field: u32) -> u64
-        requires within { field_word object (field_count_at self.now object) + field < length self.now }
-        requires object { IsSome (counts_of (header_at self.now object)) }
-        ensures { result ≡ slice_index self.now (field_word object (field_count_at self.now object) + field) }
+        requires within { field_word object (field_count_at self.now.all object) + field < self.now.written }
+        requires object { IsSome (counts_of (header_at self.now.all object)) }
+        ensures { result ≡ slice_index self.now.all (field_word object (field_count_at self.now.all object) + field) }
     {
         let fields = fields_in(self.items[object.word() as usize]);
         self.items[object.field(fields) + field as usize]
@@ -242,9 +273,10 @@ impl Words {
 
     /// Sets a data word of the object at an address.
     pub fn set_value(&mut self, object: Addr, field: u32, value: u64)
-        requires at { object < length self.old }
-        requires within { field_word object (field_count_at self.old object) + field < length self.old }
-        ensures { self.new ≡ slice_set self.old (field_word object (field_count_at self.old object) + field) value }
+        requires at { object < self.old.written }
+        requires within { field_word object (field_count_at self.old.all object) + field < self.old.written }
+        ensures all { self.new.all ≡ slice_set self.old.all (field_word object (field_count_at self.old.all object) + field) value }
+        ensures written { self.new.written ≡ self.old.written }
     {
         let at = self.data_place(object, field);
         self.items[at] = value;
@@ -252,10 +284,11 @@ impl Words {
 
     /// Writes an object whose pointers and weak slots are nil and whose data words are 0.
     pub fn write_object(&mut self, at: Addr, name: u64, counts: HeaderCounts)
-        requires { at + size_of counts.pointers counts.weaks counts.values ≤ length self.old }
-        ensures { self.new ≡ put self.old at
+        requires { at + size_of counts.pointers counts.weaks counts.values ≤ self.old.written }
+        ensures all { self.new.all ≡ put self.old.all at
             (header_word (headers.Object counts.pointers counts.weaks counts.values) ∷ name
             ∷ replicate (counts.pointers + counts.weaks + counts.values) 0) }
+        ensures written { self.new.written ≡ self.old.written }
     {
         let HeaderCounts {
             pointers,
@@ -273,25 +306,28 @@ impl Words {
 
     /// Writes a filler's header. Its other words stay.
     pub fn write_filler(&mut self, at: Addr, size: FillerSize)
-        requires { at < length self.old }
-        ensures { self.new ≡ slice_set self.old at (header_word (headers.Filler size)) }
+        requires { at < self.old.written }
+        ensures all { self.new.all ≡ slice_set self.old.all at (header_word (headers.Filler size)) }
+        ensures written { self.new.written ≡ self.old.written }
     {
         self.items[at.word() as usize] = encode_header(Header::Filler { size });
     }
 
     /// Writes the header of an object that was forwarded. Its other words stay.
     pub fn write_forwarded(&mut self, at: Addr, to: Addr)
-        requires { at < length self.old }
-        ensures { self.new ≡ slice_set self.old at (header_word (headers.Forwarded to)) }
+        requires { at < self.old.written }
+        ensures all { self.new.all ≡ slice_set self.old.all at (header_word (headers.Forwarded to)) }
+        ensures written { self.new.written ≡ self.old.written }
     {
         self.items[at.word() as usize] = encode_header(Header::Forwarded { to });
     }
 
     /// Copies so many words to another place. The two places may overlap.
     pub fn copy(&mut self, from: Addr, to: Addr, size: u32)
-        requires source { from + size ≤ length self.old }
-        requires target { to + size ≤ length self.old }
-        ensures { self.new ≡ put self.old to (take size (drop from self.old)) }
+        requires source { from + size ≤ self.old.written }
+        requires target { to + size ≤ self.old.written }
+        ensures all { self.new.all ≡ put self.old.all to (take size (drop from self.old.all)) }
+        ensures written { self.new.written ≡ self.old.written }
     {
         copy_within(
             &mut self.items,
@@ -308,8 +344,8 @@ mod tests {
     use std::test::Fail;
 
     fn fields_of(words: &Words, object: Addr) -> u32
-        requires { object < length words.now }
-        ensures { result ≡ field_count_at words.now object }
+        requires { object < words.now.written }
+        ensures { result ≡ field_count_at words.now.all object }
     {
         match words.object_at(object) {
             Some(counts) => u32::from(counts.weaks) + counts.pointers.get(),
@@ -332,21 +368,22 @@ mod tests {
     /// An object of one pointer and two data words, a filler behind it, and a copy of the object.
     #[test]
     fn holds_objects(rt: HostRuntime) -> Result<(), Fail> {
-        let mut words = Words::new(rt.alloc(), 16)?;
-        assert!(rt; words.len() == 16);
+        let mut words = Words::new(rt.alloc(), 20)?;
+        assert!(rt; words.written() == 0);
+        words.reach(16);
         let object = Addr::new(1);
         words.write_object(object, 7, small());
-        assert!(rt; words.len() == 16);
+        assert!(rt; words.written() == 16);
         words.write_filler(Addr::new(6), FillerSize::new(2));
         words.set_field(object, 0, Some(Addr::new(8)));
-        assert!(rt; words.len() == 16);
+        assert!(rt; words.written() == 16);
         assert!(rt; fields_of(&words, object) == 1);
         words.set_value(object, 1, 9);
-        assert!(rt; words.len() == 16);
+        assert!(rt; words.written() == 16);
         words.copy(object, Addr::new(8), 5);
-        assert!(rt; words.len() == 16);
+        assert!(rt; words.written() == 16);
         words.write_forwarded(object, Addr::new(8));
-        assert!(rt; words.len() == 16);
+        assert!(rt; words.written() == 16);
         let copy = Addr::new(8);
         assert!(rt; fields_of(&words, copy) == 1);
         assert_eq!(rt; words.object_at(copy), Some(small()));
@@ -377,18 +414,19 @@ mod tests {
     /// An object of one pointer, two weak slots and one data word.
     #[test]
     fn holds_weak_slots(rt: HostRuntime) -> Result<(), Fail> {
-        let mut words = Words::new(rt.alloc(), 16)?;
-        assert!(rt; words.len() == 16);
+        let mut words = Words::new(rt.alloc(), 20)?;
+        assert!(rt; words.written() == 0);
+        words.reach(16);
         let object = Addr::new(4);
         words.write_object(object, 7, slotted());
-        assert!(rt; words.len() == 16);
+        assert!(rt; words.written() == 16);
         words.set_field(object, 1, Some(Addr::new(9)));
-        assert!(rt; words.len() == 16);
+        assert!(rt; words.written() == 16);
         words.set_field(object, 2, Some(object));
-        assert!(rt; words.len() == 16);
+        assert!(rt; words.written() == 16);
         assert!(rt; fields_of(&words, object) == 3);
         words.set_value(object, 0, 5);
-        assert!(rt; words.len() == 16);
+        assert!(rt; words.written() == 16);
         assert!(rt; fields_of(&words, object) == 3);
         assert_eq!(rt; words.object_at(object), Some(slotted()));
         assert_eq!(rt; words.name(object), 7);

@@ -21,3 +21,4 @@ pub mod Steps
 pub mod Lowest
 pub mod Holders
 pub mod WeakStarts
+pub mod Within

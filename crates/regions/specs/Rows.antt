@@ -1,5 +1,5 @@
 -- How the words of the heap are read as regions.
-use Rattle.std.specs.Prelude.{◌≡◌, ◌-◌, ◌*◌, ◌^◌, ◌<◌, ◌≤◌, ◌∷◌}
+use Rattle.std.specs.Prelude.{◌≡◌, ◌+◌, ◌-◌, ◌*◌, ◌^◌, ◌<◌, ◌≤◌, ◌∷◌}
 use Rattle.std.specs.Prelude.{ℕ, zero, suc, min, Bool, true, false, Option, Some, None, List, [], length}
 use Rattle.std.specs.Prelude.{take, drop, slice_index, slice_set, slice_index_or}
 use Rattle.heap_words.specs.Sizes.{size_of}
@@ -7,9 +7,10 @@ use Rattle.heap_words.specs.Configs.{max_words, max_region_words}
 use Rattle.heap_words.specs.declared.header.Header.{Header}
 use Rattle.heap_words.specs.declared.header.Header.TheVariants as headers
 use Rattle.heap_words.specs.Headers.{header_of, header_word}
+use Rattle.heap_words.specs.Memory.{Memory}
 use Rattle.heap_model.specs.Heap.{Stored}
-use Rattle.regions.specs.Tiles.{stored_of, tiles, IsTiled}
-use Rattle.regions.specs.Table.{Region, Free, Ordinary, First, Rest, Table, HasTargets}
+use Rattle.regions.specs.Tiles.{Tile, tile_size, stored_of, tiles, IsTiled}
+use Rattle.regions.specs.Table.{Region, Free, Ordinary, First, Rest, Table, HasTargets, tile_in}
 use Rattle.regions.specs.FirstTiles.{Entries, AreEntries}
 use Rattle.regions.specs.WeakStarts.{Starts, AreStarts}
 use Rattle.regions.specs.declared.row.Row.{Row}
@@ -137,19 +138,24 @@ free_row = record { kind = kinds.Free; used = 0 }
 abbrev pub AreUsedBelow : ℕ → List Row → Type 0
 AreUsedBelow n rows = (k : ℕ) → k < n → kind_is_free (slice_index_or rows k free_row).kind ≡ false
 
--- words and rows are a table's, with 2 ^ shift words a region, which are whole cards; no row below `lowest` is free; each card
--- has its entry; and `weaks` tells where objects with weak slots start
-pub record IsSound (size shift lowest : ℕ) (entries : Entries) (weaks : Starts) (words : List ℕ) (rows : List Row) : Type 0 where
-  pub table : IsTable size words rows
+-- each tile stands in the first n words
+pub record AreWithin (t : Table) (n : ℕ) : Type 0 where
+  pub each : (a : ℕ) (tile : Tile) → tile_in t a ≡ Some tile → a + tile_size tile ≤ n
+
+-- words and rows are a table's, with 2 ^ shift words a region, which are whole cards; each tile stands in the words that are
+-- written; no row below `lowest` is free; each card has its entry; and `weaks` tells where objects with weak slots start
+pub record IsSound (size shift lowest : ℕ) (entries : Entries) (weaks : Starts) (memory : Memory) (rows : List Row) : Type 0 where
+  pub table : IsTable size memory.all rows
+  pub written : AreWithin (table_of size memory.all rows) memory.written
   pub power : size ≡ 2 ^ shift
   pub narrow : shift < 32
   pub used_below : AreUsedBelow lowest rows
   pub whole_cards : (cards : ℕ) × (size ≡ cards * entries.card_words)
-  pub each_card : length words ≡ length entries.starts * entries.card_words
-  pub first_tiles : AreEntries (table_of size words rows) entries
+  pub each_card : length memory.all ≡ length entries.starts * entries.card_words
+  pub first_tiles : AreEntries (table_of size memory.all rows) entries
   pub weak_regions : weaks.region_words ≡ size
-  pub weak_count : length weaks.flags ≡ length words
-  pub weak_starts : AreStarts (table_of size words rows) weaks.flags
+  pub weak_count : length weaks.flags ≡ length memory.all
+  pub weak_starts : AreStarts (table_of size memory.all rows) weaks.flags
 
 -- the kind of a run's i-th region
 abbrev pub run_kind : ℕ → Kind

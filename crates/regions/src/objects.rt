@@ -12,18 +12,18 @@ use heap_words::words::Words;
 
 /// How many pointers the object at an address has.
 fn pointers_in(words: &Words, at: Addr) -> u32
-    requires within { at < length words.now }
-    requires object { IsSome (counts_of (header_at words.now at)) }
-    ensures { result ≡ pointer_count_at words.now at }
+    requires within { at < words.now.written }
+    requires object { IsSome (counts_of (header_at words.now.all at)) }
+    ensures { result ≡ pointer_count_at words.now.all at }
 {
     words.pointer_count(at)
 }
 
 /// How many fields the object at an address has.
 fn fields_in(words: &Words, at: Addr) -> u32
-    requires within { at < length words.now }
-    requires object { IsSome (counts_of (header_at words.now at)) }
-    ensures { result ≡ field_count_at words.now at }
+    requires within { at < words.now.written }
+    requires object { IsSome (counts_of (header_at words.now.all at)) }
+    ensures { result ≡ field_count_at words.now.all at }
 {
     let counts = words.counts(at);
     counts.pointers.get() + u32::from(counts.weaks)
@@ -31,35 +31,35 @@ fn fields_in(words: &Words, at: Addr) -> u32
 
 /// How many weak slots the object at an address has.
 fn weaks_in(words: &Words, at: Addr) -> u32
-    requires within { at < length words.now }
-    requires object { IsSome (counts_of (header_at words.now at)) }
-    ensures { result ≡ weak_count (header_at words.now at) }
+    requires within { at < words.now.written }
+    requires object { IsSome (counts_of (header_at words.now.all at)) }
+    ensures { result ≡ weak_count (header_at words.now.all at) }
 {
     u32::from(words.counts(at).weaks)
 }
 
 /// How many data words the object at an address has.
 fn values_in(words: &Words, at: Addr) -> u32
-    requires within { at < length words.now }
-    requires object { IsSome (counts_of (header_at words.now at)) }
-    ensures { result ≡ value_count (header_at words.now at) }
+    requires within { at < words.now.written }
+    requires object { IsSome (counts_of (header_at words.now.all at)) }
+    ensures { result ≡ value_count (header_at words.now.all at) }
 {
     words.counts(at).values.get()
 }
 
 /// How many words the object at an address has.
 fn size_in(words: &Words, at: Addr) -> u32
-    requires within { at < length words.now }
-    requires object { IsSome (counts_of (header_at words.now at)) }
-    ensures { result ≡ sizes_in words.now at }
+    requires within { at < words.now.written }
+    requires object { IsSome (counts_of (header_at words.now.all at)) }
+    ensures { result ≡ sizes_in words.now.all at }
 {
     words.counts(at).size()
 }
 
 /// Where the object at an address went, if it is forwarded.
 fn target_in(words: &Words, at: Addr) -> Option<Addr>
-    requires { at < length words.now }
-    ensures { result ≡ header_target (header_at words.now at) }
+    requires { at < words.now.written }
+    ensures { result ≡ header_target (header_at words.now.all at) }
 {
     match words.header(at) {
         Some(header) => match header {

@@ -82,6 +82,8 @@ impl RegionTable {
         let weaks = u32::from(counts.weaks);
         let size = counts.size();
         let bottom = number * self.words_per_region;
+        let end = bottom + size;
+        self.words.reach(end);
         self.words.write_object(Addr::new(bottom), name, counts);
         self.first_tiles.put_object(bottom, size);
         write_run(

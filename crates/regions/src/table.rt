@@ -40,7 +40,7 @@ impl Model for RegionTable {
 
     ghost use Rattle.regions.specs.Rows.{table_of, IsSound};
 
-    ghost view = { λ a. table_of a.words_per_region a.words a.rows.items };
+    ghost view = { λ a. table_of a.words_per_region a.words.all a.rows.items };
 
     ghost invariant = { λ a. IsSound a.words_per_region a.shift a.lowest a.first_tiles a.weak_starts a.words a.rows.items };
 }
@@ -63,8 +63,8 @@ impl Drop for RegionTable {
 /// The size of the object at an address, 1 where there is none.
 #[tactic(auto, unfolding(heap_words::specs::Headers::header_of))]
 pub(crate) fn size_at(words: &Words, at: Addr) -> u32
-    requires { at < length words.now }
-    ensures { result ≡ sizes_in words.now at }
+    requires { at < words.now.written }
+    ensures { result ≡ sizes_in words.now.all at }
 {
     match words.object_at(at) {
         Some(counts) => counts.size(),
@@ -74,9 +74,9 @@ pub(crate) fn size_at(words: &Words, at: Addr) -> u32
 
 /// What the tile at an address is.
 pub(crate) fn shape_at(words: &Words, at: Addr) -> Shape
-    requires known { at < length words.now }
-    requires target { IsBelow (header_target (header_at words.now at)) (length words.now) }
-    ensures { result ≡ shape_by (sizes_in words.now) (header_at words.now at) }
+    requires known { at < words.now.written }
+    requires target { IsBelow (header_target (header_at words.now.all at)) words.now.written }
+    ensures { result ≡ shape_by (sizes_in words.now.all) (header_at words.now.all at) }
 {
     match words.header(at) {
         Some(header) => match header {

@@ -58,9 +58,10 @@ fn write_free(rows: &mut [Row], at: usize, count: usize)
 /// Writes a filler's header, unless the filler has no words.
 #[inline(always)]
 fn write_remainder(words: &mut Words, at: u32, size: u32)
-    requires within { at + size ≤ length words.old }
+    requires within { at + size ≤ words.old.written }
     requires small { size < 2 ^ 24 }
-    ensures { words.new ≡ put_remainder words.old at size }
+    ensures all { words.new.all ≡ put_remainder words.old.all at size }
+    ensures written { words.new.written ≡ words.old.written }
 {
     if size > 0 {
         words.write_filler(Addr::new(at), FillerSize::new(size));
@@ -107,6 +108,8 @@ impl RegionTable {
     {
         let more = size.get();
         let at = self.top(region);
+        let end = at.word() + more;
+        self.words.reach(end);
         self.words.write_filler(at, size);
         self.first_tiles.put_filler(at.word(), more);
         let number = region.number() as usize;
@@ -183,6 +186,8 @@ impl RegionTable {
         let to = self.top(region);
         let size = self.object_size(from);
         let weaks = self.weak_count(from);
+        let end = to.word() + size;
+        self.words.reach(end);
         self.words.copy(from, to, size);
         self.first_tiles.put_object(to.word(), size);
         let number = region.number() as usize;

@@ -1,6 +1,6 @@
 -- What a moved tile tells of its new place.
-use Rattle.std.proofs.Common.{◌≡◌, ◌-◌, ◌/◌, ◌%◌, ◌<◌, ◌∷◌, ◌∙◌}
-use Rattle.std.proofs.Common.{arith, ℕ, zero, suc, Option, Some, None, List, [], length, get_or, refl, sym, ap, subst}
+use Rattle.std.proofs.Common.{◌≡◌, ◌-◌, ◌/◌, ◌%◌, ◌∷◌, ◌∙◌}
+use Rattle.std.proofs.Common.{ℕ, zero, suc, Option, Some, None, List, [], get_or, refl, sym, ap, subst}
 use Rattle.std.specs.Prelude.{IsSome}
 use Rattle.heap_words.specs.declared.header.Header.{Header}
 use Rattle.heap_words.specs.declared.header.Header.TheVariants as headers
@@ -8,7 +8,7 @@ use Rattle.heap_words.specs.Headers.{header_of}
 use Rattle.regions.specs.Tiles.{Tile, Object, Filler, Forwarded, tile_size, tile_at}
 use Rattle.regions.specs.Table.{Region, Free, Ordinary, First, Rest, Table, region_tile, region_at, tile_in, EachForwarded}
 use Rattle.regions.specs.Table.{EachForwardedIn, HasObject, AreTargetsRight, moved_to}
-use Rattle.regions.specs.Rows.{IsBelow, sizes_in, table_of, IsTable, header_target}
+use Rattle.regions.specs.Rows.{sizes_in, table_of, IsTable, header_target}
 use Rattle.regions.specs.Shapes.{shape_by, tile_shape}
 use Rattle.regions.specs.declared.row.Row.{Row}
 use Rattle.regions.proofs.Words.Parse.{past}
@@ -70,22 +70,8 @@ target_shape f (Some (headers.Forwarded at)) (Filler n) h = cc
 target_shape f (Some (headers.Forwarded at)) (Forwarded to n) h = cc
 
 pub target_is : (size : ℕ) (words : List ℕ) (rows : List Row) (t : Table) (x : ℕ) → IsTable size words rows → table_of size words rows ≡ t
-    → IsSome (tile_in t x) → (x < length words) × (header_target (header_of (get_or words x 0)) ≡ moved_to (tile_in t x))
+    → IsSome (tile_in t x) → header_target (header_of (get_or words x 0)) ≡ moved_to (tile_in t x)
 target_is size words rows t x g e h =
     let s = some_tile (tile_in t x) h in
     let i = tile_shown size words rows t x s.0 g e s.1 in
-    (i.in_words, target_shape (sizes_in words) (header_of (get_or words x 0)) s.0 i.shape_is ∙ sym (ap moved_to s.1))
-
--- a forwarded header's target lies in the words
-pub target_within : (size : ℕ) (words : List ℕ) (rows : List Row) (t : Table) (x : ℕ) (tile : Tile) → IsTable size words rows
-    → table_of size words rows ≡ t → tile_in t x ≡ Some tile → IsBelow (header_target (header_of (get_or words x 0))) (length words)
-target_within size words rows t x tile g e h = go tile h (target_is size words rows t x g e (rw h refl)).1
-  where
-    go : (tile : Tile) → tile_in t x ≡ Some tile → header_target (header_of (get_or words x 0)) ≡ moved_to (tile_in t x)
-        → IsBelow (header_target (header_of (get_or words x 0))) (length words)
-    go (Object s) f is = rw (is, f) tt
-    go (Filler n) f is = rw (is, f) tt
-    go (Forwarded to n) f is =
-        let o = moved_in (HasObject t) t x to n (targets_of size words rows t g e) f in
-        let i = there size words rows t to o.object g e o.is in
-        rw (is, f) (omega (arith, i.fits, i.large))
+    target_shape (sizes_in words) (header_of (get_or words x 0)) s.0 i.shape_is ∙ sym (ap moved_to s.1)

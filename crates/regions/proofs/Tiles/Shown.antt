@@ -81,9 +81,8 @@ some_tile None h = cc
 some_tile (Some t) h = (t, refl)
 
 pub shown_there : (size : ℕ) (words : List ℕ) (rows : List Row) (t : Table) (x : ℕ) → IsTable size words rows → table_of size words rows ≡ t
-    → IsSome (tile_in t x)
-    → (x < length words) × IfSome (tile_in t x) (λ tile. shape_by (sizes_in words) (header_of (get_or words x 0)) ≡ tile_shape tile)
+    → IsSome (tile_in t x) → IfSome (tile_in t x) (λ tile. shape_by (sizes_in words) (header_of (get_or words x 0)) ≡ tile_shape tile)
 shown_there size words rows t x g e h =
     let s = some_tile (tile_in t x) h in
     let i = tile_shown size words rows t x s.0 g e s.1 in
-    (i.in_words, rw s.1 i.shape_is)
+    rw s.1 i.shape_is

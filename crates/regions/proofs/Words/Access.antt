@@ -13,7 +13,7 @@ use Rattle.regions.specs.Table.{weaks_at, put_object, set_pointer, set_weak, IsO
 use Rattle.regions.specs.Rows.{sizes_in, first_stored, region_of, table_of, IsTable, free_row}
 use Rattle.regions.specs.declared.row.Row.{Row}
 use Rattle.regions.proofs.Rows.RowLemmas.{regions-at}
-use Rattle.regions.proofs.Words.Places.{table_right, InFirst, object_place, IsIn, object_is_in}
+use Rattle.regions.proofs.Words.Places.{table_right, IsInObject, InFirst, object_place, IsIn, object_is_in}
 use Rattle.std.specs.List.{slice_get}
 use Rattle.std.proofs.lemmas.Option.{slice_get-get_or}
 use Rattle.regions.proofs.Tiles.Kept.{put_kept}
@@ -54,6 +54,7 @@ pointer_word_at words x i s g h =
 
 pub record IsPointerRead (words : List ℕ) (t : Table) (x i : ℕ) : Type 0 where
   pub in_words : x + 2 + i < length words
+  pub in_object : IsInObject t x (x + 2 + i)
   pub value : slice_get (pointers_at t x) i ≡ Some (pointer_of (get_or words (x + 2 + i) 0))
 
 pub pointer_read : (size : ℕ) (words : List ℕ) (rows : List Row) (t : Table) (x i : ℕ) → IsTable size words rows
@@ -65,6 +66,7 @@ pointer_read size words rows t x i g e h =
     object_is_in (sizes_in words) size words rows x p.object (table_right g) (ap (λ (u : Table). object_at u x) e ∙ p.object_is) in
     record {
       in_words = omega (arith, is_in.fits, p.within);
+      in_object = record { object = p.object; is = p.object_is; below = omega (arith, p.within) };
       value = rw p.object_is (pointer_word_at words x i p.object is_in p.within);
     }
 
@@ -135,9 +137,10 @@ weak_word_at words x i s g h =
     ∙ ap Some (e2 ∙ ap pointer_of (e3 ∙ e4 ∙ ap (λ a. get_or words a 0) place))
 
 pub record IsWeakRead (words : List ℕ) (t : Table) (x i : ℕ) : Type 0 where
-  pub at : x < length words
+  pub at : IsInObject t x x
   pub object : IsSome (counts_of (header_of (get_or words x 0)))
   pub in_words : x + 2 + (pointer_count (header_of (get_or words x 0)) + i) < length words
+  pub in_object : IsInObject t x (x + 2 + (pointer_count (header_of (get_or words x 0)) + i))
   pub value : slice_get (weaks_at t x) i ≡ Some (pointer_of (get_or words (x + 2 + (pointer_count (header_of (get_or words x 0)) + i)) 0))
 
 pub weak_read : (size : ℕ) (words : List ℕ) (rows : List Row) (t : Table) (x i : ℕ) → IsTable size words rows → table_of size words rows ≡ t
@@ -149,9 +152,10 @@ weak_read size words rows t x i g e h =
     object_is_in (sizes_in words) size words rows x p.object (table_right g) (ap (λ (u : Table). object_at u x) e ∙ p.object_is) in
     let count : pointer_count (header_of (get_or words x 0)) ≡ length p.object.pointers = ap pointer_count is_in.header_is in
     record {
-      at = omega (arith, is_in.fits);
+      at = record { object = p.object; is = p.object_is; below = omega arith };
       object = rw is_in.header_is refl;
       in_words = omega (arith, is_in.fits, p.within);
+      in_object = record { object = p.object; is = p.object_is; below = omega (arith, p.within, count) };
       value = rw (p.object_is, count) (weak_word_at words x i p.object is_in p.within);
     }
 

@@ -12,6 +12,7 @@ use Rattle.regions.specs.Table.{Table, object_at, object_pointers, object_weaks,
 use Rattle.regions.specs.Table.{set_pointer, set_weak, set_field, set_field_of, put_object}
 use Rattle.regions.specs.Rows.{table_of, IsTable}
 use Rattle.regions.specs.declared.row.Row.{Row}
+use Rattle.regions.proofs.Words.Places.{IsInObject}
 use Rattle.regions.proofs.Words.ObjectWords.{there, IsThere}
 use Rattle.regions.proofs.Tiles.Targets.{IsWrittenTable}
 use Rattle.regions.proofs.Words.Access.{pointer_read, weak_read, pointer_written, weak_written, set_pointer-is, set_weak-is}
@@ -58,7 +59,7 @@ pub header_fields : (words : List ℕ) (t : Table) (x : ℕ) (s : Stored) → Is
 header_fields words t x s i = ap field_count i.is_in.header_is ∙ rw (fields_are t x s i.is) (sym (length-append s.pointers s.weaks))
 
 pub record IsFieldRead (words : List ℕ) (t : Table) (x i : ℕ) : Type 0 where
-  pub in_words : x + 2 + i < length words
+  pub in_object : IsInObject t x (x + 2 + i)
   pub value : slice_get (fields_at t x) i ≡ Some (pointer_of (get_or words (x + 2 + i) 0))
 
 module _ (size : ℕ) (words : List ℕ) (rows : List Row) (t : Table) (x i : ℕ) (g : IsTable size words rows)
@@ -73,7 +74,7 @@ module _ (size : ℕ) (words : List ℕ) (rows : List Row) (t : Table) (x i : �
         | inl k ↦
             let r = pointer_read size words rows t x i g e (rw (pointers_are t x s f.object_is) k) in
             record {
-              in_words = r.in_words;
+              in_object = r.in_object;
               value = ap (λ fs. slice_get fs i) (fields_are t x s f.object_is) ∙ get-front s.pointers s.weaks i k
                   ∙ ap (λ fs. slice_get fs i) (sym (pointers_are t x s f.object_is)) ∙ r.value;
             }
@@ -85,7 +86,7 @@ module _ (size : ℕ) (words : List ℕ) (rows : List Row) (t : Table) (x i : �
             let count : pointer_count (header_of (get_or words x 0)) ≡ length s.pointers = ap pointer_count o.is_in.header_is in
             let place : x + 2 + (pointer_count (header_of (get_or words x 0)) + j) ≡ x + 2 + i = omega arith in
             record {
-              in_words = rw place at r.in_words;
+              in_object = rw place at r.in_object;
               value = ap (λ fs. slice_get fs i) (fields_are t x s f.object_is) ∙ get-back s.pointers s.weaks i j (omega arith)
                   ∙ ap (λ fs. slice_get fs j) (sym (weaks_are t x s f.object_is)) ∙ r.value
                   ∙ ap (λ a. Some (pointer_of (get_or words a 0))) place;

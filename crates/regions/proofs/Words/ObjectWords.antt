@@ -12,12 +12,19 @@ use Rattle.heap_words.specs.Contents.{pointer_count, counts_of}
 use Rattle.regions.specs.Rows.{weak_count, value_count, object_size, sizes_in, table_of, IsTable}
 use Rattle.regions.specs.declared.row.Row.{Row}
 use Rattle.regions.proofs.Words.Parse.{stored_of-append}
-use Rattle.regions.proofs.Words.Places.{table_right, IsIn, object_is_in}
+use Rattle.regions.proofs.Words.Places.{table_right, IsInObject, IsIn, object_is_in}
 use Rattle.regions.proofs.Words.Fields.{IsOne, one_object}
 
 pub words_of : (t : Table) (x : ℕ) (s : Stored) → object_at t x ≡ Some s → object_words t x ≡ tile_size (Object s)
 unfolding object_words
 words_of t x s e = ap stored_size e
+
+-- its header and its name are words of it
+pub header_in : (t : Table) (x : ℕ) (s : Stored) → object_at t x ≡ Some s → IsInObject t x x
+header_in t x s e = record { object = s; is = e; below = omega arith }
+
+pub name_in : (t : Table) (x : ℕ) (s : Stored) → object_at t x ≡ Some s → IsInObject t x (x + 1)
+name_in t x s e = record { object = s; is = e; below = omega arith }
 
 -- what is known of an object from its address
 pub record IsThere (words : List ℕ) (t : Table) (x : ℕ) (s : Stored) : Type 0 where

@@ -9,8 +9,8 @@ use Rattle.heap_words.specs.declared.header.Header.{Header}
 use Rattle.heap_words.specs.declared.header.Header.TheVariants as headers
 use Rattle.heap_words.specs.Headers.{header_of}
 use Rattle.heap_model.specs.Heap.{Stored}
-use Rattle.regions.specs.Tiles.{Tile, Object, tile_at, stored_of, tile_by, size_by, tiles, IsTiled}
-use Rattle.regions.specs.Table.{region_tile, region_at, tile_in, object_at}
+use Rattle.regions.specs.Tiles.{Tile, Object, tile_size, tile_at, stored_of, tile_by, size_by, tiles, IsTiled}
+use Rattle.regions.specs.Table.{Table, region_tile, region_at, tile_in, object_at}
 use Rattle.regions.specs.Rows.{object_size, stored_by, first_stored, region_by, IsObject, IsRow, left_by, AreRows}
 use Rattle.regions.specs.Rows.{free_row, table_by, IsTableBy, IsTable, sizes_in}
 use Rattle.regions.specs.declared.row.Row.{Row}
@@ -22,6 +22,12 @@ use Rattle.regions.specs.declared.row.Kind.TheVariants as kinds
 
 pub table_right : {size : ℕ} {words : List ℕ} {rows : List Row} → IsTable size words rows → IsTableBy (sizes_in words) size words rows
 table_right g = record { region_size = g.region_size; covers = g.covers; small = g.small; rows_right = g.rows_right }
+
+-- a word of an object
+pub record IsInObject (t : Table) (x place : ℕ) : Type 0 where
+  pub object : Stored
+  pub is : object_at t x ≡ Some object
+  pub below : place < x + tile_size (Object object)
 
 -- a tile in an ordinary region
 pub record InOrdinary (f : ℕ → ℕ) (size : ℕ) (words : List ℕ) (rows : List Row) (x : ℕ) (t : Tile) : Type 0 where

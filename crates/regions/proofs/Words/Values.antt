@@ -12,7 +12,7 @@ use Rattle.regions.specs.Rows.{sizes_in, table_of, IsTable}
 use Rattle.std.specs.Prelude.{IsSome}
 use Rattle.heap_words.specs.Contents.{counts_of, field_count}
 use Rattle.regions.specs.declared.row.Row.{Row}
-use Rattle.regions.proofs.Words.Places.{IsIn, object_place}
+use Rattle.regions.proofs.Words.Places.{IsInObject, IsIn, object_place}
 use Rattle.regions.proofs.Words.Fields.{Turns, take_set}
 use Rattle.regions.proofs.Words.Written.{write_ordinary}
 use Rattle.regions.proofs.LongRuns.RunWritten.{write_first}
@@ -51,9 +51,9 @@ value_word_at words x i s g h =
     e1 ∙ ap Some (e2 ∙ e3 ∙ e4 ∙ ap (λ a. get_or words a 0) place)
 
 pub record IsValueRead (words : List ℕ) (t : Table) (x i : ℕ) : Type 0 where
-  pub at : x < length words
+  pub at : IsInObject t x x
   pub object : IsSome (counts_of (header_of (get_or words x 0)))
-  pub in_words : x + 2 + field_count (header_of (get_or words x 0)) + i < length words
+  pub in_object : IsInObject t x (x + 2 + field_count (header_of (get_or words x 0)) + i)
   pub value : slice_get (values_at t x) i ≡ Some (get_or words (x + 2 + field_count (header_of (get_or words x 0)) + i) 0)
 
 pub value_read : (size : ℕ) (words : List ℕ) (rows : List Row) (t : Table) (x i : ℕ) → IsTable size words rows
@@ -65,9 +65,9 @@ value_read size words rows t x i g e h =
     let count : field_count (header_of (get_or words x 0)) ≡ length p.object.pointers + length p.object.weaks =
     ap field_count o.is_in.header_is in
     record {
-      at = omega (arith, o.is_in.fits);
+      at = record { object = p.object; is = p.object_is; below = omega arith };
       object = rw o.is_in.header_is refl;
-      in_words = omega (arith, o.is_in.fits, p.within);
+      in_object = record { object = p.object; is = p.object_is; below = omega (arith, p.within, count) };
       value = rw (p.object_is, count) (value_word_at words x i p.object o.is_in p.within);
     }
 

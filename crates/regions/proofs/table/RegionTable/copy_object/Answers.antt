@@ -14,20 +14,33 @@ use Rattle.regions.specs.WeakStarts.{noted}
 use Rattle.std.proofs.Common.{List, Option, length}
 use Rattle.regions.specs.Tiles.{Object, tile_size}
 use Rattle.regions.specs.Table.{object_words}
+use Rattle.regions.proofs.Tiles.Within.{object_within}
 use Rattle.regions.proofs.table.RegionTable.copy_object.Goals as goal
 
-pub copy-requires-clause-source : goal.copy-requires-clause-source
-copy-requires-clause-source c =
-    let o = object_there _ _ _ _ _ c.self.invariant.table c.self.view_is c.requires.object in
-    omega (arith, o.1.fits, c.object_size-size.ensures)
-
-pub copy-requires-clause-target : goal.copy-requires-clause-target
-copy-requires-clause-target c =
+pub overflow_add-end : goal.overflow_add-end
+overflow_add-end c =
     let n = known _ _ _ _ _ c.self.view_is c.requires.known in
     let t = top_is _ _ _ _ _ c.self.invariant.table c.self.view_is c.requires.known c.requires.ordinary in
     let at : c.top-to.result ≡ c.args.region * c.self.inside.words_per_region + used_of c.args.self.now c.args.region =
     c.top-to.ensures ∙ ap (λ (m : ℕ). c.args.region * m + used_of c.args.self.now c.args.region) (sym n.size_is) in
-    omega (arith, at, t.room, n.size_is, c.requires.room, c.object_size-size.ensures)
+    omega (arith, at, t.room, n.size_is, c.requires.room, c.object_size-size.ensures, c.word.ensures, c.self.invariant.table.small)
+
+pub reach-requires : goal.reach-requires
+reach-requires c =
+    let n = known _ _ _ _ _ c.self.view_is c.requires.known in
+    let t = top_is _ _ _ _ _ c.self.invariant.table c.self.view_is c.requires.known c.requires.ordinary in
+    let at : c.top-to.result ≡ c.args.region * c.self.inside.words_per_region + used_of c.args.self.now c.args.region =
+    c.top-to.ensures ∙ ap (λ (m : ℕ). c.args.region * m + used_of c.args.self.now c.args.region) (sym n.size_is) in
+    omega (arith, at, t.room, n.size_is, c.requires.room, c.object_size-size.ensures, c.word.ensures)
+
+pub copy-requires-clause-source : goal.copy-requires-clause-source
+copy-requires-clause-source c =
+    let o = object_there _ _ _ _ _ c.self.invariant.table c.self.view_is c.requires.object in
+    let stands = object_within _ _ _ _ _ c.self.invariant.written c.self.view_is o.1.is in
+    omega (arith, stands, o.1.words_are, c.object_size-size.ensures, c.reach.ensures.written)
+
+pub copy-requires-clause-target : goal.copy-requires-clause-target
+copy-requires-clause-target c = omega (arith, c.word.ensures, c.reach.ensures.written)
 
 pub index-requires : goal.index-requires
 index-requires c =
@@ -60,7 +73,7 @@ put_object-requires-clause-within c =
       n.size_is,
       c.requires.room,
       c.object_size-size.ensures,
-      c.word.ensures,
+      c.word-2.ensures,
       c.self.invariant.table.small,
       c.self.invariant.each_card,
     )
@@ -78,7 +91,7 @@ put_object-requires-clause-small c =
       n.size_is,
       c.requires.room,
       c.object_size-size.ensures,
-      c.word.ensures,
+      c.word-2.ensures,
       c.self.invariant.table.small,
       c.self.invariant.each_card,
     )
@@ -91,17 +104,19 @@ invariant_of-self c =
     ∙ ap (λ k. get_or c.self.inside.rows.items k free_row) c.number-number.ensures in
     let w = copy_pushed _ _ _ _ _ c.args.from _ _ _ _ o.0 _ c.self.invariant.table c.self.view_is c.requires.known
     c.requires.ordinary o.1.is c.requires.room c.top-to.ensures (ap (λ (row : Row). row.used) read) c.object_size-size.ensures
-    c.number-number.ensures c.copy.ensures in
+    c.number-number.ensures (rw c.reach.ensures.all at c.copy.ensures.all) in
     let long : object_words c.args.self.now c.args.from ≡ tile_size (Object o.0) = o.1.words_are in
     let slots : c.weak_count-weaks.result ≡ length o.0.weaks =
     c.weak_count-weaks.ensures ∙ ap (λ (l : List (Option ℕ)). length l) (weaks_are c.args.self.now c.args.from o.0 o.1.is) in
     let flags = c.note.ensures
-    ∙ ap (λ (k : ℕ). noted c.self.inside.weak_starts k c.weak_count-weaks.result) (c.word-2.ensures ∙ sym c.word.ensures)
-    ∙ ap (λ (n : ℕ). noted c.self.inside.weak_starts c.word.result n) slots in
+    ∙ ap (λ (k : ℕ). noted c.self.inside.weak_starts k c.weak_count-weaks.result) (c.word-3.ensures ∙ sym c.word-2.ensures)
+    ∙ ap (λ (n : ℕ). noted c.self.inside.weak_starts c.word-2.result n) slots in
     push_sound _ _ _ _ _ _ _ _ c.self.invariant c.self.view_is _ _ _ _ _ c.args.region _ _ (length o.0.weaks) (Object o.0) c.requires.known
-    c.requires.ordinary (omega (arith, o.1.large, long)) (rw long at c.requires.room) tt (c.word.ensures ∙ c.top-to.ensures)
+    c.requires.ordinary (omega (arith, o.1.large, long)) (rw long at c.requires.room) tt (c.word-2.ensures ∙ c.top-to.ensures)
     (c.object_size-size.ensures ∙ long) c.put_object.ensures.card_words c.put_object.ensures.len c.put_object.ensures.entries refl flags
-    (used_set _ _ _ _ (omega (arith, n.in_rows, c.number-number.ensures)) refl c.self.invariant.used_below) w
+    (used_set _ _ _ _ (omega (arith, n.in_rows, c.number-number.ensures)) refl c.self.invariant.used_below)
+    (omega (arith, c.reach.ensures.written, c.copy.ensures.written))
+    (omega (arith, c.word-2.ensures, c.word.ensures, c.reach.ensures.written, c.copy.ensures.written)) w
 
 pub returns-clause-pushed : goal.returns-clause-pushed
 returns-clause-pushed c s is =
@@ -110,7 +125,7 @@ returns-clause-pushed c s is =
     ∙ ap (λ k. get_or c.self.inside.rows.items k free_row) c.number-number.ensures in
     (copy_pushed _ _ _ _ _ c.args.from _ _ _ _ s _ c.self.invariant.table c.self.view_is c.requires.known
     c.requires.ordinary is c.requires.room c.top-to.ensures (ap (λ (row : Row). row.used) read)
-    c.object_size-size.ensures c.number-number.ensures c.copy.ensures).table_is
+    c.object_size-size.ensures c.number-number.ensures (rw c.reach.ensures.all at c.copy.ensures.all)).table_is
 
 pub note-requires : goal.note-requires
 note-requires c =
@@ -120,4 +135,4 @@ note-requires c =
     let at : c.top-to.result ≡ c.args.region * c.self.inside.words_per_region + used_of c.args.self.now c.args.region =
     c.top-to.ensures ∙ ap (λ (m : ℕ). c.args.region * m + used_of c.args.self.now c.args.region) (sym n.size_is) in
     let count = c.self.invariant.weak_count in
-    omega (arith, at, t.room, n.size_is, c.requires.room, o.1.large, o.1.words_are, c.word-2.ensures, count)
+    omega (arith, at, t.room, n.size_is, c.requires.room, o.1.large, o.1.words_are, c.word-3.ensures, count)

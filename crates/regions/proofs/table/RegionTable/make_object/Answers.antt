@@ -1,10 +1,8 @@
 use Rattle.std.proofs.Common.{arith, ◌≡◌, ◌+◌, ◌-◌, ℕ, Option, None, ap, ◌∙◌}
 use Rattle.std.proofs.lemmas.List.{length-replicate}
 use Rattle.regions.specs.WeakStarts.{noted}
-use Rattle.heap_words.specs.Headers.{header_word}
-use Rattle.heap_words.specs.declared.header.Header.TheVariants as headers
-use Rattle.regions.proofs.Words.Puts.{put_object_length}
 use Rattle.regions.proofs.Tiles.Replaced.{filler_fits, filler_filled}
+use Rattle.regions.proofs.Tiles.Within.{tile_within}
 use Rattle.regions.proofs.Cards.Entries.{front_sound, new_size, object_written, filler_entries}
 use Rattle.regions.specs.Tiles.{Object, tile_size}
 use Rattle.regions.specs.Table.{new_object}
@@ -12,7 +10,7 @@ use Rattle.regions.proofs.table.RegionTable.make_object.Goals as goal
 
 pub write_object-requires : goal.write_object-requires
 write_object-requires c =
-    let f = filler_fits _ _ _ _ _ _ c.self.invariant.table c.self.view_is c.requires.there in
+    let f = tile_within _ _ _ _ _ c.self.invariant.written c.self.view_is c.requires.there in
     omega (arith, f, c.requires.room)
 
 pub overflow_add-word : goal.overflow_add-word
@@ -22,11 +20,9 @@ overflow_add-word c =
 
 pub write_remainder-requires-clause-within : goal.write_remainder-requires-clause-within
 write_remainder-requires-clause-within c =
-    let f = filler_fits _ _ _ _ _ _ c.self.invariant.table c.self.view_is c.requires.there in
-    let l = put_object_length c.self.inside.words c.args.at
-    (header_word (headers.Object c.args.counts.pointers c.args.counts.weaks c.args.counts.values)) c.args.name c.args.counts.pointers
-    c.args.counts.weaks c.args.counts.values (omega (arith, f, c.requires.room)) in
-    rw c.write_object.ensures (omega (arith, f, l, c.requires.room, c.word.ensures, c.size-size.ensures, c.get.ensures.value))
+    let f = tile_within _ _ _ _ _ c.self.invariant.written c.self.view_is c.requires.there in
+    rw c.write_object.ensures.written
+    (omega (arith, f, c.requires.room, c.word.ensures, c.size-size.ensures, c.get.ensures.value))
 
 pub put_front-requires-clause-within : goal.put_front-requires-clause-within
 put_front-requires-clause-within c =
@@ -63,7 +59,7 @@ invariant_of-self c =
     omega (arith, c.get.ensures.value, c.size-size.ensures) in
     let w = filler_filled _ _ _ _ c.args.at c.args.name c.args.counts.pointers c.args.counts.weaks c.args.counts.values c.args.filler _ _ _
     _ _ c.self.invariant.table c.self.view_is c.requires.there (omega (arith, c.requires.room)) (omega arith) (omega arith) (omega arith)
-    c.write_object.ensures c.write_remainder.ensures size rest in
+    c.write_object.ensures.all c.write_remainder.ensures.all size rest in
     let long : c.size-size.result
     ≡ tile_size (Object (new_object c.args.name c.args.counts.pointers c.args.counts.weaks c.args.counts.values)) =
     omega (arith, c.size-size.ensures, new_size c.args.name c.args.counts.pointers c.args.counts.weaks c.args.counts.values) in
@@ -75,7 +71,8 @@ invariant_of-self c =
     (omega (arith, c.word-3.ensures, long)) (omega (arith, c.word-4.ensures, c.get-2.ensures.value))
     c.put_front.ensures.card_words c.move_filler.ensures.card_words c.put_front.ensures.len c.move_filler.ensures.len
     (object_written _ _ _ _ _ _ c.word-2.ensures c.put_front.ensures.entries) c.move_filler.ensures.entries
-    (length-replicate {A = Option ℕ} c.args.counts.weaks None) flags w
+    (length-replicate {A = Option ℕ} c.args.counts.weaks None) flags
+    (omega (arith, c.write_object.ensures.written, c.write_remainder.ensures.written)) w
 
 pub returns : goal.returns
 returns c =
@@ -86,7 +83,7 @@ returns c =
     omega (arith, c.get.ensures.value, c.size-size.ensures) in
     (filler_filled _ _ _ _ c.args.at c.args.name c.args.counts.pointers c.args.counts.weaks c.args.counts.values c.args.filler _ _ _ _ _
     c.self.invariant.table c.self.view_is c.requires.there (omega (arith, c.requires.room)) (omega arith) (omega arith)
-    (omega arith) c.write_object.ensures c.write_remainder.ensures size rest).table_is
+    (omega arith) c.write_object.ensures.all c.write_remainder.ensures.all size rest).table_is
 
 pub put_front-requires-clause-entries : goal.put_front-requires-clause-entries
 put_front-requires-clause-entries c n low high =

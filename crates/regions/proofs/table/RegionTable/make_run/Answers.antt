@@ -17,14 +17,26 @@ overflow_mul-bottom c =
     let f = run_here_is _ _ _ _ _ c.self.invariant.table e in
     rw c.number-number.ensures (omega (arith, f.ends, c.self.invariant.table.small))
 
-pub write_object-requires : goal.write_object-requires
-write_object-requires c =
+pub overflow_add-end : goal.overflow_add-end
+overflow_add-end c =
     let e : first_run free c.args.count c.self.inside.rows.items ≡ Some c.args.first =
     sym (first_run-is _ _ _ _ c.args.count c.self.view_is) ∙ c.requires.lowest in
     let f = run_here_is _ _ _ _ _ c.self.invariant.table e in
     let covers : 2 + c.args.counts.pointers + c.args.counts.weaks + c.args.counts.values ≤ c.args.count * c.self.inside.words_per_region =
     rw (size_is_of _ _ _ _ c.self.view_is) c.requires.covers in
-    rw (c.new.ensures, c.number-number.ensures) (omega (arith, f.ends, covers))
+    rw c.number-number.ensures (omega (arith, f.ends, covers, c.size-size.ensures, c.self.invariant.table.small))
+
+pub reach-requires : goal.reach-requires
+reach-requires c =
+    let e : first_run free c.args.count c.self.inside.rows.items ≡ Some c.args.first =
+    sym (first_run-is _ _ _ _ c.args.count c.self.view_is) ∙ c.requires.lowest in
+    let f = run_here_is _ _ _ _ _ c.self.invariant.table e in
+    let covers : 2 + c.args.counts.pointers + c.args.counts.weaks + c.args.counts.values ≤ c.args.count * c.self.inside.words_per_region =
+    rw (size_is_of _ _ _ _ c.self.view_is) c.requires.covers in
+    rw c.number-number.ensures (omega (arith, f.ends, covers, c.size-size.ensures))
+
+pub write_object-requires : goal.write_object-requires
+write_object-requires c = rw c.new.ensures (omega (arith, c.size-size.ensures, c.reach.ensures.written))
 
 pub write_run-requires-clause-within : goal.write_run-requires-clause-within
 write_run-requires-clause-within c =
@@ -73,7 +85,7 @@ invariant_of-self c =
     let f = run_here_is _ _ _ _ _ c.self.invariant.table e in
     let w = run_taken _ _ _ _ _ _ c.args.name c.args.counts.pointers c.args.counts.weaks c.args.counts.values _ _ _ _ _
     c.self.invariant.table c.self.view_is e c.requires.positive c.requires.covers c.requires.tight (omega arith) (omega arith) (omega arith)
-    bottom size number c.write_object.ensures rows in
+    bottom size number (rw c.reach.ensures.all at c.write_object.ensures.all) rows in
     let flags = c.note.ensures
     ∙ ap (λ (n : ℕ). noted c.self.inside.weak_starts (c.number-number.result * c.self.inside.words_per_region) n) c.from-weaks.ensures in
     run_sound _ _ _ _ _ _ _ _ c.self.invariant c.self.view_is _ _ _ _ _ c.args.first c.args.count _ _ c.args.counts.weaks
@@ -86,7 +98,9 @@ invariant_of-self c =
     (used_written c.self.inside.rows.items _ _ c.self.inside.lowest c.args.first c.args.count c.self.inside.lowest _
     c.self.invariant.used_below (omega (arith, f.room))
     (used_le c.self.inside.rows.items c.self.inside.lowest c.args.first c.self.invariant.used_below
-    (front_free c.self.inside.rows.items c.args.first c.args.count c.requires.positive f.free)) (omega arith) number rows) w
+    (front_free c.self.inside.rows.items c.args.first c.args.count c.requires.positive f.free)) (omega arith) number rows)
+    (omega (arith, c.reach.ensures.written, c.write_object.ensures.written))
+    (omega (arith, c.reach.ensures.written, c.write_object.ensures.written)) w
 
 pub returns : goal.returns
 returns c =
@@ -100,7 +114,7 @@ returns c =
     let rows = rw (c.deref_mut.ensures.value, c.number-number.ensures) at c.write_run.ensures in
     (run_taken _ _ _ _ _ _ c.args.name c.args.counts.pointers c.args.counts.weaks c.args.counts.values _ _ _ _ _
     c.self.invariant.table c.self.view_is e c.requires.positive c.requires.covers c.requires.tight (omega arith)
-    (omega arith) (omega arith) bottom size number c.write_object.ensures rows).table_is
+    (omega arith) (omega arith) bottom size number (rw c.reach.ensures.all at c.write_object.ensures.all) rows).table_is
 
 pub note-requires : goal.note-requires
 note-requires c =

@@ -1,11 +1,12 @@
-use Rattle.std.proofs.Common.{arith, ◌∙◌}
-use Rattle.regions.proofs.Words.ObjectWords.{object_there, name_read}
+use Rattle.std.proofs.Common.{◌∙◌}
+use Rattle.regions.proofs.Words.ObjectWords.{name_in, object_there, name_read}
+use Rattle.regions.proofs.Tiles.Within.{word_within}
 use Rattle.regions.proofs.table.RegionTable.name.Goals as goal
 
 pub name-requires : goal.name-requires
 name-requires c =
     let o = object_there _ _ _ _ _ c.self.invariant.table c.self.view_is c.requires in
-    omega (arith, o.1.fits, o.1.large)
+    word_within _ _ _ _ _ c.self.invariant.written c.self.view_is (name_in _ _ _ o.1.is)
 
 pub returns : goal.returns
 returns c =

@@ -2,11 +2,14 @@ use Rattle.std.proofs.Common.{arith, sym, subst, ◌≡◌, ◌*◌, ◌/◌, re
 use Rattle.std.proofs.lemmas.List.{length-replicate}
 use Rattle.heap_words.specs.Configs.{card_words}
 use Rattle.heap_words.proofs.Limits.{small_region, small_heap, card_power, region_cards, card_between}
+use Rattle.heap_words.specs.Memory.{Memory}
+use Rattle.regions.specs.Rows.{AreWithin}
 use Rattle.regions.specs.Table.{Table, HasNoForwarded}
 use Rattle.regions.specs.FirstTiles.{Entries, AreEntries}
 use Rattle.regions.proofs.Cards.Entries.{free_entries}
 use Rattle.regions.specs.WeakStarts.{Starts, AreStarts}
 use Rattle.regions.proofs.Tiles.WeakStarts.{starts_free}
+use Rattle.regions.proofs.Tiles.Within.{free_within}
 use Rattle.regions.proofs.Tiles.Making.{new_table, free_table-unmoved}
 use Rattle.regions.proofs.Rows.Sound.{power_is, whole_starts}
 use Rattle.regions.proofs.Rows.UsedBelow.{used_none}
@@ -25,8 +28,8 @@ new-requires-2-clause-power c =
 pub invariant_of-result : goal.invariant_of-result
 invariant_of-result c =
     let s = c.in_ok-check.ensures.suits.0 refl in
-    let long : length c.in-Ok.words ≡ c.args.config.now.regions * c.args.config.now.words =
-    ap (λ (ws : List ℕ). length ws) c.in-Ok.ensures ∙ length-replicate {A = ℕ} _ 0 in
+    let long : length c.in-Ok.words.all ≡ c.args.config.now.regions * c.args.config.now.words =
+    ap (λ (m : Memory). length m.all) c.in-Ok.ensures ∙ length-replicate {A = ℕ} _ 0 ∙ omega arith in
     let made = new_table c.args.config.now.words c.args.config.now.regions _ _ (omega (arith, s.words.at_least))
     (small_region c.args.config.now s) long (small_heap c.args.config.now s) c.in-Ok-free_rows.ensures in
     let power = power_is c.args.config.now.words c.ilog2.result s.words.power c.ilog2.ensures.power_le c.ilog2.ensures.next_power_gt in
@@ -47,6 +50,7 @@ invariant_of-result c =
     ap (λ (s : Starts). s.flags) c.in-Ok-new-2.ensures in
     record {
       table = made.is_table;
+      written = subst (λ (t : Table). AreWithin t c.in-Ok.words.written) (sym made.table_is) (free_within _ _ _);
       power = power;
       narrow = c.ilog2.ensures.bound;
       used_below = used_none _;
@@ -62,16 +66,16 @@ invariant_of-result c =
 pub returns-clause-made : goal.returns-clause-made
 returns-clause-made c =
     let s = c.in_ok-check.ensures.suits.0 refl in
-    let long : length c.in-Ok.words ≡ c.args.config.now.regions * c.args.config.now.words =
-    ap (λ (ws : List ℕ). length ws) c.in-Ok.ensures ∙ length-replicate {A = ℕ} _ 0 in
+    let long : length c.in-Ok.words.all ≡ c.args.config.now.regions * c.args.config.now.words =
+    ap (λ (m : Memory). length m.all) c.in-Ok.ensures ∙ length-replicate {A = ℕ} _ 0 ∙ omega arith in
     (new_table c.args.config.now.words c.args.config.now.regions _ _ (omega (arith, s.words.at_least)) (small_region c.args.config.now s)
     long (small_heap c.args.config.now s) c.in-Ok-free_rows.ensures).table_is
 
 pub returns-clause-unmoved : goal.returns-clause-unmoved
 returns-clause-unmoved c =
     let s = c.in_ok-check.ensures.suits.0 refl in
-    let long : length c.in-Ok.words ≡ c.args.config.now.regions * c.args.config.now.words =
-    ap (λ (ws : List ℕ). length ws) c.in-Ok.ensures ∙ length-replicate {A = ℕ} _ 0 in
+    let long : length c.in-Ok.words.all ≡ c.args.config.now.regions * c.args.config.now.words =
+    ap (λ (m : Memory). length m.all) c.in-Ok.ensures ∙ length-replicate {A = ℕ} _ 0 ∙ omega arith in
     let made = (new_table c.args.config.now.words c.args.config.now.regions _ _ (omega (arith, s.words.at_least))
     (small_region c.args.config.now s) long (small_heap c.args.config.now s) c.in-Ok-free_rows.ensures).table_is in
     subst HasNoForwarded (sym made) (free_table-unmoved c.args.config.now.regions c.args.config.now.words)

@@ -11,13 +11,24 @@ use Rattle.regions.proofs.Cards.Entries.{push_sound, filler_written}
 use Rattle.regions.specs.Tiles.{Filler}
 use Rattle.regions.proofs.table.RegionTable.push_filler.Goals as goal
 
-pub write_filler-requires : goal.write_filler-requires
-write_filler-requires c =
+pub overflow_add-end : goal.overflow_add-end
+overflow_add-end c =
     let n = known _ _ _ _ _ c.self.view_is c.requires.known in
     let t = top_is _ _ _ _ _ c.self.invariant.table c.self.view_is c.requires.known c.requires.ordinary in
     let at : c.top-at.result ≡ c.args.region * c.self.inside.words_per_region + used_of c.args.self.now c.args.region =
     c.top-at.ensures ∙ ap (λ (m : ℕ). c.args.region * m + used_of c.args.self.now c.args.region) (sym n.size_is) in
-    omega (arith, at, t.room, n.size_is, c.requires.room, c.get-more.ensures.value, c.get-more.ensures.positive)
+    omega (arith, at, t.room, n.size_is, c.requires.room, c.get-more.ensures.value, c.word.ensures, c.self.invariant.table.small)
+
+pub reach-requires : goal.reach-requires
+reach-requires c =
+    let n = known _ _ _ _ _ c.self.view_is c.requires.known in
+    let t = top_is _ _ _ _ _ c.self.invariant.table c.self.view_is c.requires.known c.requires.ordinary in
+    let at : c.top-at.result ≡ c.args.region * c.self.inside.words_per_region + used_of c.args.self.now c.args.region =
+    c.top-at.ensures ∙ ap (λ (m : ℕ). c.args.region * m + used_of c.args.self.now c.args.region) (sym n.size_is) in
+    omega (arith, at, t.room, n.size_is, c.requires.room, c.get-more.ensures.value, c.word.ensures)
+
+pub write_filler-requires : goal.write_filler-requires
+write_filler-requires c = omega (arith, c.word.ensures, c.get-more.ensures.positive, c.reach.ensures.written)
 
 pub index-requires : goal.index-requires
 index-requires c =
@@ -50,7 +61,7 @@ put_filler-requires-clause-within c =
       n.size_is,
       c.requires.room,
       c.get-more.ensures.value,
-      c.word.ensures,
+      c.word-2.ensures,
       c.self.invariant.table.small,
       c.self.invariant.each_card,
     )
@@ -68,7 +79,7 @@ put_filler-requires-clause-small c =
       n.size_is,
       c.requires.room,
       c.get-more.ensures.value,
-      c.word.ensures,
+      c.word-2.ensures,
       c.self.invariant.table.small,
       c.self.invariant.each_card,
     )
@@ -80,12 +91,15 @@ invariant_of-self c =
     ∙ ap (λ k. get_or c.self.inside.rows.items k free_row) c.number-number.ensures in
     let w = filler_added _ _ _ _ _ c.args.size _ _ _ _ _ c.self.invariant.table c.self.view_is c.requires.known c.requires.ordinary
     c.requires.room (omega (arith, c.get-more.ensures.value, c.get-more.ensures.positive)) c.top-at.ensures
-    (ap (λ (row : Row). row.used) read) c.get-more.ensures.value c.number-number.ensures c.write_filler.ensures in
+    (ap (λ (row : Row). row.used) read) c.get-more.ensures.value c.number-number.ensures
+    (rw c.reach.ensures.all at c.write_filler.ensures.all) in
     let some : 0 < c.args.size = omega (arith, c.get-more.ensures.value, c.get-more.ensures.positive) in
     push_sound _ _ _ _ _ _ _ _ c.self.invariant c.self.view_is _ _ _ _ _ c.args.region _ _ 0 (Filler c.args.size) c.requires.known
-    c.requires.ordinary some c.requires.room tt (c.word.ensures ∙ c.top-at.ensures) c.get-more.ensures.value c.put_filler.ensures.card_words
+    c.requires.ordinary some c.requires.room tt (c.word-2.ensures ∙ c.top-at.ensures) c.get-more.ensures.value c.put_filler.ensures.card_words
     c.put_filler.ensures.len (filler_written _ _ _ _ _ _ _ refl c.get-more.ensures.value c.put_filler.ensures.entries) refl refl
-    (used_set _ _ _ _ (omega (arith, n.in_rows, c.number-number.ensures)) refl c.self.invariant.used_below) w
+    (used_set _ _ _ _ (omega (arith, n.in_rows, c.number-number.ensures)) refl c.self.invariant.used_below)
+    (omega (arith, c.reach.ensures.written, c.write_filler.ensures.written))
+    (omega (arith, c.word-2.ensures, c.word.ensures, c.reach.ensures.written, c.write_filler.ensures.written)) w
 
 pub returns-clause-pushed : goal.returns-clause-pushed
 returns-clause-pushed c =
@@ -94,4 +108,4 @@ returns-clause-pushed c =
     ∙ ap (λ k. get_or c.self.inside.rows.items k free_row) c.number-number.ensures in
     (filler_added _ _ _ _ _ c.args.size _ _ _ _ _ c.self.invariant.table c.self.view_is c.requires.known c.requires.ordinary c.requires.room
     (omega (arith, c.get-more.ensures.value, c.get-more.ensures.positive)) c.top-at.ensures (ap (λ (row : Row). row.used) read)
-    c.get-more.ensures.value c.number-number.ensures c.write_filler.ensures).table_is
+    c.get-more.ensures.value c.number-number.ensures (rw c.reach.ensures.all at c.write_filler.ensures.all)).table_is

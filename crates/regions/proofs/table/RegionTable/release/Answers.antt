@@ -50,7 +50,7 @@ invariant_of-self c =
     release_sound _ _ _ _ _ _ _ _ c.self.invariant c.self.view_is _ _ _ _ c.args.region c.requires.known c.requires.releasable
     (used_written c.self.inside.rows.items _ _ c.self.inside.lowest c.number-at.result (c.rests_from-rests.result + 1)
     c.min-self-inside.result _ c.self.invariant.used_below (omega (arith, room, count, c.number-at.ensures))
-    (omega (arith, low)) (omega (arith, low)) number rows) clear w
+    (omega (arith, low)) (omega (arith, low)) number rows) clear (omega arith) w
 
 pub returns : goal.returns
 returns c =

@@ -2,10 +2,11 @@ use Rattle.std.proofs.Common.{refl, ◌∙◌, arith}
 use Rattle.heap_words.specs.Headers.{pointer_word, pointer_of}
 use Rattle.regions.proofs.Cards.Entries.{weak_sound}
 use Rattle.regions.proofs.Words.Access.{weak_read, weak_written}
+use Rattle.regions.proofs.Tiles.Within.{word_within}
 use Rattle.regions.proofs.table.RegionTable.set_weak.Goals as goal
 
 pub pointers_in-requires-clause-within : goal.pointers_in-requires-clause-within
-pointers_in-requires-clause-within c = (weak_read _ _ _ _ _ _ c.self.invariant.table c.self.view_is c.requires).at
+pointers_in-requires-clause-within c = word_within _ _ _ _ _ c.self.invariant.written c.self.view_is (weak_read _ _ _ _ _ _ c.self.invariant.table c.self.view_is c.requires).at
 
 pub pointers_in-requires-clause-object : goal.pointers_in-requires-clause-object
 pointers_in-requires-clause-object c = (weak_read _ _ _ _ _ _ c.self.invariant.table c.self.view_is c.requires).object
@@ -18,14 +19,14 @@ overflow_add-place c =
 pub set_field-requires : goal.set_field-requires
 set_field-requires c =
     let r = weak_read _ _ _ _ _ _ c.self.invariant.table c.self.view_is c.requires in
-    rw c.pointers_in.ensures r.in_words
+    rw c.pointers_in.ensures (word_within _ _ _ _ _ c.self.invariant.written c.self.view_is r.in_object)
 
 pub invariant_of-self : goal.invariant_of-self
 invariant_of-self c =
     let w = weak_written _ _ _ _ _ _ (pointer_word c.args.target) c.self.invariant.table c.self.view_is c.requires in
-    rw (c.set_field.ensures.word, c.pointers_in.ensures)
-    (weak_sound _ _ _ _ _ _ _ _ c.self.invariant c.self.view_is _ c.args.object c.args.slot
-    (pointer_of (pointer_word c.args.target)) c.requires w)
+    weak_sound _ _ _ _ _ _ _ _ c.self.invariant c.self.view_is _ c.args.object c.args.slot
+    (pointer_of (pointer_word c.args.target)) c.requires (omega (arith, c.set_field.ensures.written))
+    (rw (c.set_field.ensures.word, c.pointers_in.ensures) w)
 
 pub returns : goal.returns
 returns c =

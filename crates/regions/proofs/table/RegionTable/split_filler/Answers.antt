@@ -1,6 +1,6 @@
 use Rattle.std.proofs.Common.{arith, refl, ◌≡◌, ◌+◌, ◌-◌}
-use Rattle.std.proofs.lemmas.List.{length-set}
 use Rattle.regions.proofs.Tiles.Replaced.{filler_fits}
+use Rattle.regions.proofs.Tiles.Within.{tile_within}
 use Rattle.regions.proofs.Tiles.Fillers.{filler_cut}
 use Rattle.regions.proofs.Cards.Entries.{front_sound, filler_written}
 use Rattle.regions.specs.Tiles.{Filler}
@@ -9,7 +9,7 @@ use Rattle.regions.proofs.table.RegionTable.split_filler.Goals as goal
 
 pub write_filler-requires : goal.write_filler-requires
 write_filler-requires c =
-    let f = filler_fits _ _ _ _ _ _ c.self.invariant.table c.self.view_is c.requires.there in
+    let f = tile_within _ _ _ _ _ c.self.invariant.written c.self.view_is c.requires.there in
     omega (arith, f, c.requires.room, c.get-kept.ensures.value, c.get-kept.ensures.positive)
 
 pub overflow_add-behind : goal.overflow_add-behind
@@ -19,9 +19,8 @@ overflow_add-behind c =
 
 pub write_remainder-requires-clause-within : goal.write_remainder-requires-clause-within
 write_remainder-requires-clause-within c =
-    let f = filler_fits _ _ _ _ _ _ c.self.invariant.table c.self.view_is c.requires.there in
-    rw (c.write_filler.ensures, length-set)
-    (omega (arith, f, c.requires.room, c.word.ensures, c.get-kept.ensures.value, c.get.ensures.value))
+    let f = tile_within _ _ _ _ _ c.self.invariant.written c.self.view_is c.requires.there in
+    rw c.write_filler.ensures.written (omega (arith, f, c.requires.room, c.word.ensures, c.get-kept.ensures.value, c.get.ensures.value))
 
 pub put_filler-requires-clause-within : goal.put_filler-requires-clause-within
 put_filler-requires-clause-within c =
@@ -50,7 +49,7 @@ invariant_of-self c =
     let rest : c.get.result - c.get-kept.result ≡ c.args.filler - c.args.size = omega (arith, c.get.ensures.value) in
     let w = filler_cut _ _ _ _ c.args.at c.args.size c.args.filler _ _ _ _ _ c.self.invariant.table c.self.view_is
     c.requires.there (omega (arith, c.requires.room)) (omega (arith, c.get-kept.ensures.value, c.get-kept.ensures.positive))
-    c.write_filler.ensures c.write_remainder.ensures at rest in
+    c.write_filler.ensures.all c.write_remainder.ensures.all at rest in
     let some : 0 < c.args.size = omega (arith, c.get-kept.ensures.value, c.get-kept.ensures.positive) in
     let place : c.word-2.result ≡ c.args.at = c.word-2.ensures in
     let end : c.word-3.result + c.get-2.result ≡ c.args.at + c.args.filler = omega (arith, c.word-3.ensures, c.get-2.ensures.value) in
@@ -58,7 +57,8 @@ invariant_of-self c =
     c.args.filler (c.args.filler - c.args.size) _ _ _ 0 (Filler c.args.size) c.requires.there some
     (omega (arith, c.requires.room)) tt c.get-kept.ensures.value at end
     c.put_filler.ensures.card_words c.move_filler.ensures.card_words c.put_filler.ensures.len c.move_filler.ensures.len
-    (filler_written _ _ _ _ _ _ _ place c.get-kept.ensures.value c.put_filler.ensures.entries) c.move_filler.ensures.entries refl refl w
+    (filler_written _ _ _ _ _ _ _ place c.get-kept.ensures.value c.put_filler.ensures.entries) c.move_filler.ensures.entries refl refl
+    (omega (arith, c.write_filler.ensures.written, c.write_remainder.ensures.written)) w
 
 pub returns-clause-split : goal.returns-clause-split
 returns-clause-split c =
@@ -66,4 +66,4 @@ returns-clause-split c =
     let rest : c.get.result - c.get-kept.result ≡ c.args.filler - c.args.size = omega (arith, c.get.ensures.value) in
     (filler_cut _ _ _ _ c.args.at c.args.size c.args.filler _ _ _ _ _ c.self.invariant.table c.self.view_is c.requires.there
     (omega (arith, c.requires.room)) (omega (arith, c.get-kept.ensures.value, c.get-kept.ensures.positive))
-    c.write_filler.ensures c.write_remainder.ensures at rest).table_is
+    c.write_filler.ensures.all c.write_remainder.ensures.all at rest).table_is

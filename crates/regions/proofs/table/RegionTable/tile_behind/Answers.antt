@@ -1,6 +1,6 @@
 use Rattle.std.proofs.Common.{arith, ◌≡◌, ◌+◌, ◌*◌, refl, ap, ◌∙◌}
 use Rattle.regions.specs.Shapes.{size_of_shape}
-use Rattle.regions.proofs.Tiles.ForwardedLaws.{target_within}
+use Rattle.regions.proofs.Tiles.Within.{tile_starts, target_within}
 use Rattle.regions.proofs.Walks.WalkFrom.{behind_is}
 use Rattle.regions.proofs.Walks.WalkMade.{shape_size_is}
 use Rattle.regions.proofs.table.RegionTable.tile_behind.Goals as goal
@@ -18,12 +18,13 @@ overflow_add-number c =
 pub shape_at-shape-requires-clause-known : goal.shape_at-shape-requires-clause-known
 shape_at-shape-requires-clause-known c =
     let b = behind_is _ _ _ _ _ _ c.self.invariant.table c.self.view_is c.requires.cut c.requires.within in
-    rw (c.new-at.ensures, c.number.ensures) b.shown.in_words
+    rw (c.new-at.ensures, c.number.ensures)
+    (tile_starts _ _ _ _ _ _ b.tile c.self.invariant.table c.self.invariant.written c.self.view_is b.stands)
 
 pub shape_at-shape-requires-clause-target : goal.shape_at-shape-requires-clause-target
 shape_at-shape-requires-clause-target c =
     let b = behind_is _ _ _ _ _ _ c.self.invariant.table c.self.view_is c.requires.cut c.requires.within in
-    rw (c.new-at.ensures, c.number.ensures) (target_within _ _ _ _ _ b.tile c.self.invariant.table c.self.view_is b.stands)
+    rw (c.new-at.ensures, c.number.ensures) (target_within _ _ _ _ _ b.tile _ c.self.invariant.table c.self.invariant.written c.self.view_is b.stands)
 
 pub returns : goal.returns
 returns c =

@@ -7,6 +7,7 @@ use Rattle.regions.specs.Rows.{free_row}
 use Rattle.regions.proofs.Tiles.Making.{known, kind_is}
 use Rattle.regions.proofs.Walks.WalkMade.{walk_ordinary}
 use Rattle.regions.proofs.Walks.WalkFrom.{walk_first, walk_free, walk_rests}
+use Rattle.regions.proofs.Tiles.Within.{first_stands}
 use Rattle.regions.proofs.table.RegionTable.tile_words.Goals as goal
 
 pub index-row-requires : goal.index-row-requires
@@ -40,8 +41,8 @@ size_at-requires c =
     ∙ ap (λ k. get_or c.self.inside.rows.items k free_row) c.number.ensures in
     let is : kind_of c.args.self.now c.args.region ≡ kinds.First =
     kind_is _ _ _ _ _ n ∙ sym (ap (λ (row : Row). row.kind) read) ∙ c.in-First.is in
-    let w = walk_first _ _ _ _ _ c.self.invariant.table c.self.view_is c.requires is in
-    rw (c.new.ensures, c.number-in-First.ensures) w.1
+    let stands = first_stands _ _ _ _ _ _ c.self.invariant.table c.self.invariant.written c.self.view_is is in
+    rw (c.new.ensures, c.number-in-First.ensures) stands
 
 pub returns-in-First : goal.returns-in-First
 returns-in-First c =

@@ -1,0 +1,131 @@
+-- Each tile stands in the words that are written: what follows for its words, and that each change of the table keeps it.
+use Rattle.std.proofs.Common.{◌≡◌, ◌≢◌, ◌+◌, ◌-◌, ◌*◌, ◌/◌, ◌%◌, ◌<◌, ◌≤◌, ◌∷◌, ◌∙◌}
+use Rattle.std.proofs.Common.{ℕ, Some, None, List, get_or, refl, sym, ap, subst, arith, inl, inr}
+use Rattle.std.proofs.lemmas.Bool.{cases_lt, cases_eq}
+use Rattle.heap_model.specs.Heap.{Stored}
+use Rattle.heap_words.specs.Headers.{header_of}
+use Rattle.regions.specs.Tiles.{Tile, Object, Filler, Forwarded, tile_size, tile_at}
+use Rattle.regions.specs.Table.{Table, Region, Free, Ordinary, First, Rest, region_kind, region_tile, nth_region, kind_of}
+use Rattle.regions.specs.Table.{tile_in, region_at, object_at, free_table, remainder, moved_to, HasObject}
+use Rattle.regions.specs.Rows.{AreWithin, IsBelow, IsTable, header_target, table_of}
+use Rattle.regions.specs.declared.row.Row.{Row}
+use Rattle.regions.specs.declared.row.Kind.TheVariants as kinds
+use Rattle.regions.specs.Shaped.{IsShaped}
+use Rattle.regions.specs.Walks.{tiles_of}
+use Rattle.regions.proofs.Tiles.Laws.{object_tile}
+use Rattle.regions.proofs.Tiles.Placing.{Replaces, remainder_total, tile_at-end}
+use Rattle.regions.proofs.Words.Places.{IsInObject}
+use Rattle.regions.proofs.Words.ObjectWords.{header_in}
+use Rattle.regions.proofs.Tiles.Making.{targets_of}
+use Rattle.regions.proofs.Tiles.ForwardedLaws.{target_is, moved_in}
+use Rattle.regions.proofs.Tiles.ShapedMade.{shaped_of, first_object}
+use Rattle.regions.proofs.LongRuns.RunLaws.{frees}
+use Rattle.regions.proofs.Walks.WalkFrom.{tile_listed}
+use Rattle.regions.proofs.Walks.WalkMade.{positive_at}
+
+-- ---- the words of a tile
+pub tile_within : (u t : Table) (n x : ℕ) (tile : Tile) → AreWithin u n → u ≡ t → tile_in t x ≡ Some tile → x + tile_size tile ≤ n
+tile_within u t n x tile w e h = w.each x tile (ap (λ (v : Table). tile_in v x) e ∙ h)
+
+pub object_within : (u t : Table) (n x : ℕ) (s : Stored) → AreWithin u n → u ≡ t → object_at t x ≡ Some s
+    → x + tile_size (Object s) ≤ n
+unfolding object_at
+object_within u t n x s w e h = tile_within u t n x (Object s) w e (object_tile (tile_in t x) s h)
+
+pub tile_positive : (t : Table) (x : ℕ) (tile : Tile) → IsShaped t → tile_in t x ≡ Some tile → 0 < tile_size tile
+tile_positive t x tile shape h =
+    let k : ℕ = x / t.words_per_region in
+    let fitting = shape.fitting k in
+    positive_at (x % t.words_per_region) (tiles_of t k) tile fitting.positive (tile_listed t x tile h).0
+
+pub tile_starts : (size : ℕ) (words : List ℕ) (rows : List Row) (t : Table) (n x : ℕ) (tile : Tile) → IsTable size words rows
+    → AreWithin (table_of size words rows) n → table_of size words rows ≡ t → tile_in t x ≡ Some tile → x < n
+tile_starts size words rows t n x tile g w e h =
+    let all = tile_within (table_of size words rows) t n x tile w e h in
+    let some = tile_positive t x tile (shaped_of size words rows t g e) h in
+    omega arith
+
+-- the object of a run
+pub first_stands : (size : ℕ) (words : List ℕ) (rows : List Row) (t : Table) (n k : ℕ) → IsTable size words rows
+    → AreWithin (table_of size words rows) n → table_of size words rows ≡ t → kind_of t k ≡ kinds.First → k * size < n
+unfolding kind_of
+first_stands size words rows t n k g w e h = go (nth_region t k) refl h
+  where
+    size_is : size ≡ t.words_per_region
+    size_is = ap (λ (u : Table). u.words_per_region) e
+
+    go : (r : Region) → nth_region t k ≡ r → region_kind r ≡ kinds.First → k * size < n
+    go Free f q = cc
+    go (Ordinary ts) f q = cc
+    go (First s) f q =
+        let object = first_object t k s (rw (← size_is) g.region_size.0) f in
+        let all = object_within (table_of size words rows) t n (k * t.words_per_region) s w e object in
+        rw size_is (omega arith)
+    go (Rest m) f q = cc
+
+-- a word of an object
+pub word_within : (u t : Table) (n x place : ℕ) → AreWithin u n → u ≡ t → IsInObject t x place → place < n
+word_within u t n x place w e i =
+    let all = object_within u t n x i.object w e i.is in
+    let below = i.below in
+    omega arith
+
+-- a forwarded header's target lies in the words that are written
+pub target_within : (size : ℕ) (words : List ℕ) (rows : List Row) (t : Table) (x : ℕ) (tile : Tile) (n : ℕ) → IsTable size words rows
+    → AreWithin (table_of size words rows) n → table_of size words rows ≡ t → tile_in t x ≡ Some tile
+    → IsBelow (header_target (header_of (get_or words x 0))) n
+target_within size words rows t x tile n g w e h = go tile h (target_is size words rows t x g e (rw h refl))
+  where
+    go : (tile : Tile) → tile_in t x ≡ Some tile → header_target (header_of (get_or words x 0)) ≡ moved_to (tile_in t x)
+        → IsBelow (header_target (header_of (get_or words x 0))) n
+    go (Object s) f is = rw (is, f) tt
+    go (Filler m) f is = rw (is, f) tt
+    go (Forwarded to m) f is =
+        let o = moved_in (HasObject t) t x to m (targets_of size words rows t g e) f in
+        let place = word_within (table_of size words rows) t n to to w e (header_in t to o.object o.is) in
+        rw (is, f) place
+
+-- ---- each change of the table
+pub free_within : (count size n : ℕ) → AreWithin (free_table count size) n
+unfolding free_table tile_in region_at
+free_within count size n = record {
+  each = λ a tile h.
+      absurd (let z : None ≡ Some tile = sym (ap (λ (r : Region). region_tile r (a % size)) (frees count (a / size))) ∙ h in cc);
+}
+
+pub within_fewer : (t t' : Table) (n m : ℕ) → n ≤ m → ((y : ℕ) (u : Tile) → tile_in t' y ≡ Some u → tile_in t y ≡ Some u)
+    → AreWithin t n → AreWithin t' m
+within_fewer t t' n m le fewer w = record { each = λ y u h. let old = w.each y u (fewer y u h) in omega arith }
+
+pub within_added : (t t' : Table) (n m x : ℕ) (tile : Tile) → n ≤ m → x + tile_size tile ≤ m → tile_in t' x ≡ Some tile
+    → ((y : ℕ) → y ≢ x → tile_in t' y ≡ tile_in t y) → AreWithin t n → AreWithin t' m
+within_added t t' n m x tile le fits is others w = record {
+  each = λ y u h. elim (cases_eq y x) [
+    | inl q ↦
+        let here : tile_in t' x ≡ Some u = subst (λ (z : ℕ). tile_in t' z ≡ Some u) q h in
+        let same : tile ≡ u = cc in
+        let size : tile_size tile ≡ tile_size u = ap tile_size same in
+        omega arith
+    | inr apart ↦ let old = w.each y u (sym (others y apart) ∙ h) in omega arith
+  ];
+}
+
+pub within_cut : (t t' : Table) (n m x size r : ℕ) (tile : Tile) → n ≤ m → Replaces t t' x size (tile ∷ remainder r)
+    → tile_in t x ≡ Some (Filler size) → tile_size tile + r ≡ size → AreWithin t n → AreWithin t' m
+within_cut t t' n m x size r tile le cut was sum w = record {
+  each = λ y u h.
+      let all = w.each x (Filler size) was in
+      elim (cases_lt y x) [
+        | inl b ↦ (let old = w.each y u (sym (cut.others y (inl b)) ∙ h) in omega arith)
+        | inr b ↦ elim (cases_lt y (x + size)) [
+          | inl f ↦
+              let place : x + (y - x) ≡ y = omega arith in
+              let at : tile_at (y - x) (tile ∷ remainder r) ≡ Some u =
+              sym (cut.within (y - x) (omega arith)) ∙ ap (tile_in t') place ∙ h in
+              let end = tile_at-end (tile ∷ remainder r) (y - x) u at in
+              let total = remainder_total r in
+              omega arith
+          | inr f ↦ let old = w.each y u (sym (cut.others y (inr f)) ∙ h) in omega arith
+        ]
+      ];
+}
