@@ -206,13 +206,19 @@ impl Bits {
         self.next_below(from, self.len)
     }
 
-    /// The lowest number of the set at or above `from` and below `to`. It looks at the words of this range alone.
+    /// The lowest number of the set at or above `from` and below `to`. It looks at the words of this range alone. Where members stand
+    /// in a row it looks at one bit for the next one.
     pub fn next_below(&self, from: u32, to: u32) -> Option<u32>
         ensures lowest { MatchOption result (HasNoneBelow (has self.now) from to) (IsLowest (has self.now) from) }
         ensures below { IfSome result (λ found. found < to) }
         ensures within { IfSome result (λ found. found < length self.now) }
     {
         let end = to.min(self.len);
+        if from < end {
+            if self.get(from) {
+                return Some(from);
+            }
+        }
         for index in from / 64..end.div_ceil(64) {
             let all = self.words[index as usize];
             if all == 0 {

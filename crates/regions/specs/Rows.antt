@@ -139,14 +139,14 @@ abbrev pub AreUsedBelow : ℕ → List Row → Type 0
 AreUsedBelow n rows = (k : ℕ) → k < n → kind_is_free (slice_index_or rows k free_row).kind ≡ false
 
 -- each tile stands in the first n words
-pub record AreWithin (t : Table) (n : ℕ) : Type 0 where
+pub record AreTilesWritten (t : Table) (n : ℕ) : Type 0 where
   pub each : (a : ℕ) (tile : Tile) → tile_in t a ≡ Some tile → a + tile_size tile ≤ n
 
 -- words and rows are a table's, with 2 ^ shift words a region, which are whole cards; each tile stands in the words that are
 -- written; no row below `lowest` is free; each card has its entry; and `weaks` tells where objects with weak slots start
 pub record IsSound (size shift lowest : ℕ) (entries : Entries) (weaks : Starts) (memory : Memory) (rows : List Row) : Type 0 where
   pub table : IsTable size memory.all rows
-  pub written : AreWithin (table_of size memory.all rows) memory.written
+  pub written : AreTilesWritten (table_of size memory.all rows) memory.written
   pub power : size ≡ 2 ^ shift
   pub narrow : shift < 32
   pub used_below : AreUsedBelow lowest rows

@@ -160,6 +160,14 @@ impl FirstTiles {
         word >> self.shift
     }
 
+    /// The first word of a card.
+    pub(crate) fn first_word(&self, card: u32) -> u32
+        requires { card * self.now.card_words ≤ max_words }
+        ensures { result ≡ card * self.now.card_words }
+    {
+        card << self.shift
+    }
+
     /// An object stands at an address.
     pub(crate) fn put_object(&mut self, at: u32, size: u32)
         requires within { at + size ≤ length self.old.starts * self.old.card_words }

@@ -117,7 +117,8 @@ impl RegionTable {
     }
 
     /// Where the tile that holds a word starts: in a run its object. None where the word is at or above its
-    /// region's top. It looks at the tiles from the one on that holds the first word of the word's card.
+    /// region's top. It looks at the tiles from the one on that holds the first word of the word's card, and at none where that is the
+    /// word.
     pub fn first_tile(&self, word: Addr) -> Option<Addr>
         requires { word < length self.now.regions * self.now.words_per_region }
         ensures found { IsSome result ↔ (word < top_of self.now (word / self.now.words_per_region)) }
@@ -129,6 +130,9 @@ impl RegionTable {
         }
         let card = self.first_tiles.card_of(word.word());
         let start = Addr::new(self.first_tiles.start(card));
+        if word.word() == self.first_tiles.first_word(card) {
+            return Some(start);
+        }
         for (at, shape) in self.walk_from(start) {
             if word.word() < at.word() + shape.size() {
                 return Some(at);

@@ -15,7 +15,7 @@ use Rattle.regions.specs.Table.{set_value, remainder, is_free, first_free, taken
 use Rattle.regions.specs.Table.{region_at, with_regions, run_regions, first_run, released, run_length, kind_of, used_of, top_of}
 use Rattle.regions.specs.Table.{free_table, EachForwarded, IsReleasable, object_words}
 use Rattle.heap_words.specs.Memory.{Memory}
-use Rattle.regions.specs.Rows.{table_of, IsSound, AreWithin, AreUsedBelow, sizes_in}
+use Rattle.regions.specs.Rows.{table_of, IsSound, AreTilesWritten, AreUsedBelow, sizes_in}
 use Rattle.regions.specs.FirstTiles.{Entries, AreEntries, entry_of, last_card}
 use Rattle.regions.specs.Shaped.{IsShaped}
 use Rattle.regions.specs.declared.row.Kind.TheVariants as kinds
@@ -44,7 +44,7 @@ pub sound_changed : (size shift lowest low : ℕ) (entries new : Entries) (start
     → IsWrittenTable size memory'.all rows' t' → length t'.regions ≡ length t.regions → new.card_words ≡ entries.card_words
     → length new.starts ≡ length entries.starts → AreUsedBelow low rows' → starts'.region_words ≡ starts.region_words
     → length starts'.flags ≡ length starts.flags → (AreStarts t starts.flags → AreStarts t' starts'.flags)
-    → (AreEntries t entries → AreEntries t' new) → (AreWithin t memory.written → AreWithin t' memory'.written)
+    → (AreEntries t entries → AreEntries t' new) → (AreTilesWritten t memory.written → AreTilesWritten t' memory'.written)
     → IsSound size shift low new starts' memory' rows'
 sound_changed size shift lowest low entries new starts starts' memory memory' rows rows' t t' s e w count len each used wide long told right
     within =
@@ -56,8 +56,8 @@ sound_changed size shift lowest low entries new starts starts' memory memory' ro
     w.is_table.covers ∙ ap (λ (n : ℕ). n * size) (sym after ∙ count ∙ before) ∙ sym s.table.covers in
     record {
       table = w.is_table;
-      written = subst (λ (u : Table). AreWithin u memory'.written) (sym w.table_is)
-          (within (subst (λ (u : Table). AreWithin u memory.written) e s.written));
+      written = subst (λ (u : Table). AreTilesWritten u memory'.written) (sym w.table_is)
+          (within (subst (λ (u : Table). AreTilesWritten u memory.written) e s.written));
       power = s.power;
       narrow = s.narrow;
       used_below = used;
@@ -159,7 +159,8 @@ module _ (size shift lowest : ℕ) (entries : Entries) (starts : Starts) (memory
       within_added t t' memory.written memory'.written x (Object o') more (omega arith) (tile_of t' x o' put.is) put.others g)
 
   pub pointer_sound : (memory' : Memory) (x i : ℕ) (v : Option ℕ) → i < length (pointers_at t x)
-      → memory.written ≤ memory'.written → IsWrittenTable size memory'.all rows (set_pointer t x i v) → IsSound size shift lowest entries starts memory' rows
+      → memory.written ≤ memory'.written → IsWrittenTable size memory'.all rows (set_pointer t x i v)
+      → IsSound size shift lowest entries starts memory' rows
   pointer_sound memory' x i v h more w =
       let p = has_pointer t x i h in
       let o = p.object in
@@ -167,7 +168,8 @@ module _ (size shift lowest : ℕ) (entries : Entries) (starts : Starts) (memory
       (ap (λ n. 2 + n + length o.weaks + length o.values) (length-set o.pointers i v)) refl more w
 
   pub weak_sound : (memory' : Memory) (x i : ℕ) (v : Option ℕ) → i < length (weaks_at t x)
-      → memory.written ≤ memory'.written → IsWrittenTable size memory'.all rows (set_weak t x i v) → IsSound size shift lowest entries starts memory' rows
+      → memory.written ≤ memory'.written → IsWrittenTable size memory'.all rows (set_weak t x i v)
+      → IsSound size shift lowest entries starts memory' rows
   weak_sound memory' x i v h more w =
       let p = has_weak t x i h in
       let o = p.object in
@@ -175,7 +177,8 @@ module _ (size shift lowest : ℕ) (entries : Entries) (starts : Starts) (memory
       (ap (λ n. 2 + length o.pointers + n + length o.values) (length-set o.weaks i v)) (length-set o.weaks i v) more w
 
   pub field_sound : (memory' : Memory) (x i : ℕ) (v : Option ℕ) → i < length (fields_at t x)
-      → memory.written ≤ memory'.written → IsWrittenTable size memory'.all rows (set_field t x i v) → IsSound size shift lowest entries starts memory' rows
+      → memory.written ≤ memory'.written → IsWrittenTable size memory'.all rows (set_field t x i v)
+      → IsSound size shift lowest entries starts memory' rows
   field_sound memory' x i v h more w =
       let p = has_field t x i h in
       let o = p.object in
@@ -305,7 +308,8 @@ module _ (size shift lowest : ℕ) (entries : Entries) (starts : Starts) (memory
           go false = refl
 
   pub taken_sound : (memory' : Memory) (rows' : List Row) (low k : ℕ) → first_free t ≡ Some k → AreUsedBelow low rows'
-      → memory.written ≤ memory'.written → IsWrittenTable size memory'.all rows' (taken t (first_free t)) → IsSound size shift low entries starts memory' rows'
+      → memory.written ≤ memory'.written → IsWrittenTable size memory'.all rows' (taken t (first_free t))
+      → IsSound size shift low entries starts memory' rows'
   taken_sound memory' rows' low k first used more w =
       let taken_is = region_taken t k first in
       let fewer : (y : ℕ) (u : Tile) → tile_in (taken t (Some k)) y ≡ Some u → tile_in t y ≡ Some u =
@@ -317,7 +321,8 @@ module _ (size shift lowest : ℕ) (entries : Entries) (starts : Starts) (memory
 
   pub release_sound : (starts' : Starts) (memory' : Memory) (rows' : List Row) (low k : ℕ) → k < length t.regions
       → IsReleasable (kind_of t k) → AreUsedBelow low rows' → Clears starts starts' k t.words_per_region
-      → memory.written ≤ memory'.written → IsWrittenTable size memory'.all rows' (released t k) → IsSound size shift low entries starts' memory' rows'
+      → memory.written ≤ memory'.written → IsWrittenTable size memory'.all rows' (released t k)
+      → IsSound size shift low entries starts' memory' rows'
   release_sound starts' memory' rows' low k known can used clear more w = go (nth_region t k) refl
     where
       gone : (m : ℕ) → 0 < m → ((y : ℕ) → k < y / t.words_per_region → y / t.words_per_region < k + m → tile_in t y ≡ None)
@@ -346,7 +351,8 @@ module _ (size shift lowest : ℕ) (entries : Entries) (starts : Starts) (memory
       → ((c : ℕ) → get_or new.starts c 0 ≡ (if is_between at (at + n) (c * entries.card_words)
       then entry_of entries.card_words at tile (c * entries.card_words) else get_or entries.starts c 0))
       → tile_weaks tile ≡ weaks → starts' ≡ noted starts at weaks → AreUsedBelow low rows'
-      → memory.written ≤ memory'.written → at + n ≤ memory'.written → IsWrittenTable size memory'.all rows' (push_tile t k tile) → IsSound size shift low new starts' memory' rows'
+      → memory.written ≤ memory'.written → at + n ≤ memory'.written → IsWrittenTable size memory'.all rows' (push_tile t k tile)
+      → IsSound size shift low new starts' memory' rows'
   push_sound new starts' memory' rows' low k at n weaks tile known ordinary some room unmoved there long
       len each written slots flags_are used more fits w =
       let push = filler_push t k tile shaped.positive shaped.fitting known ordinary some room unmoved in
@@ -362,7 +368,8 @@ module _ (size shift lowest : ℕ) (entries : Entries) (starts : Starts) (memory
       → new.card_words ≡ entries.card_words → length new.starts ≡ length entries.starts
       → ((c : ℕ) → get_or new.starts c 0 ≡ (if is_between at (at + n) (c * entries.card_words) then at else get_or entries.starts c 0))
       → length o.weaks ≡ weaks → starts' ≡ noted starts at weaks → AreUsedBelow low rows'
-      → memory.written ≤ memory'.written → at + n ≤ memory'.written → IsWrittenTable size memory'.all rows' (with_regions t k m (run_regions t.words_per_region o m))
+      → memory.written ≤ memory'.written → at + n ≤ memory'.written
+      → IsWrittenTable size memory'.all rows' (with_regions t k m (run_regions t.words_per_region o m))
       → IsSound size shift low new starts' memory' rows'
   run_sound new starts' memory' rows' low k m at n weaks o some first there long len each written slots flags_are used more fits w =
       let t' : Table = with_regions t k m (run_regions t.words_per_region o m) in
@@ -388,7 +395,8 @@ module _ (size shift lowest : ℕ) (entries : Entries) (starts : Starts) (memory
       → ((c : ℕ) → get_or new.starts c 0 ≡
       (if is_between at end (c * mid.card_words) && (c * mid.card_words == last_card mid.card_words end) then at
       else get_or mid.starts c 0)) → tile_weaks tile ≡ weaks → starts' ≡ noted starts x weaks
-      → memory.written ≤ memory'.written → IsWrittenTable size memory'.all rows (replace_tile t x (tile ∷ remainder r)) → IsSound size shift lowest new starts' memory' rows
+      → memory.written ≤ memory'.written → IsWrittenTable size memory'.all rows (replace_tile t x (tile ∷ remainder r))
+      → IsSound size shift lowest new starts' memory' rows
   front_sound mid new starts' memory' x n r at b end weaks tile was some sum unmoved b_is at_is end_is len len2
       each each2 first second slots flags_are more w =
       let total : total_size (tile ∷ remainder r) ≡ n = ap (λ (m : ℕ). tile_size tile + m) (remainder_total r) ∙ sum in

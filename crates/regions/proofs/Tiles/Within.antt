@@ -7,7 +7,7 @@ use Rattle.heap_words.specs.Headers.{header_of}
 use Rattle.regions.specs.Tiles.{Tile, Object, Filler, Forwarded, tile_size, tile_at}
 use Rattle.regions.specs.Table.{Table, Region, Free, Ordinary, First, Rest, region_kind, region_tile, nth_region, kind_of}
 use Rattle.regions.specs.Table.{tile_in, region_at, object_at, free_table, remainder, moved_to, HasObject}
-use Rattle.regions.specs.Rows.{AreWithin, IsBelow, IsTable, header_target, table_of}
+use Rattle.regions.specs.Rows.{AreTilesWritten, IsBelow, IsTable, header_target, table_of}
 use Rattle.regions.specs.declared.row.Row.{Row}
 use Rattle.regions.specs.declared.row.Kind.TheVariants as kinds
 use Rattle.regions.specs.Shaped.{IsShaped}
@@ -24,10 +24,10 @@ use Rattle.regions.proofs.Walks.WalkFrom.{tile_listed}
 use Rattle.regions.proofs.Walks.WalkMade.{positive_at}
 
 -- ---- the words of a tile
-pub tile_within : (u t : Table) (n x : ℕ) (tile : Tile) → AreWithin u n → u ≡ t → tile_in t x ≡ Some tile → x + tile_size tile ≤ n
+pub tile_within : (u t : Table) (n x : ℕ) (tile : Tile) → AreTilesWritten u n → u ≡ t → tile_in t x ≡ Some tile → x + tile_size tile ≤ n
 tile_within u t n x tile w e h = w.each x tile (ap (λ (v : Table). tile_in v x) e ∙ h)
 
-pub object_within : (u t : Table) (n x : ℕ) (s : Stored) → AreWithin u n → u ≡ t → object_at t x ≡ Some s
+pub object_within : (u t : Table) (n x : ℕ) (s : Stored) → AreTilesWritten u n → u ≡ t → object_at t x ≡ Some s
     → x + tile_size (Object s) ≤ n
 unfolding object_at
 object_within u t n x s w e h = tile_within u t n x (Object s) w e (object_tile (tile_in t x) s h)
@@ -39,7 +39,7 @@ tile_positive t x tile shape h =
     positive_at (x % t.words_per_region) (tiles_of t k) tile fitting.positive (tile_listed t x tile h).0
 
 pub tile_starts : (size : ℕ) (words : List ℕ) (rows : List Row) (t : Table) (n x : ℕ) (tile : Tile) → IsTable size words rows
-    → AreWithin (table_of size words rows) n → table_of size words rows ≡ t → tile_in t x ≡ Some tile → x < n
+    → AreTilesWritten (table_of size words rows) n → table_of size words rows ≡ t → tile_in t x ≡ Some tile → x < n
 tile_starts size words rows t n x tile g w e h =
     let all = tile_within (table_of size words rows) t n x tile w e h in
     let some = tile_positive t x tile (shaped_of size words rows t g e) h in
@@ -47,7 +47,7 @@ tile_starts size words rows t n x tile g w e h =
 
 -- the object of a run
 pub first_stands : (size : ℕ) (words : List ℕ) (rows : List Row) (t : Table) (n k : ℕ) → IsTable size words rows
-    → AreWithin (table_of size words rows) n → table_of size words rows ≡ t → kind_of t k ≡ kinds.First → k * size < n
+    → AreTilesWritten (table_of size words rows) n → table_of size words rows ≡ t → kind_of t k ≡ kinds.First → k * size < n
 unfolding kind_of
 first_stands size words rows t n k g w e h = go (nth_region t k) refl h
   where
@@ -64,7 +64,7 @@ first_stands size words rows t n k g w e h = go (nth_region t k) refl h
     go (Rest m) f q = cc
 
 -- a word of an object
-pub word_within : (u t : Table) (n x place : ℕ) → AreWithin u n → u ≡ t → IsInObject t x place → place < n
+pub word_within : (u t : Table) (n x place : ℕ) → AreTilesWritten u n → u ≡ t → IsInObject t x place → place < n
 word_within u t n x place w e i =
     let all = object_within u t n x i.object w e i.is in
     let below = i.below in
@@ -72,7 +72,7 @@ word_within u t n x place w e i =
 
 -- a forwarded header's target lies in the words that are written
 pub target_within : (size : ℕ) (words : List ℕ) (rows : List Row) (t : Table) (x : ℕ) (tile : Tile) (n : ℕ) → IsTable size words rows
-    → AreWithin (table_of size words rows) n → table_of size words rows ≡ t → tile_in t x ≡ Some tile
+    → AreTilesWritten (table_of size words rows) n → table_of size words rows ≡ t → tile_in t x ≡ Some tile
     → IsBelow (header_target (header_of (get_or words x 0))) n
 target_within size words rows t x tile n g w e h = go tile h (target_is size words rows t x g e (rw h refl))
   where
@@ -86,7 +86,7 @@ target_within size words rows t x tile n g w e h = go tile h (target_is size wor
         rw (is, f) place
 
 -- ---- each change of the table
-pub free_within : (count size n : ℕ) → AreWithin (free_table count size) n
+pub free_within : (count size n : ℕ) → AreTilesWritten (free_table count size) n
 unfolding free_table tile_in region_at
 free_within count size n = record {
   each = λ a tile h.
@@ -94,11 +94,11 @@ free_within count size n = record {
 }
 
 pub within_fewer : (t t' : Table) (n m : ℕ) → n ≤ m → ((y : ℕ) (u : Tile) → tile_in t' y ≡ Some u → tile_in t y ≡ Some u)
-    → AreWithin t n → AreWithin t' m
+    → AreTilesWritten t n → AreTilesWritten t' m
 within_fewer t t' n m le fewer w = record { each = λ y u h. let old = w.each y u (fewer y u h) in omega arith }
 
 pub within_added : (t t' : Table) (n m x : ℕ) (tile : Tile) → n ≤ m → x + tile_size tile ≤ m → tile_in t' x ≡ Some tile
-    → ((y : ℕ) → y ≢ x → tile_in t' y ≡ tile_in t y) → AreWithin t n → AreWithin t' m
+    → ((y : ℕ) → y ≢ x → tile_in t' y ≡ tile_in t y) → AreTilesWritten t n → AreTilesWritten t' m
 within_added t t' n m x tile le fits is others w = record {
   each = λ y u h. elim (cases_eq y x) [
     | inl q ↦
@@ -111,7 +111,7 @@ within_added t t' n m x tile le fits is others w = record {
 }
 
 pub within_cut : (t t' : Table) (n m x size r : ℕ) (tile : Tile) → n ≤ m → Replaces t t' x size (tile ∷ remainder r)
-    → tile_in t x ≡ Some (Filler size) → tile_size tile + r ≡ size → AreWithin t n → AreWithin t' m
+    → tile_in t x ≡ Some (Filler size) → tile_size tile + r ≡ size → AreTilesWritten t n → AreTilesWritten t' m
 within_cut t t' n m x size r tile le cut was sum w = record {
   each = λ y u h.
       let all = w.each x (Filler size) was in

@@ -4,6 +4,15 @@ use Rattle.heap_words.proofs.BitWords.{high_mask, div_ceil_reaches, length-flags
 use Rattle.heap_words.proofs.LowestBits.{IsWord, bits_word, bits_agree, none_in_word, none_left, found_past, found_inside}
 use Rattle.heap_words.proofs.bits.Bits.next_below.Goals as goal
 
+pub get-requires : goal.get-requires
+get-requires c = omega (
+  arith,
+  c.if-from-end.true,
+  c.min-end.ensures,
+  length-flags_of c.self.inside.words.items c.self.inside.len,
+  ap length c.self.view_is,
+)
+
 pub loop-index-init : goal.loop-index-init
 loop-index-init c = λ a h k. absurd (omega arith)
 

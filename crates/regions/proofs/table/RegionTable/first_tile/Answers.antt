@@ -1,6 +1,7 @@
-use Rattle.std.proofs.Common.{arith, refl, ap, ◌≡◌, ◌<◌, ◌/◌, ℕ, ◌∙◌}
+use Rattle.std.proofs.Common.{arith, refl, ap, subst, ◌≡◌, ◌<◌, ◌*◌, ◌/◌, ℕ, ◌∙◌}
 use Rattle.regions.specs.Table.{top_of}
 use Rattle.regions.specs.FirstTiles.{start_in}
+use Rattle.regions.specs.Walks.{IsHolder}
 use Rattle.regions.proofs.Tiles.Holders.{search_from}
 use Rattle.regions.proofs.Cards.CardStarts.{card_known, card_start}
 use Rattle.regions.proofs.Cards.FirstTile.{search_fits, search_next, found_below, found_holder, search_last}
@@ -12,6 +13,34 @@ start-requires-clause-known c =
     c.card_of-card.ensures.card ∙ ap (λ (n : ℕ). n / c.self.inside.first_tiles.card_words) c.word-3.ensures in
     card_known _ _ _ _ _ _ _ _ c.args.word c.card_of-card.result c.self.invariant c.self.view_is
     c.requires c.card_of-card.ensures.positive card
+
+pub first_word-requires : goal.first_word-requires
+first_word-requires c =
+    let card : c.card_of-card.result ≡ c.args.word / c.self.inside.first_tiles.card_words =
+    c.card_of-card.ensures.card ∙ ap (λ (n : ℕ). n / c.self.inside.first_tiles.card_words) c.word-3.ensures in
+    let below : c.args.word < top_of c.args.self.now (c.args.word / c.args.self.now.words_per_region) =
+    (let f = c.if-word.false in
+    let t = c.word.ensures ∙ c.top.ensures ∙ ap (top_of c.args.self.now) c.region_of.ensures in
+    omega (arith, f, t, c.word-2.ensures)) in
+    let s = card_start _ _ _ _ _ _ _ _ c.args.word c.card_of-card.result c.self.invariant c.self.view_is
+    below c.card_of-card.ensures.positive card in
+    omega (arith, s.low, c.requires, c.law.ensures.in_all)
+
+pub returns-then-word-first_word-clause-holder : goal.returns-then-word-first_word-clause-holder
+returns-then-word-first_word-clause-holder c =
+    let card : c.card_of-card.result ≡ c.args.word / c.self.inside.first_tiles.card_words =
+    c.card_of-card.ensures.card ∙ ap (λ (n : ℕ). n / c.self.inside.first_tiles.card_words) c.word-3.ensures in
+    let below : c.args.word < top_of c.args.self.now (c.args.word / c.args.self.now.words_per_region) =
+    (let f = c.if-word.false in
+    let t = c.word.ensures ∙ c.top.ensures ∙ ap (top_of c.args.self.now) c.region_of.ensures in
+    omega (arith, f, t, c.word-2.ensures)) in
+    let s = card_start _ _ _ _ _ _ _ _ c.args.word c.card_of-card.result c.self.invariant c.self.view_is
+    below c.card_of-card.ensures.positive card in
+    let at : c.new-start.result ≡ start_in c.self.inside.first_tiles.card_words c.self.inside.first_tiles.starts c.card_of-card.result =
+    c.new-start.ensures ∙ c.start.ensures in
+    let same : c.card_of-card.result * c.self.inside.first_tiles.card_words ≡ c.args.word =
+    omega (arith, c.if-word-first_word.true, c.word-4.ensures, c.first_word.ensures) in
+    subst (λ (w : ℕ). IsHolder c.args.self.now c.new-start.result w) same (rw at s.holder)
 
 pub walk_from-at-items-requires : goal.walk_from-at-items-requires
 walk_from-at-items-requires c =

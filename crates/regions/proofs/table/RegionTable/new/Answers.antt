@@ -3,7 +3,7 @@ use Rattle.std.proofs.lemmas.List.{length-replicate}
 use Rattle.heap_words.specs.Configs.{card_words}
 use Rattle.heap_words.proofs.Limits.{small_region, small_heap, card_power, region_cards, card_between}
 use Rattle.heap_words.specs.Memory.{Memory}
-use Rattle.regions.specs.Rows.{AreWithin}
+use Rattle.regions.specs.Rows.{AreTilesWritten}
 use Rattle.regions.specs.Table.{Table, HasNoForwarded}
 use Rattle.regions.specs.FirstTiles.{Entries, AreEntries}
 use Rattle.regions.proofs.Cards.Entries.{free_entries}
@@ -50,7 +50,7 @@ invariant_of-result c =
     ap (λ (s : Starts). s.flags) c.in-Ok-new-2.ensures in
     record {
       table = made.is_table;
-      written = subst (λ (t : Table). AreWithin t c.in-Ok.words.written) (sym made.table_is) (free_within _ _ _);
+      written = subst (λ (t : Table). AreTilesWritten t c.in-Ok.words.written) (sym made.table_is) (free_within _ _ _);
       power = power;
       narrow = c.ilog2.ensures.bound;
       used_below = used_none _;
