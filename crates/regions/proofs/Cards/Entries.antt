@@ -200,8 +200,8 @@ module _ (size shift lowest : ℕ) (entries : Entries) (starts : Starts) (memory
       → memory.written ≤ memory'.written → IsWrittenTable size memory'.all rows t'
       → IsSound size shift lowest entries starts' memory' rows
   forward_sound starts' memory' t' a to n x f was long gone more w =
-      sound_changed size shift lowest lowest entries entries starts starts' memory memory' rows rows t t' s e w f.count refl refl s.used_below
-      gone.region_words gone.len (λ g. starts_forwarded t t' starts starts' g a to n x was f gone)
+      sound_changed size shift lowest lowest entries entries starts starts' memory memory' rows rows t t' s e w f.count refl refl
+      s.used_below gone.region_words gone.len (λ g. starts_forwarded t t' starts starts' g a to n x was f gone)
       (entries_same t t' entries a (Object x) (Forwarded to n) was f.is f.others (sym long) (λ m. refl))
       (λ g.
       let all = g.each a (Object x) was in

@@ -7,7 +7,9 @@ pub value-requires-clause-object : goal.value-requires-clause-object
 value-requires-clause-object c = (value_read _ _ _ _ _ _ c.self.invariant.table c.self.view_is c.requires).object
 
 pub value-requires-clause-within : goal.value-requires-clause-within
-value-requires-clause-within c = word_within _ _ _ _ _ c.self.invariant.written c.self.view_is (value_read _ _ _ _ _ _ c.self.invariant.table c.self.view_is c.requires).in_object
+value-requires-clause-within c =
+    word_within _ _ _ _ _ c.self.invariant.written c.self.view_is
+    (value_read _ _ _ _ _ _ c.self.invariant.table c.self.view_is c.requires).in_object
 
 pub returns : goal.returns
 returns c = (value_read _ _ _ _ _ _ c.self.invariant.table c.self.view_is c.requires).value ∙ ap Some (sym c.value.ensures)

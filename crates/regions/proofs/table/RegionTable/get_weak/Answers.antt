@@ -4,7 +4,9 @@ use Rattle.regions.proofs.Tiles.Within.{word_within}
 use Rattle.regions.proofs.table.RegionTable.get_weak.Goals as goal
 
 pub pointers_in-requires-clause-within : goal.pointers_in-requires-clause-within
-pointers_in-requires-clause-within c = word_within _ _ _ _ _ c.self.invariant.written c.self.view_is (weak_read _ _ _ _ _ _ c.self.invariant.table c.self.view_is c.requires).at
+pointers_in-requires-clause-within c =
+    word_within _ _ _ _ _ c.self.invariant.written c.self.view_is
+    (weak_read _ _ _ _ _ _ c.self.invariant.table c.self.view_is c.requires).at
 
 pub pointers_in-requires-clause-object : goal.pointers_in-requires-clause-object
 pointers_in-requires-clause-object c = (weak_read _ _ _ _ _ _ c.self.invariant.table c.self.view_is c.requires).object

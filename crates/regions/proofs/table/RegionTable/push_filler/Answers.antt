@@ -95,7 +95,8 @@ invariant_of-self c =
     (rw c.reach.ensures.all at c.write_filler.ensures.all) in
     let some : 0 < c.args.size = omega (arith, c.get-more.ensures.value, c.get-more.ensures.positive) in
     push_sound _ _ _ _ _ _ _ _ c.self.invariant c.self.view_is _ _ _ _ _ c.args.region _ _ 0 (Filler c.args.size) c.requires.known
-    c.requires.ordinary some c.requires.room tt (c.word-2.ensures ∙ c.top-at.ensures) c.get-more.ensures.value c.put_filler.ensures.card_words
+    c.requires.ordinary some c.requires.room tt (c.word-2.ensures ∙ c.top-at.ensures) c.get-more.ensures.value
+    c.put_filler.ensures.card_words
     c.put_filler.ensures.len (filler_written _ _ _ _ _ _ _ refl c.get-more.ensures.value c.put_filler.ensures.entries) refl refl
     (used_set _ _ _ _ (omega (arith, n.in_rows, c.number-number.ensures)) refl c.self.invariant.used_below)
     (omega (arith, c.reach.ensures.written, c.write_filler.ensures.written))

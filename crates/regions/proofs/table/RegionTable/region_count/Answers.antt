@@ -8,5 +8,6 @@ pub returns : goal.returns
 returns c =
     let count : length c.args.self.now.regions ≡ length c.self.inside.rows.items =
     ap (λ (u : Table). length u.regions) (sym c.self.view_is)
-    ∙ length-regions_of (sizes_in c.self.inside.words.all) c.self.inside.words_per_region c.self.inside.rows.items c.self.inside.words.all in
+    ∙ length-regions_of (sizes_in c.self.inside.words.all) c.self.inside.words_per_region c.self.inside.rows.items
+    c.self.inside.words.all in
     omega (arith, count)

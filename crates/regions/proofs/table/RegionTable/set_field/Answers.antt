@@ -6,7 +6,9 @@ use Rattle.regions.proofs.Tiles.Within.{word_within}
 use Rattle.regions.proofs.table.RegionTable.set_field.Goals as goal
 
 pub set_field-requires : goal.set_field-requires
-set_field-requires c = word_within _ _ _ _ _ c.self.invariant.written c.self.view_is (field_read _ _ _ _ _ _ c.self.invariant.table c.self.view_is c.requires).in_object
+set_field-requires c =
+    word_within _ _ _ _ _ c.self.invariant.written c.self.view_is
+    (field_read _ _ _ _ _ _ c.self.invariant.table c.self.view_is c.requires).in_object
 
 pub invariant_of-self : goal.invariant_of-self
 invariant_of-self c =

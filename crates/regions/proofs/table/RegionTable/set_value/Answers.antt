@@ -5,10 +5,14 @@ use Rattle.regions.proofs.Tiles.Within.{word_within}
 use Rattle.regions.proofs.table.RegionTable.set_value.Goals as goal
 
 pub set_value-requires-clause-at : goal.set_value-requires-clause-at
-set_value-requires-clause-at c = word_within _ _ _ _ _ c.self.invariant.written c.self.view_is (value_read _ _ _ _ _ _ c.self.invariant.table c.self.view_is c.requires).at
+set_value-requires-clause-at c =
+    word_within _ _ _ _ _ c.self.invariant.written c.self.view_is
+    (value_read _ _ _ _ _ _ c.self.invariant.table c.self.view_is c.requires).at
 
 pub set_value-requires-clause-within : goal.set_value-requires-clause-within
-set_value-requires-clause-within c = word_within _ _ _ _ _ c.self.invariant.written c.self.view_is (value_read _ _ _ _ _ _ c.self.invariant.table c.self.view_is c.requires).in_object
+set_value-requires-clause-within c =
+    word_within _ _ _ _ _ c.self.invariant.written c.self.view_is
+    (value_read _ _ _ _ _ _ c.self.invariant.table c.self.view_is c.requires).in_object
 
 pub invariant_of-self : goal.invariant_of-self
 invariant_of-self c =

@@ -24,7 +24,8 @@ shape_at-shape-requires-clause-known c =
 pub shape_at-shape-requires-clause-target : goal.shape_at-shape-requires-clause-target
 shape_at-shape-requires-clause-target c =
     let b = behind_is _ _ _ _ _ _ c.self.invariant.table c.self.view_is c.requires.cut c.requires.within in
-    rw (c.new-at.ensures, c.number.ensures) (target_within _ _ _ _ _ b.tile _ c.self.invariant.table c.self.invariant.written c.self.view_is b.stands)
+    rw (c.new-at.ensures, c.number.ensures)
+    (target_within _ _ _ _ _ b.tile _ c.self.invariant.table c.self.invariant.written c.self.view_is b.stands)
 
 pub returns : goal.returns
 returns c =
