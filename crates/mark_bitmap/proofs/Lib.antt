@@ -7,7 +7,5 @@ pub mod Listed
 pub mod Spans
 pub mod LiveWords
 pub mod Summaries
-pub mod Beside
-pub mod Fingers
 pub mod LiveBounds
 pub mod Samples

@@ -1,5 +1,5 @@
 -- Grey objects: marked, and not scanned yet.
-use Rattle.std.specs.Prelude.{◌≡◌, ℕ, ◌/◌, Bool, false, List, replicate}
+use Rattle.std.specs.Prelude.{◌≡◌, ℕ, ◌/◌, ◌<◌, ◌⊎◌, ◌==◌, Bool, true, false, if◌then◌else◌, List, Option, Some, None, replicate, slice_set}
 use Rattle.std.specs.Int.{div_ceil}
 use Rattle.heap_words.specs.Bits.{has}
 use Rattle.mark_bitmap.specs.Marks.{is_only}
@@ -8,19 +8,42 @@ use Rattle.mark_bitmap.specs.Marks.{is_only}
 unfoldable pub finger_of : ℕ → ℕ
 finger_of address = address / 64
 
--- which objects are scanned, and a finger for each 64 addresses that is set where a grey object may start at one of them
+-- which objects are scanned; a finger for each 64 addresses that is set where a grey object may start at one of them; and the grey
+-- object that is held beside the fingers, if one is
 pub record Scans : Type 0 where
   pub scanned : List Bool
   pub fingers : List Bool
+  pub held : Option ℕ
 
--- of so many addresses none is scanned, and no finger is set
+-- of so many addresses none is scanned, no finger is set and nothing is held
 unfoldable pub nothing_scanned : ℕ → Scans
-nothing_scanned count = record { scanned = replicate count false; fingers = replicate (div_ceil count 64) false }
+nothing_scanned count = record { scanned = replicate count false; fingers = replicate (div_ceil count 64) false; held = None }
 
 -- marked, and not scanned
 abbrev pub is_grey : List Bool → Scans → ℕ → Bool
 is_grey marks scans = is_only marks scans.scanned
 
--- no grey object starts at an address whose finger isn't set
-abbrev pub HasFingers : List Bool → Scans → Type 0
-HasFingers marks scans = (a : ℕ) → has scans.fingers (finger_of a) ≡ false → is_grey marks scans a ≡ false
+-- no grey object but the held one starts at an address whose finger isn't set, and the held one is grey
+pub record HasFingers (marks : List Bool) (scans : Scans) : Type 0 where
+  pub each : (a : ℕ) → has scans.fingers (finger_of a) ≡ false → (scans.held ≡ Some a) ⊎ (is_grey marks scans a ≡ false)
+  pub held : (a : ℕ) → scans.held ≡ Some a → is_grey marks scans a ≡ true
+
+-- no grey object starts at an address whose finger is set
+abbrev pub HasNoFinger : List Bool → List Bool → List Bool → Type 0
+HasNoFinger marks scanned fingers = (a : ℕ) → has fingers (finger_of a) ≡ true → is_only marks scanned a ≡ false
+
+-- x is a grey object, and none below it has its finger set
+abbrev pub IsLowestBeside : List Bool → List Bool → List Bool → ℕ → Type 0
+IsLowestBeside marks scanned fingers x = (is_only marks scanned x ≡ true)
+    × ((a : ℕ) → a < x → has fingers (finger_of a) ≡ true → is_only marks scanned a ≡ false)
+
+-- the scans once an object more is grey: it is held, if none was, and else its finger is set
+abbrev pub with_grey : Option ℕ → Scans → ℕ → Scans
+with_grey None scans a = record { scanned = scans.scanned; fingers = scans.fingers; held = Some a }
+with_grey (Some held) scans a =
+    record { scanned = scans.scanned; fingers = slice_set scans.fingers (finger_of a) true; held = Some held }
+
+-- nothing is held any more where it was this object
+abbrev pub held_without : Option ℕ → ℕ → Option ℕ
+held_without None object = None
+held_without (Some held) object = if held == object then None else Some held

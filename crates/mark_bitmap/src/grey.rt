@@ -2,7 +2,7 @@
 //!
 //! There is no list of them. They are the difference of two bitmaps, and fingers tell where to look: one for each 64
 //! addresses, which is set where a grey object starts at one of them. The fingers have levels above them (`summary`), so
-//! the lowest one that is set is found in a few steps, wherever it is, and one of them is held beside the others (`held`).
+//! the lowest one that is set is found in a few steps, wherever it is.
 //!
 //! ```text
 //!   address   0 ..          64 ..         128 ..        192 ..
@@ -13,26 +13,38 @@
 //!                                                                                   falls where no other one is left
 //! ```
 //!
+//! One grey object is held beside the fingers, the first that comes while none is: it needs no finger. While marking goes down a list
+//! one object is grey at a time, so no finger is set, and none is looked for.
+//!
+//! ```text
+//!   a list    add 5: held 5     any = 5     remove 5: none held     add 90: held 90 ..      no finger is ever set
+//!   a tree    add 5: held 5     add 90: finger 1 is set     any = 5     remove 5: none held, and 90 is left by its finger
+//! ```
+//!
 //! Over a marking cycle: `begin` clears the scanned set and the fingers; each object that is marked is added; `any` and
 //! `remove` take one grey object after another, until none is left. Each of the three costs a few words, however many
 //! objects there are and wherever they lie.
 
-ghost use Rattle.std.specs.Prelude.{◌≡◌, ◌≢◌, ℕ, ◌<◌, List, Bool, true, false, IfOk, IfSome, length, MatchOption, replicate, slice_set};
+ghost use Rattle.std.specs.Prelude.{◌≡◌, ◌≢◌, ℕ, ◌<◌, List, Bool, true, false, Some, IfOk, IfSome, length, MatchOption, replicate};
+ghost use Rattle.std.specs.Prelude.{slice_set};
+ghost use Rattle.std.specs.Int.{div_ceil};
 ghost use Rattle.heap_words.specs.Bits.{has};
-ghost use Rattle.mark_bitmap.specs.Marks.{is_marked, HasNone, IsLowest};
+ghost use Rattle.mark_bitmap.specs.Marks.{is_marked, is_only, HasNone, IsLowest};
 ghost use Rattle.mark_bitmap.specs.Summary.{HasMember};
-ghost use Rattle.mark_bitmap.specs.Grey.{finger_of, is_grey, nothing_scanned, HasFingers, Scans};
+ghost use Rattle.mark_bitmap.specs.Grey.{finger_of, held_without, is_grey, nothing_scanned, with_grey};
+ghost use Rattle.mark_bitmap.specs.Grey.{HasFingers, HasNoFinger, IsLowestBeside, Scans};
 
-use crate::held::Fingers;
+use crate::finger_set::Fingers;
 use crate::marks::Marks;
 use heap_words::addr::Addr;
 use std::alloc::{AllocError, Global};
 use std::marker::Model;
 
-/// Which objects are scanned, and the fingers. Clauses see both.
+/// Which objects are scanned, the fingers, and the object that is held beside them. Clauses see the three.
 pub struct Grey {
     scanned: Marks,
     fingers: Fingers,
+    held: Option<u32>,
 }
 
 impl Model for Grey {
@@ -42,7 +54,7 @@ impl Model for Grey {
 
     ghost Value = { Scans };
 
-    ghost view = { λ g. record { scanned = g.scanned; fingers = g.fingers } };
+    ghost view = { λ g. record { scanned = g.scanned; fingers = g.fingers; held = g.held } };
 
     ghost invariant = { λ g. length g.fingers ≡ div_ceil (length g.scanned) 64 };
 }
@@ -53,12 +65,42 @@ impl Drop for Grey {
         let Grey {
             scanned: _,
             fingers: _,
+            held: _,
         } = self;
     }
 }
 
+/// An object isn't held any more, if it was.
+fn let_go(held: &mut Option<u32>, object: u32)
+    ensures { held.new ≡ held_without held.old object }
+{
+    if let Some(found) = *held {
+        if found == object {
+            *held = None;
+        }
+    }
+}
+
+/// The lowest grey object at or behind the addresses of the lowest finger that is set.
+#[tactic(auto, unfolding(crate::specs::Grey::finger_of))]
+fn lowest_beside(marks: &Marks, scanned: &Marks, fingers: &Fingers) -> Option<Addr>
+    requires even { length marks.now ≡ length scanned.now }
+    requires count { length fingers.now ≡ div_ceil (length scanned.now) 64 }
+    ensures lowest { MatchOption result (HasNoFinger marks.now scanned.now fingers.now)
+        (IsLowestBeside marks.now scanned.now fingers.now) }
+    ensures within { IfSome result (λ found. found < length marks.now) }
+{
+    let finger = fingers.lowest()?;
+    // Mostly it stands among the finger's own addresses.
+    if let Some(found) = marks.lowest_without(scanned, finger) {
+        return Some(found);
+    }
+    let end = Addr::new(marks.len());
+    marks.next_without(scanned, Addr::new(64 * finger), end)
+}
+
 impl Grey {
-    /// Nothing is scanned of the addresses below `count`, and no finger is set. No call takes memory afterwards.
+    /// Nothing is scanned of the addresses below `count`, no finger is set, and nothing is held. No call takes memory afterwards.
     #[tactic(auto, unfolding(crate::specs::Grey::nothing_scanned))]
     pub fn new(alloc: Global, count: u32) -> Result<Grey, AllocError>
         ensures none { IfOk result (λ grey. grey ≡ nothing_scanned count) }
@@ -67,46 +109,56 @@ impl Grey {
         Ok(Grey {
             scanned: Marks::new(alloc, count)?,
             fingers: Fingers::new(alloc, count.div_ceil(64))?,
+            held: None,
         })
     }
 
-    /// Marking begins with no marks: nothing is scanned, and no finger is set.
+    /// Marking begins with no marks: nothing is scanned, no finger is set, and nothing is held.
     pub fn clear(&mut self)
         ensures none { self.new ≡ record {
           scanned = replicate (length self.old.scanned) false;
           fingers = replicate (length self.old.fingers) false;
+          held = None;
         } }
         ensures fingers { (marks : List Bool) → ((a : ℕ) → is_marked marks a ≡ false) → HasFingers marks self.new }
     {
         self.scanned.clear();
         self.fingers.clear();
+        self.held = None;
     }
 
-    /// An object is marked, which makes it grey: its finger is set.
+    /// An object is marked that wasn't scanned, which makes it grey: it is held, if no other one is, and else its finger is set.
     #[tactic(auto, unfolding(crate::specs::Grey::finger_of))]
     pub fn add(&mut self, object: Addr)
-        requires { object < length self.old.scanned }
-        ensures added { self.new ≡ record { scanned = self.old.scanned; fingers = slice_set self.old.fingers (finger_of object) true } }
-        ensures fingers { (marks : List Bool) → HasFingers marks self.old → HasFingers (slice_set marks object true) self.new }
+        requires known { object < length self.old.scanned }
+        requires unscanned { is_marked self.old.scanned object ≡ false }
+        ensures added { self.new ≡ with_grey self.old.held self.old object }
+        ensures scanned { self.new.scanned ≡ self.old.scanned }
+        ensures fingers { (marks : List Bool) → length marks ≡ length self.old.scanned → HasFingers marks self.old
+            → HasFingers (slice_set marks object true) self.new }
     {
+        if self.held.is_none() {
+            self.held = Some(object.word());
+            return;
+        }
         self.fingers.set(object.word() / 64);
     }
 
     /// The lowest grey object.
-    #[tactic(auto, unfolding(crate::specs::Grey::finger_of))]
     pub fn any(&self, marks: &Marks) -> Option<Addr>
         requires even { length marks.now ≡ length self.now.scanned }
         requires fingers { HasFingers marks.now self.now }
         ensures lowest { MatchOption result (HasNone (is_grey marks.now self.now) 0) (IsLowest (is_grey marks.now self.now) 0) }
         ensures within { IfSome result (λ found. found < length marks.now) }
     {
-        let finger = self.fingers.lowest()?;
-        // Mostly it stands among the finger's own addresses.
-        if let Some(found) = marks.lowest_without(&self.scanned, finger) {
-            return Some(found);
+        let beside = lowest_beside(marks, &self.scanned, &self.fingers);
+        let Some(held) = self.held else {
+            return beside;
+        };
+        match beside {
+            Some(found) => Some(Addr::new(found.word().min(held))),
+            None => Some(Addr::new(held)),
         }
-        let end = Addr::new(marks.len());
-        marks.next_without(&self.scanned, Addr::new(64 * finger), end)
     }
 
     /// An object is scanned: it is no longer grey. Its finger is still set only if a grey object is left at one of the
@@ -118,9 +170,14 @@ impl Grey {
         ensures scanned { self.new.scanned ≡ slice_set self.old.scanned object true }
         ensures left { has self.new.fingers (finger_of object) ≡ true → HasMember (is_grey marks.now self.new) (finger_of object) }
         ensures others { (i : ℕ) → i ≢ finger_of object → has self.new.fingers i ≡ has self.old.fingers i }
+        ensures held { self.new.held ≡ held_without self.old.held object }
         ensures fingers { HasFingers marks.now self.old → HasFingers marks.now self.new }
     {
         self.scanned.set(object);
+        let_go(&mut self.held, object.word());
+        if self.fingers.is_empty() {
+            return;
+        }
         let finger = object.word() / 64;
         if marks.lowest_without(&self.scanned, finger).is_none() {
             self.fingers.remove(finger);
@@ -136,15 +193,15 @@ impl Grey {
     }
 }
 
-/// What grey is: marked, and not scanned. With fewer marks the fingers are right still. Where none is left, each marked
-/// object is scanned.
+/// What grey is: marked, and not scanned. With fewer marks, of which the held object keeps its own, the fingers are right still. Where
+/// none is left, each marked object is scanned.
 pub fn grey_law()
     ensures grey { (marks : List Bool) (scans : Scans) (a : ℕ) → is_marked marks a ≡ true → is_marked scans.scanned a ≡ false
         → is_grey marks scans a ≡ true }
     ensures marked { (marks : List Bool) (scans : Scans) (a : ℕ) → is_grey marks scans a ≡ true → is_marked marks a ≡ true }
     ensures unscanned { (marks : List Bool) (scans : Scans) (a : ℕ) → is_grey marks scans a ≡ true → is_marked scans.scanned a ≡ false }
     ensures fewer { (marks marks' : List Bool) (scans : Scans) → ((a : ℕ) → is_marked marks' a ≡ true → is_marked marks a ≡ true)
-        → HasFingers marks scans → HasFingers marks' scans }
+        → ((a : ℕ) → scans.held ≡ Some a → is_marked marks' a ≡ true) → HasFingers marks scans → HasFingers marks' scans }
     ensures done { (marks : List Bool) (scans : Scans) → HasNone (is_grey marks scans) 0 → (a : ℕ) → is_marked marks a ≡ true
         → is_marked scans.scanned a ≡ true }
 {}
@@ -158,6 +215,7 @@ mod tests {
     fn mark(marks: &mut Marks, grey: &mut Grey, at: u32)
         requires known { at < length marks.old }
         requires even { length marks.old ≡ length grey.old.scanned }
+        requires unscanned { is_marked grey.old.scanned at ≡ false }
         requires fingers { HasFingers marks.old grey.old }
         ensures marks { length marks.new ≡ length marks.old }
         ensures scanned { length grey.new.scanned ≡ length grey.old.scanned }

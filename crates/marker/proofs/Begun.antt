@@ -1,6 +1,6 @@
 -- Marking has begun: what is kept lies below the next tops, and what roots name is marked.
 use Rattle.std.proofs.Common.{◌≡◌, ◌+◌, ◌-◌, ◌*◌, ◌/◌, ◌%◌, ◌<◌, ◌≤◌, ◌∷◌, ◌∙◌}
-use Rattle.std.proofs.Common.{inl, inr, ℕ, zero, suc, Bool, true, false, cond, List, [], Option, Some}
+use Rattle.std.proofs.Common.{inl, inr, ℕ, zero, suc, Bool, true, false, cond, List, [], Option, Some, None}
 use Rattle.std.proofs.Common.{length, get_or, replicate, sym, ap, subst, arith}
 use Rattle.std.specs.Prelude.{Contains, slice_get}
 use Rattle.std.proofs.lemmas.Bool.{cases_lt, lt-ltb}
@@ -102,7 +102,7 @@ pub started_stands : (t : Table) (m m' : Marker) → MarkerStands t m → m.runn
     → m'.bitmaps.previous ≡ m.bitmaps.previous → m'.bitmaps.next ≡ replicate (length m.bitmaps.next) false
     → m'.tams.previous ≡ m.tams.previous → length m'.tams.next ≡ length m.tams.next
     → ((k : ℕ) → k < length t.regions → get_or m'.tams.next k 0 ≡ top_of t k)
-    → m'.grey ≡ record { scanned = replicate (length m.grey.scanned) false; fingers = replicate (length m.grey.fingers) false }
+    → m'.grey ≡ record { scanned = replicate (length m.grey.scanned) false; fingers = replicate (length m.grey.fingers) false; held = None }
     → ((marks : List Bool) → ((a : ℕ) → is_marked marks a ≡ false) → HasFingers marks m'.grey)
     → m'.logs ≡ m.logs → m'.scans ≡ restarted m.scans → m'.live.previous ≡ m.live.previous
     → m'.live.next ≡ replicate (length m.live.next) 0 → MarkerStands t m'

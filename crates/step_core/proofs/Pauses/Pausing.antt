@@ -21,6 +21,7 @@ use Rattle.alloc_buffers.specs.Placement as placement
 use Rattle.alloc_buffers.specs.Placement.{Buffers, BuffersStand}
 use Rattle.alloc_buffers.proofs.Placed.{closed_stand, retired_above}
 use Rattle.mark_bitmap.specs.Marks.{is_marked}
+use Rattle.mark_bitmap.specs.Grey.{is_grey}
 use Rattle.mark_bitmap.specs.Tops.{Tops, is_below, is_in_region, below_next, AreNewer}
 use Rattle.mark_bitmap.specs.Kept.{MarksObjects}
 use Rattle.mark_bitmap.specs.declared.bitmaps.Bitmaps.{Bitmaps}
@@ -292,13 +293,20 @@ module _ (k : CoreState) (core : IsCore k) (budget : ℕ) (chosen : List LiveRow
       | inr out ↦ sym (ap (λ (b : Bool). if b then false else is_marked k.marker.grey.scanned a) out)
     ]
 
+    grey_same : k.marker.running ≡ true → (a : ℕ) → is_grey bm.next k.marker.grey a ≡ is_grey k.marker.bitmaps.next k.marker.grey a
+    grey_same run a = ap (λ (b : Bool). b && not (is_marked k.marker.grey.scanned a)) (marks_same run a)
+
     marker_stands : MarkerStands t marker
     marker_stands = record {
       previous = ev.previous_stands;
       next = ev.next_stands;
       scanned = core.layers.marker.scanned ∙ sym ev.next.each_word;
-      finger = λ run a lt.
-          ap (λ (b : Bool). b && not (is_marked k.marker.grey.scanned a)) (marks_same run a) ∙ core.layers.marker.finger run a lt;
+      finger = λ run.
+          let fingers = core.layers.marker.finger run in
+          record {
+            each = λ a lt. elim (fingers.each a lt) [ inl held ↦ inl held | inr none ↦ inr (grey_same run a ∙ none) ];
+            held = λ a held. grey_same run a ∙ fingers.held a held;
+          };
       newer = newer;
       follows = λ run. follows_of after core.footing.graph core.footing.snapshot (paused_shows core.footing.graph core.rests.shows)
           (paused_keeps core.footing.snapshot core.rests.keeps) run;

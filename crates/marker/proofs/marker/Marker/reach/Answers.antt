@@ -1,6 +1,7 @@
-use Rattle.std.proofs.Common.{arith, ◌≡◌, true, ap}
+use Rattle.std.proofs.Common.{arith, ◌≡◌, ◌∙◌, true, sym, inl, inr}
+use Rattle.std.proofs.lemmas.Bool.{cases_Bool}
+use Rattle.mark_bitmap.specs.Marks.{is_marked}
 use Rattle.mark_bitmap.specs.Tops.{below_next}
-use Rattle.mark_bitmap.specs.Grey.{Scans}
 use Rattle.marker.proofs.Reached.{old_within, set_stands, set_marks}
 use Rattle.marker.proofs.marker.Marker.reach.Goals as goal
 
@@ -17,10 +18,11 @@ set-requires c =
 pub returns-clause-stands : goal.returns-clause-stands
 returns-clause-stands c =
     let below : below_next c.args.table.now c.args.self.now.tams c.in-Some.at ≡ true = cc in
-    let finger = c.add.ensures.fingers c.args.self.now.bitmaps.next (c.requires.stands.finger c.requires.running) in
+    let finger = c.add.ensures.fingers c.args.self.now.bitmaps.next (sym c.requires.stands.scanned)
+    (c.requires.stands.finger c.requires.running) in
     set_stands c.args.table.now c.args.self.now c.in-Some.at c.set.new.self c.add.new.self c.requires.stands c.requires.running below
     (c.requires.kept c.in-Some.at c.in-Some.is below) c.set.ensures
-    (ap (λ (g : Scans). g.scanned) c.add.ensures.added) (rw c.set.ensures finger)
+    c.add.ensures.scanned (rw c.set.ensures finger)
 
 pub returns-clause-marks : goal.returns-clause-marks
 returns-clause-marks c =
@@ -28,11 +30,21 @@ returns-clause-marks c =
     let inside = old_within c.args.table.now c.args.self.now c.in-Some.at c.law.ensures.positive c.requires.stands below in
     set_marks c.args.table.now c.args.self.now c.in-Some.at c.args.target c.set.new.self c.add.new.self c.in-Some.is inside c.set.ensures
 
-pub add-requires : goal.add-requires
-add-requires c =
+pub add-requires-clause-known : goal.add-requires-clause-known
+add-requires-clause-known c =
     let below : below_next c.args.table.now c.args.self.now.tams c.in-Some.at ≡ true = cc in
     omega (
       arith,
       old_within c.args.table.now c.args.self.now c.in-Some.at c.law.ensures.positive c.requires.stands below,
       c.requires.stands.scanned,
     )
+
+-- what isn't marked isn't scanned
+pub add-requires-clause-unscanned : goal.add-requires-clause-unscanned
+add-requires-clause-unscanned c = elim (cases_Bool (is_marked c.args.self.now.grey.scanned c.in-Some.at)) [
+  | inl scanned ↦
+      let marked = c.requires.stands.scanned_marked c.requires.running c.in-Some.at scanned in
+      let unmarked = sym c.get.ensures ∙ c.if-get.false in
+      absurd cc
+  | inr unscanned ↦ unscanned
+]
