@@ -1,6 +1,5 @@
 //! The collector's steps, a call for each. Any numbers will do.
 
-ghost use Rattle.std.specs.Prelude.{◌≡◌};
 ghost use Rattle.heap_steps.specs.declared.step.Step.TheVariants as steps;
 ghost use Rattle.heap_steps.specs.declared.step.CollectorStep.TheVariants as collector;
 ghost use Rattle.g1heap_c.specs.Steps.{Takes, plain, scanned};

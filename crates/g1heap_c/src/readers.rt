@@ -1,7 +1,7 @@
 //! What a policy of collection steers by, a call for each. C declares these with a heap that doesn't change: what it points to is the same
 //! after the call as before.
 
-ghost use Rattle.std.specs.Prelude.{◌≡◌, length};
+ghost use Rattle.std.specs.Prelude.{length};
 ghost use Rattle.heap_words.specs.Configs.{globals_of, registers_of};
 ghost use Rattle.regions.specs.Table.{free_count};
 ghost use Rattle.step_core.specs.Measures.{used_words, live_words, HasGrey};

@@ -1,6 +1,6 @@
 //! 50,000 scripts drawn at random, and 10,000 with steps on weak slots: each runs without a fault, and its record is a run of the graph.
 
-ghost use Rattle.std.specs.Prelude.{◌≡◌, ◌<◌, All, IfOk};
+ghost use Rattle.std.specs.Prelude.{◌<◌, All, IfOk};
 ghost use Rattle.heap_steps.specs.Actors.{IsStep};
 
 use heap_steps::{

@@ -1,7 +1,5 @@
 //! The whole program, where memory is there, on words and a file that a test makes.
 
-ghost use Rattle.std.specs.Prelude.{◌≡◌};
-
 use super::{Outcome, assert_outcome, words};
 use crate::program::{open_and_perform, program};
 use command_line::read_words;
