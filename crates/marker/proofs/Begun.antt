@@ -146,9 +146,7 @@ started_stands t m m' st off closed on previous next low len high grey fingers l
           ∙ sym (ap (λ (g : Scans). marked_count g.scanned) grey ∙ none_counted (length m.grey.scanned));
       live = subst (λ (b : List Bool). CountsWords t b m'.live.previous) (sym previous)
           (subst (λ (l : List ℕ). CountsWords t m.bitmaps.previous l) (sym live) st.live);
-      live_next = λ no. absurd (let e = on in cc);
-      live_scanned =
-          λ _. counts_none t m'.grey.scanned m'.live.next (length m.live.next) live_next (st.live_next off).each_region unscanned;
+      live_next = counts_none t m'.bitmaps.next m'.live.next (length m.live.next) live_next st.live_next.each_region unmarked;
     }
   where
     none_in : (a : ℕ) → Contains [] a → ⊥

@@ -151,12 +151,10 @@ cleared_words t t' m a x c at = elim (bool_cases (m.marked a)) [
         ∙ ap (λ (n : ℕ). 2 + length x.pointers + n + length x.values) (length-map x.weaks (cleared_word m)) ∙ sym (ap stored_size at)
 
 -- what is counted of marked objects holds of the cleared table too
-cleared_counts : (t t' : Table) (m : Marking) (tops : List ℕ) (marks marks' : List Bool) (counts : List ℕ) → ClearsTable m t t'
-    → MarksObjects t tops marks → CountsWords t marks' counts
-    → ((a : ℕ) → is_marked marks a ≡ is_marked marks' a) → CountsWords t' marks counts
-cleared_counts t t' m tops marks marks' counts c o counted same =
-    counts_same t t' marks' marks counts counted c.count c.size same
-    (λ a h. let x = o.object a (same a ∙ h) in cleared_words t t' m a x.0 c x.1)
+cleared_counts : (t t' : Table) (m : Marking) (tops : List ℕ) (marks : List Bool) (counts : List ℕ) → ClearsTable m t t'
+    → MarksObjects t tops marks → CountsWords t marks counts → CountsWords t' marks counts
+cleared_counts t t' m tops marks counts c o counted =
+    counts_same t t' marks marks counts counted c.count c.size (λ a. refl) (λ a h. let x = o.object a h in cleared_words t t' m a x.0 c x.1)
 
 pub exchanged_stands : (t t' : Table) (k : Marking) (m m' : Marker) → MarkerStands t m → m.running ≡ true → IsDone (marking_of t m)
     → ClearsTable k t t' → IsExchanged m m' → MarkerStands t' m'
@@ -177,12 +175,10 @@ exchanged_stands t t' k m m' st run done c e = record {
   counted = λ on. absurd (let f = e.off in cc);
   live = subst (λ (l : LiveCounts). CountsWords t' m'.bitmaps.previous l.previous) (sym e.live)
       (subst (λ (b : List Bool). CountsWords t' b m.live.next) (sym e.previous)
-      (cleared_counts t t' k m.tams.next m.bitmaps.next m.grey.scanned m.live.next c st.next (st.live_scanned run)
-      (λ a. sym (agree (is_marked m.grey.scanned a) (is_marked m.bitmaps.next a) (st.scanned_marked run a) (done.grey a)))));
-  live_next = λ _. subst (λ (l : LiveCounts). CountsWords t' m'.bitmaps.next l.next) (sym e.live)
+      (cleared_counts t t' k m.tams.next m.bitmaps.next m.live.next c st.next st.live_next));
+  live_next = subst (λ (l : LiveCounts). CountsWords t' m'.bitmaps.next l.next) (sym e.live)
       (subst (λ (b : List Bool). CountsWords t' b m.live.previous) (sym e.next)
-      (cleared_counts t t' k m.tams.previous m.bitmaps.previous m.bitmaps.previous m.live.previous c st.previous st.live (λ a. refl)));
-  live_scanned = λ on. absurd (let f = e.off in cc);
+      (cleared_counts t t' k m.tams.previous m.bitmaps.previous m.live.previous c st.previous st.live));
 }
 
 module _ (t t' : Table) (m m' m'' : Marker) (count : ℕ) (p : IsOver t m m') (c : ClearsTable (marking_of t m') t t')

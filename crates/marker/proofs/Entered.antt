@@ -1,65 +1,37 @@
 -- An object is scanned: it enters the scanned ones, and then its targets are marked.
-use Rattle.std.proofs.Common.{◌≡◌, ℕ, ◌+◌, ◌/◌, ◌^◌, ◌<◌, Bool, true, List, Option, Some, length, get_or, set}
-use Rattle.std.proofs.Common.{inl, inr, refl, sym, ap, ◌∙◌, subst, arith, length-set, get_or-set_same}
+use Rattle.std.proofs.Common.{◌≡◌, ℕ, ◌<◌, Bool, true, List, Option, Some, length, set}
+use Rattle.std.proofs.Common.{inl, inr, refl, sym, ap, ◌∙◌, subst, arith, length-set}
 use Rattle.std.specs.Prelude.{Contains, slice_get}
 use Rattle.std.proofs.lemmas.Option.{slice_get_within}
 use Rattle.heap_model.specs.Marking.{MarksMore}
-use Rattle.regions.specs.Table.{Table, pointers_at, object_words}
-use Rattle.regions.specs.Shaped.{IsShaped}
+use Rattle.regions.specs.Table.{Table, pointers_at}
 use Rattle.mark_bitmap.specs.Marks.{is_marked, marked_count}
 use Rattle.mark_bitmap.specs.Tops.{Tops, below_next}
 use Rattle.mark_bitmap.specs.Grey.{Scans, HasFingers, is_grey}
 use Rattle.mark_bitmap.proofs.Counts.{marked_count-set}
 use Rattle.satb_log.specs.Logs.{logged}
 use Rattle.marker.specs.Views.{heap_of, marking_of}
-use Rattle.marker.specs.Live.{LiveCounts, CountsWords, with_more}
 use Rattle.marker.specs.Stands.{MarkerStands}
 use Rattle.marker.specs.Steps.{KeepsSnapshots, SameRoles, MarksWanted}
 use Rattle.marker.specs.declared.marker.Marker.{Marker}
 use Rattle.marker.proofs.Views.{kept_object, object_pointers_at}
-use Rattle.marker.proofs.LiveCounts.{counts_added, region_small}
 use Rattle.marker.proofs.Reached.{Reached, stands_step, marked_set, same_trans}
-use Rattle.marker.proofs.Scanned.{same_snapshots, grey_is, with_scan, all_pointers, grey_within, grey_region}
+use Rattle.marker.proofs.Scanned.{same_snapshots, grey_is, with_scan, all_pointers, grey_within}
 
--- its words are counted
-pub counts_scanned : (t : Table) (m : Marker) (object : ℕ) (marks : List Bool) (k size : ℕ) → 0 < t.words_per_region
-    → MarkerStands t m → m.running ≡ true → is_grey m.bitmaps.next m.grey object ≡ true → marks ≡ set m.grey.scanned object true
-    → k ≡ object / t.words_per_region → size ≡ object_words t object
-    → CountsWords t marks (set m.live.next k (get_or m.live.next k 0 + size))
-counts_scanned t m object marks k size z st run grey scanned own words =
-    let is = grey_is m.bitmaps.next m.grey object grey in
-    counts_added t m.grey.scanned marks m.live.next object k size z (st.live_scanned run) (grey_within t m object st grey) is.1 scanned own
-    (omega (arith, own, grey_region t m object z st grey)) words
-
--- so the count is one that a number holds
-pub scan_fits : (t : Table) (m : Marker) (object k size : ℕ) → IsShaped t → MarkerStands t m → m.running ≡ true
-    → is_grey m.bitmaps.next m.grey object ≡ true → k ≡ object / t.words_per_region → size ≡ object_words t object
-    → (k < length m.live.next) × (get_or m.live.next k 0 + size < 2 ^ 32)
-scan_fits t m object k size shape st run grey own words =
-    let marks : List Bool = set m.grey.scanned object true in
-    let now = counts_scanned t m object marks k size shape.positive st run grey refl own words in
-    let region : k < length t.regions = omega (arith, own, grey_region t m object shape.positive st grey) in
-    let known : k < length m.live.next = omega (arith, region, (st.live_scanned run).each_region) in
-    let same = get_or-set_same m.live.next k (get_or m.live.next k 0 + size) 0 known in
-    (known, omega (arith, same, now.each k region, region_small t marks k shape))
-
-pub scan_stands : (t : Table) (m : Marker) (object : ℕ) (g : Scans) (l : LiveCounts) (k size : ℕ) → 0 < t.words_per_region
-    → MarkerStands t m → m.running ≡ true → is_grey m.bitmaps.next m.grey object ≡ true
-    → g.scanned ≡ set m.grey.scanned object true → HasFingers m.bitmaps.next g → l ≡ with_more m.live k size
-    → k ≡ object / t.words_per_region → size ≡ object_words t object → MarkerStands t (with_scan m g l)
-scan_stands t m object g l k size z st run grey scanned finger more own words =
+pub scan_stands : (t : Table) (m : Marker) (object : ℕ) (g : Scans) → MarkerStands t m → m.running ≡ true
+    → is_grey m.bitmaps.next m.grey object ≡ true → g.scanned ≡ set m.grey.scanned object true → HasFingers m.bitmaps.next g
+    → MarkerStands t (with_scan m g)
+scan_stands t m object g st run grey scanned finger =
     let is = grey_is m.bitmaps.next m.grey object grey in
     let inside : object < length m.grey.scanned = grey_within t m object st grey in
-    stands_step t m (with_scan m g l) st run (record { previous = refl; tams = refl; running = refl })
+    stands_step t m (with_scan m g) st run (record { previous = refl; tams = refl; running = refl })
     (ap length scanned ∙ length-set m.grey.scanned object true) refl (λ a c. c) st.next finger (λ a c. inl c)
     (λ a c. elim (marked_set m.grey.scanned object a (ap (λ (b : List Bool). is_marked b a) (sym scanned) ∙ c)) [
       | inl was ↦ st.scanned_marked run a was
       | inr same ↦ ap (is_marked m.bitmaps.next) same ∙ is.0
     ])
     (omega (arith, st.counted run, marked_count-set m.grey.scanned object inside is.1, ap marked_count scanned))
-    (ap (λ (x : LiveCounts). x.previous) more)
-    (subst (λ (x : LiveCounts). CountsWords t g.scanned x.next) (sym more)
-    (counts_scanned t m object g.scanned k size z st run grey scanned own words))
+    refl st.live_next
 
 -- an object has entered the scanned ones
 pub record Entered (t : Table) (object : ℕ) (m m' : Marker) : Type 0 where

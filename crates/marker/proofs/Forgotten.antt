@@ -79,9 +79,8 @@ forgotten_stands t m k from to previous next tops live z st off known low high l
       counted = λ on. absurd (let e = off in cc);
       live = subst (λ (l : LiveCounts). CountsWords t previous l.previous) (sym none)
           (counts_forgotten t m.bitmaps.previous previous m.live.previous k st.live known z (rw (low, high) at cleared));
-      live_next = λ _. subst (λ (l : LiveCounts). CountsWords t next l.next) (sym none)
-          (counts_forgotten t m.bitmaps.next next m.live.next k (st.live_next off) known z (rw (low, high) at cleared'));
-      live_scanned = λ on. absurd (let e = off in cc);
+      live_next = subst (λ (l : LiveCounts). CountsWords t next l.next) (sym none)
+          (counts_forgotten t m.bitmaps.next next m.live.next k st.live_next known z (rw (low, high) at cleared'));
     }
 
 pub role_stays : (t t' : Table) (tops : List ℕ) (marks : List Bool) → MarksObjects t tops marks → length t'.regions ≡ length t.regions
@@ -117,9 +116,7 @@ table_stands t t' m st count size low high stays stays' words words' follows = r
   scanned_marked = st.scanned_marked;
   counted = st.counted;
   live = counts_same t t' m.bitmaps.previous m.bitmaps.previous m.live.previous st.live count size (λ a. refl) words;
-  live_next = λ off. counts_same t t' m.bitmaps.next m.bitmaps.next m.live.next (st.live_next off) count size (λ a. refl) words';
-  live_scanned = λ run. counts_same t t' m.grey.scanned m.grey.scanned m.live.next (st.live_scanned run) count size (λ a. refl)
-      (λ a h. words' a (st.scanned_marked run a h));
+  live_next = counts_same t t' m.bitmaps.next m.bitmaps.next m.live.next st.live_next count size (λ a. refl) words';
 }
 
 released_is : (t : Table) (k : ℕ) → kind_of t k ≡ kinds.Ordinary → released t k ≡ with_region t k Free

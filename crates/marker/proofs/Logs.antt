@@ -90,7 +90,7 @@ pub drained_stands : (t : Table) (m : Marker) (k : ℕ) (ls : List (List ℕ)) �
 drained_stands t m k ls st run e =
     stands_step t m (with_logs m ls) st run (record { previous = refl; tams = refl; running = refl })
     refl (ap length e ∙ length-set m.logs k []) (λ a l. only_rest m.logs k a (subst (λ (x : List (List ℕ)). Contains (logged x) a) e l))
-    st.next (st.finger run) (λ a marked. inl marked) (st.scanned_marked run) (st.counted run) refl (st.live_scanned run)
+    st.next (st.finger run) (λ a marked. inl marked) (st.scanned_marked run) (st.counted run) refl st.live_next
 
 pub drained_kept : (t : Table) (m : Marker) (k : ℕ) (ls : List (List ℕ)) (log : List ℕ) (a : ℕ) → MarkerStands t m → m.running ≡ true
     → log ≡ log_of m.logs k → Contains log a → IsKept t (with_logs m ls) a
@@ -173,7 +173,6 @@ saved_stands t m k at ls st run below kept e =
       counted = st.counted;
       live = st.live;
       live_next = st.live_next;
-      live_scanned = st.live_scanned;
     }
 
 pub is_saved : (t : Table) (m : Marker) (k at : ℕ) (w : Option ℕ) (ls : List (List ℕ)) → k < length m.logs

@@ -1,5 +1,5 @@
 -- Marks come, and marks still stand at kept objects.
-use Rattle.std.proofs.Common.{◌≡◌, ◌⊎◌, ◌+◌, ◌<◌, ◌≤◌, ◌∙◌}
+use Rattle.std.proofs.Common.{◌≡◌, ◌⊎◌, ◌+◌, ◌/◌, ◌^◌, ◌<◌, ◌≤◌, ◌∙◌}
 use Rattle.std.proofs.Common.{inl, inr, ℕ, Bool, true, false, List, [], Option, None, Some, length, get_or, set, refl, sym, ap}
 use Rattle.std.proofs.Common.{subst, arith, get_or-set_same, get_or-set_other}
 use Rattle.std.specs.Prelude.{Contains, slice_get}
@@ -8,18 +8,21 @@ use Rattle.std.proofs.lemmas.List.{get_or_past}
 use Rattle.std.proofs.lemmas.Option.{get_or_from_slice_get, slice_get-get_or}
 use Rattle.root_table.specs.Roots.{AreNil, IsNextNamed}
 use Rattle.heap_model.specs.Heap.{IsClosed}
-use Rattle.regions.specs.Table.{Table}
+use Rattle.regions.specs.Table.{Table, object_words}
+use Rattle.regions.specs.Shaped.{IsShaped}
 use Rattle.mark_bitmap.specs.Marks.{is_marked, marked_count}
 use Rattle.mark_bitmap.specs.Tops.{Tops, below_next, AreNewer}
 use Rattle.mark_bitmap.specs.Grey.{Scans, HasFingers}
 use Rattle.mark_bitmap.specs.Kept.{MarksObjects}
 use Rattle.mark_bitmap.proofs.ObjectLaws.{set_objects, within}
+use Rattle.mark_bitmap.proofs.Ranges.{div_is, lies_below}
 use Rattle.satb_log.specs.Logs.{logged}
 use Rattle.marker.specs.Stands.{MarkerStands, IsKept}
-use Rattle.marker.specs.Live.{CountsWords}
+use Rattle.marker.specs.Live.{LiveCounts, CountsWords, with_more}
 use Rattle.marker.specs.Steps.{SameRoles, IsAmong, MarksWanted}
 use Rattle.marker.specs.declared.marker.Marker.{Marker}
 use Rattle.marker.proofs.Views.{same_heap, kept_object, same_kept}
+use Rattle.marker.proofs.LiveCounts.{counts_added, region_small}
 
 -- more is marked and logs may lose addresses: marks stand, if what came is kept
 pub stands_step : (t : Table) (m m' : Marker) → MarkerStands t m → m.running ≡ true → SameRoles m m'
@@ -28,7 +31,7 @@ pub stands_step : (t : Table) (m m' : Marker) → MarkerStands t m → m.running
     → MarksObjects t m.tams.next m'.bitmaps.next → HasFingers m'.bitmaps.next m'.grey
     → ((a : ℕ) → is_marked m'.bitmaps.next a ≡ true → (is_marked m.bitmaps.next a ≡ true) ⊎ IsKept t m a)
     → ((a : ℕ) → is_marked m'.grey.scanned a ≡ true → is_marked m'.bitmaps.next a ≡ true) → m'.scans.since ≡ marked_count m'.grey.scanned
-    → m'.live.previous ≡ m.live.previous → CountsWords t m'.grey.scanned m'.live.next → MarkerStands t m'
+    → m'.live.previous ≡ m.live.previous → CountsWords t m'.bitmaps.next m'.live.next → MarkerStands t m'
 stands_step t m m' st run same scanned len logs next finger came scanned_marked counted before now =
     let f = st.follows run in
     let tams : m.tams ≡ m'.tams = sym same.tams in
@@ -51,8 +54,7 @@ stands_step t m m' st run same scanned len logs next finger came scanned_marked 
       counted = λ _. counted;
       live = subst (λ (b : List Bool). CountsWords t b m'.live.previous) (sym same.previous)
           (subst (λ (l : List ℕ). CountsWords t m.bitmaps.previous l) (sym before) st.live);
-      live_next = λ off. absurd (let e = same.running in cc);
-      live_scanned = λ _. now;
+      live_next = now;
     }
 
 pub marked_set : (marks : List Bool) (a b : ℕ) → is_marked (set marks a true) b ≡ true → (is_marked marks b ≡ true) ⊎ (b ≡ a)
@@ -78,39 +80,70 @@ pub old_within : (t : Table) (m : Marker) (a : ℕ) → 0 < t.words_per_region �
     → below_next t m.tams a ≡ true → a < length m.bitmaps.next
 old_within t m a z st h = within t m.tams.next m.bitmaps.next a z st.next h
 
--- the marker with other marks and another grey set
-abbrev pub with_next : Marker → List Bool → Scans → Marker
-with_next m n g = record {
+-- what is old lies in a region that is known
+old_region : (t : Table) (m : Marker) (a : ℕ) → 0 < t.words_per_region → MarkerStands t m → below_next t m.tams a ≡ true
+    → a / t.words_per_region < length t.regions
+old_region t m a z st h =
+    let below = lies_below t.words_per_region m.tams.next a z h in
+    let same = div_is a t.words_per_region below.region below.at_least below.less in
+    omega (arith, below.known, st.next.each_region, same)
+
+-- the marker with other marks, another grey set and other counts
+abbrev pub with_next : Marker → List Bool → Scans → LiveCounts → Marker
+with_next m n g l = record {
   bitmaps = record { previous = m.bitmaps.previous; next = n };
   tams = m.tams;
   grey = g;
   logs = m.logs;
   running = m.running;
   scans = m.scans;
-  live = m.live;
+  live = l;
 }
 
-pub set_stands : (t : Table) (m : Marker) (a : ℕ) (n : List Bool) (g : Scans) → MarkerStands t m → m.running ≡ true
-    → below_next t m.tams a ≡ true → IsKept t m a → n ≡ set m.bitmaps.next a true → g.scanned ≡ m.grey.scanned
-    → HasFingers n g → MarkerStands t (with_next m n g)
-set_stands t m a n g st run below k e scanned finger =
-    let object = kept_object t m.tams m.bitmaps.previous a k.object k.is in
-    stands_step t m (with_next m n g) st run (record { previous = refl; tams = refl; running = refl }) (ap length scanned) refl (λ b l. l)
+-- the words of what is newly marked are counted
+counts_marked : (t : Table) (m : Marker) (a : ℕ) (n : List Bool) (k size : ℕ) → 0 < t.words_per_region → MarkerStands t m
+    → below_next t m.tams a ≡ true → is_marked m.bitmaps.next a ≡ false → n ≡ set m.bitmaps.next a true
+    → k ≡ a / t.words_per_region → size ≡ object_words t a → CountsWords t n (set m.live.next k (get_or m.live.next k 0 + size))
+counts_marked t m a n k size z st below unmarked e own words =
+    counts_added t m.bitmaps.next n m.live.next a k size z st.live_next (old_within t m a z st below) unmarked e own
+    (omega (arith, own, old_region t m a z st below)) words
+
+-- so the count is one that a number holds
+pub mark_fits : (t : Table) (m : Marker) (a k size : ℕ) → IsShaped t → MarkerStands t m → below_next t m.tams a ≡ true
+    → is_marked m.bitmaps.next a ≡ false → k ≡ a / t.words_per_region → size ≡ object_words t a
+    → (k < length m.live.next) × (get_or m.live.next k 0 + size < 2 ^ 32)
+mark_fits t m a k size shape st below unmarked own words =
+    let marks : List Bool = set m.bitmaps.next a true in
+    let now = counts_marked t m a marks k size shape.positive st below unmarked refl own words in
+    let region : k < length t.regions = omega (arith, own, old_region t m a shape.positive st below) in
+    let known : k < length m.live.next = omega (arith, region, st.live_next.each_region) in
+    let same = get_or-set_same m.live.next k (get_or m.live.next k 0 + size) 0 known in
+    (known, omega (arith, same, now.each k region, region_small t marks k shape))
+
+pub set_stands : (t : Table) (m : Marker) (a : ℕ) (n : List Bool) (g : Scans) (l : LiveCounts) (k size : ℕ) → 0 < t.words_per_region
+    → MarkerStands t m → m.running ≡ true → below_next t m.tams a ≡ true → IsKept t m a → is_marked m.bitmaps.next a ≡ false
+    → n ≡ set m.bitmaps.next a true → g.scanned ≡ m.grey.scanned → HasFingers n g → l ≡ with_more m.live k size
+    → k ≡ a / t.words_per_region → size ≡ object_words t a → MarkerStands t (with_next m n g l)
+set_stands t m a n g l k size z st run below kept unmarked e scanned finger more own words =
+    let object = kept_object t m.tams m.bitmaps.previous a kept.object kept.is in
+    stands_step t m (with_next m n g l) st run (record { previous = refl; tams = refl; running = refl }) (ap length scanned) refl (λ b l. l)
     (subst (λ (b : List Bool). MarksObjects t m.tams.next b) (sym e)
-    (set_objects t m.tams.next m.bitmaps.next a k.object st.next object below))
+    (set_objects t m.tams.next m.bitmaps.next a kept.object st.next object below))
     finger
     (λ b h. elim (marked_set m.bitmaps.next a b (ap (λ (l : List Bool). is_marked l b) (sym e) ∙ h)) [
       | inl old ↦ inl old
-      | inr same ↦ inr (subst (λ (x : ℕ). IsKept t m x) (sym same) k)
+      | inr same ↦ inr (subst (λ (x : ℕ). IsKept t m x) (sym same) kept)
     ])
     (λ b h. ap (λ (l : List Bool). is_marked l b) e
     ∙ set_more m.bitmaps.next a b (st.scanned_marked run b (ap (λ (l : List Bool). is_marked l b) (sym scanned) ∙ h)))
     (st.counted run ∙ ap marked_count (sym scanned))
-    refl (subst (λ (b : List Bool). CountsWords t b m.live.next) (sym scanned) (st.live_scanned run))
+    (ap (λ (x : LiveCounts). x.previous) more)
+    (subst (λ (x : LiveCounts). CountsWords t n x.next) (sym more) (counts_marked t m a n k size z st below unmarked e own words))
 
-pub set_marks : (t : Table) (m : Marker) (a : ℕ) (target : Option ℕ) (n : List Bool) (g : Scans)
-    → target ≡ Some a → a < length m.bitmaps.next → n ≡ set m.bitmaps.next a true → MarksWanted t (λ b. target ≡ Some b) m (with_next m n g)
-set_marks t m a target n g is h e =
+pub set_marks : (t : Table) (m : Marker) (a : ℕ) (target : Option ℕ) (n : List Bool) (g : Scans) (l : LiveCounts)
+    → target ≡ Some a → a < length m.bitmaps.next → n ≡ set m.bitmaps.next a true
+    → MarksWanted t (λ b. target ≡ Some b) m (with_next m n g l)
+set_marks t m a target n g l is h e =
     let now : (b : ℕ) → is_marked n b ≡ is_marked (set m.bitmaps.next a true) b = λ b. ap (λ (l : List Bool). is_marked l b) e in
     record {
       stays = λ b k. now b ∙ set_stays m.bitmaps.next a b h k;

@@ -1,20 +1,18 @@
 -- A scan is a part of marking that keeps the snapshot invariant.
-use Rattle.std.proofs.Common.{inl, inr, ◌≡◌, ℕ, ◌/◌, ◌<◌, Bool, true, false, not, List, Option, Some, length, refl, sym, subst, arith}
+use Rattle.std.proofs.Common.{inl, inr, ◌≡◌, ℕ, ◌<◌, Bool, true, false, not, List, Option, Some, length, refl, sym, subst, arith}
 use Rattle.std.specs.Prelude.{slice_get, ◌&&◌}
 use Rattle.std.proofs.lemmas.Bool.{cases_lt}
 use Rattle.std.proofs.lemmas.List.{get_or_past}
 use Rattle.heap_model.specs.Graph.{IsReachable, next_name}
-use Rattle.heap_model.specs.Heap.{Heap, Stored}
+use Rattle.heap_model.specs.Heap.{Heap}
 use Rattle.heap_model.specs.Marking.{KeepsSnapshot, MarksMore}
 use Rattle.heap_model.proofs.Marks.{marks_more}
 use Rattle.heap_model.proofs.Lists.{get-append_left}
-use Rattle.regions.specs.Table.{Table, pointers_at, object_at}
+use Rattle.regions.specs.Table.{Table, pointers_at}
 use Rattle.mark_bitmap.specs.Marks.{is_marked}
 use Rattle.mark_bitmap.specs.Grey.{Scans, is_grey}
-use Rattle.mark_bitmap.proofs.Ranges.{div_is, lies_below}
 use Rattle.marker.specs.Views.{heap_of, marking_of}
 use Rattle.marker.specs.Counts.{added}
-use Rattle.marker.specs.Live.{LiveCounts}
 use Rattle.marker.specs.Stands.{MarkerStands, CanFollow, IsKept}
 use Rattle.marker.specs.Steps.{KeepsSnapshots, SameRoles, IsAmong}
 use Rattle.marker.specs.declared.marker.Marker.{Marker}
@@ -35,16 +33,16 @@ pub grey_is : (marks : List Bool) (g : Scans) (a : ℕ) → is_grey marks g a �
     → (is_marked marks a ≡ true) × (is_marked g.scanned a ≡ false)
 grey_is marks g a e = both_true (is_marked marks a) (is_marked g.scanned a) e
 
--- the marker with another grey set and other counts, and one scan more
-abbrev pub with_scan : Marker → Scans → LiveCounts → Marker
-with_scan m g l = record {
+-- the marker with another grey set, and one scan more
+abbrev pub with_scan : Marker → Scans → Marker
+with_scan m g = record {
   bitmaps = m.bitmaps;
   tams = m.tams;
   grey = g;
   logs = m.logs;
   running = m.running;
   scans = added m.scans;
-  live = l;
+  live = m.live;
 }
 
 -- where a pointer of a marked object leads is kept
@@ -70,15 +68,3 @@ grey_within t m object st grey =
       | inr past ↦
           absurd (let f : is_marked m.bitmaps.next object ≡ false = get_or_past m.bitmaps.next object false past in let g = marked in cc)
     ]
-
--- what is grey starts an object in a region that is known
-pub grey_object : (t : Table) (m : Marker) (object : ℕ) → MarkerStands t m → is_grey m.bitmaps.next m.grey object ≡ true
-    → (s : Stored) × (object_at t object ≡ Some s)
-grey_object t m object st grey = st.next.object object (grey_is m.bitmaps.next m.grey object grey).0
-
-pub grey_region : (t : Table) (m : Marker) (object : ℕ) → 0 < t.words_per_region → MarkerStands t m
-    → is_grey m.bitmaps.next m.grey object ≡ true → object / t.words_per_region < length t.regions
-grey_region t m object z st grey =
-    let below = lies_below t.words_per_region m.tams.next object z (st.next.below object (grey_is m.bitmaps.next m.grey object grey).0) in
-    let same = div_is object t.words_per_region below.region below.at_least below.less in
-    omega (arith, below.known, st.next.each_region, same)

@@ -37,7 +37,6 @@ pub record MarkerStands (t : Table) (m : Marker) : Type 0 where
   -- scanned objects are marked, and counted
   pub scanned_marked : m.running ≡ true → (a : ℕ) → is_marked m.grey.scanned a ≡ true → is_marked m.bitmaps.next a ≡ true
   pub counted : m.running ≡ true → m.scans.since ≡ marked_count m.grey.scanned
-  -- the words of what is marked are counted by regions, and while marking runs those of what is scanned
+  -- the words of what is marked are counted by regions
   pub live : CountsWords t m.bitmaps.previous m.live.previous
-  pub live_next : m.running ≡ false → CountsWords t m.bitmaps.next m.live.next
-  pub live_scanned : m.running ≡ true → CountsWords t m.grey.scanned m.live.next
+  pub live_next : CountsWords t m.bitmaps.next m.live.next

@@ -1,10 +1,11 @@
-//! How many words of each region are marked. They are counted as objects are scanned, so that a pause looks up how full a region
-//! is, and walks no marks.
+//! How many words of each region are marked. They are counted as objects are marked, so that a pause looks up how full a region
+//! is, and walks no marks. An object's header is read for it as soon as the object's address is known, so that the processor has it when
+//! the object is scanned.
 //!
 //! ```text
 //!             previous                                     next
 //!   begin     stays                                        0 for each region
-//!   scan      stays                                        the object's words are added to its region's
+//!   mark      stays                                        the object's words are added to its region's
 //!   finish    what was counted: all that is marked         what was the previous
 //!   forget    the region's is 0                            the region's is 0
 //! ```
@@ -79,7 +80,7 @@ impl LiveWords {
         self.previous[region.number() as usize]
     }
 
-    /// Marking begins: nothing is scanned.
+    /// Marking begins: nothing is marked.
     pub(crate) fn restart(&mut self)
         ensures next { self.new.next ≡ replicate (length self.old.next) 0 }
         ensures previous { self.new.previous ≡ self.old.previous }
@@ -87,7 +88,7 @@ impl LiveWords {
         clear_all(&mut self.next);
     }
 
-    /// An object of so many words that starts in the region is scanned.
+    /// An object of so many words that starts in the region is marked.
     pub(crate) fn add(&mut self, region: RegionNo, words: u32)
         requires known { region < length self.old.next }
         requires room { slice_index self.old.next region + words < 2 ^ 32 }

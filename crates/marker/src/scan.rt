@@ -19,7 +19,8 @@ use heap_words::addr::{Addr, Ptr};
 use regions::RegionTable;
 
 impl Marker {
-    /// Marks what a pointer leads to, unless it is marked or was made since marking began. What is newly marked is grey.
+    /// Marks what a pointer leads to, unless it is marked or was made since marking began. What is newly marked is grey, and its words
+    /// are counted.
     pub(crate) fn reach(&mut self, table: &RegionTable, target: Ptr)
         requires stands { MarkerStands table.now self.old }
         requires running { self.old.running ≡ true }
@@ -38,11 +39,13 @@ impl Marker {
         if !self.tams.lies_below_next(table, at) || self.bitmaps.next.get(at) {
             return;
         }
+        let size = table.object_size(at);
         self.bitmaps.next.set(at);
         self.grey.add(at);
+        self.live.add(table.region_of(at), size);
     }
 
-    /// A grey object enters the scanned ones, and its words are counted. Its targets are still to be marked.
+    /// A grey object enters the scanned ones. Its targets are still to be marked.
     fn enter(&mut self, table: &RegionTable, object: Addr)
         requires stands { MarkerStands table.now self.old }
         requires running { self.old.running ≡ true }
@@ -55,10 +58,8 @@ impl Marker {
         ensures logs { self.new.logs ≡ self.old.logs }
     {
         table.law();
-        let size = table.object_size(object);
         self.grey.remove(&self.bitmaps.next, object);
         self.scans.add();
-        self.live.add(table.region_of(object), size);
     }
 
     /// Scans a grey object: each of its targets that was there when marking began is marked.

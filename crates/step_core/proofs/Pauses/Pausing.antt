@@ -99,10 +99,7 @@ module _ (k : CoreState) (core : IsCore k) (budget : ℕ) (chosen : List LiveRow
       (chosen_rows k.table k.marker.tams k.marker.bitmaps.previous k.marker.running budget chosen choice)
 
   pub next_count : length k.marker.live.next ≡ length k.table.regions
-  next_count = elim (cases_Bool k.marker.running) [
-    | inl on ↦ (core.layers.marker.live_scanned on).each_region
-    | inr off ↦ (core.layers.marker.live_next off).each_region
-  ]
+  next_count = core.layers.marker.live_next.each_region
 
   module _ (t : Table) (tams : Tops) (bm : Bitmaps) (cs : Cards) (ss : Sets) (roots : List (Option ℕ)) (w : ℕ)
       (r : RoomSizes) (n : ℕ) (live : LiveCounts)
@@ -281,18 +278,6 @@ module _ (k : CoreState) (core : IsCore k) (budget : ℕ) (chosen : List LiveRow
               (λ a low high marked. let o = object a marked in words_stay a o.0 (here j a low high ∙ out) o.1))
         ]
 
-    -- nothing of the set is scanned while marking runs
-    scanned_after : k.marker.running ≡ true → (a : ℕ)
-        → is_marked k.marker.grey.scanned a
-        ≡ (if set_in k.table.words_per_region chosen a then false else is_marked k.marker.grey.scanned a)
-    scanned_after run a = elim (cases_Bool (set_in k.table.words_per_region chosen a)) [
-      | inl inside ↦ elim (cases_Bool (is_marked k.marker.grey.scanned a)) [
-        | inl scanned ↦ absurd (let marked = core.layers.marker.scanned_marked run a scanned in let none = none_marked run a inside in cc)
-        | inr unscanned ↦ unscanned ∙ sym (ap (λ (b : Bool). if b then false else is_marked k.marker.grey.scanned a) inside)
-      ]
-      | inr out ↦ sym (ap (λ (b : Bool). if b then false else is_marked k.marker.grey.scanned a) out)
-    ]
-
     grey_same : k.marker.running ≡ true → (a : ℕ) → is_grey bm.next k.marker.grey a ≡ is_grey k.marker.bitmaps.next k.marker.grey a
     grey_same run a = ap (λ (b : Bool). b && not (is_marked k.marker.grey.scanned a)) (marks_same run a)
 
@@ -315,12 +300,8 @@ module _ (k : CoreState) (core : IsCore k) (budget : ℕ) (chosen : List LiveRow
       counted = core.layers.marker.counted;
       live = counts_after k.marker.bitmaps.previous bm.previous k.marker.live.previous live.previous core.layers.marker.live
           core.layers.marker.previous.object ev.previous.each_mark forgets.previous forgets.each_previous;
-      live_next = λ off. counts_after k.marker.bitmaps.next bm.next k.marker.live.next live.next (core.layers.marker.live_next off)
+      live_next = counts_after k.marker.bitmaps.next bm.next k.marker.live.next live.next core.layers.marker.live_next
           core.layers.marker.next.object ev.next.each_mark forgets.next forgets.each_next;
-      live_scanned =
-          λ run. counts_after k.marker.grey.scanned k.marker.grey.scanned k.marker.live.next live.next (core.layers.marker.live_scanned run)
-          (λ a e. core.layers.marker.next.object a (core.layers.marker.scanned_marked run a e))
-          (scanned_after run) forgets.next forgets.each_next;
     }
 
     -- the objects of a region that stays have the sizes that they had
