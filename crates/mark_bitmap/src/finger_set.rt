@@ -1,6 +1,6 @@
 //! The fingers that are set. They are counted, so where none is nobody looks for one.
 
-ghost use Rattle.std.specs.Prelude.{◌≡◌, ◌<◌, false, true, IfOk, IfSome, length, MatchOption, replicate, slice_set};
+ghost use Rattle.std.specs.Prelude.{◌≡◌, ◌==◌, ◌<◌, false, true, IfOk, IfSome, length, MatchOption, replicate, slice_set};
 ghost use Rattle.heap_words.specs.Bits.{has, HasNone, IsLowest};
 ghost use Rattle.mark_bitmap.specs.Marks.{marked_count};
 
@@ -88,7 +88,8 @@ impl Fingers {
 
     /// Whether no finger is set.
     pub fn is_empty(&self) -> bool
-        ensures { result ≡ true → HasNone (has self.now) 0 }
+        ensures count { result ≡ (marked_count self.now == 0) }
+        ensures none { result ≡ true → HasNone (has self.now) 0 }
     {
         self.count == 0
     }
