@@ -233,10 +233,12 @@ mod tests {
         let mut marks = Marks::new(rt.alloc(), 200)?;
         let mut grey = Grey::new(rt.alloc(), 200)?;
         mark(&mut marks, &mut grey, 199);
+        assert!(rt; !grey.is_scanned(Addr::new(64)));
         mark(&mut marks, &mut grey, 64);
         assert_eq!(rt; grey.any(&marks), Some(Addr::new(64)));
         grey.remove(&marks, Addr::new(64));
         assert!(rt; grey.is_scanned(Addr::new(64)));
+        assert!(rt; !grey.is_scanned(Addr::new(3)));
         mark(&mut marks, &mut grey, 3);
         assert_eq!(rt; grey.any(&marks), Some(Addr::new(3)));
         grey.remove(&marks, Addr::new(3));
