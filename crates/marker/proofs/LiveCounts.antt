@@ -82,7 +82,7 @@ words_added t marks a (suc n) from inside unmarked low high = elim (cases_eq a f
       )
 ]
 
--- an object of a region is scanned: its words are counted there
+-- an object of a region is marked: its words are counted there
 pub counts_added : (t : Table) (marks marks' : List Bool) (counts : List ℕ) (a k size : ℕ) → 0 < t.words_per_region
     → CountsWords t marks counts → a < length marks → is_marked marks a ≡ false
     → marks' ≡ set marks a true → k ≡ a / t.words_per_region → k < length t.regions → size ≡ object_words t a

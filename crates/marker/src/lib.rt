@@ -26,8 +26,8 @@
 //! Each object is scanned once in a cycle: a scan takes a grey object, and leaves it scanned. The scans are counted from
 //! `begin` on, only marked objects are scanned, and at the end the count is the number of marked objects.
 //!
-//! A scan also adds the object's words to its region's count. So when marking is over, how many words of a region are marked is known
-//! by a look (`live`), and a pause walks no marks.
+//! Where an object is marked, its words are added to its region's count. So how many words of a region are marked is known by a look
+//! (`live`), and a pause walks no marks.
 //!
 //! A scan costs the object's pointers, and `begin` the bitmap, the regions and the roots in use. `finish` walks the regions that
 //! have weak slots, and no other call walks a region. No call takes memory but `Marker::new`.
