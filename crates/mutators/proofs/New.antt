@@ -18,7 +18,7 @@ use Rattle.step_core.specs.Fresh.{fresh_core}
 use Rattle.step_core.specs.Histories.{actor_of, RunsTo}
 use Rattle.mutators.specs.Scripts.{same_actor, scripted, lines_of}
 use Rattle.mutators.specs.Journals.{Keeps, IsLine}
-use Rattle.mutators.proofs.Own.{runs_none}
+use Rattle.step_core.proofs.Cores.Running.{runs_none}
 
 same_is : (a b : Actor) → same_actor a b ≡ true → b ≡ a
 same_is (Mutator i) (Mutator j) e = ap (λ (n : ℕ). Mutator n) (sym (eqb-true i j e))

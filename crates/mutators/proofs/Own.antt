@@ -28,22 +28,3 @@ own_is c (Refiner i) s own = subst (λ (x : Step). IsStepOf c (Refiner i) x) (sy
 
 pub own_events : (c : Config) (es : List Event) → AreOwn c es → AreEvents c es
 own_events c es own k d within = own_is c _ _ (own k d within)
-
--- a new heap has come to no events
-pub runs_none : (config : Config) (c : CoreState) → c ≡ fresh_core config → IsCore c → Stands (first_state config) c → RunsTo config [] c
-runs_none config c fresh core st = record {
-  core = subst IsCore fresh core;
-  stands = subst (λ (d : CoreState). Stands (first_state config) d) fresh st;
-  runs = subst (λ (d : CoreState). Runs (first_state config) d [] c) fresh (none_yet (first_state config) c st);
-}
-
--- one event more
-pub runs_on : (config : Config) (es : List Event) (e : Event) (c c' : CoreState) → RunsTo config es c
-    → ((s : State) → Stands s c → Follows s e.step e.reply c') → Does e.step e.reply c c'
-    → ((s : State) → Stands s c → (e.reply ≡ replies.Refused refusals.Full) ↔ IsFullStep s.graph e.step c) → IsCore c'
-    → ListsDirtyOnce c'.cards → ((s : State) → Stands s c' → IsWhole s.graph c') → RunsTo config (es ++ e ∷ []) c'
-runs_on config es e c c' r follows does full core listed whole = record {
-  core = r.core;
-  stands = r.stands;
-  runs = goes_on (first_state config) (fresh_core config) es e c c' r.runs follows does full core listed whole;
-}

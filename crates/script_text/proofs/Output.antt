@@ -2,4 +2,5 @@
 pub mod Digits
 pub mod WriteLaws
 pub mod RecordLaws
+pub mod LinesOut
 pub mod Counts

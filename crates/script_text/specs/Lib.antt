@@ -7,6 +7,7 @@ pub mod EventWords
 pub mod Events
 pub mod Faults
 pub mod Watched
+pub mod Written
 pub mod Awaited
 pub mod Counts
 pub mod Feeds

@@ -15,8 +15,8 @@
 //!   What is read of a text is spelled so in the whole of it, and each script's text is read as that script.
 //! - `parse_record` does the same of a record's text, and so gives back the record that was written (`written_record_is_read`).
 //! - `LineBuffer` takes a record's lines one by one, each as soon as it is whole: so a record can be read as it is written.
-//! - `write_record` appends the text of a record and no more, or a beginning of it where the writer refused. It holds one
-//!   buffer, however long the record is.
+//! - `write_record` appends the text of a record and no more, or a beginning of it where the writer refused. `RecordLines` does
+//!   the same event by event: so a record can be written as it is made. Either holds one buffer, however long the record is.
 //! - `put_text`, `put_number`, `put_event_text`, `put_reply`, `put_fault` and `write_bytes` are for other lines of a program: they put
 //!   texts into a buffer, and write bytes in their order.
 //!
@@ -52,6 +52,7 @@ pub use read::script::parse;
 pub use read::watched::WatchedReader;
 pub use write::bytes::{put_number, put_text};
 pub use write::lines::{put_event_text, put_reply};
+pub use write::record_lines::{RecordLines, write_record};
 pub use write::watched::WatchedWriter;
-pub use write::writing::{write_bytes, write_record};
+pub use write::writing::write_bytes;
 pub use write::written::written_record_is_read;

@@ -3,6 +3,7 @@
 pub(crate) mod bytes;
 pub(crate) mod counts;
 pub(crate) mod lines;
+pub(crate) mod record_lines;
 pub(crate) mod watched;
 pub(crate) mod writing;
 pub(crate) mod written;

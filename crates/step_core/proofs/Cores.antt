@@ -7,6 +7,7 @@ pub mod Keeping
 pub mod Leaving
 pub mod Snapshots
 pub mod Following
+pub mod Running
 pub mod Acted
 pub mod Collecting
 pub mod Collected

@@ -34,7 +34,7 @@
 //! ```rust
 //! use heap_words::addr::Addr;
 //! use heap_words::config::{Config, Format};
-//! use heap_steps::{Action, CollectorStep, Counts, Op, Refusal, Register, Reply, Step};
+//! use heap_steps::{Action, Actor, CollectorStep, Counts, Event, Op, Refusal, Register, Reply, Step};
 //! use step_core::{Core, object_name, run, run_to_core};
 //!
 //! let config = Config { format: Format::V1, regions: 4, words: 16, buffer: 8, mutators: 1, first_name: 0 };

@@ -1,14 +1,14 @@
 //! A list of steps, one after another, in a new heap.
 
-ghost use Rattle.std.specs.Prelude.{◌≡◌, All, IfOk, IfErr, OnOk, map};
+ghost use Rattle.std.specs.Prelude.{◌≡◌, ◌++◌, ◌∷◌, [], List, All, IfOk, IfErr, OnOk, map};
 ghost use Rattle.heap_words.specs.Configs.{Suits};
 ghost use Rattle.object_graph.specs.State.{State, first_state};
 ghost use Rattle.object_graph.specs.Run.{IsRun};
 ghost use Rattle.heap_steps.specs.Actors.{IsStep, IsStepOf};
 ghost use Rattle.heap_words.specs.declared.config.Config.{Config};
-ghost use Rattle.step_core.specs.Stands.{Stands};
+ghost use Rattle.heap_steps.specs.declared.step.Event as events;
 ghost use Rattle.heap_steps.specs.Faults.{IsRunFault};
-ghost use Rattle.step_core.specs.Histories.{Runs, RunsTo, RunsFromNew, step_in, actor_in, actor_of};
+ghost use Rattle.step_core.specs.Histories.{RunsTo, RunsFromNew, step_in, actor_in, actor_of};
 
 use crate::heap::Core;
 use heap_steps::{Actor, Event, Record, RunFault, Step, run_fault};
@@ -26,25 +26,47 @@ fn actor_of(step: &Step) -> Actor
     }
 }
 
+impl Core {
+    /// Does a step of a script, and answers its event: a mutator's own step, or the collector's. What the events before it were a run of,
+    /// they are with it.
+    ///
+    /// ```rust
+    /// let event = core.perform(&new);
+    /// assert_eq!(rt; event, Event { actor: Actor::Mutator(0), step: new, reply: Reply::Named(Some(0)) });
+    /// ```
+    #[inline(always)]
+    pub fn perform(&mut self, step: &Step) -> Event
+        requires { IsStep self.old.config step.now }
+        ensures step { result.step ≡ step.now }
+        ensures actor { result.actor ≡ actor_of step.now }
+        ensures config { self.new.config ≡ self.old.config }
+        ensures runs { (config : Config) (es : List events.Event) → RunsTo config es self.old → RunsTo config (es ++ result ∷ []) self.new }
+    {
+        let actor = actor_of(step);
+        let reply = self.step(*step);
+        self.whole();
+        self.remembers();
+        Event {
+            actor,
+            step: *step,
+            reply,
+        }
+    }
+}
+
 /// Does the steps in order, in a core.
 fn run_on(alloc: Global, core: &mut Core, steps: &[Step]) -> Result<Record, AllocError>
     requires { All (IsStep core.old.config) steps.now }
     ensures config { IfOk result (λ r. r.config ≡ core.old.config) }
     ensures steps { IfOk result (λ r. map step_in r.events ≡ steps.now) }
     ensures actors { IfOk result (λ r. map actor_in r.events ≡ map actor_of steps.now) }
-    ensures runs { IfOk result (λ r. (s : State) → Stands s core.old → Runs s core.old r.events core.new) }
+    ensures runs { IfOk result (λ r. (config : Config) → RunsTo config [] core.old → RunsTo config r.events core.new) }
 {
     let config = core.config();
     let mut done = Record::with_room(alloc, config, steps.len())?;
     for step in steps {
-        let reply = core.step(*step);
-        core.whole();
-        core.remembers();
-        done.push(Event {
-            actor: actor_of(step),
-            step: *step,
-            reply,
-        })?;
+        let event = core.perform(step);
+        done.push(event)?;
     }
     Ok(done)
 }

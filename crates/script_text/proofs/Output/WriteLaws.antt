@@ -1,12 +1,12 @@
 -- What is written, and what is still held.
-use Rattle.std.proofs.Common.{◌≡◌, ◌+◌, ◌-◌, ◌<◌, ◌≤◌, ◌++◌, ◌∙◌}
-use Rattle.std.proofs.Common.{ℕ, List, [], length, take, drop, Option, Result, Ok, Err, refl, sym, ap, subst, arith}
-use Rattle.std.specs.Prelude.{OnErr}
+use Rattle.std.proofs.Common.{◌≡◌, ◌+◌, ◌-◌, ◌<◌, ◌++◌, ◌∙◌}
+use Rattle.std.proofs.Common.{ℕ, List, [], length, take, drop, Option, refl, sym, ap, subst, arith}
 use Rattle.std.proofs.Math.Seq.{take-add, take-append_seam, drop-append_seam}
 use Rattle.std.proofs.lemmas.List.{take_all, length-drop, length-append, take-append-le, drop-append-le, drop-drop}
 use Rattle.std.proofs.KnownBytes.{Appends-nil, Appends-trans}
 use Rattle.std.specs.Io.KnownBytes.{Appends}
 use Rattle.script_text.specs.Watched.{Writer, Takes, TakesPart}
+use Rattle.script_text.specs.Written.{IsWriting}
 
 -- after the first bytes, the next ones
 appends_more : (first old new : Option (List ℕ)) (bytes : List ℕ) (at count : ℕ) → Appends first old (take at bytes)
@@ -25,13 +25,6 @@ takes_none now = (Appends-nil now.held, refl)
 
 takes_both : (a b c : Writer) (xs ys : List ℕ) → Takes a b xs → Takes b c ys → Takes a c (xs ++ ys)
 takes_both a b c xs ys p q = (Appends-trans a.held b.held c.held xs ys p.0 q.0, q.1 ∙ p.1)
-
--- a beginning of the text is written, and the rest of it is held
-pub record IsWriting (text : List ℕ) (first now : Writer) (held : List ℕ) : Type 0 where
-  pub done : ℕ
-  pub within : done ≤ length text
-  pub written : Takes first now (take done text)
-  pub rest : held ≡ drop done text
 
 pub nothing_written : (text : List ℕ) (now : Writer) (held : List ℕ) → held ≡ text → IsWriting text now now held
 nothing_written text now held all = record { done = 0; within = omega arith; written = takes_none now; rest = all }
@@ -85,7 +78,3 @@ stopped text more whole first old new held before grown stop =
       ),
       stop.1,
     )
-
-pub if_stopped : {X E : Type 0} (r : Result X E) {P Q : Type 0} → (P → Q) → OnErr r P → OnErr r Q
-if_stopped (Ok x) f given = tt
-if_stopped (Err e) f given = f given

@@ -1,5 +1,5 @@
 use Rattle.mutators.specs.Journals.{event_of}
-use Rattle.mutators.proofs.Own.{runs_on}
+use Rattle.step_core.proofs.Cores.Running.{runs_on}
 use Rattle.mutators.proofs.journal.record.Goals as goal
 
 pub returns-clause-runs : goal.returns-clause-runs
