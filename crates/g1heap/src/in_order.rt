@@ -1,28 +1,88 @@
-//! A script whose lines are done in their order, answered by its record.
+//! A script whose lines are done in their order, answered by its record, which is written as it is made.
 
-ghost use Rattle.std.specs.Prelude.{IfOk, IfErr};
-ghost use Rattle.heap_steps.specs.Faults.{IsRunFault};
-ghost use Rattle.step_core.specs.Histories.{IsRunInOrder};
+ghost use Rattle.std.specs.Prelude.{◌≡◌, ◌<◌, ◌+◌, ◌^◌, ◌++◌, ◌∷◌, [], ℕ, List, Ok, OnOk, length};
+ghost use Rattle.heap_steps.specs.declared.step.Event as events;
+ghost use Rattle.heap_steps.specs.Actors.{StepList, AreSteps};
+ghost use Rattle.script_text.specs.Watched.{Writer};
+ghost use Rattle.g1heap.specs.InOrder.{AnswersInOrder, HasDone, IsOnItsWay};
 ghost use Rattle.g1heap.specs.Runs.{EndsIn};
 
 use command_line::Order;
-use heap_steps::{Plan, Record, RunFault};
-use jobs::{JobFault, answer, read_plan};
-use script_text::{WatchedReader, WatchedWriter};
+use heap_steps::{Event, Plan, RunFault, Step, run_fault};
+use jobs::{JobFault, read_plan};
+use script_text::{RecordLines, WatchedReader, WatchedWriter, WriteFault};
 use std::alloc::Global;
 use std::io::{Read, Write};
-use step_core::run;
+use step_core::Core;
 
-/// The record of a plan's steps, done in their order in a new heap.
-fn record_of(alloc: Global, plan: Plan) -> Result<Record, RunFault>
-    ensures run { IfOk result (IsRunInOrder plan) }
-    ensures fault { IfErr result (IsRunFault plan.config) }
+/// Puts the line of an event, where the writer refused none before.
+#[inline(always)]
+fn put_line<W: Write>(
+    before: Result<(), WriteFault>,
+    lines: &mut RecordLines,
+    event: &Event,
+    writer: &mut WatchedWriter<W>,
+) -> Result<(), WriteFault>
+    requires { OnOk before (lines.old.events + 1 < 2 ^ 64) }
+    ensures count { (n : ℕ) → OnOk before (lines.old.events ≡ n) → OnOk result (lines.new.events ≡ n + 1) }
+    ensures way { (plan : StepList) (es : List events.Event) (first : Writer) → IsOnItsWay plan es first writer.old lines.old before
+        → IsOnItsWay plan (es ++ event.now ∷ []) first writer.new lines.new result }
 {
-    run(alloc, &plan.config(), plan.steps())
+    match before {
+        Ok(()) => lines.put(event, writer),
+        Err(fault) => Err(fault),
+    }
 }
 
-/// Reads a script to the end of input, runs it in a new heap, and writes its record. Nothing is written
-/// before the run has ended well.
+/// Does a plan's steps in their order, and puts the line of each event. Where the writer refuses one, the steps behind it are done all the
+/// same: so what was written is a beginning of a whole run's record.
+fn do_steps<W: Write>(
+    core: &mut Core,
+    lines: &mut RecordLines,
+    steps: &[Step],
+    writer: &mut WatchedWriter<W>,
+) -> Result<(), WriteFault>
+    requires steps { AreSteps core.old.config steps.now }
+    requires none { lines.old.events ≡ 0 }
+    ensures { (plan : StepList) (first : Writer) → plan.steps ≡ steps.now → HasDone plan 0 core.old first writer.old lines.old (Ok tt)
+        → HasDone plan (length plan.steps) core.new first writer.new lines.new result }
+{
+    let mut outcome = Ok(());
+    for index in 0..steps.len() {
+        let event = core.perform(&steps[index]);
+        outcome = put_line(outcome, lines, &event, writer);
+    }
+    outcome
+}
+
+/// Does a plan's steps in their order in a new heap, and writes the record of its events.
+fn run_plan<W: Write>(
+    alloc: Global,
+    plan: &Plan,
+    writer: &mut WatchedWriter<W>,
+) -> Result<(), JobFault>
+    ensures { AnswersInOrder plan.now writer.old writer.new result }
+{
+    let config = plan.config();
+    let mut core = match Core::new(alloc, &config) {
+        Ok(core) => core,
+        Err(fault) => return Err(JobFault::Run(run_fault(fault))),
+    };
+    let Ok(mut lines) = RecordLines::new(alloc, &config) else {
+        return Err(JobFault::Run(RunFault::NoMemory));
+    };
+    match do_steps(&mut core, &mut lines, plan.steps(), writer) {
+        Ok(()) => {}
+        Err(fault) => return Err(JobFault::Write(fault)),
+    }
+    match lines.finish(writer) {
+        Ok(()) => Ok(()),
+        Err(fault) => Err(JobFault::Write(fault)),
+    }
+}
+
+/// Reads a script to the end of input, runs it in a new heap, and writes its record: each line once its step is done, by way of a buffer.
+/// Nothing is written before the heap is made, and no fault but the writer's can come after.
 pub fn run_script<R: Read, W: Write>(
     alloc: Global,
     reader: &mut WatchedReader<R>,
@@ -31,6 +91,5 @@ pub fn run_script<R: Read, W: Write>(
     ensures { EndsIn Order.File reader.old reader.new writer.old writer.new result }
 {
     let plan = read_plan(alloc, reader)?;
-    let outcome = record_of(alloc, plan);
-    answer(alloc, outcome, writer)
+    run_plan(alloc, &plan, writer)
 }

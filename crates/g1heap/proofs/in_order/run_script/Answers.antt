@@ -5,7 +5,6 @@ use Rattle.g1heap.proofs.in_order.run_script.Goals as goal
 
 pub returns : goal.returns
 returns g c =
-    let outcome = c.record_of-outcome.result in
-    let plan = c.in_ok-plan.plan in
-    ends IsRunInOrder IsRunFault plan _ _ _ _ outcome c.answer.result c.in_ok-plan.ensures
-    (comes IsRunInOrder IsRunFault plan outcome c.record_of-outcome.ensures.run c.record_of-outcome.ensures.fault) c.answer.ensures
+    let (outcome, made, fault, answers) = c.run_plan.ensures in
+    ends IsRunInOrder IsRunFault c.in_ok-plan.plan _ _ _ _ outcome c.run_plan.result c.in_ok-plan.ensures
+    (comes IsRunInOrder IsRunFault c.in_ok-plan.plan outcome made fault) answers

@@ -1,0 +1,137 @@
+-- A record on its way to the writer, by one event more.
+use Rattle.std.proofs.Common.{◌≡◌, ◌≢◌, ◌<◌, ◌+◌, ℕ, List, [], ◌∷◌, ◌++◌, Result, Ok, Err, length, map, get_or, ap, refl, sym, subst, ◌∙◌, append_assoc, arith}
+use Rattle.std.proofs.lemmas.List.{append-nil, take_all, length-map}
+use Rattle.std.proofs.KnownBytes.{Keeps-refl}
+use Rattle.std.specs.Prelude.{⊤, OnOk, OnErr}
+use Rattle.heap_steps.specs.Actors.{StepList, EventList, step_in}
+use Rattle.heap_steps.specs.declared.step.Event.{Event}
+use Rattle.heap_steps.specs.declared.step.Step.{Step}
+use Rattle.script_text.specs.Records.{record_text}
+use Rattle.script_text.specs.Watched.{Writer, Takes, TakesPart}
+use Rattle.script_text.proofs.Output.LinesOut.{fails}
+use Rattle.heap_words.specs.declared.config.Config.{Config}
+use Rattle.heap_steps.specs.declared.fault.RunFault.{RunFault}
+use Rattle.heap_steps.specs.Faults.{IsRunFault}
+use Rattle.jobs.specs.declared.faults.JobFault.TheVariants.{Run, Write}
+use Rattle.object_graph.specs.State.{first_state}
+use Rattle.step_core.specs.Fresh.{fresh_core}
+use Rattle.script_text.specs.Written.{Lines, AreLinesOf, no_events, with_events}
+use Rattle.script_text.specs.declared.fault.WriteFault.{WriteFault}
+use Rattle.script_text.specs.declared.fault.WriteFault.TheVariants as writes
+use Rattle.step_core.specs.Histories.{RunsTo, IsRunInOrder, actor_in, actor_of}
+use Rattle.step_core.specs.Stands.{CoreState, Stands, IsCore}
+use Rattle.step_core.proofs.Cores.Following.{grown, grown_by, history_is_run}
+use Rattle.step_core.proofs.Cores.Running.{runs_none}
+use Rattle.g1heap.specs.InOrder.{AnswersInOrder, HasDone, IsOnItsWay}
+
+-- the writer refused before, so it did with whatever events come behind one more
+pub refused_before : (plan : StepList) (es : List Event) (e : Event) (first now : Writer) (lines lines' : Lines) (fault : WriteFault)
+    → IsOnItsWay plan es first now lines (Err fault) → IsOnItsWay plan (es ++ e ∷ []) first now lines' (Err fault)
+refused_before plan es e first now lines lines' fault (other, stopped) = (
+  other,
+  λ more. subst (λ (all : List Event). TakesPart first now (record_text (record { config = plan.config; events = all })))
+      (sym (append_assoc es (e ∷ []) more)) (stopped (e ∷ more)),
+)
+
+-- one more line was put, or refused
+pub one_put : (plan : StepList) (es : List Event) (e : Event) (first old new : Writer) (lines lines' : Lines) (r : Result ⊤ WriteFault)
+    → OnOk r ((w : Writer) (had : EventList) → AreLinesOf had w old lines → AreLinesOf (with_events had (e ∷ [])) w new lines')
+    → OnErr r ((w : Writer) (had : EventList) (more : List Event) → AreLinesOf had w old lines
+    → TakesPart w new (record_text (with_events had more)))
+    → r ≢ Err writes.NoMemory → AreLinesOf (with_events (no_events plan.config) es) first old lines
+    → IsOnItsWay plan (es ++ e ∷ []) first new lines' r
+one_put plan es e first old new lines lines' (Ok done) ok err other before =
+    ok first (with_events (no_events plan.config) es) before
+one_put plan es e first old new lines lines' (Err fault) ok err other before =
+    refused_before plan es e first new lines lines' fault
+    (λ is. other (ap Err is), λ more. err first (with_events (no_events plan.config) es) more before)
+
+-- one step more is done
+pub one_done : (plan : StepList) (ss : List Step) (i : ℕ) (s : Step) (e : Event) (c c' : CoreState) (first old new : Writer)
+    (lines lines' : Lines) (before after : Result ⊤ WriteFault) → plan.steps ≡ ss → i < length ss → e.step ≡ get_or ss i s
+    → e.actor ≡ actor_of (get_or ss i s)
+    → ((es : List Event) → RunsTo plan.config es c → RunsTo plan.config (es ++ e ∷ []) c')
+    → ((es : List Event) → IsOnItsWay plan es first old lines before → IsOnItsWay plan (es ++ e ∷ []) first new lines' after)
+    → HasDone plan i c first old lines before → HasDone plan (i + 1) c' first new lines' after
+one_done plan ss i s e c c' first old new lines lines' before after same within step actor runs way h =
+    let within : i < length plan.steps = rw same within in
+    let step : e.step ≡ get_or plan.steps i s = rw same step in
+    let actor : e.actor ≡ actor_of (get_or plan.steps i s) = rw same actor in
+    record {
+      events = h.events ++ e ∷ [];
+      steps = grown step_in h.events e plan.steps i s h.steps within step;
+      actors = grown_by actor_in actor_of h.events e plan.steps i s h.actors within actor;
+      runs = runs h.events h.runs;
+      record_is = way h.events h.record_is;
+    }
+
+-- nothing is done yet
+pub none_done : (plan : StepList) (config : Config) (c : CoreState) (w : Writer) (lines : Lines) → config ≡ plan.config
+    → c ≡ fresh_core config → IsCore c → Stands (first_state config) c → ((w : Writer) → AreLinesOf (no_events config) w w lines)
+    → HasDone plan 0 c w w lines (Ok tt)
+none_done plan config c w lines same fresh core stands begun = record {
+  events = [];
+  steps = refl;
+  actors = refl;
+  runs = subst (λ (sizes : Config). RunsTo sizes [] c) same (runs_none config c fresh core stands);
+  record_is = subst (λ (sizes : Config). AreLinesOf (no_events sizes) w w lines) same (begun w);
+}
+
+-- the record of what is done
+abbrev pub record_by : StepList → List Event → EventList
+record_by plan es = record { config = plan.config; events = es }
+
+-- all is done: a run of the plan
+pub all_done : (plan : StepList) (c : CoreState) (first now : Writer) (lines : Lines) (outcome : Result ⊤ WriteFault)
+    → (h : HasDone plan (length plan.steps) c first now lines outcome)
+    → IsRunInOrder plan (record_by plan h.events)
+all_done plan c first now lines outcome h = record {
+  config = refl;
+  steps = h.steps ∙ take_all (length plan.steps) plan.steps (omega arith);
+  actors = h.actors ∙ take_all (length plan.steps) (map actor_of plan.steps) (omega (arith, length-map plan.steps actor_of));
+  last = h.runs.runs.last;
+  run = history_is_run (first_state plan.config) (fresh_core plan.config) h.events h.runs.runs.last c h.runs.runs.history;
+  history = (c, h.runs);
+}
+
+-- a fault of the run, and nothing was written
+pub faulted : (plan : StepList) (config : Config) (fault : RunFault) (w : Writer) → config ≡ plan.config → IsRunFault config fault
+    → AnswersInOrder plan w w (Err (Run fault))
+faulted plan config fault w same may =
+    (Err fault, tt, subst (λ (sizes : Config). IsRunFault sizes fault) same may, (refl, (Keeps-refl w.held, refl)))
+
+-- all is done, and the writer refused a line
+pub stopped_within : (plan : StepList) (c : CoreState) (old new : Writer) (lines : Lines) (fault : WriteFault)
+    → HasDone plan (length plan.steps) c old new lines (Err fault) → AnswersInOrder plan old new (Err (Write fault))
+stopped_within plan c old new lines fault h =
+    let r = record_by plan h.events in (
+      Ok r,
+      all_done plan c old new lines (Err fault) h,
+      tt,
+      fails fault old new (record_text r) h.record_is.0
+          (subst (λ (all : List Event). TakesPart old new (record_text (record { config = plan.config; events = all }))) (append-nil h.events)
+          (h.record_is.1 [])),
+    )
+
+-- all is done, and the last lines are written
+pub finished : (plan : StepList) (c : CoreState) (old now new : Writer) (lines : Lines) (r : Result ⊤ WriteFault)
+    → OnOk r ((w : Writer) (had : EventList) → AreLinesOf had w now lines → Takes w new (record_text had))
+    → HasDone plan (length plan.steps) c old now lines (Ok tt) → r ≡ Ok tt → AnswersInOrder plan old new (Ok tt)
+finished plan c old now new lines r took h is =
+    let made = record_by plan h.events in
+    let took : (w : Writer) (had : EventList) → AreLinesOf had w now lines → Takes w new (record_text had) =
+    subst (λ (done : Result ⊤ WriteFault). OnOk done ((w : Writer) (had : EventList) → AreLinesOf had w now lines
+    → Takes w new (record_text had))) is took in
+    (Ok made, all_done plan c old now lines (Ok tt) h, tt, took old made h.record_is)
+
+-- all is done, and the writer refused the last lines
+pub stopped_last : (plan : StepList) (c : CoreState) (old now new : Writer) (lines : Lines) (fault : WriteFault) → fault ≢ writes.NoMemory
+    → ((w : Writer) (had : EventList) → AreLinesOf had w now lines → TakesPart w new (record_text had))
+    → HasDone plan (length plan.steps) c old now lines (Ok tt) → AnswersInOrder plan old new (Err (Write fault))
+stopped_last plan c old now new lines fault other stop h =
+    let made = record_by plan h.events in (
+      Ok made,
+      all_done plan c old now lines (Ok tt) h,
+      tt,
+      fails fault old new (record_text made) other (stop old made h.record_is),
+    )
