@@ -1,7 +1,7 @@
 -- How the words of the heap are read as regions.
 use Rattle.std.specs.Prelude.{◌≡◌, ◌+◌, ◌-◌, ◌*◌, ◌^◌, ◌<◌, ◌≤◌, ◌∷◌}
 use Rattle.std.specs.Prelude.{ℕ, zero, suc, min, Bool, true, false, Option, Some, None, List, [], length}
-use Rattle.std.specs.Prelude.{take, drop, slice_index, slice_set, slice_index_or}
+use Rattle.std.specs.Prelude.{take, drop, slice_index, slice_set, slice_index_or, count_by}
 use Rattle.heap_words.specs.Sizes.{size_of}
 use Rattle.heap_words.specs.Configs.{max_words, max_region_words}
 use Rattle.heap_words.specs.declared.header.Header.{Header}
@@ -134,6 +134,10 @@ kind_is_free kinds.Rest = false
 abbrev pub free_row : Row
 free_row = record { kind = kinds.Free; used = 0 }
 
+-- how many rows are free
+abbrev pub free_row_count : List Row → ℕ
+free_row_count rows = count_by (λ row. kind_is_free row.kind) rows
+
 -- no row below n is free
 abbrev pub AreUsedBelow : ℕ → List Row → Type 0
 AreUsedBelow n rows = (k : ℕ) → k < n → kind_is_free (slice_index_or rows k free_row).kind ≡ false
@@ -143,13 +147,15 @@ pub record AreTilesWritten (t : Table) (n : ℕ) : Type 0 where
   pub each : (a : ℕ) (tile : Tile) → tile_in t a ≡ Some tile → a + tile_size tile ≤ n
 
 -- words and rows are a table's, with 2 ^ shift words a region, which are whole cards; each tile stands in the words that are
--- written; no row below `lowest` is free; each card has its entry; and `weaks` tells where objects with weak slots start
-pub record IsSound (size shift lowest : ℕ) (entries : Entries) (weaks : Starts) (memory : Memory) (rows : List Row) : Type 0 where
+-- written; no row below `lowest` is free; `free` rows are; each card has its entry; and `weaks` tells where objects with weak slots
+-- start
+pub record IsSound (size shift lowest free : ℕ) (entries : Entries) (weaks : Starts) (memory : Memory) (rows : List Row) : Type 0 where
   pub table : IsTable size memory.all rows
   pub written : AreTilesWritten (table_of size memory.all rows) memory.written
   pub power : size ≡ 2 ^ shift
   pub narrow : shift < 32
   pub used_below : AreUsedBelow lowest rows
+  pub free_is : free ≡ free_row_count rows
   pub whole_cards : (cards : ℕ) × (size ≡ cards * entries.card_words)
   pub each_card : length memory.all ≡ length entries.starts * entries.card_words
   pub first_tiles : AreEntries (table_of size memory.all rows) entries

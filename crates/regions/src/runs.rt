@@ -93,6 +93,7 @@ impl RegionTable {
             self.words_per_region,
             size,
         );
+        self.free -= count;
         self.weak_starts.note(bottom, weaks);
     }
 

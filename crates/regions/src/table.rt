@@ -2,7 +2,7 @@
 ghost use Rattle.std.specs.Prelude.{◌≡◌, ◌≢◌, ◌+◌, ◌/◌, ◌<◌, true, false, length, nat_le, IsOk, IfOk, IfErr, IsSome, IfSome};
 ghost use Rattle.heap_words.specs.Configs.{Suits, IsNewFault};
 ghost use Rattle.heap_words.specs.Contents.{header_at};
-ghost use Rattle.regions.specs.Table.{free_count, free_table, is_free, nth_region, HasNoForwarded, kind_of, used_of, top_of, tile_in};
+ghost use Rattle.regions.specs.Table.{free_count, free_table, HasNoForwarded, kind_of, used_of, top_of, tile_in};
 ghost use Rattle.regions.specs.Rows.{sizes_in, IsBelow, header_target};
 ghost use Rattle.regions.specs.Shapes.{tile_shape, shape_by};
 ghost use Rattle.regions.specs.Shaped.{IsShaped};
@@ -27,6 +27,8 @@ pub struct RegionTable {
     pub(crate) shift: u32,
     /// No region below this one is free: so a search for a free one begins here.
     pub(crate) lowest: usize,
+    /// How many regions are free.
+    pub(crate) free: u32,
     /// Where the tile of each card's first word starts.
     pub(crate) first_tiles: FirstTiles,
     /// Where the objects with weak slots start.
@@ -42,7 +44,7 @@ impl Model for RegionTable {
 
     ghost view = { λ a. table_of a.words_per_region a.words.all a.rows.items };
 
-    ghost invariant = { λ a. IsSound a.words_per_region a.shift a.lowest a.first_tiles a.weak_starts a.words a.rows.items };
+    ghost invariant = { λ a. IsSound a.words_per_region a.shift a.lowest a.free a.first_tiles a.weak_starts a.words a.rows.items };
 }
 
 /// Where it is let go there is one call, and not a drop for each of its parts.
@@ -54,6 +56,7 @@ impl Drop for RegionTable {
             words_per_region: _,
             shift: _,
             lowest: _,
+            free: _,
             first_tiles: _,
             weak_starts: _,
         } = self;
@@ -128,6 +131,7 @@ impl RegionTable {
             words_per_region: config.words,
             shift: config.words.ilog2(),
             lowest: 0,
+            free: config.regions,
             first_tiles,
             weak_starts,
         })
@@ -182,26 +186,7 @@ impl RegionTable {
     pub fn free_count(&self) -> u32
         ensures { result ≡ free_count self.now }
     {
-        let mut count = 0;
-        for number in 0..self.region_count() {
-            if self.is_free(RegionNo::new(number)) {
-                count += 1;
-            }
-        }
-        count
-    }
-
-    /// Whether a region is free.
-    fn is_free(&self, region: RegionNo) -> bool
-        requires { region < length self.now.regions }
-        ensures { result ≡ is_free (nth_region self.now region) }
-    {
-        match self.kind(region) {
-            Kind::Free => true,
-            Kind::Ordinary => false,
-            Kind::First => false,
-            Kind::Rest => false,
-        }
+        self.free
     }
 
     /// The address behind the words of a region that are handed out: a free region's bottom, an ordinary one's

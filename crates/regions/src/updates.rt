@@ -81,6 +81,7 @@ impl RegionTable {
             used: 0,
         };
         self.lowest = at + 1;
+        self.free -= 1;
         Some(RegionNo::new(at as u32))
     }
 
@@ -95,6 +96,7 @@ impl RegionTable {
         let rests = rests_from(&self.rows, at + 1);
         write_free(&mut self.rows, at, rests + 1);
         self.lowest = self.lowest.min(at);
+        self.free += rests as u32 + 1;
         self.weak_starts.release(region.number());
     }
 

@@ -7,7 +7,7 @@
 //!   next top     5        22        32, its bottom
 //! ```
 
-ghost use Rattle.std.specs.Prelude.{◌≡◌, ◌⊎◌, ◌<◌, ◌≤◌, ◌+◌};
+ghost use Rattle.std.specs.Prelude.{◌≡◌, ◌<◌, ◌≤◌, ◌+◌, ℕ};
 ghost use Rattle.std.specs.Prelude.{All, IfNone, IfSome, drop, length, take, IsPermutation, IsSorted};
 ghost use Rattle.std.specs.Vec.{vec_capacity};
 ghost use Rattle.mark_bitmap.specs.Live.{live_bound_of};
@@ -20,32 +20,62 @@ use marker::Marker;
 use region_choice::{LiveRow, choose, limit_of};
 use regions::{Kind, RegionTable};
 
-/// The live bound of a region that is a candidate, where it is at most the limit. It is looked up, and costs no walk.
-fn candidate(table: &RegionTable, marker: &Marker, limit: u32, region: RegionNo) -> Option<u32>
+/// The live bound of a region that is a candidate, where it is at most so many words, fewer than a region has. It is looked up, and
+/// costs no walk.
+#[inline(always)]
+fn candidate(table: &RegionTable, marker: &Marker, most: u32, region: RegionNo) -> Option<u32>
     requires known { region < length table.now.regions }
     requires stands { MarkerStands table.now marker.now }
+    requires less { most < table.now.words_per_region }
     ensures bound { IfSome result (λ n. n ≡ live_bound_of table.now marker.now.tams.previous marker.now.bitmaps.previous region) }
     ensures some { IfSome result (λ n. IsCandidate table.now marker.now.tams marker.now.bitmaps.previous marker.now.running region) }
-    ensures within { IfSome result (λ n. n ≤ limit) }
-    ensures none { IfNone result ((IsCandidate table.now marker.now.tams marker.now.bitmaps.previous marker.now.running region → ⊥)
-        ⊎ (IsCandidate table.now marker.now.tams marker.now.bitmaps.previous marker.now.running region
-        × (limit < live_bound_of table.now marker.now.tams.previous marker.now.bitmaps.previous region))) }
+    ensures within { IfSome result (λ n. n ≤ most) }
+    ensures none { IfNone result (IsCandidate table.now marker.now.tams marker.now.bitmaps.previous marker.now.running region
+        → most < live_bound_of table.now marker.now.tams.previous marker.now.bitmaps.previous region) }
 {
-    table.law();
     match table.kind(region) {
         Kind::Ordinary => {}
         Kind::Free | Kind::First | Kind::Rest => return None,
     }
-    let words = table.words_per_region();
-    if marker.running && marker.tams.next(region).word() != region.number() * words {
-        return None;
-    }
-    let most = limit.min(words - 1);
     let live = marker.live_bound(table, region);
     if live > most {
         return None;
     }
+    if marker.running
+        && marker.tams.next(region).word() != region.number() * table.words_per_region()
+    {
+        return None;
+    }
     Some(live)
+}
+
+/// The row of the lowest candidate from a region on whose live bound is at most so many words. The search writes nothing, so
+/// that its loop keeps in registers where the tables stand.
+#[inline(always)]
+fn next_candidate(table: &RegionTable, marker: &Marker, most: u32, from: u32) -> Option<LiveRow>
+    requires stands { MarkerStands table.now marker.now }
+    requires less { most < table.now.words_per_region }
+    requires start { from ≤ length table.now.regions }
+    ensures from { IfSome result (λ row. from ≤ row.region) }
+    ensures known { IfSome result (λ row. row.region < length table.now.regions) }
+    ensures some { IfSome result (λ row. IsCandidate table.now marker.now.tams marker.now.bitmaps.previous marker.now.running row.region) }
+    ensures bound { IfSome result (λ row. row.live_bound
+        ≡ live_bound_of table.now marker.now.tams.previous marker.now.bitmaps.previous row.region) }
+    ensures within { IfSome result (λ row. row.live_bound ≤ most) }
+    ensures lowest { IfSome result (λ row. (k : ℕ) → from ≤ k → k < row.region
+        → IsCandidate table.now marker.now.tams marker.now.bitmaps.previous marker.now.running k
+        → most < live_bound_of table.now marker.now.tams.previous marker.now.bitmaps.previous k) }
+    ensures none { IfNone result ((k : ℕ) → from ≤ k → k < length table.now.regions
+        → IsCandidate table.now marker.now.tams marker.now.bitmaps.previous marker.now.running k
+        → most < live_bound_of table.now marker.now.tams.previous marker.now.bitmaps.previous k) }
+{
+    for number in from..table.region_count() {
+        let region = RegionNo::new(number);
+        if let Some(live_bound) = candidate(table, marker, most, region) {
+            return Some(LiveRow { region, live_bound });
+        }
+    }
+    None
 }
 
 /// Writes a row for each candidate whose live bound is within the limit.
@@ -63,12 +93,13 @@ pub(crate) fn find_candidates(
     ensures few { length rows.new.items ≤ length table.now.regions }
     ensures room { vec_capacity rows.new ≡ vec_capacity rows.old }
 {
+    table.law();
+    let most = limit.min(table.words_per_region() - 1);
     rows.clear();
-    for number in 0..table.region_count() {
-        let region = RegionNo::new(number);
-        if let Some(live_bound) = candidate(table, marker, limit, region) {
-            rows.push_reserved(LiveRow { region, live_bound });
-        }
+    let mut from = 0;
+    while let Some(row) = next_candidate(table, marker, most, from) {
+        from = row.region.number() + 1;
+        rows.push_reserved(row);
     }
 }
 

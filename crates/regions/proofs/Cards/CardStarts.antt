@@ -23,11 +23,11 @@ all_words size words rows t g e =
     ap (λ (u : Table). length u.regions) (sym e) ∙ length-regions_of (sizes_in words) size rows words in
     rw (count, ← size_is) (sym g.covers)
 
-pub card_known : (size shift lowest : ℕ) (entries : Entries) (starts : Starts) (memory : Memory) (rows : List Row) (t : Table)
-    (word card : ℕ) → IsSound size shift lowest entries starts memory rows → table_of size memory.all rows ≡ t
+pub card_known : (size shift lowest free : ℕ) (entries : Entries) (starts : Starts) (memory : Memory) (rows : List Row) (t : Table)
+    (word card : ℕ) → IsSound size shift lowest free entries starts memory rows → table_of size memory.all rows ≡ t
     → word < length t.regions * t.words_per_region → 0 < entries.card_words
     → card ≡ word / entries.card_words → card < length entries.starts
-card_known size shift lowest entries starts memory rows t word card s e h z c =
+card_known size shift lowest free entries starts memory rows t word card s e h z c =
     let all = all_words size memory.all rows t s.table e in
     let low = div_low word entries.card_words card z (sym c) in
     elim (cases_lt card (length entries.starts)) [
@@ -43,11 +43,11 @@ pub record IsCardStart (t : Table) (card_words card word a : ℕ) : Type 0 where
   pub low : card * card_words ≤ word
   pub region : word / t.words_per_region ≡ card * card_words / t.words_per_region
 
-pub card_start : (size shift lowest : ℕ) (entries : Entries) (starts : Starts) (memory : Memory) (rows : List Row) (t : Table)
-    (word card : ℕ) → IsSound size shift lowest entries starts memory rows → table_of size memory.all rows ≡ t
+pub card_start : (size shift lowest free : ℕ) (entries : Entries) (starts : Starts) (memory : Memory) (rows : List Row) (t : Table)
+    (word card : ℕ) → IsSound size shift lowest free entries starts memory rows → table_of size memory.all rows ≡ t
     → word < top_of t (word / t.words_per_region) → 0 < entries.card_words → card ≡ word / entries.card_words
     → IsCardStart t entries.card_words card word (start_in entries.card_words entries.starts card)
-card_start size shift lowest entries starts memory rows t word card s e h z c =
+card_start size shift lowest free entries starts memory rows t word card s e h z c =
     let g = shaped_of size memory.all rows t s.table e in
     let size_is : size ≡ t.words_per_region = ap (λ (u : Table). u.words_per_region) e in
     let cards = s.whole_cards in

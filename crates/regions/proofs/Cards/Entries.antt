@@ -15,7 +15,7 @@ use Rattle.regions.specs.Table.{set_value, remainder, is_free, first_free, taken
 use Rattle.regions.specs.Table.{region_at, with_regions, run_regions, first_run, released, run_length, kind_of, used_of, top_of}
 use Rattle.regions.specs.Table.{free_table, EachForwarded, IsReleasable, object_words}
 use Rattle.heap_words.specs.Memory.{Memory}
-use Rattle.regions.specs.Rows.{table_of, IsSound, AreTilesWritten, AreUsedBelow, sizes_in}
+use Rattle.regions.specs.Rows.{table_of, IsSound, AreTilesWritten, AreUsedBelow, free_row_count, sizes_in}
 use Rattle.regions.specs.FirstTiles.{Entries, AreEntries, entry_of, last_card}
 use Rattle.regions.specs.Shaped.{IsShaped}
 use Rattle.regions.specs.declared.row.Kind.TheVariants as kinds
@@ -39,15 +39,16 @@ use Rattle.regions.proofs.Words.ObjectWords.{words_of}
 use Rattle.regions.proofs.Tiles.Within.{within_fewer, within_added, within_cut}
 use Rattle.regions.proofs.Cards.FirstTiles.{entries_added, entries_same, entries_fewer, entries_cut, if_between, if_below, if_above}
 
-pub sound_changed : (size shift lowest low : ℕ) (entries new : Entries) (starts starts' : Starts) (memory memory' : Memory)
-    (rows rows' : List Row) (t t' : Table) → IsSound size shift lowest entries starts memory rows → table_of size memory.all rows ≡ t
+pub sound_changed : (size shift lowest low free free' : ℕ) (entries new : Entries) (starts starts' : Starts) (memory memory' : Memory)
+    (rows rows' : List Row) (t t' : Table) → IsSound size shift lowest free entries starts memory rows → table_of size memory.all rows ≡ t
     → IsWrittenTable size memory'.all rows' t' → length t'.regions ≡ length t.regions → new.card_words ≡ entries.card_words
-    → length new.starts ≡ length entries.starts → AreUsedBelow low rows' → starts'.region_words ≡ starts.region_words
-    → length starts'.flags ≡ length starts.flags → (AreStarts t starts.flags → AreStarts t' starts'.flags)
-    → (AreEntries t entries → AreEntries t' new) → (AreTilesWritten t memory.written → AreTilesWritten t' memory'.written)
-    → IsSound size shift low new starts' memory' rows'
-sound_changed size shift lowest low entries new starts starts' memory memory' rows rows' t t' s e w count len each used wide long told right
-    within =
+    → length new.starts ≡ length entries.starts → AreUsedBelow low rows' → free' ≡ free_row_count rows'
+    → starts'.region_words ≡ starts.region_words → length starts'.flags ≡ length starts.flags
+    → (AreStarts t starts.flags → AreStarts t' starts'.flags) → (AreEntries t entries → AreEntries t' new)
+    → (AreTilesWritten t memory.written → AreTilesWritten t' memory'.written)
+    → IsSound size shift low free' new starts' memory' rows'
+sound_changed size shift lowest low free free' entries new starts starts' memory memory' rows rows' t t' s e w count len each used
+    counted wide long told right within =
     let before : length t.regions ≡ length rows =
     ap (λ (u : Table). length u.regions) (sym e) ∙ length-regions_of (sizes_in memory.all) size rows memory.all in
     let after : length t'.regions ≡ length rows' =
@@ -61,6 +62,7 @@ sound_changed size shift lowest low entries new starts starts' memory memory' ro
       power = s.power;
       narrow = s.narrow;
       used_below = used;
+      free_is = counted;
       whole_cards = rw len s.whole_cards;
       each_card = rw (each, len) (same ∙ s.each_card);
       first_tiles =
@@ -84,11 +86,11 @@ new_size name p weak d =
     omega (arith, length-replicate {A = Option ℕ} p None, length-replicate {A = Option ℕ} weak None, length-replicate {A = ℕ} d 0)
 
 -- the entries of a filler, by other names of its place and size
-pub filler_entries : (size shift lowest : ℕ) (entries : Entries) (starts : Starts) (memory : Memory) (rows : List Row) (t : Table)
-    (x n at m c : ℕ) → IsSound size shift lowest entries starts memory rows → table_of size memory.all rows ≡ t
+pub filler_entries : (size shift lowest free : ℕ) (entries : Entries) (starts : Starts) (memory : Memory) (rows : List Row) (t : Table)
+    (x n at m c : ℕ) → IsSound size shift lowest free entries starts memory rows → table_of size memory.all rows ≡ t
     → tile_in t x ≡ Some (Filler n) → at ≡ x → m ≡ n → at ≤ c * entries.card_words → c * entries.card_words < at + m
     → get_or entries.starts c 0 ≡ entry_of entries.card_words at (Filler m) (c * entries.card_words)
-filler_entries size shift lowest entries starts memory rows t x n at m c s e was there long low high =
+filler_entries size shift lowest free entries starts memory rows t x n at m c s e was there long low high =
     s.first_tiles at c (Filler m)
     (ap (λ (u : Table). tile_in u at) e ∙ ap (tile_in t) there ∙ was ∙ ap (λ (k : ℕ). Some (Filler k)) (sym long)) low high
 
@@ -115,8 +117,8 @@ object_entries : (t t' : Table) (entries : Entries) (x : ℕ) (s s' : Stored) �
 object_entries t t' entries x s s' w size e =
     entries_same t t' entries x (Object s) (Object s') (tile_of t x s w.was) (tile_of t' x s' w.is) w.others size (λ n. refl) e
 
-module _ (size shift lowest : ℕ) (entries : Entries) (starts : Starts) (memory : Memory) (rows : List Row) (t : Table)
-    (s : IsSound size shift lowest entries starts memory rows) (e : table_of size memory.all rows ≡ t) where
+module _ (size shift lowest free : ℕ) (entries : Entries) (starts : Starts) (memory : Memory) (rows : List Row) (t : Table)
+    (s : IsSound size shift lowest free entries starts memory rows) (e : table_of size memory.all rows ≡ t) where
   shaped : IsShaped t
   shaped = shaped_of size memory.all rows t s.table e
 
@@ -150,17 +152,18 @@ module _ (size shift lowest : ℕ) (entries : Entries) (starts : Starts) (memory
   written_sound : (memory' : Memory) (t' : Table) (x : ℕ) (o o' : Stored) → WritesObject t t' x o o'
       → tile_size (Object o') ≡ tile_size (Object o) → length o'.weaks ≡ length o.weaks
       → memory.written ≤ memory'.written → IsWrittenTable size memory'.all rows t'
-      → IsSound size shift lowest entries starts memory' rows
+      → IsSound size shift lowest free entries starts memory' rows
   written_sound memory' t' x o o' put same weaks more w =
-      sound_changed size shift lowest lowest entries entries starts starts memory memory' rows rows t t' s e w put.count refl refl
-      s.used_below refl refl (λ g. starts_written t t' starts.flags g x o o' put weaks) (object_entries t t' entries x o o' put same)
+      sound_changed size shift lowest lowest free free entries entries starts starts memory memory' rows rows t t' s e w put.count refl refl
+      s.used_below s.free_is refl refl (λ g. starts_written t t' starts.flags g x o o' put weaks)
+      (object_entries t t' entries x o o' put same)
       (λ g.
       let all = g.each x (Object o) (tile_of t x o put.was) in
       within_added t t' memory.written memory'.written x (Object o') more (omega arith) (tile_of t' x o' put.is) put.others g)
 
   pub pointer_sound : (memory' : Memory) (x i : ℕ) (v : Option ℕ) → i < length (pointers_at t x)
       → memory.written ≤ memory'.written → IsWrittenTable size memory'.all rows (set_pointer t x i v)
-      → IsSound size shift lowest entries starts memory' rows
+      → IsSound size shift lowest free entries starts memory' rows
   pointer_sound memory' x i v h more w =
       let p = has_pointer t x i h in
       let o = p.object in
@@ -169,7 +172,7 @@ module _ (size shift lowest : ℕ) (entries : Entries) (starts : Starts) (memory
 
   pub weak_sound : (memory' : Memory) (x i : ℕ) (v : Option ℕ) → i < length (weaks_at t x)
       → memory.written ≤ memory'.written → IsWrittenTable size memory'.all rows (set_weak t x i v)
-      → IsSound size shift lowest entries starts memory' rows
+      → IsSound size shift lowest free entries starts memory' rows
   weak_sound memory' x i v h more w =
       let p = has_weak t x i h in
       let o = p.object in
@@ -178,7 +181,7 @@ module _ (size shift lowest : ℕ) (entries : Entries) (starts : Starts) (memory
 
   pub field_sound : (memory' : Memory) (x i : ℕ) (v : Option ℕ) → i < length (fields_at t x)
       → memory.written ≤ memory'.written → IsWrittenTable size memory'.all rows (set_field t x i v)
-      → IsSound size shift lowest entries starts memory' rows
+      → IsSound size shift lowest free entries starts memory' rows
   field_sound memory' x i v h more w =
       let p = has_field t x i h in
       let o = p.object in
@@ -187,7 +190,7 @@ module _ (size shift lowest : ℕ) (entries : Entries) (starts : Starts) (memory
 
   pub value_sound : (memory' : Memory) (x i v : ℕ) → i < length (values_at t x)
       → memory.written ≤ memory'.written → IsWrittenTable size memory'.all rows (set_value t x i v)
-      → IsSound size shift lowest entries starts memory' rows
+      → IsSound size shift lowest free entries starts memory' rows
   value_sound memory' x i v h more w =
       let p = has_value t x i h in
       let o = p.object in
@@ -198,39 +201,39 @@ module _ (size shift lowest : ℕ) (entries : Entries) (starts : Starts) (memory
       → Forwards t t' a to n → tile_in t a ≡ Some (Object x) → tile_size (Object x) ≡ n
       → Forgets starts starts' a (length x.weaks)
       → memory.written ≤ memory'.written → IsWrittenTable size memory'.all rows t'
-      → IsSound size shift lowest entries starts' memory' rows
+      → IsSound size shift lowest free entries starts' memory' rows
   forward_sound starts' memory' t' a to n x f was long gone more w =
-      sound_changed size shift lowest lowest entries entries starts starts' memory memory' rows rows t t' s e w f.count refl refl
-      s.used_below gone.region_words gone.len (λ g. starts_forwarded t t' starts starts' g a to n x was f gone)
+      sound_changed size shift lowest lowest free free entries entries starts starts' memory memory' rows rows t t' s e w f.count refl refl
+      s.used_below s.free_is gone.region_words gone.len (λ g. starts_forwarded t t' starts starts' g a to n x was f gone)
       (entries_same t t' entries a (Object x) (Forwarded to n) was f.is f.others (sym long) (λ m. refl))
       (λ g.
       let all = g.each a (Object x) was in
       within_added t t' memory.written memory'.written a (Forwarded to n) more (omega arith) f.is f.others g)
 
   -- a region is taken, or regions are released
-  pub fewer_sound : (starts' : Starts) (memory' : Memory) (rows' : List Row) (low : ℕ) (t' : Table) → length t'.regions ≡ length t.regions
-      → ((y : ℕ) (u : Tile) → tile_in t' y ≡ Some u → tile_in t y ≡ Some u) → AreUsedBelow low rows'
-      → starts'.region_words ≡ starts.region_words → length starts'.flags ≡ length starts.flags
-      → (AreStarts t starts.flags → AreStarts t' starts'.flags)
+  pub fewer_sound : (starts' : Starts) (memory' : Memory) (rows' : List Row) (low free' : ℕ) (t' : Table)
+      → length t'.regions ≡ length t.regions → ((y : ℕ) (u : Tile) → tile_in t' y ≡ Some u → tile_in t y ≡ Some u)
+      → AreUsedBelow low rows' → free' ≡ free_row_count rows' → starts'.region_words ≡ starts.region_words
+      → length starts'.flags ≡ length starts.flags → (AreStarts t starts.flags → AreStarts t' starts'.flags)
       → memory.written ≤ memory'.written → IsWrittenTable size memory'.all rows' t'
-      → IsSound size shift low entries starts' memory' rows'
-  fewer_sound starts' memory' rows' low t' count fewer used wide long told more w =
-      sound_changed size shift lowest low entries entries starts starts' memory memory' rows rows' t t' s e w count refl refl used wide
-      long told (entries_fewer t t' entries fewer) (within_fewer t t' memory.written memory'.written more fewer)
+      → IsSound size shift low free' entries starts' memory' rows'
+  fewer_sound starts' memory' rows' low free' t' count fewer used counted wide long told more w =
+      sound_changed size shift lowest low free free' entries entries starts starts' memory memory' rows rows' t t' s e w count refl refl
+      used counted wide long told (entries_fewer t t' entries fewer) (within_fewer t t' memory.written memory'.written more fewer)
 
   -- a tile more
-  pub added_sound : (new : Entries) (starts' : Starts) (memory' : Memory) (rows' : List Row) (low : ℕ) (t' : Table) (a n : ℕ) (tile : Tile)
-      → length t'.regions ≡ length t.regions → tile_in t' a ≡ Some tile → ((y : ℕ) → y ≢ a → tile_in t' y ≡ tile_in t y)
+  pub added_sound : (new : Entries) (starts' : Starts) (memory' : Memory) (rows' : List Row) (low free' : ℕ) (t' : Table) (a n : ℕ)
+      (tile : Tile) → length t'.regions ≡ length t.regions → tile_in t' a ≡ Some tile → ((y : ℕ) → y ≢ a → tile_in t' y ≡ tile_in t y)
       → n ≡ tile_size tile → new.card_words ≡ entries.card_words → length new.starts ≡ length entries.starts
       → ((c : ℕ) → get_or new.starts c 0 ≡ (if is_between a (a + n) (c * entries.card_words)
       then entry_of entries.card_words a tile (c * entries.card_words) else get_or entries.starts c 0))
-      → (HasWeaks t a → ⊥) → Notes starts starts' a tile → AreUsedBelow low rows'
+      → (HasWeaks t a → ⊥) → Notes starts starts' a tile → AreUsedBelow low rows' → free' ≡ free_row_count rows'
       → memory.written ≤ memory'.written → a + n ≤ memory'.written → IsWrittenTable size memory'.all rows' t'
-      → IsSound size shift low new starts' memory' rows'
-  added_sound new starts' memory' rows' low t' a n tile count is others long len each written none noted used more fits w =
+      → IsSound size shift low free' new starts' memory' rows'
+  added_sound new starts' memory' rows' low free' t' a n tile count is others long len each written none noted used counted more fits w =
       let cw : ℕ = entries.card_words in
-      sound_changed size shift lowest low entries new starts starts' memory memory' rows rows' t t' s e w count len each used
-      noted.region_words noted.len (λ g. starts_added t t' starts starts' g a tile is none others noted)
+      sound_changed size shift lowest low free free' entries new starts starts' memory memory' rows rows' t t' s e w count len each used
+      counted noted.region_words noted.len (λ g. starts_added t t' starts starts' g a tile is none others noted)
       (entries_added t t' entries new a tile (shaped_of size memory'.all rows' t' w.is_table w.table_is) len is others
       (λ c low high. written c ∙ if_between a (a + n) (c * cw) (entry_of cw a tile (c * cw)) (get_or entries.starts c 0) low (omega arith))
       (λ c apart. written c ∙ elim apart [
@@ -249,15 +252,15 @@ module _ (size shift lowest : ℕ) (entries : Entries) (starts : Starts) (memory
       (if is_between (x + tile_size tile) (x + n) (c * mid.card_words) && (c * mid.card_words == last_card mid.card_words (x + n))
       then x + tile_size tile else get_or mid.starts c 0)) → Notes starts starts' x tile
       → memory.written ≤ memory'.written → IsWrittenTable size memory'.all rows t'
-      → IsSound size shift lowest new starts' memory' rows
+      → IsSound size shift lowest free new starts' memory' rows
   cut_sound mid new starts' memory' t' x n r tile cut was some sum len len2 each each2 first second noted more w =
       let cw : ℕ = entries.card_words in
       let end : ℕ = x + tile_size tile in
       let two : (c : ℕ) → get_or new.starts c 0
       ≡ (if is_between end (x + n) (c * cw) && (c * cw == last_card cw (x + n)) then end else get_or mid.starts c 0) =
       rw (← len) second in
-      sound_changed size shift lowest lowest entries new starts starts' memory memory' rows rows t t' s e w cut.count (len2 ∙ len)
-      (each2 ∙ each) s.used_below noted.region_words noted.len
+      sound_changed size shift lowest lowest free free entries new starts starts' memory memory' rows rows t t' s e w cut.count (len2 ∙ len)
+      (each2 ∙ each) s.used_below s.free_is noted.region_words noted.len
       (λ g. starts_cut t t' starts starts' g x n r tile (omega arith) (none_in t x (Filler n) was refl) cut noted)
       (entries_cut t t' entries new x n r tile (shaped_of size memory'.all rows t' w.is_table w.table_is) (len2 ∙ len) was sum
       (cut_first cut some sum) (cut_rest cut some sum) cut.others
@@ -307,71 +310,72 @@ module _ (size shift lowest : ℕ) (entries : Entries) (starts : Starts) (memory
           go true = rw none refl
           go false = refl
 
-  pub taken_sound : (memory' : Memory) (rows' : List Row) (low k : ℕ) → first_free t ≡ Some k → AreUsedBelow low rows'
-      → memory.written ≤ memory'.written → IsWrittenTable size memory'.all rows' (taken t (first_free t))
-      → IsSound size shift low entries starts memory' rows'
-  taken_sound memory' rows' low k first used more w =
+  pub taken_sound : (memory' : Memory) (rows' : List Row) (low free' k : ℕ) → first_free t ≡ Some k → AreUsedBelow low rows'
+      → free' ≡ free_row_count rows' → memory.written ≤ memory'.written → IsWrittenTable size memory'.all rows' (taken t (first_free t))
+      → IsSound size shift low free' entries starts memory' rows'
+  taken_sound memory' rows' low free' k first used counted more w =
       let taken_is = region_taken t k first in
       let fewer : (y : ℕ) (u : Tile) → tile_in (taken t (Some k)) y ≡ Some u → tile_in t y ≡ Some u =
       λ y u h. sym (taken_is.others y) ∙ h in
-      fewer_sound starts memory' rows' low (taken t (Some k)) taken_is.count fewer used refl refl
+      fewer_sound starts memory' rows' low free' (taken t (Some k)) taken_is.count fewer used counted refl refl
       (λ g. starts_same t (taken t (Some k)) starts.flags g taken_is.others)
       more
       (subst (λ (o : Option ℕ). IsWrittenTable size memory'.all rows' (taken t o)) first w)
 
-  pub release_sound : (starts' : Starts) (memory' : Memory) (rows' : List Row) (low k : ℕ) → k < length t.regions
-      → IsReleasable (kind_of t k) → AreUsedBelow low rows' → Clears starts starts' k t.words_per_region
+  pub release_sound : (starts' : Starts) (memory' : Memory) (rows' : List Row) (low free' k : ℕ) → k < length t.regions
+      → IsReleasable (kind_of t k) → AreUsedBelow low rows' → free' ≡ free_row_count rows' → Clears starts starts' k t.words_per_region
       → memory.written ≤ memory'.written → IsWrittenTable size memory'.all rows' (released t k)
-      → IsSound size shift low entries starts' memory' rows'
-  release_sound starts' memory' rows' low k known can used clear more w = go (nth_region t k) refl
+      → IsSound size shift low free' entries starts' memory' rows'
+  release_sound starts' memory' rows' low free' k known can used counted clear more w = go (nth_region t k) refl
     where
       gone : (m : ℕ) → 0 < m → ((y : ℕ) → k < y / t.words_per_region → y / t.words_per_region < k + m → tile_in t y ≡ None)
-          → Releases t (released t k) k m → IsSound size shift low entries starts' memory' rows'
+          → Releases t (released t k) k m → IsSound size shift low free' entries starts' memory' rows'
       gone m some later x =
-          fewer_sound starts' memory' rows' low (released t k) x.count (λ y u h. elim (cases_lt (y / t.words_per_region) k) [
+          fewer_sound starts' memory' rows' low free' (released t k) x.count (λ y u h. elim (cases_lt (y / t.words_per_region) k) [
             | inl b ↦ sym (x.others y (inl b)) ∙ h
             | inr b ↦ elim (cases_lt (y / t.words_per_region) (k + m)) [
               | inl f ↦ absurd (let z : None ≡ Some u = sym (x.gone y b f) ∙ h in cc)
               | inr f ↦ sym (x.others y (inr f)) ∙ h
             ]
-          ]) used clear.region_words clear.len
+          ]) used counted clear.region_words clear.len
           (λ g. starts_released t (released t k) starts starts' g k m shaped.positive some later x clear) more w
 
-      go : (r : Region) → nth_region t k ≡ r → IsSound size shift low entries starts' memory' rows'
+      go : (r : Region) → nth_region t k ≡ r → IsSound size shift low free' entries starts' memory' rows'
       go Free e = absurd (subst IsReleasable (kind_at t k Free e) can)
       go (Ordinary ts) e =
           gone 1 (omega arith) (λ y low high. absurd (omega arith)) (ordinary_released t k known (kind_at t k (Ordinary ts) e))
       go (First o) e = gone (run_length t k) (omega arith) (λ y low high. run_later t k y low high) (run_released t k o known e)
       go (Rest n) e = absurd (subst IsReleasable (kind_at t k (Rest n) e) can)
 
-  pub push_sound : (new : Entries) (starts' : Starts) (memory' : Memory) (rows' : List Row) (low k at n weaks : ℕ) (tile : Tile)
+  pub push_sound : (new : Entries) (starts' : Starts) (memory' : Memory) (rows' : List Row) (low free' k at n weaks : ℕ) (tile : Tile)
       → k < length t.regions → kind_of t k ≡ kinds.Ordinary → 0 < tile_size tile
       → used_of t k + tile_size tile ≤ t.words_per_region → EachForwarded (λ _. ⊥) (tile ∷ [])
       → at ≡ top_of t k → n ≡ tile_size tile → new.card_words ≡ entries.card_words → length new.starts ≡ length entries.starts
       → ((c : ℕ) → get_or new.starts c 0 ≡ (if is_between at (at + n) (c * entries.card_words)
       then entry_of entries.card_words at tile (c * entries.card_words) else get_or entries.starts c 0))
-      → tile_weaks tile ≡ weaks → starts' ≡ noted starts at weaks → AreUsedBelow low rows'
+      → tile_weaks tile ≡ weaks → starts' ≡ noted starts at weaks → AreUsedBelow low rows' → free' ≡ free_row_count rows'
       → memory.written ≤ memory'.written → at + n ≤ memory'.written → IsWrittenTable size memory'.all rows' (push_tile t k tile)
-      → IsSound size shift low new starts' memory' rows'
-  push_sound new starts' memory' rows' low k at n weaks tile known ordinary some room unmoved there long
-      len each written slots flags_are used more fits w =
+      → IsSound size shift low free' new starts' memory' rows'
+  push_sound new starts' memory' rows' low free' k at n weaks tile known ordinary some room unmoved there long
+      len each written slots flags_are used counted more fits w =
       let push = filler_push t k tile shaped.positive shaped.fitting known ordinary some room unmoved in
       let here : tile_in (push_tile t k tile) at ≡ Some tile = ap (tile_in (push_tile t k tile)) there ∙ push.is in
       let n' =
       notes starts starts' at weaks tile (known_then memory' rows' (push_tile t k tile) at tile w push.count here some) slots flags_are in
-      added_sound new starts' memory' rows' low (push_tile t k tile) at n tile push.count here
+      added_sound new starts' memory' rows' low free' (push_tile t k tile) at n tile push.count here
       (λ y apart. push.others y (λ z. apart (z ∙ sym there))) long len each written
-      (none_there t at (ap (tile_in t) there ∙ push.was)) n' used more fits w
+      (none_there t at (ap (tile_in t) there ∙ push.was)) n' used counted more fits w
 
-  pub run_sound : (new : Entries) (starts' : Starts) (memory' : Memory) (rows' : List Row) (low k m at n weaks : ℕ) (o : Stored) → 0 < m
-      → first_run is_free m t.regions ≡ Some k → at ≡ k * t.words_per_region → n ≡ tile_size (Object o)
+  pub run_sound : (new : Entries) (starts' : Starts) (memory' : Memory) (rows' : List Row) (low free' k m at n weaks : ℕ) (o : Stored)
+      → 0 < m → first_run is_free m t.regions ≡ Some k → at ≡ k * t.words_per_region → n ≡ tile_size (Object o)
       → new.card_words ≡ entries.card_words → length new.starts ≡ length entries.starts
       → ((c : ℕ) → get_or new.starts c 0 ≡ (if is_between at (at + n) (c * entries.card_words) then at else get_or entries.starts c 0))
-      → length o.weaks ≡ weaks → starts' ≡ noted starts at weaks → AreUsedBelow low rows'
+      → length o.weaks ≡ weaks → starts' ≡ noted starts at weaks → AreUsedBelow low rows' → free' ≡ free_row_count rows'
       → memory.written ≤ memory'.written → at + n ≤ memory'.written
       → IsWrittenTable size memory'.all rows' (with_regions t k m (run_regions t.words_per_region o m))
-      → IsSound size shift low new starts' memory' rows'
-  run_sound new starts' memory' rows' low k m at n weaks o some first there long len each written slots flags_are used more fits w =
+      → IsSound size shift low free' new starts' memory' rows'
+  run_sound new starts' memory' rows' low free' k m at n weaks o some first there long len each written slots flags_are used counted
+      more fits w =
       let t' : Table = with_regions t k m (run_regions t.words_per_region o m) in
       let made = run_made t k m o shaped.positive some first in
       let here : tile_in t' (k * t.words_per_region) ≡ Some (Object o) =
@@ -381,9 +385,10 @@ module _ (size shift lowest : ℕ) (entries : Entries) (starts : Starts) (memory
       let zero : k * t.words_per_region + 0 ≡ at = omega arith in
       let region : at / t.words_per_region ≡ k =
       ap (λ (a : ℕ). a / t.words_per_region) (sym zero) ∙ div-mul-add k t.words_per_region 0 shaped.positive in
-      let free : tile_in t at ≡ None = free_void t at (ap (kind_of t) region ∙ made.was_free k (omega arith) (omega arith)) in
-      added_sound new starts' memory' rows' low t' at n (Object o) made.count now (λ y apart. made.others y (λ z. apart (z ∙ sym there)))
-      long len each written (none_there t at free) (notes starts starts' at weaks (Object o) known slots flags_are) used more fits w
+      let void : tile_in t at ≡ None = free_void t at (ap (kind_of t) region ∙ made.was_free k (omega arith) (omega arith)) in
+      added_sound new starts' memory' rows' low free' t' at n (Object o) made.count now
+      (λ y apart. made.others y (λ z. apart (z ∙ sym there))) long len each written (none_there t at void)
+      (notes starts starts' at weaks (Object o) known slots flags_are) used counted more fits w
 
   pub front_sound : (mid new : Entries) (starts' : Starts) (memory' : Memory) (x n r at b end weaks : ℕ) (tile : Tile)
       → tile_in t x ≡ Some (Filler n) → 0 < tile_size tile → tile_size tile + r ≡ n → EachForwarded (λ _. ⊥) (tile ∷ [])
@@ -396,7 +401,7 @@ module _ (size shift lowest : ℕ) (entries : Entries) (starts : Starts) (memory
       (if is_between at end (c * mid.card_words) && (c * mid.card_words == last_card mid.card_words end) then at
       else get_or mid.starts c 0)) → tile_weaks tile ≡ weaks → starts' ≡ noted starts x weaks
       → memory.written ≤ memory'.written → IsWrittenTable size memory'.all rows (replace_tile t x (tile ∷ remainder r))
-      → IsSound size shift lowest new starts' memory' rows
+      → IsSound size shift lowest free new starts' memory' rows
   front_sound mid new starts' memory' x n r at b end weaks tile was some sum unmoved b_is at_is end_is len len2
       each each2 first second slots flags_are more w =
       let total : total_size (tile ∷ remainder r) ≡ n = ap (λ (m : ℕ). tile_size tile + m) (remainder_total r) ∙ sum in
@@ -414,7 +419,7 @@ module _ (size shift lowest : ℕ) (entries : Entries) (starts : Starts) (memory
   pub forwarded_sound : (starts' : Starts) (memory' : Memory) (a to weaks : ℕ) (o : Stored) → object_at t a ≡ Some o
       → IsOrdinary (region_at t a) → weaks ≡ length o.weaks → starts' ≡ forgotten starts a weaks
       → memory.written ≤ memory'.written → IsWrittenTable size memory'.all rows (replace_tile t a (Forwarded to (object_words t a) ∷ []))
-      → IsSound size shift lowest entries starts' memory' rows
+      → IsSound size shift lowest free entries starts' memory' rows
   forwarded_sound starts' memory' a to weaks o there ordinary slots gone more w =
       let is = tile_of t a o there in
       let long = words_of t a o there in

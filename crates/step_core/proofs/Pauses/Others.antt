@@ -1,14 +1,15 @@
 -- Candidates whose live bounds are within a limit, and the rows of the others, which the code doesn't write.
 use Rattle.std.proofs.Common.{◌≡◌, ◌⊎◌, ◌+◌, ◌-◌, ◌*◌, ◌<◌, ◌≤◌, ◌∷◌, ◌++◌, ◌∙◌}
-use Rattle.std.proofs.Common.{ℕ, min, Option, None, Bool, true, false, List, [], length, get_or, take, drop, refl, sym}
+use Rattle.std.proofs.Common.{ℕ, zero, suc, min, Bool, true, false, List, [], length, get_or, take, drop, refl, sym}
 use Rattle.std.proofs.Common.{ap, subst, arith, inl, inr, is_lt, append_assoc}
-use Rattle.std.specs.Prelude.{All, IfNone, IsPermutation, IsSorted, Some, slice_index, count_by}
-use Rattle.std.proofs.lemmas.Bool.{cases_lt}
+use Rattle.std.specs.Prelude.{All, IsPermutation, IsSorted, slice_index, count_by}
+use Rattle.std.proofs.lemmas.Bool.{cases_eq, cases_lt}
 use Rattle.std.proofs.lemmas.List.{length-append, length-take-le, take-append-le, drop-append-le}
 use Rattle.std.proofs.lemmas.List.Elements.{All-append, All-take, All-weaker}
 use Rattle.std.proofs.lemmas.List.Sorted.{All-permutation, IsPermutation-refl, IsPermutation-to_front}
 use Rattle.std.proofs.lemmas.List.Sorted.{IsPermutation-append_left, IsPermutation-append_right}
 use Rattle.regions.specs.Table.{Table, is_free, kind_of}
+use Rattle.regions.specs.declared.row.Kind.{Kind}
 use Rattle.regions.specs.declared.row.Kind.TheVariants as kinds
 use Rattle.mark_bitmap.specs.Tops.{Tops}
 use Rattle.mark_bitmap.specs.Live.{live_bound_of}
@@ -76,18 +77,49 @@ module _ (t : Table) (tams : Tops) (previous : List Bool) (running : Bool) (limi
         beyond = w.beyond;
       }
 
--- no live bound up to a limit was found: the region is no candidate, or one beyond the limit
-pub beyond_or_none : (t : Table) (tams : Tops) (previous : List Bool) (running : Bool) (k limit most : ℕ) (found : Option ℕ)
-    → kind_of t k ≡ kinds.Ordinary → (running ≡ true → slice_index tams.next k ≡ k * t.words_per_region)
-    → most ≡ min limit (t.words_per_region - 1) → 0 < t.words_per_region → IfNone found (most < live_bound_of t tams.previous previous k)
-    → IfNone found ((IsCandidate t tams previous running k → ⊥)
-    ⊎ (IsCandidate t tams previous running k × (limit < live_bound_of t tams.previous previous k)))
-beyond_or_none t tams previous running k limit most (Some x) ordinary all_new is some more = tt
-beyond_or_none t tams previous running k limit most None ordinary all_new is some more =
-    elim (cases_lt (live_bound_of t tams.previous previous k) t.words_per_region) [
-      | inl less ↦ inr (record { ordinary = ordinary; frees = less; all_new = all_new }, omega (arith, is, more, less))
-      | inr full ↦ inl (λ c. let frees = c.frees in absurd (omega (arith, frees, full)))
-    ]
+  -- whether a region is a candidate
+  is_candidate : (k : ℕ) → IsCandidate t tams previous running k ⊎ (IsCandidate t tams previous running k → ⊥)
+  is_candidate k = by_kind (kind_of t k) refl
+    where
+      new_or_not : (b : Bool) → running ≡ b → kind_of t k ≡ kinds.Ordinary → live_bound_of t tams.previous previous k < t.words_per_region
+          → IsCandidate t tams previous running k ⊎ (IsCandidate t tams previous running k → ⊥)
+      new_or_not false e o f =
+          inl (record { ordinary = o; frees = f; all_new = λ run. absurd (let no : true ≡ false = sym run ∙ e in cc) })
+      new_or_not true e o f = elim (cases_eq (slice_index tams.next k) (k * t.words_per_region)) [
+        | inl same ↦ inl (record { ordinary = o; frees = f; all_new = λ run. same })
+        | inr other ↦ inr (λ c. other (c.all_new e))
+      ]
+
+      by_kind : (kind : Kind) → kind_of t k ≡ kind → IsCandidate t tams previous running k ⊎ (IsCandidate t tams previous running k → ⊥)
+      by_kind kinds.Free e = inr (λ c. let z : kinds.Free ≡ kinds.Ordinary = sym e ∙ c.ordinary in absurd (cc))
+      by_kind kinds.Ordinary e = elim (cases_lt (live_bound_of t tams.previous previous k) t.words_per_region) [
+        | inl less ↦ new_or_not running refl e less
+        | inr full ↦ inr (λ c. let frees = c.frees in absurd (omega (arith, frees, full)))
+      ]
+      by_kind kinds.First e = inr (λ c. let z : kinds.First ≡ kinds.Ordinary = sym e ∙ c.ordinary in absurd (cc))
+      by_kind kinds.Rest e = inr (λ c. let z : kinds.Rest ≡ kinds.Ordinary = sym e ∙ c.ordinary in absurd (cc))
+
+  -- regions in which no candidate is within the limit
+  pub within_gap : (n m end : ℕ) (rows : List LiveRow) → n + m ≡ end → end ≤ length t.regions
+      → ((k : ℕ) → n ≤ k → k < end → IsCandidate t tams previous running k → limit < live_bound_of t tams.previous previous k)
+      → AreCandidatesWithin t tams previous running limit n rows → AreCandidatesWithin t tams previous running limit end rows
+  within_gap n zero end rows e l beyond w =
+      let done : n ≡ end = omega arith in
+      subst (λ (j : ℕ). AreCandidatesWithin t tams previous running limit j rows) done w
+  within_gap n (suc m) end rows e l beyond w =
+      within_gap (n + 1) m end rows (omega arith) l (λ k low high c. beyond k (omega arith) high c) (elim (is_candidate n) [
+        | inl c ↦ within_beyond n rows w (omega arith) c (beyond n (omega arith) (omega arith) c)
+        | inr none ↦ within_passed n rows w none
+      ])
+
+-- a candidate beyond what is the limit, and less than a region
+pub beyond_limit : (t : Table) (tams : Tops) (previous : List Bool) (running : Bool) (limit words most k : ℕ) → most ≡ min limit (words - 1)
+    → words ≡ t.words_per_region → (IsCandidate t tams previous running k → most < live_bound_of t tams.previous previous k)
+    → IsCandidate t tams previous running k → limit < live_bound_of t tams.previous previous k
+beyond_limit t tams previous running limit words most k e same beyond c =
+    let more = beyond c in
+    let frees = c.frees in
+    omega arith
 
 -- ---- the choice
 -- the rows that were taken, and the others: no others are better, those without a row neither

@@ -11,7 +11,7 @@ pub start-requires-clause-known : goal.start-requires-clause-known
 start-requires-clause-known c =
     let card : c.card_of-card.result ≡ c.args.word / c.self.inside.first_tiles.card_words =
     c.card_of-card.ensures.card ∙ ap (λ (n : ℕ). n / c.self.inside.first_tiles.card_words) c.word-3.ensures in
-    card_known _ _ _ _ _ _ _ _ c.args.word c.card_of-card.result c.self.invariant c.self.view_is
+    card_known _ _ _ _ _ _ _ _ _ c.args.word c.card_of-card.result c.self.invariant c.self.view_is
     c.requires c.card_of-card.ensures.positive card
 
 pub first_word-requires : goal.first_word-requires
@@ -22,7 +22,7 @@ first_word-requires c =
     (let f = c.if-word.false in
     let t = c.word.ensures ∙ c.top.ensures ∙ ap (top_of c.args.self.now) c.region_of.ensures in
     omega (arith, f, t, c.word-2.ensures)) in
-    let s = card_start _ _ _ _ _ _ _ _ c.args.word c.card_of-card.result c.self.invariant c.self.view_is
+    let s = card_start _ _ _ _ _ _ _ _ _ c.args.word c.card_of-card.result c.self.invariant c.self.view_is
     below c.card_of-card.ensures.positive card in
     omega (arith, s.low, c.requires, c.law.ensures.in_all)
 
@@ -34,7 +34,7 @@ returns-then-word-first_word-clause-holder c =
     (let f = c.if-word.false in
     let t = c.word.ensures ∙ c.top.ensures ∙ ap (top_of c.args.self.now) c.region_of.ensures in
     omega (arith, f, t, c.word-2.ensures)) in
-    let s = card_start _ _ _ _ _ _ _ _ c.args.word c.card_of-card.result c.self.invariant c.self.view_is
+    let s = card_start _ _ _ _ _ _ _ _ _ c.args.word c.card_of-card.result c.self.invariant c.self.view_is
     below c.card_of-card.ensures.positive card in
     let at : c.new-start.result ≡ start_in c.self.inside.first_tiles.card_words c.self.inside.first_tiles.starts c.card_of-card.result =
     c.new-start.ensures ∙ c.start.ensures in
@@ -50,7 +50,7 @@ walk_from-at-items-requires c =
     (let f = c.if-word.false in
     let t = c.word.ensures ∙ c.top.ensures ∙ ap (top_of c.args.self.now) c.region_of.ensures in
     omega (arith, f, t, c.word-2.ensures)) in
-    let s = card_start _ _ _ _ _ _ _ _ c.args.word c.card_of-card.result c.self.invariant c.self.view_is
+    let s = card_start _ _ _ _ _ _ _ _ _ c.args.word c.card_of-card.result c.self.invariant c.self.view_is
     below c.card_of-card.ensures.positive card in
     rw (c.new-start.ensures, c.start.ensures, s.holder.tile_is) refl
 
@@ -62,7 +62,7 @@ loop-at-init c =
     (let f = c.if-word.false in
     let t = c.word.ensures ∙ c.top.ensures ∙ ap (top_of c.args.self.now) c.region_of.ensures in
     omega (arith, f, t, c.word-2.ensures)) in
-    let s = card_start _ _ _ _ _ _ _ _ c.args.word c.card_of-card.result c.self.invariant c.self.view_is
+    let s = card_start _ _ _ _ _ _ _ _ _ c.args.word c.card_of-card.result c.self.invariant c.self.view_is
     below c.card_of-card.ensures.positive card in
     let at : c.new-start.result ≡ start_in c.self.inside.first_tiles.card_words c.self.inside.first_tiles.starts c.card_of-card.result =
     c.new-start.ensures ∙ c.start.ensures in

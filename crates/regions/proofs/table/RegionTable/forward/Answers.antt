@@ -18,7 +18,7 @@ invariant_of-self c =
     let slots : c.weak_count-weaks.result ≡ length o.0.weaks =
     c.weak_count-weaks.ensures ∙ ap (λ (l : List (Option ℕ)). length l) (weaks_are c.args.self.now c.args.from o.0 o.1.is) in
     let gone = c.forget.ensures ∙ ap (λ (k : ℕ). forgotten c.self.inside.weak_starts k c.weak_count-weaks.result) c.word.ensures in
-    forwarded_sound _ _ _ _ _ _ _ _ c.self.invariant c.self.view_is _ _ c.args.from c.args.to _ o.0 o.1.is c.requires.ordinary slots gone
+    forwarded_sound _ _ _ _ _ _ _ _ _ c.self.invariant c.self.view_is _ _ c.args.from c.args.to _ o.0 o.1.is c.requires.ordinary slots gone
     (omega (arith, c.write_forwarded.ensures.written))
     (rw c.write_forwarded.ensures.all
     (forwarded _ _ _ _ c.args.from c.args.to c.self.invariant.table c.self.view_is c.requires.object c.requires.ordinary

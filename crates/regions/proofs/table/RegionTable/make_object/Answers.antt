@@ -65,8 +65,8 @@ invariant_of-self c =
     omega (arith, c.size-size.ensures, new_size c.args.name c.args.counts.pointers c.args.counts.weaks c.args.counts.values) in
     let flags = c.note.ensures ∙ ap (λ (k : ℕ). noted c.self.inside.weak_starts k c.from-weaks.result) c.word-5.ensures
     ∙ ap (λ (n : ℕ). noted c.self.inside.weak_starts c.args.at n) c.from-weaks.ensures in
-    front_sound _ _ _ _ _ _ _ _ c.self.invariant c.self.view_is c.put_front.new.self c.move_filler.new.self _ _ c.args.at c.args.filler _ _
-    _ _ c.args.counts.weaks (Object (new_object c.args.name c.args.counts.pointers c.args.counts.weaks c.args.counts.values))
+    front_sound _ _ _ _ _ _ _ _ _ c.self.invariant c.self.view_is c.put_front.new.self c.move_filler.new.self _ _ c.args.at c.args.filler
+    _ _ _ _ c.args.counts.weaks (Object (new_object c.args.name c.args.counts.pointers c.args.counts.weaks c.args.counts.values))
     c.requires.there (omega (arith, long)) (omega (arith, c.requires.room, long, c.size-size.ensures)) tt long
     (omega (arith, c.word-3.ensures, long)) (omega (arith, c.word-4.ensures, c.get-2.ensures.value))
     c.put_front.ensures.card_words c.move_filler.ensures.card_words c.put_front.ensures.len c.move_filler.ensures.len
@@ -87,7 +87,7 @@ returns c =
 
 pub put_front-requires-clause-entries : goal.put_front-requires-clause-entries
 put_front-requires-clause-entries c n low high =
-    filler_entries _ _ _ _ _ _ _ _ c.args.at c.args.filler _ _ n c.self.invariant c.self.view_is c.requires.there
+    filler_entries _ _ _ _ _ _ _ _ _ c.args.at c.args.filler _ _ n c.self.invariant c.self.view_is c.requires.there
     c.word-2.ensures c.get-2.ensures.value low high
 
 pub note-requires : goal.note-requires

@@ -6,6 +6,7 @@ use Rattle.regions.proofs.Rows.Search.{free, first_run-is}
 use Rattle.regions.proofs.LongRuns.RunMade.{run_taken, run_here_is}
 use Rattle.regions.proofs.Tiles.Making.{size_is_of}
 use Rattle.regions.proofs.Rows.UsedBelow.{used_written, used_le, front_free}
+use Rattle.regions.proofs.Rows.Counting.{count_run, run_counted}
 use Rattle.regions.proofs.Cards.Entries.{run_sound, new_size}
 use Rattle.regions.specs.Table.{new_object}
 use Rattle.regions.proofs.table.RegionTable.make_run.Goals as goal
@@ -88,7 +89,7 @@ invariant_of-self c =
     bottom size number (rw c.reach.ensures.all at c.write_object.ensures.all) rows in
     let flags = c.note.ensures
     ∙ ap (λ (n : ℕ). noted c.self.inside.weak_starts (c.number-number.result * c.self.inside.words_per_region) n) c.from-weaks.ensures in
-    run_sound _ _ _ _ _ _ _ _ c.self.invariant c.self.view_is _ _ _ _ _ c.args.first c.args.count _ _ c.args.counts.weaks
+    run_sound _ _ _ _ _ _ _ _ _ c.self.invariant c.self.view_is _ _ _ _ _ _ c.args.first c.args.count _ _ c.args.counts.weaks
     (new_object c.args.name c.args.counts.pointers c.args.counts.weaks c.args.counts.values) c.requires.positive c.requires.lowest
     (ap (λ (k : ℕ). k * c.self.inside.words_per_region) c.number-number.ensures
     ∙ ap (λ (m : ℕ). c.args.first * m) (size_is_of _ _ _ _ c.self.view_is))
@@ -99,6 +100,7 @@ invariant_of-self c =
     c.self.invariant.used_below (omega (arith, f.room))
     (used_le c.self.inside.rows.items c.self.inside.lowest c.args.first c.self.invariant.used_below
     (front_free c.self.inside.rows.items c.args.first c.args.count c.requires.positive f.free)) (omega arith) number rows)
+    (let n = count_run _ _ _ _ _ _ _ _ f.room f.free c.self.invariant.free_is number rows in omega arith)
     (omega (arith, c.reach.ensures.written, c.write_object.ensures.written))
     (omega (arith, c.reach.ensures.written, c.write_object.ensures.written)) w
 
@@ -125,3 +127,9 @@ note-requires c =
     rw (size_is_of _ _ _ _ c.self.view_is) c.requires.covers in
     let count = c.self.invariant.weak_count in
     rw c.number-number.ensures (omega (arith, f.ends, covers, count))
+
+pub overflow_sub-self : goal.overflow_sub-self
+overflow_sub-self c =
+    let e : first_run free c.args.count c.self.inside.rows.items ≡ Some c.args.first =
+    sym (first_run-is _ _ _ _ c.args.count c.self.view_is) ∙ c.requires.lowest in
+    run_counted c.self.inside.rows.items c.args.first _ _ (run_here_is _ _ _ _ _ c.self.invariant.table e).free c.self.invariant.free_is

@@ -12,6 +12,7 @@ use Rattle.regions.proofs.Tiles.WeakStarts.{starts_free}
 use Rattle.regions.proofs.Tiles.Within.{free_within}
 use Rattle.regions.proofs.Tiles.Making.{new_table, free_table-unmoved}
 use Rattle.regions.proofs.Rows.Sound.{power_is, whole_starts}
+use Rattle.regions.proofs.Rows.Counting.{frees}
 use Rattle.regions.proofs.Rows.UsedBelow.{used_none}
 use Rattle.regions.proofs.table.RegionTable.new.Goals as goal
 
@@ -54,6 +55,7 @@ invariant_of-result c =
       power = power;
       narrow = c.ilog2.ensures.bound;
       used_below = used_none _;
+      free_is = sym (rw c.in-Ok-free_rows.ensures (frees c.args.config.now.regions));
       whole_cards = rw len (c.args.config.now.words / card, whole);
       each_card =
           rw (len, count) (long ∙ sym (whole_starts c.args.config.now.regions c.args.config.now.words card (omega (arith, some.0)) whole));

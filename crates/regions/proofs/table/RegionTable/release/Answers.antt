@@ -4,6 +4,8 @@ use Rattle.regions.specs.declared.row.Row.{Row}
 use Rattle.regions.specs.Table.{front_count}
 use Rattle.regions.proofs.LongRuns.RunGone.{rest, release_by, release_room, rows_small}
 use Rattle.regions.proofs.Rows.UsedBelow.{used_written}
+use Rattle.regions.proofs.Tiles.Making.{known}
+use Rattle.regions.proofs.Rows.Counting.{count_released, release_used}
 use Rattle.regions.proofs.Cards.Entries.{flag_count, region_words, release_sound}
 use Rattle.regions.proofs.Tiles.WeakStarts.{clears}
 use Rattle.regions.proofs.table.RegionTable.release.Goals as goal
@@ -45,12 +47,17 @@ invariant_of-self c =
     let low = c.min-self-inside.ensures in
     let w = release_by _ _ _ _ _ _ _ _ _ c.self.invariant.table c.self.view_is c.requires.known c.requires.releasable c.requires.untargeted
     c.number-at.ensures total number rows in
-    let clear = clears _ _ _ c.args.region _ c.number.ensures (region_words _ _ _ _ _ _ _ _ c.self.invariant c.self.view_is)
+    let n = known _ _ _ _ _ c.self.view_is c.requires.known in
+    let clear = clears _ _ _ c.args.region _ c.number.ensures (region_words _ _ _ _ _ _ _ _ _ c.self.invariant c.self.view_is)
     c.release.ensures.region_words c.release.ensures.len c.release.ensures.flags in
-    release_sound _ _ _ _ _ _ _ _ c.self.invariant c.self.view_is _ _ _ _ c.args.region c.requires.known c.requires.releasable
+    release_sound _ _ _ _ _ _ _ _ _ c.self.invariant c.self.view_is _ _ _ _ _ c.args.region c.requires.known c.requires.releasable
     (used_written c.self.inside.rows.items _ _ c.self.inside.lowest c.number-at.result (c.rests_from-rests.result + 1)
     c.min-self-inside.result _ c.self.invariant.used_below (omega (arith, room, count, c.number-at.ensures))
-    (omega (arith, low)) (omega (arith, low)) number rows) clear (omega arith) w
+    (omega (arith, low)) (omega (arith, low)) number rows)
+    (let more = count_released _ _ _ _ _ _ _ n.in_rows (release_used _ _ _ _ _ n c.requires.releasable)
+    c.number-at.ensures (omega (arith, room, count, c.number-at.ensures)) total c.self.invariant.free_is number rows in
+    omega arith)
+    clear (omega arith) w
 
 pub returns : goal.returns
 returns c =
@@ -67,8 +74,8 @@ returns c =
 
 pub release-requires : goal.release-requires
 release-requires c =
-    let count = flag_count _ _ _ _ _ _ _ _ c.self.invariant c.self.view_is in
-    let words = region_words _ _ _ _ _ _ _ _ c.self.invariant c.self.view_is in
+    let count = flag_count _ _ _ _ _ _ _ _ _ c.self.invariant c.self.view_is in
+    let words = region_words _ _ _ _ _ _ _ _ _ c.self.invariant c.self.view_is in
     rw (c.number.ensures, words, count)
     (row_fits c.args.region c.args.self.now.words_per_region (length c.args.self.now.regions)
     c.args.self.now.words_per_region c.requires.known (omega arith))

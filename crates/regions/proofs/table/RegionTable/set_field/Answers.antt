@@ -13,7 +13,7 @@ set_field-requires c =
 pub invariant_of-self : goal.invariant_of-self
 invariant_of-self c =
     let w = field_written _ _ _ _ _ _ c.self.invariant.table c.self.view_is c.requires (pointer_word c.args.target) in
-    field_sound _ _ _ _ _ _ _ _ c.self.invariant c.self.view_is _ c.args.object c.args.field
+    field_sound _ _ _ _ _ _ _ _ _ c.self.invariant c.self.view_is _ c.args.object c.args.field
     (pointer_of (pointer_word c.args.target)) c.requires (omega (arith, c.set_field.ensures.written)) (rw c.set_field.ensures.word w)
 
 pub returns : goal.returns

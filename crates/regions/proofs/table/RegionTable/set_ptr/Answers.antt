@@ -13,7 +13,7 @@ set_field-requires c =
 pub invariant_of-self : goal.invariant_of-self
 invariant_of-self c =
     let w = pointer_written _ _ _ _ _ _ (pointer_word c.args.target) c.self.invariant.table c.self.view_is c.requires in
-    pointer_sound _ _ _ _ _ _ _ _ c.self.invariant c.self.view_is _ c.args.object c.args.index
+    pointer_sound _ _ _ _ _ _ _ _ _ c.self.invariant c.self.view_is _ c.args.object c.args.index
     (pointer_of (pointer_word c.args.target)) c.requires (omega (arith, c.set_field.ensures.written)) (rw c.set_field.ensures.word w)
 
 pub returns : goal.returns

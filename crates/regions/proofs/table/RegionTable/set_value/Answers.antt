@@ -16,7 +16,7 @@ set_value-requires-clause-within c =
 
 pub invariant_of-self : goal.invariant_of-self
 invariant_of-self c =
-    value_sound _ _ _ _ _ _ _ _ c.self.invariant c.self.view_is _ c.args.object c.args.field c.args.value c.requires
+    value_sound _ _ _ _ _ _ _ _ _ c.self.invariant c.self.view_is _ c.args.object c.args.field c.args.value c.requires
     (omega (arith, c.set_value.ensures.written))
     (rw c.set_value.ensures.all (value_written _ _ _ _ _ _ c.args.value c.self.invariant.table c.self.view_is c.requires))
 

@@ -53,7 +53,7 @@ invariant_of-self c =
     let some : 0 < c.args.size = omega (arith, c.get-kept.ensures.value, c.get-kept.ensures.positive) in
     let place : c.word-2.result ≡ c.args.at = c.word-2.ensures in
     let end : c.word-3.result + c.get-2.result ≡ c.args.at + c.args.filler = omega (arith, c.word-3.ensures, c.get-2.ensures.value) in
-    front_sound _ _ _ _ _ _ _ _ c.self.invariant c.self.view_is c.put_filler.new.self c.move_filler.new.self _ _ c.args.at
+    front_sound _ _ _ _ _ _ _ _ _ c.self.invariant c.self.view_is c.put_filler.new.self c.move_filler.new.self _ _ c.args.at
     c.args.filler (c.args.filler - c.args.size) _ _ _ 0 (Filler c.args.size) c.requires.there some
     (omega (arith, c.requires.room)) tt c.get-kept.ensures.value at end
     c.put_filler.ensures.card_words c.move_filler.ensures.card_words c.put_filler.ensures.len c.move_filler.ensures.len
