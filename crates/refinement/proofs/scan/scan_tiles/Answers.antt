@@ -1,4 +1,4 @@
-use Rattle.std.proofs.Common.{◌≡◌, ◌∙◌, ◌*◌, ◌<◌, ℕ, ap, sym, subst, arith}
+use Rattle.std.proofs.Common.{◌≡◌, ◌∙◌, ◌*◌, ◌<◌, ℕ, ap, refl, sym, subst, arith}
 use Rattle.mark_bitmap.specs.Kept.{kept_in}
 use Rattle.remembered_sets.specs.Sets.{may_lead}
 use Rattle.refinement.specs.Remembering.{LeadsInside}
@@ -10,8 +10,8 @@ use Rattle.refinement.proofs.Holders.{kept_object, not_kept, fields_inside, same
 use Rattle.refinement.proofs.Scanned.{covered_dead, turn_first, turn_last, turn_next, turn_past, turn_placed}
 use Rattle.refinement.proofs.scan.scan_tiles.Goals as goal
 
-pub overflow_mul-end : goal.overflow_mul-end
-overflow_mul-end c =
+pub overflow_mul-from : goal.overflow_mul-from
+overflow_mul-from c =
     let e = card_end c.args.table.now c.args.card_words c.args.card c.args.sets.now c.requires.stands.fit c.requires.card in
     let small = c.law.ensures.in_all in
     rw c.number.ensures (omega (arith, e, small))
@@ -35,7 +35,7 @@ loop-at-init c =
           (kept_object c.args.table.now c.args.tams.now c.args.marks.now)
           c.args.card_words c.args.card c.args.first (may_lead c.args.sets.now) c.into_iter-at-iterator.result h.tile h.tile_is walk;
       count = count_first c.args.table.now c.args.card_words c.args.card c.args.first c.into_iter-at-iterator.result c.law.ensures z h walk;
-      last = λ region e. absurd (cc);
+      last = λ differs. absurd (differs refl);
     }
 
 pub returns-then-word-end-clause-adds : goal.returns-then-word-end-clause-adds
