@@ -18,7 +18,7 @@ ghost use Rattle.regions.specs.Walks.{IsHolder, IsPlacedTile};
 ghost use Rattle.mark_bitmap.specs.Kept.{kept_in};
 ghost use Rattle.remembered_sets.specs.Sets.{card_count, covers, may_lead};
 ghost use Rattle.refinement.specs.Remembering.{field_word, Gains, IsCovered};
-ghost use Rattle.refinement.specs.Refining.{with_field, AddsCard, AreObjectsCovered, CanScan, IsScanned, FieldsInside, SetsFit};
+ghost use Rattle.refinement.specs.Refining.{with_field, AddsCard, AreObjectsCovered, CanScan, IsObjectCovered, IsScanned, FieldsInside, SetsFit};
 
 use heap_words::addr::{Addr, Card};
 use mark_bitmap::marks::Marks;
@@ -117,6 +117,35 @@ fn scan_object(
     last
 }
 
+/// Adds the card for the fields of one tile that lie in it, if the tile is a kept object. `home` is the card's region.
+fn scan_tile(
+    table: &RegionTable,
+    tams: &Tams,
+    marks: &Marks,
+    sets: &mut RememberedSets,
+    card_words: u32,
+    card: Card,
+    at: Addr,
+    shape: Shape,
+    home: u32,
+    before: u32,
+) -> u32
+    requires stands { CanScan table.now tams.now marks.now card_words sets.old }
+    requires card { card < card_count sets.old }
+    requires tile { IsPlacedTile table.now at shape }
+    requires home { card * card_words / table.now.words_per_region ≡ home }
+    requires last { before ≢ home → may_lead sets.old before card ≡ true }
+    ensures adds { AddsCard table.now.words_per_region (kept_in table.now tams.now marks.now) card_words card sets.old sets.new }
+    ensures covered { IsObjectCovered table.now.words_per_region (kept_in table.now tams.now marks.now) card_words card
+        (may_lead sets.new) at }
+    ensures last { result ≢ home → may_lead sets.new result card ≡ true }
+{
+    if is_kept(table, tams, marks, at, shape) {
+        return scan_object(table, sets, card_words, card, at, home, before);
+    }
+    before
+}
+
 /// Adds the card for the fields of kept objects that lie in it, over the tiles of a region from the one on that holds the
 /// card's first word. Answers how many tiles it looked at.
 fn scan_tiles(
@@ -146,8 +175,11 @@ fn scan_tiles(
             return looked;
         }
         looked += 1;
-        if is_kept(table, tams, marks, at, shape) {
-            last = scan_object(table, sets, card_words, card, at, home, last);
+        last = scan_tile(
+            table, tams, marks, sets, card_words, card, at, shape, home, last,
+        );
+        if at.word() + shape.size() >= end {
+            return looked;
         }
     }
     looked
