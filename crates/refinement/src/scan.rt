@@ -18,9 +18,11 @@ ghost use Rattle.regions.specs.Walks.{IsHolder, IsPlacedTile};
 ghost use Rattle.mark_bitmap.specs.Kept.{kept_in};
 ghost use Rattle.remembered_sets.specs.Sets.{card_count, covers, may_lead};
 ghost use Rattle.refinement.specs.Remembering.{field_word, Gains, IsCovered};
-ghost use Rattle.refinement.specs.Refining.{with_field, AddsCard, AreObjectsCovered, CanScan, IsObjectCovered, IsScanned, FieldsInside, SetsFit};
+ghost use Rattle.refinement.specs.Refining.{with_field, AddsCard, AreObjectsCovered, CanScan, FieldsInside, IsObjectCovered, IsScanned};
+ghost use Rattle.refinement.specs.Refining.{SetsFit};
 
-use heap_words::addr::{Addr, Card};
+use crate::links::next_link;
+use heap_words::addr::{Addr, Card, RegionNo};
 use mark_bitmap::marks::Marks;
 use mark_bitmap::tams::Tams;
 use regions::{RegionTable, Shape};
@@ -61,6 +63,7 @@ fn scan_field(
     requires regions { length sets.old.sets ≡ length table.now.regions }
     requires card { card < card_count sets.old }
     requires home { field_word object field / table.now.words_per_region ≡ home }
+    requires source { card / sets.old.cards_per_region ≡ home }
     requires last { last ≢ home → may_lead sets.old last card ≡ true }
     ensures after { (target : Option ℕ) → slice_get (fields_at table.now object) field ≡ Some target
         → sets.new ≡ with_field table.now.words_per_region card (field_word object field) target sets.old }
@@ -79,7 +82,7 @@ fn scan_field(
     if region.number() == last {
         return last;
     }
-    sets.add(region, card);
+    sets.add_from(RegionNo::new(home), region, card);
     region.number()
 }
 
@@ -97,7 +100,7 @@ fn scan_object(
     requires inside { FieldsInside table.now object }
     requires fit { SetsFit table.now card_words sets.old }
     requires card { card < card_count sets.old }
-    requires home { card * card_words / table.now.words_per_region ≡ home }
+    requires home { card / sets.old.cards_per_region ≡ home }
     requires last { before ≢ home → may_lead sets.old before card ≡ true }
     ensures scanned { (kept : ℕ → Option Stored) → kept object ≡ object_at table.now object
         → IsScanned table.now.words_per_region kept card_words card object sets.old sets.new }
@@ -111,8 +114,10 @@ fn scan_object(
     let start = from.saturating_sub(first);
     let end = to.saturating_sub(first).min(count);
     let mut last = before;
-    for field in start..end {
+    let mut field = next_link(table, object, start, end);
+    'fields: while field < end {
         last = scan_field(table, sets, card, object, field, home, last);
+        field = next_link(table, object, field + 1, end);
     }
     last
 }
@@ -133,7 +138,7 @@ fn scan_tile(
     requires stands { CanScan table.now tams.now marks.now card_words sets.old }
     requires card { card < card_count sets.old }
     requires tile { IsPlacedTile table.now at shape }
-    requires home { card * card_words / table.now.words_per_region ≡ home }
+    requires home { card / sets.old.cards_per_region ≡ home }
     requires last { before ≢ home → may_lead sets.old before card ≡ true }
     ensures adds { AddsCard table.now.words_per_region (kept_in table.now tams.now marks.now) card_words card sets.old sets.new }
     ensures covered { IsObjectCovered table.now.words_per_region (kept_in table.now tams.now marks.now) card_words card

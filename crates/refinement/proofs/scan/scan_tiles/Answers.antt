@@ -1,11 +1,11 @@
-use Rattle.std.proofs.Common.{◌≡◌, ◌∙◌, ◌*◌, ◌<◌, ℕ, ap, refl, sym, subst, arith}
+use Rattle.std.proofs.Common.{◌≡◌, ◌∙◌, ◌*◌, ◌/◌, ◌<◌, ℕ, ap, refl, sym, subst, arith}
 use Rattle.mark_bitmap.specs.Kept.{kept_in}
 use Rattle.remembered_sets.specs.Sets.{may_lead}
 use Rattle.refinement.specs.Remembering.{LeadsInside}
 use Rattle.regions.proofs.Words.Divides.{card_has_words}
 use Rattle.refinement.proofs.Counted.{count_first, count_next}
-use Rattle.refinement.proofs.Entered.{adds_none, adds_more, adds_lead}
-use Rattle.refinement.proofs.Fields.{adds_fit, card_end}
+use Rattle.refinement.proofs.Entered.{adds_none, adds_more, adds_lead, adds_sets}
+use Rattle.refinement.proofs.Fields.{adds_fit, card_end, region_of_first}
 use Rattle.refinement.proofs.Holders.{kept_object}
 use Rattle.refinement.proofs.Scanned.{tile_words, turn_over, turn_first, turn_last, turn_next, turn_past, turn_placed}
 use Rattle.refinement.proofs.scan.scan_tiles.Goals as goal
@@ -73,6 +73,16 @@ scan_tile-last-requires-clause-card c =
     let e = (adds_fit c.args.table.now (kept_in c.args.table.now c.args.tams.now c.args.marks.now) c.args.card_words c.args.card
     c.args.sets.now c.loop-at.sets c.requires.stands.fit c.loop-at.invariant.adds).1 in
     subst (λ (n : ℕ). c.args.card < n) (sym e) c.requires.card
+
+pub scan_tile-last-requires-clause-home : goal.scan_tile-last-requires-clause-home
+scan_tile-last-requires-clause-home c =
+    let same = (adds_sets c.args.table.now.words_per_region (kept_in c.args.table.now c.args.tams.now c.args.marks.now) c.args.card_words
+    c.args.card c.args.sets.now c.loop-at.sets c.loop-at.invariant.adds).1 in
+    let home : c.number-home.result ≡ c.args.card * c.args.card_words / c.args.table.now.words_per_region =
+    c.number-home.ensures ∙ c.region_of.ensures ∙ ap (λ (n : ℕ). n / c.args.table.now.words_per_region)
+    (c.new.ensures ∙ ap (λ (n : ℕ). n * c.args.card_words) c.number.ensures) in
+    ap (λ (n : ℕ). c.args.card / n) same ∙ region_of_first c.args.table.now.words_per_region c.args.card_words
+    c.args.sets.now.cards_per_region c.args.card c.law.ensures.positive c.requires.stands.fit.whole_cards ∙ sym home
 
 pub overflow_add-word : goal.overflow_add-word
 overflow_add-word c =
