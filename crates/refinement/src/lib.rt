@@ -18,8 +18,8 @@
 //! ```
 //!
 //! `scan` looks at the tiles of one card, from the one that holds its first word on, `links` passes over nil fields, `refine`
-//! takes a card from the queue and scans it, and `laws` says what keeps the fields remembered as the heap changes. Nothing but what crossing fields
-//! ask for is entered: dead objects are skipped. No call takes memory or fails.
+//! takes a card from the queue and scans it, and `laws` says what keeps the fields remembered as the heap changes. Nothing but
+//! what crossing fields ask for is entered: dead objects are skipped. No call takes memory or fails.
 #![tactic(auto)]
 
 pub mod laws;
