@@ -112,6 +112,14 @@ IsNoted l noted at (Some c) = (c / l.words ≡ at / l.words) ⊎ (flag noted (at
 abbrev pub IsSettled : Layout → List Bool → ℕ → Option ℕ → Type 0
 IsSettled l noted at w = IsClean l w × IsNoted l noted at w
 
+-- the word's card is noted where the word's target lies in another region, and no other card is that wasn't
+pub record NotesWord (l : Layout) (noted noted' : List Bool) (word target : ℕ) : Type 0 where
+  pub is_noted : IsNoted l noted' word (Some target)
+  pub grows : (c : ℕ) → flag noted c ≡ true → flag noted' c ≡ true
+  pub count : length noted' ≡ length noted
+  pub only : (c : ℕ) → flag noted' c ≡ true
+      → (flag noted c ≡ true) ⊎ ((c ≡ word / l.card_words) × (target / l.words ≢ word / l.words))
+
 -- a word that named the set, and is settled now
 pub record IsUpdated (l : Layout) (noted : List Bool) (at : ℕ) (was is : Option ℕ) : Type 0 where
   pub target : ℕ

@@ -1,12 +1,13 @@
 //! One word that is updated: what it names is copied, unless it was before.
 
-ghost use Rattle.std.specs.Prelude.{◌≡◌, ◌≢◌, ◌⊎◌, ◌*◌, ◌/◌, ◌<◌, ℕ, Bool, true, false, List, Some, length, slice_get};
+ghost use Rattle.std.specs.Prelude.{◌≡◌, ◌*◌, ◌/◌, ◌<◌, ℕ, Bool, true, false, List, Some, length, slice_get};
 ghost use Rattle.heap_model.specs.Heap.{Stored};
 ghost use Rattle.regions.specs.Table.{fields_at, tile_in, moved_to};
-ghost use Rattle.evacuation.specs.Space.{flag, IsField, IsNamed, IsNewWord, IsNoted, IsFieldClean, IsFieldSettled, IsTaken};
+ghost use Rattle.refinement.specs.Remembering.{field_word};
+ghost use Rattle.evacuation.specs.Space.{IsField, IsNamed, IsNewWord, IsFieldClean, IsFieldSettled, IsTaken, NotesWord};
 ghost use Rattle.evacuation.specs.Turns.{Pause, IsPause, IsTurn, After, EachCard, in_set, layout, plan, space, kept_now};
 
-use heap_words::addr::{Addr, Ptr};
+use heap_words::addr::{Addr, Ptr, RegionNo};
 use heap_words::bounded::BoundedBits;
 use heap_words::powers::quotient;
 use object_copy::{Destinations, copy};
@@ -27,7 +28,9 @@ pub(crate) fn is_inside(table: &RegionTable, set: &[bool], at: Addr) -> bool
     }
 }
 
-/// The new place of a reached object of the set, which is copied unless it is forwarded already.
+/// The new place of a reached object of the set, which is copied unless it is forwarded already. It is part of its callers, so that an
+/// object that is costs no call.
+#[inline(always)]
 pub(crate) fn new_place(
     table: &mut RegionTable,
     destinations: &mut Destinations,
@@ -83,11 +86,7 @@ fn note(table: &RegionTable, noted: &mut BoundedBits, card_words: u32, word: u32
     requires card { card_words ≡ pause.card_words }
     requires each_card { EachCard pause noted.old }
     requires within { word < length pause.start.regions * pause.start.words_per_region }
-    ensures noted { IsNoted (layout pause) noted.new word (Some target) }
-    ensures grows { (c : ℕ) → flag noted.old c ≡ true → flag noted.new c ≡ true }
-    ensures only { (c : ℕ) → flag noted.new c ≡ true
-        → (flag noted.old c ≡ true)
-        ⊎ ((c ≡ word / pause.card_words) × (target / pause.start.words_per_region ≢ word / pause.start.words_per_region)) }
+    ensures notes { NotesWord (layout pause) noted.old noted.new word target }
     ensures each_card { EachCard pause noted.new }
 {
     if table.leads_out(word, target) {
@@ -95,44 +94,58 @@ fn note(table: &RegionTable, noted: &mut BoundedBits, card_words: u32, word: u32
     }
 }
 
-/// A field that names an object of the set names its new place, and its card is noted if that lies in another region.
+/// The same for a word of a card that is known, as its region is, `home`.
+fn note_card(table: &RegionTable, noted: &mut BoundedBits, card: u32, home: RegionNo, target: Addr)
+    ghost pause: { Pause }
+    requires words { table.now.words_per_region ≡ pause.start.words_per_region }
+    requires each_card { EachCard pause noted.old }
+    requires known { card < length pause.start.regions * pause.cards_per_region }
+    ensures notes { (word : ℕ) → word / pause.card_words ≡ card → word / pause.start.words_per_region ≡ home
+        → NotesWord (layout pause) noted.old noted.new word target }
+    ensures each_card { EachCard pause noted.new }
+{
+    if table.region_of(target).number() != home.number() {
+        noted.set(card);
+    }
+}
+
+/// A field that names an object of the set names its new place, which is the answer. Its card is to be noted if that lies in another
+/// region.
 fn redirect(
     table: &mut RegionTable,
     destinations: &mut Destinations,
-    noted: &mut BoundedBits,
-    card_words: u32,
     at: Addr,
     field: u32,
     target: Addr,
-)
+) -> Addr
     ghost pause: { Pause }
     requires premises { IsPause pause }
     requires turn { IsTurn pause table.old destinations.old }
-    requires card { card_words ≡ pause.card_words }
-    requires each_card { EachCard pause noted.old }
     requires outside { in_set pause at ≡ false }
     requires field { IsField (space pause table.old) at field }
     requires names { slice_get (fields_at table.old at) field ≡ Some (Some target) }
     requires inside { in_set pause target ≡ true }
     ensures turn { IsTurn pause table.new destinations.new }
-    ensures after { After pause noted.old noted.new table.old table.new destinations.old destinations.new }
-    ensures each_card { EachCard pause noted.new }
-    ensures settled { IsFieldSettled (layout pause) noted.new (space pause table.new) at field }
+    ensures after { (noted noted' : List Bool) → NotesWord (layout pause) noted noted' (field_word at field) result
+        → After pause noted noted' table.old table.new destinations.old destinations.new }
+    ensures settled { (noted noted' : List Bool) → NotesWord (layout pause) noted noted' (field_word at field) result
+        → IsFieldSettled (layout pause) noted' (space pause table.new) at field }
 {
     let to = new_place(table, destinations, target);
     table.law();
     table.set_field(at, field, Some(to));
-    note(table, noted, card_words, at.field(field) as u32, to);
+    to
 }
 
 /// A field of an object outside the set names the new place of its target, and its card is noted if it leads into another
-/// region then. A field that names nothing of the set stays as it is.
+/// region than `home`, the card's own. A field that names nothing of the set stays as it is.
 pub(crate) fn update_field(
     table: &mut RegionTable,
     destinations: &mut Destinations,
     set: &[bool],
     noted: &mut BoundedBits,
-    card_words: u32,
+    card: u32,
+    home: RegionNo,
     at: Addr,
     field: u32,
 )
@@ -140,8 +153,10 @@ pub(crate) fn update_field(
     requires premises { IsPause pause }
     requires turn { IsTurn pause table.old destinations.old }
     requires flags { set.now ≡ pause.chosen }
-    requires card { card_words ≡ pause.card_words }
     requires each_card { EachCard pause noted.old }
+    requires known { card < length pause.start.regions * pause.cards_per_region }
+    requires in_card { field_word at field / pause.card_words ≡ card }
+    requires home { field_word at field / pause.start.words_per_region ≡ home }
     requires outside { in_set pause at ≡ false }
     requires field { IsField (space pause table.old) at field }
     ensures turn { IsTurn pause table.new destinations.new }
@@ -155,7 +170,8 @@ pub(crate) fn update_field(
     if !is_inside(table, set, target) {
         return;
     }
-    redirect(table, destinations, noted, card_words, at, field, target);
+    let to = redirect(table, destinations, at, field, target);
+    note_card(table, noted, card, home, to);
 }
 
 /// A copied field names the new place of its target, and its card is noted if it leads into another region. Its word is read once.
@@ -186,9 +202,11 @@ pub(crate) fn settle_field(
     let Some(target) = table.get_field(at, field) else {
         return;
     };
+    let word = at.field(field) as u32;
     if is_inside(table, set, target) {
-        redirect(table, destinations, noted, card_words, at, field, target);
+        let to = redirect(table, destinations, at, field, target);
+        note(table, noted, card_words, word, to);
         return;
     }
-    note(table, noted, card_words, at.field(field) as u32, target);
+    note(table, noted, card_words, word, target);
 }

@@ -6,22 +6,22 @@
 
 ghost use Rattle.std.specs.Prelude.{◌≡◌, ◌<◌, ◌+◌, ◌*◌, ◌/◌, ℕ, Bool, List, Some, IsSome, false, length};
 ghost use Rattle.regions.specs.Table.{tile_in};
-ghost use Rattle.regions.specs.Walks.{IsHolder};
+ghost use Rattle.regions.specs.Walks.{IsHolder, IsPlacedTile};
 ghost use Rattle.refinement.specs.Remembering.{field_word};
 ghost use Rattle.evacuation.specs.Space.{IsFieldClean, IsObject, IsVisited, AreClean};
 ghost use Rattle.evacuation.specs.Turns.{Pause, IsPause, IsTurn, After, EachCard, in_set, layout, plan, space};
 ghost use Rattle.evacuation.specs.Cursors.{AreCardsFieldsClean, IsCardClean};
 
 use crate::fields::{is_inside, update_field};
-use heap_words::addr::Addr;
+use heap_words::addr::{Addr, RegionNo};
 use heap_words::bounded::BoundedBits;
 use mark_bitmap::marks::Marks;
 use mark_bitmap::tams::Tams;
 use object_copy::Destinations;
-use refinement::is_kept;
-use regions::RegionTable;
+use refinement::{is_kept, next_link};
+use regions::{RegionTable, Shape};
 
-/// Each field of an object that lies in a card names the new place of its target.
+/// Each field of an object that lies in a card names the new place of its target. `home` is the card's region.
 fn update_object(
     table: &mut RegionTable,
     destinations: &mut Destinations,
@@ -29,6 +29,7 @@ fn update_object(
     noted: &mut BoundedBits,
     card_words: u32,
     card: u32,
+    home: RegionNo,
     at: Addr,
 )
     ghost pause: { Pause }
@@ -38,6 +39,7 @@ fn update_object(
     requires card { card_words ≡ pause.card_words }
     requires each_card { EachCard pause noted.old }
     requires known { card < length pause.start.regions * pause.cards_per_region }
+    requires home { card / pause.cards_per_region ≡ home }
     requires outside { in_set pause at ≡ false }
     requires object { IsObject (space pause table.old) at }
     ensures turn { IsTurn pause table.new destinations.new }
@@ -52,12 +54,52 @@ fn update_object(
     let count = table.field_count(at);
     let start = from.saturating_sub(first);
     let end = to.saturating_sub(first).min(count);
-    for field in start..end {
-        update_field(table, destinations, set, noted, card_words, at, field);
+    let mut field = next_link(table, at, start, end);
+    'fields: while field < end {
+        update_field(table, destinations, set, noted, card, home, at, field);
+        field = next_link(table, at, field + 1, end);
     }
 }
 
-/// The fields of one card, from the tile on that holds its first word.
+/// The fields of one tile that lie in a card, if the tile is a kept object.
+fn update_tile(
+    table: &mut RegionTable,
+    destinations: &mut Destinations,
+    set: &[bool],
+    noted: &mut BoundedBits,
+    card_words: u32,
+    tams: &Tams,
+    marks: &Marks,
+    card: u32,
+    home: RegionNo,
+    at: Addr,
+    shape: Shape,
+)
+    ghost pause: { Pause }
+    requires premises { IsPause pause }
+    requires turn { IsTurn pause table.old destinations.old }
+    requires flags { set.now ≡ pause.chosen }
+    requires card { card_words ≡ pause.card_words }
+    requires each_card { EachCard pause noted.old }
+    requires tams { tams.now ≡ pause.tams }
+    requires marks { marks.now ≡ pause.previous }
+    requires known { card < length pause.start.regions * pause.cards_per_region }
+    requires home { card / pause.cards_per_region ≡ home }
+    requires outside { in_set pause at ≡ false }
+    requires tile { IsPlacedTile table.old at shape }
+    ensures turn { IsTurn pause table.new destinations.new }
+    ensures after { After pause noted.old noted.new table.old table.new destinations.old destinations.new }
+    ensures each_card { EachCard pause noted.new }
+    ensures tile { IsSome (tile_in table.new at) }
+    ensures clean { (visited : List Bool) (i : ℕ) → IsVisited (layout pause) (plan pause) visited at i
+        → field_word at i / pause.card_words ≡ card → IsFieldClean (layout pause) (space pause table.new) at i }
+{
+    if is_kept(table, tams, marks, at, shape) {
+        update_object(table, destinations, set, noted, card_words, card, home, at);
+    }
+}
+
+/// The fields of one card, from the tile on that holds its first word and starts in a region outside the set.
 fn update_tiles(
     table: &mut RegionTable,
     destinations: &mut Destinations,
@@ -67,6 +109,7 @@ fn update_tiles(
     tams: &Tams,
     marks: &Marks,
     card: u32,
+    home: RegionNo,
     first: Addr,
 )
     ghost pause: { Pause }
@@ -78,6 +121,8 @@ fn update_tiles(
     requires tams { tams.now ≡ pause.tams }
     requires marks { marks.now ≡ pause.previous }
     requires known { card < length pause.start.regions * pause.cards_per_region }
+    requires home { card / pause.cards_per_region ≡ home }
+    requires outside { in_set pause first ≡ false }
     requires holder { IsHolder table.old first (card * card_words) }
     ensures turn { IsTurn pause table.new destinations.new }
     ensures after { After pause noted.old noted.new table.old table.new destinations.old destinations.new }
@@ -88,9 +133,9 @@ fn update_tiles(
     let end = card * card_words + card_words;
     let mut at = first;
     'tiles: loop {
-        if at.word() >= end {
-            break 'tiles;
-        }
+        table.law();
+        let shape = table.tile(at);
+        let past = at.word() + shape.size();
         update_tile(
             table,
             destinations,
@@ -100,8 +145,13 @@ fn update_tiles(
             tams,
             marks,
             card,
+            home,
             at,
+            shape,
         );
+        if past >= end {
+            break 'tiles;
+        }
         let Some(next) = table.next_tile(at) else {
             break 'tiles;
         };
@@ -109,7 +159,8 @@ fn update_tiles(
     }
 }
 
-/// The fields of one card. A card of a region of the set has none of an object outside, so none of its tiles is looked at.
+/// The fields of one card. Where the tile of its first word starts in a region of the set, the card has no field of an object outside,
+/// and none of its tiles is looked at.
 fn update_card(
     table: &mut RegionTable,
     destinations: &mut Destinations,
@@ -136,61 +187,25 @@ fn update_card(
 {
     table.law();
     let bottom = Addr::new(card * card_words);
-    if is_inside(table, set, bottom) {
+    let Some(first) = table.first_tile(bottom) else {
+        return;
+    };
+    if is_inside(table, set, first) {
         return;
     }
-    if let Some(first) = table.first_tile(bottom) {
-        update_tiles(
-            table,
-            destinations,
-            set,
-            noted,
-            card_words,
-            tams,
-            marks,
-            card,
-            first,
-        );
-    }
-}
-
-/// The fields of one tile that lie in a card, if the tile is a kept object outside the set.
-fn update_tile(
-    table: &mut RegionTable,
-    destinations: &mut Destinations,
-    set: &[bool],
-    noted: &mut BoundedBits,
-    card_words: u32,
-    tams: &Tams,
-    marks: &Marks,
-    card: u32,
-    at: Addr,
-)
-    ghost pause: { Pause }
-    requires premises { IsPause pause }
-    requires turn { IsTurn pause table.old destinations.old }
-    requires flags { set.now ≡ pause.chosen }
-    requires card { card_words ≡ pause.card_words }
-    requires each_card { EachCard pause noted.old }
-    requires tams { tams.now ≡ pause.tams }
-    requires marks { marks.now ≡ pause.previous }
-    requires known { card < length pause.start.regions * pause.cards_per_region }
-    requires tile { IsSome (tile_in table.old at) }
-    ensures turn { IsTurn pause table.new destinations.new }
-    ensures after { After pause noted.old noted.new table.old table.new destinations.old destinations.new }
-    ensures each_card { EachCard pause noted.new }
-    ensures tile { IsSome (tile_in table.new at) }
-    ensures clean { (visited : List Bool) (i : ℕ) → IsVisited (layout pause) (plan pause) visited at i
-        → field_word at i / pause.card_words ≡ card → IsFieldClean (layout pause) (space pause table.new) at i }
-{
-    table.law();
-    let shape = table.tile(at);
-    if is_inside(table, set, at) {
-        return;
-    }
-    if is_kept(table, tams, marks, at, shape) {
-        update_object(table, destinations, set, noted, card_words, card, at);
-    }
+    let home = table.region_of(bottom);
+    update_tiles(
+        table,
+        destinations,
+        set,
+        noted,
+        card_words,
+        tams,
+        marks,
+        card,
+        home,
+        first,
+    );
 }
 
 /// The fields of all cards that are to be visited, by rising number.

@@ -53,12 +53,36 @@ partly_next t kept len card at start field next old mid new same inside count kn
       ];
     }
 
+-- nil fields lead nowhere
+pub partly_nil : (t : Table) (kept : ℕ → Option Stored) (len card at start field next : ℕ) (old new : Sets) → kept at ≡ object_at t at
+    → ((i : ℕ) → field ≤ i → i < next → slice_get (fields_at t at) i ≡ Some None)
+    → IsPartly t.words_per_region kept len card at start field old new → IsPartly t.words_per_region kept len card at start next old new
+partly_nil t kept len card at start field next old new same nil p = record {
+  adds = p.adds;
+  done = λ i v l h x. elim (cases_lt i field) [
+    | inl lt ↦ p.done i v l lt x
+    | inr ge ↦ absurd (
+        let none = nil i ge h in
+        let pointers = fields_of t at x.object (sym same ∙ x.kept_is) in
+        let some : slice_get (fields_at t at) i ≡ Some (Some v) = ap (λ (l : List (Option ℕ)). slice_get l i) pointers ∙ x.field_is in
+        let both : Some None ≡ Some (Some v) = sym none ∙ some in
+        cc)
+  ];
+}
+
 -- the region of a word's card is the word's
 pub region_of_card : (words len cards w : ℕ) → 0 < words → words ≡ cards * len → w / len / cards ≡ w / words
 region_of_card words len cards w z e =
     let some : 0 < len = card_has_words len words cards z e in
     sym (mul-div-mul_right (w / len) cards some) ∙ ap (λ (n : ℕ). w / len * len / n) (sym e)
     ∙ sym (card_region w len words cards (w / len) z e refl)
+
+-- the region of a card's first word is the card's
+pub region_of_first : (words len cards card : ℕ) → 0 < words → words ≡ cards * len → card / cards ≡ card * len / words
+region_of_first words len cards card z e =
+    let some = card_has_words len words cards z e in
+    ap (λ (n : ℕ). n / cards) (sym (div_is (card * len) len card (omega arith) (omega arith)))
+    ∙ region_of_card words len cards (card * len) z e
 
 -- the fields from start up to end are those in the card
 pub record AreInCard (len card at count start end : ℕ) : Type 0 where

@@ -1,9 +1,10 @@
 -- What is covered as a scan goes over the tiles of a card.
-use Rattle.std.proofs.Common.{◌≡◌, ◌⊎◌, ◌+◌, ◌*◌, ◌/◌, ◌%◌, ◌<◌, ◌≤◌, ◌∷◌}
+use Rattle.std.proofs.Common.{◌≡◌, ◌⊎◌, ◌+◌, ◌*◌, ◌/◌, ◌%◌, ◌<◌, ◌≤◌, ◌∷◌, ◌∙◌}
 use Rattle.std.proofs.Common.{inl, inr, ℕ, Bool, true, Option, Some, None, List, [], ⊎_elim, refl, sym, ap, subst, arith}
 use Rattle.heap_model.specs.Heap.{Stored}
 use Rattle.heap_words.specs.declared.addr.Addr.{Addr}
-use Rattle.regions.specs.Tiles.{Tile}
+use Rattle.regions.specs.Tiles.{Tile, tile_size}
+use Rattle.regions.specs.Shapes.{size_of_shape, tile_shape}
 use Rattle.regions.specs.Table.{Table, tile_in, object_at, tile_object, top_of}
 use Rattle.regions.specs.Walks.{walk_rest, IsAmong, ArePlaced, IsPlacedTile, IsHolder}
 use Rattle.regions.specs.Shaped.{IsShaped}
@@ -12,7 +13,8 @@ use Rattle.regions.proofs.Walks.WalkTiles.{onward_placed, onward_among}
 use Rattle.refinement.specs.Remembering.{field_word, field_card, IsCovered}
 use Rattle.refinement.specs.Refining.{IsObjectCovered, AreObjectsCovered}
 use Rattle.regions.proofs.Words.Divides.{card_region, card_has_words, div_low, div_high}
-use Rattle.regions.proofs.Tiles.Holders.{holder_onward, holder_below}
+use Rattle.regions.proofs.Tiles.Holders.{holder_onward, holder_below, one_holder}
+use Rattle.regions.proofs.Walks.WalkMade.{shape_size_is}
 use Rattle.refinement.proofs.Holders.{Stands, field_holder}
 
 -- nothing is covered less once more is covered
@@ -34,6 +36,9 @@ no_object t kept a stands e = go (kept a) refl
     go (Some s) f = absurd (let k : tile_object (tile_in t a) ≡ Some s = stands a s f in
         let q : tile_object (tile_in t a) ≡ None = ap tile_object e in
         cc)
+
+pub tile_words : (shape : Shape) (u : Tile) (n : ℕ) → shape ≡ tile_shape u → n ≡ size_of_shape shape → n ≡ tile_size u
+tile_words shape u n e f = f ∙ ap size_of_shape e ∙ shape_size_is u
 
 -- each object from the first tile of the scan on, in its region, is done or left
 pub record IsTurn (t : Table) (kept : ℕ → Option Stored) (len card first : ℕ) (covered : ℕ → ℕ → Bool)
@@ -93,6 +98,24 @@ module _ (t : Table) (g : IsShaped t) (kept : ℕ → Option Stored) (stands : S
       ⊎_elim (λ p. p) (λ p. covered_behind covered a z
       (⊎_elim (λ q. omega arith) (λ q. let m = placed.1 a q in omega (arith, m)) (subst (λ (l : List (Addr × Shape)). IsAmong a l) e p)))
       (h.done a l d)
+
+  -- a tile that reaches the card's end is the last with a word of the card
+  pub turn_over : (old new : ℕ → ℕ → Bool) (left rest : List (Addr × Shape)) (x : Addr) (shape : Shape) (size : ℕ) → 0 < len → Turn old left
+      → left ≡ (x, shape) ∷ rest → ((r c : ℕ) → old r c ≡ true → new r c ≡ true)
+      → IsObjectCovered t.words_per_region kept len card new x → size ≡ size_of_shape shape → card * len + len ≤ x + size → AreDone new
+  turn_over old new left rest x shape size z h e grows here is over a l d =
+      let placed : ArePlaced t ((x, shape) ∷ rest) = subst (λ (l : List (Addr × Shape)). ArePlaced t l) e h.placed_are in
+      let tile = placed.0 in
+      let words = tile_words shape tile.tile size tile.shape_is is in
+      ⊎_elim (λ p. p) (λ p. record {
+        each = λ i v c y.
+            let low = placed.1 a p in
+            let high = div_high (field_word a i) len card z y in
+            let holder : IsHolder t x (field_word a i) =
+            record { tile = tile.tile; tile_is = tile.tile_is; low = omega arith; high = omega (arith, high, words) } in
+            let same = one_holder t x a (field_word a i) g holder (field_holder t kept a i v stands c) in
+            (subst (λ (n : ℕ). IsObjectCovered t.words_per_region kept len card new n) same here).each i v c y;
+      }) ((turn_next old new left rest x shape h e grows here).done a l d)
 
   pub turn_last : (covered : ℕ → ℕ → Bool) (left : List (Addr × Shape)) → Turn covered left → left ≡ [] → AreDone covered
   turn_last covered left h e a l d = ⊎_elim (λ p. p) (λ p. absurd (subst (λ (l : List (Addr × Shape)). IsAmong a l) e p)) (h.done a l d)

@@ -17,15 +17,17 @@
 //!              card 0; b is dead, so h isn't entered
 //! ```
 //!
-//! `scan` looks at the tiles of one card, from the one that holds its first word on, `refine` takes a card from the queue
-//! and scans it, and `laws` says what keeps the fields remembered as the heap changes. Nothing but what crossing fields
-//! ask for is entered: dead objects are skipped. No call takes memory or fails.
+//! `scan` looks at the tiles of one card, from the one that holds its first word on, `links` passes over nil fields, `refine`
+//! takes a card from the queue and scans it, and `laws` says what keeps the fields remembered as the heap changes. Nothing but
+//! what crossing fields ask for is entered: dead objects are skipped. No call takes memory or fails.
 #![tactic(auto)]
 
 pub mod laws;
+pub mod links;
 pub mod refine;
 pub mod scan;
 
+pub use links::next_link;
 pub use refine::refine_one;
 pub use scan::{is_kept, scan_card};
 

@@ -18,9 +18,11 @@ ghost use Rattle.regions.specs.Walks.{IsHolder, IsPlacedTile};
 ghost use Rattle.mark_bitmap.specs.Kept.{kept_in};
 ghost use Rattle.remembered_sets.specs.Sets.{card_count, covers, may_lead};
 ghost use Rattle.refinement.specs.Remembering.{field_word, Gains, IsCovered};
-ghost use Rattle.refinement.specs.Refining.{with_field, AddsCard, AreObjectsCovered, CanScan, IsScanned, FieldsInside, SetsFit};
+ghost use Rattle.refinement.specs.Refining.{with_field, AddsCard, AreObjectsCovered, CanScan, FieldsInside, IsObjectCovered, IsScanned};
+ghost use Rattle.refinement.specs.Refining.{SetsFit};
 
-use heap_words::addr::{Addr, Card};
+use crate::links::next_link;
+use heap_words::addr::{Addr, Card, RegionNo};
 use mark_bitmap::marks::Marks;
 use mark_bitmap::tams::Tams;
 use regions::{RegionTable, Shape};
@@ -44,72 +46,65 @@ pub fn is_kept(table: &RegionTable, tams: &Tams, marks: &Marks, at: Addr, shape:
     }
 }
 
-/// Whether the region that the card was added to last is this one.
-#[inline(always)]
-fn is_last(last: Option<u32>, region: u32) -> bool
-    ensures { result ≡ true → last ≡ Some region }
-{
-    match last {
-        Some(found) => found == region,
-        None => false,
-    }
-}
-
-/// Adds the card to the set of the region that a field leads into, if its word lies in another one. `last` is a region whose set has the
-/// card, so that fields in turn that lead into one region cost one look at its set; the result is such a region too.
+/// Adds the card to the set of the region that a field leads into, if that isn't `home`, the region of the field's word. `last` is a
+/// region that needs no look: `home`, or one whose set has the card. So fields in turn that lead into one region cost one look at
+/// its set; the result is such a region too.
 fn scan_field(
     table: &RegionTable,
     sets: &mut RememberedSets,
     card: Card,
     object: Addr,
     field: u32,
-    last: Option<u32>,
-) -> Option<u32>
+    home: u32,
+    last: u32,
+) -> u32
     requires field { field < length (fields_at table.now object) }
     requires inside { FieldsInside table.now object }
     requires regions { length sets.old.sets ≡ length table.now.regions }
     requires card { card < card_count sets.old }
-    requires last { (region : ℕ) → last ≡ Some region → may_lead sets.old region card ≡ true }
+    requires home { field_word object field / table.now.words_per_region ≡ home }
+    requires source { card / sets.old.cards_per_region ≡ home }
+    requires last { last ≢ home → may_lead sets.old last card ≡ true }
     ensures after { (target : Option ℕ) → slice_get (fields_at table.now object) field ≡ Some target
         → sets.new ≡ with_field table.now.words_per_region card (field_word object field) target sets.old }
     ensures covered { (target : ℕ) → slice_get (fields_at table.now object) field ≡ Some (Some target)
         → target / table.now.words_per_region ≢ field_word object field / table.now.words_per_region
         → may_lead sets.new (target / table.now.words_per_region) card ≡ true }
-    ensures last { (region : ℕ) → result ≡ Some region → may_lead sets.new region card ≡ true }
+    ensures last { result ≢ home → may_lead sets.new result card ≡ true }
 {
-    table.law();
-    let home = object.field(field) as u32;
     let Some(target) = table.get_field(object, field) else {
         return last;
     };
-    if !table.leads_out(home, target) {
-        return last;
-    }
     let region = table.region_of(target);
-    if is_last(last, region.number()) {
+    if region.number() == home {
         return last;
     }
-    sets.add(region, card);
-    Some(region.number())
+    if region.number() == last {
+        return last;
+    }
+    sets.add_from(RegionNo::new(home), region, card);
+    region.number()
 }
 
-/// Adds the card for the fields of an object that lie in it.
+/// Adds the card for the fields of an object that lie in it. `home` is the card's region.
 fn scan_object(
     table: &RegionTable,
     sets: &mut RememberedSets,
     card_words: u32,
     card: Card,
     object: Addr,
-    before: Option<u32>,
-) -> Option<u32>
+    home: u32,
+    before: u32,
+) -> u32
     requires object { IsSome (object_at table.now object) }
     requires inside { FieldsInside table.now object }
     requires fit { SetsFit table.now card_words sets.old }
     requires card { card < card_count sets.old }
-    requires last { (region : ℕ) → before ≡ Some region → may_lead sets.old region card ≡ true }
+    requires home { card / sets.old.cards_per_region ≡ home }
+    requires last { before ≢ home → may_lead sets.old before card ≡ true }
     ensures scanned { (kept : ℕ → Option Stored) → kept object ≡ object_at table.now object
         → IsScanned table.now.words_per_region kept card_words card object sets.old sets.new }
-    ensures last { (region : ℕ) → result ≡ Some region → may_lead sets.new region card ≡ true }
+    ensures last { result ≢ home → may_lead sets.new result card ≡ true }
 {
     table.law();
     let first = object.word() + 2;
@@ -119,10 +114,41 @@ fn scan_object(
     let start = from.saturating_sub(first);
     let end = to.saturating_sub(first).min(count);
     let mut last = before;
-    for field in start..end {
-        last = scan_field(table, sets, card, object, field, last);
+    let mut field = next_link(table, object, start, end);
+    'fields: while field < end {
+        last = scan_field(table, sets, card, object, field, home, last);
+        field = next_link(table, object, field + 1, end);
     }
     last
+}
+
+/// Adds the card for the fields of one tile that lie in it, if the tile is a kept object. `home` is the card's region.
+fn scan_tile(
+    table: &RegionTable,
+    tams: &Tams,
+    marks: &Marks,
+    sets: &mut RememberedSets,
+    card_words: u32,
+    card: Card,
+    at: Addr,
+    shape: Shape,
+    home: u32,
+    before: u32,
+) -> u32
+    requires stands { CanScan table.now tams.now marks.now card_words sets.old }
+    requires card { card < card_count sets.old }
+    requires tile { IsPlacedTile table.now at shape }
+    requires home { card / sets.old.cards_per_region ≡ home }
+    requires last { before ≢ home → may_lead sets.old before card ≡ true }
+    ensures adds { AddsCard table.now.words_per_region (kept_in table.now tams.now marks.now) card_words card sets.old sets.new }
+    ensures covered { IsObjectCovered table.now.words_per_region (kept_in table.now tams.now marks.now) card_words card
+        (may_lead sets.new) at }
+    ensures last { result ≢ home → may_lead sets.new result card ≡ true }
+{
+    if is_kept(table, tams, marks, at, shape) {
+        return scan_object(table, sets, card_words, card, at, home, before);
+    }
+    before
 }
 
 /// Adds the card for the fields of kept objects that lie in it, over the tiles of a region from the one on that holds the
@@ -144,16 +170,21 @@ fn scan_tiles(
     ensures covered { AreObjectsCovered table.now (kept_in table.now tams.now marks.now) card_words card (may_lead sets.new) first }
 {
     table.law();
-    let end = card.number() * card_words + card_words;
+    let from = card.number() * card_words;
+    let end = from + card_words;
+    let home = table.region_of(Addr::new(from)).number();
     let mut looked = 0;
-    let mut last = None;
+    let mut last = home;
     for (at, shape) in table.walk_from(first) {
         if at.word() >= end {
             return looked;
         }
         looked += 1;
-        if is_kept(table, tams, marks, at, shape) {
-            last = scan_object(table, sets, card_words, card, at, last);
+        last = scan_tile(
+            table, tams, marks, sets, card_words, card, at, shape, home, last,
+        );
+        if at.word() + shape.size() >= end {
+            return looked;
         }
     }
     looked

@@ -13,7 +13,7 @@ ghost use Rattle.remembered_sets.specs.Sets.{card_count};
 ghost use Rattle.refinement.specs.Refining.{CanScan};
 ghost use Rattle.refinement.specs.Samples.{IsSample};
 
-use crate::{refine_one, scan_card};
+use crate::{next_link, refine_one, scan_card};
 use cards::CardTable;
 use heap_words::addr::{Addr, Card, RegionNo};
 use heap_words::config::{Config, Format};
@@ -95,6 +95,25 @@ fn link(table: &mut RegionTable, from: u32, field: u32, to: u32)
     };
     if field < table.field_count(at) {
         table.set_field(at, field, Some(Addr::new(to)));
+    }
+}
+
+/// The first field that isn't nil of the object that holds a word, from one on and below another, if the object has so many.
+fn first_link(table: &RegionTable, word: u32, start: u32, end: u32) -> Option<u32>
+    requires word { word < 64 }
+    requires sample { IsSample table.now }
+{
+    table.law();
+    let Some(at) = table.first_tile(Addr::new(word)) else {
+        return None;
+    };
+    let Shape::Object { .. } = table.tile(at) else {
+        return None;
+    };
+    if end <= table.field_count(at) {
+        Some(next_link(table, at, start, end))
+    } else {
+        None
     }
 }
 
@@ -360,6 +379,29 @@ fn scans_a_run(rt: HostRuntime) -> Result<(), Fail> {
     assert_eq!(rt; scan(&mut sample, 1), (0, 0, 1));
     assert_eq!(rt; scan(&mut sample, 2), (4, 0, 1));
     assert_eq!(rt; scan(&mut sample, 3), (12, 0, 1));
+    Ok(())
+}
+
+/// B's first field is nil, and the two others lead out. Below the end there may be none, and the end may come first.
+#[test]
+fn finds_links(rt: HostRuntime) -> Result<(), Fail> {
+    let table = five_objects(rt.alloc())?;
+    for (start, end, found) in [
+        (0, 3, 1),
+        (1, 3, 1),
+        (2, 3, 2),
+        (3, 3, 3),
+        (0, 1, 1),
+        (0, 2, 1),
+        (2, 1, 1),
+        (0, 0, 0),
+    ] {
+        assert_eq!(rt;
+            first_link(&table, 4, start, end),
+            Some(found),
+            "{start} {end}"
+        );
+    }
     Ok(())
 }
 

@@ -1,5 +1,5 @@
 //! Walks over a region's tiles, the tile behind another one, and the tile that holds a word.
-ghost use Rattle.std.specs.Prelude.{◌≡◌, ◌↔◌, ◌*◌, ◌/◌, ◌%◌, ◌<◌, length, IsSome, IfSome, IfNone};
+ghost use Rattle.std.specs.Prelude.{◌≡◌, ◌↔◌, ◌*◌, ◌/◌, ◌%◌, ◌<◌, ◌≤◌, ℕ, length, IsSome, IfSome, IfNone};
 ghost use Rattle.std.specs.Iterator.{YieldsFirst, item_count};
 ghost use Rattle.regions.specs.Tiles.{total_size};
 ghost use Rattle.regions.specs.Table.{tile_in, top_of};
@@ -119,6 +119,7 @@ impl RegionTable {
     /// Where the tile that holds a word starts: in a run its object. None where the word is at or above its
     /// region's top. It looks at the tiles from the one on that holds the first word of the word's card, and at none where that is the
     /// word.
+    #[inline(always)]
     pub fn first_tile(&self, word: Addr) -> Option<Addr>
         requires { word < length self.now.regions * self.now.words_per_region }
         ensures found { IsSome result ↔ (word < top_of self.now (word / self.now.words_per_region)) }
@@ -133,6 +134,19 @@ impl RegionTable {
         if word.word() == self.first_tiles.first_word(card) {
             return Some(start);
         }
+        self.search_tile(start, word)
+    }
+
+    /// The same by a search from a tile on that holds a word of the same region at or below this one. It isn't made part of its callers,
+    /// which mostly look for a card's first word.
+    #[inline(never)]
+    fn search_tile(&self, start: Addr, word: Addr) -> Option<Addr>
+        requires { (from : ℕ) × IsHolder self.now start from × (from ≤ word)
+            × (word / self.now.words_per_region ≡ from / self.now.words_per_region) }
+        ensures found { IsSome result ↔ (word < top_of self.now (word / self.now.words_per_region)) }
+        ensures holder { IfSome result (λ a. IsHolder self.now a word) }
+    {
+        self.law();
         for (at, shape) in self.walk_from(start) {
             if word.word() < at.word() + shape.size() {
                 return Some(at);

@@ -86,11 +86,25 @@ impl RememberedSet {
 
     /// Adds a card that lies in the region `source`: inline while there is room, else by a mark for its region. A card
     /// that is covered changes nothing.
+    #[inline(always)]
     pub(crate) fn add(&mut self, card: Card, source: u32)
         requires { source < length self.old.sources }
         ensures { self.new ≡ set_with self.old card source }
     {
-        if self.covers(card, source) {
+        if self.sources.get(source) {
+            return;
+        }
+        self.add_alone(card, source);
+    }
+
+    /// The same where the region `source` isn't marked.
+    #[inline(never)]
+    fn add_alone(&mut self, card: Card, source: u32)
+        requires known { source < length self.old.sources }
+        requires unmarked { slice_index_or self.old.sources source false ≡ false }
+        ensures { self.new ≡ set_with self.old card source }
+    {
+        if self.inline.as_slice().contains(&card.number()) {
             return;
         }
         if self.inline.len() < INLINE {

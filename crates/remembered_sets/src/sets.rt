@@ -138,10 +138,24 @@ impl RememberedSets {
         ensures covered { covers self.new region card ≡ true }
         ensures leads { may_lead self.new region card ≡ true }
     {
-        let source = quotient(card.number(), self.cards_per_region);
-        let set = &mut self.sets[region.number() as usize];
-        set.add(card, source);
+        let source = RegionNo::new(quotient(card.number(), self.cards_per_region));
+        self.add_from(source, region, card);
+    }
+
+    /// The same for a card whose own region, `source`, is known. It is a call, so that what looks at many fields and adds few cards has
+    /// no part of it.
+    #[inline(never)]
+    pub fn add_from(&mut self, source: RegionNo, region: RegionNo, card: Card)
+        requires source { card / self.old.cards_per_region ≡ source }
+        requires region { region < length self.old.sets }
+        requires card { card < card_count self.old }
+        ensures after { self.new ≡ added self.old region card }
+        ensures covered { covers self.new region card ≡ true }
+        ensures leads { may_lead self.new region card ≡ true }
+    {
         self.entered.set(card.number());
+        let set = &mut self.sets[region.number() as usize];
+        set.add(card, source.number());
     }
 
     /// Flags the cards in which a field may lead into the region: those that its set covers and that entered a set. The other flags

@@ -113,6 +113,27 @@ fn marks_cards(rt: HostRuntime) -> Result<(), Fail> {
     Ok(())
 }
 
+/// Of a region that is marked whole the cards that entered a set are flagged row by row: three, one, and one at the region's end.
+#[test]
+fn marks_rows(rt: HostRuntime) -> Result<(), Fail> {
+    let mut sets = filled(rt.alloc())?;
+    let region = RegionNo::new(7);
+    sets.add(region, Card::new(48));
+    sets.add(region, Card::new(49));
+    sets.add(region, Card::new(50));
+    sets.add(region, Card::new(52));
+    sets.add(region, Card::new(63));
+    let mut flags = BoundedBits::new(rt.alloc(), 128)?;
+    assert!(rt; flags.len() == 128);
+    sets.mark_cards(region, &mut flags);
+    assert!(rt; flags.len() == 128);
+    for card in 46..128 {
+        let is_in = card < 51 && card > 47 || card == 52 || card == 63;
+        assert_eq!(rt; flags.get(card), is_in, "{card}");
+    }
+    Ok(())
+}
+
 /// Of a region that two sets mark whole, each is led to by the cards that entered either. Once the region's own set is emptied, none of
 /// them is, though the sets cover them still; what enters anew is.
 #[test]

@@ -1,18 +1,18 @@
 -- The word of a field, and its card.
 use Rattle.heap_words.specs.Configs.{max_words}
-use Rattle.std.proofs.Common.{◌≡◌, ◌+◌, ◌*◌, ◌/◌, ◌<◌, ◌≤◌, ◌∙◌, ◌⊎◌}
-use Rattle.std.proofs.Common.{ℕ, Bool, true, false, List, Option, Some, length, refl, sym, ap, subst, inl, inr, arith}
+use Rattle.std.proofs.Common.{◌≡◌, ◌+◌, ◌*◌, ◌/◌, ◌<◌, ◌≤◌, ◌∙◌, ◌⊎◌, ◌≢◌}
+use Rattle.std.proofs.Common.{ℕ, Bool, true, false, List, Option, Some, None, length, refl, sym, ap, subst, inl, inr, arith}
 use Rattle.std.specs.Prelude.{slice_get, slice_set}
 use Rattle.std.proofs.lemmas.Bool.{cases_eq, cases_lt}
 use Rattle.std.proofs.lemmas.Nat.{mul-le}
-use Rattle.std.proofs.lemmas.List.{get_or-set_same, get_or-set_other, length-append}
+use Rattle.std.proofs.lemmas.List.{get_or-set_same, get_or-set_other, length-append, length-set}
 use Rattle.heap_model.specs.Heap.{Stored, fields}
 use Rattle.regions.specs.Table.{Table, fields_at}
 use Rattle.regions.specs.Shaped.{IsShaped}
 use Rattle.regions.proofs.Words.Divides.{div_low, card_has_words}
 use Rattle.refinement.proofs.Holders.{fields_of, object_within}
-use Rattle.evacuation.specs.Space.{IsField, flag}
-use Rattle.evacuation.specs.Turns.{Pause, IsPause, TableStays, EachCard, kept_now, space}
+use Rattle.evacuation.specs.Space.{Layout, IsClean, IsField, IsFieldClean, IsStill, NotesWord, flag}
+use Rattle.evacuation.specs.Turns.{Pause, IsPause, TableStays, EachCard, kept_now, layout, space}
 use Rattle.evacuation.proofs.Turns.KeptObjects.{kept_object}
 
 pub field_pointer : (p : Pause) (t : Table) (at i : ℕ) → (f : IsField (space p t) at i) → i < length (fields_at t at)
@@ -23,6 +23,17 @@ pub pointer_is : (p : Pause) (t : Table) (at i : ℕ) (y : Stored) (w : Option �
 pointer_is p t at i y w at_is e =
     let q = fields_of t at y (kept_object p t at y at_is) in
     ap (λ (m : List (Option ℕ)). slice_get m i) (sym q) ∙ e
+
+pub still_count : (p : Pause) (t : Table) (at n : ℕ) → IsStill (space p t) at n → length (fields_at t at) ≡ n
+still_count p t at n s =
+    ap (λ (m : List (Option ℕ)). length m) (fields_of t at s.0 (kept_object p t at s.0 s.1)) ∙ s.2
+
+-- a nil field names nothing of the set
+pub nil_clean : (p : Pause) (t : Table) (at i : ℕ) → slice_get (fields_at t at) i ≡ Some None → IsFieldClean (layout p) (space p t) at i
+nil_clean p t at i e y w here f =
+    let k = pointer_is p t at i y None here e in
+    let same : None ≡ w = cc in
+    subst (IsClean (layout p)) same tt
 
 -- a field's word lies in the heap
 pub word_within : (p : Pause) (t : Table) (at i : ℕ) → IsShaped t → TableStays p t → (f : IsField (space p t) at i)
@@ -59,3 +70,25 @@ flag_set noted c d h e = subst (λ (m : ℕ). flag (slice_set noted c true) m �
 
 pub flag_only : (noted : List Bool) (c d : ℕ) → flag (slice_set noted c true) d ≡ true → (flag noted d ≡ true) ⊎ (d ≡ c)
 flag_only noted c d e = elim (cases_eq d c) [ inl q ↦ inr q | inr q ↦ inl (sym (get_or-set_other noted c d true false q) ∙ e) ]
+
+-- a word's card is noted, and no other one
+pub notes_card : (l : Layout) (noted noted' : List Bool) (word target card : ℕ) → card < length noted → card ≡ word / l.card_words
+    → target / l.words ≢ word / l.words → noted' ≡ slice_set noted card true → NotesWord l noted noted' word target
+notes_card l noted noted' word target card known place out is = record {
+  is_noted = inr (ap (λ (m : List Bool). flag m (word / l.card_words)) is ∙ flag_set noted card (word / l.card_words) known place);
+  grows = λ c e. elim (cases_eq c card) [
+    | inl q ↦ ap (λ (m : List Bool). flag m c) is ∙ flag_set noted card c known (sym q)
+    | inr q ↦ ap (λ (m : List Bool). flag m c) is ∙ get_or-set_other noted card c true false q ∙ e
+  ];
+  count = ap (λ (m : List Bool). length m) is ∙ length-set noted card true;
+  only = λ c e. elim (flag_only noted card c (ap (λ (m : List Bool). flag m c) (sym is) ∙ e)) [
+    | inl o ↦ inl o
+    | inr q ↦ inr (q ∙ place, out)
+  ];
+}
+
+-- the word leads to its own region, and no card is noted for it
+pub notes_none : (l : Layout) (noted : List Bool) (word target : ℕ) → target / l.words ≡ word / l.words
+    → NotesWord l noted noted word target
+notes_none l noted word target same =
+    record { is_noted = inl same; grows = λ c e. e; count = refl; only = λ c e. inl e }

@@ -1,19 +1,20 @@
 -- Scans of the fields outside the set, card by card.
 use Rattle.std.proofs.Common.{◌≡◌, ◌+◌, ◌*◌, ◌/◌, ◌<◌, ◌≤◌, ◌∷◌, ◌∙◌}
-use Rattle.std.proofs.Common.{ℕ, Bool, true, false, List, [], Option, Some, length, refl, sym, ap, subst, inl, inr, arith}
-use Rattle.std.specs.Prelude.{IsSome}
+use Rattle.std.proofs.Common.{ℕ, Bool, true, false, List, [], Option, Some, None, length, refl, sym, ap, subst, inl, inr, arith}
+use Rattle.std.specs.Prelude.{IfSome, IsSome}
 use Rattle.std.specs.List.{AllZip}
 use Rattle.std.proofs.lemmas.Bool.{cases_eq, cases_lt}
 use Rattle.std.proofs.lemmas.List.{length-append}
 use Rattle.heap_model.specs.Heap.{Stored, fields}
 use Rattle.heap_model.specs.Evacuation.{IsWord, place_after}
-use Rattle.regions.specs.Tiles.{Object}
-use Rattle.regions.specs.Table.{Table, kind_of, tile_in, top_of}
-use Rattle.regions.specs.declared.row.Kind.TheVariants as kinds
-use Rattle.regions.specs.Walks.{IsHolder}
+use Rattle.regions.specs.Tiles.{Tile, Object, tile_size}
+use Rattle.regions.specs.Table.{Table, tile_in, top_of}
+use Rattle.regions.specs.Shapes.{tile_shape}
+use Rattle.regions.specs.declared.row.Shape.{Shape}
+use Rattle.regions.specs.Walks.{IsHolder, IsPlacedTile}
 use Rattle.regions.specs.Shaped.{IsShaped}
 use Rattle.regions.proofs.Words.Divides.{card_has_words, card_within, card_region, div_low, div_high}
-use Rattle.regions.proofs.Tiles.Holders.{holder_onward, holder_below, holder_start}
+use Rattle.regions.proofs.Tiles.Holders.{holder_onward, holder_below, one_holder}
 use Rattle.object_copy.specs.Copies.{Places}
 use Rattle.object_copy.proofs.Copied.{tile_of_object}
 use Rattle.refinement.specs.Remembering.{field_word}
@@ -86,32 +87,22 @@ module _ (p : Pause) (q : IsPause p) (card : ℕ) where
         none (omega arith)
         )
 
-    -- a card of a region of the set has no word of an object outside: such a region is ordinary, so the tiles of its words start in it
-    pub none_inside : in_set p (card * p.card_words) ≡ true → (visited : List Bool) → IsCardClean p visited t card
-    none_inside inside visited b i v e =
-        let w : ℕ = field_word b i in
-        let s = holder_start t b w g (visited_holder p t d visited b i turn v) in
-        let there : w / t.words_per_region ≡ card * p.card_words / p.start.words_per_region =
-        region w e ∙ ap (λ (n : ℕ). card * p.card_words / n) turn.table.size in
-        let ordinary : kind_of t (w / t.words_per_region) ≡ kinds.Ordinary =
-        ap (kind_of t) there ∙ turn.table.chosen (card * p.card_words / p.start.words_per_region) inside in
-        elim (cases_lt (b / t.words_per_region) (w / t.words_per_region)) [
-          | inl lt ↦
-              absurd (let q : kinds.Ordinary ≡ kinds.Rest = sym ordinary ∙ s.run.rest (w / t.words_per_region) lt (omega arith) in cc)
-          | inr ge ↦ absurd (
-              let below = s.run.below in
-              let same : b / t.words_per_region ≡ w / t.words_per_region = omega arith in
-              let at : b / p.start.words_per_region ≡ card * p.card_words / p.start.words_per_region =
-              ap (λ (n : ℕ). b / n) (sym turn.table.size) ∙ same ∙ there in
-              let q : true ≡ false = sym inside ∙ ap (flag p.chosen) (sym at) ∙ v.outside in cc)
-        ]
-
     -- the objects of the card's visited fields start at the first tile or behind it, in its region
     pub onward : (first : ℕ) → IsHolder t first (card * p.card_words) → (visited : List Bool) (b i : ℕ)
         → IsVisited (layout p) (plan p) visited b i → field_word b i / p.card_words ≡ card
         → (first ≤ b) × (b / t.words_per_region ≡ first / t.words_per_region)
     onward first h visited b i v e = holder_onward t first (card * p.card_words) b (field_word b i) g h
         (visited_holder p t d visited b i turn v) (low (field_word b i) e) (region (field_word b i) e)
+
+    -- where that starts in a region of the set there is none of them
+    pub none_inside : (first : ℕ) → IsHolder t first (card * p.card_words) → in_set p first ≡ true → (visited : List Bool)
+        → IsCardClean p visited t card
+    none_inside first h inside visited b i v e = absurd (
+        let o = (onward first h visited b i v e).1 in
+        let same : b / p.start.words_per_region ≡ first / p.start.words_per_region =
+        subst (λ (n : ℕ). b / n ≡ first / n) turn.table.size o in
+        let q : true ≡ false = sym inside ∙ ap (flag p.chosen) (sym same) ∙ v.outside in
+        cc)
 
   -- one tile after another
   module _ (t t' : Table) (d d' : Places) (noted noted' : List Bool) (turn : IsTurn p t d) (turn' : IsTurn p t' d')
@@ -142,17 +133,27 @@ module _ (p : Pause) (q : IsPause p) (card : ℕ) where
       | inr below ↦ upto b i v e below
     ]
 
+    -- the tile reaches the card's end
+    pub clean_over : IsShaped t → (u : Tile) → tile_in t at ≡ Some u → card * p.card_words + p.card_words ≤ at + tile_size u
+        → IsCardClean p visited t' card
+    clean_over g u is over b i v e = elim (cases_lt at b) [
+      | inl above ↦ absurd (
+          let h = visited_holder p t d visited b i turn v in
+          let l = h.low in
+          let w = high (field_word b i) e in
+          let here : IsHolder t at (field_word b i) =
+          record { tile = u; tile_is = is; low = omega arith; high = omega arith } in
+          let same = one_holder t b at (field_word b i) g h here in
+          omega (arith, same, above))
+      | inr below ↦ upto b i v e below
+    ]
+
     pub clean_last : IsLast t' at → ((b i : ℕ) → IsVisited (layout p) (plan p) visited b i → field_word b i / p.card_words ≡ card
         → b / t'.words_per_region ≡ at / t'.words_per_region) → IsCardClean p visited t' card
     clean_last n same b i v e = elim (cases_lt at b) [
       | inl above ↦ (let (y, is) = tile' b i v in absurd (n b (Object y) above (same b i v e) is))
       | inr below ↦ upto b i v e below
     ]
-
-  -- the cursor is behind the card
-  pub clean_past : (visited : List Bool) (t : Table) (at : ℕ) → card * p.card_words + p.card_words ≤ at
-      → AreCleanBelow p visited t card at → IsCardClean p visited t card
-  clean_past visited t at h done b i v e = let l = high (field_word b i) e in done b i v e (omega arith)
 
 -- ---- card after card
 pub cards_none : (p : Pause) (visited : List Bool) (t : Table) → AreClean (layout p) (plan p) visited (space p t) 0
@@ -189,6 +190,14 @@ object_now p t tams marks at e f s = some_of (kept_in t p.tams p.previous at)
 
 pub object_tile : (p : Pause) (t : Table) (at : ℕ) → IsObject (space p t) at → IsSome (tile_in t at)
 object_tile p t at o = some_tile (tile_in t at) (Object o.0) (tile_of_object t at o.0 (kept_object p t at o.0 o.1))
+
+pub placed_tile : (t : Table) (at : ℕ) (shape : Shape) → IsSome (tile_in t at) → IfSome (tile_in t at) (λ u. shape ≡ tile_shape u)
+    → IsPlacedTile t at shape
+placed_tile t at shape s e = go (tile_in t at) refl s e
+  where
+    go : (o : Option Tile) → tile_in t at ≡ o → IsSome o → IfSome o (λ u. shape ≡ tile_shape u) → IsPlacedTile t at shape
+    go None f x y = cc
+    go (Some u) f x y = record { tile = u; tile_is = f; shape_is = y }
 
 -- regions of the start are those of each table
 pub region_by : (a b m n : ℕ) → m ≡ n → a / n ≡ b / n → a / m ≡ b / m

@@ -2,9 +2,9 @@ use Rattle.std.proofs.Common.{◌≡◌, ◌∙◌, ℕ, sym, ap, refl, subst, a
 use Rattle.regions.specs.Table.{top_of}
 use Rattle.regions.specs.Walks.{IsHolder}
 use Rattle.regions.proofs.Words.Divides.{card_has_words}
+use Rattle.refinement.proofs.Fields.{region_of_first}
 use Rattle.evacuation.proofs.Loops.OutsideCards.{card_small, none_inside, none_there}
 use Rattle.evacuation.proofs.FieldUpdates.FieldCards.{all_small}
-use Rattle.evacuation.specs.Turns.{in_set}
 use Rattle.evacuation.proofs.outside.update_card.Goals as goal
 
 pub overflow_mul-card : goal.overflow_mul-card
@@ -29,7 +29,11 @@ first_tile-requires g c =
 
 pub update_tiles-requires : goal.update_tiles-requires
 update_tiles-requires g c =
-    let (premises, (turn, (flags, (card, (each, (tams, (marks, known))))))) = c.requires in (
+    let (premises, (turn, (flags, (card, (each, (tams, (marks, known))))))) = c.requires in
+    let w : c.new-bottom.result ≡ c.args.card * g.pause.card_words = c.new-bottom.ensures ∙ ap (λ (n : ℕ). c.args.card * n) card in
+    let home : c.region_of-home.result ≡ c.args.card * g.pause.card_words / g.pause.start.words_per_region =
+    c.region_of-home.ensures ∙ ap (λ (n : ℕ). c.new-bottom.result / n) turn.table.size
+    ∙ ap (λ (n : ℕ). n / g.pause.start.words_per_region) w in (
       premises,
       (
         turn,
@@ -43,7 +47,17 @@ update_tiles-requires g c =
                 tams,
                 (
                   marks,
-                  (known, subst (λ (n : ℕ). IsHolder c.args.table.now c.in-Some.first n) c.new-bottom.ensures c.in-Some.ensures.holder),
+                  (
+                    known,
+                    (
+                      region_of_first g.pause.start.words_per_region g.pause.card_words g.pause.cards_per_region c.args.card
+                          premises.shaped.positive premises.whole_cards ∙ sym home,
+                      (
+                        sym c.is_inside.ensures ∙ c.if-is_inside.false,
+                        subst (λ (n : ℕ). IsHolder c.args.table.now c.in-Some.first n) c.new-bottom.ensures c.in-Some.ensures.holder,
+                      ),
+                    ),
+                  ),
                 ),
               ),
             ),
@@ -56,8 +70,9 @@ pub returns-then-is_inside-clause-clean : goal.returns-then-is_inside-clause-cle
 returns-then-is_inside-clause-clean g c =
     let (premises, (turn, (flags, (card, (each, (tams, (marks, known))))))) = c.requires in
     let w : c.new-bottom.result ≡ c.args.card * g.pause.card_words = c.new-bottom.ensures ∙ ap (λ (n : ℕ). c.args.card * n) card in
-    none_inside g.pause premises c.args.card c.args.table.now c.args.destinations.now turn c.law.ensures
-    (ap (in_set g.pause) (sym w) ∙ sym c.is_inside.ensures ∙ c.if-is_inside.true)
+    none_inside g.pause premises c.args.card c.args.table.now c.args.destinations.now turn c.law.ensures c.in-Some.first
+    (subst (λ (n : ℕ). IsHolder c.args.table.now c.in-Some.first n) w c.in-Some.ensures.holder)
+    (sym c.is_inside.ensures ∙ c.if-is_inside.true)
 
 pub returns-in_default-clause-clean : goal.returns-in_default-clause-clean
 returns-in_default-clause-clean g c =

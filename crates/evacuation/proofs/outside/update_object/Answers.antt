@@ -1,9 +1,9 @@
 use Rattle.std.proofs.Common.{◌≡◌, ◌∙◌, ℕ, sym, ap, refl, subst, inl, inr, arith, ◌<◌, ◌/◌, length}
-use Rattle.std.proofs.lemmas.Bool.{cases_eq}
+use Rattle.std.proofs.lemmas.Bool.{cases_eq, cases_lt}
 use Rattle.heap_model.specs.Heap.{Stored, fields}
 use Rattle.refinement.specs.Remembering.{field_card, field_word}
 use Rattle.regions.proofs.Words.Divides.{card_has_words}
-use Rattle.refinement.proofs.Fields.{fields_in_card}
+use Rattle.refinement.proofs.Fields.{fields_in_card, region_of_card}
 use Rattle.refinement.proofs.Holders.{fields_of, object_within}
 use Rattle.evacuation.specs.Space.{IsFieldClean}
 use Rattle.evacuation.specs.Turns.{layout, space}
@@ -13,12 +13,12 @@ use Rattle.evacuation.proofs.Loops.OutsideCards.{card_small}
 use Rattle.evacuation.proofs.Turns.KeptObjects.{kept_object}
 use Rattle.evacuation.proofs.Copies.NewPlace.{is_some}
 use Rattle.evacuation.proofs.Loops.ObjectFields.{still_field}
-use Rattle.evacuation.proofs.FieldUpdates.FieldCards.{all_small}
+use Rattle.evacuation.proofs.FieldUpdates.FieldCards.{all_small, nil_clean, still_count}
 use Rattle.evacuation.proofs.outside.update_object.Goals as goal
 
 pub overflow_add-first : goal.overflow_add-first
 overflow_add-first g c =
-    let (premises, (turn, (flags, (card, (each, (known, (outside, object))))))) = c.requires in
+    let (premises, (turn, (flags, (card, (each, (known, (home, (outside, object)))))))) = c.requires in
     let a =
     object_within c.args.table.now c.args.at object.0 c.law.ensures (kept_object g.pause c.args.table.now c.args.at object.0 object.1) in
     let s = c.law.ensures.in_all in
@@ -27,26 +27,35 @@ overflow_add-first g c =
 
 pub overflow_mul-from : goal.overflow_mul-from
 overflow_mul-from g c =
-    let (premises, (turn, (flags, (card, (each, (known, (outside, object))))))) = c.requires in
+    let (premises, (turn, (flags, (card, (each, (known, (home, (outside, object)))))))) = c.requires in
     let a = card_small g.pause c.args.card premises known in
     let n = all_small g.pause premises in
     rw card (omega (arith, a, n))
 
 pub overflow_add-to : goal.overflow_add-to
 overflow_add-to g c =
-    let (premises, (turn, (flags, (card, (each, (known, (outside, object))))))) = c.requires in
+    let (premises, (turn, (flags, (card, (each, (known, (home, (outside, object)))))))) = c.requires in
     let a = card_small g.pause c.args.card premises known in
     let n = all_small g.pause premises in
     rw card (omega (arith, a, n))
 
 pub field_count-count-requires : goal.field_count-count-requires
 field_count-count-requires g c =
-    let (premises, (turn, (flags, (card, (each, (known, (outside, object))))))) = c.requires in
+    let (premises, (turn, (flags, (card, (each, (known, (home, (outside, object)))))))) = c.requires in
     is_some _ object.0 (kept_object g.pause c.args.table.now c.args.at object.0 object.1)
 
-pub loop-field-init : goal.loop-field-init
-loop-field-init g c =
-    let (premises, (turn, (flags, (card, (each, (known, (outside, object))))))) = c.requires in
+pub next_link-field-requires : goal.next_link-field-requires
+next_link-field-requires g c =
+    let m = c.min-end.ensures in
+    let n = c.field_count-count.ensures in
+    omega arith
+
+pub fields-init : goal.fields-init
+fields-init g c =
+    let (premises, (turn, (flags, (card, (each, (known, (home, (outside, object)))))))) = c.requires in
+    let z = card_has_words g.pause.card_words g.pause.start.words_per_region g.pause.cards_per_region
+    premises.shaped.positive premises.whole_cards in
+    let z' : 0 < c.args.card_words = omega arith in
     record {
       turn = turn;
       after = same_after (layout g.pause) c.args.noted.now (space g.pause c.args.table.now) c.args.destinations.now;
@@ -57,26 +66,41 @@ loop-field-init g c =
         sym (c.field_count-count.ensures
             ∙ ap length (fields_of c.args.table.now c.args.at object.0 (kept_object g.pause c.args.table.now c.args.at object.0 object.1))),
       );
-      clean = λ i l h. absurd (omega arith);
+      lie = fields_in_card c.args.card_words c.args.card c.args.at c.field_count-count.result c.word-first.result c.args.card
+          c.saturating_sub-start.result c.saturating_sub.result c.min-end.result z' c.word-first.ensures refl
+          c.saturating_sub-start.ensures c.saturating_sub.ensures c.min-end.ensures;
+      low = c.next_link-field.ensures.low;
+      clean = λ i l h. nil_clean g.pause c.args.table.now c.args.at i (c.next_link-field.ensures.nil i l h);
     }
 
 pub update_field-requires : goal.update_field-requires
 update_field-requires g c =
-    let (premises, (turn, (flags, (card, (each, (known, (outside, object))))))) = c.requires in
-    let v = c.loop-field.invariant in (
+    let (premises, (turn, (flags, (card, (each, (known, (home, (outside, object)))))))) = c.requires in
+    let v = c.fields.invariant in
+    let t = c.fields-test.true in
+    let in_card : field_word c.args.at c.fields.field / g.pause.card_words ≡ c.args.card =
+    ap (λ (n : ℕ). field_word c.args.at c.fields.field / n) (sym card) ∙ v.lie.in_card c.fields.field (v.low t) t in
+    let region = region_of_card g.pause.start.words_per_region g.pause.card_words g.pause.cards_per_region
+    (field_word c.args.at c.fields.field) premises.shaped.positive premises.whole_cards in (
       premises,
       (
         v.turn,
         (
           flags,
           (
-            card,
+            v.each,
             (
-              v.each,
+              known,
               (
-                outside,
-                still_field g.pause c.loop-field.table c.args.at c.field_count-count.result c.loop-field.field v.still
-                    (let t = c.loop-field-test.true in let m = c.min-end.ensures in omega arith),
+                in_card,
+                (
+                  sym region ∙ ap (λ (n : ℕ). n / g.pause.cards_per_region) in_card ∙ home,
+                  (
+                    outside,
+                    still_field g.pause c.fields.table c.args.at c.field_count-count.result c.fields.field v.still
+                        (let m = v.lie.within in omega arith),
+                  ),
+                ),
               ),
             ),
           ),
@@ -84,42 +108,51 @@ update_field-requires g c =
       ),
     )
 
-pub loop-field-preserved : goal.loop-field-preserved
-loop-field-preserved g c =
-    let (premises, (turn, (flags, (card, (each, (known, (outside, object))))))) = c.requires in
-    let v = c.loop-field.invariant in
+pub next_link-field-requires-in-fields : goal.next_link-field-requires-in-fields
+next_link-field-requires-in-fields g c =
+    let (premises, (turn, (flags, (card, (each, (known, (home, (outside, object)))))))) = c.requires in
+    let (y, at, count) = c.fields.invariant.still in
+    let (z, here, same) = c.update_field.ensures.after.stays c.args.at y outside at in
+    let m = c.fields.invariant.lie.within in
+    let n = still_count g.pause c.update_field.new.table c.args.at c.field_count-count.result (z, here, same ∙ count) in
+    omega arith
+
+pub fields-preserved : goal.fields-preserved
+fields-preserved g c =
+    let (premises, (turn, (flags, (card, (each, (known, (home, (outside, object)))))))) = c.requires in
+    let v = c.fields.invariant in
     let (y, at, count) = v.still in
     let (z, here, same) = c.update_field.ensures.after.stays c.args.at y outside at in
     record {
       turn = c.update_field.ensures.turn;
-      after = after_after (layout g.pause) c.args.noted.now c.loop-field.noted c.update_field.new.noted _ _ _ _
+      after = after_after (layout g.pause) c.args.noted.now c.fields.noted c.update_field.new.noted _ _ _ _
           _ _ v.after c.update_field.ensures.after;
       each = c.update_field.ensures.each_card;
       still = (z, here, same ∙ count);
-      clean = λ i l h. elim (cases_eq i c.loop-field.field) [
-        | inl e ↦
-            subst (IsFieldClean (layout g.pause) (space g.pause c.update_field.new.table) c.args.at) (sym e) c.update_field.ensures.clean
-        | inr n ↦ clean_after (layout g.pause) c.loop-field.noted c.update_field.new.noted (space g.pause c.loop-field.table)
-            (space g.pause c.update_field.new.table) c.loop-field.destinations c.update_field.new.destinations c.args.at i
-            c.update_field.ensures.after outside (y, at) (v.clean i l (omega arith))
+      lie = v.lie;
+      low = λ h. let a = c.next_link-field-in-fields.ensures.low h in let b = v.low c.fields-test.true in omega arith;
+      clean = λ i l h. elim (cases_lt i c.fields.field) [
+        | inl low ↦ clean_after (layout g.pause) c.fields.noted c.update_field.new.noted (space g.pause c.fields.table)
+            (space g.pause c.update_field.new.table) c.fields.destinations c.update_field.new.destinations c.args.at i
+            c.update_field.ensures.after outside (y, at) (v.clean i l low)
+        | inr high ↦ elim (cases_eq i c.fields.field) [
+          | inl e ↦
+              subst (IsFieldClean (layout g.pause) (space g.pause c.update_field.new.table) c.args.at) (sym e) c.update_field.ensures.clean
+          | inr n ↦ nil_clean g.pause c.update_field.new.table c.args.at i
+              (c.next_link-field-in-fields.ensures.nil i (omega arith) h)
+        ]
       ];
     }
 
 pub returns-clause-clean : goal.returns-clause-clean
 returns-clause-clean g c =
-    let (premises, (turn, (flags, (card, (each, (known, (outside, object))))))) = c.requires in
-    let v = c.loop-field.invariant in
-    let z = card_has_words g.pause.card_words g.pause.start.words_per_region g.pause.cards_per_region
-    premises.shaped.positive premises.whole_cards in
-    let z' : 0 < c.args.card_words = omega arith in
-    let k = fields_in_card c.args.card_words c.args.card c.args.at c.field_count-count.result c.word-first.result c.args.card
-    c.saturating_sub-start.result c.saturating_sub.result c.min-end.result z' c.word-first.ensures refl
-    c.saturating_sub-start.ensures c.saturating_sub.ensures c.min-end.ensures in
+    let (premises, (turn, (flags, (card, (each, (known, (home, (outside, object)))))))) = c.requires in
+    let v = c.fields.invariant in
     λ i e y w here f.
     let (x, at, count) = v.still in
     let same : x ≡ y = cc in
     let n = ap (λ (m : Stored). length (fields m)) same in
     let low = get_below (fields y) i w f in
     let e' : field_card c.args.card_words c.args.at i ≡ c.args.card = ap (λ (m : ℕ). field_word c.args.at i / m) card ∙ e in
-    let (a, b) = k.all i (omega (arith, n, count, low)) e' in
-    v.clean i a (let t = c.loop-field-test.false in omega (arith, b, t)) y w here f
+    let (a, b) = v.lie.all i (omega (arith, n, count, low)) e' in
+    v.clean i a (let t = c.fields-test.false in omega (arith, b, t)) y w here f

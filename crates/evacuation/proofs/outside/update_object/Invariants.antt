@@ -1,4 +1,5 @@
-use Rattle.std.proofs.Common.{◌≤◌, ◌<◌, ℕ}
+use Rattle.std.proofs.Common.{◌≤◌, ◌<◌, ◌-◌, ℕ}
+use Rattle.refinement.proofs.Fields.{AreInCard}
 use Rattle.evacuation.specs.Space.{IsFieldClean, IsStill}
 use Rattle.evacuation.specs.Turns.{IsTurn, After, EachCard, layout, space}
 use Rattle.evacuation.proofs.outside.update_object.Given as goal
@@ -6,11 +7,16 @@ use Rattle.evacuation.proofs.outside.update_object.Given as goal
 abbrev pub ghost-update_field : goal.ghost-update_field
 ghost-update_field g a = g.pause
 
-abbrev pub invariant-loop-field : goal.invariant-loop-field
-invariant-loop-field g l = record {
+abbrev pub invariant-fields : goal.invariant-fields
+invariant-fields g l = record {
   turn : IsTurn g.pause l.table l.destinations;
   after : After g.pause l.initial.noted l.noted l.initial.table l.table l.initial.destinations l.destinations;
   each : EachCard g.pause l.noted;
   still : IsStill (space g.pause l.table) l.at l.count;
+  lie : AreInCard l.card_words l.card l.at l.count l.start l.end;
+  low : l.field < l.end → l.start ≤ l.field;
   clean : (i : ℕ) → l.start ≤ i → i < l.field → IsFieldClean (layout g.pause) (space g.pause l.table) l.at i;
 }
+
+abbrev pub decreases-fields : goal.decreases-fields
+decreases-fields g l = l.end - l.field

@@ -1,10 +1,9 @@
-use Rattle.std.proofs.Common.{◌∙◌, sym}
 use Rattle.evacuation.proofs.Loops.OutsideCards.{object_now, object_tile}
 use Rattle.evacuation.proofs.outside.update_tile.Goals as goal
 
 pub update_object-requires : goal.update_object-requires
 update_object-requires g c =
-    let (premises, (turn, (flags, (card, (each, (tams, (marks, (known, tile)))))))) = c.requires in (
+    let (premises, (turn, (flags, (card, (each, (tams, (marks, (known, (home, (outside, tile)))))))))) = c.requires in (
       premises,
       (
         turn,
@@ -17,9 +16,12 @@ update_object-requires g c =
               (
                 known,
                 (
-                  sym c.is_inside.ensures ∙ c.if-is_inside.false,
-                  object_now g.pause c.args.table.now c.args.tams.now c.args.marks.now c.args.at tams marks
-                      (c.is_kept.ensures.0 c.if-is_kept.true),
+                  home,
+                  (
+                    outside,
+                    object_now g.pause c.args.table.now c.args.tams.now c.args.marks.now c.args.at tams marks
+                        (c.is_kept.ensures.0 c.if-is_kept.true),
+                  ),
                 ),
               ),
             ),
@@ -30,8 +32,8 @@ update_object-requires g c =
 
 pub returns-then-is_kept-clause-tile : goal.returns-then-is_kept-clause-tile
 returns-then-is_kept-clause-tile g c =
-    let (premises, (turn, (flags, (card, (each, (tams, (marks, (known, tile)))))))) = c.requires in
+    let (premises, (turn, (flags, (card, (each, (tams, (marks, (known, (home, (outside, tile)))))))))) = c.requires in
     let o =
     object_now g.pause c.args.table.now c.args.tams.now c.args.marks.now c.args.at tams marks (c.is_kept.ensures.0 c.if-is_kept.true) in
-    let (y, at, n) = c.update_object.ensures.after.stays c.args.at o.0 (sym c.is_inside.ensures ∙ c.if-is_inside.false) o.1 in
+    let (y, at, n) = c.update_object.ensures.after.stays c.args.at o.0 outside o.1 in
     object_tile g.pause c.update_object.new.table c.args.at (y, at)

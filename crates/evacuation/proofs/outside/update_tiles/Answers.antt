@@ -2,9 +2,11 @@ use Rattle.std.proofs.Common.{◌≡◌, ◌∙◌, ℕ, sym, ap, refl, subst, a
 use Rattle.regions.specs.Table.{tile_in}
 use Rattle.regions.specs.Walks.{IsHolder}
 use Rattle.regions.proofs.Words.Divides.{div_high}
+use Rattle.refinement.proofs.Scanned.{tile_words}
+use Rattle.evacuation.specs.Space.{flag}
 use Rattle.evacuation.specs.Turns.{layout, space}
 use Rattle.evacuation.proofs.Turns.Following.{after_after, same_after}
-use Rattle.evacuation.proofs.Loops.OutsideCards.{card_small, onward, clean_next, clean_last, clean_past, region_by}
+use Rattle.evacuation.proofs.Loops.OutsideCards.{card_small, onward, clean_next, clean_last, clean_over, placed_tile, region_by}
 use Rattle.regions.proofs.Tiles.Steps.{some_tile}
 use Rattle.evacuation.proofs.FieldUpdates.FieldCards.{all_small}
 use Rattle.evacuation.proofs.outside.update_tiles.Goals as goal
@@ -14,21 +16,21 @@ smaller end at next u h = omega arith
 
 pub overflow_mul-end : goal.overflow_mul-end
 overflow_mul-end g c =
-    let (premises, (turn, (flags, (card, (each, (tams, (marks, (known, holder)))))))) = c.requires in
+    let (premises, (turn, (flags, (card, (each, (tams, (marks, (known, (home, (outside, holder)))))))))) = c.requires in
     let a = card_small g.pause c.args.card premises known in
     let n = all_small g.pause premises in
     rw card (omega (arith, a, n))
 
 pub overflow_add-end : goal.overflow_add-end
 overflow_add-end g c =
-    let (premises, (turn, (flags, (card, (each, (tams, (marks, (known, holder)))))))) = c.requires in
+    let (premises, (turn, (flags, (card, (each, (tams, (marks, (known, (home, (outside, holder)))))))))) = c.requires in
     let a = card_small g.pause c.args.card premises known in
     let n = all_small g.pause premises in
     rw card (omega (arith, a, n))
 
 pub tiles-init : goal.tiles-init
 tiles-init g c =
-    let (premises, (turn, (flags, (card, (each, (tams, (marks, (known, holder)))))))) = c.requires in
+    let (premises, (turn, (flags, (card, (each, (tams, (marks, (known, (home, (outside, holder)))))))))) = c.requires in
     let held : IsHolder c.args.table.now c.args.first (c.args.card * g.pause.card_words) =
     subst (λ (n : ℕ). IsHolder c.args.table.now c.args.first (c.args.card * n)) card holder in
     record {
@@ -42,15 +44,51 @@ tiles-init g c =
           omega arith);
     }
 
+pub overflow_add-past : goal.overflow_add-past
+overflow_add-past g c =
+    let tile = placed_tile c.tiles.table c.tiles.at c.tile-shape.result c.tiles.invariant.tile c.tile-shape.ensures in
+    let within = c.law-in-tiles.ensures.within c.tiles.at tile.tile tile.tile_is in
+    let size = tile_words c.tile-shape.result tile.tile c.size.result tile.shape_is c.size.ensures in
+    omega (arith, within, size, c.word.ensures, c.law-in-tiles.ensures.in_all)
+
 pub update_tile-requires : goal.update_tile-requires
 update_tile-requires g c =
-    let (premises, (turn, (flags, (card, (each, (tams, (marks, (known, holder)))))))) = c.requires in
-    let v = c.tiles.invariant in
-    (premises, (v.turn, (flags, (card, (v.each, (tams, (marks, (known, v.tile))))))))
+    let (premises, (turn, (flags, (card, (each, (tams, (marks, (known, (home, (outside, holder)))))))))) = c.requires in
+    let v = c.tiles.invariant in (
+      premises,
+      (
+        v.turn,
+        (
+          flags,
+          (
+            card,
+            (
+              v.each,
+              (
+                tams,
+                (
+                  marks,
+                  (
+                    known,
+                    (
+                      home,
+                      (
+                        ap (flag g.pause.chosen) v.region ∙ outside,
+                        placed_tile c.tiles.table c.tiles.at c.tile-shape.result v.tile c.tile-shape.ensures,
+                      ),
+                    ),
+                  ),
+                ),
+              ),
+            ),
+          ),
+        ),
+      ),
+    )
 
 pub tiles-smaller : goal.tiles-smaller
 tiles-smaller g c =
-    let (premises, (turn, (flags, (card, (each, (tams, (marks, (known, holder)))))))) = c.requires in
+    let (premises, (turn, (flags, (card, (each, (tams, (marks, (known, (home, (outside, holder)))))))))) = c.requires in
     let v = c.tiles.invariant in
     let n = c.in-Some.ensures.next in
     let r = region_by c.in-Some.next c.tiles.at g.pause.start.words_per_region c.update_tile.new.table.words_per_region
@@ -63,7 +101,7 @@ tiles-smaller g c =
 
 pub tiles-preserved : goal.tiles-preserved
 tiles-preserved g c =
-    let (premises, (turn, (flags, (card, (each, (tams, (marks, (known, holder)))))))) = c.requires in
+    let (premises, (turn, (flags, (card, (each, (tams, (marks, (known, (home, (outside, holder)))))))))) = c.requires in
     let v = c.tiles.invariant in
     let n = c.in-Some.ensures.next in
     let r = region_by c.in-Some.next c.tiles.at g.pause.start.words_per_region c.update_tile.new.table.words_per_region
@@ -80,14 +118,22 @@ tiles-preserved g c =
           c.update_tile.ensures.after visited c.tiles.at (v.clean visited) (c.update_tile.ensures.clean visited) c.in-Some.next n;
     }
 
-pub returns-then-word-end-clause-clean : goal.returns-then-word-end-clause-clean
-returns-then-word-end-clause-clean g c =
-    let (premises, (turn, (flags, (card, (each, (tams, (marks, (known, holder)))))))) = c.requires in
+pub returns-then-past-end-clause-clean : goal.returns-then-past-end-clause-clean
+returns-then-past-end-clause-clean g c =
+    let (premises, (turn, (flags, (card, (each, (tams, (marks, (known, (home, (outside, holder)))))))))) = c.requires in
     let v = c.tiles.invariant in
+    let tile = placed_tile c.tiles.table c.tiles.at c.tile-shape.result v.tile c.tile-shape.ensures in
+    let size = tile_words c.tile-shape.result tile.tile c.size.result tile.shape_is c.size.ensures in
     let e : c.args.card * c.args.card_words + c.args.card_words ≡ c.args.card * g.pause.card_words + g.pause.card_words =
     ap (λ (n : ℕ). c.args.card * n + n) card in
-    λ visited. clean_past g.pause premises c.args.card visited c.tiles.table c.tiles.at
-    (let t = c.if-word-end.true in let w = c.word.ensures in omega (arith, e, t, w)) (v.clean visited)
+    λ visited. clean_over g.pause premises c.args.card c.tiles.table c.update_tile.new.table c.tiles.destinations
+    c.update_tile.new.destinations c.tiles.noted c.update_tile.new.noted v.turn c.update_tile.ensures.turn
+    c.update_tile.ensures.after visited c.tiles.at (v.clean visited) (c.update_tile.ensures.clean visited) c.law-in-tiles.ensures
+    tile.tile tile.tile_is (let t = c.if-past-end.true in let w = c.word.ensures in omega (arith, e, t, w, size))
+
+pub returns-then-past-end-clause-after : goal.returns-then-past-end-clause-after
+returns-then-past-end-clause-after g c = after_after (layout g.pause) c.args.noted.now c.tiles.noted c.update_tile.new.noted _ _ _ _ _ _
+    c.tiles.invariant.after c.update_tile.ensures.after
 
 pub returns-in_default-clause-after : goal.returns-in_default-clause-after
 returns-in_default-clause-after g c = after_after (layout g.pause) c.args.noted.now c.tiles.noted c.update_tile.new.noted _ _ _ _ _ _
@@ -95,7 +141,7 @@ returns-in_default-clause-after g c = after_after (layout g.pause) c.args.noted.
 
 pub returns-in_default-clause-clean : goal.returns-in_default-clause-clean
 returns-in_default-clause-clean g c =
-    let (premises, (turn, (flags, (card, (each, (tams, (marks, (known, holder)))))))) = c.requires in
+    let (premises, (turn, (flags, (card, (each, (tams, (marks, (known, (home, (outside, holder)))))))))) = c.requires in
     let v = c.tiles.invariant in
     let held : IsHolder c.args.table.now c.args.first (c.args.card * g.pause.card_words) =
     subst (λ (n : ℕ). IsHolder c.args.table.now c.args.first (c.args.card * n)) card holder in

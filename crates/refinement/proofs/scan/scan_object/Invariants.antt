@@ -1,11 +1,18 @@
-use Rattle.std.proofs.Common.{◌≡◌, ℕ, Option, Some, true}
+use Rattle.std.proofs.Common.{◌≡◌, ◌≢◌, ◌<◌, ◌≤◌, ◌-◌, ℕ, Option, true}
 use Rattle.heap_model.specs.Heap.{Stored}
 use Rattle.regions.specs.Table.{object_at}
 use Rattle.remembered_sets.specs.Sets.{may_lead}
-use Rattle.refinement.proofs.Fields.{IsPartly}
+use Rattle.refinement.proofs.Fields.{AreInCard, IsPartly}
 use Rattle.refinement.proofs.scan.scan_object.Given as goal
 
-abbrev pub invariant-loop-field : goal.invariant-loop-field
-invariant-loop-field l = ((kept : ℕ → Option Stored) → kept l.object ≡ object_at l.table l.object
-    → IsPartly l.table.words_per_region kept l.card_words l.card l.object l.start l.field l.fn.sets l.sets)
-    × ((region : ℕ) → l.last ≡ Some region → may_lead l.sets region l.card ≡ true)
+abbrev pub invariant-fields : goal.invariant-fields
+invariant-fields l = record {
+  partly : (kept : ℕ → Option Stored) → kept l.object ≡ object_at l.table l.object
+      → IsPartly l.table.words_per_region kept l.card_words l.card l.object l.start l.field l.fn.sets l.sets;
+  last : l.last ≢ l.home → may_lead l.sets l.last l.card ≡ true;
+  lie : AreInCard l.card_words l.card l.object l.count l.start l.end;
+  low : l.field < l.end → l.start ≤ l.field;
+}
+
+abbrev pub decreases-fields : goal.decreases-fields
+decreases-fields l = l.end - l.field

@@ -1,4 +1,4 @@
-use Rattle.std.proofs.Common.{◌≡◌, ℕ, Some, true}
+use Rattle.std.proofs.Common.{◌≡◌, ◌≢◌, true}
 use Rattle.mark_bitmap.specs.Kept.{kept_in}
 use Rattle.remembered_sets.specs.Sets.{may_lead}
 use Rattle.refinement.specs.Refining.{AddsCard}
@@ -11,5 +11,5 @@ invariant-loop-at l = record {
   adds : AddsCard l.table.words_per_region (kept_in l.table l.tams l.marks) l.card_words l.card l.fn.sets l.sets;
   turn : IsTurn l.table (kept_in l.table l.tams l.marks) l.card_words l.card l.fn.first (may_lead l.sets) l.at-iterator;
   count : IsCount l.card_words l.card l.looked l.at-iterator;
-  last : (region : ℕ) → l.last ≡ Some region → may_lead l.sets region l.card ≡ true;
+  last : l.last ≢ l.home → may_lead l.sets l.last l.card ≡ true;
 }

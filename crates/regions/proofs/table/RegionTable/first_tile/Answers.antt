@@ -1,10 +1,8 @@
-use Rattle.std.proofs.Common.{arith, refl, ap, subst, ◌≡◌, ◌<◌, ◌*◌, ◌/◌, ℕ, ◌∙◌}
+use Rattle.std.proofs.Common.{arith, ap, subst, ◌≡◌, ◌<◌, ◌*◌, ◌/◌, ℕ, ◌∙◌}
 use Rattle.regions.specs.Table.{top_of}
 use Rattle.regions.specs.FirstTiles.{start_in}
 use Rattle.regions.specs.Walks.{IsHolder}
-use Rattle.regions.proofs.Tiles.Holders.{search_from}
 use Rattle.regions.proofs.Cards.CardStarts.{card_known, card_start}
-use Rattle.regions.proofs.Cards.FirstTile.{search_fits, search_next, found_below, found_holder, search_last}
 use Rattle.regions.proofs.table.RegionTable.first_tile.Goals as goal
 
 pub start-requires-clause-known : goal.start-requires-clause-known
@@ -42,20 +40,8 @@ returns-then-word-first_word-clause-holder c =
     omega (arith, c.if-word-first_word.true, c.word-4.ensures, c.first_word.ensures) in
     subst (λ (w : ℕ). IsHolder c.args.self.now c.new-start.result w) same (rw at s.holder)
 
-pub walk_from-at-items-requires : goal.walk_from-at-items-requires
-walk_from-at-items-requires c =
-    let card : c.card_of-card.result ≡ c.args.word / c.self.inside.first_tiles.card_words =
-    c.card_of-card.ensures.card ∙ ap (λ (n : ℕ). n / c.self.inside.first_tiles.card_words) c.word-3.ensures in
-    let below : c.args.word < top_of c.args.self.now (c.args.word / c.args.self.now.words_per_region) =
-    (let f = c.if-word.false in
-    let t = c.word.ensures ∙ c.top.ensures ∙ ap (top_of c.args.self.now) c.region_of.ensures in
-    omega (arith, f, t, c.word-2.ensures)) in
-    let s = card_start _ _ _ _ _ _ _ _ _ c.args.word c.card_of-card.result c.self.invariant c.self.view_is
-    below c.card_of-card.ensures.positive card in
-    rw (c.new-start.ensures, c.start.ensures, s.holder.tile_is) refl
-
-pub loop-at-init : goal.loop-at-init
-loop-at-init c =
+pub search_tile-requires : goal.search_tile-requires
+search_tile-requires c =
     let card : c.card_of-card.result ≡ c.args.word / c.self.inside.first_tiles.card_words =
     c.card_of-card.ensures.card ∙ ap (λ (n : ℕ). n / c.self.inside.first_tiles.card_words) c.word-3.ensures in
     let below : c.args.word < top_of c.args.self.now (c.args.word / c.args.self.now.words_per_region) =
@@ -66,38 +52,4 @@ loop-at-init c =
     below c.card_of-card.ensures.positive card in
     let at : c.new-start.result ≡ start_in c.self.inside.first_tiles.card_words c.self.inside.first_tiles.starts c.card_of-card.result =
     c.new-start.ensures ∙ c.start.ensures in
-    let first = search_from c.args.self.now _ _ c.args.word c.law.ensures s.holder s.low s.region in
-    rw (c.into_iter-at-iterator.ensures.into_iter_gives, c.walk_from-at-items.ensures, at) first
-
-pub overflow_add-word : goal.overflow_add-word
-overflow_add-word c =
-    let f = search_fits _ _ _ _ _ _ _ c.law.ensures c.loop-at.invariant.search c.in-Some.ensures.steps in
-    omega (arith, f, c.word-in-loop-at-2.ensures, c.size.ensures)
-
-pub returns-then-word-size-clause-found : goal.returns-then-word-size-clause-found
-returns-then-word-size-clause-found c = (
-  λ _. found_below _ _ _ _ _ _ _ c.law.ensures c.loop-at.invariant.start c.loop-at.invariant.search c.in-Some.ensures.steps
-      (omega (arith, c.word-in-loop-at.ensures, c.word-in-loop-at-2.ensures, c.size.ensures, c.if-word-size.true)),
-  λ _. refl,
-)
-
-pub returns-then-word-size-clause-holder : goal.returns-then-word-size-clause-holder
-returns-then-word-size-clause-holder c =
-    found_holder _ _ _ _ _ _ _ c.law.ensures c.loop-at.invariant.search c.in-Some.ensures.steps
-    (omega (arith, c.word-in-loop-at.ensures, c.word-in-loop-at-2.ensures, c.size.ensures, c.if-word-size.true))
-
-pub loop-at-preserved : goal.loop-at-preserved
-loop-at-preserved c =
-    let s = c.loop-at.invariant in
-    record {
-      first = s.first;
-      start = s.start;
-      search = search_next _ _ _ _ _ _ _ c.law.ensures s.search c.in-Some.ensures.steps
-          (omega (arith, c.word-in-loop-at.ensures, c.word-in-loop-at-2.ensures, c.size.ensures, c.if-word-size.false));
-    }
-
-pub returns-clause-found : goal.returns-clause-found
-returns-clause-found c = (
-  λ z. cc,
-  λ h. absurd (search_last _ _ _ _ c.law.ensures c.loop-at.invariant.start c.loop-at.invariant.search c.in-None.ensures.steps.0 h),
-)
+    (_, rw at s.holder, s.low, s.region)

@@ -2,7 +2,7 @@ use Rattle.std.proofs.Common.{arith, ap, subst, sym, ◌∙◌}
 use Rattle.std.proofs.lemmas.Grind.{common_steps}
 use Rattle.remembered_sets.specs.Sets.{Sets, AreSets, covers, may_lead}
 use Rattle.remembered_sets.proofs.Laws.{covers-added, leads-added, AreSets-added}
-use Rattle.remembered_sets.proofs.sets.RememberedSets.add.Goals as goal
+use Rattle.remembered_sets.proofs.sets.RememberedSets.add_from.Goals as goal
 
 pub returns-clause-after : goal.returns-clause-after
 returns-clause-after c = grind (arith, common_steps)
