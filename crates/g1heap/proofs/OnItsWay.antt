@@ -1,5 +1,6 @@
 -- A record on its way to the writer, by one event more.
-use Rattle.std.proofs.Common.{◌≡◌, ◌≢◌, ◌<◌, ◌+◌, ℕ, List, [], ◌∷◌, ◌++◌, Result, Ok, Err, length, map, get_or, ap, refl, sym, subst, ◌∙◌, append_assoc, arith}
+use Rattle.std.proofs.Common.{◌≡◌, ◌≢◌, ◌<◌, ◌+◌, ℕ, List, [], ◌∷◌, ◌++◌, Result, Ok, Err, length, map, get_or, ap, refl, sym, subst}
+use Rattle.std.proofs.Common.{◌∙◌, append_assoc, arith}
 use Rattle.std.proofs.lemmas.List.{append-nil, take_all, length-map}
 use Rattle.std.proofs.KnownBytes.{Keeps-refl}
 use Rattle.std.specs.Prelude.{⊤, OnOk, OnErr}
@@ -24,12 +25,16 @@ use Rattle.step_core.proofs.Cores.Following.{grown, grown_by, history_is_run}
 use Rattle.step_core.proofs.Cores.Running.{runs_none}
 use Rattle.g1heap.specs.InOrder.{AnswersInOrder, HasDone, IsOnItsWay}
 
+-- the record of the plan with these events
+abbrev pub record_by : StepList → List Event → EventList
+record_by plan es = record { config = plan.config; events = es }
+
 -- the writer refused before, so it did with whatever events come behind one more
 pub refused_before : (plan : StepList) (es : List Event) (e : Event) (first now : Writer) (lines lines' : Lines) (fault : WriteFault)
     → IsOnItsWay plan es first now lines (Err fault) → IsOnItsWay plan (es ++ e ∷ []) first now lines' (Err fault)
 refused_before plan es e first now lines lines' fault (other, stopped) = (
   other,
-  λ more. subst (λ (all : List Event). TakesPart first now (record_text (record { config = plan.config; events = all })))
+  λ more. subst (λ (all : List Event). TakesPart first now (record_text (record_by plan all)))
       (sym (append_assoc es (e ∷ []) more)) (stopped (e ∷ more)),
 )
 
@@ -77,10 +82,6 @@ none_done plan config c w lines same fresh core stands begun = record {
   record_is = subst (λ (sizes : Config). AreLinesOf (no_events sizes) w w lines) same (begun w);
 }
 
--- the record of what is done
-abbrev pub record_by : StepList → List Event → EventList
-record_by plan es = record { config = plan.config; events = es }
-
 -- all is done: a run of the plan
 pub all_done : (plan : StepList) (c : CoreState) (first now : Writer) (lines : Lines) (outcome : Result ⊤ WriteFault)
     → (h : HasDone plan (length plan.steps) c first now lines outcome)
@@ -109,7 +110,7 @@ stopped_within plan c old new lines fault h =
       all_done plan c old new lines (Err fault) h,
       tt,
       fails fault old new (record_text r) h.record_is.0
-          (subst (λ (all : List Event). TakesPart old new (record_text (record { config = plan.config; events = all }))) (append-nil h.events)
+          (subst (λ (all : List Event). TakesPart old new (record_text (record_by plan all))) (append-nil h.events)
           (h.record_is.1 [])),
     )
 

@@ -1,24 +1,12 @@
--- The events of a journal are those of a record, and its core goes on by a step.
-use Rattle.std.proofs.Common.{◌≡◌, List, [], ◌∷◌, ◌++◌}
-use Rattle.std.specs.Prelude.{◌↔◌}
+-- The events of a journal are those of a record.
+use Rattle.std.proofs.Common.{List, sym, subst}
 use Rattle.heap_words.specs.declared.config.Config.{Config}
 use Rattle.heap_steps.specs.Actors.{AreEvents, IsStepOf}
 use Rattle.heap_steps.specs.declared.step.Actor.{Actor}
 use Rattle.heap_steps.specs.declared.step.Actor.TheVariants.{Mutator, Collector, Marker, Refiner}
 use Rattle.heap_steps.specs.declared.step.Step.{Step}
 use Rattle.heap_steps.specs.declared.step.Event.{Event}
-use Rattle.object_graph.specs.State.{State, first_state}
-use Rattle.step_core.specs.Stands.{CoreState, Stands, IsCore, IsWhole}
-use Rattle.step_core.specs.Fresh.{fresh_core}
-use Rattle.step_core.specs.Histories.{RunsTo, Runs}
-use Rattle.cards.specs.Cards.{ListsDirtyOnce}
-use Rattle.heap_steps.specs.declared.step.Reply.TheVariants as replies
-use Rattle.heap_steps.specs.declared.step.Refusal.TheVariants as refusals
-use Rattle.step_core.specs.Answers.{Follows, IsFullStep}
-use Rattle.step_core.specs.Cycle.{Does}
-use Rattle.step_core.proofs.Cores.Following.{goes_on, none_yet}
 use Rattle.mutators.specs.Scripts.{IsOwn, AreOwn}
-use Rattle.std.proofs.Common.{sym, subst}
 
 own_is : (c : Config) (a : Actor) (s : Step) → IsOwn c a s → IsStepOf c a s
 own_is c (Mutator i) s own = own

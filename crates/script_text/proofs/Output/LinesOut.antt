@@ -1,5 +1,6 @@
 -- The lines of a record on their way to a writer: one more is put, or the writer refuses.
-use Rattle.std.proofs.Common.{◌≡◌, ◌≢◌, Result, Ok, Err, ℕ, ◌+◌, ◌<◌, List, [], ◌∷◌, ◌++◌, length, take, get_or, refl, sym, ap, subst, ◌∙◌, append_assoc, arith}
+use Rattle.std.proofs.Common.{◌≡◌, ◌≢◌, Result, Ok, Err, ℕ, ◌+◌, ◌<◌, List, [], ◌∷◌, ◌++◌, length, take, get_or, refl, sym, ap, subst}
+use Rattle.std.proofs.Common.{◌∙◌, append_assoc, arith}
 use Rattle.std.specs.Prelude.{OnErr, IfErr}
 use Rattle.std.proofs.lemmas.List.{append-nil, length-append, take_more}
 use Rattle.heap_words.specs.declared.config.Config.{Config}

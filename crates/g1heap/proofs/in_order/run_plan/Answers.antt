@@ -34,7 +34,8 @@ returns-in-Err-do_steps g c =
     let begun = none_done plan c.config-config.result c.in-Ok.core w c.in-Ok-new.lines c.config-config.ensures c.in-Ok.ensures.fresh
     c.in-Ok.ensures.core c.in-Ok.ensures.stands c.in-Ok-new.ensures in
     stopped_within plan c.do_steps.new.core w c.do_steps.new.writer c.do_steps.new.lines c.in-Err-do_steps.fault
-    (subst (λ (r : Result ⊤ WriteFault). HasDone plan (length plan.steps) c.do_steps.new.core w c.do_steps.new.writer c.do_steps.new.lines r)
+    (subst (λ (r : Result ⊤ WriteFault).
+    HasDone plan (length plan.steps) c.do_steps.new.core w c.do_steps.new.writer c.do_steps.new.lines r)
     c.in-Err-do_steps.is (c.do_steps.ensures plan w (sym c.steps.ensures.steps) begun))
 
 pub returns-in-Ok-finish : goal.returns-in-Ok-finish
@@ -44,7 +45,8 @@ returns-in-Ok-finish g c =
     let begun = none_done plan c.config-config.result c.in-Ok.core w c.in-Ok-new.lines c.config-config.ensures c.in-Ok.ensures.fresh
     c.in-Ok.ensures.core c.in-Ok.ensures.stands c.in-Ok-new.ensures in
     finished plan c.do_steps.new.core w c.do_steps.new.writer c.finish.new.writer c.do_steps.new.lines c.finish.result c.finish.ensures.ok
-    (subst (λ (r : Result ⊤ WriteFault). HasDone plan (length plan.steps) c.do_steps.new.core w c.do_steps.new.writer c.do_steps.new.lines r)
+    (subst (λ (r : Result ⊤ WriteFault).
+    HasDone plan (length plan.steps) c.do_steps.new.core w c.do_steps.new.writer c.do_steps.new.lines r)
     c.in-Ok-do_steps.is (c.do_steps.ensures plan w (sym c.steps.ensures.steps) begun)) c.in-Ok-finish.is
 
 pub returns : goal.returns
@@ -55,5 +57,6 @@ returns g c =
     c.in-Ok.ensures.core c.in-Ok.ensures.stands c.in-Ok-new.ensures in
     stopped_last plan c.do_steps.new.core w c.do_steps.new.writer c.finish.new.writer c.do_steps.new.lines c.in-Err-finish.fault
     (λ is. c.in-Err-finish.ensures.memory (ap Err is)) c.in-Err-finish.ensures.err
-    (subst (λ (r : Result ⊤ WriteFault). HasDone plan (length plan.steps) c.do_steps.new.core w c.do_steps.new.writer c.do_steps.new.lines r)
+    (subst (λ (r : Result ⊤ WriteFault).
+    HasDone plan (length plan.steps) c.do_steps.new.core w c.do_steps.new.writer c.do_steps.new.lines r)
     c.in-Ok-do_steps.is (c.do_steps.ensures plan w (sym c.steps.ensures.steps) begun))

@@ -10,7 +10,8 @@ use Rattle.script_text.proofs.write.record_lines.put_lines.Goals as goal
 pub loop-index-init : goal.loop-index-init
 loop-index-init g c = record {
   counted = c.requires;
-  so_far = λ first r before. subst (λ (all : EventList). AreLinesOf all first c.args.writer.now c.args.lines.now) (sym (none_more r)) before;
+  so_far = λ first r before. subst (λ (all : EventList). AreLinesOf all first c.args.writer.now c.args.lines.now)
+      (sym (none_more r)) before;
 }
 
 pub returns-in-Err-clause-err : goal.returns-in-Err-clause-err

@@ -19,7 +19,8 @@ returns-in-Ok-clause-ok g c first r before =
     line_put r c.args.event.now first c.args.writer.now c.make_room.new.writer c.args.self.now l.events
     (take l.at l.buffer.items) (take c.in-Ok.left l.buffer.items) _ before (sym c.self.view_is) made
     (ap (λ (items : List ℕ). take c.put_event-self-inside.result items) (with_items_is l.buffer new len)
-    ∙ subst (λ (items : List ℕ). take c.put_event-self-inside.result new ≡ take c.in-Ok.left items ++ event_line (l.events + 1) c.args.event.now)
+    ∙ subst (λ (items : List ℕ).
+    take c.put_event-self-inside.result new ≡ take c.in-Ok.left items ++ event_line (l.events + 1) c.args.event.now)
     c.deref_mut.ensures.value (c.put_event-self-inside.ensures.put (l.events + 1) small c.count_on.ensures))
 
 pub returns-in-Err-clause-err : goal.returns-in-Err-clause-err
