@@ -12,6 +12,7 @@ pub fn next_link(table: &RegionTable, object: Addr, start: u32, end: u32) -> u32
     requires { end ≤ length (fields_at table.now object) }
     ensures low { result < end → start ≤ result }
     ensures high { result ≤ end }
+    ensures link { result < end → (target : ℕ) × (slice_get (fields_at table.now object) result ≡ Some (Some target)) }
     ensures nil { (field : ℕ) → start ≤ field → field < result → slice_get (fields_at table.now object) field ≡ Some None }
 {
     if start >= end {
