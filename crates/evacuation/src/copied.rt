@@ -69,7 +69,7 @@ fn settle_region(
     'tiles: loop {
         table.law();
         settle_object(table, destinations, set, noted, card_words, at);
-        let Some(next) = table.next_tile(at) else {
+        let Some(next) = table.next_behind(at) else {
             break 'tiles;
         };
         at = next;

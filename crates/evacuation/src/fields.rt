@@ -137,7 +137,7 @@ fn redirect(
     to
 }
 
-/// A field of an object outside the set names the new place of its target, and its card is noted if it leads into another
+/// A field of an object outside the set, which names `target`, names its new place, and its card is noted if it leads into another
 /// region than `home`, the card's own. A field that names nothing of the set stays as it is.
 pub(crate) fn update_field(
     table: &mut RegionTable,
@@ -148,6 +148,7 @@ pub(crate) fn update_field(
     home: RegionNo,
     at: Addr,
     field: u32,
+    target: Addr,
 )
     ghost pause: { Pause }
     requires premises { IsPause pause }
@@ -159,14 +160,12 @@ pub(crate) fn update_field(
     requires home { field_word at field / pause.start.words_per_region ≡ home }
     requires outside { in_set pause at ≡ false }
     requires field { IsField (space pause table.old) at field }
+    requires names { slice_get (fields_at table.old at) field ≡ Some (Some target) }
     ensures turn { IsTurn pause table.new destinations.new }
     ensures after { After pause noted.old noted.new table.old table.new destinations.old destinations.new }
     ensures each_card { EachCard pause noted.new }
     ensures clean { IsFieldClean (layout pause) (space pause table.new) at field }
 {
-    let Some(target) = table.get_field(at, field) else {
-        return;
-    };
     if !is_inside(table, set, target) {
         return;
     }

@@ -54,10 +54,20 @@ fn update_object(
     let count = table.field_count(at);
     let start = from.saturating_sub(first);
     let end = to.saturating_sub(first).min(count);
-    let mut field = next_link(table, at, start, end);
-    'fields: while field < end {
-        update_field(table, destinations, set, noted, card, home, at, field);
-        field = next_link(table, at, field + 1, end);
+    let mut next = start;
+    'fields: while let Some(link) = next_link(table, at, next, end) {
+        update_field(
+            table,
+            destinations,
+            set,
+            noted,
+            card,
+            home,
+            at,
+            link.0,
+            link.1,
+        );
+        next = link.0 + 1;
     }
 }
 
@@ -99,7 +109,8 @@ fn update_tile(
     }
 }
 
-/// The fields of one card, from the tile on that holds its first word and starts in a region outside the set.
+/// The fields of one card, which ends at the word `end`, from the tile on that holds its first word and starts in a region outside
+/// the set.
 fn update_tiles(
     table: &mut RegionTable,
     destinations: &mut Destinations,
@@ -111,6 +122,7 @@ fn update_tiles(
     card: u32,
     home: RegionNo,
     first: Addr,
+    end: u32,
 )
     ghost pause: { Pause }
     requires premises { IsPause pause }
@@ -124,13 +136,13 @@ fn update_tiles(
     requires home { card / pause.cards_per_region ≡ home }
     requires outside { in_set pause first ≡ false }
     requires holder { IsHolder table.old first (card * card_words) }
+    requires end { end ≡ card * card_words + card_words }
     ensures turn { IsTurn pause table.new destinations.new }
     ensures after { After pause noted.old noted.new table.old table.new destinations.old destinations.new }
     ensures each_card { EachCard pause noted.new }
     ensures clean { (visited : List Bool) → IsCardClean pause visited table.new card }
 {
     table.law();
-    let end = card * card_words + card_words;
     let mut at = first;
     'tiles: loop {
         table.law();
@@ -186,7 +198,8 @@ fn update_card(
     ensures clean { (visited : List Bool) → IsCardClean pause visited table.new card }
 {
     table.law();
-    let bottom = Addr::new(card * card_words);
+    let from = card * card_words;
+    let bottom = Addr::new(from);
     let Some(first) = table.first_tile(bottom) else {
         return;
     };
@@ -205,6 +218,7 @@ fn update_card(
         card,
         home,
         first,
+        from + card_words,
     );
 }
 

@@ -11,7 +11,9 @@ use object_copy::Destinations;
 use regions::RegionTable;
 use root_table::Roots;
 
-/// The roots in order: each that isn't nil names the new place of its target. Where no region is evacuated, none is looked at.
+/// The roots in order: each that isn't nil names the new place of its target. Where no region is evacuated, none is looked at. It stands
+/// apart from the rest of a pause, so that a root costs few instructions.
+#[inline(never)]
 pub(crate) fn update_roots(
     table: &mut RegionTable,
     destinations: &mut Destinations,
@@ -33,11 +35,18 @@ pub(crate) fn update_roots(
     if regions == 0 {
         return;
     }
-    let mut from = 0;
-    while let Some(place) = roots.next_named(from) {
-        let word = roots.get(place);
-        let new = new_word(table, destinations, set, word);
+    let end = roots.as_slice().len();
+    let mut place = 0;
+    while place < end {
+        let Some(target) = roots.get(place) else {
+            let Some(next) = roots.next_named(place) else {
+                return;
+            };
+            place = next;
+            continue;
+        };
+        let new = new_word(table, destinations, set, Some(target));
         roots.update(place, new);
-        from = place + 1;
+        place += 1;
     }
 }

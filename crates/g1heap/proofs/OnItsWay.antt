@@ -1,7 +1,6 @@
 -- A record on its way to the writer, by one event more.
-use Rattle.std.proofs.Common.{◌≡◌, ◌≢◌, ◌<◌, ◌+◌, ℕ, List, [], ◌∷◌, ◌++◌, Result, Ok, Err, length, map, get_or, ap, refl, sym, subst}
-use Rattle.std.proofs.Common.{◌∙◌, append_assoc, arith}
-use Rattle.std.proofs.lemmas.List.{append-nil, take_all, length-map}
+use Rattle.std.proofs.Common.{◌≡◌, ◌≢◌, List, [], ◌∷◌, ◌++◌, Result, Ok, Err, map, ap, refl, sym, subst, ◌∙◌, append_assoc}
+use Rattle.std.proofs.lemmas.List.{append-nil, map-append}
 use Rattle.std.proofs.KnownBytes.{Keeps-refl}
 use Rattle.std.specs.Prelude.{⊤, OnOk, OnErr}
 use Rattle.heap_steps.specs.Actors.{StepList, EventList, step_in}
@@ -21,7 +20,7 @@ use Rattle.script_text.specs.declared.fault.WriteFault.{WriteFault}
 use Rattle.script_text.specs.declared.fault.WriteFault.TheVariants as writes
 use Rattle.step_core.specs.Histories.{RunsTo, IsRunInOrder, actor_in, actor_of}
 use Rattle.step_core.specs.Stands.{CoreState, Stands, IsCore}
-use Rattle.step_core.proofs.Cores.Following.{grown, grown_by, history_is_run}
+use Rattle.step_core.proofs.Cores.Following.{history_is_run}
 use Rattle.step_core.proofs.Cores.Running.{runs_none}
 use Rattle.g1heap.specs.InOrder.{AnswersInOrder, HasDone, IsOnItsWay}
 
@@ -51,29 +50,33 @@ one_put plan es e first old new lines lines' (Err fault) ok err other before =
     refused_before plan es e first new lines lines' fault
     (λ is. other (ap Err is), λ more. err first (with_events (no_events plan.config) es) more before)
 
+-- what each event has of its step, one step on
+moved_on : {A : Type 0} (in_event : Event → A) (es : List Event) (e : Event) (x : A) (left all : List A) → in_event e ≡ x
+    → map in_event es ++ x ∷ left ≡ all → map in_event (es ++ e ∷ []) ++ left ≡ all
+moved_on in_event es e x left all same so_far =
+    ap (λ xs. xs ++ left) (map-append in_event es (e ∷ [])) ∙ append_assoc (map in_event es) (in_event e ∷ []) left
+    ∙ ap (λ y. map in_event es ++ y ∷ left) same ∙ so_far
+
 -- one step more is done
-pub one_done : (plan : StepList) (ss : List Step) (i : ℕ) (s : Step) (e : Event) (c c' : CoreState) (first old new : Writer)
-    (lines lines' : Lines) (before after : Result ⊤ WriteFault) → plan.steps ≡ ss → i < length ss → e.step ≡ get_or ss i s
-    → e.actor ≡ actor_of (get_or ss i s)
+pub one_done : (plan : StepList) (s : Step) (had left : List Step) (e : Event) (c c' : CoreState) (first old new : Writer)
+    (lines lines' : Lines) (before after : Result ⊤ WriteFault) → had ≡ s ∷ left → e.step ≡ s → e.actor ≡ actor_of s
     → ((es : List Event) → RunsTo plan.config es c → RunsTo plan.config (es ++ e ∷ []) c')
     → ((es : List Event) → IsOnItsWay plan es first old lines before → IsOnItsWay plan (es ++ e ∷ []) first new lines' after)
-    → HasDone plan i c first old lines before → HasDone plan (i + 1) c' first new lines' after
-one_done plan ss i s e c c' first old new lines lines' before after same within step actor runs way h =
-    let within : i < length plan.steps = rw same within in
-    let step : e.step ≡ get_or plan.steps i s = rw same step in
-    let actor : e.actor ≡ actor_of (get_or plan.steps i s) = rw same actor in
-    record {
-      events = h.events ++ e ∷ [];
-      steps = grown step_in h.events e plan.steps i s h.steps within step;
-      actors = grown_by actor_in actor_of h.events e plan.steps i s h.actors within actor;
-      runs = runs h.events h.runs;
-      record_is = way h.events h.record_is;
-    }
+    → HasDone plan had c first old lines before → HasDone plan left c' first new lines' after
+one_done plan s had left e c c' first old new lines lines' before after taken step actor runs way h = record {
+  events = h.events ++ e ∷ [];
+  steps = moved_on step_in h.events e s left plan.steps step
+      (ap (λ (ss : List Step). map step_in h.events ++ ss) (sym taken) ∙ h.steps);
+  actors = moved_on actor_in h.events e (actor_of s) (map actor_of left) (map actor_of plan.steps) actor
+      (ap (λ (ss : List Step). map actor_in h.events ++ map actor_of ss) (sym taken) ∙ h.actors);
+  runs = runs h.events h.runs;
+  record_is = way h.events h.record_is;
+}
 
 -- nothing is done yet
 pub none_done : (plan : StepList) (config : Config) (c : CoreState) (w : Writer) (lines : Lines) → config ≡ plan.config
     → c ≡ fresh_core config → IsCore c → Stands (first_state config) c → ((w : Writer) → AreLinesOf (no_events config) w w lines)
-    → HasDone plan 0 c w w lines (Ok tt)
+    → HasDone plan plan.steps c w w lines (Ok tt)
 none_done plan config c w lines same fresh core stands begun = record {
   events = [];
   steps = refl;
@@ -84,12 +87,12 @@ none_done plan config c w lines same fresh core stands begun = record {
 
 -- all is done: a run of the plan
 pub all_done : (plan : StepList) (c : CoreState) (first now : Writer) (lines : Lines) (outcome : Result ⊤ WriteFault)
-    → (h : HasDone plan (length plan.steps) c first now lines outcome)
+    → (h : HasDone plan [] c first now lines outcome)
     → IsRunInOrder plan (record_by plan h.events)
 all_done plan c first now lines outcome h = record {
   config = refl;
-  steps = h.steps ∙ take_all (length plan.steps) plan.steps (omega arith);
-  actors = h.actors ∙ take_all (length plan.steps) (map actor_of plan.steps) (omega (arith, length-map plan.steps actor_of));
+  steps = sym (append-nil (map step_in h.events)) ∙ h.steps;
+  actors = sym (append-nil (map actor_in h.events)) ∙ h.actors;
   last = h.runs.runs.last;
   run = history_is_run (first_state plan.config) (fresh_core plan.config) h.events h.runs.runs.last c h.runs.runs.history;
   history = (c, h.runs);
@@ -103,7 +106,7 @@ faulted plan config fault w same may =
 
 -- all is done, and the writer refused a line
 pub stopped_within : (plan : StepList) (c : CoreState) (old new : Writer) (lines : Lines) (fault : WriteFault)
-    → HasDone plan (length plan.steps) c old new lines (Err fault) → AnswersInOrder plan old new (Err (Write fault))
+    → HasDone plan [] c old new lines (Err fault) → AnswersInOrder plan old new (Err (Write fault))
 stopped_within plan c old new lines fault h =
     let r = record_by plan h.events in (
       Ok r,
@@ -117,7 +120,7 @@ stopped_within plan c old new lines fault h =
 -- all is done, and the last lines are written
 pub finished : (plan : StepList) (c : CoreState) (old now new : Writer) (lines : Lines) (r : Result ⊤ WriteFault)
     → OnOk r ((w : Writer) (had : EventList) → AreLinesOf had w now lines → Takes w new (record_text had))
-    → HasDone plan (length plan.steps) c old now lines (Ok tt) → r ≡ Ok tt → AnswersInOrder plan old new (Ok tt)
+    → HasDone plan [] c old now lines (Ok tt) → r ≡ Ok tt → AnswersInOrder plan old new (Ok tt)
 finished plan c old now new lines r took h is =
     let made = record_by plan h.events in
     let took : (w : Writer) (had : EventList) → AreLinesOf had w now lines → Takes w new (record_text had) =
@@ -128,7 +131,7 @@ finished plan c old now new lines r took h is =
 -- all is done, and the writer refused the last lines
 pub stopped_last : (plan : StepList) (c : CoreState) (old now new : Writer) (lines : Lines) (fault : WriteFault) → fault ≢ writes.NoMemory
     → ((w : Writer) (had : EventList) → AreLinesOf had w now lines → TakesPart w new (record_text had))
-    → HasDone plan (length plan.steps) c old now lines (Ok tt) → AnswersInOrder plan old new (Err (Write fault))
+    → HasDone plan [] c old now lines (Ok tt) → AnswersInOrder plan old new (Err (Write fault))
 stopped_last plan c old now new lines fault other stop h =
     let made = record_by plan h.events in (
       Ok made,

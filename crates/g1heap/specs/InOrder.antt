@@ -1,7 +1,8 @@
 -- A script's steps in their order, whose events are written as they are done.
-use Rattle.std.specs.Prelude.{◌≡◌, ◌≢◌, ℕ, ⊤, Result, Ok, Err, List, IfOk, IfErr, map, take}
+use Rattle.std.specs.Prelude.{◌≡◌, ◌≢◌, ⊤, Result, Ok, Err, List, ◌++◌, IfOk, IfErr, map}
 use Rattle.heap_steps.specs.Actors.{StepList, EventList, step_in}
 use Rattle.heap_steps.specs.declared.step.Event.{Event}
+use Rattle.heap_steps.specs.declared.step.Step.{Step}
 use Rattle.heap_steps.specs.declared.fault.RunFault.{RunFault}
 use Rattle.heap_steps.specs.Faults.{IsRunFault}
 use Rattle.jobs.specs.Runs.{Answers}
@@ -20,12 +21,13 @@ IsOnItsWay plan es first now lines (Ok done) = AreLinesOf (with_events (no_event
 IsOnItsWay plan es first now lines (Err fault) = (fault ≢ writes.NoMemory)
     × ((more : List Event) → TakesPart first now (record_text (with_events (with_events (no_events plan.config) es) more)))
 
--- So many of the plan's steps are done: the events are theirs, a run of a new heap up to this core, and their record is on its way.
-pub record HasDone (plan : StepList) (count : ℕ) (c : CoreState) (first now : Writer) (lines : Lines) (outcome : Result ⊤ WriteFault)
+-- The plan's steps are done but for those that are left: the events are theirs, a run of a new heap up to this core, and their record is on
+-- its way.
+pub record HasDone (plan : StepList) (left : List Step) (c : CoreState) (first now : Writer) (lines : Lines) (outcome : Result ⊤ WriteFault)
     : Type 0 where
   pub events : List Event
-  pub steps : map step_in events ≡ take count plan.steps
-  pub actors : map actor_in events ≡ take count (map actor_of plan.steps)
+  pub steps : map step_in events ++ left ≡ plan.steps
+  pub actors : map actor_in events ++ map actor_of left ≡ map actor_of plan.steps
   pub runs : RunsTo plan.config events c
   pub record_is : IsOnItsWay plan events first now lines outcome
 

@@ -2,15 +2,15 @@
 
 ghost use Rattle.std.specs.Prelude.{◌≡◌, ◌<◌, ◌+◌, ◌^◌, ◌++◌, ◌∷◌, [], ℕ, List, Ok, OnOk, length};
 ghost use Rattle.heap_steps.specs.declared.step.Event as events;
-ghost use Rattle.heap_steps.specs.Actors.{StepList, AreSteps};
+ghost use Rattle.heap_steps.specs.Actors.{StepList};
 ghost use Rattle.script_text.specs.Watched.{Writer};
 ghost use Rattle.g1heap.specs.InOrder.{AnswersInOrder, HasDone, IsOnItsWay};
 ghost use Rattle.g1heap.specs.Runs.{EndsIn};
 
 use command_line::Order;
-use heap_steps::{Event, Plan, RunFault, Step, run_fault};
-use jobs::{JobFault, read_plan};
-use script_text::{RecordLines, WatchedReader, WatchedWriter, WriteFault};
+use heap_steps::{Event, RunFault, run_fault};
+use jobs::JobFault;
+use script_text::{RecordLines, ScriptSteps, WatchedReader, WatchedWriter, WriteFault, read_text};
 use std::alloc::Global;
 use std::io::{Read, Write};
 use step_core::Core;
@@ -34,36 +34,38 @@ fn put_line<W: Write>(
     }
 }
 
-/// Does a plan's steps in their order, and puts the line of each event. Where the writer refuses one, the steps behind it are done all the
-/// same: so what was written is a beginning of a whole run's record.
+/// Does the steps that are left in their order, and puts the line of each event. Where the writer refuses one, the steps behind it are done
+/// all the same: so what was written is a beginning of a whole run's record.
 fn do_steps<W: Write>(
     core: &mut Core,
     lines: &mut RecordLines,
-    steps: &[Step],
+    steps: &mut ScriptSteps<'_>,
     writer: &mut WatchedWriter<W>,
 ) -> Result<(), WriteFault>
-    requires steps { AreSteps core.old.config steps.now }
+    requires sizes { steps.old.config ≡ core.old.config }
+    requires few { length steps.old.steps < 2 ^ 64 }
     requires none { lines.old.events ≡ 0 }
-    ensures { (plan : StepList) (first : Writer) → plan.steps ≡ steps.now → HasDone plan 0 core.old first writer.old lines.old (Ok tt)
-        → HasDone plan (length plan.steps) core.new first writer.new lines.new result }
+    ensures { (plan : StepList) (first : Writer) → HasDone plan steps.old.steps core.old first writer.old lines.old (Ok tt)
+        → HasDone plan [] core.new first writer.new lines.new result }
 {
     let mut outcome = Ok(());
-    for index in 0..steps.len() {
-        let event = core.perform(&steps[index]);
+    while let Some(step) = steps.next_step() {
+        let event = core.perform(&step);
         outcome = put_line(outcome, lines, &event, writer);
     }
     outcome
 }
 
-/// Does a plan's steps in their order in a new heap, and writes the record of its events.
-fn run_plan<W: Write>(
+/// Does a script's steps in their order in a new heap, and writes the record of its events.
+fn run_steps<W: Write>(
     alloc: Global,
-    plan: &Plan,
+    steps: &mut ScriptSteps<'_>,
     writer: &mut WatchedWriter<W>,
 ) -> Result<(), JobFault>
-    ensures { AnswersInOrder plan.now writer.old writer.new result }
+    requires few { length steps.old.steps < 2 ^ 64 }
+    ensures { AnswersInOrder steps.old writer.old writer.new result }
 {
-    let config = plan.config();
+    let config = steps.config();
     let mut core = match Core::new(alloc, &config) {
         Ok(core) => core,
         Err(fault) => return Err(JobFault::Run(run_fault(fault))),
@@ -71,7 +73,7 @@ fn run_plan<W: Write>(
     let Ok(mut lines) = RecordLines::new(alloc, &config) else {
         return Err(JobFault::Run(RunFault::NoMemory));
     };
-    match do_steps(&mut core, &mut lines, plan.steps(), writer) {
+    match do_steps(&mut core, &mut lines, steps, writer) {
         Ok(()) => {}
         Err(fault) => return Err(JobFault::Write(fault)),
     }
@@ -82,7 +84,8 @@ fn run_plan<W: Write>(
 }
 
 /// Reads a script to the end of input, runs it in a new heap, and writes its record: each line once its step is done, by way of a buffer.
-/// Nothing is written before the heap is made, and no fault but the writer's can come after.
+/// Nothing is written before the heap is made, and no fault but the writer's can come after: the script's text is read twice, for its
+/// faults and for its steps, and no list of the steps is kept.
 pub fn run_script<R: Read, W: Write>(
     alloc: Global,
     reader: &mut WatchedReader<R>,
@@ -90,6 +93,12 @@ pub fn run_script<R: Read, W: Write>(
 ) -> Result<(), JobFault>
     ensures { EndsIn Order.File reader.old reader.new writer.old writer.new result }
 {
-    let plan = read_plan(alloc, reader)?;
-    run_plan(alloc, &plan, writer)
+    let text = match read_text(alloc, reader) {
+        Ok(text) => text,
+        Err(fault) => return Err(JobFault::Read(fault)),
+    };
+    match ScriptSteps::new(text.as_slice()) {
+        Ok(mut steps) => run_steps(alloc, &mut steps, writer),
+        Err(fault) => Err(JobFault::Line(fault)),
+    }
 }

@@ -20,7 +20,7 @@ between_no_below from to a h = rw (lt-leb from a h) refl
 pub between_no_above : (from to a : ℕ) → to ≤ a → is_between from to a ≡ false
 between_no_above from to a h = ap (λ b. leb from a && b) (le-ltb a to h) ∙ and-false (leb from a)
 
-between_same : (from to upto a : ℕ) → (a < to → a < upto) → (a < upto → a < to) → is_between from to a ≡ is_between from upto a
+pub between_same : (from to upto a : ℕ) → (a < to → a < upto) → (a < upto → a < to) → is_between from to a ≡ is_between from upto a
 between_same from to upto a h k =
     let yes : a < to → is_between from to a ≡ is_between from upto a =
     λ b. ap (λ v. leb from a && v) (lt-ltb a to b ∙ sym (lt-ltb a upto (h b))) in
@@ -106,7 +106,7 @@ module _ (value : Bool) (initial ws : List ℕ) (from to i before after : ℕ) (
   put_more a = ⊎_elim (λ e. here a e) (λ ne. elsewhere a ne) (cases_eq (a / 64) i)
 
 -- where each word of the range is done
-between_matches : (from to i end : ℕ) → end ≡ div_ceil to 64 → end ≤ i → from / 64 ≤ i → (a : ℕ)
+pub between_matches : (from to i end : ℕ) → end ≡ div_ceil to 64 → end ≤ i → from / 64 ≤ i → (a : ℕ)
     → is_between from (min to (64 * i)) a ≡ is_between from to a
 between_matches from to i end e h k a =
     between_same from (min to (64 * i)) to a (λ b. omega arith) (λ b. omega (arith, div_ceil_reaches to))

@@ -1,9 +1,10 @@
 -- Words written in the place of others.
-use Rattle.std.proofs.Common.{◌≡◌, ◌⊎◌, ◌+◌, ◌-◌, ◌<◌, ◌≤◌, ◌∷◌, ◌++◌, ◌∙◌}
-use Rattle.std.proofs.Common.{inl, inr, ℕ, zero, suc, List, [], length, take, drop, get_or, set, refl, sym, ap}
+use Rattle.std.proofs.Common.{◌≡◌, ◌+◌, ◌-◌, ◌<◌, ◌≤◌, ◌∷◌, ◌++◌, ◌∙◌}
+use Rattle.std.proofs.Common.{ℕ, zero, suc, List, [], length, take, drop, get_or, set, refl, sym, ap, ap₂}
 use Rattle.std.proofs.Common.{arith, add-zero, zero-add, replicate, drop-cons}
 use Rattle.std.proofs.lemmas.List.{length-append, length-take, length-drop, append_assoc, set_at, replicate_more}
-use Rattle.std.proofs.lemmas.List.{length-replicate, get_or-append_right, get_or-drop, take_more}
+use Rattle.std.proofs.lemmas.List.{take-append-drop, drop-drop}
+use Rattle.std.proofs.lemmas.List.{length-replicate}
 use Rattle.std.proofs.lemmas.List.{take_at, take-append-le, drop-append-le}
 use lib.Seq.{paste}
 use Rattle.heap_words.specs.Contents.{put}
@@ -57,66 +58,6 @@ paste_put ws from to m h l =
     append_assoc (take to ws) (take m (drop from ws)) (drop (to + m) ws)
     ∙ sym (put_whole ws to (take m (drop from ws)) (omega arith) ∙ rw len refl)
 
--- a word that isn't of a block reads as before
-pub read_apart : (ws : List ℕ) (n j : ℕ) (block : List ℕ) → (j < n) ⊎ (n + length block ≤ j) → get_or (put ws n block) j 0 ≡ get_or ws j 0
-read_apart ws zero j block (inl h) = absurd (omega arith)
-read_apart ws zero j block (inr h) =
-    let at : length block + (j - length block) ≡ j = omega arith in
-    get_or-append_right block (drop (length block) ws) (length block) j 0 refl (omega arith)
-    ∙ get_or-drop (length block) ws (j - length block) 0 ∙ ap (λ (i : ℕ). get_or ws i 0) at
-read_apart [] (suc n) j block h = refl
-read_apart (w ∷ ws) (suc n) zero block h = refl
-read_apart (w ∷ ws) (suc n) (suc j) block (inl h) = read_apart ws n j block (inl (omega arith))
-read_apart (w ∷ ws) (suc n) (suc j) block (inr h) = read_apart ws n j block (inr (omega arith))
-
--- a copy of so many words to a place apart, with one word more
-pub copied_more : (ws : List ℕ) (from to size i : ℕ) → from + size ≤ length ws → to + size ≤ length ws
-    → (to + size ≤ from) ⊎ (from + size ≤ to) → i < size
-    → set (put ws to (take i (drop from ws))) (to + i) (get_or (put ws to (take i (drop from ws))) (from + i) 0)
-    ≡ put ws to (take (i + 1) (drop from ws))
-copied_more ws from to size i s t apart h =
-    let len : length (take i (drop from ws)) ≡ i = simp (length-take, length-drop) (omega arith) in
-    let side : (from + i < to) ⊎ (to + length (take i (drop from ws)) ≤ from + i) = elim apart [
-      | inl a ↦ inr (omega (arith, len))
-      | inr a ↦ inl (omega arith)
-    ] in
-    let read : get_or (put ws to (take i (drop from ws))) (from + i) 0 ≡ get_or (drop from ws) i 0 =
-    read_apart ws to (from + i) (take i (drop from ws)) side ∙ sym (get_or-drop from ws i 0) in
-    let more : take (i + 1) (drop from ws) ≡ take i (drop from ws) ++ get_or (drop from ws) i 0 ∷ [] =
-    take_more (drop from ws) i 0 (simp length-drop (omega arith)) in
-    rw (read, more) (put_more ws to i (get_or (drop from ws) i 0) (take i (drop from ws)) len (omega arith))
-
--- and with two words more
-pub copied_two : (ws : List ℕ) (from to size i : ℕ) → from + size ≤ length ws → to + size ≤ length ws
-    → (to + size ≤ from) ⊎ (from + size ≤ to) → i + 1 < size
-    → set (set (put ws to (take i (drop from ws))) (to + i) (get_or (put ws to (take i (drop from ws))) (from + i) 0)) (to + i + 1)
-    (get_or (put ws to (take i (drop from ws))) (from + i + 1) 0)
-    ≡ put ws to (take (i + 2) (drop from ws))
-copied_two ws from to size i s t apart h =
-    let before : List ℕ = put ws to (take i (drop from ws)) in
-    let after : List ℕ = put ws to (take (i + 1) (drop from ws)) in
-    let one = copied_more ws from to size i s t apart (omega arith) in
-    let two = copied_more ws from to size (i + 1) s t apart h in
-    let here : to + (i + 1) ≡ to + i + 1 = omega arith in
-    let there : from + (i + 1) ≡ from + i + 1 = omega arith in
-    let more : i + 1 + 1 ≡ i + 2 = omega arith in
-    let read = reads ws from to size i (i + 1) s t apart (omega arith) h in
-    let next = reads ws from to size (i + 1) (i + 1) s t apart h h in
-    let same : get_or before (from + i + 1) 0 ≡ get_or after (from + (i + 1)) 0 =
-    ap (λ (n : ℕ). get_or before n 0) (sym there) ∙ read ∙ sym next in
-    rw (one, same, ← here) (two ∙ ap (λ (n : ℕ). put ws to (take n (drop from ws))) more)
-  where
-    reads : (ws : List ℕ) (from to size i j : ℕ) → from + size ≤ length ws → to + size ≤ length ws
-        → (to + size ≤ from) ⊎ (from + size ≤ to) → i < size → j < size
-        → get_or (put ws to (take i (drop from ws))) (from + j) 0 ≡ get_or ws (from + j) 0
-    reads ws from to size i j s t apart h k =
-        let len : length (take i (drop from ws)) ≡ i = simp (length-take, length-drop) (omega arith) in
-        let side : (from + j < to) ⊎ (to + length (take i (drop from ws)) ≤ from + j) = elim apart [
-          | inl a ↦ inr (omega (arith, len))
-          | inr a ↦ inl (omega arith)
-        ] in
-        read_apart ws to (from + j) (take i (drop from ws)) side
-
 -- ---- words in front of others
 put_length : (ws : List ℕ) (n : ℕ) (block : List ℕ) → n + length block ≤ length ws → length (put ws n block) ≡ length ws
 put_length ws zero block h = simp (length-append, length-drop) (omega arith)
@@ -136,6 +77,38 @@ pub read_front : (ws rest : List ℕ) (from m : ℕ) → from + m ≤ length ws 
 read_front ws rest from m h =
     ap (take m) (drop-append-le from ws rest (omega arith))
     ∙ take-append-le m (drop from ws) rest (simp length-drop (omega arith))
+
+-- a copy to a place behind its own, where the words are cut at that place: the words in front, the copy, and those behind it
+pub copied_up : (ws low high block : List ℕ) (from to size n : ℕ) → from + size ≤ to → to + size ≤ length ws → low ≡ take to ws
+    → high ≡ drop to ws → n ≡ size → block ≡ take n (drop from low)
+    → low ++ (block ++ drop size high) ≡ put ws to (take size (drop from ws))
+copied_up ws low high block from to size n h l low_is high_is size_is is =
+    let front : length (take to ws) ≡ to = simp length-take (omega arith) in
+    let copied : block ≡ take size (drop from ws) =
+    is ∙ ap (λ (m : ℕ). take m (drop from low)) size_is ∙ ap (λ (xs : List ℕ). take size (drop from xs)) low_is
+    ∙ sym (read_front (take to ws) (drop to ws) from size (omega (arith, front)))
+    ∙ ap (λ (xs : List ℕ). take size (drop from xs)) (take-append-drop to ws) in
+    let len : length (take size (drop from ws)) ≡ size = simp (length-take, length-drop) (omega arith) in
+    let rest : drop size high ≡ drop (to + length (take size (drop from ws))) ws =
+    ap (drop size) high_is ∙ drop-drop size to ws ∙ ap (λ (m : ℕ). drop (to + m) ws) (sym len) in
+    rw (low_is, copied, rest) (sym (put_whole ws to (take size (drop from ws)) (omega arith)))
+
+-- and to a place before its own, where they are cut at that one
+pub copied_down : (ws low high block : List ℕ) (from to size n : ℕ) → to + size ≤ from → from + size ≤ length ws → low ≡ take from ws
+    → high ≡ drop from ws → n ≡ size → block ≡ take size high
+    → take to low ++ (block ++ drop n (drop to low)) ++ high ≡ put ws to (take size (drop from ws))
+copied_down ws low high block from to size n h l low_is high_is size_is is =
+    let all : low ++ high ≡ ws = ap₂ (λ (xs ys : List ℕ). xs ++ ys) low_is high_is ∙ take-append-drop from ws in
+    let front : length low ≡ from = ap (λ (xs : List ℕ). length xs) low_is ∙ simp length-take (omega arith) in
+    let copied : block ≡ take size (drop from ws) = is ∙ ap (take size) high_is in
+    let len : length block ≡ size =
+    ap (λ (xs : List ℕ). length xs) copied ∙ simp (length-take, length-drop) (omega arith) in
+    let rest : drop n (drop to low) ≡ drop (to + length block) low =
+    ap (λ (m : ℕ). drop m (drop to low)) (size_is ∙ sym len) ∙ drop-drop (length block) to low in
+    let part : take to low ++ (block ++ drop n (drop to low)) ≡ put low to block =
+    ap (λ (xs : List ℕ). take to low ++ (block ++ xs)) rest ∙ sym (put_whole low to block (omega (arith, front))) in
+    ap (λ (xs : List ℕ). xs ++ high) part ∙ sym (put_front low high to block (omega (arith, front, len)))
+    ∙ ap₂ (λ (xs ys : List ℕ). put xs to ys) all copied
 
 -- the words with those in front written back, and the zeros behind them
 pub put_back : (ws new : List ℕ) (count len n : ℕ) (block : List ℕ) → len ≡ length ws → new ≡ put ws n block → n + length block ≤ len

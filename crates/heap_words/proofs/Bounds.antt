@@ -16,7 +16,7 @@ pub record AreWide (low high from to low' high' : ℕ) : Type 0 where
   pub old : low < high → (low' ≤ low) × (high ≤ high')
   pub no_more : high' ≤ max high to
 
-still : (flags : List Bool) (low high from to low' high' a : ℕ) → AreWithin flags low high → AreWide low high from to low' high'
+pub still : (flags : List Bool) (low high from to low' high' a : ℕ) → AreWithin flags low high → AreWide low high from to low' high'
     → has flags a ≡ true → (low' ≤ a) × (a < high')
 still flags low high from to low' high' a w x h =
     let e = w.each a h in

@@ -5,3 +5,4 @@ pub mod LowestBits
 pub mod BitRanges
 pub mod Bounds
 pub mod Limits
+pub mod BitUnions

@@ -111,7 +111,7 @@ only ws vs a = bit_of ws a && not (bit_of vs a)
 abbrev pub left_part : ℕ → ℕ → ℕ → ℕ
 left_part w v low = bit_and (bit_and w (2 ^ 64 - 1 - v)) (high_mask low)
 
-one_or_zero : (x : ℕ) → x < 2 → (x ≡ 0) ⊎ (x ≡ 1)
+pub one_or_zero : (x : ℕ) → x < 2 → (x ≡ 0) ⊎ (x ≡ 1)
 one_or_zero x h = elim (eqb x 0) as (λ b. eqb x 0 ≡ b → (x ≡ 0) ⊎ (x ≡ 1))
     [ true ↦ λ e. inl (eqb-true x 0 e) | false ↦ λ e. inr (let ne : x ≡ 0 → ⊥ = eqb-false x 0 e in omega arith) ] refl
 

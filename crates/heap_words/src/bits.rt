@@ -11,7 +11,7 @@
 //! A set takes one bit a number, all reserved when it is made. To clear it, or a range of it, touches its words and not each
 //! number, and to go over its members costs the members and the words between them.
 
-ghost use Rattle.std.specs.Prelude.{◌≡◌, ◌+◌, ◌*◌, ◌^◌, ◌<◌, ◌≤◌, if◌then◌else◌};
+ghost use Rattle.std.specs.Prelude.{◌≡◌, ◌+◌, ◌*◌, ◌^◌, ◌<◌, ◌≤◌, ◌||◌, ◌&&◌, if◌then◌else◌};
 ghost use Rattle.std.specs.Prelude.{ℕ, false, true, IfOk, IfSome, length, MatchOption, replicate, slice_index, slice_set};
 ghost use Rattle.std.specs.Int.{bit_at};
 ghost use Rattle.heap_words.specs.Bits.{has, has_alone, is_between, HasNone, HasNoneBelow, IsLowest};
@@ -169,6 +169,20 @@ impl Bits {
         }
     }
 
+    /// The members of another set of as many numbers, of those from `from` up to `to`, which is not one of them, come into this one. It
+    /// looks at the words of this range alone.
+    pub fn set_members(&mut self, members: &Bits, from: u32, to: u32)
+        requires within { to ≤ length self.old }
+        requires even { length members.now ≡ length self.old }
+        ensures len { length self.new ≡ length self.old }
+        ensures flags { (a : ℕ) → has self.new a ≡ (has self.old a || (is_between from to a && has members.now a)) }
+    {
+        for index in from / 64..to.div_ceil(64) {
+            let more = members.words[index as usize] & mask_of(index, from, to);
+            self.words[index as usize] |= more;
+        }
+    }
+
     /// The numbers from `from` up to `to`, which is not one of them, are not in the set: word by word, by the bits of each.
     fn clear_part(&mut self, from: u32, to: u32)
         requires { to ≤ length self.old }
@@ -219,6 +233,17 @@ impl Bits {
                 return Some(from);
             }
         }
+        self.search_below(from, to)
+    }
+
+    /// The same, word by word.
+    #[inline(always)]
+    pub(crate) fn search_below(&self, from: u32, to: u32) -> Option<u32>
+        ensures lowest { MatchOption result (HasNoneBelow (has self.now) from to) (IsLowest (has self.now) from) }
+        ensures below { IfSome result (λ found. found < to) }
+        ensures within { IfSome result (λ found. found < length self.now) }
+    {
+        let end = to.min(self.len);
         for index in from / 64..end.div_ceil(64) {
             let all = self.words[index as usize];
             if all == 0 {

@@ -8,7 +8,7 @@
 //! To clear such a set, or to go over its members, touches the words between the bounds alone: of a set that is large and that
 //! few members come into, few words. The bounds widen as members come, and close when the set is cleared.
 
-ghost use Rattle.std.specs.Prelude.{◌≡◌, ◌^◌, ◌<◌, ◌≤◌, if◌then◌else◌};
+ghost use Rattle.std.specs.Prelude.{◌≡◌, ◌^◌, ◌<◌, ◌≤◌, ◌||◌, ◌&&◌, if◌then◌else◌};
 ghost use Rattle.std.specs.Prelude.{ℕ, max, false, true, IfOk, IfSome, length, MatchOption, replicate, slice_set};
 ghost use Rattle.heap_words.specs.Bits.{has, is_between, HasNone, IsLowest};
 
@@ -41,11 +41,7 @@ fn widened(low: u32, high: u32, from: u32, to: u32) -> (u32, u32)
     ensures old { low < high → (result.0 ≤ low) × (high ≤ result.1) }
     ensures no_more { result.1 ≤ max high to }
 {
-    if low < high {
-        (low.min(from), high.max(to))
-    } else {
-        (from, to)
-    }
+    (low.min(from), high.max(to))
 }
 
 impl BoundedBits {
@@ -56,7 +52,7 @@ impl BoundedBits {
         let bits = Bits::new(alloc, count)?;
         Ok(BoundedBits {
             bits,
-            low: 0,
+            low: u32::MAX,
             high: 0,
         })
     }
@@ -100,7 +96,7 @@ impl BoundedBits {
         ensures { self.new ≡ replicate (length self.old) false }
     {
         self.bits.clear_range(self.low, self.high);
-        self.low = 0;
+        self.low = u32::MAX;
         self.high = 0;
     }
 
@@ -116,6 +112,22 @@ impl BoundedBits {
         self.high = high;
     }
 
+    /// The members of another set of as many numbers, of those from `from` up to `to`, which is not one of them, come into this one.
+    pub fn set_members(&mut self, members: &Bits, from: u32, to: u32)
+        requires within { to ≤ length self.old }
+        requires even { length members.now ≡ length self.old }
+        ensures len { length self.new ≡ length self.old }
+        ensures flags { (a : ℕ) → has self.new a ≡ (has self.old a || (is_between from to a && has members.now a)) }
+    {
+        let Some(first) = members.next_below(from, to) else {
+            return;
+        };
+        let (low, high) = widened(self.low, self.high, first, to);
+        self.bits.set_members(members, first, to);
+        self.low = low;
+        self.high = high;
+    }
+
     /// The numbers from `from` up to `to`, which is not one of them, are not in the set.
     pub fn clear_range(&mut self, from: u32, to: u32)
         requires { to ≤ length self.old }
@@ -125,12 +137,17 @@ impl BoundedBits {
         self.bits.clear_range(from, to);
     }
 
-    /// The lowest number of the set at or above `from`.
+    /// The lowest number of the set at or above `from`. Where members stand in a row it looks at one bit for the next one.
     pub fn next(&self, from: u32) -> Option<u32>
         ensures lowest { MatchOption result (HasNone (has self.now) from) (IsLowest (has self.now) from) }
         ensures within { IfSome result (λ found. found < length self.now) }
     {
-        self.bits.next_below(from.max(self.low), self.high)
+        if from < self.high {
+            if self.bits.get(from) {
+                return Some(from);
+            }
+        }
+        self.bits.search_below(from.max(self.low), self.high)
     }
 }
 
@@ -172,6 +189,27 @@ mod tests {
         assert!(rt; bits.len() == 1000 && are(&bits, &[]));
         bits.set(64);
         assert!(rt; are(&bits, &[64]));
+        Ok(())
+    }
+
+    /// The members of a range of another set come, and what was there stays.
+    #[test]
+    fn takes_members(rt: HostRuntime) -> Result<(), Fail> {
+        let mut bits = BoundedBits::new(rt.alloc(), 200)?;
+        let mut members = Bits::new(rt.alloc(), 200)?;
+        assert!(rt; bits.len() == 200 && members.len() == 200);
+        members.set_range(60, 70);
+        assert!(rt; members.len() == 200);
+        members.set(130);
+        assert!(rt; members.len() == 200);
+        bits.set(5);
+        assert!(rt; bits.len() == 200);
+        bits.set_members(&members, 0, 60);
+        assert!(rt; bits.len() == 200 && are(&bits, &[5]));
+        bits.set_members(&members, 62, 66);
+        assert!(rt; bits.len() == 200 && are(&bits, &[5, 62, 63, 64, 65]));
+        bits.set_members(&members, 69, 131);
+        assert!(rt; are(&bits, &[5, 62, 63, 64, 65, 69, 130]));
         Ok(())
     }
 }

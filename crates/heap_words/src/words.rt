@@ -65,45 +65,19 @@ fn write_fresh(words: &mut [u64], at: usize, header: u64, name: u64, fields: usi
     }
 }
 
-/// Whether two places of so many words have none in common.
-fn are_apart(from: usize, to: usize, size: usize) -> bool
-    requires source { from + size < 2 ^ 64 }
-    requires target { to + size < 2 ^ 64 }
-    ensures { result ≡ true → (to + size ≤ from) ⊎ (from + size ≤ to) }
-{
-    to + size <= from || from + size <= to
-}
-
-/// Copies words within a slice to a place apart from theirs, two at a time.
-fn copy_apart(words: &mut [u64], from: usize, to: usize, size: usize)
+/// Copies words within a slice to a place apart from theirs: by the halves of the slice, so that it is one copy of memory.
+fn copy_within(words: &mut [u64], from: usize, to: usize, size: usize)
     requires source { from + size ≤ length words.old }
     requires target { to + size ≤ length words.old }
     requires apart { (to + size ≤ from) ⊎ (from + size ≤ to) }
     ensures { words.new ≡ put words.old to (take size (drop from words.old)) }
 {
-    let mut done = 0;
-    while done + 1 < size {
-        let first = words[from + done];
-        let second = words[from + done + 1];
-        words[to + done] = first;
-        words[to + done + 1] = second;
-        done += 2;
-    }
-    if done < size {
-        words[to + done] = words[from + done];
-    }
-}
-
-/// Copies words within a slice.
-fn copy_within(words: &mut [u64], from: usize, to: usize, size: usize)
-    requires source { from + size ≤ length words.old }
-    requires target { to + size ≤ length words.old }
-    ensures { words.new ≡ put words.old to (take size (drop from words.old)) }
-{
-    if are_apart(from, to, size) {
-        copy_apart(words, from, to, size);
+    if from < to {
+        let (low, high) = words.split_at_mut(to);
+        high[..size].copy_from_slice(&low[from..from + size]);
     } else {
-        words.copy_within(from..from + size, to);
+        let (low, high) = words.split_at_mut(from);
+        low[to..to + size].copy_from_slice(&high[..size]);
     }
 }
 
@@ -322,10 +296,11 @@ impl Words {
         self.items[at.word() as usize] = encode_header(Header::Forwarded { to });
     }
 
-    /// Copies so many words to another place. The two places may overlap.
-    pub fn copy(&mut self, from: Addr, to: Addr, size: u32)
+    /// Copies so many words to another place, apart from theirs.
+    pub fn copy_apart(&mut self, from: Addr, to: Addr, size: u32)
         requires source { from + size ≤ self.old.written }
         requires target { to + size ≤ self.old.written }
+        requires apart { (to + size ≤ from) ⊎ (from + size ≤ to) }
         ensures all { self.new.all ≡ put self.old.all to (take size (drop from self.old.all)) }
         ensures written { self.new.written ≡ self.old.written }
     {
@@ -380,7 +355,7 @@ mod tests {
         assert!(rt; fields_of(&words, object) == 1);
         words.set_value(object, 1, 9);
         assert!(rt; words.written() == 16);
-        words.copy(object, Addr::new(8), 5);
+        words.copy_apart(object, Addr::new(8), 5);
         assert!(rt; words.written() == 16);
         words.write_forwarded(object, Addr::new(8));
         assert!(rt; words.written() == 16);

@@ -1,8 +1,8 @@
 -- How many flags are set, as one comes or goes.
-use Rattle.std.proofs.Common.{◌≡◌, ℕ, ◌+◌, ◌^◌, ◌<◌, Bool, true, false, cond, List, length, set}
+use Rattle.std.proofs.Common.{◌≡◌, ℕ, ◌+◌, ◌^◌, ◌<◌, Bool, true, false, cond, List, length, replicate, set}
 use Rattle.std.proofs.Common.{inl, inr, sym, ap, ◌∙◌, arith, length-set}
 use Rattle.std.proofs.lemmas.Bool.{cases_Bool, cases_lt}
-use Rattle.std.proofs.lemmas.List.{set-get_or}
+use Rattle.std.proofs.lemmas.List.{ext_get_or, get_or-replicate, length-replicate, set-get_or}
 use Rattle.std.proofs.lemmas.List.Sums.{sum_by-set, count_by-le-length}
 use Rattle.heap_words.specs.Bits.{has, HasNone}
 use Rattle.heap_words.proofs.BitWords.{has_past}
@@ -35,3 +35,9 @@ none_counted flags e a low = elim (cases_Bool (has flags a)) [
   | inl is ↦ absurd (omega (arith, count_less flags a is, e))
   | inr unset ↦ unset
 ]
+
+-- then each flag is unset
+pub all_unset : (flags : List Bool) → marked_count flags ≡ 0 → flags ≡ replicate (length flags) false
+all_unset flags e =
+    ext_get_or false flags (replicate (length flags) false) (sym (length-replicate {A = Bool} (length flags) false))
+    (λ a h. none_counted flags e a (omega arith) ∙ sym (get_or-replicate (length flags) a false false h))

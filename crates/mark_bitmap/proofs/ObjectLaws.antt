@@ -2,13 +2,14 @@
 use Rattle.std.proofs.Common.{◌≡◌, ◌≢◌, ◌*◌, ◌<◌, ◌≤◌, ◌∙◌}
 use Rattle.std.proofs.Common.{inl, inr, ℕ, suc, Bool, true, false, List, Some, length, get_or, set, replicate, ltb, sym, ap, arith}
 use Rattle.std.proofs.Common.{⊎_elim, get_or-set_same, get_or-set_other, length-set}
-use Rattle.std.proofs.lemmas.Bool.{cases_lt, cases_eq, cases_Bool, ltb-true, lt-ltb}
+use Rattle.std.specs.Prelude.{not}
+use Rattle.std.proofs.lemmas.Bool.{and_parts, cases_lt, cases_eq, cases_Bool, ltb-true, lt-ltb}
 use Rattle.std.proofs.lemmas.List.{get_or-replicate, length-replicate, get_or_past}
 use Rattle.std.proofs.lemmas.List.FromFn.{length-map-range_with_len, get_or-map-range_with_len}
 use Rattle.std.proofs.lemmas.Nat.{mul-le}
 use Rattle.heap_model.specs.Heap.{Stored}
 use Rattle.regions.specs.Table.{Table, Free, free_table, object_at, top_of, used_of}
-use Rattle.mark_bitmap.specs.Marks.{is_marked}
+use Rattle.mark_bitmap.specs.Marks.{is_marked, is_only}
 use Rattle.mark_bitmap.specs.Tops.{bottoms, is_in_region, is_below}
 use Rattle.mark_bitmap.specs.Kept.{MarksObjects}
 use Rattle.mark_bitmap.proofs.Ranges.{below_in, lies_below, below_set_in, below_set_other, not_below_bottom}
@@ -18,6 +19,15 @@ none_marked n a =
     ⊎_elim (λ b. get_or-replicate n a false false b)
     (λ b. get_or_past (replicate n false) a false (omega (arith, length-replicate {A = Bool} n false)))
     (cases_lt a n)
+
+-- what is marked in a set, and not in another, is one of its addresses
+pub only_within : (marks other : List Bool) (a : ℕ) → is_only marks other a ≡ true → a < length marks
+only_within marks other a is = elim (cases_lt a (length marks)) [
+  | inl inside ↦ inside
+  | inr past ↦ absurd (let none = get_or_past marks a false past in
+      let marked = (and_parts (is_marked marks a) (not (is_marked other a)) is).0 in
+      cc)
+]
 
 pub new_objects : (count words : ℕ) → MarksObjects (free_table count words) (bottoms count words) (replicate (count * words) false)
 unfolding free_table

@@ -65,6 +65,19 @@ fn leave(set: &mut Summary, count: &mut u32, finger: u32)
     *count -= 1;
 }
 
+/// No finger is set. Where none is counted nothing is written.
+fn empty(set: &mut Summary, count: &mut u32)
+    requires counted { count.old ≡ marked_count set.old }
+    ensures set { set.new ≡ replicate (length set.old) false }
+    ensures counted { count.new ≡ 0 }
+{
+    if *count == 0 {
+        return;
+    }
+    set.clear();
+    *count = 0;
+}
+
 /// The lowest of those that are set.
 fn lowest_of(set: &Summary, count: u32) -> Option<u32>
     requires { count ≡ marked_count set.now }
@@ -88,8 +101,7 @@ impl Fingers {
 
     /// Whether no finger is set.
     pub fn is_empty(&self) -> bool
-        ensures count { result ≡ (marked_count self.now == 0) }
-        ensures none { result ≡ true → HasNone (has self.now) 0 }
+        ensures { result ≡ (marked_count self.now == 0) }
     {
         self.count == 0
     }
@@ -114,8 +126,7 @@ impl Fingers {
     pub fn clear(&mut self)
         ensures { self.new ≡ replicate (length self.old) false }
     {
-        self.set.clear();
-        self.count = 0;
+        empty(&mut self.set, &mut self.count);
     }
 
     /// The lowest finger that is set.

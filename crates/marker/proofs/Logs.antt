@@ -4,6 +4,7 @@ use Rattle.std.proofs.Common.{inl, inr, ℕ, Bool, true, List, [], Option, Some,
 use Rattle.std.proofs.Common.{arith, get_or-set_same, get_or-set_other, length-set}
 use Rattle.std.specs.Prelude.{Contains, slice_get}
 use Rattle.std.proofs.lemmas.Bool.{cases_eq}
+use Rattle.std.proofs.lemmas.List.{nil_from_length}
 use Rattle.std.proofs.lemmas.Option.{slice_get_within, slice_get_read, get_or_from_slice_get}
 use Rattle.heap_model.specs.Marking.{MarksMore, IsSaved}
 use Rattle.regions.specs.Table.{Table}
@@ -135,6 +136,22 @@ one_taken t m m' m'' n p known st keeps logs scans same scanned = record {
   scanned = scanned ∙ p.scanned;
   scans = scans ∙ p.scans;
   same = same_trans m m' m'' p.same same;
+}
+
+-- a log that is empty counts as taken
+pub none_taken : (t : Table) (m m' : Marker) (n : ℕ) → HasTaken t m m' n → length (log_of m'.logs n) ≡ 0 → HasTaken t m m' (n + 1)
+none_taken t m m' n p none = record {
+  stands = p.stands;
+  running = p.running;
+  snapshots = p.snapshots;
+  emptied = λ k h. elim (cases_eq k n) [
+    | inl e ↦ ap (log_of m'.logs) e ∙ nil_from_length (log_of m'.logs n) none
+    | inr e ↦ p.emptied k (omega (arith, h, e))
+  ];
+  len = p.len;
+  scanned = p.scanned;
+  scans = p.scans;
+  same = p.same;
 }
 
 pub drained_keeps : (t : Table) (m m' : Marker) (k : ℕ) (ls : List (List ℕ)) (log : List ℕ) → MarkerStands t m → m.running ≡ true

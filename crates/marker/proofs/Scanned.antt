@@ -1,8 +1,6 @@
 -- A scan is a part of marking that keeps the snapshot invariant.
-use Rattle.std.proofs.Common.{inl, inr, ◌≡◌, ℕ, ◌<◌, Bool, true, false, not, List, Option, Some, length, refl, sym, subst, arith}
+use Rattle.std.proofs.Common.{◌≡◌, ℕ, ◌<◌, Bool, true, false, not, List, Option, Some, length, refl, sym, subst, arith}
 use Rattle.std.specs.Prelude.{slice_get, ◌&&◌}
-use Rattle.std.proofs.lemmas.Bool.{cases_lt}
-use Rattle.std.proofs.lemmas.List.{get_or_past}
 use Rattle.heap_model.specs.Graph.{IsReachable, next_name}
 use Rattle.heap_model.specs.Heap.{Heap}
 use Rattle.heap_model.specs.Marking.{KeepsSnapshot, MarksMore}
@@ -11,6 +9,7 @@ use Rattle.heap_model.proofs.Lists.{get-append_left}
 use Rattle.regions.specs.Table.{Table, pointers_at}
 use Rattle.mark_bitmap.specs.Marks.{is_marked}
 use Rattle.mark_bitmap.specs.Grey.{Scans, is_grey}
+use Rattle.mark_bitmap.proofs.ObjectLaws.{only_within}
 use Rattle.marker.specs.Views.{heap_of, marking_of}
 use Rattle.marker.specs.Counts.{added}
 use Rattle.marker.specs.Stands.{MarkerStands, CanFollow, IsKept}
@@ -62,9 +61,4 @@ all_pointers t object = IsAmong (pointers_at t object) (length (pointers_at t ob
 pub grey_within : (t : Table) (m : Marker) (object : ℕ) → MarkerStands t m
     → is_grey m.bitmaps.next m.grey object ≡ true → object < length m.grey.scanned
 grey_within t m object st grey =
-    let marked = (grey_is m.bitmaps.next m.grey object grey).0 in
-    elim (cases_lt object (length m.bitmaps.next)) [
-      | inl inside ↦ omega (arith, inside, st.scanned)
-      | inr past ↦
-          absurd (let f : is_marked m.bitmaps.next object ≡ false = get_or_past m.bitmaps.next object false past in let g = marked in cc)
-    ]
+    omega (arith, only_within m.bitmaps.next m.grey.scanned object grey, st.scanned)

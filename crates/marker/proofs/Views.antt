@@ -1,8 +1,11 @@
 -- The heap of a marker whose roles stay, and the pointers of kept objects.
-use Rattle.std.proofs.Common.{◌≡◌, ℕ, Bool, true, false, List, Option, Some, None, refl, ap, ◌∙◌}
+use Rattle.std.proofs.Common.{◌≡◌, ◌*◌, ◌<◌, ℕ, Bool, true, false, List, Option, Some, None, length, refl, ap, ◌∙◌, arith}
 use Rattle.std.specs.Prelude.{if◌then◌else◌}
 use Rattle.heap_model.specs.Heap.{Heap, Stored}
-use Rattle.regions.specs.Table.{Table, object_at, object_pointers, pointers_at}
+use Rattle.regions.specs.Tiles.{Object}
+use Rattle.regions.specs.Table.{Table, object_at, object_pointers, pointers_at, tile_in}
+use Rattle.regions.specs.Shaped.{IsShaped}
+use Rattle.regions.proofs.Tiles.Laws.{object_tile}
 use Rattle.mark_bitmap.specs.Marks.{is_marked}
 use Rattle.mark_bitmap.specs.Tops.{Tops, below_previous}
 use Rattle.mark_bitmap.specs.Kept.{kept_in}
@@ -42,3 +45,10 @@ kept_before t roots m m' a tops marks k = record {
   object = k.0;
   is = ap (λ (h : Heap). h.kept a) (previous_heap t roots m m' tops marks) ∙ k.1;
 }
+
+-- a kept object starts at a word of the heap
+pub kept_within : (t : Table) (m : Marker) (a : ℕ) → IsShaped t → IsKept t m a → a < length t.regions * t.words_per_region
+unfolding tile_in object_at
+kept_within t m a shape kept =
+    let object = kept_object t m.tams m.bitmaps.previous a kept.object kept.is in
+    omega (arith, shape.within a (Object kept.object) (object_tile (tile_in t a) kept.object object))

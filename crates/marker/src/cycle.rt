@@ -80,7 +80,7 @@ impl Marker {
         self.start(table);
         let mut from = 0;
         while let Some(place) = roots.next_named(from) {
-            self.reach(table, roots.get(place));
+            self.reach_kept(table, roots.get(place));
             from = place + 1;
         }
     }
@@ -149,7 +149,7 @@ impl Marker {
         self.reach_all(table, &log);
     }
 
-    /// Takes the logs of all mutators.
+    /// Takes the logs of all mutators. One that is empty is passed over.
     fn take_logs(&mut self, table: &RegionTable)
         requires stands { MarkerStands table.now self.old }
         requires running { self.old.running ≡ true }
@@ -162,6 +162,9 @@ impl Marker {
         ensures same { SameRoles self.old self.new }
     {
         for mutator in 0..self.logs.mutators() {
+            if self.logs.len(mutator) == 0 {
+                continue;
+            }
             self.take_log(table, mutator);
         }
     }

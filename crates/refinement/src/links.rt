@@ -1,32 +1,34 @@
 //! The fields of an object that aren't nil.
 
-ghost use Rattle.std.specs.Prelude.{◌≡◌, ◌<◌, ◌≤◌, ℕ, Some, None, length, slice_get};
+ghost use Rattle.std.specs.Prelude.{◌≡◌, ◌<◌, ◌≤◌, ℕ, IfSome, Some, None, length, slice_get};
 ghost use Rattle.regions.specs.Table.{fields_at};
 
 use heap_words::addr::Addr;
 use regions::RegionTable;
 
-/// The first field of an object that isn't nil, from `start` on and below `end`, which is the answer where there is none.
+/// The first field of an object that isn't nil, from `start` on and below `end`, with what it names; none where there is none. Each
+/// field's word is read once.
 #[inline(always)]
-pub fn next_link(table: &RegionTable, object: Addr, start: u32, end: u32) -> u32
+pub fn next_link(table: &RegionTable, object: Addr, start: u32, end: u32) -> Option<(u32, Addr)>
     requires { end ≤ length (fields_at table.now object) }
-    ensures low { result < end → start ≤ result }
-    ensures high { result ≤ end }
-    ensures link { result < end → (target : ℕ) × (slice_get (fields_at table.now object) result ≡ Some (Some target)) }
-    ensures nil { (field : ℕ) → start ≤ field → field < result → slice_get (fields_at table.now object) field ≡ Some None }
+    ensures low { IfSome result (λ link. start ≤ link.0) }
+    ensures high { IfSome result (λ link. link.0 < end) }
+    ensures link { IfSome result (λ link. slice_get (fields_at table.now object) link.0 ≡ Some (Some link.1)) }
+    ensures nil { (field : ℕ) → start ≤ field → field < end → IfSome result (λ link. field < link.0)
+        → slice_get (fields_at table.now object) field ≡ Some None }
 {
     if start >= end {
-        return end;
+        return None;
     }
     let mut field = start;
     // The end is looked for behind each field: so what the table keeps is read once for all of them.
     'fields: loop {
-        if table.get_field(object, field).is_some() {
-            return field;
+        if let Some(target) = table.get_field(object, field) {
+            return Some((field, target));
         }
         field += 1;
         if field >= end {
-            return end;
+            return None;
         }
     }
 }

@@ -46,35 +46,31 @@ pub fn is_kept(table: &RegionTable, tams: &Tams, marks: &Marks, at: Addr, shape:
     }
 }
 
-/// Adds the card to the set of the region that a field leads into, if that isn't `home`, the region of the field's word. `last` is a
-/// region that needs no look: `home`, or one whose set has the card. So fields in turn that lead into one region cost one look at
-/// its set; the result is such a region too.
+/// Adds the card to the set of the region that a field leads into, which names `target`, if that isn't `home`, the region of the
+/// field's word. `last` is a region that needs no look: `home`, or one whose set has the card. So fields in turn that lead into one
+/// region cost one look at its set; the result is such a region too.
 fn scan_field(
     table: &RegionTable,
     sets: &mut RememberedSets,
     card: Card,
     object: Addr,
     field: u32,
+    target: Addr,
     home: u32,
     last: u32,
 ) -> u32
-    requires field { field < length (fields_at table.now object) }
+    requires names { slice_get (fields_at table.now object) field ≡ Some (Some target) }
     requires inside { FieldsInside table.now object }
     requires regions { length sets.old.sets ≡ length table.now.regions }
     requires card { card < card_count sets.old }
     requires home { field_word object field / table.now.words_per_region ≡ home }
     requires source { card / sets.old.cards_per_region ≡ home }
     requires last { last ≢ home → may_lead sets.old last card ≡ true }
-    ensures after { (target : Option ℕ) → slice_get (fields_at table.now object) field ≡ Some target
-        → sets.new ≡ with_field table.now.words_per_region card (field_word object field) target sets.old }
-    ensures covered { (target : ℕ) → slice_get (fields_at table.now object) field ≡ Some (Some target)
-        → target / table.now.words_per_region ≢ field_word object field / table.now.words_per_region
+    ensures after { sets.new ≡ with_field table.now.words_per_region card (field_word object field) (Some target) sets.old }
+    ensures covered { target / table.now.words_per_region ≢ field_word object field / table.now.words_per_region
         → may_lead sets.new (target / table.now.words_per_region) card ≡ true }
     ensures last { result ≢ home → may_lead sets.new result card ≡ true }
 {
-    let Some(target) = table.get_field(object, field) else {
-        return last;
-    };
     let region = table.region_of(target);
     if region.number() == home {
         return last;
@@ -114,10 +110,10 @@ fn scan_object(
     let start = from.saturating_sub(first);
     let end = to.saturating_sub(first).min(count);
     let mut last = before;
-    let mut field = next_link(table, object, start, end);
-    'fields: while field < end {
-        last = scan_field(table, sets, card, object, field, home, last);
-        field = next_link(table, object, field + 1, end);
+    let mut next = start;
+    'fields: while let Some(link) = next_link(table, object, next, end) {
+        last = scan_field(table, sets, card, object, link.0, link.1, home, last);
+        next = link.0 + 1;
     }
     last
 }

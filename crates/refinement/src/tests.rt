@@ -98,8 +98,9 @@ fn link(table: &mut RegionTable, from: u32, field: u32, to: u32)
     }
 }
 
-/// The first field that isn't nil of the object that holds a word, from one on and below another, if the object has so many.
-fn first_link(table: &RegionTable, word: u32, start: u32, end: u32) -> Option<u32>
+/// The first field that isn't nil of the object that holds a word, from one on and below another, with what it names, if the object
+/// has so many.
+fn first_link(table: &RegionTable, word: u32, start: u32, end: u32) -> Option<(u32, Addr)>
     requires word { word < 64 }
     requires sample { IsSample table.now }
 {
@@ -111,7 +112,7 @@ fn first_link(table: &RegionTable, word: u32, start: u32, end: u32) -> Option<u3
         return None;
     };
     if end <= table.field_count(at) {
-        Some(next_link(table, at, start, end))
+        next_link(table, at, start, end)
     } else {
         None
     }
@@ -386,21 +387,19 @@ fn scans_a_run(rt: HostRuntime) -> Result<(), Fail> {
 #[test]
 fn finds_links(rt: HostRuntime) -> Result<(), Fail> {
     let table = five_objects(rt.alloc())?;
+    let first = Some((1, Addr::new(32)));
+    let second = Some((2, Addr::new(16)));
     for (start, end, found) in [
-        (0, 3, 1),
-        (1, 3, 1),
-        (2, 3, 2),
-        (3, 3, 3),
-        (0, 1, 1),
-        (0, 2, 1),
-        (2, 1, 1),
-        (0, 0, 0),
+        (0, 3, first),
+        (1, 3, first),
+        (2, 3, second),
+        (3, 3, None),
+        (0, 1, None),
+        (0, 2, first),
+        (2, 1, None),
+        (0, 0, None),
     ] {
-        assert_eq!(rt;
-            first_link(&table, 4, start, end),
-            Some(found),
-            "{start} {end}"
-        );
+        assert_eq!(rt; first_link(&table, 4, start, end), found, "{start} {end}");
     }
     Ok(())
 }

@@ -1,6 +1,6 @@
 -- Rows of candidates, and which of them are best to reclaim.
 use Rattle.std.specs.Prelude.{◌≡◌, ℕ, ◌-◌, ◌*◌, ◌/◌, ◌<◌, ◌≤◌, false, min, List, ◌++◌, ◌+◌, drop, length, slice_index_or, sum_by, take}
-use Rattle.std.specs.Prelude.{All, IsPermutation}
+use Rattle.std.specs.Prelude.{All, IsPermutation, IsSorted}
 use Rattle.std.specs.declared.cmp.Ordering.{Ordering}
 use Rattle.std.specs.List.{AllWithin}
 use Rattle.std.specs.Ordering.{nat_cmp, ordering_then, is_lt}
@@ -36,15 +36,11 @@ live_sum rows = sum_by (λ row. row.live_bound) rows
 abbrev pub freed_sum : ℕ → List LiveRow → ℕ
 freed_sum words rows = sum_by (λ row. words - row.live_bound) rows
 
--- no row comes before one of the first n that stands before it
-abbrev pub AreInOrder : ℕ → List LiveRow → Type 0
-AreInOrder n rows = (i j : ℕ) (d : LiveRow) → i < n → i < j → j < length rows
-    → is_lt (row_cmp (slice_index_or rows j d) (slice_index_or rows i d)) ≡ false
-
 -- the first n rows are in order, the others behind them, and within the limit
 pub record AreFirst (limit n : ℕ) (rows : List LiveRow) : Type 0 where
   pub count : n ≤ length rows
-  pub order : AreInOrder n rows
+  pub sorted : IsSorted row_cmp (take n rows)
+  pub first : ComeFirst (take n rows) (drop n rows)
   pub within : live_sum (take n rows) ≤ limit
 
 -- with the first n rows none of the others is within the limit

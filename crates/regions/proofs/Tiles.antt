@@ -22,3 +22,4 @@ pub mod Lowest
 pub mod Holders
 pub mod WeakStarts
 pub mod Within
+pub mod Apart

@@ -190,7 +190,7 @@ impl RegionTable {
         let weaks = self.weak_count(from);
         let end = to.word() + size;
         self.words.reach(end);
-        self.words.copy(from, to, size);
+        self.words.copy_apart(from, to, size);
         self.first_tiles.put_object(to.word(), size);
         let number = region.number() as usize;
         let used = self.rows[number].used;

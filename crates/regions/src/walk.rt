@@ -1,8 +1,9 @@
 //! Walks over a region's tiles, the tile behind another one, and the tile that holds a word.
-ghost use Rattle.std.specs.Prelude.{◌≡◌, ◌↔◌, ◌*◌, ◌/◌, ◌%◌, ◌<◌, ◌≤◌, ℕ, length, IsSome, IfSome, IfNone};
+ghost use Rattle.std.specs.Prelude.{◌≡◌, ◌≢◌, ◌↔◌, ◌*◌, ◌/◌, ◌%◌, ◌<◌, ◌≤◌, ℕ, length, IsSome, IfSome, IfNone};
 ghost use Rattle.std.specs.Iterator.{YieldsFirst, item_count};
 ghost use Rattle.regions.specs.Tiles.{total_size};
-ghost use Rattle.regions.specs.Table.{tile_in, top_of};
+ghost use Rattle.regions.specs.Table.{kind_of, object_at, tile_in, top_of};
+ghost use Rattle.regions.specs.declared.row.Kind.TheVariants as kinds;
 ghost use Rattle.regions.specs.Walks.{tiles_of, placed, walk_rest, IsCut, IsWalk, IsTileBehind, IsHolder, IsLowest, IsNext, IsLast};
 
 use crate::row::{Kind, Shape};
@@ -116,6 +117,22 @@ impl RegionTable {
         }
     }
 
+    /// The same of an object in an ordinary region, whose header isn't looked at for that.
+    pub fn next_behind(&self, object: Addr) -> Option<Addr>
+        requires object { IsSome (object_at self.now object) }
+        requires ordinary { kind_of self.now (object / self.now.words_per_region) ≡ kinds.Ordinary }
+        ensures next { IfSome result (IsNext self.now object) }
+        ensures last { IfNone result (IsLast self.now object) }
+    {
+        self.law();
+        let next = object.word() + self.object_size(object);
+        if next < self.top(self.region_of(object)).word() {
+            Some(Addr::new(next))
+        } else {
+            None
+        }
+    }
+
     /// Where the tile that holds a word starts: in a run its object. None where the word is at or above its
     /// region's top. It looks at the tiles from the one on that holds the first word of the word's card, and at none where that is the
     /// word.
@@ -168,7 +185,8 @@ impl RegionTable {
         (at, shape, size)
     }
 
-    /// How many words the tiles have that start in a region.
+    /// How many words the tiles have that start in a region. Most regions that are asked for are ordinary, so that the others are
+    /// asked for apart.
     pub(crate) fn tile_words(&self, region: RegionNo) -> u32
         requires { region < length self.now.regions }
         ensures { IsWalk self.now region 0 result }
@@ -176,11 +194,23 @@ impl RegionTable {
         let row = self.rows[region.number() as usize];
         match row.kind {
             Kind::Ordinary => row.used,
+            Kind::Free | Kind::First | Kind::Rest => self.run_words(region),
+        }
+    }
+
+    /// The same of a region that isn't ordinary.
+    #[inline(never)]
+    fn run_words(&self, region: RegionNo) -> u32
+        requires known { region < length self.now.regions }
+        requires other { kind_of self.now region ≢ kinds.Ordinary }
+        ensures { IsWalk self.now region 0 result }
+    {
+        match self.rows[region.number() as usize].kind {
             Kind::First => size_at(
                 &self.words,
                 Addr::new(region.number() * self.words_per_region),
             ),
-            Kind::Free | Kind::Rest => 0,
+            Kind::Free | Kind::Rest | Kind::Ordinary => 0,
         }
     }
 }

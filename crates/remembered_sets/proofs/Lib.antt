@@ -1,3 +1,2 @@
 pub mod Covered
 pub mod Laws
-pub mod Flagged

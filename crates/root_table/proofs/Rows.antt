@@ -163,6 +163,13 @@ past_read p words used from row x from' b inside e which before here =
     (λ place low start high. here place (elim which [ inl l ↦ omega (arith, l, low) | inr l ↦ omega (arith, l, start) ])
     (omega (arith, high, bound))))
 
+-- a row of which nothing is in use
+pub past_unused : (p : Places) (words : List (Option ℕ)) (used : List ℕ) (from row x : ℕ) → AreBounded p words used → row < length used
+    → x ≡ get_or used row x → x ≡ 0 → AreNil words from (row_start p row) → AreNil words from (row_start p (row + 1))
+past_unused p words used from row x b inside e none before =
+    past_read p words used from row x (row_start p row) b inside e (inr (omega arith)) before
+    (λ place low high. absurd (omega (arith, low, high, none)))
+
 -- what the code stores: a place of a row, whose bound n was read
 pub stored_in : (p : Places) (words : List (Option ℕ)) (used : List ℕ) (row k place n : ℕ) (v : Option ℕ) → AreBounded p words used
     → row ≤ p.mutators → k < row_length p row

@@ -182,7 +182,9 @@ impl Roots {
         fill_nil(&mut self.words, first, (used - register) as usize);
     }
 
-    /// The lowest place from `from` on that doesn't hold nil. It looks at no place above its row's bound.
+    /// The lowest place from `from` on that doesn't hold nil. It looks at no place above its row's bound. Where `from` itself holds
+    /// something that is one look, which is part of the caller.
+    #[inline(always)]
     pub fn next_named(&self, from: usize) -> Option<usize>
         ensures lowest { MatchOption result (AreNil self.now.words from (length self.now.words)) (IsNextNamed self.now.words from) }
         ensures within { IfSome result (λ place. place < length self.now.words) }
@@ -193,21 +195,25 @@ impl Roots {
         }
         match self.words[from] {
             Some(_) => Some(from),
-            None => self.next_in_rows(from, self.places.row_of(from)),
+            None => self.next_in_rows(from),
         }
     }
 
-    /// The same from a row on.
-    fn next_in_rows(&self, from: usize, first: usize) -> Option<usize>
-        requires row { first ≤ self.now.places.mutators }
-        requires place { row_start self.now.places first ≤ from }
+    /// The same, row by row. A row of which nothing is in use is passed over by a look at its bound.
+    #[inline(never)]
+    fn next_in_rows(&self, from: usize) -> Option<usize>
+        requires { from < length self.now.words }
         ensures lowest { MatchOption result (AreNil self.now.words from (length self.now.words)) (IsNextNamed self.now.words from) }
         ensures within { IfSome result (λ place. place < length self.now.words) }
         ensures small { IfSome result (λ place. place + 1 < 2 ^ 64) }
     {
-        for row in first..self.used.len() {
+        for row in self.places.row_of(from)..self.used.len() {
+            let used = self.used[row];
+            if used == 0 {
+                continue;
+            }
             let start = self.starts[row];
-            let end = start + self.used[row] as usize;
+            let end = start + used as usize;
             let Some(place) = first_named(&self.words, from.max(start), end) else {
                 continue;
             };

@@ -3,6 +3,7 @@
 pub mod Numbers
 pub mod Spelled
 pub mod Splitting
+pub mod Fronts
 pub mod Pieces
 pub mod FirstLines
 pub mod WholeLines

@@ -7,3 +7,4 @@ pub mod ReadOn
 pub mod RecordOn
 pub mod Stops
 pub mod RecordStops
+pub mod LeftSteps

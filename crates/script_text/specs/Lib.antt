@@ -11,3 +11,5 @@ pub mod Written
 pub mod Awaited
 pub mod Counts
 pub mod Feeds
+pub mod Fronts
+pub mod StepsLeft

@@ -6,6 +6,7 @@
 //!
 //! ```text
 //! reader --read_text--> bytes --parse--> Plan           Record --write_record--> writer
+//!                        bytes --ScriptSteps--> its steps, one by one
 //!                        bytes --parse_record--> Record
 //! ```
 //!
@@ -13,6 +14,8 @@
 //! - `read_text` gives all bytes to the end of input, or says that a read was refused.
 //! - `parse` gives the plan that a text spells, or the first line with a fault and the first fault of that line.
 //!   What is read of a text is spelled so in the whole of it, and each script's text is read as that script.
+//! - `ScriptSteps` holds a text that was read so and has no fault, and reads its steps again, one by one: so a script is run without a
+//!   list of its steps.
 //! - `parse_record` does the same of a record's text, and so gives back the record that was written (`written_record_is_read`).
 //! - `LineBuffer` takes a record's lines one by one, each as soon as it is whole: so a record can be read as it is written.
 //! - `write_record` appends the text of a record and no more, or a beginning of it where the writer refused. `RecordLines` does
@@ -49,6 +52,7 @@ pub use read::awaited::{LineBuffer, NextFault};
 pub use read::input::read_text;
 pub use read::records::parse_record;
 pub use read::script::parse;
+pub use read::script_steps::ScriptSteps;
 pub use read::watched::WatchedReader;
 pub use write::bytes::{put_number, put_text};
 pub use write::lines::{put_event_text, put_reply};

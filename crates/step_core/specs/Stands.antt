@@ -1,5 +1,5 @@
 -- A core, and the graph and snapshot that it stands for.
-use Rattle.std.specs.Prelude.{◌≡◌, ◌+◌, ◌-◌, ◌*◌, ◌/◌, ◌^◌, ◌<◌, ◌≤◌}
+use Rattle.std.specs.Prelude.{◌≡◌, ◌-◌, ◌*◌, ◌/◌, ◌^◌, ◌<◌, ◌≤◌}
 use Rattle.std.specs.Prelude.{ℕ, ⊤, List, Option, Some, None, length, slice_get, slice_index, true, false}
 use Rattle.std.specs.List.{AllZip}
 use Rattle.heap_words.specs.declared.config.Config.{Config}
@@ -10,12 +10,10 @@ use Rattle.heap_model.specs.Marking.{Marking, KeepsSnapshot}
 use Rattle.heap_model.specs.Weak.{KeepsUnreached}
 use Rattle.regions.specs.Tiles as tiles
 use Rattle.regions.specs.Tiles.{tile_size}
-use Rattle.regions.specs.Table.{Table, object_at, object_words, kind_of, HasNoForwarded, AreHalves}
-use Rattle.regions.specs.declared.row.Kind.TheVariants as kinds
+use Rattle.regions.specs.Table.{Table, object_at, HasNoForwarded, AreHalves}
 use Rattle.regions.specs.Shaped.{AreInUse}
 use Rattle.alloc_buffers.specs.Placement.{Buffers, BuffersStand, AreAbove}
 use Rattle.mark_bitmap.specs.Kept.{kept_in}
-use Rattle.mark_bitmap.specs.Tops.{is_in_region}
 use Rattle.satb_log.specs.Logs.{log_of}
 use Rattle.marker.specs.declared.marker.Marker.{Marker}
 use Rattle.marker.specs.Stands.{MarkerStands}
@@ -106,14 +104,9 @@ pub record IsWhole (g : Graph) (c : CoreState) : Type 0 where
   pub once : (n : ℕ) → IsReachable g n → StandsOnce g (heap_of c) n
   pub in_use : (a : ℕ) (s : Stored) → kept_of c a ≡ Some s → AreInUse c.table a (tile_size (tiles.Object s))
 
--- no object of an ordinary region that starts below the region's top at mark start reaches over it
-abbrev pub EndsBelow : Table → List ℕ → Type 0
-EndsBelow t tops = (k a : ℕ) → kind_of t k ≡ kinds.Ordinary → is_in_region t.words_per_region k a ≡ true → a < slice_index tops k
-    → a + object_words t a ≤ slice_index tops k
-
 -- The layers below fit one another: they have the sizes of the configuration, open buffers are fillers of the table,
 -- nothing has moved, what is still to be handed out lies at or above both tops at mark start, and no deletion log is full. Objects
--- of ordinary regions have at most half a region's words, and none reaches over a top at mark start
+-- of ordinary regions have at most half a region's words
 pub record LayersFit (config : Config) (t : Table) (b : Buffers) (m : Marker) : Type 0 where
   pub region_size : t.words_per_region ≡ config.words
   pub region_count : length t.regions ≡ config.regions
@@ -127,8 +120,6 @@ pub record LayersFit (config : Config) (t : Table) (b : Buffers) (m : Marker) : 
   pub above_next : AreAbove t b (slice_index m.tams.next)
   pub room : (mutator : ℕ) → length (log_of m.logs mutator) < 8
   pub halves : AreHalves t
-  pub ends_previous : EndsBelow t m.tams.previous
-  pub ends_next : EndsBelow t m.tams.next
 
 -- a region is a whole number of cards, and each mutator has a card log, each region a set
 pub record CardsFit (config : Config) (cards : Cards) (sets : Sets) : Type 0 where

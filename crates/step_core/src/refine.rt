@@ -6,7 +6,9 @@
 //!   then         queue 3          region 1 covers 5        region 3 covers 2 5
 //! ```
 
+ghost use Rattle.std.specs.Prelude.{◌≡◌};
 ghost use Rattle.heap_model.specs.Graph.{Graph};
+ghost use Rattle.heap_words.specs.Configs.{card_words};
 ghost use Rattle.step_core.specs.Stands.{ShowsGraph, KeepsFrom};
 ghost use Rattle.step_core.specs.Refining.{RefinesCard, HasRefined};
 
@@ -14,8 +16,9 @@ use crate::heap::Core;
 use refinement::refine_one;
 
 impl Core {
-    /// Refines the front of the queue. False where the queue is empty.
-    fn refine_card(&mut self) -> bool
+    /// Refines the front of the queue, where a card has so many words. False where the queue is empty.
+    fn refine_card(&mut self, words: u32) -> bool
+        requires { words ≡ card_words self.old.config }
         ensures shows { (g : Graph) → ShowsGraph g self.old → ShowsGraph g self.new }
         ensures keeps { (s : Graph) → KeepsFrom s self.old → KeepsFrom s self.new }
         ensures refined { RefinesCard result self.old self.new }
@@ -26,7 +29,7 @@ impl Core {
             &self.marker.bitmaps.previous,
             &mut self.cards,
             &mut self.sets,
-            self.config.card_words(),
+            words,
         )
     }
 
@@ -36,8 +39,9 @@ impl Core {
         ensures keeps { (s : Graph) → KeepsFrom s self.old → KeepsFrom s self.new }
         ensures refined { HasRefined cards result self.old self.new }
     {
+        let words = self.config.card_words();
         for done in 0..cards {
-            if !self.refine_card() {
+            if !self.refine_card(words) {
                 return done;
             }
         }

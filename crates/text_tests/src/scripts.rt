@@ -2,7 +2,7 @@
 
 use heap_steps::{Action, CollectorStep, Counts, Op, Register, Step};
 use heap_words::config::{Config, Format};
-use script_text::{Kind, LineFault, ReadFault, WriteFault, parse};
+use script_text::{Kind, LineFault, ReadFault, ScriptSteps, WriteFault, parse};
 use std::alloc::Global;
 use std::process::Abort;
 use std::test::Fail;
@@ -54,7 +54,36 @@ fn good_script(rt: HostRuntime) -> Result<(), Fail> {
         Step::Collector(CollectorStep::Pause(4_294_967_295)),
     ];
     assert_eq!(rt; plan.steps(), steps.as_slice());
+    check_taken(&rt, text, &steps)
+}
+
+/// Takes the steps of a script with these sizes one by one, and compares them.
+fn check_taken(rt: &impl Abort, text: &[u8], steps: &[Step]) -> Result<(), Fail> {
+    let Ok(mut script) = ScriptSteps::new(text) else {
+        return Err(Fail::from("this is a script"));
+    };
+    assert_eq!(rt; script.config(), CONFIG);
+    for step in steps {
+        assert_eq!(rt; script.next_step(), Some(*step));
+    }
+    for _ in 0..2 {
+        assert_eq!(rt; script.next_step(), None);
+    }
+    assert_eq!(rt; script.config(), CONFIG);
     Ok(())
+}
+
+#[test]
+fn no_steps(rt: HostRuntime) -> Result<(), Fail> {
+    check_taken(&rt, b"heap 4 16 8 2 0\n", &[])
+}
+
+/// The fault of a text, if its steps are to be taken one by one; none where it is a script.
+fn taken_fault_of(text: &[u8]) -> Option<LineFault> {
+    match ScriptSteps::new(text) {
+        Ok(_) => None,
+        Err(fault) => Some(fault),
+    }
 }
 
 /// The fault of a text; none where it is a script.
@@ -117,8 +146,9 @@ const FAULTS: [(&str, u64, Kind); 38] = [
 
 /// Compares the fault of a text.
 fn check_fault(rt: &impl Abort, alloc: Global, text: &str, line: u64, kind: Kind) {
-    let fault = fault_of(alloc, text.as_bytes());
-    assert_eq!(rt; fault, Some(LineFault { line, kind }), "{text}");
+    let fault = Some(LineFault { line, kind });
+    assert_eq!(rt; fault_of(alloc, text.as_bytes()), fault, "{text}");
+    assert_eq!(rt; taken_fault_of(text.as_bytes()), fault, "{text}");
 }
 
 #[test]
@@ -138,8 +168,9 @@ fn long_lines(rt: HostRuntime) -> Result<(), Fail> {
             text.push(b'a')?;
         }
         text.push(b'\n')?;
-        let fault = fault_of(alloc, text.as_slice());
-        assert_eq!(rt; fault, Some(LineFault { line: 2, kind }), "{count}");
+        let fault = Some(LineFault { line: 2, kind });
+        assert_eq!(rt; fault_of(alloc, text.as_slice()), fault, "{count}");
+        assert_eq!(rt; taken_fault_of(text.as_slice()), fault, "{count}");
     }
     Ok(())
 }
@@ -151,6 +182,7 @@ fn beginnings(rt: HostRuntime) -> Result<(), Fail> {
     let mut line = 1u64;
     for (end, byte) in text.iter().enumerate() {
         let fault = fault_of(alloc, &text[..end]);
+        assert_eq!(rt; taken_fault_of(&text[..end]), fault, "{end}");
         if end == 0 {
             assert_eq!(rt;
                 fault,
@@ -177,6 +209,7 @@ fn beginnings(rt: HostRuntime) -> Result<(), Fail> {
     }
     assert_eq!(rt; line, 4);
     assert_eq!(rt; fault_of(alloc, text), None);
+    assert_eq!(rt; taken_fault_of(text), None);
     Ok(())
 }
 

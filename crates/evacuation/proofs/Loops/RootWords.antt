@@ -6,7 +6,7 @@ use Rattle.std.specs.Prelude.{slice_get, slice_set, if◌then◌else◌}
 use Rattle.std.specs.List.{AllZip}
 use Rattle.std.proofs.lemmas.Bool.{cases_eq, cases_lt, cases_Bool}
 use Rattle.std.proofs.lemmas.Option.{get_or_from_slice_get, slice_get-get_or}
-use Rattle.root_table.specs.Roots.{AreNil, IsNextNamed}
+use Rattle.root_table.specs.Roots.{AreNil}
 use Rattle.std.proofs.lemmas.List.{length-set, get_or_past}
 use Rattle.heap_model.specs.Relocation.{IsMoved}
 use Rattle.heap_model.specs.Evacuation.{ByRootWord, place_after}
@@ -108,10 +108,9 @@ roots_rest place before now from r nil = elim (cases_lt from (length now)) [
   | inr more ↦ roots_all place before now from r more
 ]
 
--- the word that stands in the next place that is named
-pub named_word : (words : List (Option ℕ)) (from place : ℕ) (w : Option ℕ) → IsNextNamed words from place
-    → w ≡ get_or words place None → slice_get words place ≡ Some w
-named_word words from place w n e = elim (cases_lt place (length words)) [
+-- a place that doesn't hold nil is one of them
+pub word_at : (words : List (Option ℕ)) (place a : ℕ) → Some a ≡ get_or words place None → slice_get words place ≡ Some (Some a)
+word_at words place a e = elim (cases_lt place (length words)) [
   | inl within ↦ slice_get-get_or words place None within ∙ ap Some (sym e)
-  | inr past ↦ absurd (let none : get_or words place None ≡ None = get_or_past words place None past in let some = n.holds in cc)
+  | inr past ↦ absurd (let none : get_or words place None ≡ None = get_or_past words place None past in cc)
 ]

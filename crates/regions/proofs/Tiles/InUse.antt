@@ -13,7 +13,7 @@ use Rattle.regions.specs.declared.row.Kind.TheVariants as kinds
 use Rattle.regions.proofs.Tiles.Placing.{tile_at-end}
 
 -- the region of an object: an ordinary one with the object among its tiles, or the first of a run
-data Holds (r : Region) (o : ℕ) (s : Stored) : Type 0 where
+pub data Holds (r : Region) (o : ℕ) (s : Stored) : Type 0 where
   InOrdinary : (ts : List Tile) → r ≡ Ordinary ts → tile_at o ts ≡ Some (Object s) → Holds r o s
   InFirst : r ≡ First s → o ≡ 0 → Holds r o s
 
@@ -23,7 +23,7 @@ live (Some (Object x)) s e = cc
 live (Some (Filler n)) s e = absurd (cc)
 live (Some (Forwarded to n)) s e = absurd (cc)
 
-holds : (r : Region) (o : ℕ) (s : Stored) → tile_object (region_tile r o) ≡ Some s → Holds r o s
+pub holds : (r : Region) (o : ℕ) (s : Stored) → tile_object (region_tile r o) ≡ Some s → Holds r o s
 holds Free o s e = absurd (cc)
 holds (Ordinary ts) o s e = InOrdinary ts refl (live (tile_at o ts) s e)
 holds (First x) zero s e = InFirst (let same : x ≡ s = cc in ap First same) refl

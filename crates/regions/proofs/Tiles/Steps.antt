@@ -32,7 +32,7 @@ tile_there t a h = go (tile_in t a) refl h
 pub some_tile : (o : Option Tile) (u : Tile) → o ≡ Some u → IsSome o
 some_tile o u e = rw e refl
 
-used_total : (t : Table) (k : ℕ) → kind_of t k ≡ kinds.Ordinary → used_of t k ≡ total_size (tiles_of t k)
+pub used_total : (t : Table) (k : ℕ) → kind_of t k ≡ kinds.Ordinary → used_of t k ≡ total_size (tiles_of t k)
 unfolding kind_of used_of tiles_of
 used_total t k o =
     let q = ordinary_at (nth_region t k) o in

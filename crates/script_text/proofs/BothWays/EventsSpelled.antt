@@ -8,13 +8,14 @@ use Rattle.std.proofs.lemmas.Bool.{le-ltb, leb-true, ne_eqb}
 use Rattle.std.proofs.lemmas.Bool.Decides.{Decides-eqb}
 use Rattle.std.proofs.lemmas.List.Elements.{All-nil, All-cons, All-append}
 use Rattle.heap_words.specs.declared.config.Config.{Config}
-use Rattle.heap_steps.specs.Actors.{IsStepOf, IsEvent}
+use Rattle.heap_steps.specs.Actors.{IsOp, IsStepOf, IsEvent}
 use Rattle.heap_steps.specs.declared.step.Register.{Register}
 use Rattle.heap_steps.specs.declared.step.Action.{Action}
 use Rattle.heap_steps.specs.declared.step.Action.TheVariants as actions
 use Rattle.heap_steps.specs.declared.step.CollectorStep.TheVariants as collector
 use Rattle.heap_steps.specs.declared.step.Actor.{Actor}
 use Rattle.heap_steps.specs.declared.step.Actor.TheVariants as actors
+use Rattle.heap_steps.specs.declared.step.Op.{Op}
 use Rattle.heap_steps.specs.declared.step.Step.{Step}
 use Rattle.heap_steps.specs.declared.step.Step.TheVariants as steps
 use Rattle.heap_steps.specs.declared.step.Reply.{Reply}
@@ -175,16 +176,19 @@ no_background (b ∷ digits) m fits e =
     let no_refiner : eqb b 102 ≡ false = ne_eqb b 102 (λ same. omega arith) in
     rw (no_marker, no_refiner) refl
 
-is_actor : (c : Config) (a : Actor) → c.mutators ≤ small → KnownActor c a → IsActor c a
+is_mutator : (c : Config) (m : ℕ) → m < c.mutators → m ≤ small → IsActor c (actors.Mutator m)
 unfolding actor_of foreground_of background_of
-is_actor c (actors.Mutator m) few known =
-    let fits : m ≤ small = omega arith in
+is_mutator c m known fits =
     let short : length (decimal m) ≤ 10 = small_long m fits in
     record {
       word = small_word m fits;
       short = omega arith;
-      again = rw (not_gc m (omega arith), no_background (decimal m) m (omega arith) refl, mutator_again c m known few) refl;
+      again = rw (not_gc m (omega arith), no_background (decimal m) m (omega arith) refl, mutator_again c m known fits) refl;
     }
+
+is_actor : (c : Config) (a : Actor) → c.mutators ≤ small → KnownActor c a → IsActor c a
+unfolding actor_of foreground_of background_of
+is_actor c (actors.Mutator m) few known = is_mutator c m known (omega arith)
 is_actor c actors.Collector few known = record { word = literal (codes "gc") refl refl; short = omega arith; again = refl }
 is_actor c (actors.Marker i) few known =
     let short : length (decimal i) ≤ 10 = small_long i (omega arith) in
@@ -252,27 +256,43 @@ pub record IsGood (n : ℕ) (c : Config) (e : Event) : Type 0 where
   pub owned : IsEvent c e
   pub fits : EventFits e
 
-counted_again : (n : ℕ) (c : Config) (e : Event) → IsGood n c e
+-- an event is read from its words, as its actor is from its own
+counted_with : (c : Config) (e : Event) → IsActor c e.actor → IsEvent c e → EventFits e
     → counted_of c (actor_word e.actor ∷ (body_words e.step ++ codes "=" ∷ reply_words e.reply)) ≡ Ok e
 unfolding counted_of
-counted_again n c e good =
-    let own = is_own c e.actor e.step good.owned good.fits.0 in
-    let actor = is_actor c e.actor good.few own.known in
-    let plain = body_plain e.step good.fits.0 in
+counted_with c e actor owned fits =
+    let own = is_own c e.actor e.step owned fits.0 in
+    let plain = body_plain e.step fits.0 in
     let some = some_reply e.reply in
     rw (
       actor.again,
       step_again (body_words e.step) (reply_words e.reply) plain (longer some.0 some.1 (reply_words e.reply) some.2),
       own.again,
-      answer_again (body_words e.step) e.reply plain good.fits.1,
+      answer_again (body_words e.step) e.reply plain fits.1,
     ) refl
 
-event_again : (n : ℕ) (c : Config) (e : Event) → IsGood n c e → event_of n c (event_words n e) ≡ Ok e
+event_with : (n : ℕ) (c : Config) (e : Event) → n ≤ large → IsActor c e.actor → IsEvent c e → EventFits e
+    → event_of n c (event_words n e) ≡ Ok e
 unfolding event_of
-event_again n c e good =
-    let fits : n ≤ large = good.counted in
+event_with n c e counted actor owned fits =
     let same : eqb n n ≡ true = (Decides-eqb n n).1 refl in
-    rw (number_of_some large (decimal n) n (omega arith) refl fits, same) (counted_again n c e good)
+    rw (number_of_some large (decimal n) n (omega arith) refl counted, same) (counted_with c e actor owned fits)
+
+event_again : (n : ℕ) (c : Config) (e : Event) → IsGood n c e → event_of n c (event_words n e) ≡ Ok e
+event_again n c e good =
+    let own = is_own c e.actor e.step good.owned good.fits.0 in
+    event_with n c e good.counted (is_actor c e.actor good.few own.known) good.owned good.fits
+
+-- the line of a mutator's event, by its words
+pub op_event_again : (n : ℕ) (c : Config) (line : List ℕ) (o : Op) (r : Reply) → length line ≤ 120
+    → words_of line ≡ decimal n ∷ decimal o.mutator ∷ (action_words o.action ++ codes "=" ∷ reply_words r)
+    → n ≤ large → o.mutator ≤ small → IsOp c o → Fits o.action → ReplyFits r
+    → event_line_of n c line ≡ Ok (record { actor = actors.Mutator o.mutator; step = steps.Mutator o; reply = r })
+unfolding event_line_of
+op_event_again n c line o r short words counted few known fits replied =
+    let e : Event = record { actor = actors.Mutator o.mutator; step = steps.Mutator o; reply = r } in
+    rw (le-ltb 120 (length line) short) (ap (event_of n c) words
+    ∙ event_with n c e counted (is_mutator c o.mutator known.at.mutator few) (refl, known) (fits, replied))
 
 abbrev rest_words : Event → List (List ℕ)
 rest_words e = actor_word e.actor ∷ (body_words e.step ++ codes "=" ∷ reply_words e.reply)

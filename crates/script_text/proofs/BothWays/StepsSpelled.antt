@@ -11,11 +11,12 @@ use Rattle.std.proofs.lemmas.List.Elements.{All-nil, All-cons, All-append}
 use Rattle.heap_words.specs.declared.config.Config.{Config}
 use Rattle.heap_words.specs.declared.config.Format.{Format}
 use Rattle.heap_words.specs.declared.config.Format.TheVariants.{V1, V2, V3}
-use Rattle.heap_steps.specs.Actors.{IsStep}
+use Rattle.heap_steps.specs.Actors.{IsOp, IsStep}
 use Rattle.heap_steps.specs.declared.step.Action.{Action}
 use Rattle.heap_steps.specs.declared.step.Action.TheVariants as actions
 use Rattle.heap_steps.specs.declared.step.CollectorStep.{CollectorStep}
 use Rattle.heap_steps.specs.declared.step.CollectorStep.TheVariants as collector
+use Rattle.heap_steps.specs.declared.step.Op.{Op}
 use Rattle.heap_steps.specs.declared.step.Step.{Step}
 use Rattle.heap_steps.specs.declared.step.Step.TheVariants as steps
 use Rattle.script_text.specs.declared.fault.Kind.TheVariants as kinds
@@ -105,15 +106,28 @@ not_gc m fits = false_by (bytes_eq (decimal m) (codes "gc")) (λ e.
     let first : get_or (decimal m) 0 0 ≡ 103 = ap (λ (w : List ℕ). get_or w 0 0) same in
     omega arith)
 
-pub mutator_again : (c : Config) (m : ℕ) → m < c.mutators → c.mutators ≤ small → mutator_of c (decimal m) ≡ Ok m
+pub mutator_again : (c : Config) (m : ℕ) → m < c.mutators → m ≤ small → mutator_of c (decimal m) ≡ Ok m
 unfolding mutator_of
-mutator_again c m known fits = rw (number_of_some small (decimal m) m (omega arith) refl (omega arith), lt-ltb m c.mutators known) refl
+mutator_again c m known fits = rw (number_of_some small (decimal m) m (omega arith) refl fits, lt-ltb m c.mutators known) refl
+
+op_again : (c : Config) (o : Op) → o.mutator ≤ small → IsOp c o → Fits o.action
+    → step_of c (decimal o.mutator ∷ action_words o.action) ≡ Ok (steps.Mutator o)
+unfolding step_of
+op_again c o few known fits =
+    rw (not_gc o.mutator (omega arith), mutator_again c o.mutator known.at.mutator few, allowed_again c o known fits) refl
+
+-- the line of a mutator's step, by its words
+pub op_line_again : (c : Config) (line : List ℕ) (o : Op) → length line ≤ 120 → words_of line ≡ decimal o.mutator ∷ action_words o.action
+    → o.mutator ≤ small → IsOp c o → Fits o.action → step_line_of c line ≡ Ok (steps.Mutator o)
+unfolding step_line_of
+op_line_again c line o short words few known fits =
+    rw (le-ltb 120 (length line) short) (ap (step_of c) words ∙ op_again c o few known fits)
 
 step_again : (c : Config) (s : Step) → c.mutators ≤ small → IsStep c s → StepFits s → step_of c (step_words s) ≡ Ok s
 unfolding step_of
 step_again c (steps.Mutator o) few known fits =
     let who : o.mutator < c.mutators = known.at.mutator in
-    rw (not_gc o.mutator (omega arith), mutator_again c o.mutator who few, allowed_again c o known fits) refl
+    op_again c o (omega arith) known fits
 step_again c (steps.Collector k) few known fits = rw (collection_again k fits) refl
 
 step_is_words : (c : Config) (s : Step) → c.mutators ≤ small → IsStep c s → StepFits s → AreWords (step_words s)

@@ -10,11 +10,8 @@ use Rattle.std.proofs.lemmas.List.{take_more_set, map-append, drop-take, take-ta
 use Rattle.std.proofs.lemmas.List.{length-take-le, length-append, get_or-take, get_or-drop}
 use Rattle.std.proofs.lemmas.List.Splits.{slice_split_at, slice_split_none, slice_split_first}
 use Rattle.std.proofs.lemmas.List.Sums.{fails_before_first, passes_at_first, prefix_len-le-length}
-use Rattle.script_text.specs.Feeds.{end_of}
+use Rattle.script_text.specs.Feeds.{end_of, line_of}
 use Rattle.script_text.specs.Lines.{pieces_of, words_of}
-
-abbrev pub line_of : List ℕ → List ℕ
-line_of text = take (end_of text) text
 
 -- the line as far as a place: the words before it, of which the first twelve are kept, and where the present word starts
 pub record IsSplit (text : List ℕ) (ws : List (List ℕ)) (start at : ℕ) : Type 0 where
@@ -93,24 +90,42 @@ line_byte text at lt = get_or-take (end_of text) text at 0 lt
 end_within : (text : List ℕ) → end_of text ≤ length text
 end_within text = prefix_len-le-length (λ b. not (eqb b 10)) text
 
+-- a word of the line that a space ends
+pub word_then : (text : List ℕ) (start at : ℕ) → start ≤ at → at < end_of text → get_or text at 0 ≡ 32
+    → ((k : ℕ) → start ≤ k → k < at → get_or text k 0 ≡ 32 → ⊥)
+    → words_of (drop start (line_of text)) ≡ take (at - start) (drop start text) ∷ words_of (drop (at + 1) (line_of text))
+word_then text start at begun before space none =
+    let long : length (line_of text) ≡ end_of text = length-take-le (end_of text) text (end_within text) in
+    let part : take (at - start) (drop start (line_of text)) ≡ take (at - start) (drop start text) =
+    part_of_line text start at begun (omega arith) in
+    let byte : get_or (line_of text) at 0 ≡ 32 = line_byte text at before ∙ space in
+    let cut : drop start (line_of text) ≡ take (at - start) (drop start text) ++ 32 ∷ drop (at + 1) (line_of text) =
+    cut_at (line_of text) start at begun (omega arith)
+    ∙ ap (λ (t : List ℕ). t ++ get_or (line_of text) at 0 ∷ drop (at + 1) (line_of text)) part
+    ∙ ap (λ (b : ℕ). take (at - start) (drop start text) ++ b ∷ drop (at + 1) (line_of text)) byte in
+    let clear : All (λ b. eqb b 32 ≡ false) (take (at - start) (drop start text)) =
+    clear_part text start (at - start) (λ k from below s. none k from (omega arith) s) in
+    ap words_of cut ∙ slice_split_at (λ b. eqb b 32) (take (at - start) (drop start text)) 32 (drop (at + 1) (line_of text)) clear refl
+
+-- the last word of the line
+pub word_last : (text : List ℕ) (start at : ℕ) → start ≤ at → ((k : ℕ) → start ≤ k → k < at → get_or text k 0 ≡ 32 → ⊥)
+    → words_of (drop start (take at text)) ≡ take (at - start) (drop start text) ∷ []
+word_last text start at begun none =
+    let e : at ≡ start + (at - start) = omega arith in
+    let part : drop start (take at text) ≡ take (at - start) (drop start text) =
+    ap (λ (k : ℕ). drop start (take k text)) e ∙ drop-take start (at - start) text in
+    let clear : All (λ b. eqb b 32 ≡ false) (take (at - start) (drop start text)) =
+    clear_part text start (at - start) (λ k from below s. none k from (omega arith) s) in
+    ap words_of part ∙ slice_split_none (λ b. eqb b 32) (take (at - start) (drop start text)) clear
+
 -- a space ends a word
 pub new_word : (text : List ℕ) (ws : List (List ℕ)) (start at : ℕ) → IsSplit text ws start at → start ≤ at → at < length text
     → get_or text at 0 ≡ 32 → length ws < 12 → IsSplit text (ws ++ take (at - start) (drop start text) ∷ []) (at + 1) (at + 1)
 new_word text ws start at split begun lt space few =
     let no_feed : get_or text at 0 ≡ 10 → ⊥ = λ feed. omega arith in
     let next : at + 1 ≤ end_of text = not_yet text at split.within lt no_feed in
-    let long : length (line_of text) ≡ end_of text = length-take-le (end_of text) text (end_within text) in
-    let part : take (at - start) (drop start (line_of text)) ≡ take (at - start) (drop start text) =
-    part_of_line text start at begun split.within in
-    let byte : get_or (line_of text) at 0 ≡ 32 = line_byte text at (omega arith) ∙ space in
-    let cut : drop start (line_of text) ≡ take (at - start) (drop start text) ++ 32 ∷ drop (at + 1) (line_of text) =
-    cut_at (line_of text) start at begun (omega arith)
-    ∙ ap (λ (t : List ℕ). t ++ get_or (line_of text) at 0 ∷ drop (at + 1) (line_of text)) part
-    ∙ ap (λ (b : ℕ). take (at - start) (drop start text) ++ b ∷ drop (at + 1) (line_of text)) byte in
-    let clear : All (λ b. eqb b 32 ≡ false) (take (at - start) (drop start text)) =
-    clear_part text start (at - start) (λ k from before s. split.clear few k from (omega arith) s) in
     let parts : words_of (drop start (line_of text)) ≡ take (at - start) (drop start text) ∷ words_of (drop (at + 1) (line_of text)) =
-    ap words_of cut ∙ slice_split_at (λ b. eqb b 32) (take (at - start) (drop start text)) 32 (drop (at + 1) (line_of text)) clear refl in
+    word_then text start at begun (omega arith) space (split.clear few) in
     record {
       within = next;
       words = split.words ∙ ap (λ (rest : List (List ℕ)). take 12 (ws ++ rest)) parts
@@ -123,13 +138,8 @@ pub last_word : (text : List ℕ) (ws : List (List ℕ)) (start at : ℕ) → Is
     → get_or text at 0 ≡ 10 → length ws < 12 → ws ++ take (at - start) (drop start text) ∷ [] ≡ take 12 (words_of (take at text))
 last_word text ws start at split begun lt feed few =
     let ends : end_of text ≡ at = here_ends text at split.within lt feed in
-    let e : at ≡ start + (at - start) = omega arith in
-    let part : drop start (take at text) ≡ take (at - start) (drop start text) =
-    ap (λ (k : ℕ). drop start (take k text)) e ∙ drop-take start (at - start) text in
-    let clear : All (λ b. eqb b 32 ≡ false) (take (at - start) (drop start text)) =
-    clear_part text start (at - start) (λ k from before s. split.clear few k from (omega arith) s) in
     let parts : words_of (drop start (take at text)) ≡ take (at - start) (drop start text) ∷ [] =
-    ap words_of part ∙ slice_split_none (λ b. eqb b 32) (take (at - start) (drop start text)) clear in
+    word_last text start at begun (split.clear few) in
     let short : length (ws ++ take (at - start) (drop start text) ∷ []) ≤ 12 =
     omega (arith, length-append ws (take (at - start) (drop start text) ∷ [])) in
     let whole : take 12 (words_of (take at text)) ≡ take 12 (ws ++ words_of (drop start (take at text))) =
@@ -168,3 +178,7 @@ ended_by text at lt feed =
           let yes : eqb (get_or text at 0) 10 ≡ true = rw feed refl in absurd cc)
       | inr past ↦ omega arith
     ]
+
+-- the text behind its first line
+pub ended_piece : (text : List ℕ) → end_of text < length text → pieces_of text ≡ line_of text ∷ pieces_of (drop (end_of text + 1) text)
+ended_piece text lt = slice_split_first (λ b. eqb b 10) text 0 lt

@@ -83,7 +83,7 @@ pub steps_more : (n : ℕ) (c : Config) (line : List ℕ) (ps : List (List ℕ))
 unfolding steps_of
 steps_more n c line ps x xs s e ok = rw (e, ok) refl
 
-steps_fail : (n : ℕ) (c : Config) (line : List ℕ) (ps : List (List ℕ)) (x : List ℕ) (xs : List (List ℕ)) (k : Kind) → ps ≡ x ∷ xs
+pub steps_fail : (n : ℕ) (c : Config) (line : List ℕ) (ps : List (List ℕ)) (x : List ℕ) (xs : List (List ℕ)) (k : Kind) → ps ≡ x ∷ xs
     → step_line_of c line ≡ Err k → steps_of n c (line ∷ ps) ≡ Err (fault n k)
 unfolding steps_of
 steps_fail n c line ps x xs k e bad = rw (e, bad) refl

@@ -102,7 +102,7 @@ unfolding steps_of
 later [] n c p f e = cut_later (length p == 0) n f e
 later (q ∷ ps) n c p f e = line_later (step_line_of c p) (steps_of (n + 1) c (q ∷ ps)) n f (λ g h. later ps (n + 1) c q g h) e
 
-rest_fails : (p : StepList) (r : Result (List Step) LineFault) (f : LineFault) → read_on p r ≡ Err f → r ≡ Err f
+pub rest_fails : (p : StepList) (r : Result (List Step) LineFault) (f : LineFault) → read_on p r ≡ Err f → r ≡ Err f
 rest_fails p (Ok ss) f e = absurd cc
 rest_fails p (Err g) f e = cc
 

@@ -18,10 +18,10 @@ ghost use Rattle.script_text.specs.Watched.{Gives, FailsToGive};
 ghost use Rattle.script_text.specs.Awaited.{Begins, IsUnended, IsNext};
 
 use crate::fault::{Kind, ReadFault};
-use crate::read::records::event_line;
+use crate::read::records::{FrontEvent, front_event};
 use crate::read::script::{LONGEST_LINE, heap_line};
 use crate::read::watched::WatchedReader;
-use crate::read::words::split_line;
+use crate::read::words::{has_feed, split_line};
 use heap_steps::Event;
 use heap_words::config::Config;
 use std::alloc::{AllocError, Global};
@@ -47,13 +47,6 @@ struct FrontHeap {
     config: Result<Config, Kind>,
 }
 
-/// The same of an event's line.
-#[derive(Clone, Copy)]
-struct FrontEvent {
-    length: usize,
-    event: Result<Event, Kind>,
-}
-
 /// What the line at a text's front gives as a heap line, where a line feed ends it.
 fn front_heap(text: &[u8]) -> Option<FrontHeap>
     ensures within { IfSome result (λ f. f.length < length text.now) }
@@ -73,22 +66,18 @@ fn front_heap(text: &[u8]) -> Option<FrontHeap>
 }
 
 /// What the line at a text's front gives as that of an event of this count, where a line feed ends it.
-fn front_event(text: &[u8], count: u64, config: &Config) -> Option<FrontEvent>
+fn whole_event(text: &[u8], count: u64, config: &Config) -> Option<FrontEvent>
     ensures within { IfSome result (λ f. f.length < length text.now) }
     ensures line { IfSome result (λ f. Begins text.now (take f.length text.now) (drop (f.length + 1) text.now)) }
     ensures event { IfSome result (λ f. f.event ≡ event_line_of count config.now (take f.length text.now)) }
     ensures known { IfSome result (λ f. IfOk f.event (IsEvent config.now)) }
     ensures none { IfNone result (IsUnended text.now) }
 {
-    let mut words: [&[u8]; 12] = [&text[..0]; 12];
-    let Some(front) = split_line(text, &mut words) else {
-        return None;
-    };
-    let event = event_line(count, config, &text[..front.length], &words[..front.count]);
-    Some(FrontEvent {
-        length: front.length,
-        event,
-    })
+    if has_feed(text) {
+        Some(front_event(count, config, text))
+    } else {
+        None
+    }
 }
 
 /// Moves the bytes between two places to the front, and reads once behind them. Answers where what was read ends.
@@ -187,7 +176,7 @@ impl LineBuffer {
             Begins self.old line rest × (event_line_of count config.now line ≡ Err k) × (self.new ≡ self.old))) }
         ensures none { IfNone result (IsUnended self.old × (self.new ≡ self.old)) }
     {
-        let Some(front) = front_event(&self.bytes[self.start..self.end], count, config) else {
+        let Some(front) = whole_event(&self.bytes[self.start..self.end], count, config) else {
             return None;
         };
         match front.event {

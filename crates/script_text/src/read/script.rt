@@ -1,19 +1,36 @@
 //! Scripts, read line by line.
 
-ghost use Rattle.std.specs.Prelude.{◌≡◌, ◌∷◌, None, ℕ, List, map, take, IfOk, IfSome, IfNone};
+ghost use Rattle.std.specs.Prelude.{◌≡◌, ◌≢◌, ◌<◌, ◌+◌, ◌∷◌, None, Ok, Err, ℕ, List, length, map, take, drop};
+ghost use Rattle.std.specs.Prelude.{IfOk, IfErr, IfSome, IfNone};
 ghost use Rattle.heap_steps.specs.Actors.{IsStep};
+ghost use Rattle.script_text.specs.Feeds.{end_of, line_of};
 ghost use Rattle.script_text.specs.Reading.{sizes_in, third_of, sizes_of};
-ghost use Rattle.script_text.specs.Lines.{words_of, heap_line_of, step_line_of, Gives, script_of};
+ghost use Rattle.script_text.specs.Lines.{pieces_of, words_of, heap_line_of, step_line_of, Gives, script_of};
 
 use crate::fault::{Kind, LineFault};
 use crate::read::steps::step;
-use crate::read::words::{is_word, number, small_number, split_line};
+use crate::read::usual::usual_step;
+use crate::read::words::{Front, has_feed, is_word, number, small_number, split_front, split_line};
 use heap_steps::{Plan, Step};
 use heap_words::config::{Config, Format};
 use std::alloc::Global;
 
 /// The most bytes of a line before its line feed.
 pub(crate) const LONGEST_LINE: usize = 120;
+
+/// The heap line at a text's front: its sizes, and how many bytes it has before its line feed.
+#[derive(Clone, Copy)]
+pub(crate) struct HeapLine {
+    pub(crate) config: Config,
+    pub(crate) length: usize,
+}
+
+/// A step's line at a text's front: its step, and how many bytes it has before its line feed.
+#[derive(Clone, Copy)]
+pub(crate) struct StepLine {
+    pub(crate) step: Step,
+    pub(crate) length: usize,
+}
 
 /// The sizes that five words give, in a heap line of the format.
 #[tactic(auto, unfolding(crate::specs::Reading::sizes_in))]
@@ -118,6 +135,32 @@ pub(crate) fn heap_line(line: &[u8], words: &[&[u8]]) -> Result<Config, Kind>
     }
 }
 
+/// The heap line of a script's text, or the fault of the text's first line.
+pub(crate) fn first_line(text: &[u8]) -> Result<HeapLine, LineFault>
+    ensures within { IfOk result (λ h. h.length < length text.now) }
+    ensures line { IfOk result (λ h. pieces_of text.now ≡ take h.length text.now ∷ pieces_of (drop (h.length + 1) text.now)) }
+    ensures config { IfOk result (λ h. heap_line_of (take h.length text.now) ≡ Ok h.config) }
+    ensures fault { IfErr result (λ fault. script_of text.now ≡ Err fault) }
+    ensures memory { IfErr result (λ fault. fault.kind ≢ Kind.NoMemory) }
+{
+    let mut words: [&[u8]; 12] = [&text[..0]; 12];
+    let Some(front) = split_line(text, &mut words) else {
+        let kind = if text.is_empty() {
+            Kind::BadHeap
+        } else {
+            Kind::Cut
+        };
+        return Err(LineFault { line: 1, kind });
+    };
+    match heap_line(&text[..front.length], &words[..front.count]) {
+        Ok(config) => Ok(HeapLine {
+            config,
+            length: front.length,
+        }),
+        Err(kind) => Err(LineFault { line: 1, kind }),
+    }
+}
+
 /// The step that a line gives, whose first words these are.
 #[tactic(auto, unfolding(crate::specs::Lines::step_line_of))]
 fn step_line(config: &Config, line: &[u8], words: &[&[u8]]) -> Result<Step, Kind>
@@ -129,6 +172,29 @@ fn step_line(config: &Config, line: &[u8], words: &[&[u8]]) -> Result<Step, Kind
         return Err(Kind::LongLine);
     }
     step(config, words)
+}
+
+/// The step of the line at a text's front, or the line's fault. Most lines are of the usual steps; the words of others are parted first.
+#[inline(always)]
+pub(crate) fn front_step<'a, const CALLER: usize>(
+    config: &Config,
+    text: &'a [u8],
+    words: &mut [&'a [u8]],
+) -> Result<StepLine, Kind>
+    requires ended { end_of text.now < length text.now }
+    requires room { length words.old ≡ 12 }
+    ensures room { length words.new ≡ 12 }
+    ensures step { IfOk result (λ l. step_line_of config.now (line_of text.now) ≡ Ok l.step) }
+    ensures length { IfOk result (λ l. l.length ≡ end_of text.now) }
+    ensures known { IfOk result (λ l. IsStep config.now l.step) }
+    ensures fault { IfErr result (λ kind. step_line_of config.now (line_of text.now) ≡ Err kind) }
+{
+    if let Some(line) = usual_step::<CALLER>(config, text) {
+        return Ok(line);
+    }
+    let Front { length, count } = split_front(text, words);
+    let step = step_line(config, &text[..length], &words[..count])?;
+    Ok(StepLine { step, length })
 }
 
 /// The plan that a script's text spells, or the first fault of the text. Where memory is refused, the line at which it was wanted: no
@@ -143,29 +209,17 @@ fn step_line(config: &Config, line: &[u8], words: &[&[u8]]) -> Result<Step, Kind
 pub fn parse(alloc: Global, text: &[u8]) -> Result<Plan, LineFault>
     ensures { Gives result text.now (script_of text.now) }
 {
+    let HeapLine { config, length } = match first_line(text) {
+        Ok(line) => line,
+        Err(fault) => return Err(fault),
+    };
     let mut words: [&[u8]; 12] = [&text[..0]; 12];
-    let Some(first) = split_line(text, &mut words) else {
-        if text.is_empty() {
-            return Err(LineFault {
-                line: 1,
-                kind: Kind::BadHeap,
-            });
-        }
-        return Err(LineFault {
-            line: 1,
-            kind: Kind::Cut,
-        });
-    };
-    let config = match heap_line(&text[..first.length], &words[..first.count]) {
-        Ok(config) => config,
-        Err(kind) => return Err(LineFault { line: 1, kind }),
-    };
     let mut plan = Plan::new(alloc, config);
-    let mut rest = &text[first.length + 1..];
+    let mut rest = &text[length + 1..];
     let mut number = 2u64;
-    while let Some(line) = split_line(rest, &mut words) {
-        let step = match step_line(&config, &rest[..line.length], &words[..line.count]) {
-            Ok(step) => step,
+    'lines: while has_feed(rest) {
+        let StepLine { step, length } = match front_step::<0>(&config, rest, &mut words) {
+            Ok(line) => line,
             Err(kind) => return Err(LineFault { line: number, kind }),
         };
         let Ok(()) = plan.push(step) else {
@@ -174,7 +228,7 @@ pub fn parse(alloc: Global, text: &[u8]) -> Result<Plan, LineFault>
                 kind: Kind::NoMemory,
             });
         };
-        rest = &rest[line.length + 1..];
+        rest = &rest[length + 1..];
         number += 1;
     }
     if rest.is_empty() {

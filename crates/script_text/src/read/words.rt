@@ -49,7 +49,7 @@ fn finds_feed(text: &[u8]) -> bool
 
 /// Whether a line feed stands in a text. Most texts end in one.
 #[inline(always)]
-fn has_feed(text: &[u8]) -> bool
+pub(crate) fn has_feed(text: &[u8]) -> bool
     ensures found { IsTrue result → end_of text.now < length text.now }
     ensures none { result ≡ false → pieces_of text.now ≡ text.now ∷ [] }
 {
@@ -63,13 +63,14 @@ fn has_feed(text: &[u8]) -> bool
 /// Puts the first twelve words of the line at the front of a text into `words`: no good line has more. A line feed ends the line, so no
 /// byte is tested for the text's end.
 #[inline(always)]
-fn split_front<'a>(text: &'a [u8], words: &mut [&'a [u8]]) -> Front
+pub(crate) fn split_front<'a>(text: &'a [u8], words: &mut [&'a [u8]]) -> Front
     requires ended { end_of text.now < length text.now }
     requires room { length words.old ≡ 12 }
     ensures line { pieces_of text.now ≡ take result.length text.now ∷ pieces_of (drop (result.length + 1) text.now) }
-    ensures within { result.length < length text.now }
+    ensures ends { result.length ≡ end_of text.now }
     ensures kept { result.count ≤ 12 }
     ensures words { map (λ w. w.now) (take result.count words.new) ≡ take 12 (words_of (take result.length text.now)) }
+    ensures room { length words.new ≡ 12 }
 {
     let mut count = 0;
     let mut start = 0;
@@ -157,8 +158,9 @@ pub(crate) fn number(word: &[u8], limit: u64) -> Option<u64>
 
 /// A byte's distance from the digit 0: a number below 10 for a digit alone.
 #[inline(always)]
-fn digit(byte: u8) -> u32
-    ensures { result < 10 → Some result ≡ number_of small (byte ∷ []) }
+pub(crate) fn digit(byte: u8) -> u32
+    ensures number { result < 10 → Some result ≡ number_of small (byte ∷ []) }
+    ensures value { result < 10 → byte ≡ 48 + result }
 {
     byte.wrapping_sub(b'0') as u32
 }

@@ -27,7 +27,6 @@ use Rattle.heap_words.specs.Configs.{card_words}
 use Rattle.heap_words.proofs.Limits.{region_cards}
 use Rattle.step_core.specs.Stands.{places_of, IsRoomFor, CoreState, kept_of, heap_of, CardsFit, ShowsGraph, Stands, IsCore}
 use Rattle.step_core.proofs.Mutating.Reading.{object_kept}
-use Rattle.step_core.proofs.Mutating.Small.{words_none}
 
 all_free : (n k : ℕ) → get_or (replicate n Free) k Free ≡ Free
 all_free zero k = refl
@@ -141,8 +140,6 @@ first_is g m d r stand suits to rows names idle logs stands =
             λ k. let none = ap (λ (ls : List (List ℕ)). length (log_of ls k)) logs ∙ ap (λ (l : List ℕ). length l) (no_logs g.mutators k) in
             omega arith;
         halves = λ a x e o. absurd (let none = nothing_at g.regions g.words a in cc);
-        ends_previous = λ k a o i lt. let none = words_none t a (nothing_at g.regions g.words a) in omega (arith, none, lt);
-        ends_next = λ k a o i lt. let none = words_none t a (nothing_at g.regions g.words a) in omega (arith, none, lt);
       };
       cards = first_cards g suits;
       remembers = remembers_none (first_core g m d r).table.words_per_region (card_words g) (kept_of (first_core g m d r))

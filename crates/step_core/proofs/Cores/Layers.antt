@@ -7,7 +7,7 @@ use Rattle.heap_words.specs.declared.config.Config.{Config}
 use Rattle.regions.specs.Table.{Table, object_at, object_words, top_of}
 use Rattle.regions.specs.Tiles.{Object, tile_size}
 use Rattle.regions.proofs.Tiles.Changes.{WritesObject, object_same}
-use Rattle.step_core.proofs.Mutating.Small.{halves_same, ends_same, words_written}
+use Rattle.step_core.proofs.Mutating.Small.{halves_same, words_written}
 use Rattle.alloc_buffers.specs.Placement.{Buffers, AreAbove}
 use Rattle.alloc_buffers.proofs.Above.{above_same}
 use Rattle.satb_log.specs.Logs.{log_of}
@@ -71,8 +71,6 @@ layers_changed config t t' b m m' a x y w l st tams logs room long = record {
   above_next = rw tams (above_same t t' b (slice_index m.tams.next) w.size w.count w.used l.above_next);
   room = room;
   halves = halves_same t t' w.size w.kinds (words_written t t' a x y w long) l.halves;
-  ends_previous = rw tams (ends_same t t' w.size w.kinds (words_written t t' a x y w long) m.tams.previous l.ends_previous);
-  ends_next = rw tams (ends_same t t' w.size w.kinds (words_written t t' a x y w long) m.tams.next l.ends_next);
 }
 
 -- an object is written, and nothing else changed
@@ -99,6 +97,4 @@ layers_marked config t b m m' l st tams logs room = record {
   above_next = rw tams l.above_next;
   room = room;
   halves = l.halves;
-  ends_previous = rw tams l.ends_previous;
-  ends_next = rw tams l.ends_next;
 }

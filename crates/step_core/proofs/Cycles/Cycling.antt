@@ -21,7 +21,6 @@ use Rattle.step_core.specs.Stands.{CoreState, kept_of, heap_of, RemembersFields,
 use Rattle.step_core.specs.Cycle.{HasBegun, HasMarked}
 use Rattle.regions.specs.Shaped.{IsShaped}
 use Rattle.step_core.proofs.Cores.Layers.{layers_marked}
-use Rattle.step_core.proofs.Mutating.Small.{ends_at_tops}
 use Rattle.step_core.proofs.Cores.Remembering.{remembers_on, same_fields}
 
 abbrev pub with_marker : CoreState → Buffers → Marker → CoreState
@@ -102,8 +101,6 @@ module _ (k : CoreState) (core : IsCore k) (b : Buffers) (m : Marker) (retires :
       above_next = above k.table (slice_index m.tams.next) st.next.top;
       room = λ n. rw logs (core.layers.room n);
       halves = core.layers.halves;
-      ends_previous = rw tops core.layers.ends_previous;
-      ends_next = ends_at_tops k.table m.tams.next shaped next_tops;
     };
     cards = core.cards;
     remembers = remembers_same k b m heap_begun core.remembers;

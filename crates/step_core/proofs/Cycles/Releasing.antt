@@ -37,7 +37,7 @@ use Rattle.regions.proofs.Tiles.Holders.{holder_start}
 use Rattle.regions.proofs.Tiles.Laws.{object_tile}
 use Rattle.evacuation.proofs.Lists.{get_below}
 use Rattle.std.proofs.lemmas.List.{length-append}
-use Rattle.step_core.proofs.Mutating.Small.{halves_left, ends_left, words_by}
+use Rattle.step_core.proofs.Mutating.Small.{halves_left, words_by}
 use Rattle.step_core.specs.Stands.{CoreState, kept_of, heap_of, RemembersFields, CardsFit, ShowsGraph, KeepsFrom, IsCore}
 use Rattle.step_core.specs.Cycle.{IsDeadRegion, IsDeadRun, IsDead, IsAsNew, IsAsBefore}
 use Rattle.step_core.specs.Cleaning.{IsDeadHead, HasForgotten, HasCleared, HasReleased}
@@ -367,10 +367,6 @@ module _ (k : CoreState) (core : IsCore k) (shaped : IsShaped k.table) (n m : 鈩
       above_next = above_after (slice_index k.marker.tams.next) (slice_index mk.tams.next) f.low_next f.next_tops core.layers.above_next;
       room = 位 i. rw (ap (位 (x : Marker). x.logs) f.same) (core.layers.room i);
       halves = halves_left k.table (released k.table n) shaped.positive frees.size left core.layers.halves;
-      ends_previous = ends_left k.table (released k.table n) k.marker.tams.previous mk.tams.previous frees.size left
-          (位 j o. f.previous_tops j (still_ordinary j o)) core.layers.ends_previous;
-      ends_next = ends_left k.table (released k.table n) k.marker.tams.next mk.tams.next frees.size left
-          (位 j o. f.next_tops j (still_ordinary j o)) core.layers.ends_next;
     };
     cards = cards_fit;
     remembers = remembers_after;

@@ -32,7 +32,7 @@ use Rattle.step_core.specs.Stands.{CoreState, kept_of, RemembersFields, ShowsGra
 use Rattle.step_core.specs.Cycle.{HasRemarked, ShowsCleared}
 use Rattle.step_core.proofs.Cores.Added.{stand_same, object_none}
 use Rattle.step_core.proofs.Mutating.Reading.{object_kept}
-use Rattle.step_core.proofs.Mutating.Small.{halves_same, ends_same, words_are, words_none}
+use Rattle.step_core.proofs.Mutating.Small.{halves_same, words_are, words_none}
 
 -- logs that hold nothing together are empty
 none_in : (ls : List (List ℕ)) (n : ℕ) → logged ls ≡ [] → length (log_of ls n) ≡ 0
@@ -236,8 +236,6 @@ module _ (k : CoreState) (core : IsCore k) (run : k.marker.running ≡ true) (t 
           above_next = rw tops previous;
           room = λ i. let none = none_in m.logs i (st.idle over) in omega arith;
           halves = halves_same k.table t clears.size clears.kinds words core.layers.halves;
-          ends_previous = rw tops (ends_same k.table t clears.size clears.kinds words k.marker.tams.next core.layers.ends_next);
-          ends_next = rw tops (ends_same k.table t clears.size clears.kinds words k.marker.tams.previous core.layers.ends_previous);
         };
         cards = core.cards;
         remembers = remarked_remembers;

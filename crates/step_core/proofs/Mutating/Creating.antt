@@ -28,7 +28,7 @@ use Rattle.step_core.specs.Cycle.{LeavesRegions}
 use Rattle.step_core.specs.Answers.{Acts}
 use Rattle.step_core.proofs.Mutating.Acting.{acts_by}
 use Rattle.step_core.proofs.Mutating.Fields.{nil_get, nil_fields}
-use Rattle.step_core.proofs.Mutating.Small.{halves_added, ends_added, words_by}
+use Rattle.step_core.proofs.Mutating.Small.{halves_added, words_by}
 use Rattle.step_core.proofs.Cores.Added.{Creates}
 use Rattle.step_core.proofs.Cores.Sizes.{some_words}
 use Rattle.step_core.proofs.Mutating.Written.{kept_is, kept_above, kept_same, marking_same}
@@ -177,11 +177,6 @@ module _ (k : CoreState) (m : ℕ) (to : Register) (t2 : Table) (b1 : Buffers) (
           room = core.layers.room;
           halves = halves_added k.table t2 a (new_object k.next p weak d) words makes.kinds_stay makes.is makes.others
               (some_words k core) makes.half core.layers.halves;
-          ends_previous = ends_added k.table t2 a (new_object k.next p weak d) words makes.kinds_stay makes.is
-              makes.others k.marker.tams.previous
-              (makes.above (slice_index k.marker.tams.previous) core.layers.above_previous).0 core.layers.ends_previous;
-          ends_next = ends_added k.table t2 a (new_object k.next p weak d) words makes.kinds_stay makes.is makes.others k.marker.tams.next
-              (makes.above (slice_index k.marker.tams.next) core.layers.above_next).0 core.layers.ends_next;
         };
         cards = core.cards;
         remembers = remembers_new k (new (register_place (places_of k.config) m to.number)) a (new_object k.next p weak d)

@@ -1,24 +1,19 @@
 -- Objects of ordinary regions: none has more than half a region's words, and none reaches over its region's top at mark start.
 use Rattle.std.proofs.Common.{◌≡◌, ◌≢◌, ◌*◌, ◌/◌, ◌%◌, ◌<◌, ◌≤◌, ◌⊎◌, ◌∙◌}
-use Rattle.std.proofs.Common.{ℕ, true, List, Option, Some, None, length, get_or, refl, sym, ap, subst, arith, inl, inr}
-use Rattle.std.specs.Prelude.{slice_index}
+use Rattle.std.proofs.Common.{ℕ, true, Option, Some, None, length, get_or, refl, sym, ap, arith, inl, inr}
 use Rattle.std.proofs.lemmas.Bool.{cases_eq}
 use Rattle.std.proofs.lemmas.List.{get_or_past}
 use Rattle.std.proofs.lemmas.Bool.{cases_lt}
 use Rattle.heap_model.specs.Heap.{Stored}
 use Rattle.regions.specs.Tiles.{Object, tile_size}
 use Rattle.regions.specs.Table.{Table, Region, Free, Ordinary, First, Rest, region_kind, nth_region, region_at, region_tile, tile_in}
-use Rattle.regions.specs.Table.{tile_object, kind_of, object_at, object_words, stored_size, top_of, AreHalves}
-use Rattle.regions.specs.Shaped.{IsShaped}
+use Rattle.regions.specs.Table.{tile_object, kind_of, object_at, object_words, stored_size, AreHalves}
 use Rattle.regions.specs.declared.row.Kind.{Kind}
 use Rattle.regions.specs.declared.row.Kind.TheVariants as kinds
 use Rattle.regions.proofs.Tiles.Changes.{WritesObject, object_same}
 use Rattle.mark_bitmap.specs.Tops.{is_in_region}
 use Rattle.mark_bitmap.proofs.Ranges as ranges
-use Rattle.mark_bitmap.proofs.LiveWords.{in_region, region_low, region_high}
-use Rattle.mark_bitmap.proofs.Spans.{spans, option_cases}
-use Rattle.alloc_buffers.specs.Placement.{IsAbove}
-use Rattle.step_core.specs.Stands.{EndsBelow}
+use Rattle.mark_bitmap.proofs.LiveWords.{in_region}
 
 pub words_by : (t t' : Table) (a : ℕ) → object_at t' a ≡ object_at t a → object_words t' a ≡ object_words t a
 unfolding object_words
@@ -50,10 +45,6 @@ module _ (t t' : Table) (size : t'.words_per_region ≡ t.words_per_region) (kin
             omega (arith, words a, size, le, long, words_are t a some.0 some.1)
         | inr none ↦ omega (arith, words a, long, words_none t a none)
       ]
-
-  pub ends_same : (tops : List ℕ) → EndsBelow t tops → EndsBelow t' tops
-  ends_same tops e = λ k a o i lt. let le = e k a (sym (kinds_same k) ∙ o) (subst (λ (w : ℕ). is_in_region w k a ≡ true) size i) lt in
-      omega (arith, words a, le)
 
 -- an object is written over by one of its size
 pub words_written : (t t' : Table) (a : ℕ) (x y : Stored) → WritesObject t t' a x y → tile_size (Object y) ≡ tile_size (Object x)
@@ -110,23 +101,6 @@ module _ (t t' : Table) (a : ℕ) (x : Stored) (size : t'.words_per_region ≡ t
             ]
       ]
 
-  pub ends_added : (tops : List ℕ) → IsAbove t.words_per_region (slice_index tops) a → EndsBelow t tops → EndsBelow t' tops
-  ends_added tops above e = λ k b o i lt.
-      let inside : is_in_region t.words_per_region k b ≡ true = subst (λ (w : ℕ). is_in_region w k b ≡ true) size i in
-      elim (cases_eq b a) [
-        | inl q ↦
-            let low = region_low t.words_per_region k b inside in
-            let high = region_high t.words_per_region k b inside in
-            let over = above k (omega (arith, q, low)) (omega (arith, q, high)) in
-            absurd (omega (arith, q, over, lt))
-        | inr n ↦
-            let same = words_by t t' b (others b n) in
-            elim (kind_cases (kind_of t k)) [
-              | inl free ↦ let none = words_none t b (free_object t k b free inside) in omega (arith, same, none, lt)
-              | inr used ↦ let le = e k b (sym (stay k used) ∙ o) inside lt in omega (arith, same, le)
-            ]
-      ]
-
 -- an ordinary region is one of the table's
 pub ordinary_known : (t : Table) (k : ℕ) → kind_of t k ≡ kinds.Ordinary → k < length t.regions
 unfolding kind_of nth_region
@@ -137,20 +111,7 @@ ordinary_known t k o =
           absurd (let none : region_kind (get_or t.regions k Free) ≡ kinds.Free = ap region_kind (get_or_past t.regions k Free past) in cc)
     ]
 
--- no object reaches over its region's top
-pub ends_at_tops : (t : Table) (tops : List ℕ) → IsShaped t
-    → ((k : ℕ) → k < length t.regions → slice_index tops k ≡ top_of t k) → EndsBelow t tops
-ends_at_tops t tops shaped top = λ k a o i lt.
-    let is = top k (ordinary_known t k o) in
-    elim (option_cases (object_at t a)) [
-      | inl none ↦ let no = words_none t a none in omega (arith, no, lt)
-      | inr some ↦
-          let end =
-          (spans t k shaped o).ends a some.0 (region_low t.words_per_region k a i) (region_high t.words_per_region k a i) some.1 in
-          omega (arith, words_are t a some.0 some.1, end, is)
-    ]
-
--- regions that are ordinary now were so, with the same objects, and have the tops that they had
+-- regions that are ordinary now were so, with the same objects
 pub halves_left : (t t' : Table) → 0 < t.words_per_region → t'.words_per_region ≡ t.words_per_region
     → ((k a : ℕ) → kind_of t' k ≡ kinds.Ordinary → is_in_region t.words_per_region k a ≡ true
     → (kind_of t k ≡ kinds.Ordinary) × (object_words t' a ≡ object_words t a))
@@ -163,15 +124,3 @@ halves_left t t' z size same h = λ a x e o.
       | inl some ↦ let le = h a some.0 some.1 was.0 in omega (arith, was.1, size, le, long, words_are t a some.0 some.1)
       | inr none ↦ omega (arith, was.1, long, words_none t a none)
     ]
-
-pub ends_left : (t t' : Table) (tops tops' : List ℕ) → t'.words_per_region ≡ t.words_per_region
-    → ((k a : ℕ) → kind_of t' k ≡ kinds.Ordinary → is_in_region t.words_per_region k a ≡ true
-    → (kind_of t k ≡ kinds.Ordinary) × (object_words t' a ≡ object_words t a))
-    → ((k : ℕ) → kind_of t' k ≡ kinds.Ordinary → slice_index tops' k ≡ slice_index tops k)
-    → EndsBelow t tops → EndsBelow t' tops'
-ends_left t t' tops tops' size same top e = λ k a o i lt.
-    let inside : is_in_region t.words_per_region k a ≡ true = subst (λ (w : ℕ). is_in_region w k a ≡ true) size i in
-    let was = same k a o inside in
-    let is = top k o in
-    let le = e k a was.0 inside (omega (arith, is, lt)) in
-    omega (arith, was.1, is, le)

@@ -1,5 +1,5 @@
 -- The chosen regions are evacuated in a core: k is the core by its fields before that.
-use Rattle.std.proofs.Common.{◌≡◌, ◌≢◌, ◌+◌, ◌*◌, ◌/◌, ◌<◌, ◌≤◌, ◌&&◌, ◌∙◌}
+use Rattle.std.proofs.Common.{◌≡◌, ◌+◌, ◌*◌, ◌/◌, ◌<◌, ◌≤◌, ◌&&◌, ◌∙◌}
 use Rattle.std.proofs.Common.{ℕ, Bool, true, false, not, List, Option, Some, length, get_or, refl, sym, ap, subst, arith, inl, inr}
 use Rattle.std.specs.Prelude.{All, ◌↔◌, slice_index, nat_lt, if◌then◌else◌}
 use Rattle.std.proofs.lemmas.Bool.{cases_lt, cases_Bool}
@@ -15,19 +15,17 @@ use Rattle.heap_model.proofs.Shown.{closed}
 use Rattle.heap_model.proofs.Relocated.{relocated_shows, relocated_invariant}
 use Rattle.heap_model.proofs.Same.{same_invariant}
 use Rattle.regions.specs.Tiles.{Object, tile_size}
-use Rattle.regions.specs.Table.{Table, nth_region, region_used, kind_of, object_at, object_words, used_of}
-use Rattle.regions.specs.declared.row.Kind.TheVariants as kinds
+use Rattle.regions.specs.Table.{Table, object_at, object_words}
 use Rattle.alloc_buffers.specs.Placement as placement
 use Rattle.alloc_buffers.specs.Placement.{Buffers, BuffersStand}
 use Rattle.alloc_buffers.proofs.Placed.{closed_stand, retired_above}
 use Rattle.mark_bitmap.specs.Marks.{is_marked}
 use Rattle.mark_bitmap.specs.Grey.{is_grey}
-use Rattle.mark_bitmap.specs.Tops.{Tops, is_below, is_in_region, below_next, AreNewer}
-use Rattle.mark_bitmap.specs.Kept.{MarksObjects}
+use Rattle.mark_bitmap.specs.Tops.{Tops, is_below, below_next, AreNewer}
 use Rattle.mark_bitmap.specs.declared.bitmaps.Bitmaps.{Bitmaps}
 use Rattle.mark_bitmap.proofs.Ranges as ranges
 use Rattle.mark_bitmap.specs.Live.{marked_words}
-use Rattle.mark_bitmap.proofs.LiveWords.{region_low, none_words}
+use Rattle.mark_bitmap.proofs.LiveWords.{none_words}
 use Rattle.cards.specs.Cards.{Cards, is_dirty}
 use Rattle.remembered_sets.specs.Sets.{Sets, card_count}
 use Rattle.marker.specs.Stands.{MarkerStands}
@@ -39,7 +37,7 @@ use Rattle.evacuation.specs.Rooms.{RoomSizes}
 use Rattle.evacuation.specs.Evacuates.{CanEvacuate, HasEvacuated, IsRow, IsNewSet, IsSameBut, MarksAfter, is_chosen, set_in}
 use Rattle.heap_words.specs.Configs.{card_words}
 use Rattle.step_core.proofs.Mutating.Noting.{cards_a_region}
-use Rattle.step_core.specs.Stands.{places_of, CoreState, kept_of, heap_of, marking_of, EndsBelow, ShowsGraph, KeepsFrom, LayersFit, IsCore}
+use Rattle.step_core.specs.Stands.{places_of, CoreState, kept_of, heap_of, marking_of, ShowsGraph, KeepsFrom, LayersFit, IsCore}
 use Rattle.step_core.specs.Reclaimed.{IsReclaimed}
 use Rattle.step_core.specs.Pause.{IsChosen, IsRowOf, IsCandidateRow, IsReady, AreForgotten, EvacuatesBest, HasPaused, layers_of}
 use Rattle.heap_words.specs.declared.config.Config.{Config}
@@ -48,7 +46,7 @@ use Rattle.step_core.proofs.Cores.Layers.{follows_of}
 use Rattle.step_core.proofs.Pauses.Ready.{ready_config, ready_table, ready_marker, ready_roots, ready_next}
 use Rattle.step_core.proofs.Pauses.Refined.{can_scan}
 use Rattle.step_core.proofs.Cores.Sizes.{some_words}
-use Rattle.step_core.proofs.Mutating.Small.{option_is, free_region, words_are, words_none, kind_cases, ordinary_known}
+use Rattle.step_core.proofs.Mutating.Small.{words_are, ordinary_known}
 use Rattle.step_core.proofs.Pauses.Chosen.{chosen_rows, chosen_candidates, chosen_distinct}
 use Rattle.step_core.proofs.Pauses.Chosen.{chosen_room, chosen_within, chosen_ordinary, chosen_new}
 
@@ -60,10 +58,6 @@ cards_room k core =
 
 All_to : (P Q : LiveRow → Type 0) → ((x : LiveRow) → P x → Q x) → (rows : List LiveRow) → All P rows → All Q rows
 All_to P Q f rows a = λ i d lt. f (get_or rows i d) (a i d lt)
-
-free_top_by : (t : Table) (k : ℕ) → kind_of t k ≡ kinds.Free → used_of t k ≡ 0
-unfolding kind_of used_of
-free_top_by t k e = ap (region_used t.words_per_region) (free_region (nth_region t k) e)
 
 module _ (k : CoreState) (core : IsCore k) (budget : ℕ) (chosen : List LiveRow)
     (choice : IsChosen k.table k.marker.tams k.marker.bitmaps.previous k.marker.running budget chosen)
@@ -304,39 +298,6 @@ module _ (k : CoreState) (core : IsCore k) (budget : ℕ) (chosen : List LiveRow
           core.layers.marker.next.object ev.next.each_mark forgets.next forgets.each_next;
     }
 
-    -- the objects of a region that stays have the sizes that they had
-    words_left : (j a : ℕ) → is_chosen chosen j ≡ false → kind_of k.table j ≢ kinds.Free → is_in_region k.table.words_per_region j a ≡ true
-        → object_words t a ≡ object_words k.table a
-    words_left j a out used inside =
-        let row : a / k.table.words_per_region ≡ j = ranges.nth_region k.table.words_per_region j a inside in
-        let outside : set_in k.table.words_per_region chosen a ≡ false = ap (is_chosen chosen) row ∙ out in
-        elim (option_is (object_at k.table a)) [
-          | inl some ↦ words_stay a some.0 outside some.1
-          | inr none ↦ words_none t a (ev.regions.none a outside (λ e. used (ap (kind_of k.table) (sym row) ∙ e)) none)
-              ∙ sym (words_none k.table a none)
-        ]
-
-    ends_after : (tops tops' : List ℕ) (marks marks' : List Bool)
-        → MarksAfter k.table.words_per_region chosen tops tops' marks marks' → MarksObjects k.table tops marks
-        → EndsBelow k.table tops → EndsBelow t tops'
-    ends_after tops tops' marks marks' m before ends = λ j a o i lt.
-        let inside : is_in_region k.table.words_per_region j a ≡ true = subst (λ (x : ℕ). is_in_region x j a ≡ true) ev.regions.size i in
-        elim (cases_Bool (is_chosen chosen j)) [
-          | inl in_set ↦ absurd (let free = ev.regions.chosen j in_set in cc)
-          | inr out ↦
-              let same = tops_left tops tops' marks marks' m before.each_region j out in
-              elim (kind_cases (kind_of k.table j)) [
-                | inl free ↦
-                    let known = ordinary_known t j o in
-                    let top = before.top j (omega (arith, known, ev.regions.count)) in
-                    let low = region_low k.table.words_per_region j a inside in
-                    absurd (omega (arith, top, low, lt, same, free_top_by k.table j free))
-                | inr used ↦
-                    let was = ends j a (sym (ev.regions.kinds_same j out used) ∙ o) inside (omega (arith, same, lt)) in
-                    omega (arith, was, same, words_left j a out used inside)
-              ]
-        ]
-
     module _ (closed_all : k.buffers ≡ placement.closed k.buffers.words (length k.buffers.open_buffers)) where
       layers_after : LayersFit k.config t k.buffers marker
       layers_after = record {
@@ -355,10 +316,6 @@ module _ (k : CoreState) (core : IsCore k) (budget : ℕ) (chosen : List LiveRow
             (ap (λ (b : Buffers). b.open_buffers) closed_all) ev.next_stands.top;
         room = core.layers.room;
         halves = ev.halves;
-        ends_previous = ends_after k.marker.tams.previous tams.previous k.marker.bitmaps.previous bm.previous ev.previous
-            core.layers.marker.previous core.layers.ends_previous;
-        ends_next =
-            ends_after k.marker.tams.next tams.next k.marker.bitmaps.next bm.next ev.next core.layers.marker.next core.layers.ends_next;
       }
 
       pub paused_kept : r ≡ k.room → n ≡ k.row_room → length roots ≡ length k.roots → IsCore after

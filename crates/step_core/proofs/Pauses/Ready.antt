@@ -58,8 +58,6 @@ module _ (k : CoreState) (b : Buffers) (cs : Cards) where
         above_next = above k.table (slice_index k.marker.tams.next) core.layers.marker.next.top;
         room = core.layers.room;
         halves = core.layers.halves;
-        ends_previous = core.layers.ends_previous;
-        ends_next = core.layers.ends_next;
       };
       cards = record {
         whole_cards = core.cards.whole_cards;

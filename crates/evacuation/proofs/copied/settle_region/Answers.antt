@@ -2,10 +2,9 @@ use Rattle.heap_words.specs.Configs.{max_words}
 use Rattle.evacuation.specs.Space.{IsTaken}
 use Rattle.std.proofs.Common.{◌≡◌, ◌∙◌, ℕ, ap, refl, subst, arith, ◌<◌, ◌≤◌, ◌+◌, ◌*◌, ◌/◌, ◌-◌, length, sym}
 use Rattle.std.proofs.lemmas.Nat.{mul-le}
-use Rattle.regions.specs.Tiles.{Object}
-use Rattle.object_copy.proofs.Copied.{tile_of_object}
 use Rattle.evacuation.proofs.Turns.KeptObjects.{kept_object}
-use Rattle.regions.specs.Table.{tile_in, used_of}
+use Rattle.regions.specs.Table.{tile_in, kind_of, used_of}
+use Rattle.evacuation.proofs.Copies.NewPlace.{is_some}
 use Rattle.regions.proofs.Words.Divides.{div_is, div_low, div_high}
 use Rattle.evacuation.specs.Turns.{layout, space}
 use Rattle.evacuation.proofs.Turns.Following.{after_after, same_after, taken_after}
@@ -95,8 +94,8 @@ settle_object-requires g c =
     c.law-in-tiles.ensures c.args.region w c.tiles.at v.region in
     (premises, (v.turn, (flags, (card, (v.each, (out, (v.object, subst (IsTaken c.tiles.destinations) (sym v.region) w)))))))
 
-pub next_tile-requires : goal.next_tile-requires
-next_tile-requires g c =
+pub next_behind-requires : goal.next_behind-requires
+next_behind-requires g c =
     let (premises, (turn, (flags, (card, (each, destination))))) = c.requires in
     let v = c.tiles.invariant in
     let w = taken_after (layout g.pause) c.args.noted.now c.tiles.noted (space g.pause c.args.table.now) (space g.pause c.tiles.table)
@@ -104,8 +103,16 @@ next_tile-requires g c =
     let out = scans.copy_outside g.pause premises c.tiles.table c.tiles.destinations v.turn
     c.law-in-tiles.ensures c.args.region w c.tiles.at v.region in
     let (y, here, n) = c.settle_object.ensures.after.stays c.tiles.at v.object.0 out v.object.1 in
-    steps.some_tile (tile_in c.settle_object.new.table c.tiles.at) (Object y)
-    (tile_of_object c.settle_object.new.table c.tiles.at y (kept_object g.pause c.settle_object.new.table c.tiles.at y here))
+    let w' = taken_after (layout g.pause) c.tiles.noted c.settle_object.new.noted (space g.pause c.tiles.table)
+    (space g.pause c.settle_object.new.table) c.tiles.destinations c.settle_object.new.destinations
+    c.args.region c.settle_object.ensures.after w in
+    let size = c.settle_object.ensures.turn.table.size in
+    let region : c.tiles.at / c.settle_object.new.table.words_per_region ≡ c.args.region =
+    ap (λ (m : ℕ). c.tiles.at / m) size ∙ v.region in
+    record {
+      object = is_some _ y (kept_object g.pause c.settle_object.new.table c.tiles.at y here);
+      ordinary = ap (kind_of c.settle_object.new.table) region ∙ (c.settle_object.ensures.turn.taken c.args.region w').1;
+    }
 
 pub tiles-smaller : goal.tiles-smaller
 tiles-smaller g c =

@@ -7,8 +7,15 @@ use Rattle.evacuation.proofs.Loops.OutsideCards.{card_small, none_inside, none_t
 use Rattle.evacuation.proofs.FieldUpdates.FieldCards.{all_small}
 use Rattle.evacuation.proofs.outside.update_card.Goals as goal
 
-pub overflow_mul-card : goal.overflow_mul-card
-overflow_mul-card g c =
+pub overflow_mul-from : goal.overflow_mul-from
+overflow_mul-from g c =
+    let (premises, (turn, (flags, (card, (each, (tams, (marks, known))))))) = c.requires in
+    let a = card_small g.pause c.args.card premises known in
+    let n = all_small g.pause premises in
+    rw card (omega (arith, a, n))
+
+pub overflow_add-from : goal.overflow_add-from
+overflow_add-from g c =
     let (premises, (turn, (flags, (card, (each, (tams, (marks, known))))))) = c.requires in
     let a = card_small g.pause c.args.card premises known in
     let n = all_small g.pause premises in
@@ -54,7 +61,10 @@ update_tiles-requires g c =
                           premises.shaped.positive premises.whole_cards ∙ sym home,
                       (
                         sym c.is_inside.ensures ∙ c.if-is_inside.false,
-                        subst (λ (n : ℕ). IsHolder c.args.table.now c.in-Some.first n) c.new-bottom.ensures c.in-Some.ensures.holder,
+                        (
+                          subst (λ (n : ℕ). IsHolder c.args.table.now c.in-Some.first n) c.new-bottom.ensures c.in-Some.ensures.holder,
+                          refl,
+                        ),
                       ),
                     ),
                   ),

@@ -44,10 +44,11 @@ field_count-count-requires g c =
     let (premises, (turn, (flags, (card, (each, (known, (home, (outside, object)))))))) = c.requires in
     is_some _ object.0 (kept_object g.pause c.args.table.now c.args.at object.0 object.1)
 
-pub next_link-field-requires : goal.next_link-field-requires
-next_link-field-requires g c =
-    let m = c.min-end.ensures in
-    let n = c.field_count-count.ensures in
+pub next_link-requires : goal.next_link-requires
+next_link-requires g c =
+    let v = c.fields.invariant in
+    let m = v.lie.within in
+    let n = still_count g.pause c.fields.table c.args.at c.field_count-count.result v.still in
     omega arith
 
 pub fields-init : goal.fields-init
@@ -69,19 +70,21 @@ fields-init g c =
       lie = fields_in_card c.args.card_words c.args.card c.args.at c.field_count-count.result c.word-first.result c.args.card
           c.saturating_sub-start.result c.saturating_sub.result c.min-end.result z' c.word-first.ensures refl
           c.saturating_sub-start.ensures c.saturating_sub.ensures c.min-end.ensures;
-      low = c.next_link-field.ensures.low;
-      clean = λ i l h. nil_clean g.pause c.args.table.now c.args.at i (c.next_link-field.ensures.nil i l h);
+      low = omega arith;
+      clean = λ i l h. absurd (omega arith);
     }
 
 pub update_field-requires : goal.update_field-requires
 update_field-requires g c =
     let (premises, (turn, (flags, (card, (each, (known, (home, (outside, object)))))))) = c.requires in
     let v = c.fields.invariant in
-    let t = c.fields-test.true in
-    let in_card : field_word c.args.at c.fields.field / g.pause.card_words ≡ c.args.card =
-    ap (λ (n : ℕ). field_word c.args.at c.fields.field / n) (sym card) ∙ v.lie.in_card c.fields.field (v.low t) t in
+    let found = c.in-Some.ensures in
+    let low = v.low in
+    let at_least = found.low in
+    let in_card : field_word c.args.at c.in-Some.link.0 / g.pause.card_words ≡ c.args.card =
+    ap (λ (n : ℕ). field_word c.args.at c.in-Some.link.0 / n) (sym card) ∙ v.lie.in_card c.in-Some.link.0 (omega arith) found.high in
     let region = region_of_card g.pause.start.words_per_region g.pause.card_words g.pause.cards_per_region
-    (field_word c.args.at c.fields.field) premises.shaped.positive premises.whole_cards in (
+    (field_word c.args.at c.in-Some.link.0) premises.shaped.positive premises.whole_cards in (
       premises,
       (
         v.turn,
@@ -97,8 +100,11 @@ update_field-requires g c =
                   sym region ∙ ap (λ (n : ℕ). n / g.pause.cards_per_region) in_card ∙ home,
                   (
                     outside,
-                    still_field g.pause c.fields.table c.args.at c.field_count-count.result c.fields.field v.still
-                        (let m = v.lie.within in omega arith),
+                    (
+                      still_field g.pause c.fields.table c.args.at c.field_count-count.result c.in-Some.link.0 v.still
+                          (let m = v.lie.within in let h = found.high in omega arith),
+                      found.link,
+                    ),
                   ),
                 ),
               ),
@@ -107,15 +113,6 @@ update_field-requires g c =
         ),
       ),
     )
-
-pub next_link-field-requires-in-fields : goal.next_link-field-requires-in-fields
-next_link-field-requires-in-fields g c =
-    let (premises, (turn, (flags, (card, (each, (known, (home, (outside, object)))))))) = c.requires in
-    let (y, at, count) = c.fields.invariant.still in
-    let (z, here, same) = c.update_field.ensures.after.stays c.args.at y outside at in
-    let m = c.fields.invariant.lie.within in
-    let n = still_count g.pause c.update_field.new.table c.args.at c.field_count-count.result (z, here, same ∙ count) in
-    omega arith
 
 pub fields-preserved : goal.fields-preserved
 fields-preserved g c =
@@ -130,18 +127,21 @@ fields-preserved g c =
       each = c.update_field.ensures.each_card;
       still = (z, here, same ∙ count);
       lie = v.lie;
-      low = λ h. let a = c.next_link-field-in-fields.ensures.low h in let b = v.low c.fields-test.true in omega arith;
-      clean = λ i l h. elim (cases_lt i c.fields.field) [
-        | inl low ↦ clean_after (layout g.pause) c.fields.noted c.update_field.new.noted (space g.pause c.fields.table)
-            (space g.pause c.update_field.new.table) c.fields.destinations c.update_field.new.destinations c.args.at i
-            c.update_field.ensures.after outside (y, at) (v.clean i l low)
-        | inr high ↦ elim (cases_eq i c.fields.field) [
-          | inl e ↦
-              subst (IsFieldClean (layout g.pause) (space g.pause c.update_field.new.table) c.args.at) (sym e) c.update_field.ensures.clean
-          | inr n ↦ nil_clean g.pause c.update_field.new.table c.args.at i
-              (c.next_link-field-in-fields.ensures.nil i (omega arith) h)
-        ]
-      ];
+      low = (let a = c.in-Some.ensures.low in let b = v.low in omega arith);
+      clean = λ i l h.
+          let stays = clean_after (layout g.pause) c.fields.noted c.update_field.new.noted (space g.pause c.fields.table)
+          (space g.pause c.update_field.new.table) c.fields.destinations c.update_field.new.destinations c.args.at i
+          c.update_field.ensures.after outside (y, at) in
+          elim (cases_lt i c.fields.next) [
+            | inl low ↦ stays (v.clean i l low)
+            | inr high ↦ elim (cases_eq i c.in-Some.link.0) [
+              | inl e ↦
+                  subst (IsFieldClean (layout g.pause) (space g.pause c.update_field.new.table) c.args.at) (sym e)
+                  c.update_field.ensures.clean
+              | inr n ↦ stays (nil_clean g.pause c.fields.table c.args.at i
+                  (c.in-Some.ensures.nil i high (let z = c.in-Some.ensures.high in omega arith) (omega arith)))
+            ]
+          ];
     }
 
 pub returns-clause-clean : goal.returns-clause-clean
@@ -155,4 +155,7 @@ returns-clause-clean g c =
     let low = get_below (fields y) i w f in
     let e' : field_card c.args.card_words c.args.at i ≡ c.args.card = ap (λ (m : ℕ). field_word c.args.at i / m) card ∙ e in
     let (a, b) = v.lie.all i (omega (arith, n, count, low)) e' in
-    v.clean i a (let t = c.fields-test.false in omega (arith, b, t)) y w here f
+    elim (cases_lt i c.fields.next) [
+      | inl low ↦ v.clean i a low y w here f
+      | inr high ↦ nil_clean g.pause c.fields.table c.args.at i (c.in_default.ensures.nil i high b tt) y w here f
+    ]

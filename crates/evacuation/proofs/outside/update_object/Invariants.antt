@@ -14,9 +14,9 @@ invariant-fields g l = record {
   each : EachCard g.pause l.noted;
   still : IsStill (space g.pause l.table) l.at l.count;
   lie : AreInCard l.card_words l.card l.at l.count l.start l.end;
-  low : l.field < l.end → l.start ≤ l.field;
-  clean : (i : ℕ) → l.start ≤ i → i < l.field → IsFieldClean (layout g.pause) (space g.pause l.table) l.at i;
+  low : l.start ≤ l.next;
+  clean : (i : ℕ) → l.start ≤ i → i < l.next → IsFieldClean (layout g.pause) (space g.pause l.table) l.at i;
 }
 
 abbrev pub decreases-fields : goal.decreases-fields
-decreases-fields g l = l.end - l.field
+decreases-fields g l = l.end - l.next

@@ -6,31 +6,16 @@ use Rattle.refinement.proofs.Scanned.{tile_words}
 use Rattle.evacuation.specs.Space.{flag}
 use Rattle.evacuation.specs.Turns.{layout, space}
 use Rattle.evacuation.proofs.Turns.Following.{after_after, same_after}
-use Rattle.evacuation.proofs.Loops.OutsideCards.{card_small, onward, clean_next, clean_last, clean_over, placed_tile, region_by}
+use Rattle.evacuation.proofs.Loops.OutsideCards.{onward, clean_next, clean_last, clean_over, placed_tile, region_by}
 use Rattle.regions.proofs.Tiles.Steps.{some_tile}
-use Rattle.evacuation.proofs.FieldUpdates.FieldCards.{all_small}
 use Rattle.evacuation.proofs.outside.update_tiles.Goals as goal
 
 smaller : (end at next : ℕ) → at < next → next < end → end - next < end - at
 smaller end at next u h = omega arith
 
-pub overflow_mul-end : goal.overflow_mul-end
-overflow_mul-end g c =
-    let (premises, (turn, (flags, (card, (each, (tams, (marks, (known, (home, (outside, holder)))))))))) = c.requires in
-    let a = card_small g.pause c.args.card premises known in
-    let n = all_small g.pause premises in
-    rw card (omega (arith, a, n))
-
-pub overflow_add-end : goal.overflow_add-end
-overflow_add-end g c =
-    let (premises, (turn, (flags, (card, (each, (tams, (marks, (known, (home, (outside, holder)))))))))) = c.requires in
-    let a = card_small g.pause c.args.card premises known in
-    let n = all_small g.pause premises in
-    rw card (omega (arith, a, n))
-
 pub tiles-init : goal.tiles-init
 tiles-init g c =
-    let (premises, (turn, (flags, (card, (each, (tams, (marks, (known, (home, (outside, holder)))))))))) = c.requires in
+    let (premises, (turn, (flags, (card, (each, (tams, (marks, (known, (home, (outside, (holder, last))))))))))) = c.requires in
     let held : IsHolder c.args.table.now c.args.first (c.args.card * g.pause.card_words) =
     subst (λ (n : ℕ). IsHolder c.args.table.now c.args.first (c.args.card * n)) card holder in
     record {
@@ -53,7 +38,7 @@ overflow_add-past g c =
 
 pub update_tile-requires : goal.update_tile-requires
 update_tile-requires g c =
-    let (premises, (turn, (flags, (card, (each, (tams, (marks, (known, (home, (outside, holder)))))))))) = c.requires in
+    let (premises, (turn, (flags, (card, (each, (tams, (marks, (known, (home, (outside, (holder, last))))))))))) = c.requires in
     let v = c.tiles.invariant in (
       premises,
       (
@@ -88,7 +73,7 @@ update_tile-requires g c =
 
 pub tiles-smaller : goal.tiles-smaller
 tiles-smaller g c =
-    let (premises, (turn, (flags, (card, (each, (tams, (marks, (known, (home, (outside, holder)))))))))) = c.requires in
+    let (premises, (turn, (flags, (card, (each, (tams, (marks, (known, (home, (outside, (holder, last))))))))))) = c.requires in
     let v = c.tiles.invariant in
     let n = c.in-Some.ensures.next in
     let r = region_by c.in-Some.next c.tiles.at g.pause.start.words_per_region c.update_tile.new.table.words_per_region
@@ -101,7 +86,7 @@ tiles-smaller g c =
 
 pub tiles-preserved : goal.tiles-preserved
 tiles-preserved g c =
-    let (premises, (turn, (flags, (card, (each, (tams, (marks, (known, (home, (outside, holder)))))))))) = c.requires in
+    let (premises, (turn, (flags, (card, (each, (tams, (marks, (known, (home, (outside, (holder, last))))))))))) = c.requires in
     let v = c.tiles.invariant in
     let n = c.in-Some.ensures.next in
     let r = region_by c.in-Some.next c.tiles.at g.pause.start.words_per_region c.update_tile.new.table.words_per_region
@@ -120,12 +105,11 @@ tiles-preserved g c =
 
 pub returns-then-past-end-clause-clean : goal.returns-then-past-end-clause-clean
 returns-then-past-end-clause-clean g c =
-    let (premises, (turn, (flags, (card, (each, (tams, (marks, (known, (home, (outside, holder)))))))))) = c.requires in
+    let (premises, (turn, (flags, (card, (each, (tams, (marks, (known, (home, (outside, (holder, last))))))))))) = c.requires in
     let v = c.tiles.invariant in
     let tile = placed_tile c.tiles.table c.tiles.at c.tile-shape.result v.tile c.tile-shape.ensures in
     let size = tile_words c.tile-shape.result tile.tile c.size.result tile.shape_is c.size.ensures in
-    let e : c.args.card * c.args.card_words + c.args.card_words ≡ c.args.card * g.pause.card_words + g.pause.card_words =
-    ap (λ (n : ℕ). c.args.card * n + n) card in
+    let e : c.args.end ≡ c.args.card * g.pause.card_words + g.pause.card_words = last ∙ ap (λ (n : ℕ). c.args.card * n + n) card in
     λ visited. clean_over g.pause premises c.args.card c.tiles.table c.update_tile.new.table c.tiles.destinations
     c.update_tile.new.destinations c.tiles.noted c.update_tile.new.noted v.turn c.update_tile.ensures.turn
     c.update_tile.ensures.after visited c.tiles.at (v.clean visited) (c.update_tile.ensures.clean visited) c.law-in-tiles.ensures
@@ -141,7 +125,7 @@ returns-in_default-clause-after g c = after_after (layout g.pause) c.args.noted.
 
 pub returns-in_default-clause-clean : goal.returns-in_default-clause-clean
 returns-in_default-clause-clean g c =
-    let (premises, (turn, (flags, (card, (each, (tams, (marks, (known, (home, (outside, holder)))))))))) = c.requires in
+    let (premises, (turn, (flags, (card, (each, (tams, (marks, (known, (home, (outside, (holder, last))))))))))) = c.requires in
     let v = c.tiles.invariant in
     let held : IsHolder c.args.table.now c.args.first (c.args.card * g.pause.card_words) =
     subst (λ (n : ℕ). IsHolder c.args.table.now c.args.first (c.args.card * n)) card holder in

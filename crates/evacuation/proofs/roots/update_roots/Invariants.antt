@@ -11,9 +11,9 @@ abbrev pub invariant-loop-place : goal.invariant-loop-place
 invariant-loop-place g l = record {
   turn : IsTurn g.pause l.table l.destinations;
   after : (noted : List Bool) → After g.pause noted noted l.initial.table l.table l.initial.destinations l.destinations;
-  roots : AreRootsMoved (place_after (in_set g.pause) (space g.pause l.table).forward) g.pause.roots l.roots.words l.from;
+  roots : AreRootsMoved (place_after (in_set g.pause) (space g.pause l.table).forward) g.pause.roots l.roots.words l.place;
   places : l.roots.places ≡ l.initial.roots.places;
 }
 
 abbrev pub decreases-loop-place : goal.decreases-loop-place
-decreases-loop-place g l = length l.roots.words - l.from
+decreases-loop-place g l = length l.roots.words - l.place

@@ -1,10 +1,21 @@
+use Rattle.std.proofs.Common.{◌≡◌, ◌∙◌, Result, ap, sym}
+use Rattle.std.specs.Prelude.{Ok}
+use Rattle.heap_steps.specs.Actors.{StepList}
 use Rattle.heap_steps.specs.Faults.{IsRunFault}
+use Rattle.script_text.specs.Lines.{script_of}
+use Rattle.script_text.specs.declared.fault.LineFault.{LineFault}
 use Rattle.step_core.specs.Histories.{IsRunInOrder}
 use Rattle.jobs.proofs.Endings.{ends, comes}
 use Rattle.g1heap.proofs.in_order.run_script.Goals as goal
 
-pub returns : goal.returns
-returns g c =
-    let (outcome, made, fault, answers) = c.run_plan.ensures in
-    ends IsRunInOrder IsRunFault c.in_ok-plan.plan _ _ _ _ outcome c.run_plan.result c.in_ok-plan.ensures
-    (comes IsRunInOrder IsRunFault c.in_ok-plan.plan outcome made fault) answers
+abbrev is_plan : StepList → Result StepList LineFault
+is_plan plan = Ok plan
+
+pub returns-in-Ok-new : goal.returns-in-Ok-new
+returns-in-Ok-new g c =
+    let plan = c.in-Ok-new.steps in
+    let read : script_of c.in-Ok.text.items ≡ is_plan plan = ap script_of (sym c.as_slice.ensures.value) ∙ sym c.in-Ok-new.ensures.script in
+    let (outcome, made, fault, answers) = c.run_steps.ensures in
+    ends IsRunInOrder IsRunFault plan _ _ _ _ outcome c.run_steps.result
+    (c.in-Ok.text.items, (c.in-Ok.ensures.gives, c.in-Ok.ensures.end), read)
+    (comes IsRunInOrder IsRunFault plan outcome made fault) answers

@@ -1,13 +1,15 @@
-use Rattle.std.proofs.Common.{arith, ◌≡◌, ℕ, ◌+◌, ◌-◌, drop, ap, ◌∙◌}
-use lib.Seq.{paste}
-use Rattle.heap_words.proofs.Blocks.{paste_put}
+use Rattle.std.proofs.Common.{arith}
+use Rattle.heap_words.proofs.Blocks.{copied_up, copied_down}
 use Rattle.heap_words.proofs.words.copy_within.Goals as goal
 
-pub copy_apart-requires-clause-apart : goal.copy_apart-requires-clause-apart
-copy_apart-requires-clause-apart c = c.are_apart.ensures c.if-are_apart.true
+pub returns-then-from-to : goal.returns-then-from-to
+returns-then-from-to c =
+    let v = c.split_at_mut-low.ensures in
+    copied_up c.args.words.now _ _ _ c.args.from c.args.to c.args.size _ (omega (arith, c.requires.apart)) c.requires.target
+    v.front v.back (omega arith) c.copy_from_slice.ensures.after
 
-pub returns-else-are_apart : goal.returns-else-are_apart
-returns-else-are_apart c =
-    let n : c.args.from + c.args.size - c.args.from ≡ c.args.size = omega arith in
-    c.copy_within.ensures.after ∙ ap (λ (m : ℕ). paste c.args.words.now c.args.to (drop c.args.from c.args.words.now) m) n
-    ∙ paste_put c.args.words.now c.args.from c.args.to c.args.size c.requires.source c.requires.target
+pub returns-else-from-to : goal.returns-else-from-to
+returns-else-from-to c =
+    let v = c.split_at_mut-low-else-from-to.ensures in
+    copied_down c.args.words.now _ _ _ c.args.from c.args.to c.args.size _ (omega (arith, c.requires.apart)) c.requires.source
+    v.front v.back (omega arith) c.copy_from_slice-else-from-to.ensures.after

@@ -32,11 +32,11 @@ fields-preserved c =
           c.get_field.ensures (none_of c.get_field.result (cc)) i l (omega arith);
     }
 
-pub returns-then-is_some-clause-nil : goal.returns-then-is_some-clause-nil
-returns-then-is_some-clause-nil c = c.fields.invariant.nil
+pub returns-in-Some-clause-nil : goal.returns-in-Some-clause-nil
+returns-in-Some-clause-nil c = λ i l h k. c.fields.invariant.nil i l k
 
 pub returns-then-field-end-clause-nil : goal.returns-then-field-end-clause-nil
 returns-then-field-end-clause-nil c =
     let v = c.fields.invariant in
-    λ i l h. nil_on (fields_at c.args.table.now c.args.object) c.args.start c.fields.field c.get_field.result v.nil
+    λ i l h k. nil_on (fields_at c.args.table.now c.args.object) c.args.start c.fields.field c.get_field.result v.nil
     c.get_field.ensures (none_of c.get_field.result (cc)) i l (omega arith)

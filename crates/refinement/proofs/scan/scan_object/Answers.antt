@@ -1,5 +1,8 @@
-use Rattle.std.proofs.Common.{◌+◌, ◌/◌, ◌<◌, ◌∙◌, ap, refl, sym, subst, ℕ, arith}
-use Rattle.regions.specs.Table.{object_at}
+use Rattle.std.proofs.Common.{◌≡◌, ◌≢◌, ◌+◌, ◌/◌, ◌<◌, ◌≤◌, ◌∙◌, ap, refl, sym, subst, true, ℕ, Option, Some, arith}
+use Rattle.std.specs.Prelude.{slice_get}
+use Rattle.regions.specs.Table.{fields_at, object_at}
+use Rattle.remembered_sets.specs.Sets.{may_lead}
+use Rattle.refinement.specs.Refining.{with_field}
 use Rattle.regions.proofs.Words.Divides.{card_has_words}
 use Rattle.refinement.specs.Remembering.{field_word}
 use Rattle.refinement.proofs.Entered.{adds_none, adds_sets}
@@ -24,30 +27,24 @@ overflow_add-to c =
     let small = c.law.ensures.in_all in
     rw c.number.ensures (omega (arith, e, small))
 
-pub next_link-field-requires : goal.next_link-field-requires
-next_link-field-requires c = omega (arith, c.min-end.ensures, c.field_count-count.ensures)
+pub next_link-requires : goal.next_link-requires
+next_link-requires c = omega (arith, c.min-end.ensures, c.field_count-count.ensures)
 
 pub fields-init : goal.fields-init
 fields-init c =
     let z = card_has_words c.args.card_words c.args.table.now.words_per_region c.args.sets.now.cards_per_region
     c.law.ensures.positive c.requires.fit.whole_cards in
     record {
-      partly = λ kept same. partly_nil c.args.table.now kept c.args.card_words c.args.card c.args.object c.saturating_sub-start.result
-          c.saturating_sub-start.result c.next_link-field.result c.args.sets.now c.args.sets.now same c.next_link-field.ensures.nil
-          (record {
-            adds = adds_none c.args.table.now.words_per_region kept c.args.card_words c.args.card c.args.sets.now;
-            done = λ i v l h. absurd (omega arith);
-          });
+      partly = λ kept same. record {
+        adds = adds_none c.args.table.now.words_per_region kept c.args.card_words c.args.card c.args.sets.now;
+        done = λ i v l h. absurd (omega arith);
+      };
       last = c.requires.last;
       lie = fields_in_card c.args.card_words c.args.card c.args.object c.field_count-count.result c.word-first.result c.number.result
           c.saturating_sub-start.result c.saturating_sub.result c.min-end.result z c.word-first.ensures c.number.ensures
           c.saturating_sub-start.ensures c.saturating_sub.ensures c.min-end.ensures;
-      low = c.next_link-field.ensures.low;
+      low = omega arith;
     }
-
-pub scan_field-last-requires-clause-field : goal.scan_field-last-requires-clause-field
-scan_field-last-requires-clause-field c =
-    omega (arith, c.fields.invariant.lie.within, c.field_count-count.ensures, c.fields-test.true)
 
 pub scan_field-last-requires-clause-regions : goal.scan_field-last-requires-clause-regions
 scan_field-last-requires-clause-regions c =
@@ -64,10 +61,10 @@ scan_field-last-requires-clause-card c =
 
 pub scan_field-last-requires-clause-home : goal.scan_field-last-requires-clause-home
 scan_field-last-requires-clause-home c =
-    let low = c.fields.invariant.low c.fields-test.true in
-    let in_card = c.fields.invariant.lie.in_card c.fields.field low c.fields-test.true in
+    let low : c.saturating_sub-start.result ≤ c.in-Some.link.0 = omega (arith, c.fields.invariant.low, c.in-Some.ensures.low) in
+    let in_card = c.fields.invariant.lie.in_card c.in-Some.link.0 low c.in-Some.ensures.high in
     sym (region_of_card c.args.table.now.words_per_region c.args.card_words c.args.sets.now.cards_per_region
-    (field_word c.args.object c.fields.field) c.law.ensures.positive c.requires.fit.whole_cards)
+    (field_word c.args.object c.in-Some.link.0) c.law.ensures.positive c.requires.fit.whole_cards)
     ∙ ap (λ (n : ℕ). n / c.args.sets.now.cards_per_region) in_card ∙ c.requires.home
 
 pub scan_field-last-requires-clause-source : goal.scan_field-last-requires-clause-source
@@ -78,29 +75,43 @@ scan_field-last-requires-clause-source c =
     ap (λ (n : ℕ). c.args.card / n) same ∙ c.requires.home
 
 pub fields-preserved : goal.fields-preserved
-fields-preserved c = record {
-  partly = λ kept same.
-      let p = c.fields.invariant.partly kept same in
-      let low = c.fields.invariant.low c.fields-test.true in
-      let fit = (adds_fit c.args.table.now kept c.args.card_words c.args.card c.args.sets.now c.fields.sets c.requires.fit p.adds).0 in
-      partly_nil c.args.table.now kept c.args.card_words c.args.card c.args.object c.saturating_sub-start.result
-      (c.fields.field + 1) c.next_link-field-in-fields.result c.args.sets.now c.scan_field-last.new.sets same
-      c.next_link-field-in-fields.ensures.nil
-      (partly_next c.args.table.now kept c.args.card_words c.args.card c.args.object c.saturating_sub-start.result c.fields.field
-      (c.fields.field + 1) c.args.sets.now c.fields.sets c.scan_field-last.new.sets same c.requires.inside fit.each_region
-      (omega (arith, c.fields.invariant.lie.within, c.field_count-count.ensures, c.fields-test.true))
-      (c.fields.invariant.lie.in_card c.fields.field low c.fields-test.true) refl
-      c.scan_field-last.ensures.after c.scan_field-last.ensures.covered p);
-  last = c.scan_field-last.ensures.last;
-  lie = c.fields.invariant.lie;
-  low = λ h. omega (arith, c.next_link-field-in-fields.ensures.low h, c.fields.invariant.low c.fields-test.true);
-}
+fields-preserved c =
+    let found = c.in-Some.ensures in
+    let low : c.saturating_sub-start.result ≤ c.in-Some.link.0 = omega (arith, c.fields.invariant.low, found.low) in
+    record {
+      partly = λ kept same.
+          let p = c.fields.invariant.partly kept same in
+          let fit = (adds_fit c.args.table.now kept c.args.card_words c.args.card c.args.sets.now c.fields.sets c.requires.fit p.adds).0 in
+          let named : (target : Option ℕ) → slice_get (fields_at c.args.table.now c.args.object) c.in-Some.link.0 ≡ Some target
+          → Some c.in-Some.link.1 ≡ target = λ target e. let both = sym found.link ∙ e in cc in
+          let last : (target : ℕ) → slice_get (fields_at c.args.table.now c.args.object) c.in-Some.link.0 ≡ Some (Some target)
+          → c.in-Some.link.1 ≡ target = λ target e. let both = named (Some target) e in cc in
+          partly_next c.args.table.now kept c.args.card_words c.args.card c.args.object c.saturating_sub-start.result c.in-Some.link.0
+          (c.in-Some.link.0 + 1) c.args.sets.now c.fields.sets c.scan_field-last.new.sets same c.requires.inside fit.each_region
+          (omega (arith, c.fields.invariant.lie.within, c.field_count-count.ensures, found.high))
+          (c.fields.invariant.lie.in_card c.in-Some.link.0 low found.high) refl
+          (λ target e. subst (λ (o : Option ℕ). c.scan_field-last.new.sets ≡ with_field c.args.table.now.words_per_region c.args.card
+          (field_word c.args.object c.in-Some.link.0) o c.fields.sets) (named target e) c.scan_field-last.ensures.after)
+          (λ target e. subst (λ (n : ℕ). n / c.args.table.now.words_per_region
+          ≢ field_word c.args.object c.in-Some.link.0 / c.args.table.now.words_per_region
+          → may_lead c.scan_field-last.new.sets (n / c.args.table.now.words_per_region) c.args.card ≡ true) (last target e)
+          c.scan_field-last.ensures.covered)
+          (partly_nil c.args.table.now kept c.args.card_words c.args.card c.args.object c.saturating_sub-start.result c.fields.next
+          c.in-Some.link.0 c.args.sets.now c.fields.sets same (λ i l h. found.nil i l (omega (arith, h, found.high)) h) p);
+      last = c.scan_field-last.ensures.last;
+      lie = c.fields.invariant.lie;
+      low = omega (arith, low);
+    }
 
 pub returns-clause-scanned : goal.returns-clause-scanned
 returns-clause-scanned c = λ kept same.
+    let r = c.fields.invariant.lie in
     partly_last c.args.table.now kept c.args.card_words c.args.card c.args.object c.field_count-count.result
-    c.saturating_sub-start.result c.min-end.result c.fields.field c.args.sets.now c.fields.sets same c.field_count-count.ensures
-    c.fields.invariant.lie c.fields-test.false (c.fields.invariant.partly kept same)
+    c.saturating_sub-start.result c.min-end.result c.min-end.result c.args.sets.now c.fields.sets same c.field_count-count.ensures
+    r (omega arith)
+    (partly_nil c.args.table.now kept c.args.card_words c.args.card c.args.object c.saturating_sub-start.result c.fields.next
+    c.min-end.result c.args.sets.now c.fields.sets same (λ i l h. c.in_default.ensures.nil i l h tt)
+    (c.fields.invariant.partly kept same))
 
 pub returns-clause-last : goal.returns-clause-last
 returns-clause-last c = c.fields.invariant.last

@@ -1,4 +1,4 @@
-use Rattle.std.proofs.Common.{◌≡◌, ◌≢◌, ◌<◌, ◌≤◌, ◌-◌, ℕ, Option, true}
+use Rattle.std.proofs.Common.{◌≡◌, ◌≢◌, ◌≤◌, ◌-◌, ℕ, Option, true}
 use Rattle.heap_model.specs.Heap.{Stored}
 use Rattle.regions.specs.Table.{object_at}
 use Rattle.remembered_sets.specs.Sets.{may_lead}
@@ -8,11 +8,11 @@ use Rattle.refinement.proofs.scan.scan_object.Given as goal
 abbrev pub invariant-fields : goal.invariant-fields
 invariant-fields l = record {
   partly : (kept : ℕ → Option Stored) → kept l.object ≡ object_at l.table l.object
-      → IsPartly l.table.words_per_region kept l.card_words l.card l.object l.start l.field l.fn.sets l.sets;
+      → IsPartly l.table.words_per_region kept l.card_words l.card l.object l.start l.next l.fn.sets l.sets;
   last : l.last ≢ l.home → may_lead l.sets l.last l.card ≡ true;
   lie : AreInCard l.card_words l.card l.object l.count l.start l.end;
-  low : l.field < l.end → l.start ≤ l.field;
+  low : l.start ≤ l.next;
 }
 
 abbrev pub decreases-fields : goal.decreases-fields
-decreases-fields l = l.end - l.field
+decreases-fields l = l.end - l.next

@@ -8,8 +8,8 @@ use Rattle.marker.proofs.Reached.{among_next, named_word}
 use Rattle.marker.proofs.Begun.{rest_begun}
 use Rattle.marker.proofs.marker.Marker.begin.Goals as goal
 
-pub reach-requires-clause-kept : goal.reach-requires-clause-kept
-reach-requires-clause-kept c = λ a e _.
+pub reach_kept-requires-clause-kept : goal.reach_kept-requires-clause-kept
+reach_kept-requires-clause-kept c = λ a e.
     let s = c.start.ensures in
     let word = named_word c.args.roots.now.words c.loop-place.from c.in-Some.place c.get.result c.in-Some.ensures.lowest c.get.ensures in
     same_kept c.args.table.now c.start.new.self c.loop-place.self a c.loop-place.invariant.same
@@ -18,9 +18,9 @@ reach-requires-clause-kept c = λ a e _.
 
 pub loop-place-preserved : goal.loop-place-preserved
 loop-place-preserved c =
-    let q = c.reach.ensures in
+    let q = c.reach_kept.ensures in
     among_next c.args.table.now c.args.roots.now.words c.loop-place.from c.in-Some.place c.get.result
-    c.start.new.self c.loop-place.self c.reach.new.self
+    c.start.new.self c.loop-place.self c.reach_kept.new.self
     c.in-Some.ensures.lowest c.get.ensures c.loop-place.invariant
     (record { stands = q.stands; marks = q.marks; same = q.same; scanned = q.scanned; scans = q.scans; logs = q.logs })
 

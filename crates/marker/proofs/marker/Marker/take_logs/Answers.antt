@@ -1,6 +1,11 @@
 use Rattle.std.proofs.Common.{arith}
-use Rattle.marker.proofs.Logs.{one_taken}
+use Rattle.marker.proofs.Logs.{none_taken, one_taken}
 use Rattle.marker.proofs.marker.Marker.take_logs.Goals as goal
+
+pub loop-mutator-preserved-then-len-eq0 : goal.loop-mutator-preserved-then-len-eq0
+loop-mutator-preserved-then-len-eq0 c =
+    none_taken c.args.table.now c.args.self.now c.loop-mutator.self c.loop-mutator.mutator c.loop-mutator.invariant
+    (omega (arith, c.len.ensures.value, c.if-len-eq0.true))
 
 pub loop-mutator-preserved : goal.loop-mutator-preserved
 loop-mutator-preserved c =

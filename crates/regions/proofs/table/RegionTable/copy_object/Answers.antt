@@ -16,6 +16,8 @@ use Rattle.std.proofs.Common.{List, Option, length}
 use Rattle.regions.specs.Tiles.{Object, tile_size}
 use Rattle.regions.specs.Table.{object_words}
 use Rattle.regions.proofs.Tiles.Within.{object_within}
+use Rattle.regions.proofs.Tiles.Apart.{object_apart}
+use Rattle.regions.proofs.Tiles.ShapedMade.{shaped_of}
 use Rattle.regions.proofs.table.RegionTable.copy_object.Goals as goal
 
 pub overflow_add-end : goal.overflow_add-end
@@ -34,14 +36,22 @@ reach-requires c =
     c.top-to.ensures ∙ ap (λ (m : ℕ). c.args.region * m + used_of c.args.self.now c.args.region) (sym n.size_is) in
     omega (arith, at, t.room, n.size_is, c.requires.room, c.object_size-size.ensures, c.word.ensures)
 
-pub copy-requires-clause-source : goal.copy-requires-clause-source
-copy-requires-clause-source c =
+pub copy_apart-requires-clause-source : goal.copy_apart-requires-clause-source
+copy_apart-requires-clause-source c =
     let o = object_there _ _ _ _ _ c.self.invariant.table c.self.view_is c.requires.object in
     let stands = object_within _ _ _ _ _ c.self.invariant.written c.self.view_is o.1.is in
     omega (arith, stands, o.1.words_are, c.object_size-size.ensures, c.reach.ensures.written)
 
-pub copy-requires-clause-target : goal.copy-requires-clause-target
-copy-requires-clause-target c = omega (arith, c.word.ensures, c.reach.ensures.written)
+pub copy_apart-requires-clause-target : goal.copy_apart-requires-clause-target
+copy_apart-requires-clause-target c = omega (arith, c.word.ensures, c.reach.ensures.written)
+
+pub copy_apart-requires-clause-apart : goal.copy_apart-requires-clause-apart
+copy_apart-requires-clause-apart c =
+    let o = object_there _ _ _ _ _ c.self.invariant.table c.self.view_is c.requires.object in
+    let shaped = shaped_of _ _ _ _ c.self.invariant.table c.self.view_is in
+    let long : c.object_size-size.result ≡ tile_size (Object o.0) = c.object_size-size.ensures ∙ o.1.words_are in
+    object_apart c.args.self.now shaped c.args.region c.args.from c.object_size-size.result c.top-to.result o.0 c.requires.ordinary
+    long (omega (arith, c.requires.room, c.object_size-size.ensures)) c.top-to.ensures o.1.is
 
 pub index-requires : goal.index-requires
 index-requires c =
@@ -105,7 +115,7 @@ invariant_of-self c =
     ∙ ap (λ k. get_or c.self.inside.rows.items k free_row) c.number-number.ensures in
     let w = copy_pushed _ _ _ _ _ c.args.from _ _ _ _ o.0 _ c.self.invariant.table c.self.view_is c.requires.known
     c.requires.ordinary o.1.is c.requires.room c.top-to.ensures (ap (λ (row : Row). row.used) read) c.object_size-size.ensures
-    c.number-number.ensures (rw c.reach.ensures.all at c.copy.ensures.all) in
+    c.number-number.ensures (rw c.reach.ensures.all at c.copy_apart.ensures.all) in
     let long : object_words c.args.self.now c.args.from ≡ tile_size (Object o.0) = o.1.words_are in
     let slots : c.weak_count-weaks.result ≡ length o.0.weaks =
     c.weak_count-weaks.ensures ∙ ap (λ (l : List (Option ℕ)). length l) (weaks_are c.args.self.now c.args.from o.0 o.1.is) in
@@ -119,8 +129,8 @@ invariant_of-self c =
     (used_set _ _ _ _ (omega (arith, n.in_rows, c.number-number.ensures)) refl c.self.invariant.used_below)
     (count_kept c.self.inside.rows.items c.number-number.result _ _ (omega (arith, n.in_rows, c.number-number.ensures))
     (rw c.number-number.ensures (row_used _ _ _ _ _ n c.requires.ordinary)) refl c.self.invariant.free_is)
-    (omega (arith, c.reach.ensures.written, c.copy.ensures.written))
-    (omega (arith, c.word-2.ensures, c.word.ensures, c.reach.ensures.written, c.copy.ensures.written)) w
+    (omega (arith, c.reach.ensures.written, c.copy_apart.ensures.written))
+    (omega (arith, c.word-2.ensures, c.word.ensures, c.reach.ensures.written, c.copy_apart.ensures.written)) w
 
 pub returns-clause-pushed : goal.returns-clause-pushed
 returns-clause-pushed c s is =
@@ -129,7 +139,7 @@ returns-clause-pushed c s is =
     ∙ ap (λ k. get_or c.self.inside.rows.items k free_row) c.number-number.ensures in
     (copy_pushed _ _ _ _ _ c.args.from _ _ _ _ s _ c.self.invariant.table c.self.view_is c.requires.known
     c.requires.ordinary is c.requires.room c.top-to.ensures (ap (λ (row : Row). row.used) read)
-    c.object_size-size.ensures c.number-number.ensures (rw c.reach.ensures.all at c.copy.ensures.all)).table_is
+    c.object_size-size.ensures c.number-number.ensures (rw c.reach.ensures.all at c.copy_apart.ensures.all)).table_is
 
 pub note-requires : goal.note-requires
 note-requires c =

@@ -6,8 +6,6 @@ use Rattle.regions.specs.Table.{kind_of}
 use Rattle.regions.specs.Rows.{free_row}
 use Rattle.regions.proofs.Tiles.Making.{known, kind_is}
 use Rattle.regions.proofs.Walks.WalkMade.{walk_ordinary}
-use Rattle.regions.proofs.Walks.WalkFrom.{walk_first, walk_free, walk_rests}
-use Rattle.regions.proofs.Tiles.Within.{first_stands}
 use Rattle.regions.proofs.table.RegionTable.tile_words.Goals as goal
 
 pub index-row-requires : goal.index-row-requires
@@ -24,44 +22,18 @@ returns-in-Ordinary c =
     kind_is _ _ _ _ _ n ∙ sym (ap (λ (row : Row). row.kind) read) ∙ c.in-Ordinary.is in
     rw read (walk_ordinary _ _ _ _ _ c.self.invariant.table c.self.view_is c.requires is)
 
-pub overflow_mul-number : goal.overflow_mul-number
-overflow_mul-number c =
-    let n = known _ _ _ _ _ c.self.view_is c.requires in
-    let read = get_or_read c.self.inside.rows.items _ _ (omega (arith, n.in_rows, c.number.ensures)) c.index-row.ensures free_row
-    ∙ ap (λ k. get_or c.self.inside.rows.items k free_row) c.number.ensures in
-    let is : kind_of c.args.self.now c.args.region ≡ kinds.First =
-    kind_is _ _ _ _ _ n ∙ sym (ap (λ (row : Row). row.kind) read) ∙ c.in-First.is in
-    let w = walk_first _ _ _ _ _ c.self.invariant.table c.self.view_is c.requires is in
-    rw c.number-in-First.ensures (omega (arith, w.1, c.self.invariant.table.small))
-
-pub size_at-requires : goal.size_at-requires
-size_at-requires c =
-    let n = known _ _ _ _ _ c.self.view_is c.requires in
-    let read = get_or_read c.self.inside.rows.items _ _ (omega (arith, n.in_rows, c.number.ensures)) c.index-row.ensures free_row
-    ∙ ap (λ k. get_or c.self.inside.rows.items k free_row) c.number.ensures in
-    let is : kind_of c.args.self.now c.args.region ≡ kinds.First =
-    kind_is _ _ _ _ _ n ∙ sym (ap (λ (row : Row). row.kind) read) ∙ c.in-First.is in
-    let stands = first_stands _ _ _ _ _ _ c.self.invariant.table c.self.invariant.written c.self.view_is is in
-    rw (c.new.ensures, c.number-in-First.ensures) stands
-
-pub returns-in-First : goal.returns-in-First
-returns-in-First c =
-    let n = known _ _ _ _ _ c.self.view_is c.requires in
-    let read = get_or_read c.self.inside.rows.items _ _ (omega (arith, n.in_rows, c.number.ensures)) c.index-row.ensures free_row
-    ∙ ap (λ k. get_or c.self.inside.rows.items k free_row) c.number.ensures in
-    let is : kind_of c.args.self.now c.args.region ≡ kinds.First =
-    kind_is _ _ _ _ _ n ∙ sym (ap (λ (row : Row). row.kind) read) ∙ c.in-First.is in
-    rw (c.size_at.ensures, c.new.ensures, c.number-in-First.ensures)
-    (walk_first _ _ _ _ _ c.self.invariant.table c.self.view_is c.requires is).0
-
-pub returns-in-Free : goal.returns-in-Free
-returns-in-Free c =
+pub run_words-requires : goal.run_words-requires
+run_words-requires c =
     let n = known _ _ _ _ _ c.self.view_is c.requires in
     let read = get_or_read c.self.inside.rows.items _ _ (omega (arith, n.in_rows, c.number.ensures)) c.index-row.ensures free_row
     ∙ ap (λ k. get_or c.self.inside.rows.items k free_row) c.number.ensures in
     let is : kind_of c.args.self.now c.args.region ≡ c.index-row.result.now.kind =
     kind_is _ _ _ _ _ n ∙ sym (ap (λ (row : Row). row.kind) read) in
-    elim c.in-Free.is [
-      | inl f ↦ walk_free _ _ c.requires (is ∙ f)
-      | inr f ↦ walk_rests _ _ c.requires (is ∙ f)
-    ]
+    record {
+      known = c.requires;
+      other = λ o. let ordinary : c.index-row.result.now.kind ≡ kinds.Ordinary = sym is ∙ o in elim c.in-Free.is [
+        | inl f ↦ cc
+        | inr (inl f) ↦ cc
+        | inr (inr f) ↦ cc
+      ];
+    }

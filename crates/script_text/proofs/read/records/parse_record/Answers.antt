@@ -1,11 +1,14 @@
-use Rattle.std.proofs.Common.{◌∙◌, ◌+◌, ap, sym, refl, arith, rules, length, take}
+use Rattle.std.proofs.Common.{◌≡◌, ◌∙◌, ◌∷◌, ◌+◌, ◌<◌, Err, ap, sym, refl, arith, rules, length, take}
 use Rattle.std.proofs.lemmas.List.{length-drop}
 use Rattle.script_text.specs.declared.fault.Kind.TheVariants as kinds
 use Rattle.script_text.proofs.Reading.RecordOn.{begins, begins_wrong, no_line, goes_on, goes_wrong, is_done, is_cut, read_from, read_with}
 use Rattle.script_text.proofs.Reading.Stops.{fault_is, heap_line_never, one_less}
 use Rattle.script_text.proofs.Reading.RecordStops.{event_line_never, stops}
-use Rattle.script_text.proofs.Parts.Pieces.{behind, behind_is, pieces_behind}
+use Rattle.script_text.proofs.Parts.Pieces.{behind, behind_is, pieces_behind, pieces_ended}
 use Rattle.heap_steps.specs.Actors.{EventList}
+use Rattle.script_text.specs.Feeds.{end_of, line_of}
+use Rattle.script_text.specs.Events.{event_line_of}
+use Rattle.script_text.specs.Lines.{pieces_of}
 use Rattle.script_text.proofs.read.records.parse_record.Goals as goal
 
 pub returns-then-is_empty : goal.returns-then-is_empty
@@ -23,12 +26,11 @@ returns-in-Err c =
     (begins_wrong c.args.text.now line (behind (k + 1) c.args.text.now) c.in-Err.kind
     (pieces_behind c.args.text.now k c.in-Some.ensures.line) (sym c.in-Err.ensures))
 
-pub loop-line-init : goal.loop-line-init
-loop-line-init c =
+pub lines-init : goal.lines-init
+lines-init c =
     let k = c.in-Some.first.length in
     let line = take k c.args.text.now in
     record {
-      room = c.split_line.auto.words;
       so_far = read_from c.new-history.result c.in-Ok.config _ _ c.new-history.ensures
           (begins c.args.text.now line (behind (k + 1) c.args.text.now) c.in-Ok.config
           (pieces_behind c.args.text.now k c.in-Some.ensures.line) (sym c.in-Ok.ensures));
@@ -41,48 +43,52 @@ loop-line-init c =
           omega arith;
     }
 
-pub returns-in-Err-event_line : goal.returns-in-Err-event_line
-returns-in-Err-event_line c =
-    let rest = c.loop-line.rest.now in
-    let k = c.in-Some-split_line.line.length in
-    let line = take k rest in
-    fault_is c.in-Err-event_line.kind (c.loop-line.count + 1) c.args.text.now _
-    (event_line_never c.loop-line.count c.in-Ok.config line c.in-Err-event_line.kind (sym c.in-Err-event_line.ensures.exact))
-    (goes_wrong c.loop-line.history c.loop-line.count c.in-Ok.config rest line (behind (k + 1) rest) c.in-Err-event_line.kind _
-    (pieces_behind rest k c.in-Some-split_line.ensures.line) (sym c.in-Err-event_line.ensures.exact) c.loop-line.invariant.so_far)
+pub returns-in-Err-event : goal.returns-in-Err-event
+returns-in-Err-event c =
+    let rest = c.lines.rest.now in
+    let after = behind (end_of rest + 1) rest in
+    let piece : pieces_of rest ≡ line_of rest ∷ pieces_of after = pieces_ended rest (end_of rest) (c.lines-test.ensures.found refl) refl in
+    let bad : event_line_of c.lines.count c.in-Ok.config (line_of rest) ≡ Err c.in-Err-event.kind =
+    sym c.front_event-length.ensures.event ∙ c.in-Err-event.is in
+    fault_is c.in-Err-event.kind (c.lines.count + 1) c.args.text.now _
+    (event_line_never c.lines.count c.in-Ok.config (line_of rest) c.in-Err-event.kind bad)
+    (goes_wrong c.lines.history c.lines.count c.in-Ok.config rest (line_of rest) after c.in-Err-event.kind _
+    piece bad c.lines.invariant.so_far)
 
-pub loop-line-preserved : goal.loop-line-preserved
-loop-line-preserved c =
-    let rest = c.loop-line.rest.now in
-    let k = c.in-Some-split_line.line.length in
-    let line = take k rest in
+pub lines-preserved : goal.lines-preserved
+lines-preserved c =
+    let rest = c.lines.rest.now in
+    let line = c.front_event-length.result in
+    let after = behind (line.length + 1) rest in
+    let ended : end_of rest < length rest = c.lines-test.ensures.found refl in
+    let piece : pieces_of rest ≡ line_of rest ∷ pieces_of after = pieces_ended rest line.length ended c.front_event-length.ensures.length in
+    let within : line.length < length rest = omega (arith, ended, c.front_event-length.ensures.length) in
     record {
-      room = c.split_line-in-loop-line.auto.words ∙ c.loop-line.invariant.room;
-      so_far = read_with _ c.loop-line.history c.in-Ok-event_line.event _ _ c.in-Ok-push.ensures.ok
-          (goes_on c.loop-line.history c.loop-line.count c.in-Ok.config rest line (behind (k + 1) rest) c.in-Ok-event_line.event _
-          (pieces_behind rest k c.in-Some-split_line.ensures.line) (sym c.in-Ok-event_line.ensures.exact) c.loop-line.invariant.so_far);
-      config = ap (λ (p : EventList). p.config) c.in-Ok-push.ensures.ok ∙ c.loop-line.invariant.config;
-      bound = omega (arith, c.in-Some-split_line.ensures.within, ap length (behind_is (k + 1) rest), length-drop (k + 1) rest);
-      from = let from = c.loop-line.invariant.from in omega arith;
+      so_far = read_with _ c.lines.history c.in-Ok-event.event _ _ c.in-Ok-push.ensures.ok
+          (goes_on c.lines.history c.lines.count c.in-Ok.config rest (line_of rest) after c.in-Ok-event.event _
+          piece (sym c.front_event-length.ensures.event ∙ c.in-Ok-event.is) c.lines.invariant.so_far);
+      config = ap (λ (p : EventList). p.config) c.in-Ok-push.ensures.ok ∙ c.lines.invariant.config;
+      bound = omega (arith, within, ap length (behind_is (line.length + 1) rest), length-drop (line.length + 1) rest);
+      from = let from = c.lines.invariant.from in omega arith;
       lines =
-          let less = one_less c.loop-line.count rest line (behind (k + 1) rest) (pieces_behind rest k c.in-Some-split_line.ensures.line) in
-          let lines = c.loop-line.invariant.lines in
+          let less = one_less c.lines.count rest (line_of rest) after piece in
+          let lines = c.lines.invariant.lines in
           omega arith;
     }
 
 pub returns-in_default-push : goal.returns-in_default-push
 returns-in_default-push c =
-    let rest = c.loop-line.rest.now in
-    let k = c.in-Some-split_line.line.length in
-    let line = take k rest in
-    stops c.loop-line.history c.loop-line.count c.in-Ok.config c.args.text.now rest line (behind (k + 1) rest) c.in-Ok-event_line.event
-    (pieces_behind rest k c.in-Some-split_line.ensures.line) (sym c.in-Ok-event_line.ensures.exact)
-    c.loop-line.invariant.so_far c.loop-line.invariant.from c.loop-line.invariant.lines
+    let rest = c.lines.rest.now in
+    let after = behind (end_of rest + 1) rest in
+    let piece : pieces_of rest ≡ line_of rest ∷ pieces_of after = pieces_ended rest (end_of rest) (c.lines-test.ensures.found refl) refl in
+    stops c.lines.history c.lines.count c.in-Ok.config c.args.text.now rest (line_of rest) after c.in-Ok-event.event
+    piece (sym c.front_event-length.ensures.event ∙ c.in-Ok-event.is) c.lines.invariant.so_far c.lines.invariant.from
+    c.lines.invariant.lines
 
 pub returns-then-is_empty-2 : goal.returns-then-is_empty-2
-returns-then-is_empty-2 c = is_done c.loop-line.history c.loop-line.count c.in-Ok.config c.loop-line.rest.now _
-    c.in_default-split_line.ensures.none (sym c.is_empty-2.ensures ∙ c.if-is_empty-2.true) c.loop-line.invariant.so_far
+returns-then-is_empty-2 c = is_done c.lines.history c.lines.count c.in-Ok.config c.lines.rest.now _
+    (c.lines-test.ensures.none refl) (sym c.is_empty-2.ensures ∙ c.if-is_empty-2.true) c.lines.invariant.so_far
 
 pub returns-else-is_empty-2 : goal.returns-else-is_empty-2
-returns-else-is_empty-2 c = is_cut c.loop-line.history c.loop-line.count c.in-Ok.config c.loop-line.rest.now _
-    c.in_default-split_line.ensures.none (sym c.is_empty-2.ensures ∙ c.if-is_empty-2.false) c.loop-line.invariant.so_far
+returns-else-is_empty-2 c = is_cut c.lines.history c.lines.count c.in-Ok.config c.lines.rest.now _
+    (c.lines-test.ensures.none refl) (sym c.is_empty-2.ensures ∙ c.if-is_empty-2.false) c.lines.invariant.so_far

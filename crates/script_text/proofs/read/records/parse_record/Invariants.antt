@@ -4,9 +4,8 @@ use Rattle.script_text.specs.Events.{events_of, record_of}
 use Rattle.script_text.proofs.Reading.RecordOn.{read_on}
 use Rattle.script_text.proofs.read.records.parse_record.Given as goal
 
-abbrev pub invariant-loop-line : goal.invariant-loop-line
-invariant-loop-line l = record {
-  room : length l.words ≡ 12;
+abbrev pub invariant-lines : goal.invariant-lines
+invariant-lines l = record {
   so_far : read_on l.history (events_of l.count l.config (pieces_of l.rest)) ≡ record_of l.text;
   config : l.history.config ≡ l.config;
   bound : l.count + length l.rest ≤ 1 + length l.text;
@@ -14,5 +13,5 @@ invariant-loop-line l = record {
   lines : l.count + length (pieces_of l.rest) ≡ length (pieces_of l.text);
 }
 
-abbrev pub decreases-loop-line : goal.decreases-loop-line
-decreases-loop-line l = length l.rest
+abbrev pub decreases-lines : goal.decreases-lines
+decreases-lines l = length l.rest

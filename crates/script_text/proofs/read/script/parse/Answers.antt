@@ -1,87 +1,79 @@
-use Rattle.std.proofs.Common.{◌∙◌, ◌+◌, ap, sym, refl, arith, rules, length, take}
+use Rattle.std.proofs.Common.{◌≡◌, ◌∙◌, ◌∷◌, ◌+◌, ◌<◌, ap, sym, refl, arith, rules, length, take}
 use Rattle.std.proofs.lemmas.List.{length-drop}
-use Rattle.script_text.specs.declared.fault.Kind.TheVariants as kinds
-use Rattle.script_text.proofs.Reading.ReadOn.{begins, begins_wrong, no_line, goes_on, goes_wrong, is_done, is_cut, read_from, read_with}
-use Rattle.script_text.proofs.Reading.Stops.{fault_is, step_line_never, heap_line_never, one_less, stops}
-use Rattle.script_text.proofs.Parts.Pieces.{behind, behind_is, pieces_behind}
+use Rattle.script_text.proofs.Reading.ReadOn.{begins, goes_on, goes_wrong, is_done, is_cut, read_from, read_with}
+use Rattle.script_text.proofs.Reading.Stops.{fault_is, step_line_never, one_less, stops}
+use Rattle.script_text.proofs.Parts.Pieces.{behind, behind_is, pieces_behind, pieces_ended}
+use Rattle.script_text.specs.Feeds.{end_of, line_of}
+use Rattle.script_text.specs.Lines.{pieces_of}
 use Rattle.heap_steps.specs.Actors.{StepList}
 use Rattle.script_text.proofs.read.script.parse.Goals as goal
 
-pub returns-then-is_empty : goal.returns-then-is_empty
-returns-then-is_empty c =
-    no_line c.args.text.now kinds.BadHeap c.in_default.ensures.none (rw (sym c.is_empty.ensures ∙ c.if-is_empty.true) refl)
-
-pub returns-in_default : goal.returns-in_default
-returns-in_default c = no_line c.args.text.now kinds.Cut c.in_default.ensures.none (rw (sym c.is_empty.ensures ∙ c.if-is_empty.false) refl)
-
 pub returns-in-Err : goal.returns-in-Err
 returns-in-Err c =
-    let k = c.in-Some.first.length in
-    let line = take k c.args.text.now in
-    fault_is c.in-Err.kind 1 c.args.text.now _ (heap_line_never line c.in-Err.kind (sym c.in-Err.ensures))
-    (begins_wrong c.args.text.now line (behind (k + 1) c.args.text.now) c.in-Err.kind
-    (pieces_behind c.args.text.now k c.in-Some.ensures.line) (sym c.in-Err.ensures))
+    let f = c.in-Err.fault in
+    fault_is f.kind f.line c.args.text.now _ c.in-Err.ensures.memory c.in-Err.ensures.fault
 
-pub loop-line-init : goal.loop-line-init
-loop-line-init c =
-    let k = c.in-Some.first.length in
-    let line = take k c.args.text.now in
+pub lines-init : goal.lines-init
+lines-init c =
+    let text = c.args.text.now in
+    let k = c.in-Ok.line.length in
+    let config = c.in-Ok.line.config in
     record {
-      room = c.split_line.auto.words;
-      so_far = read_from c.new-plan.result c.in-Ok.config _ _ c.new-plan.ensures
-          (begins c.args.text.now line (behind (k + 1) c.args.text.now) c.in-Ok.config
-          (pieces_behind c.args.text.now k c.in-Some.ensures.line) (sym c.in-Ok.ensures));
+      room = refl;
+      so_far = read_from c.new-plan.result config _ _ c.new-plan.ensures
+          (begins text (take k text) (behind (k + 1) text) config (pieces_behind text k c.in-Ok.ensures.line) c.in-Ok.ensures.config);
       config = search rules;
-      number = omega (arith, ap length (behind_is (k + 1) c.args.text.now), length-drop (k + 1) c.args.text.now);
+      number = omega (arith, ap length (behind_is (k + 1) text), length-drop (k + 1) text);
       from = omega arith;
       count =
-          let less =
-          one_less 1 c.args.text.now line (behind (k + 1) c.args.text.now) (pieces_behind c.args.text.now k c.in-Some.ensures.line) in
+          let less = one_less 1 text (take k text) (behind (k + 1) text) (pieces_behind text k c.in-Ok.ensures.line) in
           omega arith;
     }
 
-pub returns-in-Err-step_line : goal.returns-in-Err-step_line
-returns-in-Err-step_line c =
-    let rest = c.loop-line.rest.now in
-    let k = c.in-Some-split_line.line.length in
-    let line = take k rest in
-    fault_is c.in-Err-step_line.kind c.loop-line.number c.args.text.now _
-    (step_line_never c.in-Ok.config line c.in-Err-step_line.kind (sym c.in-Err-step_line.ensures.exact))
-    (goes_wrong c.loop-line.plan c.loop-line.number c.in-Ok.config rest line (behind (k + 1) rest) c.in-Err-step_line.kind _
-    (pieces_behind rest k c.in-Some-split_line.ensures.line) (sym c.in-Err-step_line.ensures.exact) c.loop-line.invariant.so_far)
+pub returns-in-Err-front_step : goal.returns-in-Err-front_step
+returns-in-Err-front_step c =
+    let rest = c.lines.rest.now in
+    let after = behind (end_of rest + 1) rest in
+    let piece : pieces_of rest ≡ line_of rest ∷ pieces_of after = pieces_ended rest (end_of rest) (c.lines-test.ensures.found refl) refl in
+    fault_is c.in-Err-front_step.kind c.lines.number c.args.text.now _
+    (step_line_never c.in-Ok.line.config (line_of rest) c.in-Err-front_step.kind c.in-Err-front_step.ensures.fault)
+    (goes_wrong c.lines.plan c.lines.number c.in-Ok.line.config rest (line_of rest) after c.in-Err-front_step.kind _
+    piece c.in-Err-front_step.ensures.fault c.lines.invariant.so_far)
 
-pub loop-line-preserved : goal.loop-line-preserved
-loop-line-preserved c =
-    let rest = c.loop-line.rest.now in
-    let k = c.in-Some-split_line.line.length in
-    let line = take k rest in
+pub lines-preserved : goal.lines-preserved
+lines-preserved c =
+    let rest = c.lines.rest.now in
+    let line = c.in-Ok-front_step.line in
+    let after = behind (line.length + 1) rest in
+    let ended : end_of rest < length rest = c.lines-test.ensures.found refl in
+    let piece : pieces_of rest ≡ line_of rest ∷ pieces_of after = pieces_ended rest line.length ended c.in-Ok-front_step.ensures.length in
+    let within : line.length < length rest = omega (arith, ended, c.in-Ok-front_step.ensures.length) in
     record {
-      room = c.split_line-in-loop-line.auto.words ∙ c.loop-line.invariant.room;
-      so_far = read_with _ c.loop-line.plan c.in-Ok-step_line.step _ _ c.in-Ok-push.ensures.ok
-          (goes_on c.loop-line.plan c.loop-line.number c.in-Ok.config rest line (behind (k + 1) rest) c.in-Ok-step_line.step _
-          (pieces_behind rest k c.in-Some-split_line.ensures.line) (sym c.in-Ok-step_line.ensures.exact) c.loop-line.invariant.so_far);
-      config = ap (λ (p : StepList). p.config) c.in-Ok-push.ensures.ok ∙ c.loop-line.invariant.config;
-      number = omega (arith, c.in-Some-split_line.ensures.within, ap length (behind_is (k + 1) rest), length-drop (k + 1) rest);
-      from = let from = c.loop-line.invariant.from in omega arith;
+      room = c.front_step.ensures.room;
+      so_far = read_with _ c.lines.plan line.step _ _ c.in-Ok-push.ensures.ok
+          (goes_on c.lines.plan c.lines.number c.in-Ok.line.config rest (line_of rest) after line.step _
+          piece c.in-Ok-front_step.ensures.step c.lines.invariant.so_far);
+      config = ap (λ (p : StepList). p.config) c.in-Ok-push.ensures.ok ∙ c.lines.invariant.config;
+      number = omega (arith, within, ap length (behind_is (line.length + 1) rest), length-drop (line.length + 1) rest);
+      from = let from = c.lines.invariant.from in omega arith;
       count =
-          let less = one_less c.loop-line.number rest line (behind (k + 1) rest) (pieces_behind rest k c.in-Some-split_line.ensures.line) in
-          let count = c.loop-line.invariant.count in
+          let less = one_less c.lines.number rest (line_of rest) after piece in
+          let count = c.lines.invariant.count in
           omega arith;
     }
 
-pub returns-in_default-push : goal.returns-in_default-push
-returns-in_default-push c =
-    let rest = c.loop-line.rest.now in
-    let k = c.in-Some-split_line.line.length in
-    let line = take k rest in
-    stops c.loop-line.plan c.loop-line.number c.in-Ok.config c.args.text.now rest line (behind (k + 1) rest) c.in-Ok-step_line.step
-    (pieces_behind rest k c.in-Some-split_line.ensures.line) (sym c.in-Ok-step_line.ensures.exact)
-    c.loop-line.invariant.so_far c.loop-line.invariant.from c.loop-line.invariant.count
+pub returns-in_default : goal.returns-in_default
+returns-in_default c =
+    let rest = c.lines.rest.now in
+    let after = behind (end_of rest + 1) rest in
+    let piece : pieces_of rest ≡ line_of rest ∷ pieces_of after = pieces_ended rest (end_of rest) (c.lines-test.ensures.found refl) refl in
+    stops c.lines.plan c.lines.number c.in-Ok.line.config c.args.text.now rest (line_of rest) after c.in-Ok-front_step.line.step
+    piece c.in-Ok-front_step.ensures.step c.lines.invariant.so_far c.lines.invariant.from c.lines.invariant.count
 
-pub returns-then-is_empty-2 : goal.returns-then-is_empty-2
-returns-then-is_empty-2 c = is_done c.loop-line.plan c.loop-line.number c.in-Ok.config c.loop-line.rest.now _
-    c.in_default-split_line.ensures.none (sym c.is_empty-2.ensures ∙ c.if-is_empty-2.true) c.loop-line.invariant.so_far
+pub returns-then-is_empty : goal.returns-then-is_empty
+returns-then-is_empty c = is_done c.lines.plan c.lines.number c.in-Ok.line.config c.lines.rest.now _
+    (c.lines-test.ensures.none refl) (sym c.is_empty.ensures ∙ c.if-is_empty.true) c.lines.invariant.so_far
 
-pub returns-else-is_empty-2 : goal.returns-else-is_empty-2
-returns-else-is_empty-2 c = is_cut c.loop-line.plan c.loop-line.number c.in-Ok.config c.loop-line.rest.now _
-    c.in_default-split_line.ensures.none (sym c.is_empty-2.ensures ∙ c.if-is_empty-2.false) c.loop-line.invariant.so_far
+pub returns-else-is_empty : goal.returns-else-is_empty
+returns-else-is_empty c = is_cut c.lines.plan c.lines.number c.in-Ok.line.config c.lines.rest.now _
+    (c.lines-test.ensures.none refl) (sym c.is_empty.ensures ∙ c.if-is_empty.false) c.lines.invariant.so_far

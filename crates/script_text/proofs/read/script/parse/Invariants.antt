@@ -3,8 +3,8 @@ use Rattle.script_text.specs.Lines.{pieces_of, steps_of, script_of}
 use Rattle.script_text.proofs.Reading.ReadOn.{read_on}
 use Rattle.script_text.proofs.read.script.parse.Given as goal
 
-abbrev pub invariant-loop-line : goal.invariant-loop-line
-invariant-loop-line l = record {
+abbrev pub invariant-lines : goal.invariant-lines
+invariant-lines l = record {
   room : length l.words ≡ 12;
   so_far : read_on l.plan (steps_of l.number l.config (pieces_of l.rest)) ≡ script_of l.text;
   config : l.plan.config ≡ l.config;
@@ -13,5 +13,5 @@ invariant-loop-line l = record {
   count : l.number + length (pieces_of l.rest) ≡ length (pieces_of l.text) + 1;
 }
 
-abbrev pub decreases-loop-line : goal.decreases-loop-line
-decreases-loop-line l = length l.rest
+abbrev pub decreases-lines : goal.decreases-lines
+decreases-lines l = length l.rest

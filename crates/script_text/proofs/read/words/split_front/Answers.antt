@@ -1,7 +1,7 @@
 use Rattle.std.proofs.Common.{◌≡◌, ◌+◌, ◌-◌, ◌≤◌, ◌<◌, ◌∷◌, ◌++◌, ◌∙◌}
-use Rattle.std.proofs.Common.{ℕ, List, [], length, map, take, drop, get_or, set, refl, ap, arith, Bor}
+use Rattle.std.proofs.Common.{ℕ, List, [], length, map, take, drop, get_or, set, refl, sym, ap, arith, Bor}
 use Rattle.std.proofs.lemmas.List.{length-take-le, length-map, length-set}
-use Rattle.script_text.proofs.Parts.Splitting.{kept_more, goes_on, new_word, last_word, no_more, first_piece, IsSplit}
+use Rattle.script_text.proofs.Parts.Splitting.{kept_more, goes_on, new_word, last_word, no_more, first_piece, here_ends, IsSplit}
 use Rattle.script_text.proofs.read.words.split_front.Goals as goal
 use Rattle.script_text.proofs.read.words.split_front.Goals.{then-byte-eq32+then-count-lt12-2, else-byte-eq32}
 use Rattle.script_text.proofs.read.words.split_front.Goals.{else-byte-eq32-via-then-byte-eq32+else-count-lt12-2}
@@ -28,6 +28,14 @@ returns-then-count-lt12-clause-line c = first_piece c.args.text.now c.bytes.at c
 pub returns-else-count-lt12-clause-line : goal.returns-else-count-lt12-clause-line
 returns-else-count-lt12-clause-line c = first_piece c.args.text.now c.bytes.at c.bytes.invariant.split.within
     (omega (arith, c.requires.ended, c.bytes.invariant.split.within)) c.if-byte-eq10.true
+
+pub returns-then-count-lt12-clause-ends : goal.returns-then-count-lt12-clause-ends
+returns-then-count-lt12-clause-ends c = sym (here_ends c.args.text.now c.bytes.at c.bytes.invariant.split.within
+    (omega (arith, c.requires.ended, c.bytes.invariant.split.within)) c.if-byte-eq10.true)
+
+pub returns-else-count-lt12-clause-ends : goal.returns-else-count-lt12-clause-ends
+returns-else-count-lt12-clause-ends c = sym (here_ends c.args.text.now c.bytes.at c.bytes.invariant.split.within
+    (omega (arith, c.requires.ended, c.bytes.invariant.split.within)) c.if-byte-eq10.true)
 
 abbrev texts : List (Bor (List ℕ)) → List (List ℕ)
 texts ws = map (λ w. w.now) ws

@@ -1,5 +1,13 @@
+use Rattle.std.proofs.Common.{◌∙◌, ap, sym}
+use Rattle.heap_words.specs.Configs.{card_words}
+use Rattle.step_core.specs.Stands.{CoreState}
 use Rattle.step_core.proofs.Pauses.Refined.{one_more, queue_ended, all_refined}
 use Rattle.step_core.proofs.heap.Core.refine.Goals as goal
+
+pub refine_card-requires : goal.refine_card-requires
+refine_card-requires c =
+    c.card_words-words.ensures ∙ ap (λ (d : CoreState). card_words d.config) c.self.view_is
+    ∙ sym (ap (λ (d : CoreState). card_words d.config) c.loop-done.invariant.refines.same)
 
 pub returns-then-not-refine_card-clause-refined : goal.returns-then-not-refine_card-clause-refined
 returns-then-not-refine_card-clause-refined c =

@@ -1,30 +1,45 @@
-use Rattle.step_core.specs.Stands.{ShowsGraph, KeepsFrom}
+use Rattle.std.proofs.Common.{◌≡◌, ◌∙◌, ap, sym}
+use Rattle.heap_words.specs.Configs.{card_words}
+use Rattle.step_core.specs.Stands.{CoreState, ShowsGraph, KeepsFrom}
 use Rattle.step_core.proofs.Cycles.Cycling.{to_fields}
 use Rattle.step_core.proofs.Pauses.Refined.{can_scan, cards_show, cards_keep, refined_kept, refined_from}
 use Rattle.step_core.proofs.heap.Core.refine_card.Goals as goal
 
 pub refine_one-requires-clause-stands : goal.refine_one-requires-clause-stands
-refine_one-requires-clause-stands c = rw c.card_words.ensures (can_scan _ c.self.invariant)
+refine_one-requires-clause-stands c =
+    let words : c.args.words ≡ card_words c.self.inside.config =
+    c.requires ∙ ap (λ (d : CoreState). card_words d.config) (sym c.self.view_is) in
+    rw words (can_scan _ c.self.invariant)
 
 pub refine_one-requires-clause-cards : goal.refine_one-requires-clause-cards
 refine_one-requires-clause-cards c = c.self.invariant.cards.each_card
 
 pub invariant_of-self : goal.invariant_of-self
 invariant_of-self c =
-    let r = rw c.card_words.ensures at c.refine_one.ensures in
+    let words : c.args.words ≡ card_words c.self.inside.config =
+    c.requires ∙ ap (λ (d : CoreState). card_words d.config) (sym c.self.view_is) in
+    let r = rw words at c.refine_one.ensures in
     refined_kept _ c.self.invariant _ _ _ r.stands r.cards r.refines r.remembers
 
 pub returns-clause-shows : goal.returns-clause-shows
-returns-clause-shows c = let r = rw c.card_words.ensures at c.refine_one.ensures in
+returns-clause-shows c =
+    let words : c.args.words ≡ card_words c.self.inside.config =
+    c.requires ∙ ap (λ (d : CoreState). card_words d.config) (sym c.self.view_is) in
+    let r = rw words at c.refine_one.ensures in
     λ g s.
     cards_show _ c.self.invariant _ _ _ r.stands r.cards r.refines r.remembers g (to_fields _ _ c.self.view_is (λ d. ShowsGraph g d) s)
 
 pub returns-clause-keeps : goal.returns-clause-keeps
-returns-clause-keeps c = let r = rw c.card_words.ensures at c.refine_one.ensures in
+returns-clause-keeps c =
+    let words : c.args.words ≡ card_words c.self.inside.config =
+    c.requires ∙ ap (λ (d : CoreState). card_words d.config) (sym c.self.view_is) in
+    let r = rw words at c.refine_one.ensures in
     λ s f.
     cards_keep _ c.self.invariant _ _ _ r.stands r.cards r.refines r.remembers s (to_fields _ _ c.self.view_is (λ d. KeepsFrom s d) f)
 
 pub returns-clause-refined : goal.returns-clause-refined
 returns-clause-refined c =
-    let r = rw c.card_words.ensures at c.refine_one.ensures in
+    let words : c.args.words ≡ card_words c.self.inside.config =
+    c.requires ∙ ap (λ (d : CoreState). card_words d.config) (sym c.self.view_is) in
+    let r = rw words at c.refine_one.ensures in
     refined_from _ c.self.invariant _ _ _ r.stands r.cards r.refines r.remembers _ c.self.view_is

@@ -1,0 +1,35 @@
+use Rattle.std.proofs.Common.{◌≡◌, ◌≤◌, ◌+◌, ◌∷◌, ◌++◌, ◌∙◌, List, ℕ, sym, ap, length, arith}
+use Rattle.std.specs.Prelude.{codes}
+use Rattle.std.proofs.lemmas.List.{length-take-le}
+use Rattle.std.specs.Fmt.{decimal}
+use Rattle.script_text.specs.Feeds.{end_of, line_of}
+use Rattle.script_text.specs.Fronts.{words_from}
+use Rattle.script_text.specs.Lines.{words_of}
+use Rattle.script_text.specs.Spelling.{action_words}
+use Rattle.script_text.specs.Records.{reply_words}
+use Rattle.script_text.proofs.BothWays.EventsSpelled.{op_event_again}
+use Rattle.script_text.proofs.read.usual_events.usual_event.Goals as goal
+
+pub returns-clause-event : goal.returns-clause-event
+returns-clause-event c =
+    let text = c.args.text.now in
+    let number = c.in_ok-number.number in
+    let m : ℕ = c.in_ok-mutator.mutator.number in
+    let a = c.in_ok-action.field-0.action in
+    let r = c.in_ok-reply.field-0.reply in
+    let action = c.in_ok-action.ensures in
+    let counted : number.number ≡ c.args.count = sym c.from.ensures ∙ c.if-from-count.false in
+    let long : length (line_of text) ≡ end_of text = length-take-le (end_of text) text (omega (arith, c.requires.ended)) in
+    let short : length (line_of text) ≤ 120 =
+    omega (arith, c.if-length-gt-LONGEST_LINE.false, c.in_ok-reply.ensures.ends, c.in_ok-reply.length-is) in
+    let behind : words_from text (c.in_ok-action.field-0.past + 1) ≡ codes "=" ∷ reply_words r =
+    c.in_ok-at.ensures.words ∙ ap (λ (ws : List (List ℕ)). codes "=" ∷ ws) c.in_ok-reply.ensures.words in
+    let acted : words_from text c.in_ok-mutator.mutator.past ≡ action_words a ++ codes "=" ∷ reply_words r =
+    action.words ∙ ap (λ (ws : List (List ℕ)). action_words a ++ ws) behind in
+    let words : words_of (line_of text) ≡ decimal c.args.count ∷ decimal m ∷ (action_words a ++ codes "=" ∷ reply_words r) =
+    c.in_ok-number.ensures.0.words ∙ ap (λ (n : ℕ). decimal n ∷ words_from text number.past) counted
+    ∙ ap (λ (ws : List (List ℕ)). decimal c.args.count ∷ ws)
+    (c.in_ok-mutator.ensures.0.words ∙ ap (λ (ws : List (List ℕ)). decimal m ∷ ws) acted) in
+    op_event_again c.args.count c.args.config.now (line_of text) (record { mutator = m; action = a }) r short words
+    (omega (arith, c.ranges.count.fits)) c.in_ok-mutator.ensures.1 (action.owned m c.if-mutator-config.false) action.fits
+    c.in_ok-reply.ensures.fits

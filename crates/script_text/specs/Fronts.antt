@@ -1,0 +1,50 @@
+-- The words of the line at a text's front, from a place on.
+use Rattle.std.specs.Prelude.{◌≡◌, ◌+◌, ◌≤◌, ◌<◌, ◌-◌, ◌∷◌, ◌++◌, [], ℕ, Bool, true, false, List, take, drop, slice_index}
+use Rattle.heap_words.specs.declared.config.Config.{Config}
+use Rattle.heap_steps.specs.Actors.{IsOp}
+use Rattle.heap_steps.specs.declared.step.Action.{Action}
+use Rattle.script_text.specs.Feeds.{end_of, line_of}
+use Rattle.script_text.specs.Fits.{Fits}
+use Rattle.script_text.specs.Lines.{words_of}
+use Rattle.script_text.specs.Spelling.{action_words}
+
+-- the words of that line from a place on
+abbrev pub words_from : List ℕ → ℕ → List (List ℕ)
+words_from text at = words_of (drop at (line_of text))
+
+-- the bytes from a place up to another
+abbrev pub part : List ℕ → ℕ → ℕ → List ℕ
+part text at past = take (past - at) (drop at text)
+
+-- a part of the line, in which no space stands
+pub record IsClear (text : List ℕ) (at past : ℕ) : Type 0 where
+  pub order : at ≤ past
+  pub within : past ≤ end_of text
+  pub clear : (k : ℕ) → at ≤ k → k < past → slice_index text k ≡ 32 → ⊥
+
+-- the next word from a place on, and where the one behind it starts
+pub record IsNext (text : List ℕ) (at : ℕ) (word : List ℕ) (past : ℕ) : Type 0 where
+  pub words : words_from text at ≡ word ∷ words_from text past
+  pub within : past ≤ end_of text
+
+-- the words behind one that ends at a place: none, where it is the last
+abbrev pub words_behind : List ℕ → ℕ → Bool → List (List ℕ)
+words_behind text past true = words_from text (past + 1)
+words_behind text past false = []
+
+-- where a word ends: within the line, if more words follow, else where the line ends
+abbrev pub EndsAt : List ℕ → ℕ → Bool → Type 0
+EndsAt text past true = past + 1 ≤ end_of text
+EndsAt text past false = past ≡ end_of text
+
+-- a word from a place on, where it ends, and whether more follow
+pub record IsLast (text : List ℕ) (at : ℕ) (word : List ℕ) (past : ℕ) (more : Bool) : Type 0 where
+  pub words : words_from text at ≡ word ∷ words_behind text past more
+  pub ends : EndsAt text past more
+
+-- the words that are left of a line are those of an action that heaps of these sizes have, and more where these follow
+pub record IsAction (c : Config) (text : List ℕ) (left : List (List ℕ)) (a : Action) (past : ℕ) (more : Bool) : Type 0 where
+  pub words : left ≡ action_words a ++ words_behind text past more
+  pub fits : Fits a
+  pub owned : (m : ℕ) → m < c.mutators → IsOp c (record { mutator = m; action = a })
+  pub ends : EndsAt text past more

@@ -1,0 +1,128 @@
+//! The usual events, read in one go: a mutator's step, and a reply of one word.
+//!
+//! ```text
+//!   7 0 get r2 r0 1 = #3\n
+//!   ^ ^               ^      the count, the step as in a script, and behind `=` the reply, which ends the line
+//! ```
+//!
+//! Of any other line nothing is told here, and its words are parted first.
+
+ghost use Rattle.std.specs.Prelude.{◌≡◌, ◌≤◌, ◌<◌, ℕ, IfSome, Ok, length};
+ghost use Rattle.heap_steps.specs.Actors.{IsEvent};
+ghost use Rattle.script_text.specs.Events.{event_line_of};
+ghost use Rattle.script_text.specs.Feeds.{end_of, line_of};
+ghost use Rattle.script_text.specs.Fits.{ReplyFits};
+ghost use Rattle.script_text.specs.Fronts.{words_from};
+ghost use Rattle.script_text.specs.Records.{reply_words};
+
+use crate::read::script::LONGEST_LINE;
+use crate::read::standing::{
+    behind_verb, ends_word, last_literal, last_number, lettered_at, next_number,
+};
+use crate::read::usual::{LastAction, usual_action};
+use heap_steps::{Actor, Event, Op, Reply, Step};
+use heap_words::config::Config;
+
+/// An event's line at a text's front: its event, and how many bytes it has before its line feed.
+#[derive(Clone, Copy)]
+pub(crate) struct EventLine {
+    pub(crate) event: Event,
+    pub(crate) length: usize,
+}
+
+/// A reply that ends a line, and where it ends.
+#[derive(Clone, Copy)]
+struct LastReply {
+    reply: Reply,
+    past: usize,
+}
+
+/// The name of an object that stands in a line from a place on and ends it.
+#[inline(always)]
+fn named_reply(text: &[u8], at: usize) -> Option<LastReply>
+    requires ended { end_of text.now < length text.now }
+    requires within { at ≤ end_of text.now }
+    ensures words { IfSome result (λ r. words_from text.now at ≡ reply_words r.reply) }
+    ensures fits { IfSome result (λ r. ReplyFits r.reply) }
+    ensures ends { IfSome result (λ r. r.past ≡ end_of text.now) }
+{
+    let word = lettered_at(text, at, b'#')?;
+    if !ends_word(text, word.past, false) {
+        return None;
+    }
+    Some(LastReply {
+        reply: Reply::Named(Some(u64::from(word.number))),
+        past: word.past,
+    })
+}
+
+/// The reply of one word that stands in a line from a place on and ends it.
+#[inline(always)]
+fn usual_reply(text: &[u8], at: usize) -> Option<LastReply>
+    requires ended { end_of text.now < length text.now }
+    requires within { at ≤ end_of text.now }
+    ensures words { IfSome result (λ r. words_from text.now at ≡ reply_words r.reply) }
+    ensures fits { IfSome result (λ r. ReplyFits r.reply) }
+    ensures ends { IfSome result (λ r. r.past ≡ end_of text.now) }
+{
+    let first = text[at];
+    if first == b'#' {
+        return named_reply(text, at);
+    }
+    if first == b'o' {
+        let past = last_literal(text, at, b"ok", false)?;
+        return Some(LastReply {
+            reply: Reply::Done,
+            past,
+        });
+    }
+    if first == b'n' {
+        let past = last_literal(text, at, b"nil", false)?;
+        return Some(LastReply {
+            reply: Reply::Named(None),
+            past,
+        });
+    }
+    let word = last_number(text, at, false)?;
+    Some(LastReply {
+        reply: Reply::Word(u64::from(word.number)),
+        past: word.past,
+    })
+}
+
+/// The event of this count whose line stands at a text's front, where it is one of the usual ones.
+#[inline(always)]
+pub(crate) fn usual_event(count: u64, config: &Config, text: &[u8]) -> Option<EventLine>
+    requires ended { end_of text.now < length text.now }
+    ensures length { IfSome result (λ l. l.length ≡ end_of text.now) }
+    ensures event { IfSome result (λ l. event_line_of count config.now (line_of text.now) ≡ Ok l.event) }
+    ensures known { IfSome result (λ l. IsEvent config.now l.event) }
+{
+    let number = next_number(text, 0)?;
+    if u64::from(number.number) != count {
+        return None;
+    }
+    let mutator = next_number(text, number.past)?;
+    if mutator.number >= config.mutators {
+        return None;
+    }
+    let LastAction { action, past } = usual_action::<1>(config, text, mutator.past, true)?;
+    let at = behind_verb(text, past + 1, b"=")?;
+    let LastReply {
+        reply,
+        past: length,
+    } = usual_reply(text, at)?;
+    if length > LONGEST_LINE {
+        return None;
+    }
+    let op = Op {
+        mutator: mutator.number,
+        action,
+    };
+    let event = Event {
+        actor: Actor::Mutator(mutator.number),
+        step: Step::Mutator(op),
+        reply,
+    };
+    Some(EventLine { event, length })
+}
