@@ -387,15 +387,13 @@ fn scans_a_run(rt: HostRuntime) -> Result<(), Fail> {
 #[test]
 fn finds_links(rt: HostRuntime) -> Result<(), Fail> {
     let table = five_objects(rt.alloc())?;
-    let first = Some((1, Addr::new(32)));
-    let second = Some((2, Addr::new(16)));
     for (start, end, found) in [
-        (0, 3, first),
-        (1, 3, first),
-        (2, 3, second),
+        (0, 3, Some((1, Addr::new(32)))),
+        (1, 3, Some((1, Addr::new(32)))),
+        (2, 3, Some((2, Addr::new(16)))),
         (3, 3, None),
         (0, 1, None),
-        (0, 2, first),
+        (0, 2, Some((1, Addr::new(32)))),
         (2, 1, None),
         (0, 0, None),
     ] {
