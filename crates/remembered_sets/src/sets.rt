@@ -142,9 +142,8 @@ impl RememberedSets {
         self.add_from(source, region, card);
     }
 
-    /// The same for a card whose own region, `source`, is known. It is a call, so that what looks at many fields and adds few cards has
-    /// no part of it.
-    #[inline(never)]
+    /// The same for a card whose own region, `source`, is known. Where the set marks that region the caller needs no call.
+    #[inline(always)]
     pub fn add_from(&mut self, source: RegionNo, region: RegionNo, card: Card)
         requires source { card / self.old.cards_per_region ≡ source }
         requires region { region < length self.old.sets }
