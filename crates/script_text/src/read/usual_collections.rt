@@ -13,14 +13,14 @@ ghost use Rattle.heap_words.specs.declared.config.Config.{Config};
 ghost use Rattle.heap_steps.specs.Actors.{IsStep};
 ghost use Rattle.script_text.specs.Feeds.{end_of, line_of};
 ghost use Rattle.script_text.specs.Fits.{ReplyFits};
-ghost use Rattle.script_text.specs.Fronts.{words_from, IsCollection, IsTurn, IsTurnEvent};
+ghost use Rattle.script_text.specs.Fronts.{words_from, IsCollection, IsOwnCollection, IsCollectionEvent};
 ghost use Rattle.script_text.specs.Lines.{step_line_of};
 ghost use Rattle.script_text.specs.Records.{reply_words};
 
 use crate::read::script::{LONGEST_LINE, StepLine};
 use crate::read::standing::{behind_verb, last_literal, last_number, next_lettered, next_number};
 use crate::read::usual_events::{EventLine, LastReply};
-use heap_steps::{Actor, CollectorStep, Event, Reply, Step};
+use heap_steps::{Actor, CollectorStep, Event, Refusal, Reply, Step};
 
 /// One of the collector's steps in a line, and where its last word ends.
 #[derive(Clone, Copy)]
@@ -106,36 +106,36 @@ pub(crate) fn collection_line(text: &[u8]) -> Option<StepLine>
     })
 }
 
-/// One of the collector's steps in a record's line, who takes it, and where its last word ends.
+/// One of the collector's steps in a record's line, the actor that takes it, and where its last word ends.
 #[derive(Clone, Copy)]
-struct LastTurn {
+struct OwnCollection {
     actor: Actor,
     collection: CollectorStep,
     past: usize,
 }
 
-/// The turn of the scripted collector that stands in a line from a place on.
+/// A step of the scripted collector, behind its name, that stands in a line from a place on.
 #[inline(always)]
-fn collector_turn(text: &[u8], at: usize) -> Option<LastTurn>
+fn scripted_collection(text: &[u8], at: usize) -> Option<OwnCollection>
     requires ended { end_of text.now < length text.now }
     requires within { at ≤ end_of text.now }
-    ensures { IfSome result (λ t. IsTurn text.now at t.actor t.collection t.past) }
+    ensures { IfSome result (λ o. IsOwnCollection text.now at o.actor o.collection o.past) }
 {
     let next = behind_verb(text, at, b"gc")?;
     let LastCollection { collection, past } = usual_collection(text, next, true)?;
-    Some(LastTurn {
+    Some(OwnCollection {
         actor: Actor::Collector,
         collection,
         past,
     })
 }
 
-/// The turn of a background marker that stands in a line from a place on.
+/// The same of a background marker.
 #[inline(always)]
-fn marker_turn(text: &[u8], at: usize) -> Option<LastTurn>
+fn marker_collection(text: &[u8], at: usize) -> Option<OwnCollection>
     requires ended { end_of text.now < length text.now }
     requires within { at ≤ end_of text.now }
-    ensures { IfSome result (λ t. IsTurn text.now at t.actor t.collection t.past) }
+    ensures { IfSome result (λ o. IsOwnCollection text.now at o.actor o.collection o.past) }
 {
     let marker = next_lettered(text, at, b'm')?;
     if marker.number > 7 {
@@ -143,19 +143,19 @@ fn marker_turn(text: &[u8], at: usize) -> Option<LastTurn>
     }
     let next = behind_verb(text, marker.past, b"mark")?;
     let units = last_number(text, next, true)?;
-    Some(LastTurn {
+    Some(OwnCollection {
         actor: Actor::Marker(marker.number as u8),
         collection: CollectorStep::Mark(units.number),
         past: units.past,
     })
 }
 
-/// The turn of a background refiner that stands in a line from a place on.
+/// The same of a background refiner.
 #[inline(always)]
-fn refiner_turn(text: &[u8], at: usize) -> Option<LastTurn>
+fn refiner_collection(text: &[u8], at: usize) -> Option<OwnCollection>
     requires ended { end_of text.now < length text.now }
     requires within { at ≤ end_of text.now }
-    ensures { IfSome result (λ t. IsTurn text.now at t.actor t.collection t.past) }
+    ensures { IfSome result (λ o. IsOwnCollection text.now at o.actor o.collection o.past) }
 {
     let refiner = next_lettered(text, at, b'f')?;
     if refiner.number > 7 {
@@ -163,31 +163,31 @@ fn refiner_turn(text: &[u8], at: usize) -> Option<LastTurn>
     }
     let next = behind_verb(text, refiner.past, b"refine")?;
     let cards = last_number(text, next, true)?;
-    Some(LastTurn {
+    Some(OwnCollection {
         actor: Actor::Refiner(refiner.number as u8),
         collection: CollectorStep::Refine(cards.number),
         past: cards.past,
     })
 }
 
-/// The turn of the collector, or of an actor in the background, that stands in a line from a place on.
+/// The same of any of these.
 #[inline(always)]
-fn usual_turn(text: &[u8], at: usize) -> Option<LastTurn>
+fn own_collection(text: &[u8], at: usize) -> Option<OwnCollection>
     requires ended { end_of text.now < length text.now }
     requires within { at ≤ end_of text.now }
-    ensures { IfSome result (λ t. IsTurn text.now at t.actor t.collection t.past) }
+    ensures { IfSome result (λ o. IsOwnCollection text.now at o.actor o.collection o.past) }
 {
     let first = text[at];
     if first == b'g' {
-        return collector_turn(text, at);
+        return scripted_collection(text, at);
     }
     if first == b'm' {
-        return marker_turn(text, at);
+        return marker_collection(text, at);
     }
-    refiner_turn(text, at)
+    refiner_collection(text, at)
 }
 
-/// How much was moved, as a line ends with it.
+/// The reply to a pause that stands in a line from a place on and ends it.
 #[inline(always)]
 fn moved_reply(text: &[u8], at: usize) -> Option<LastReply>
     requires ended { end_of text.now < length text.now }
@@ -208,9 +208,34 @@ fn moved_reply(text: &[u8], at: usize) -> Option<LastReply>
     })
 }
 
-/// The reply to one of the collector's steps that stands in a line from a place on and ends it. A refusal's words are parted first.
+/// A refusal of one of the collector's steps that stands in a line from a place on and ends it.
 #[inline(always)]
-fn turn_reply(text: &[u8], at: usize) -> Option<LastReply>
+fn refused_reply(text: &[u8], at: usize) -> Option<LastReply>
+    requires ended { end_of text.now < length text.now }
+    requires within { at ≤ end_of text.now }
+    ensures words { IfSome result (λ r. words_from text.now at ≡ reply_words r.reply) }
+    ensures fits { IfSome result (λ r. ReplyFits r.reply) }
+    ensures ends { IfSome result (λ r. r.past ≡ end_of text.now) }
+{
+    let number = behind_verb(text, at, b"refused")?;
+    if let Some(name) = behind_verb(text, number, b"7") {
+        let past = last_literal(text, name, b"NotMarking", false)?;
+        return Some(LastReply {
+            reply: Reply::Refused(Refusal::NotMarking),
+            past,
+        });
+    }
+    let name = behind_verb(text, number, b"6")?;
+    let past = last_literal(text, name, b"MarkRunning", false)?;
+    Some(LastReply {
+        reply: Reply::Refused(Refusal::MarkRunning),
+        past,
+    })
+}
+
+/// The reply to one of the collector's steps that stands in a line from a place on and ends it.
+#[inline(always)]
+fn collection_reply(text: &[u8], at: usize) -> Option<LastReply>
     requires ended { end_of text.now < length text.now }
     requires within { at ≤ end_of text.now }
     ensures words { IfSome result (λ r. words_from text.now at ≡ reply_words r.reply) }
@@ -244,27 +269,30 @@ fn turn_reply(text: &[u8], at: usize) -> Option<LastReply>
             past: regions.past,
         });
     }
-    moved_reply(text, at)
+    if let Some(last) = moved_reply(text, at) {
+        return Some(last);
+    }
+    refused_reply(text, at)
 }
 
 /// The event that stands in a line behind its count, where its step is one of the collector's. It stands alone, apart from a mutator's
 /// events, which are more.
 #[inline(never)]
-pub(crate) fn turn_event(text: &[u8], at: usize) -> Option<EventLine>
+pub(crate) fn collection_event(text: &[u8], at: usize) -> Option<EventLine>
     requires ended { end_of text.now < length text.now }
     requires within { at ≤ end_of text.now }
-    ensures { IfSome result (λ l. IsTurnEvent text.now at l.event l.length) }
+    ensures { IfSome result (λ l. IsCollectionEvent text.now at l.event l.length) }
 {
-    let LastTurn {
+    let OwnCollection {
         actor,
         collection,
         past,
-    } = usual_turn(text, at)?;
+    } = own_collection(text, at)?;
     let next = behind_verb(text, past + 1, b"=")?;
     let LastReply {
         reply,
         past: length,
-    } = turn_reply(text, next)?;
+    } = collection_reply(text, next)?;
     if length > LONGEST_LINE {
         return None;
     }

@@ -20,7 +20,7 @@ use crate::read::standing::{
     behind_verb, ends_word, last_literal, last_number, lettered_at, next_number,
 };
 use crate::read::usual::{LastAction, usual_action};
-use crate::read::usual_collections::turn_event;
+use crate::read::usual_collections::collection_event;
 use heap_steps::{Actor, Event, Op, Reply, Step};
 use heap_words::config::Config;
 
@@ -104,7 +104,7 @@ pub(crate) fn usual_event(count: u64, config: &Config, text: &[u8]) -> Option<Ev
         return None;
     }
     let Some(mutator) = next_number(text, number.past) else {
-        return turn_event(text, number.past);
+        return collection_event(text, number.past);
     };
     if mutator.number >= config.mutators {
         return None;

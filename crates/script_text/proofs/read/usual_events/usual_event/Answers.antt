@@ -7,7 +7,7 @@ use Rattle.script_text.specs.declared.read.usual_events.EventLine.{EventLine}
 use Rattle.script_text.specs.Events.{event_line_of}
 use Rattle.script_text.specs.Reading.{large}
 use Rattle.script_text.specs.Feeds.{end_of, line_of}
-use Rattle.script_text.specs.Fronts.{words_from, IsTurnEvent}
+use Rattle.script_text.specs.Fronts.{words_from, IsCollectionEvent}
 use Rattle.script_text.specs.Lines.{words_of}
 use Rattle.script_text.specs.Spelling.{action_words}
 use Rattle.script_text.specs.Records.{reply_words}
@@ -40,7 +40,7 @@ returns-clause-event c =
 
 -- the line of a count and an event of any heap behind it
 turned : (n : ℕ) (c : Config) (text : List ℕ) (at : ℕ) (r : Option EventLine) → end_of text < length text → n ≤ large
-    → words_of (line_of text) ≡ decimal n ∷ words_from text at → IfSome r (λ l. IsTurnEvent text at l.event l.length)
+    → words_of (line_of text) ≡ decimal n ∷ words_from text at → IfSome r (λ l. IsCollectionEvent text at l.event l.length)
     → IfSome r (λ l. event_line_of n c (line_of text) ≡ Ok l.event)
 turned n c text at None ended counted words turn = tt
 turned n c text at (Some l) ended counted words turn =
@@ -54,5 +54,5 @@ returns-in_default-clause-event c =
     let text = c.args.text.now in
     let number = c.in_ok-number.number in
     let counted : number.number ≡ c.args.count = sym c.from.ensures ∙ c.if-from-count.false in
-    turned c.args.count c.args.config.now text number.past c.turn_event.result c.requires.ended (omega (arith, c.ranges.count.fits))
-    (c.in_ok-number.ensures.0.words ∙ ap (λ (n : ℕ). decimal n ∷ words_from text number.past) counted) c.turn_event.ensures
+    turned c.args.count c.args.config.now text number.past c.collection_event.result c.requires.ended (omega (arith, c.ranges.count.fits))
+    (c.in_ok-number.ensures.0.words ∙ ap (λ (n : ℕ). decimal n ∷ words_from text number.past) counted) c.collection_event.ensures
