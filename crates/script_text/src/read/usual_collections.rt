@@ -278,7 +278,7 @@ fn collection_reply(text: &[u8], at: usize) -> Option<LastReply>
 /// The event that stands in a line behind its count, where its step is one of the collector's. It stands alone, apart from a mutator's
 /// events, which are more.
 #[inline(never)]
-pub(crate) fn collection_event(text: &[u8], at: usize) -> Option<EventLine>
+fn event_apart(text: &[u8], at: usize) -> Option<EventLine>
     requires ended { end_of text.now < length text.now }
     requires within { at ≤ end_of text.now }
     ensures { IfSome result (λ l. IsCollectionEvent text.now at l.event l.length) }
@@ -301,5 +301,16 @@ pub(crate) fn collection_event(text: &[u8], at: usize) -> Option<EventLine>
         step: Step::Collector(collection),
         reply,
     };
+    Some(EventLine { event, length })
+}
+
+/// The same, taken apart: so the room that its answer takes in memory is made ready here, and not before a mutator's events.
+#[inline(always)]
+pub(crate) fn collection_event(text: &[u8], at: usize) -> Option<EventLine>
+    requires ended { end_of text.now < length text.now }
+    requires within { at ≤ end_of text.now }
+    ensures { IfSome result (λ l. IsCollectionEvent text.now at l.event l.length) }
+{
+    let EventLine { event, length } = event_apart(text, at)?;
     Some(EventLine { event, length })
 }
