@@ -1,4 +1,4 @@
-//! The usual events, read in one go: a mutator's step, and a reply of one word.
+//! The usual events, read in one go: a mutator's step, and a reply of one word. The collector's are read in `usual_collections`.
 //!
 //! ```text
 //!   7 0 get r2 r0 1 = #3\n
