@@ -6,8 +6,8 @@
 //! ```
 //!
 //! Nearly all lines of a script are steps without a fault. They are read so: a mutator's here, the collector's, whose first word is no
-//! number, in `usual_collections`. Of any other line nothing is told, and its words are parted first. So the functions promise that what they
-//! answer is right, and not when they answer.
+//! number, in `usual_collections`. Of any other line nothing is told, and its words are parted first. So the functions promise that what
+//! they answer is right, and not when they answer.
 //!
 //! More words may follow (`more`): so the same functions read a record's steps, which `=` and a reply follow.
 
