@@ -60,14 +60,14 @@ pub record IsCollection (text : List ℕ) (left : List (List ℕ)) (k : Collecto
   pub fits : CollectionFits k
   pub ends : EndsAt text past more
 
--- from a place on a line has an actor, one of the collector's steps, which is the actor's too, and more words; no heap's sizes matter
+-- from a place on a line has an actor, one of the collector's steps that this actor takes in any heap, and more words
 pub record IsOwnCollection (text : List ℕ) (at : ℕ) (a : Actor) (k : CollectorStep) (past : ℕ) : Type 0 where
   pub words : words_from text at ≡ actor_word a ∷ (collection_words k ++ words_from text (past + 1))
   pub fits : CollectionFits k
   pub owned : (c : Config) → IsStepOf c a (steps.Collector k)
   pub within : past + 1 ≤ end_of text
 
--- from a place on a line has an event of any heap, and ends with it
+-- from a place on a line has an event, one of any heap, and ends with it
 pub record IsCollectionEvent (text : List ℕ) (at : ℕ) (e : Event) (past : ℕ) : Type 0 where
   pub words : words_from text at ≡ actor_word e.actor ∷ (body_words e.step ++ codes "=" ∷ reply_words e.reply)
   pub fits : EventFits e
