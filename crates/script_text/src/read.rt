@@ -10,6 +10,7 @@ pub(crate) mod script_steps;
 pub(crate) mod standing;
 pub(crate) mod steps;
 pub(crate) mod usual;
+pub(crate) mod usual_collections;
 pub(crate) mod usual_events;
 pub(crate) mod watched;
 pub(crate) mod words;

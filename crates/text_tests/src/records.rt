@@ -33,16 +33,19 @@ const BAD_COUNTS: [&str; 5] = [
 ];
 
 /// Second lines of records whose actor is faulty.
-const BAD_ACTORS: [&str; 5] = [
+const BAD_ACTORS: [&str; 8] = [
     "1",
     "1 = ok",
     "1 1 drop r0 = ok",
     "1 m8 mark 4 = ok",
     "1 m00 mark 4 = ok",
+    "1 f8 refine 2 = refined 0",
+    "1 f refine 2 = refined 0",
+    "1 gcc mark 4 = ok",
 ];
 
 /// Second lines of records whose step is faulty.
-const BAD_STEPS: [&str; 10] = [
+const BAD_STEPS: [&str; 21] = [
     "1 0 drop = ok",
     "1 0 = ok",
     "1 0 drop r0 =ok",
@@ -53,10 +56,21 @@ const BAD_STEPS: [&str; 10] = [
     "1 0 newweak r0 1 256 1 = #0",
     "1 0 scope r0 = ok",
     "1 0 drop r10 =",
+    "1 gc mark = ok",
+    "1 gc  mark 4 = ok",
+    "1 gc mark 04 = ok",
+    "1 gc mark 4 5 = ok",
+    "1 gc marks 4 = ok",
+    "1 gc begin 1 = ok",
+    "1 gc collect = ok",
+    "1 gc = ok",
+    "1 gc refine 2 =refined 0",
+    "1 m0 mark = ok",
+    "1 f7 refine 02 = refined 0",
 ];
 
 /// Second lines of records whose reply is faulty.
-const BAD_REPLIES: [&str; 17] = [
+const BAD_REPLIES: [&str; 28] = [
     "1 0 newweak r0 1 1 1 = refused 4 TooBig 1",
     "1 0 newweak r0 1 1 1",
     "1 0 drop r0",
@@ -74,6 +88,17 @@ const BAD_REPLIES: [&str; 17] = [
     "1 0 shape r0 = 4294967296 0",
     "1 gc remark = marked 00",
     "1 0 write r0 0 0 = moved 1 1 1",
+    "1 gc refine 2 = refined",
+    "1 gc refine 2 = refined 00",
+    "1 gc refine 2 = refined 0 0",
+    "1 gc refine 2 = refined 4294967296",
+    "1 gc cleanup = reclaimed x",
+    "1 gc pause 1 = moved 1  1",
+    "1 gc begin = okay",
+    "1 gc begin = refused 7 MarkRunning",
+    "1 gc begin = refused 6 NotMarking",
+    "1 gc begin = refused 06 MarkRunning",
+    "1 m0 mark 4 = marked 1 2",
 ];
 
 /// Compares the faults of records with these second lines.
@@ -110,7 +135,7 @@ fn an_empty_record(rt: HostRuntime) -> Result<(), Fail> {
 }
 
 /// Records, each with its number of events.
-const RECORDS: [(&str, usize); 11] = [
+const RECORDS: [(&str, usize); 12] = [
     ("heap 4 16 8 1 0\n", 0),
     (
         "heap 4 16 8 1 0\n1 0 new r0 1 1 = #0\n2 0 read r0 0 = 0\n3 0 get r1 r0 0 = nil\n",
@@ -141,6 +166,13 @@ const RECORDS: [(&str, usize); 11] = [
         "heap 4 16 8 1 0\n1 gc begin = reclaimed 7\n2 gc begin = refused 6 MarkRunning\n3 gc cleanup = moved 1 4294967295\n\
          4 gc pause 0 = 4294967295 0\n",
         4,
+    ),
+    (
+        "heap 4 16 8 1 0\n1 gc begin = ok\n2 gc mark 4294967295 = ok\n3 m0 mark 4 = ok\n4 gc remark = marked 12\n\
+         5 gc cleanup = reclaimed 3\n6 gc refine 10 = refined 4294967295\n7 f7 refine 1 = refined 0\n\
+         8 gc pause 100 = moved 2 31\n9 gc cleanup = refused 6 MarkRunning\n10 gc mark 0 = refused 7 NotMarking\n\
+         11 f0 refine 3 = refused 6 MarkRunning\n12 gc pause 7 = refused 3 Full\n13 gc remark = 5\n",
+        13,
     ),
     (
         "heap 4 16 8 1 18446744073709551614\n1 0 new r7 0 0 = #18446744073709551614\n\

@@ -73,6 +73,26 @@ fn check_taken(rt: &impl Abort, text: &[u8], steps: &[Step]) -> Result<(), Fail>
     Ok(())
 }
 
+/// Each step of the collector.
+#[test]
+fn collections(rt: HostRuntime) -> Result<(), Fail> {
+    let text =
+        b"heap 4 16 8 2 0\ngc begin\ngc mark 4294967295\ngc remark\ngc cleanup\ngc refine 10\ngc pause 0\n";
+    let steps = [
+        Step::Collector(CollectorStep::Begin),
+        Step::Collector(CollectorStep::Mark(4_294_967_295)),
+        Step::Collector(CollectorStep::Remark),
+        Step::Collector(CollectorStep::Cleanup),
+        Step::Collector(CollectorStep::Refine(10)),
+        Step::Collector(CollectorStep::Pause(0)),
+    ];
+    let Ok(plan) = parse(rt.alloc(), text) else {
+        return Err(Fail::from("this is a script"));
+    };
+    assert_eq!(rt; plan.steps(), steps.as_slice());
+    check_taken(&rt, text, &steps)
+}
+
 #[test]
 fn no_steps(rt: HostRuntime) -> Result<(), Fail> {
     check_taken(&rt, b"heap 4 16 8 2 0\n", &[])
@@ -95,7 +115,7 @@ fn fault_of(alloc: Global, text: &[u8]) -> Option<LineFault> {
 }
 
 /// Faulty texts, each with the line and the kind of its fault.
-const FAULTS: [(&str, u64, Kind); 38] = [
+const FAULTS: [(&str, u64, Kind); 53] = [
     ("", 1, Kind::BadHeap),
     ("\n", 1, Kind::BadHeap),
     ("heap 4 16 8 1 0", 1, Kind::Cut),
@@ -124,6 +144,21 @@ const FAULTS: [(&str, u64, Kind); 38] = [
     ("heap 4 16 8 1 0\n\n", 2, Kind::BadActor),
     ("heap 4 16 8 1 0\ngc pause\n", 2, Kind::BadStep),
     ("heap 4 16 8 1 0\ngc pause 4294967296\n", 2, Kind::BadStep),
+    ("heap 4 16 8 1 0\ngc pause 4 5\n", 2, Kind::BadStep),
+    ("heap 4 16 8 1 0\ngc mark\n", 2, Kind::BadStep),
+    ("heap 4 16 8 1 0\ngc  mark 4\n", 2, Kind::BadStep),
+    ("heap 4 16 8 1 0\ngc mark 04\n", 2, Kind::BadStep),
+    ("heap 4 16 8 1 0\ngc mark 4 \n", 2, Kind::BadStep),
+    ("heap 4 16 8 1 0\ngc refine \n", 2, Kind::BadStep),
+    ("heap 4 16 8 1 0\ngc refine 1x\n", 2, Kind::BadStep),
+    ("heap 4 16 8 1 0\ngc begin 1\n", 2, Kind::BadStep),
+    ("heap 4 16 8 1 0\ngc remarks\n", 2, Kind::BadStep),
+    ("heap 4 16 8 1 0\ngc clean\n", 2, Kind::BadStep),
+    ("heap 4 16 8 1 0\ngc collect\n", 2, Kind::BadStep),
+    ("heap 4 16 8 1 0\ngc\n", 2, Kind::BadStep),
+    ("heap 4 16 8 1 0\ngc \n", 2, Kind::BadStep),
+    ("heap 4 16 8 1 0\ngcmark 4\n", 2, Kind::BadActor),
+    ("heap 4 16 8 1 0\n gc mark 4\n", 2, Kind::BadActor),
     ("heap 4 16 8 1 0\n0 read r0 0\nx\ny\n", 3, Kind::BadActor),
     ("heap 4 16 8 1 0\nx\n0 read r0 0", 2, Kind::BadActor),
     ("heap 4 16 8 1 0\n0 load r0 g16\n", 2, Kind::BadStep),
@@ -162,15 +197,21 @@ fn faults(rt: HostRuntime) -> Result<(), Fail> {
 #[test]
 fn long_lines(rt: HostRuntime) -> Result<(), Fail> {
     let alloc = rt.alloc();
-    for (count, kind) in [(118u64, Kind::BadStep), (119u64, Kind::LongLine)] {
-        let mut text = Vec::from_slice(alloc, b"heap 4 16 8 1 0\n0 ")?;
+    for (actor, count, kind) in [
+        ("0", 118u64, Kind::BadStep),
+        ("0", 119u64, Kind::LongLine),
+        ("gc", 117u64, Kind::BadStep),
+        ("gc", 118u64, Kind::LongLine),
+    ] {
+        let heap = format!(in alloc; "heap 4 16 8 1 0\n{actor} ")?;
+        let mut text = Vec::from_slice(alloc, heap.as_bytes())?;
         for _ in 0..count {
             text.push(b'a')?;
         }
         text.push(b'\n')?;
         let fault = Some(LineFault { line: 2, kind });
-        assert_eq!(rt; fault_of(alloc, text.as_slice()), fault, "{count}");
-        assert_eq!(rt; taken_fault_of(text.as_slice()), fault, "{count}");
+        assert_eq!(rt; fault_of(alloc, text.as_slice()), fault, "{actor} {count}");
+        assert_eq!(rt; taken_fault_of(text.as_slice()), fault, "{actor} {count}");
     }
     Ok(())
 }
@@ -178,7 +219,7 @@ fn long_lines(rt: HostRuntime) -> Result<(), Fail> {
 #[test]
 fn beginnings(rt: HostRuntime) -> Result<(), Fail> {
     let alloc = rt.alloc();
-    let text = b"heap 4 16 8 2 0\n0 new r0 1 1\n1 read r0 0\n".as_slice();
+    let text = b"heap 4 16 8 2 0\n0 new r0 1 1\n1 read r0 0\ngc mark 10\ngc begin\n".as_slice();
     let mut line = 1u64;
     for (end, byte) in text.iter().enumerate() {
         let fault = fault_of(alloc, &text[..end]);
@@ -207,7 +248,7 @@ fn beginnings(rt: HostRuntime) -> Result<(), Fail> {
             line = line.wrapping_add(1);
         }
     }
-    assert_eq!(rt; line, 4);
+    assert_eq!(rt; line, 6);
     assert_eq!(rt; fault_of(alloc, text), None);
     assert_eq!(rt; taken_fault_of(text), None);
     Ok(())

@@ -186,18 +186,29 @@ is_mutator c m known fits =
       again = rw (not_gc m (omega arith), no_background (decimal m) m (omega arith) refl, mutator_again c m known fits) refl;
     }
 
-is_actor : (c : Config) (a : Actor) → c.mutators ≤ small → KnownActor c a → IsActor c a
+-- a mutator's number is that of its type
+abbrev pub ActorFits : Actor → Type 0
+ActorFits (actors.Mutator m) = m ≤ small
+ActorFits _ = Unit {0}
+
+actor_fits : (c : Config) (a : Actor) → c.mutators ≤ small → KnownActor c a → ActorFits a
+actor_fits c (actors.Mutator m) few known = omega arith
+actor_fits c actors.Collector few known = tt
+actor_fits c (actors.Marker i) few known = tt
+actor_fits c (actors.Refiner i) few known = tt
+
+is_actor : (c : Config) (a : Actor) → ActorFits a → KnownActor c a → IsActor c a
 unfolding actor_of foreground_of background_of
-is_actor c (actors.Mutator m) few known = is_mutator c m known (omega arith)
-is_actor c actors.Collector few known = record { word = literal (codes "gc") refl refl; short = omega arith; again = refl }
-is_actor c (actors.Marker i) few known =
+is_actor c (actors.Mutator m) fits known = is_mutator c m known fits
+is_actor c actors.Collector fits known = record { word = literal (codes "gc") refl refl; short = omega arith; again = refl }
+is_actor c (actors.Marker i) fits known =
     let short : length (decimal i) ≤ 10 = small_long i (omega arith) in
     record {
       word = lettered 109 i (omega arith) (omega arith);
       short = omega arith;
       again = rw (number_of_some 7 (decimal i) i (omega arith) refl (omega arith)) refl;
     }
-is_actor c (actors.Refiner i) few known =
+is_actor c (actors.Refiner i) fits known =
     let short : length (decimal i) ≤ 10 = small_long i (omega arith) in
     record {
       word = lettered 102 i (omega arith) (omega arith);
@@ -278,28 +289,64 @@ event_with n c e counted actor owned fits =
     let same : eqb n n ≡ true = (Decides-eqb n n).1 refl in
     rw (number_of_some large (decimal n) n (omega arith) refl counted, same) (counted_with c e actor owned fits)
 
-event_again : (n : ℕ) (c : Config) (e : Event) → IsGood n c e → event_of n c (event_words n e) ≡ Ok e
-event_again n c e good =
+-- its actor's word
+good_actor : (n : ℕ) (c : Config) (e : Event) → IsGood n c e → IsActor c e.actor
+good_actor n c e good =
     let own = is_own c e.actor e.step good.owned good.fits.0 in
-    event_with n c e good.counted (is_actor c e.actor good.few own.known) good.owned good.fits
+    is_actor c e.actor (actor_fits c e.actor good.few own.known) own.known
+
+event_again : (n : ℕ) (c : Config) (e : Event) → IsGood n c e → event_of n c (event_words n e) ≡ Ok e
+event_again n c e good = event_with n c e good.counted (good_actor n c e good) good.owned good.fits
+
+abbrev rest_words : Event → List (List ℕ)
+rest_words e = actor_word e.actor ∷ (body_words e.step ++ codes "=" ∷ reply_words e.reply)
+
+-- the line of an event, by its words
+line_again : (n : ℕ) (c : Config) (line : List ℕ) (e : Event) → length line ≤ 120 → words_of line ≡ decimal n ∷ rest_words e
+    → n ≤ large → ActorFits e.actor → IsEvent c e → EventFits e → event_line_of n c line ≡ Ok e
+unfolding event_line_of
+line_again n c line e short words counted few owned fits =
+    let own = is_own c e.actor e.step owned fits.0 in
+    rw (le-ltb 120 (length line) short) (ap (event_of n c) words
+    ∙ event_with n c e counted (is_actor c e.actor few own.known) owned fits)
 
 -- the line of a mutator's event, by its words
 pub op_event_again : (n : ℕ) (c : Config) (line : List ℕ) (o : Op) (r : Reply) → length line ≤ 120
     → words_of line ≡ decimal n ∷ decimal o.mutator ∷ (action_words o.action ++ codes "=" ∷ reply_words r)
     → n ≤ large → o.mutator ≤ small → IsOp c o → Fits o.action → ReplyFits r
     → event_line_of n c line ≡ Ok (record { actor = actors.Mutator o.mutator; step = steps.Mutator o; reply = r })
-unfolding event_line_of
 op_event_again n c line o r short words counted few known fits replied =
     let e : Event = record { actor = actors.Mutator o.mutator; step = steps.Mutator o; reply = r } in
-    rw (le-ltb 120 (length line) short) (ap (event_of n c) words
-    ∙ event_with n c e counted (is_mutator c o.mutator known.at.mutator few) (refl, known) (fits, replied))
+    line_again n c line e short words counted few (refl, known) (fits, replied)
 
-abbrev rest_words : Event → List (List ℕ)
-rest_words e = actor_word e.actor ∷ (body_words e.step ++ codes "=" ∷ reply_words e.reply)
+-- a step of any heap is no mutator's
+any_actor : (c : Config) (a : Actor) (s : Step) → ((c : Config) → IsStepOf c a s) → ActorFits a
+any_actor c (actors.Mutator m) (steps.Mutator o) owned =
+    let none : Config = record {
+      format = c.format;
+      regions = c.regions;
+      words = c.words;
+      buffer = c.buffer;
+      mutators = 0;
+      first_name = c.first_name;
+    } in
+    let known : o.mutator < none.mutators = (owned none).1.at.mutator in
+    absurd (omega arith)
+any_actor c (actors.Mutator m) (steps.Collector k) owned = absurd (owned c)
+any_actor c actors.Collector s owned = tt
+any_actor c (actors.Marker i) s owned = tt
+any_actor c (actors.Refiner i) s owned = tt
+
+-- the line of an event of any heap, by its words
+pub any_event_again : (n : ℕ) (c : Config) (line : List ℕ) (e : Event) → length line ≤ 120
+    → words_of line ≡ decimal n ∷ actor_word e.actor ∷ (body_words e.step ++ codes "=" ∷ reply_words e.reply)
+    → n ≤ large → ((c : Config) → IsEvent c e) → EventFits e → event_line_of n c line ≡ Ok e
+any_event_again n c line e short words counted owned fits =
+    line_again n c line e short words counted (any_actor c e.actor e.step owned) (owned c) fits
 
 event_is_words : (n : ℕ) (c : Config) (e : Event) → IsGood n c e → AreWords (decimal n ∷ rest_words e)
 event_is_words n c e good =
-    let actor = is_actor c e.actor good.few (is_own c e.actor e.step good.owned good.fits.0).known in
+    let actor = good_actor n c e good in
     All-cons IsWord (decimal n) (rest_words e) (number_word n good.counted)
     (All-cons IsWord (actor_word e.actor) (body_words e.step ++ codes "=" ∷ reply_words e.reply) actor.word
     (All-append IsWord (body_words e.step) (codes "=" ∷ reply_words e.reply) (body_is_words e.step good.fits.0)
@@ -307,7 +354,7 @@ event_is_words n c e good =
 
 event_short : (n : ℕ) (c : Config) (e : Event) → IsGood n c e → length (event_text n e) ≤ 120
 event_short n c e good =
-    let actor = is_actor c e.actor good.few (is_own c e.actor e.step good.owned good.fits.0).known in
+    let actor = good_actor n c e good in
     let all = five_long (decimal n) (actor_word e.actor) (spaced (body_words e.step)) (codes "=") (spaced (reply_words e.reply)) in
     let count : length (decimal n) ≤ 20 = number_short n good.counted in
     let who : length (actor_word e.actor) ≤ 11 = actor.short in

@@ -123,12 +123,21 @@ unfolding step_line_of
 op_line_again c line o short words few known fits =
     rw (le-ltb 120 (length line) short) (ap (step_of c) words ∙ op_again c o few known fits)
 
-step_again : (c : Config) (s : Step) → c.mutators ≤ small → IsStep c s → StepFits s → step_of c (step_words s) ≡ Ok s
+gc_again : (c : Config) (k : CollectorStep) → CollectionFits k → step_of c (codes "gc" ∷ collection_words k) ≡ Ok (steps.Collector k)
 unfolding step_of
+gc_again c k fits = rw (collection_again k fits) refl
+
+-- the line of a collector's step, by its words
+pub gc_line_again : (c : Config) (line : List ℕ) (k : CollectorStep) → length line ≤ 120 → words_of line ≡ codes "gc" ∷ collection_words k
+    → CollectionFits k → step_line_of c line ≡ Ok (steps.Collector k)
+unfolding step_line_of
+gc_line_again c line k short words fits = rw (le-ltb 120 (length line) short) (ap (step_of c) words ∙ gc_again c k fits)
+
+step_again : (c : Config) (s : Step) → c.mutators ≤ small → IsStep c s → StepFits s → step_of c (step_words s) ≡ Ok s
 step_again c (steps.Mutator o) few known fits =
     let who : o.mutator < c.mutators = known.at.mutator in
     op_again c o (omega arith) known fits
-step_again c (steps.Collector k) few known fits = rw (collection_again k fits) refl
+step_again c (steps.Collector k) few known fits = gc_again c k fits
 
 step_is_words : (c : Config) (s : Step) → c.mutators ≤ small → IsStep c s → StepFits s → AreWords (step_words s)
 step_is_words c (steps.Mutator o) few known fits =

@@ -152,6 +152,24 @@ pub(crate) fn lettered_at(text: &[u8], at: usize, letter: u8) -> Option<NumberWo
     number_at(text, at + 1)
 }
 
+/// The number behind a letter that stands in a line from a place on, where a space follows it.
+#[inline(always)]
+pub(crate) fn next_lettered(text: &[u8], at: usize, letter: u8) -> Option<NumberWord>
+    requires ended { end_of text.now < length text.now }
+    requires within { at ≤ end_of text.now }
+    requires letter { 32 < letter }
+    ensures { IfSome result (λ w. IsNext text.now at (letter ∷ decimal w.number) w.past × (w.number ≤ small)) }
+{
+    let word = lettered_at(text, at, letter)?;
+    if text[word.past] != b' ' {
+        return None;
+    }
+    Some(NumberWord {
+        number: word.number,
+        past: word.past + 1,
+    })
+}
+
 /// The register that stands in a line from a place on, where a space follows it.
 #[inline(always)]
 pub(crate) fn next_register(text: &[u8], at: usize) -> Option<RegisterWord>
@@ -159,15 +177,12 @@ pub(crate) fn next_register(text: &[u8], at: usize) -> Option<RegisterWord>
     requires within { at ≤ end_of text.now }
     ensures { IfSome result (λ w. IsNext text.now at (register_word w.register) w.past × RegisterFits w.register) }
 {
-    let word = lettered_at(text, at, b'r')?;
-    if text[word.past] != b' ' {
-        return None;
-    }
+    let word = next_lettered(text, at, b'r')?;
     Some(RegisterWord {
         register: Register {
             number: word.number,
         },
-        past: word.past + 1,
+        past: word.past,
     })
 }
 
@@ -197,15 +212,12 @@ pub(crate) fn next_global(text: &[u8], at: usize) -> Option<GlobalWord>
     requires within { at ≤ end_of text.now }
     ensures { IfSome result (λ w. IsNext text.now at (global_word w.global) w.past × GlobalFits w.global) }
 {
-    let word = lettered_at(text, at, b'g')?;
-    if text[word.past] != b' ' {
-        return None;
-    }
+    let word = next_lettered(text, at, b'g')?;
     Some(GlobalWord {
         global: GlobalRoot {
             number: word.number,
         },
-        past: word.past + 1,
+        past: word.past,
     })
 }
 

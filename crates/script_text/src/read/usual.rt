@@ -5,8 +5,9 @@
 //!   ^ ^   ^  ^  ^
 //! ```
 //!
-//! Nearly all lines of a script are a mutator's steps without a fault. They are read so; of any other line nothing is told here, and its
-//! words are parted first. So the functions promise that what they answer is right, and not when they answer.
+//! Nearly all lines of a script are steps without a fault. They are read so: a mutator's here, the collector's, whose first word is no
+//! number, in `usual_collections`. Of any other line nothing is told, and its words are parted first. So the functions promise that what
+//! they answer is right, and not when they answer.
 //!
 //! More words may follow (`more`): so the same functions read a record's steps, which `=` and a reply follow.
 
@@ -21,6 +22,7 @@ use crate::read::standing::{
     behind_verb, last_global, last_number, last_register, last_value, next_global, next_number,
     next_register,
 };
+use crate::read::usual_collections::collection_line;
 use heap_steps::{Action, Counts, Op, Step};
 use heap_words::config::Config;
 
@@ -505,7 +507,9 @@ pub(crate) fn usual_step<const CALLER: usize>(config: &Config, text: &[u8]) -> O
     ensures step { IfSome result (λ l. step_line_of config.now (line_of text.now) ≡ Ok l.step) }
     ensures known { IfSome result (λ l. IsStep config.now l.step) }
 {
-    let mutator = next_number(text, 0)?;
+    let Some(mutator) = next_number(text, 0) else {
+        return collection_line(text);
+    };
     if mutator.number >= config.mutators {
         return None;
     }

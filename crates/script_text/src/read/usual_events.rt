@@ -1,4 +1,4 @@
-//! The usual events, read in one go: a mutator's step, and a reply of one word.
+//! The usual events, read in one go: a mutator's step, and a reply of one word. The collector's are read in `usual_collections`.
 //!
 //! ```text
 //!   7 0 get r2 r0 1 = #3\n
@@ -20,6 +20,7 @@ use crate::read::standing::{
     behind_verb, ends_word, last_literal, last_number, lettered_at, next_number,
 };
 use crate::read::usual::{LastAction, usual_action};
+use crate::read::usual_collections::collection_event;
 use heap_steps::{Actor, Event, Op, Reply, Step};
 use heap_words::config::Config;
 
@@ -32,9 +33,9 @@ pub(crate) struct EventLine {
 
 /// A reply that ends a line, and where it ends.
 #[derive(Clone, Copy)]
-struct LastReply {
-    reply: Reply,
-    past: usize,
+pub(crate) struct LastReply {
+    pub(crate) reply: Reply,
+    pub(crate) past: usize,
 }
 
 /// The name of an object that stands in a line from a place on and ends it.
@@ -102,7 +103,9 @@ pub(crate) fn usual_event(count: u64, config: &Config, text: &[u8]) -> Option<Ev
     if u64::from(number.number) != count {
         return None;
     }
-    let mutator = next_number(text, number.past)?;
+    let Some(mutator) = next_number(text, number.past) else {
+        return collection_event(text, number.past);
+    };
     if mutator.number >= config.mutators {
         return None;
     }

@@ -1,20 +1,24 @@
-use Rattle.std.proofs.Common.{◌≡◌, ◌≤◌, ◌+◌, ◌∷◌, ◌++◌, ◌∙◌, List, ℕ, sym, ap, length, arith}
-use Rattle.std.specs.Prelude.{codes}
+use Rattle.std.proofs.Common.{◌≡◌, ◌≤◌, ◌<◌, ◌+◌, ◌∷◌, ◌++◌, ◌∙◌, List, ℕ, Option, None, Some, Ok, sym, ap, length, arith}
+use Rattle.std.specs.Prelude.{IfSome, codes}
 use Rattle.std.proofs.lemmas.List.{length-take-le}
 use Rattle.std.specs.Fmt.{decimal}
+use Rattle.heap_words.specs.declared.config.Config.{Config}
+use Rattle.script_text.specs.declared.read.usual_events.EventLine.{EventLine}
+use Rattle.script_text.specs.Events.{event_line_of}
+use Rattle.script_text.specs.Reading.{large}
 use Rattle.script_text.specs.Feeds.{end_of, line_of}
-use Rattle.script_text.specs.Fronts.{words_from}
+use Rattle.script_text.specs.Fronts.{words_from, IsCollectionEvent}
 use Rattle.script_text.specs.Lines.{words_of}
 use Rattle.script_text.specs.Spelling.{action_words}
 use Rattle.script_text.specs.Records.{reply_words}
-use Rattle.script_text.proofs.BothWays.EventsSpelled.{op_event_again}
+use Rattle.script_text.proofs.BothWays.EventsSpelled.{op_event_again, any_event_again}
 use Rattle.script_text.proofs.read.usual_events.usual_event.Goals as goal
 
 pub returns-clause-event : goal.returns-clause-event
 returns-clause-event c =
     let text = c.args.text.now in
     let number = c.in_ok-number.number in
-    let m : ℕ = c.in_ok-mutator.mutator.number in
+    let m : ℕ = c.in-Some.mutator.number in
     let a = c.in_ok-action.field-0.action in
     let r = c.in_ok-reply.field-0.reply in
     let action = c.in_ok-action.ensures in
@@ -24,12 +28,31 @@ returns-clause-event c =
     omega (arith, c.if-length-gt-LONGEST_LINE.false, c.in_ok-reply.ensures.ends, c.in_ok-reply.length-is) in
     let behind : words_from text (c.in_ok-action.field-0.past + 1) ≡ codes "=" ∷ reply_words r =
     c.in_ok-at.ensures.words ∙ ap (λ (ws : List (List ℕ)). codes "=" ∷ ws) c.in_ok-reply.ensures.words in
-    let acted : words_from text c.in_ok-mutator.mutator.past ≡ action_words a ++ codes "=" ∷ reply_words r =
+    let acted : words_from text c.in-Some.mutator.past ≡ action_words a ++ codes "=" ∷ reply_words r =
     action.words ∙ ap (λ (ws : List (List ℕ)). action_words a ++ ws) behind in
     let words : words_of (line_of text) ≡ decimal c.args.count ∷ decimal m ∷ (action_words a ++ codes "=" ∷ reply_words r) =
     c.in_ok-number.ensures.0.words ∙ ap (λ (n : ℕ). decimal n ∷ words_from text number.past) counted
     ∙ ap (λ (ws : List (List ℕ)). decimal c.args.count ∷ ws)
-    (c.in_ok-mutator.ensures.0.words ∙ ap (λ (ws : List (List ℕ)). decimal m ∷ ws) acted) in
+    (c.in-Some.ensures.0.words ∙ ap (λ (ws : List (List ℕ)). decimal m ∷ ws) acted) in
     op_event_again c.args.count c.args.config.now (line_of text) (record { mutator = m; action = a }) r short words
-    (omega (arith, c.ranges.count.fits)) c.in_ok-mutator.ensures.1 (action.owned m c.if-mutator-config.false) action.fits
+    (omega (arith, c.ranges.count.fits)) c.in-Some.ensures.1 (action.owned m c.if-mutator-config.false) action.fits
     c.in_ok-reply.ensures.fits
+
+-- the line of a count and an event of any heap behind it
+turned : (n : ℕ) (c : Config) (text : List ℕ) (at : ℕ) (r : Option EventLine) → end_of text < length text → n ≤ large
+    → words_of (line_of text) ≡ decimal n ∷ words_from text at → IfSome r (λ l. IsCollectionEvent text at l.event l.length)
+    → IfSome r (λ l. event_line_of n c (line_of text) ≡ Ok l.event)
+turned n c text at None ended counted words turn = tt
+turned n c text at (Some l) ended counted words turn =
+    let long : length (line_of text) ≡ end_of text = length-take-le (end_of text) text (omega arith) in
+    let short : length (line_of text) ≤ 120 = omega (arith, turn.short, turn.ends) in
+    any_event_again n c (line_of text) l.event short (words ∙ ap (λ (ws : List (List ℕ)). decimal n ∷ ws) turn.words) counted
+    turn.owned turn.fits
+
+pub returns-in_default-clause-event : goal.returns-in_default-clause-event
+returns-in_default-clause-event c =
+    let text = c.args.text.now in
+    let number = c.in_ok-number.number in
+    let counted : number.number ≡ c.args.count = sym c.from.ensures ∙ c.if-from-count.false in
+    turned c.args.count c.args.config.now text number.past c.collection_event.result c.requires.ended (omega (arith, c.ranges.count.fits))
+    (c.in_ok-number.ensures.0.words ∙ ap (λ (n : ℕ). decimal n ∷ words_from text number.past) counted) c.collection_event.ensures
