@@ -11,9 +11,7 @@ ghost use Rattle.g1heap.specs.Runs.{EndsIn};
 use command_line::Order;
 use heap_steps::{Reply, RunFault, run_fault};
 use jobs::JobFault;
-use script_text::{
-    RecordLines, ScriptLine, ScriptSteps, WatchedReader, WatchedWriter, WriteFault, read_text,
-};
+use script_text::{RecordLines, ScriptSteps, WatchedReader, WatchedWriter, WriteFault, read_text};
 use std::alloc::Global;
 use std::io::{Read, Write};
 use step_core::Core;
@@ -54,9 +52,9 @@ fn do_steps<W: Write>(
         → HasDone plan [] core.new first writer.new lines.new result }
 {
     let mut outcome = Ok(());
-    'script: while let Some(ScriptLine { step, line }) = steps.next_line() {
-        let event = core.perform(&step);
-        outcome = put_line(outcome, lines, line, event.reply, writer);
+    'script: while let Some(next) = steps.next_line() {
+        let event = core.perform(&next.step);
+        outcome = put_line(outcome, lines, next.line, event.reply, writer);
     }
     outcome
 }
