@@ -1,13 +1,17 @@
 -- A record on its way to the writer, by one event more.
-use Rattle.std.proofs.Common.{◌≡◌, ◌≢◌, List, [], ◌∷◌, ◌++◌, Result, Ok, Err, map, ap, refl, sym, subst, ◌∙◌, append_assoc}
+use Rattle.std.proofs.Common.{◌≡◌, ◌≢◌, ℕ, List, [], ◌∷◌, ◌++◌, Result, Ok, Err, map, ap, refl, sym, subst, ◌∙◌, append_assoc}
 use Rattle.std.proofs.lemmas.List.{append-nil, map-append}
 use Rattle.std.proofs.KnownBytes.{Keeps-refl}
-use Rattle.std.specs.Prelude.{⊤, OnOk, OnErr}
+use Rattle.std.specs.Prelude.{⊤, OnOk, OnErr, codes}
 use Rattle.heap_steps.specs.Actors.{StepList, EventList, step_in}
 use Rattle.heap_steps.specs.declared.step.Event.{Event}
+use Rattle.heap_steps.specs.declared.step.Actor.{Actor}
 use Rattle.heap_steps.specs.declared.step.Step.{Step}
-use Rattle.script_text.specs.Records.{record_text}
+use Rattle.heap_steps.specs.declared.step.Step.TheVariants as steps
+use Rattle.script_text.specs.Records.{actor_word, body_words, reply_words, record_text, IsToldBy}
+use Rattle.script_text.specs.Spelling.{step_words, spaced}
 use Rattle.script_text.specs.Watched.{Writer, Takes, TakesPart}
+use Rattle.script_text.proofs.BothWays.EventsRead.{some_body}
 use Rattle.script_text.proofs.Output.LinesOut.{fails}
 use Rattle.heap_words.specs.declared.config.Config.{Config}
 use Rattle.heap_steps.specs.declared.fault.RunFault.{RunFault}
@@ -27,6 +31,28 @@ use Rattle.g1heap.specs.InOrder.{AnswersInOrder, HasDone, IsOnItsWay}
 -- the record of the plan with these events
 abbrev pub record_by : StepList → List Event → EventList
 record_by plan es = record { config = plan.config; events = es }
+
+-- the line of an event is the script's line of its step, an equals sign and the reply
+told_is : (actor x : List ℕ) (xs body : List (List ℕ)) (reply : List ℕ) → body ≡ x ∷ xs
+    → spaced (actor ∷ spaced body ∷ codes "=" ∷ reply ∷ []) ≡ spaced (actor ∷ body) ++ codes " = " ++ reply
+told_is actor x xs body reply is =
+    rw is (sym (append_assoc (actor ++ 32 ∷ spaced (x ∷ xs)) (codes " = ") reply
+    ∙ append_assoc actor (32 ∷ spaced (x ∷ xs)) (codes " = " ++ reply)))
+
+actor_first : (s : Step) → step_words s ≡ actor_word (actor_of s) ∷ body_words s
+actor_first (steps.Mutator o) = refl
+actor_first (steps.Collector k) = refl
+
+pub told_by_line : (line : List ℕ) (s : Step) (e : Event) → line ≡ spaced (step_words s) → e.step ≡ s → e.actor ≡ actor_of s
+    → IsToldBy line e.reply e
+told_by_line line s e spelled step actor =
+    let body = some_body e.step in
+    let reply : List ℕ = spaced (reply_words e.reply) in
+    let whole : line ≡ spaced (actor_word e.actor ∷ body_words e.step) =
+    spelled ∙ ap spaced (actor_first s) ∙ ap (λ (a : Actor). spaced (actor_word a ∷ body_words s)) (sym actor)
+    ∙ ap (λ (t : Step). spaced (actor_word e.actor ∷ body_words t)) (sym step) in
+    told_is (actor_word e.actor) body.0 body.1 (body_words e.step) reply body.2
+    ∙ ap (λ (t : List ℕ). t ++ codes " = " ++ reply) (sym whole)
 
 -- the writer refused before, so it did with whatever events come behind one more
 pub refused_before : (plan : StepList) (es : List Event) (e : Event) (first now : Writer) (lines lines' : Lines) (fault : WriteFault)

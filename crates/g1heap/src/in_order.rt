@@ -1,41 +1,44 @@
 //! A script whose lines are done in their order, answered by its record, which is written as it is made.
 
-ghost use Rattle.std.specs.Prelude.{◌≡◌, ◌<◌, ◌+◌, ◌^◌, ◌++◌, ◌∷◌, [], ℕ, List, Ok, OnOk, length};
+ghost use Rattle.std.specs.Prelude.{◌≡◌, ◌≤◌, ◌<◌, ◌+◌, ◌^◌, ◌++◌, ◌∷◌, [], ℕ, List, Ok, OnOk, length};
 ghost use Rattle.heap_steps.specs.declared.step.Event as events;
 ghost use Rattle.heap_steps.specs.Actors.{StepList};
+ghost use Rattle.script_text.specs.Records.{IsToldBy};
 ghost use Rattle.script_text.specs.Watched.{Writer};
 ghost use Rattle.g1heap.specs.InOrder.{AnswersInOrder, HasDone, IsOnItsWay};
 ghost use Rattle.g1heap.specs.Runs.{EndsIn};
 
 use command_line::Order;
-use heap_steps::{Event, RunFault, run_fault};
+use heap_steps::{Reply, RunFault, run_fault};
 use jobs::JobFault;
 use script_text::{RecordLines, ScriptSteps, WatchedReader, WatchedWriter, WriteFault, read_text};
 use std::alloc::Global;
 use std::io::{Read, Write};
 use step_core::Core;
 
-/// Puts the line of an event, where the writer refused none before.
+/// Puts the line of an event that a script's line and a reply tell, where the writer refused none before.
 #[inline(always)]
 fn put_line<W: Write>(
     before: Result<(), WriteFault>,
     lines: &mut RecordLines,
-    event: &Event,
+    line: &[u8],
+    reply: Reply,
     writer: &mut WatchedWriter<W>,
 ) -> Result<(), WriteFault>
-    requires { OnOk before (lines.old.events + 1 < 2 ^ 64) }
+    requires few { OnOk before (lines.old.events + 1 < 2 ^ 64) }
+    requires short { length line.now ≤ 120 }
     ensures count { (n : ℕ) → OnOk before (lines.old.events ≡ n) → OnOk result (lines.new.events ≡ n + 1) }
-    ensures way { (plan : StepList) (es : List events.Event) (first : Writer) → IsOnItsWay plan es first writer.old lines.old before
-        → IsOnItsWay plan (es ++ event.now ∷ []) first writer.new lines.new result }
+    ensures way { (plan : StepList) (es : List events.Event) (e : events.Event) (first : Writer) → IsToldBy line.now reply e
+        → IsOnItsWay plan es first writer.old lines.old before → IsOnItsWay plan (es ++ e ∷ []) first writer.new lines.new result }
 {
     match before {
-        Ok(()) => lines.put(event, writer),
+        Ok(()) => lines.put_line(line, reply, writer),
         Err(fault) => Err(fault),
     }
 }
 
-/// Does the steps that are left in their order, and puts the line of each event. Where the writer refuses one, the steps behind it are done
-/// all the same: so what was written is a beginning of a whole run's record.
+/// Does the steps that are left in their order, and puts the line of each event: the script's own, and the reply. Where the writer refuses
+/// one, the steps behind it are done all the same: so what was written is a beginning of a whole run's record.
 fn do_steps<W: Write>(
     core: &mut Core,
     lines: &mut RecordLines,
@@ -49,9 +52,9 @@ fn do_steps<W: Write>(
         → HasDone plan [] core.new first writer.new lines.new result }
 {
     let mut outcome = Ok(());
-    while let Some(step) = steps.next_step() {
-        let event = core.perform(&step);
-        outcome = put_line(outcome, lines, &event, writer);
+    'script: while let Some(next) = steps.next_line() {
+        let event = core.perform(&next.step);
+        outcome = put_line(outcome, lines, next.line, event.reply, writer);
     }
     outcome
 }

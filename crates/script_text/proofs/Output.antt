@@ -4,3 +4,4 @@ pub mod WriteLaws
 pub mod RecordLaws
 pub mod LinesOut
 pub mod Counts
+pub mod Lines

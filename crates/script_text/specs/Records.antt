@@ -1,5 +1,5 @@
 -- How records are spelled.
-use Rattle.std.specs.Prelude.{ℕ, ◌+◌, List, [], ◌∷◌, ◌++◌, Some, None, codes}
+use Rattle.std.specs.Prelude.{◌≡◌, ℕ, ◌+◌, List, [], ◌∷◌, ◌++◌, Some, None, codes}
 use Rattle.std.specs.Fmt.{decimal}
 use Rattle.heap_steps.specs.Actors.{EventList}
 use Rattle.heap_steps.specs.declared.step.Actor.{Actor}
@@ -47,6 +47,10 @@ body_words (steps.Collector k) = collection_words k
 -- an event as its line has it behind the count
 abbrev pub event_text : Event → List ℕ
 event_text e = spaced (actor_word e.actor ∷ spaced (body_words e.step) ∷ codes "=" ∷ spaced (reply_words e.reply) ∷ [])
+
+-- a line and a reply tell the event: its text is the line, an equals sign between spaces, and the reply
+abbrev pub IsToldBy : List ℕ → Reply → Event → Type 0
+IsToldBy line reply e = event_text e ≡ line ++ codes " = " ++ spaced (reply_words reply)
 
 abbrev pub event_line : ℕ → Event → List ℕ
 event_line count e = line (decimal count ∷ actor_word e.actor ∷ spaced (body_words e.step) ∷ codes "=" ∷ spaced (reply_words e.reply) ∷ [])

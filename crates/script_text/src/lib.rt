@@ -14,12 +14,13 @@
 //! - `read_text` gives all bytes to the end of input, or says that a read was refused.
 //! - `parse` gives the plan that a text spells, or the first line with a fault and the first fault of that line.
 //!   What is read of a text is spelled so in the whole of it, and each script's text is read as that script.
-//! - `ScriptSteps` holds a text that was read so and has no fault, and reads its steps again, one by one: so a script is run without a
-//!   list of its steps.
+//! - `ScriptSteps` holds a text that was read so and has no fault, and reads its steps again, one by one, each with its line: so a script
+//!   is run without a list of its steps.
 //! - `parse_record` does the same of a record's text, and so gives back the record that was written (`written_record_is_read`).
 //! - `LineBuffer` takes a record's lines one by one, each as soon as it is whole: so a record can be read as it is written.
 //! - `write_record` appends the text of a record and no more, or a beginning of it where the writer refused. `RecordLines` does
-//!   the same event by event: so a record can be written as it is made. Either holds one buffer, however long the record is.
+//!   the same event by event, or by a script's lines and the replies: so a record can be written as it is made. Either holds one buffer,
+//!   however long the record is.
 //! - `put_text`, `put_number`, `put_event_text`, `put_reply`, `put_fault` and `write_bytes` are for other lines of a program: they put
 //!   texts into a buffer, and write bytes in their order.
 //!
@@ -52,7 +53,7 @@ pub use read::awaited::{LineBuffer, NextFault};
 pub use read::input::read_text;
 pub use read::records::parse_record;
 pub use read::script::parse;
-pub use read::script_steps::ScriptSteps;
+pub use read::script_steps::{ScriptLine, ScriptSteps};
 pub use read::watched::WatchedReader;
 pub use write::bytes::{put_number, put_text};
 pub use write::lines::{put_event_text, put_reply};

@@ -6,8 +6,8 @@ use crate::actions::{
 use crate::scripts::CONFIG;
 use heap_steps::{Action, Actor, CollectorStep, Event, Op, Record, Refusal, Reply, Step};
 use script_text::{
-    Kind, LineBuffer, LineFault, NextFault, ReadFault, WatchedReader, WatchedWriter, WriteFault,
-    parse_record, read_text, write_record,
+    Kind, LineBuffer, LineFault, NextFault, ReadFault, RecordLines, WatchedReader, WatchedWriter,
+    WriteFault, parse_record, read_text, write_record,
 };
 use std::alloc::{AllocError, Global};
 use std::io;
@@ -222,6 +222,53 @@ fn check_read_back(
 fn records_are_read_back(rt: HostRuntime) -> Result<(), Fail> {
     for (text, events) in RECORDS {
         check_read_back(&rt, rt.alloc(), text, events)?;
+    }
+    Ok(())
+}
+
+/// Lines of scripts, from the shortest to more than 16 bytes, each with a reply and what is written of them.
+const TOLD: [(&str, Reply, &str); 6] = [
+    ("gc begin", Reply::Done, "1 gc begin = ok"),
+    ("0 drop r1", Reply::Done, "1 0 drop r1 = ok"),
+    ("1 get r7 r0 0", Reply::Named(None), "1 1 get r7 r0 0 = nil"),
+    (
+        "0 put r1 10 r7",
+        Reply::Refused(Refusal::Nil),
+        "1 0 put r1 10 r7 = refused 1 Nil",
+    ),
+    ("0 new r10 12 340", Reply::Named(Some(5)), "1 0 new r10 12 340 = #5"),
+    (
+        "1 write r0 0 18446744073709551615",
+        Reply::Done,
+        "1 1 write r0 0 18446744073709551615 = ok",
+    ),
+];
+
+/// Writes the record of the one event that a line and a reply tell, and compares its line.
+fn check_told(
+    rt: &impl Abort,
+    alloc: Global,
+    line: &str,
+    reply: Reply,
+    told: &str,
+) -> Result<(), Fail> {
+    let line = line.as_bytes();
+    if line.len() > 120 {
+        return Err(Fail::from("no script has such a line"));
+    }
+    let text = format!(in alloc; "heap 4 16 8 2 0\n{told}\n")?;
+    let mut writer = WatchedWriter::new(Vec::new(alloc));
+    let mut lines = RecordLines::new(alloc, &CONFIG)?;
+    assert_eq!(rt; lines.put_line(line, reply, &mut writer), Ok(()));
+    assert_eq!(rt; lines.finish(&mut writer), Ok(()));
+    assert_eq!(rt; writer.into_inner().as_slice(), text.as_bytes());
+    Ok(())
+}
+
+#[test]
+fn told_lines(rt: HostRuntime) -> Result<(), Fail> {
+    for (line, reply, told) in TOLD {
+        check_told(&rt, rt.alloc(), line, reply, told)?;
     }
     Ok(())
 }

@@ -54,20 +54,35 @@ fn good_script(rt: HostRuntime) -> Result<(), Fail> {
         Step::Collector(CollectorStep::Pause(4_294_967_295)),
     ];
     assert_eq!(rt; plan.steps(), steps.as_slice());
-    check_taken(&rt, text, &steps)
+    let lines = [
+        "0 new r0 1 4294967295",
+        "1 get r7 r0 0",
+        "0 read r1 10",
+        "gc pause 4294967295",
+    ];
+    check_taken(&rt, text, &steps, &lines)
 }
 
-/// Takes the steps of a script with these sizes one by one, and compares them.
-fn check_taken(rt: &impl Abort, text: &[u8], steps: &[Step]) -> Result<(), Fail> {
+/// Takes the steps of a script with these sizes one by one, and compares them and their lines.
+fn check_taken(
+    rt: &impl Abort,
+    text: &[u8],
+    steps: &[Step],
+    lines: &[&str],
+) -> Result<(), Fail> {
     let Ok(mut script) = ScriptSteps::new(text) else {
         return Err(Fail::from("this is a script"));
     };
     assert_eq!(rt; script.config(), CONFIG);
-    for step in steps {
-        assert_eq!(rt; script.next_step(), Some(*step));
+    for (step, line) in steps.iter().zip(lines) {
+        let Some(next) = script.next_line() else {
+            return Err(Fail::from("a step is left"));
+        };
+        assert_eq!(rt; next.step, *step);
+        assert_eq!(rt; next.line, line.as_bytes());
     }
     for _ in 0..2 {
-        assert_eq!(rt; script.next_step(), None);
+        assert!(rt; script.next_line().is_none());
     }
     assert_eq!(rt; script.config(), CONFIG);
     Ok(())
@@ -95,7 +110,7 @@ fn collections(rt: HostRuntime) -> Result<(), Fail> {
 
 #[test]
 fn no_steps(rt: HostRuntime) -> Result<(), Fail> {
-    check_taken(&rt, b"heap 4 16 8 2 0\n", &[])
+    check_taken(&rt, b"heap 4 16 8 2 0\n", &[], &[])
 }
 
 /// The fault of a text, if its steps are to be taken one by one; none where it is a script.

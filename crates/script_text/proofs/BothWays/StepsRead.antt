@@ -1,11 +1,11 @@
 -- What is read of a line is spelled so.
-use Rattle.std.proofs.Common.{◌≡◌, ◌<◌, ◌∷◌, ◌∙◌, ◌⊎◌}
+use Rattle.std.proofs.Common.{◌≡◌, ◌<◌, ◌≤◌, ◌∷◌, ◌∙◌, ◌⊎◌}
 use Rattle.std.proofs.Common.{ℕ, Bool, true, false, cond, List, [], length, Option, Some, None}
 use Rattle.std.proofs.Common.{Result, Ok, Err, refl, sym, ap, subst, inl, inr}
 use Rattle.std.specs.Prelude.{nat_lt, codes}
 use Rattle.std.specs.Fmt.{decimal}
 use Rattle.std.specs.Str.{bytes_eq}
-use Rattle.std.proofs.lemmas.Bool.{ltb-true}
+use Rattle.std.proofs.lemmas.Bool.{ltb-true, ltb-false}
 use Rattle.std.proofs.lemmas.List.Splits.{join_with_byte-slice_split}
 use Rattle.std.proofs.lemmas.Slice.Eq.{bytes_eq-Decides}
 use Rattle.heap_words.specs.declared.config.Config.{Config}
@@ -125,6 +125,15 @@ too_long false k r x e = e
 pub step_line_is : (c : Config) (text : List ℕ) (s : Step) → step_line_of c text ≡ Ok s → IsLine c text s
 unfolding step_line_of
 step_line_is c text s e = words_line c text s (too_long (nat_lt 120 (length text)) kinds.LongLine (step_of c (words_of text)) s e)
+
+-- a line that is read isn't too long
+pub step_line_short : (c : Config) (text : List ℕ) (s : Step) → step_line_of c text ≡ Ok s → length text ≤ 120
+unfolding step_line_of
+step_line_short c text s e =
+    elim (either (nat_lt 120 (length text)) (Err kinds.LongLine) (step_of c (words_of text)) s e) [
+      | inl long ↦ absurd cc
+      | inr short ↦ ltb-false 120 (length text) short.0
+    ]
 
 pub heap_line_is : (text : List ℕ) (c : Config) → heap_line_of text ≡ Ok c → (text ≡ spaced (heap_words c)) × ConfigFits c
 unfolding heap_line_of

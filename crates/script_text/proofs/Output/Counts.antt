@@ -10,7 +10,7 @@ use Rattle.script_text.specs.declared.write.counts.Count.{Count}
 use Rattle.script_text.specs.Counts.{Spells}
 
 -- a beginning of what stands behind the first bytes
-begun : (old middle front : List ℕ) (at width : ℕ) → at ≤ length old → width ≤ length front
+pub begun : (old middle front : List ℕ) (at width : ℕ) → at ≤ length old → width ≤ length front
     → take (at + length front) middle ≡ take at old ++ front → take (at + width) middle ≡ take at old ++ take width front
 begun old middle front at width within short e =
     let first : length (take at old) ≡ at = length-take-le at old within in

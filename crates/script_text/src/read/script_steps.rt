@@ -3,14 +3,15 @@
 //! ```text
 //!   heap 4 16 8 1 0
 //!   0 new r0 1 1        new reads all lines once, for their faults
-//!   0 get r1 r0 0   <-- the lines that are left: next_step reads the first of them again
+//!   0 get r1 r0 0   <-- the lines that are left: next_line reads the first of them again
 //!   gc pause 100
 //! ```
 
-ghost use Rattle.std.specs.Prelude.{◌≡◌, ◌≢◌, ◌<◌, ◌^◌, ◌∷◌, [], length, OnOk, IfOk, IfErr, IfSome, IfNone};
+ghost use Rattle.std.specs.Prelude.{◌≡◌, ◌≢◌, ◌≤◌, ◌<◌, ◌^◌, ◌∷◌, [], length, OnOk, IfOk, IfErr, IfSome, IfNone};
 ghost use Rattle.heap_steps.specs.Actors.{IsStep};
 ghost use Rattle.script_text.specs.Lines.{pieces_of, steps_of, script_of};
 ghost use Rattle.script_text.specs.StepsLeft.{IsFaultless};
+ghost use Rattle.script_text.specs.Spelling.{step_words, spaced};
 
 use crate::fault::{Kind, LineFault};
 use crate::read::script::{HeapLine, StepLine, first_line, front_step};
@@ -44,6 +45,13 @@ fn check_lines(config: &Config, lines: &[u8]) -> Result<(), LineFault>
             kind: Kind::Cut,
         })
     }
+}
+
+/// A step of a script, and its line without the line feed.
+#[derive(Clone, Copy)]
+pub struct ScriptLine<'a> {
+    pub step: Step,
+    pub line: &'a [u8],
 }
 
 /// A script's text without a fault. Clauses see its heap line and the steps that are left, which are taken one by one.
@@ -105,19 +113,24 @@ impl<'a> ScriptSteps<'a> {
         self.config
     }
 
-    /// Takes the next step, read from its line. None where no step is left, and then nothing changes.
+    /// Takes the next step with its line, from which it is read. None where no step is left, and then nothing changes.
     ///
     /// ```rust
     /// let plan = parse(alloc, script)?;
     /// let mut steps = ScriptSteps::new(script)?;
-    /// assert_eq!(rt; steps.next_step(), Some(plan.steps()[0]));
-    /// assert_eq!(rt; steps.next_step(), None);
+    /// if let Some(next) = steps.next_line() {
+    ///     assert_eq!(rt; next.step, plan.steps()[0]);
+    ///     assert_eq!(rt; next.line, b"0 new r0 1 1".as_slice());
+    /// }
+    /// assert!(rt; steps.next_line().is_none());
     /// ```
     #[inline(always)]
-    pub fn next_step(&mut self) -> Option<Step>
+    pub fn next_line(&mut self) -> Option<ScriptLine<'a>>
         ensures config { self.new.config ≡ self.old.config }
-        ensures some { IfSome result (λ step. self.old.steps ≡ step ∷ self.new.steps) }
-        ensures known { IfSome result (IsStep self.old.config) }
+        ensures some { IfSome result (λ next. self.old.steps ≡ next.step ∷ self.new.steps) }
+        ensures known { IfSome result (λ next. IsStep self.old.config next.step) }
+        ensures line { IfSome result (λ next. next.line.now ≡ spaced (step_words next.step)) }
+        ensures short { IfSome result (λ next. length next.line.now ≤ 120) }
         ensures none { IfNone result (self.old.steps ≡ []) }
         ensures same { IfNone result (self.new ≡ self.old) }
     {
@@ -130,6 +143,9 @@ impl<'a> ScriptSteps<'a> {
             return None;
         };
         self.lines = &lines[line.length + 1..];
-        Some(line.step)
+        Some(ScriptLine {
+            step: line.step,
+            line: &lines[..line.length],
+        })
     }
 }

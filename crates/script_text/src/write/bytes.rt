@@ -45,6 +45,22 @@ pub(crate) fn put_literal(buffer: &mut [u8], at: usize, text: &[u8]) -> usize
     at + text.len()
 }
 
+/// Puts a short text that stands in no code, as `put_text`. One of 8 to 16 bytes, as most lines of a script are, is put by its first eight
+/// and its last eight, which may overlap: two moves, and no call.
+#[inline(always)]
+pub(crate) fn put_short(buffer: &mut [u8], at: usize, text: &[u8]) -> usize
+    requires { at + length text.now ≤ length buffer.old }
+    ensures put { take result buffer.new ≡ take at buffer.old ++ text.now }
+    ensures end { result ≡ at + length text.now }
+{
+    let length = text.len();
+    if length < 8 || length > 16 {
+        return put_text(buffer, at, text);
+    }
+    put_text(buffer, at, &text[..8]);
+    put_text(buffer, at + length - 8, &text[length - 8..])
+}
+
 /// How many digits a number below 10,000 has.
 fn short_digit_count(number: u64) -> usize
     requires { number < 10000 }

@@ -3,20 +3,21 @@
 
 ghost use Rattle.std.specs.Prelude.{◌≡◌, ◌≤◌, ◌<◌, ◌+◌, ◌^◌, ◌++◌, ◌∷◌, ℕ, length, take, codes};
 ghost use Rattle.std.specs.Fmt.{decimal};
+ghost use Rattle.heap_steps.specs.declared.step.Event as events;
 ghost use Rattle.script_text.specs.Spelling.{register_word, global_word, value_word, action_words, collection_words};
 ghost use Rattle.script_text.specs.Spelling.{verb_of, format_words, heap_words, spaced, line};
 ghost use Rattle.script_text.specs.Counts.{Spells};
-ghost use Rattle.script_text.specs.Records.{actor_word, reply_words, event_text, event_line};
+ghost use Rattle.script_text.specs.Records.{actor_word, reply_words, event_text, event_line, IsToldBy};
 
-use crate::write::bytes::{put_byte, put_literal, put_number, put_small, put_text};
+use crate::write::bytes::{put_byte, put_literal, put_number, put_short, put_small, put_text};
 use crate::write::counts::Count;
 use heap_steps::{
     Action, Actor, CollectorStep, Counts, Event, GlobalRoot, Refusal, Register, Reply, Step,
 };
 use heap_words::config::{Config, Format};
 
-/// The room that a line needs: no line of a record is longer.
-pub(crate) const LINE_ROOM: usize = 128;
+/// The room that a line needs: no line of a record is longer, nor one that a script's line of 120 bytes would tell.
+pub(crate) const LINE_ROOM: usize = 192;
 
 /// A text that ends in a space, and a number.
 #[inline(always)]
@@ -361,6 +362,30 @@ pub fn put_event_text(buffer: &mut [u8], at: usize, event: &Event) -> usize
     };
     let at = put_literal(buffer, at, b" = ");
     put_reply_words(buffer, at, event.reply)
+}
+
+/// The line of an event of this count, where a script's line tells its actor and its step.
+#[inline(always)]
+pub(crate) fn put_told(
+    buffer: &mut [u8],
+    at: usize,
+    count: &Count,
+    told: &[u8],
+    reply: Reply,
+) -> usize
+    requires room { at + LINE_ROOM ≤ length buffer.old }
+    requires short { length told.now ≤ 120 }
+    requires spells { (number : ℕ) × (number < 2 ^ 64) × Spells count.now number }
+    ensures put { (number : ℕ) (e : events.Event) → number < 2 ^ 64 → Spells count.now number → IsToldBy told.now reply e →
+        take result buffer.new ≡ take at buffer.old ++ event_line number e }
+    ensures end { result ≤ at + LINE_ROOM }
+{
+    let at = count.put(buffer, at);
+    let at = put_byte(buffer, at, b' ');
+    let at = put_short(buffer, at, told);
+    let at = put_literal(buffer, at, b" = ");
+    let at = put_reply_words(buffer, at, reply);
+    put_byte(buffer, at, b'\n')
 }
 
 /// The line of an event of this count.

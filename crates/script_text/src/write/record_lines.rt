@@ -11,16 +11,16 @@
 ghost use Rattle.std.specs.Prelude.{◌≡◌, ◌≢◌, ◌≤◌, ◌<◌, ◌+◌, ◌^◌, ◌++◌, ◌∷◌, [], ℕ, List, IfOk, IfErr, OnOk, OnErr, take, length};
 ghost use Rattle.heap_steps.specs.Actors.{EventList};
 ghost use Rattle.heap_steps.specs.declared.step.Event as events;
-ghost use Rattle.script_text.specs.Records.{record_text};
+ghost use Rattle.script_text.specs.Records.{record_text, IsToldBy};
 ghost use Rattle.script_text.specs.Watched.{Writer, Takes, TakesPart, FailsToTake};
 ghost use Rattle.script_text.specs.Written.{AreLinesOf, no_events, with_events};
 
 use crate::fault::WriteFault;
 use crate::write::counts::Count;
-use crate::write::lines::{LINE_ROOM, put_event, put_heap};
+use crate::write::lines::{LINE_ROOM, put_event, put_heap, put_told};
 use crate::write::watched::WatchedWriter;
 use crate::write::writing::write_bytes;
-use heap_steps::{Event, Record};
+use heap_steps::{Event, Record, Reply};
 use heap_words::config::Config;
 use std::alloc::{AllocError, Global};
 use std::io::Write;
@@ -126,6 +126,43 @@ impl RecordLines {
                 self.count.count_on(self.events);
                 self.events += 1;
                 self.at = put_event(&mut self.buffer, left, &self.count, event);
+                Ok(())
+            }
+            Err(fault) => Err(fault),
+        }
+    }
+
+    /// Puts the line of the next event as `put` does, where a script's line tells its actor and its step: the bytes are copied.
+    ///
+    /// ```rust
+    /// let history = parse_record(alloc, record)?;
+    /// let mut writer = WatchedWriter::new(Vec::new(alloc));
+    /// let mut lines = RecordLines::new(alloc, &history.config())?;
+    /// lines.put_line(b"0 new r0 1 1", Reply::Named(Some(0)), &mut writer)?;
+    /// lines.finish(&mut writer)?;
+    /// assert_eq!(rt; writer.into_inner().as_slice(), record.as_slice());
+    /// ```
+    #[inline(always)]
+    pub fn put_line<W: Write>(
+        &mut self,
+        line: &[u8],
+        reply: Reply,
+        writer: &mut WatchedWriter<W>,
+    ) -> Result<(), WriteFault>
+        requires few { self.old.events + 1 < 2 ^ 64 }
+        requires short { length line.now ≤ 120 }
+        ensures ok { OnOk result ((first : Writer) (r : EventList) (e : events.Event) → IsToldBy line.now reply e
+            → AreLinesOf r first writer.old self.old → AreLinesOf (with_events r (e ∷ [])) first writer.new self.new) }
+        ensures count { OnOk result (self.new.events ≡ self.old.events + 1) }
+        ensures err { OnErr result ((first : Writer) (r : EventList) (more : List events.Event) → AreLinesOf r first writer.old self.old
+            → TakesPart first writer.new (record_text (with_events r more))) }
+        ensures memory { result ≢ Err WriteFault.NoMemory }
+    {
+        match make_room(writer, &self.buffer, self.at) {
+            Ok(left) => {
+                self.count.count_on(self.events);
+                self.events += 1;
+                self.at = put_told(&mut self.buffer, left, &self.count, line, reply);
                 Ok(())
             }
             Err(fault) => Err(fault),

@@ -5,8 +5,8 @@ use Rattle.script_text.specs.Watched.{Writer}
 use Rattle.g1heap.specs.InOrder.{HasDone}
 use Rattle.g1heap.proofs.in_order.do_steps.Given as goal
 
-abbrev pub invariant-loop-step : goal.invariant-loop-step
-invariant-loop-step g l = record {
+abbrev pub invariant-script : goal.invariant-script
+invariant-script g l = record {
   sizes : l.steps.config ≡ l.core.config;
   fewer : length l.steps.steps ≤ length l.initial.steps.steps;
   counted : OnOk l.outcome (l.lines.events ≡ length l.initial.steps.steps - length l.steps.steps);
@@ -15,5 +15,5 @@ invariant-loop-step g l = record {
       → HasDone plan l.steps.steps l.core first l.writer l.lines l.outcome;
 }
 
-abbrev pub decreases-loop-step : goal.decreases-loop-step
-decreases-loop-step g l = length l.steps.steps
+abbrev pub decreases-script : goal.decreases-script
+decreases-script g l = length l.steps.steps

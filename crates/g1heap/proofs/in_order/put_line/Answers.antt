@@ -9,15 +9,15 @@ use Rattle.g1heap.proofs.in_order.put_line.Goals as goal
 pub returns-in-Ok-clause-count : goal.returns-in-Ok-clause-count
 returns-in-Ok-clause-count g c n had =
     let is : c.args.lines.now.events ≡ n = subst (λ (r : Result ⊤ WriteFault). OnOk r (c.args.lines.now.events ≡ n)) c.in-Ok.is had in
-    on_ok_weaker c.put.result (λ one. one ∙ ap (λ (m : ℕ). m + 1) is) c.put.ensures.count
+    on_ok_weaker c.put_line.result (λ one. one ∙ ap (λ (m : ℕ). m + 1) is) c.put_line.ensures.count
 
 pub returns-in-Ok-clause-way : goal.returns-in-Ok-clause-way
-returns-in-Ok-clause-way g c plan es first before =
-    one_put plan es c.args.event.now first c.args.writer.now c.put.new.writer c.args.lines.now c.put.new.self c.put.result
-    c.put.ensures.ok c.put.ensures.err c.put.ensures.memory
+returns-in-Ok-clause-way g c plan es e first told before =
+    one_put plan es e first c.args.writer.now c.put_line.new.writer c.args.lines.now c.put_line.new.self c.put_line.result
+    (on_ok_weaker c.put_line.result (λ put w had. put w had e told) c.put_line.ensures.ok) c.put_line.ensures.err c.put_line.ensures.memory
     (subst (λ (r : Result ⊤ WriteFault). IsOnItsWay plan es first c.args.writer.now c.args.lines.now r) c.in-Ok.is before)
 
 pub returns-in-Err-clause-way : goal.returns-in-Err-clause-way
-returns-in-Err-clause-way g c plan es first before =
-    refused_before plan es c.args.event.now first c.args.writer.now c.args.lines.now c.args.lines.now c.in-Err.fault
+returns-in-Err-clause-way g c plan es e first told before =
+    refused_before plan es e first c.args.writer.now c.args.lines.now c.args.lines.now c.in-Err.fault
     (subst (λ (r : Result ⊤ WriteFault). IsOnItsWay plan es first c.args.writer.now c.args.lines.now r) c.in-Err.is before)

@@ -1,10 +1,11 @@
-use Rattle.std.proofs.Common.{◌≡◌, ◌∷◌, ◌+◌, ◌∙◌, refl, sym, ap}
+use Rattle.std.proofs.Common.{◌≡◌, ◌∷◌, ◌+◌, ◌∙◌, ℕ, length, take, refl, sym, ap, arith}
 use Rattle.heap_steps.specs.Actors.{StepList}
 use Rattle.script_text.specs.Feeds.{end_of, line_of}
 use Rattle.script_text.specs.Lines.{pieces_of}
+use Rattle.script_text.proofs.BothWays.StepsRead.{step_line_is, step_line_short}
 use Rattle.script_text.proofs.Parts.Pieces.{behind, pieces_ended}
 use Rattle.script_text.proofs.Reading.LeftSteps.{first_left, none_wrong, none_left}
-use Rattle.script_text.proofs.read.script_steps.ScriptSteps.next_step.Goals as goal
+use Rattle.script_text.proofs.read.script_steps.ScriptSteps.next_line.Goals as goal
 
 pub returns-then-not-has_feed-clause-none : goal.returns-then-not-has_feed-clause-none
 returns-then-not-has_feed-clause-none c =
@@ -38,3 +39,16 @@ returns-clause-some c =
     pieces_ended rest line.length (c.if-not-has_feed.ensures.found refl) c.in-Ok.ensures.length in
     ap (λ (s : StepList). s.steps) (sym c.self.view_is)
     ∙ (first_left c.self.inside.config rest (line_of rest) after line.step piece c.in-Ok.ensures.step c.self.invariant).1
+
+pub returns-clause-line : goal.returns-clause-line
+returns-clause-line c =
+    let rest = c.self.inside.lines.now in
+    let line = c.in-Ok.line in
+    ap (λ (k : ℕ). take k rest) c.in-Ok.ensures.length
+    ∙ (step_line_is c.self.inside.config (line_of rest) line.step c.in-Ok.ensures.step).spelled
+
+pub returns-clause-short : goal.returns-clause-short
+returns-clause-short c =
+    let rest = c.self.inside.lines.now in
+    let short = step_line_short c.self.inside.config (line_of rest) c.in-Ok.line.step c.in-Ok.ensures.step in
+    omega (arith, ap (λ (k : ℕ). length (take k rest)) c.in-Ok.ensures.length)
