@@ -27,7 +27,7 @@ lines-preserved c =
     let after = behind (front.length + 1) rest in
     let ended : end_of rest < length rest = c.lines-test.ensures.found refl in
     let piece : pieces_of rest ≡ line_of rest ∷ pieces_of after = pieces_ended rest front.length ended c.front_event-front.ensures.length in
-    let within : front.length < length rest = omega (arith, ended, c.front_event-front.ensures.length) in
+    let within : front.length < length rest = c.front_event-front.ensures.within in
     record {
       so_far = one_read c.args.config.now c.lines.count rest (line_of rest) after c.args.lines.now _ piece
           (sym c.front_event-front.ensures.event ∙ c.in_default.is) c.lines.invariant.so_far;
