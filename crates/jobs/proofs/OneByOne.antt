@@ -14,6 +14,7 @@ use Rattle.jobs.specs.Verdicts.{IsJudged}
 use Rattle.jobs.specs.Explanations.{IsExplained}
 use Rattle.object_graph.specs.Reasons.{verdict_of}
 use Rattle.object_graph.specs.declared.judge.Finding.{Finding}
+use Rattle.object_graph.specs.declared.judge.Verdict.{Verdict}
 
 -- of all events the judge took the first n, and the others are left
 pub record IsWithin (c : Config) (all : List Event) (j : Judging) (left : List Event) (n : ℕ) : Type 0 where
@@ -78,3 +79,7 @@ explained_judged input finding e = record {
   suits = e.suits;
   judged = found_judged (first_state e.history.config) e.history.events finding e.finds;
 }
+
+-- that verdict, as it was told
+pub judged_so : (input : List ℕ) (finding : Finding) (v : Verdict) → v ≡ verdict_of finding → IsExplained input finding → IsJudged input v
+judged_so input finding v is e = subst (λ (w : Verdict). IsJudged input w) (sym is) (explained_judged input finding e)

@@ -150,12 +150,11 @@ pub fn explain_record<R: Read, W: Write>(
     };
     let finding = match find_in(alloc, text.as_slice()) {
         Ok(finding) => finding,
-        Err(fault) => {
-            if let JobFault::Line(line) = fault {
-                write_hint(text.as_slice(), line, writer);
-            }
-            return Err(fault);
+        Err(JobFault::Line(fault)) => {
+            write_hint(text.as_slice(), fault, writer);
+            return Err(JobFault::Line(fault));
         }
+        Err(fault) => return Err(fault),
     };
     match write_finding(finding, writer) {
         Ok(()) => Ok(finding),

@@ -1,6 +1,5 @@
-use Rattle.std.proofs.Common.{◌≡◌, ◌<◌, ◌+◌, ◌∷◌, ◌∙◌, Err, length, refl, sym, ap, arith}
+use Rattle.std.proofs.Common.{◌≡◌, ◌<◌, ◌+◌, ◌∷◌, ◌∙◌, length, refl, sym, ap, arith}
 use Rattle.std.proofs.lemmas.List.{length-drop}
-use Rattle.script_text.specs.Events.{event_line_of}
 use Rattle.script_text.specs.Feeds.{end_of, line_of}
 use Rattle.script_text.specs.Lines.{pieces_of}
 use Rattle.script_text.proofs.Parts.Pieces.{behind, behind_is, pieces_ended}

@@ -1,4 +1,4 @@
-use Rattle.std.proofs.Common.{◌≡◌, ◌+◌, ◌≤◌, length}
+use Rattle.std.proofs.Common.{◌+◌, ◌≤◌, length}
 use Rattle.script_text.proofs.Reading.LeftEvents.{IsReadTo}
 use Rattle.script_text.proofs.read.record_events.check_events.Given as goal
 
