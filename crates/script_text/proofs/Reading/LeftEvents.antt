@@ -105,7 +105,8 @@ few_left n c lines =
 -- some events of the lines were read, and these lines are left, from event n on
 abbrev pub IsReadTo : Config → ℕ → List ℕ → List ℕ → Type 0
 IsReadTo c n rest lines = (before : List Event)
-    × (read_on (record { config = c; events = before }) (events_of n c (pieces_of rest)) ≡ read_on (begun c) (events_of 1 c (pieces_of lines)))
+    × (read_on (record { config = c; events = before }) (events_of n c (pieces_of rest))
+    ≡ read_on (begun c) (events_of 1 c (pieces_of lines)))
 
 pub nothing_read : (c : Config) (lines : List ℕ) → IsReadTo c 1 lines lines
 nothing_read c lines = ([], refl)

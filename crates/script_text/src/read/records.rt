@@ -36,8 +36,12 @@ fn event_line(count: u64, config: &Config, line: &[u8], words: &[&[u8]]) -> Resu
 }
 
 /// What the line at a text's front gives as that of an event of this count, and how many bytes it has before its line feed. Most lines are
-/// of the usual events; the words of others are parted first.
-pub(crate) fn front_event(count: u64, config: &Config, text: &[u8]) -> FrontEvent
+/// of the usual events; the words of others are parted first. Each caller has a copy of its own.
+pub(crate) fn front_event<const CALLER: usize>(
+    count: u64,
+    config: &Config,
+    text: &[u8],
+) -> FrontEvent
     requires ended { end_of text.now < length text.now }
     ensures length { result.length ≡ end_of text.now }
     ensures within { result.length < length text.now }
@@ -76,7 +80,7 @@ pub fn parse_record(alloc: Global, text: &[u8]) -> Result<Record, LineFault>
     let mut rest = &text[length + 1..];
     let mut count = 1u64;
     'lines: while has_feed(rest) {
-        let FrontEvent { length, event } = front_event(count, &config, rest);
+        let FrontEvent { length, event } = front_event::<0>(count, &config, rest);
         let event = match event {
             Ok(event) => event,
             Err(kind) => {
