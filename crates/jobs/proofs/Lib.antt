@@ -1,5 +1,6 @@
 pub mod Endings
 mod Once
+mod OneByOne
 mod Told
 mod Following
 mod FollowLaws

@@ -16,12 +16,10 @@ use Rattle.heap_steps.specs.declared.step.CollectorStep.TheVariants as collector
 use Rattle.heap_steps.specs.declared.step.Event.{Event}
 use Rattle.script_text.specs.Events.{record_of}
 use Rattle.script_text.specs.Faults.{fault_reason}
-use Rattle.script_text.specs.Lines.{FailsBy, pieces_of}
+use Rattle.script_text.specs.Lines.{pieces_of}
 use Rattle.script_text.specs.Records.{reply_words, event_text}
 use Rattle.script_text.specs.Spelling.{spaced}
 use Rattle.script_text.specs.Watched.{Reader, Writer, FailsToGive, Takes, TakesPart, Stays}
-use Rattle.script_text.specs.declared.fault.Kind.{Kind}
-use Rattle.script_text.specs.declared.fault.Kind.TheVariants as kinds
 use Rattle.script_text.specs.declared.fault.LineFault.{LineFault}
 use Rattle.script_text.specs.declared.fault.WriteFault.TheVariants as writes
 use Rattle.jobs.specs.Runs.{GivesAll}
@@ -62,6 +60,13 @@ pub record IsExplained (input : List ℕ) (finding : Finding) : Type 0 where
   pub suits : Suits history.config
   pub finds : Finds (first_state history.config) history.events finding
 
+-- what is found of the input, or why it isn't judged: its first line with a fault, or what a record without one lacks
+abbrev pub FindsIn : List ℕ → Result Finding JobFault → Type 0
+FindsIn input (Ok finding) = IsExplained input finding
+FindsIn input (Err (faults.Line fault)) = record_of input ≡ Err fault
+FindsIn input (Err (faults.Judge fault)) = IsUnjudged input fault
+FindsIn input (Err _) = ⊥
+
 -- what was found of the input was written, and no more
 abbrev pub WritesFinding : List ℕ → Finding → Writer → Writer → Type 0
 WritesFinding input finding old new = IsExplained input finding × Takes old new (finding_text finding)
@@ -79,18 +84,13 @@ IsFaultReason fault input told = (line : List ℕ) → slice_get (pieces_of inpu
 abbrev pub TellsHint : LineFault → List ℕ → Writer → Writer → Type 0
 TellsHint fault input old new = (told : List ℕ) × IsFaultReason fault input told × (Takes old new told ⊎ TakesPart old new told)
 
--- so, and nothing where memory was refused
-abbrev pub TellsReason : Kind → LineFault → List ℕ → Writer → Writer → Type 0
-TellsReason kinds.NoMemory fault input old new = Stays old new
-TellsReason _ fault input old new = TellsHint fault input old new
-
 -- How the judging of a record ended that is to be explained, as `Judges` has it of one that isn't; but of a line with a fault standard
 -- output is told too.
 abbrev pub Explains : Reader → Reader → Writer → Writer → Result Finding JobFault → Type 0
 Explains given left old new (Ok finding) = (input : List ℕ) × GivesAll given left input × WritesFinding input finding old new
 Explains given left old new (Err (faults.Read fault)) = FailsToGive fault given left × Stays old new
 Explains given left old new (Err (faults.Line fault)) = (input : List ℕ) × GivesAll given left input
-    × FailsBy fault.kind fault input (record_of input) × TellsReason fault.kind fault input old new
+    × (record_of input ≡ Err fault) × TellsHint fault input old new
 Explains given left old new (Err (faults.Run fault)) = ⊥
 Explains given left old new (Err (faults.Differs event)) = ⊥
 Explains given left old new (Err (faults.Judge fault)) =

@@ -9,7 +9,6 @@ use Rattle.object_graph.specs.Run.{IsRun, BreaksAt}
 use Rattle.object_graph.specs.Judged.{Judged}
 use Rattle.object_graph.specs.declared.judge.Verdict.{Verdict}
 use Rattle.object_graph.specs.declared.judge.Verdict.TheVariants.{Yes, No}
-use Rattle.script_text.specs.Lines.{FailsBy}
 use Rattle.script_text.specs.Fits.{IsRecord}
 use Rattle.script_text.specs.Records.{record_text}
 use Rattle.script_text.specs.Events.{record_of}
@@ -67,7 +66,7 @@ abbrev pub Judges : Reader → Reader → Writer → Writer → Result Verdict J
 Judges given left old new (Ok verdict) = (input : List ℕ) × GivesAll given left input × WritesVerdict input verdict old new
 Judges given left old new (Err (faults.Read fault)) = FailsToGive fault given left × Stays old new
 Judges given left old new (Err (faults.Line fault)) = (input : List ℕ) × GivesAll given left input
-    × FailsBy fault.kind fault input (record_of input) × Stays old new
+    × (record_of input ≡ Err fault) × Stays old new
 Judges given left old new (Err (faults.Run fault)) = ⊥
 Judges given left old new (Err (faults.Differs event)) = ⊥
 Judges given left old new (Err (faults.Judge fault)) = (input : List ℕ) × GivesAll given left input × IsUnjudged input fault × Stays old new

@@ -6,16 +6,17 @@ ghost use Rattle.script_text.specs.Watched.{Takes, TakesPart};
 ghost use Rattle.object_graph.specs.Reasons.{verdict_of};
 ghost use Rattle.object_graph.specs.declared.judge.Finding.{Finding};
 ghost use Rattle.jobs.specs.Verdicts.{IsJudged};
-ghost use Rattle.jobs.specs.Explanations.{form_text, given_text, reason_line, finding_text, judged_by, TellsHint, TellsReason, IsExplained};
+ghost use Rattle.jobs.specs.Explanations.{form_text, given_text, reason_line, finding_text, judged_by, TellsHint, IsExplained};
 ghost use Rattle.jobs.specs.Explanations.{Explains, PerformsExplain};
 
-use crate::faults::{JobFault, JudgeFault};
+use crate::faults::JobFault;
+use crate::finding::find_in;
 use crate::judge::{conclude_verdict, put_verdict};
 use heap_steps::{CollectorStep, Event};
-use object_graph::{Finding, Given, Verdict, explain};
+use object_graph::{Finding, Given, Verdict};
 use script_text::{
-    Kind, LineFault, REASON_ROOM, WatchedReader, WatchedWriter, WriteFault, parse_record,
-    put_event_text, put_fault_reason, put_number, put_reply, put_text, read_text, write_bytes,
+    LineFault, REASON_ROOM, WatchedReader, WatchedWriter, WriteFault, put_event_text,
+    put_fault_reason, put_number, put_reply, put_text, read_text, write_bytes,
 };
 use std::alloc::Global;
 use std::io::{Read, Write};
@@ -126,16 +127,6 @@ fn write_hint<W: Write>(text: &[u8], fault: LineFault, writer: &mut WatchedWrite
     let _ = write_bytes(writer, &buffer[..at]);
 }
 
-/// The same, unless memory was refused.
-fn write_reason<W: Write>(text: &[u8], fault: LineFault, writer: &mut WatchedWriter<W>)
-    ensures { TellsReason fault.kind fault text.now writer.old writer.new }
-{
-    match fault.kind {
-        Kind::NoMemory => {}
-        _ => write_hint(text, fault, writer),
-    }
-}
-
 /// Reads a record to the end of input, judges it by the graph alone, and writes the verdict as `judge_record` does. Behind a no one more
 /// line says what the graph gives in place of the event that isn't allowed, and what else may stand there. Of a line with a fault one line
 /// shows it and says what may stand where reading it stopped. Nothing else is written before the judge has ended.
@@ -157,20 +148,13 @@ pub fn explain_record<R: Read, W: Write>(
         Ok(text) => text,
         Err(fault) => return Err(JobFault::Read(fault)),
     };
-    let history = match parse_record(alloc, text.as_slice()) {
-        Ok(history) => history,
-        Err(fault) => {
-            write_reason(text.as_slice(), fault, writer);
+    let finding = match find_in(alloc, text.as_slice()) {
+        Ok(finding) => finding,
+        Err(JobFault::Line(fault)) => {
+            write_hint(text.as_slice(), fault, writer);
             return Err(JobFault::Line(fault));
         }
-    };
-    drop(text);
-    let config = history.config();
-    if let Err(fault) = config.check() {
-        return Err(JobFault::Judge(JudgeFault::Heap(fault)));
-    }
-    let Ok(finding) = explain(alloc, &history) else {
-        return Err(JobFault::Judge(JudgeFault::NoMemory));
+        Err(fault) => return Err(fault),
     };
     match write_finding(finding, writer) {
         Ok(()) => Ok(finding),

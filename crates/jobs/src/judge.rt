@@ -6,12 +6,12 @@ ghost use Rattle.object_graph.specs.declared.judge.Verdict.{Verdict};
 ghost use Rattle.jobs.specs.Verdicts.{verdict_word, verdict_number, verdict_line, IsJudged, Judges, TellsVerdict, PerformsCheck};
 ghost use Rattle.jobs.specs.Verdicts.{IsTextOfRun, IsTextBrokenAt, ToldYes, ToldNo};
 
-use crate::faults::{JobFault, JudgeFault, tell};
-use crate::history::read_record;
-use object_graph::{Verdict, check, judged_once};
+use crate::faults::{JobFault, tell};
+use crate::finding::find_in;
+use object_graph::{Verdict, judged_once};
 use script_text::{
     WatchedReader, WatchedWriter, WriteFault, put_number, put_text, read_record_is_spelled,
-    spelled_record_is_read, write_bytes,
+    read_text, spelled_record_is_read, write_bytes,
 };
 use std::alloc::Global;
 use std::io::{Read, Write};
@@ -74,13 +74,13 @@ pub fn judge_record<R: Read, W: Write>(
 ) -> Result<Verdict, JobFault>
     ensures { Judges reader.old reader.new writer.old writer.new result }
 {
-    let history = read_record(alloc, reader)?;
-    let config = history.config();
-    if let Err(fault) = config.check() {
-        return Err(JobFault::Judge(JudgeFault::Heap(fault)));
-    }
-    let Ok(verdict) = check(alloc, &history) else {
-        return Err(JobFault::Judge(JudgeFault::NoMemory));
+    let text = match read_text(alloc, reader) {
+        Ok(text) => text,
+        Err(fault) => return Err(JobFault::Read(fault)),
+    };
+    let verdict = match find_in(alloc, text.as_slice()) {
+        Ok(finding) => finding.verdict(),
+        Err(fault) => return Err(fault),
     };
     match write_verdict(verdict, writer) {
         Ok(()) => Ok(verdict),

@@ -8,3 +8,4 @@ pub mod RecordOn
 pub mod Stops
 pub mod RecordStops
 pub mod LeftSteps
+pub mod LeftEvents

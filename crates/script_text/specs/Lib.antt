@@ -13,3 +13,4 @@ pub mod Counts
 pub mod Feeds
 pub mod Fronts
 pub mod StepsLeft
+pub mod EventsLeft

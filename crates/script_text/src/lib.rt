@@ -8,6 +8,7 @@
 //! reader --read_text--> bytes --parse--> Plan           Record --write_record--> writer
 //!                        bytes --ScriptSteps--> its steps, one by one
 //!                        bytes --parse_record--> Record
+//!                        bytes --RecordEvents--> its events, one by one
 //! ```
 //!
 //! - `WatchedReader` and `WatchedWriter` hold a reader or a writer, and remember whether it refused a call.
@@ -17,6 +18,7 @@
 //! - `ScriptSteps` holds a text that was read so and has no fault, and reads its steps again, one by one, each with its line: so a script
 //!   is run without a list of its steps.
 //! - `parse_record` does the same of a record's text, and so gives back the record that was written (`written_record_is_read`).
+//!   `RecordEvents` reads its events one by one, so a record is judged without a list of them.
 //! - `LineBuffer` takes a record's lines one by one, each as soon as it is whole: so a record can be read as it is written.
 //! - `write_record` appends the text of a record and no more, or a beginning of it where the writer refused. `RecordLines` does
 //!   the same event by event, or by a script's lines and the replies: so a record can be written as it is made. Either holds one buffer,
@@ -51,6 +53,7 @@ pub use laws::{
 };
 pub use read::awaited::{LineBuffer, NextFault};
 pub use read::input::read_text;
+pub use read::record_events::RecordEvents;
 pub use read::records::parse_record;
 pub use read::script::parse;
 pub use read::script_steps::{ScriptLine, ScriptSteps};

@@ -3,6 +3,7 @@
 pub(crate) mod awaited;
 pub(crate) mod events;
 pub(crate) mod input;
+pub(crate) mod record_events;
 pub(crate) mod records;
 pub(crate) mod replies;
 pub(crate) mod script;

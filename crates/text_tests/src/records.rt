@@ -6,8 +6,8 @@ use crate::actions::{
 use crate::scripts::CONFIG;
 use heap_steps::{Action, Actor, CollectorStep, Event, Op, Record, Refusal, Reply, Step};
 use script_text::{
-    Kind, LineBuffer, LineFault, NextFault, ReadFault, RecordLines, WatchedReader, WatchedWriter,
-    WriteFault, parse_record, read_text, write_record,
+    Kind, LineBuffer, LineFault, NextFault, ReadFault, RecordEvents, RecordLines, WatchedReader,
+    WatchedWriter, WriteFault, parse_record, read_text, write_record,
 };
 use std::alloc::{AllocError, Global};
 use std::io;
@@ -18,6 +18,14 @@ use std::test::Fail;
 /// The fault of a record's text; none where it is a record.
 fn record_fault_of(alloc: Global, text: &[u8]) -> Option<LineFault> {
     match parse_record(alloc, text) {
+        Ok(_) => None,
+        Err(fault) => Some(fault),
+    }
+}
+
+/// The fault of a record's text, if its events are to be taken one by one; none where it is a record.
+fn taken_fault_of(text: &[u8]) -> Option<LineFault> {
+    match RecordEvents::new(text) {
         Ok(_) => None,
         Err(fault) => Some(fault),
     }
@@ -110,8 +118,9 @@ fn check_record_faults(
 ) -> Result<(), AllocError> {
     for line in lines {
         let text = format!(in alloc; "heap 4 16 8 1 0\n{line}\n")?;
-        let fault = record_fault_of(alloc, text.as_bytes());
-        assert_eq!(rt; fault, Some(LineFault { line: 2, kind }), "{line}");
+        let fault = Some(LineFault { line: 2, kind });
+        assert_eq!(rt; record_fault_of(alloc, text.as_bytes()), fault, "{line}");
+        assert_eq!(rt; taken_fault_of(text.as_bytes()), fault, "{line}");
     }
     Ok(())
 }
@@ -128,9 +137,10 @@ fn record_faults(rt: HostRuntime) -> Result<(), Fail> {
 
 #[test]
 fn an_empty_record(rt: HostRuntime) -> Result<(), Fail> {
-    let fault = record_fault_of(rt.alloc(), b"");
     let (line, kind) = (1, Kind::BadHeap);
-    assert_eq!(rt; fault, Some(LineFault { line, kind }));
+    let fault = Some(LineFault { line, kind });
+    assert_eq!(rt; record_fault_of(rt.alloc(), b""), fault);
+    assert_eq!(rt; taken_fault_of(b""), fault);
     Ok(())
 }
 
@@ -273,6 +283,32 @@ fn told_lines(rt: HostRuntime) -> Result<(), Fail> {
     Ok(())
 }
 
+/// Takes the events of a record one by one, and compares them with those that are read at once.
+fn check_taken(rt: &impl Abort, alloc: Global, text: &str) -> Result<(), Fail> {
+    let Ok(history) = parse_record(alloc, text.as_bytes()) else {
+        return Err(Fail::from("this is a record"));
+    };
+    let Ok(mut events) = RecordEvents::new(text.as_bytes()) else {
+        return Err(Fail::from("this is a record"));
+    };
+    assert_eq!(rt; events.config(), history.config(), "{text}");
+    for event in history.events() {
+        assert_eq!(rt; events.next_event(), Some(*event), "{text}");
+    }
+    for _ in 0..2 {
+        assert_eq!(rt; events.next_event(), None, "{text}");
+    }
+    Ok(())
+}
+
+#[test]
+fn events_are_taken(rt: HostRuntime) -> Result<(), Fail> {
+    for (text, _) in RECORDS {
+        check_taken(&rt, rt.alloc(), text)?;
+    }
+    Ok(())
+}
+
 #[test]
 fn beginnings_of_records(rt: HostRuntime) -> Result<(), Fail> {
     let alloc = rt.alloc();
@@ -281,6 +317,7 @@ fn beginnings_of_records(rt: HostRuntime) -> Result<(), Fail> {
         let mut line = 1u64;
         for end in 1..text.len() {
             let fault = record_fault_of(alloc, &text[..end]);
+            assert_eq!(rt; taken_fault_of(&text[..end]), fault, "{end}");
             if text[end - 1] == b'\n' {
                 line = line.saturating_add(1);
                 assert_eq!(rt; fault, None, "{end}");

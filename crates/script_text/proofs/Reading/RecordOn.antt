@@ -67,7 +67,7 @@ pub events_more : (n : ℕ) (c : Config) (line : List ℕ) (ps : List (List ℕ)
 unfolding events_of
 events_more n c line ps x xs s e ok = rw (e, ok) refl
 
-events_fail : (n : ℕ) (c : Config) (line : List ℕ) (ps : List (List ℕ)) (x : List ℕ) (xs : List (List ℕ)) (k : Kind) → ps ≡ x ∷ xs
+pub events_fail : (n : ℕ) (c : Config) (line : List ℕ) (ps : List (List ℕ)) (x : List ℕ) (xs : List (List ℕ)) (k : Kind) → ps ≡ x ∷ xs
     → event_line_of n c line ≡ Err k → events_of n c (line ∷ ps) ≡ Err (fault (n + 1) k)
 unfolding events_of
 events_fail n c line ps x xs k e bad = rw (e, bad) refl

@@ -70,7 +70,7 @@ unfolding events_of
 later [] n c p f e = cut_later (length p == 0) (n + 1) f e
 later (q ∷ ps) n c p f e = line_later (event_line_of n c p) (events_of (n + 1) c (q ∷ ps)) (n + 1) f (λ g h. later ps (n + 1) c q g h) e
 
-rest_fails : (p : EventList) (r : Result (List Event) LineFault) (f : LineFault) → read_on p r ≡ Err f → r ≡ Err f
+pub rest_fails : (p : EventList) (r : Result (List Event) LineFault) (f : LineFault) → read_on p r ≡ Err f → r ≡ Err f
 rest_fails p (Ok ss) f e = absurd cc
 rest_fails p (Err g) f e = cc
 

@@ -8,9 +8,9 @@ ghost use Rattle.script_text.specs.Events.{event_line_of, record_of};
 
 use crate::fault::{Kind, LineFault};
 use crate::read::events::event;
-use crate::read::script::{LONGEST_LINE, heap_line};
+use crate::read::script::{HeapLine, LONGEST_LINE, first_line};
 use crate::read::usual_events::{EventLine, usual_event};
-use crate::read::words::{has_feed, split_front, split_line};
+use crate::read::words::{has_feed, split_front};
 use heap_steps::{Event, Record};
 use heap_words::config::Config;
 use std::alloc::Global;
@@ -36,10 +36,15 @@ fn event_line(count: u64, config: &Config, line: &[u8], words: &[&[u8]]) -> Resu
 }
 
 /// What the line at a text's front gives as that of an event of this count, and how many bytes it has before its line feed. Most lines are
-/// of the usual events; the words of others are parted first.
-pub(crate) fn front_event(count: u64, config: &Config, text: &[u8]) -> FrontEvent
+/// of the usual events; the words of others are parted first. Each caller has a copy of its own.
+pub(crate) fn front_event<const CALLER: usize>(
+    count: u64,
+    config: &Config,
+    text: &[u8],
+) -> FrontEvent
     requires ended { end_of text.now < length text.now }
     ensures length { result.length ≡ end_of text.now }
+    ensures within { result.length < length text.now }
     ensures event { result.event ≡ event_line_of count config.now (line_of text.now) }
     ensures known { IfOk result.event (IsEvent config.now) }
 {
@@ -67,28 +72,15 @@ pub(crate) fn front_event(count: u64, config: &Config, text: &[u8]) -> FrontEven
 pub fn parse_record(alloc: Global, text: &[u8]) -> Result<Record, LineFault>
     ensures { Gives result text.now (record_of text.now) }
 {
-    let mut words: [&[u8]; 12] = [&text[..0]; 12];
-    let Some(first) = split_line(text, &mut words) else {
-        if text.is_empty() {
-            return Err(LineFault {
-                line: 1,
-                kind: Kind::BadHeap,
-            });
-        }
-        return Err(LineFault {
-            line: 1,
-            kind: Kind::Cut,
-        });
-    };
-    let config = match heap_line(&text[..first.length], &words[..first.count]) {
-        Ok(config) => config,
-        Err(kind) => return Err(LineFault { line: 1, kind }),
+    let HeapLine { config, length } = match first_line(text) {
+        Ok(line) => line,
+        Err(fault) => return Err(fault),
     };
     let mut history = Record::new(alloc, config);
-    let mut rest = &text[first.length + 1..];
+    let mut rest = &text[length + 1..];
     let mut count = 1u64;
     'lines: while has_feed(rest) {
-        let FrontEvent { length, event } = front_event(count, &config, rest);
+        let FrontEvent { length, event } = front_event::<0>(count, &config, rest);
         let event = match event {
             Ok(event) => event,
             Err(kind) => {

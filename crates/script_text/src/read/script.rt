@@ -3,6 +3,7 @@
 ghost use Rattle.std.specs.Prelude.{◌≡◌, ◌≢◌, ◌<◌, ◌+◌, ◌∷◌, None, Ok, Err, ℕ, List, length, map, take, drop};
 ghost use Rattle.std.specs.Prelude.{IfOk, IfErr, IfSome, IfNone};
 ghost use Rattle.heap_steps.specs.Actors.{IsStep};
+ghost use Rattle.script_text.specs.Events.{record_of};
 ghost use Rattle.script_text.specs.Feeds.{end_of, line_of};
 ghost use Rattle.script_text.specs.Reading.{sizes_in, third_of, sizes_of};
 ghost use Rattle.script_text.specs.Lines.{pieces_of, words_of, heap_line_of, step_line_of, Gives, script_of};
@@ -135,12 +136,13 @@ pub(crate) fn heap_line(line: &[u8], words: &[&[u8]]) -> Result<Config, Kind>
     }
 }
 
-/// The heap line of a script's text, or the fault of the text's first line.
+/// The heap line of a script's or a record's text, or the fault of the text's first line.
 pub(crate) fn first_line(text: &[u8]) -> Result<HeapLine, LineFault>
     ensures within { IfOk result (λ h. h.length < length text.now) }
     ensures line { IfOk result (λ h. pieces_of text.now ≡ take h.length text.now ∷ pieces_of (drop (h.length + 1) text.now)) }
     ensures config { IfOk result (λ h. heap_line_of (take h.length text.now) ≡ Ok h.config) }
     ensures fault { IfErr result (λ fault. script_of text.now ≡ Err fault) }
+    ensures history { IfErr result (λ fault. record_of text.now ≡ Err fault) }
     ensures memory { IfErr result (λ fault. fault.kind ≢ Kind.NoMemory) }
 {
     let mut words: [&[u8]; 12] = [&text[..0]; 12];

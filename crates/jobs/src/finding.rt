@@ -1,0 +1,77 @@
+//! What the judge finds in a record's text, whose events are read one by one: no list of them is kept.
+
+ghost use Rattle.std.specs.Prelude.{◌≡◌, ◌<◌, ◌^◌, [], length, IfOk, IfErr};
+ghost use Rattle.heap_words.specs.Configs.{Suits};
+ghost use Rattle.object_graph.specs.State.{first_state};
+ghost use Rattle.object_graph.specs.Reasons.{Finds, HasTaken};
+ghost use Rattle.jobs.specs.Verdicts.{IsJudgeFault};
+ghost use Rattle.jobs.specs.Explanations.{FindsIn};
+
+use crate::faults::{JobFault, JudgeFault};
+use object_graph::{Finding, Judge};
+use script_text::RecordEvents;
+use std::alloc::{AllocError, Global};
+
+/// Judges the events that are left, to the last or to the first that isn't allowed.
+fn judge_events(judge: &mut Judge, events: &mut RecordEvents<'_>) -> Result<Finding, AllocError>
+    requires config { judge.old.config ≡ events.old.config }
+    requires taken { HasTaken judge.old [] }
+    requires few { length events.old.events < 2 ^ 64 }
+    ensures { IfOk result (Finds (first_state events.old.config) events.old.events) }
+{
+    let mut count = 0u64;
+    'lines: while let Some(event) = events.next_event() {
+        count += 1;
+        match judge.take(&event) {
+            Ok(None) => {}
+            Ok(Some(given)) => {
+                return Ok(Finding::Refused {
+                    number: count,
+                    event,
+                    given,
+                });
+            }
+            Err(fault) => return Err(fault),
+        }
+    }
+    Ok(Finding::Allowed(count))
+}
+
+/// Judges a record, of which all events are left, in a graph of its sizes.
+fn find_events(alloc: Global, events: &mut RecordEvents<'_>) -> Result<Finding, JudgeFault>
+    requires few { length events.old.events < 2 ^ 64 }
+    ensures suits { IfOk result (λ finding. Suits events.old.config) }
+    ensures finds { IfOk result (Finds (first_state events.old.config) events.old.events) }
+    ensures fault { IfErr result (IsJudgeFault events.old.config) }
+{
+    let config = events.config();
+    if let Err(fault) = config.check() {
+        return Err(JudgeFault::Heap(fault));
+    }
+    match Judge::new(alloc, &config) {
+        Ok(mut judge) => {
+            let found = judge_events(&mut judge, events);
+            drop(judge);
+            match found {
+                Ok(finding) => Ok(finding),
+                Err(_) => Err(JudgeFault::NoMemory),
+            }
+        }
+        Err(_) => Err(JudgeFault::NoMemory),
+    }
+}
+
+/// What the judge finds of a record's text, or why it isn't judged: a line has a fault, its sizes don't suit, or memory was refused. The
+/// text is read twice, for its faults and for its events.
+pub(crate) fn find_in(alloc: Global, text: &[u8]) -> Result<Finding, JobFault>
+    ensures { FindsIn text.now result }
+{
+    let mut events = match RecordEvents::new(text) {
+        Ok(events) => events,
+        Err(fault) => return Err(JobFault::Line(fault)),
+    };
+    match find_events(alloc, &mut events) {
+        Ok(finding) => Ok(finding),
+        Err(fault) => Err(JobFault::Judge(fault)),
+    }
+}
