@@ -17,19 +17,18 @@ pub fn next_link(table: &RegionTable, object: Addr, start: u32, end: u32) -> Opt
     ensures nil { (field : ℕ) → start ≤ field → field < end → IfSome result (λ link. field < link.0)
         → slice_get (fields_at table.now object) field ≡ Some None }
 {
-    let mut field = start;
-    // Most fields are nil: two are looked at in one test as long as both are.
-    'pairs: while field < end && end - field >= 2 {
-        if table.get_field(object, field).is_some() | table.get_field(object, field + 1).is_some() {
-            break 'pairs;
-        }
-        field += 2;
+    if start >= end {
+        return None;
     }
-    'fields: while field < end {
+    let mut field = start;
+    // The end is looked for behind each field: so what the table keeps is read once for all of them.
+    'fields: loop {
         if let Some(target) = table.get_field(object, field) {
             return Some((field, target));
         }
         field += 1;
+        if field >= end {
+            return None;
+        }
     }
-    None
 }
