@@ -35,8 +35,24 @@ fn event_line(count: u64, config: &Config, line: &[u8], words: &[&[u8]]) -> Resu
     event(count, config, words)
 }
 
-/// What the line at a text's front gives as that of an event of this count, and how many bytes it has before its line feed. Most lines are
-/// of the usual events; the words of others are parted first. Each caller has a copy of its own.
+/// What the line at a text's front gives as that of an event of this count, by its words, and how many bytes it has before its line
+/// feed. It stands alone: so the room for the words is made ready where they are parted, and not before each line.
+#[inline(never)]
+fn parted_event(count: u64, config: &Config, text: &[u8]) -> FrontEvent
+    requires ended { end_of text.now < length text.now }
+    ensures length { result.length ≡ end_of text.now }
+    ensures event { result.event ≡ event_line_of count config.now (line_of text.now) }
+    ensures known { IfOk result.event (IsEvent config.now) }
+{
+    let mut words: [&[u8]; 12] = [&text[..0]; 12];
+    let front = split_front(text, &mut words);
+    FrontEvent {
+        length: front.length,
+        event: event_line(count, config, &text[..front.length], &words[..front.count]),
+    }
+}
+
+/// The same, where most lines are of the usual events; the words of others are parted first. Each caller has a copy of its own.
 pub(crate) fn front_event<const CALLER: usize>(
     count: u64,
     config: &Config,
@@ -54,12 +70,7 @@ pub(crate) fn front_event<const CALLER: usize>(
             event: Ok(event),
         };
     }
-    let mut words: [&[u8]; 12] = [&text[..0]; 12];
-    let front = split_front(text, &mut words);
-    FrontEvent {
-        length: front.length,
-        event: event_line(count, config, &text[..front.length], &words[..front.count]),
-    }
+    parted_event(count, config, text)
 }
 
 /// The record that a text spells, or the first fault of the text. Where memory is refused, the line at which it was wanted: no
