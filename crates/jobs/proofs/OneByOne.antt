@@ -8,13 +8,7 @@ use Rattle.object_graph.specs.Run.{IsRun}
 use Rattle.object_graph.specs.Reasons.{Judging, HasTaken, TakesNext, Refuses, Finds}
 use Rattle.object_graph.specs.declared.given.Given.{Given}
 use Rattle.object_graph.specs.declared.judge.Finding.TheVariants.{Allowed, Refused}
-use Rattle.object_graph.proofs.ReasonLaws.{found_judged}
 use Rattle.heap_steps.specs.declared.step.Event.{Event}
-use Rattle.jobs.specs.Verdicts.{IsJudged}
-use Rattle.jobs.specs.Explanations.{IsExplained}
-use Rattle.object_graph.specs.Reasons.{verdict_of}
-use Rattle.object_graph.specs.declared.judge.Finding.{Finding}
-use Rattle.object_graph.specs.declared.judge.Verdict.{Verdict}
 
 -- of all events the judge took the first n, and the others are left
 pub record IsWithin (c : Config) (all : List Event) (j : Judging) (left : List Event) (n : ℕ) : Type 0 where
@@ -70,16 +64,3 @@ found_yes c all j left n w none =
       w.taken.0,
       subst (λ (ds : List Event). IsRun (first_state c) ds w.taken.0) (sym same) run,
     )
-
--- a text that is explained gets that verdict
-pub explained_judged : (input : List ℕ) (finding : Finding) → IsExplained input finding → IsJudged input (verdict_of finding)
-explained_judged input finding e = record {
-  history = e.history;
-  read = e.read;
-  suits = e.suits;
-  judged = found_judged (first_state e.history.config) e.history.events finding e.finds;
-}
-
--- that verdict, as it was told
-pub judged_so : (input : List ℕ) (finding : Finding) (v : Verdict) → v ≡ verdict_of finding → IsExplained input finding → IsJudged input v
-judged_so input finding v is e = subst (λ (w : Verdict). IsJudged input w) (sym is) (explained_judged input finding e)

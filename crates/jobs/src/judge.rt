@@ -6,6 +6,7 @@ ghost use Rattle.object_graph.specs.declared.judge.Verdict.{Verdict};
 ghost use Rattle.jobs.specs.Verdicts.{verdict_word, verdict_number, verdict_line, IsJudged, Judges, TellsVerdict, PerformsCheck};
 ghost use Rattle.jobs.specs.Verdicts.{IsTextOfRun, IsTextBrokenAt, ToldYes, ToldNo};
 
+use crate::explain::explained_law;
 use crate::faults::{JobFault, tell};
 use crate::finding::find_in;
 use object_graph::{Verdict, judged_once};
@@ -82,6 +83,7 @@ pub fn judge_record<R: Read, W: Write>(
         Ok(finding) => finding.verdict(),
         Err(fault) => return Err(fault),
     };
+    explained_law();
     match write_verdict(verdict, writer) {
         Ok(()) => Ok(verdict),
         Err(fault) => Err(JobFault::Write(fault)),
