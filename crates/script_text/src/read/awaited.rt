@@ -74,7 +74,7 @@ fn whole_event(text: &[u8], count: u64, config: &Config) -> Option<FrontEvent>
     ensures none { IfNone result (IsUnended text.now) }
 {
     if has_feed(text) {
-        Some(front_event::<3>(count, config, text))
+        Some(front_event::<7>(count, config, text))
     } else {
         None
     }

@@ -31,7 +31,7 @@ fn check_events(config: &Config, lines: &[u8]) -> Result<(), LineFault>
     let mut rest = lines;
     let mut count = 1u64;
     'lines: while has_feed(rest) {
-        let front = front_event::<1>(count, config, rest);
+        let front = front_event::<5>(count, config, rest);
         if let Err(kind) = front.event {
             return Err(LineFault {
                 line: count + 1,
@@ -132,7 +132,7 @@ impl<'a> RecordEvents<'a> {
             return None;
         }
         let config = self.config;
-        let front = front_event::<2>(self.count, &config, lines);
+        let front = front_event::<6>(self.count, &config, lines);
         let Ok(event) = front.event else {
             return None;
         };

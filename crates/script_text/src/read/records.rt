@@ -64,7 +64,7 @@ pub(crate) fn front_event<const CALLER: usize>(
     ensures event { result.event ≡ event_line_of count config.now (line_of text.now) }
     ensures known { IfOk result.event (IsEvent config.now) }
 {
-    if let Some(EventLine { event, length }) = usual_event(count, config, text) {
+    if let Some(EventLine { event, length }) = usual_event::<CALLER>(count, config, text) {
         return FrontEvent {
             length,
             event: Ok(event),
@@ -91,7 +91,7 @@ pub fn parse_record(alloc: Global, text: &[u8]) -> Result<Record, LineFault>
     let mut rest = &text[length + 1..];
     let mut count = 1u64;
     'lines: while has_feed(rest) {
-        let FrontEvent { length, event } = front_event::<0>(count, &config, rest);
+        let FrontEvent { length, event } = front_event::<4>(count, &config, rest);
         let event = match event {
             Ok(event) => event,
             Err(kind) => {

@@ -93,7 +93,11 @@ fn usual_reply(text: &[u8], at: usize) -> Option<LastReply>
 
 /// The event of this count whose line stands at a text's front, where it is one of the usual ones.
 #[inline(always)]
-pub(crate) fn usual_event(count: u64, config: &Config, text: &[u8]) -> Option<EventLine>
+pub(crate) fn usual_event<const CALLER: usize>(
+    count: u64,
+    config: &Config,
+    text: &[u8],
+) -> Option<EventLine>
     requires ended { end_of text.now < length text.now }
     ensures length { IfSome result (λ l. l.length ≡ end_of text.now) }
     ensures event { IfSome result (λ l. event_line_of count config.now (line_of text.now) ≡ Ok l.event) }
@@ -109,7 +113,7 @@ pub(crate) fn usual_event(count: u64, config: &Config, text: &[u8]) -> Option<Ev
     if mutator.number >= config.mutators {
         return None;
     }
-    let LastAction { action, past } = usual_action::<1>(config, text, mutator.past, true)?;
+    let LastAction { action, past } = usual_action::<CALLER>(config, text, mutator.past, true)?;
     let at = behind_verb(text, past + 1, b"=")?;
     let LastReply {
         reply,

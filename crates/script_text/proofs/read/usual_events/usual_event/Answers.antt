@@ -15,7 +15,7 @@ use Rattle.script_text.proofs.BothWays.EventsSpelled.{op_event_again, any_event_
 use Rattle.script_text.proofs.read.usual_events.usual_event.Goals as goal
 
 pub returns-clause-event : goal.returns-clause-event
-returns-clause-event c =
+returns-clause-event g c =
     let text = c.args.text.now in
     let number = c.in_ok-number.number in
     let m : ℕ = c.in-Some.mutator.number in
@@ -50,7 +50,7 @@ turned n c text at (Some l) ended counted words turn =
     turn.owned turn.fits
 
 pub returns-in_default-clause-event : goal.returns-in_default-clause-event
-returns-in_default-clause-event c =
+returns-in_default-clause-event g c =
     let text = c.args.text.now in
     let number = c.in_ok-number.number in
     let counted : number.number ≡ c.args.count = sym c.from.ensures ∙ c.if-from-count.false in
