@@ -14,10 +14,12 @@ ghost use Rattle.marker.specs.Stands.{MarkerStands, IsKept};
 ghost use Rattle.marker.specs.Clears.{ClearsTable};
 ghost use Rattle.marker.specs.Ends.{EndsExactly};
 ghost use Rattle.marker.specs.Steps.{KeepsSnapshots, SameRoles, MarksWanted, ScansMore, saved};
+ghost use Rattle.marker.specs.Roots.{AreNamedBelow, IsFirstUnmarked};
 ghost use Rattle.marker.specs.Counts.{restarted};
 
 use crate::marker::Marker;
 use heap_words::addr::{Addr, Ptr, RegionNo};
+use mark_bitmap::marks::Marks;
 use mark_bitmap::tams::Tams;
 use regions::RegionTable;
 use root_table::Roots;
@@ -34,6 +36,26 @@ fn set_tops(tams: &mut Tams, table: &RegionTable)
         let region = RegionNo::new(number);
         tams.set_next(region, table.top(region));
     }
+}
+
+/// The first place from `from` on that doesn't name a marked object, be it nil, unmarked or behind the last one. A marked object costs
+/// one look at its bit. The loop writes nothing, so that no pointer is read again for each root.
+#[inline(never)]
+fn past_marked(marks: &Marks, words: &[Ptr], from: usize) -> usize
+    requires { AreNamedBelow words.now from (length marks.now) }
+    ensures { IsFirstUnmarked marks.now words.now from result }
+{
+    let mut place = from;
+    'places: while place < words.len() {
+        let Some(at) = words[place] else {
+            return place;
+        };
+        if !marks.get(at) {
+            return place;
+        }
+        place += 1;
+    }
+    place
 }
 
 impl Marker {
@@ -80,8 +102,11 @@ impl Marker {
         self.start(table);
         let mut from = 0;
         while let Some(place) = roots.next_named(from) {
-            self.reach_kept(table, roots.get(place));
-            from = place + 1;
+            from = past_marked(&self.bitmaps.next, roots.as_slice(), place);
+            if from == place {
+                self.reach(table, roots.get(place));
+                from = place + 1;
+            }
         }
     }
 
