@@ -1,7 +1,7 @@
 //! The beginning of marking, deletion logs, and its end.
 
-ghost use Rattle.std.specs.Prelude.{◌≡◌, ◌≢◌, ◌<◌, ◌≤◌, ◌==◌, if◌then◌else◌, ◌*◌};
-ghost use Rattle.std.specs.Prelude.{ℕ, [], true, false, Some, Contains, length, slice_index, slice_set};
+ghost use Rattle.std.specs.Prelude.{◌≡◌, ◌≢◌, ◌<◌, ◌≤◌, ◌==◌, if◌then◌else◌, ◌*◌, ◌↔◌};
+ghost use Rattle.std.specs.Prelude.{ℕ, [], true, false, Some, IsTrue, Contains, length, slice_index, slice_set};
 ghost use Rattle.heap_model.specs.Graph.{Graph};
 ghost use Rattle.heap_model.specs.Heap.{Shows, IsClosed};
 ghost use Rattle.heap_model.specs.Marking.{KeepsSnapshot, Begins, IsSaved};
@@ -14,7 +14,7 @@ ghost use Rattle.marker.specs.Stands.{MarkerStands, IsKept};
 ghost use Rattle.marker.specs.Clears.{ClearsTable};
 ghost use Rattle.marker.specs.Ends.{EndsExactly};
 ghost use Rattle.marker.specs.Steps.{KeepsSnapshots, SameRoles, MarksWanted, ScansMore, saved};
-ghost use Rattle.marker.specs.Roots.{AreNamedBelow, IsFirstUnmarked};
+ghost use Rattle.marker.specs.Roots.{AreNamedBelow, NamesMarked, IsFirstUnmarked};
 ghost use Rattle.marker.specs.Counts.{restarted};
 
 use crate::marker::Marker;
@@ -38,21 +38,28 @@ fn set_tops(tams: &mut Tams, table: &RegionTable)
     }
 }
 
-/// The first place from `from` on that doesn't name a marked object, be it nil, unmarked or behind the last one. A marked object costs
-/// one look at its bit. The loop writes nothing, so that no pointer is read again for each root.
-#[inline(never)]
+/// Whether a place names a marked object.
+#[inline(always)]
+fn names_marked(marks: &Marks, words: &[Ptr], place: usize) -> bool
+    requires known { place < length words.now }
+    requires marks { AreNamedBelow words.now place (length marks.now) }
+    ensures { IsTrue result ↔ NamesMarked marks.now words.now place }
+{
+    let Some(at) = words[place] else {
+        return false;
+    };
+    marks.get(at)
+}
+
+/// The first place from `from` on that doesn't name a marked object, be it nil, unmarked or behind the last one. A place costs one look
+/// at a bit: the loop only reads, and stands behind a first look, so that the compiler keeps both pointers in registers.
+#[inline(always)]
 fn past_marked(marks: &Marks, words: &[Ptr], from: usize) -> usize
     requires { AreNamedBelow words.now from (length marks.now) }
     ensures { IsFirstUnmarked marks.now words.now from result }
 {
     let mut place = from;
-    'places: while place < words.len() {
-        let Some(at) = words[place] else {
-            return place;
-        };
-        if !marks.get(at) {
-            return place;
-        }
+    'places: while place < words.len() && names_marked(marks, words, place) {
         place += 1;
     }
     place
@@ -100,13 +107,15 @@ impl Marker {
     {
         table.law();
         self.start(table);
+        let words = roots.as_slice();
         let mut from = 0;
         while let Some(place) = roots.next_named(from) {
-            from = past_marked(&self.bitmaps.next, roots.as_slice(), place);
-            if from == place {
+            if !names_marked(&self.bitmaps.next, words, place) {
                 self.reach(table, roots.get(place));
                 from = place + 1;
+                continue;
             }
+            from = past_marked(&self.bitmaps.next, words, place);
         }
     }
 

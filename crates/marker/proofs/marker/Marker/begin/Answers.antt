@@ -10,10 +10,10 @@ use Rattle.marker.proofs.Passed.{named_below, among_passed}
 use Rattle.marker.proofs.Begun.{rest_begun}
 use Rattle.marker.proofs.marker.Marker.begin.Goals as goal
 
-pub past_marked-from-requires : goal.past_marked-from-requires
-past_marked-from-requires c =
+pub names_marked-requires-clause-marks : goal.names_marked-requires-clause-marks
+names_marked-requires-clause-marks c =
     let s = c.start.ensures in
-    rw c.as_slice.ensures.words (
+    rw c.as_slice-words.ensures.words (
     named_below c.args.table.now c.args.roots.now.words c.in-Some.place c.loop-place.self c.law.ensures c.loop-place.invariant.stands
     (λ j a is. same_kept c.args.table.now c.start.new.self c.loop-place.self a c.loop-place.invariant.same
     (kept_before c.args.table.now c.args.roots.now.words c.args.self.now c.start.new.self a s.previous_tops s.previous_marks
@@ -28,19 +28,30 @@ reach-requires-clause-kept c = λ a e _.
     (kept_before c.args.table.now c.args.roots.now.words c.args.self.now c.start.new.self a s.previous_tops s.previous_marks
     (c.requires.closed.root c.in-Some.place a (word ∙ ap Some e)))
 
-pub loop-place-preserved-then-from-place : goal.loop-place-preserved-then-from-place
-loop-place-preserved-then-from-place c =
+pub loop-place-preserved-then-not-names_marked : goal.loop-place-preserved-then-not-names_marked
+loop-place-preserved-then-not-names_marked c =
     let q = c.reach.ensures in
     among_next c.args.table.now c.args.roots.now.words c.loop-place.from c.in-Some.place c.get.result
     c.start.new.self c.loop-place.self c.reach.new.self
     c.in-Some.ensures.lowest c.get.ensures c.loop-place.invariant
     (record { stands = q.stands; marks = q.marks; same = q.same; scanned = q.scanned; scans = q.scans; logs = q.logs })
 
+pub past_marked-from-requires : goal.past_marked-from-requires
+past_marked-from-requires c =
+    let s = c.start.ensures in
+    rw c.as_slice-words.ensures.words (
+    named_below c.args.table.now c.args.roots.now.words c.in-Some.place c.loop-place.self c.law.ensures c.loop-place.invariant.stands
+    (λ j a is. same_kept c.args.table.now c.start.new.self c.loop-place.self a c.loop-place.invariant.same
+    (kept_before c.args.table.now c.args.roots.now.words c.args.self.now c.start.new.self a s.previous_tops s.previous_marks
+    (c.requires.closed.root j a is)))
+    )
+
 pub loop-place-preserved : goal.loop-place-preserved
 loop-place-preserved c =
     let first : IsFirstUnmarked c.loop-place.self.bitmaps.next c.args.roots.now.words c.in-Some.place c.past_marked-from.result =
-    subst (λ (words : List (Option ℕ)). IsFirstUnmarked c.loop-place.self.bitmaps.next words c.in-Some.place c.past_marked-from.result)
-    c.as_slice.ensures.words c.past_marked-from.ensures in
+    subst (λ (words : List (Option ℕ)).
+    IsFirstUnmarked c.loop-place.self.bitmaps.next words c.in-Some.place c.past_marked-from.result)
+    c.as_slice-words.ensures.words c.past_marked-from.ensures in
     among_passed c.args.table.now c.args.roots.now.words c.loop-place.from c.in-Some.place c.past_marked-from.result
     c.start.new.self c.loop-place.self c.in-Some.ensures.lowest first c.loop-place.invariant
 
