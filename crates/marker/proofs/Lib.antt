@@ -2,6 +2,7 @@ pub mod Views
 pub mod LiveCounts
 pub mod Follow
 pub mod Reached
+pub mod Passed
 pub mod Scanned
 pub mod Entered
 pub mod Marking

@@ -227,7 +227,7 @@ reached_as t wanted other m m' to from r = record {
   logs = r.logs;
 }
 
-among_wider : (words : List (Option ℕ)) (n k a : ℕ) → n ≤ k → IsAmong words n a → IsAmong words k a
+pub among_wider : (words : List (Option ℕ)) (n k a : ℕ) → n ≤ k → IsAmong words n a → IsAmong words k a
 among_wider words n k a le i = record { place = i.place; front = omega (arith, le, i.front); is = i.is }
 
 among_same : (words : List (Option ℕ)) (n k a : ℕ) → AreNil words n k → IsAmong words k a → IsAmong words n a

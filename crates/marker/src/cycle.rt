@@ -1,7 +1,7 @@
 //! The beginning of marking, deletion logs, and its end.
 
-ghost use Rattle.std.specs.Prelude.{◌≡◌, ◌≢◌, ◌<◌, ◌≤◌, ◌==◌, if◌then◌else◌, ◌*◌};
-ghost use Rattle.std.specs.Prelude.{ℕ, [], true, false, Some, Contains, length, slice_index, slice_set};
+ghost use Rattle.std.specs.Prelude.{◌≡◌, ◌≢◌, ◌<◌, ◌≤◌, ◌==◌, if◌then◌else◌, ◌*◌, ◌↔◌};
+ghost use Rattle.std.specs.Prelude.{ℕ, [], true, false, Some, IsTrue, Contains, length, slice_index, slice_set};
 ghost use Rattle.heap_model.specs.Graph.{Graph};
 ghost use Rattle.heap_model.specs.Heap.{Shows, IsClosed};
 ghost use Rattle.heap_model.specs.Marking.{KeepsSnapshot, Begins, IsSaved};
@@ -14,10 +14,12 @@ ghost use Rattle.marker.specs.Stands.{MarkerStands, IsKept};
 ghost use Rattle.marker.specs.Clears.{ClearsTable};
 ghost use Rattle.marker.specs.Ends.{EndsExactly};
 ghost use Rattle.marker.specs.Steps.{KeepsSnapshots, SameRoles, MarksWanted, ScansMore, saved};
+ghost use Rattle.marker.specs.Roots.{AreNamedBelow, NamesMarked, IsFirstUnmarked};
 ghost use Rattle.marker.specs.Counts.{restarted};
 
 use crate::marker::Marker;
 use heap_words::addr::{Addr, Ptr, RegionNo};
+use mark_bitmap::marks::Marks;
 use mark_bitmap::tams::Tams;
 use regions::RegionTable;
 use root_table::Roots;
@@ -34,6 +36,33 @@ fn set_tops(tams: &mut Tams, table: &RegionTable)
         let region = RegionNo::new(number);
         tams.set_next(region, table.top(region));
     }
+}
+
+/// Whether a place names a marked object.
+#[inline(always)]
+fn names_marked(marks: &Marks, words: &[Ptr], place: usize) -> bool
+    requires known { place < length words.now }
+    requires marks { AreNamedBelow words.now place (length marks.now) }
+    ensures { IsTrue result ↔ NamesMarked marks.now words.now place }
+{
+    let Some(at) = words[place] else {
+        return false;
+    };
+    marks.get(at)
+}
+
+/// The first place from `from` on that doesn't name a marked object, be it nil, unmarked or behind the last one. A place costs one look
+/// at a bit: the loop only reads, and stands behind a first look, so that the compiler keeps both pointers in registers.
+#[inline(always)]
+fn past_marked(marks: &Marks, words: &[Ptr], from: usize) -> usize
+    requires { AreNamedBelow words.now from (length marks.now) }
+    ensures { IsFirstUnmarked marks.now words.now from result }
+{
+    let mut place = from;
+    'places: while place < words.len() && names_marked(marks, words, place) {
+        place += 1;
+    }
+    place
 }
 
 impl Marker {
@@ -78,10 +107,15 @@ impl Marker {
     {
         table.law();
         self.start(table);
+        let words = roots.as_slice();
         let mut from = 0;
         while let Some(place) = roots.next_named(from) {
-            self.reach_kept(table, roots.get(place));
-            from = place + 1;
+            if !names_marked(&self.bitmaps.next, words, place) {
+                self.reach(table, roots.get(place));
+                from = place + 1;
+                continue;
+            }
+            from = past_marked(&self.bitmaps.next, words, place);
         }
     }
 

@@ -45,30 +45,6 @@ impl Marker {
         self.live.add(table.region_of(at), size);
     }
 
-    /// The same where the target is known to be kept. That it is marked is asked first, which it mostly is where many roots name few
-    /// objects: one look at a bit.
-    #[inline(always)]
-    pub(crate) fn reach_kept(&mut self, table: &RegionTable, target: Ptr)
-        requires stands { MarkerStands table.now self.old }
-        requires running { self.old.running ≡ true }
-        requires kept { (a : ℕ) → target ≡ Some a → IsKept table.now self.old a }
-        ensures stands { MarkerStands table.now self.new }
-        ensures marks { MarksWanted table.now (λ a. target ≡ Some a) self.old self.new }
-        ensures same { SameRoles self.old self.new }
-        ensures scanned { self.new.grey.scanned ≡ self.old.grey.scanned }
-        ensures scans { self.new.scans ≡ self.old.scans }
-        ensures logs { self.new.logs ≡ self.old.logs }
-    {
-        let Some(at) = target else {
-            return;
-        };
-        table.law();
-        if self.bitmaps.next.get(at) {
-            return;
-        }
-        self.reach(table, target);
-    }
-
     /// A grey object enters the scanned ones. Its targets are still to be marked.
     fn enter(&mut self, table: &RegionTable, object: Addr)
         requires stands { MarkerStands table.now self.old }

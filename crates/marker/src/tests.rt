@@ -229,7 +229,7 @@ fn marks_nothing(rt: HostRuntime) -> Result<(), Fail> {
 }
 
 /// A chain of five from a global; a shared child and an object that names itself, from the last register of the second
-/// mutator; a ring that nothing reaches; an object of nil pointers.
+/// mutator; a ring that nothing reaches; an object of nil pointers; one that four roots name, with nil and another one between.
 #[test]
 fn counts_what_roots_reach(rt: HostRuntime) -> Result<(), Fail> {
     let chain = [(0, 0, 1), (1, 0, 2), (2, 0, 3), (3, 0, 4)];
@@ -240,6 +240,10 @@ fn counts_what_roots_reach(rt: HostRuntime) -> Result<(), Fail> {
         (&[(16, 4), (31, 3)][..], 2),
         (&[(23, 5), (24, 5)][..], 1),
         (&[(0, 4), (24, 0), (31, 5)][..], 6),
+        (
+            &[(0, 4), (1, 4), (3, 4), (4, 3), (5, 4), (30, 5), (31, 5)][..],
+            3,
+        ),
         (&[][..], 0),
     ] {
         assert_eq!(rt; count_from(rt.alloc(), &shapes, &chain, held)?, count);

@@ -1,0 +1,19 @@
+-- Roots that name marked objects.
+use Rattle.std.specs.Prelude.{◌≡◌, ℕ, ◌<◌, ◌≤◌, Bool, true, List, Option, Some, slice_get}
+use Rattle.mark_bitmap.specs.Marks.{is_marked}
+
+-- each address that stands in a place from one on is below a number
+abbrev pub AreNamedBelow : List (Option ℕ) → ℕ → ℕ → Type 0
+AreNamedBelow words from count = (place address : ℕ) → from ≤ place → slice_get words place ≡ Some (Some address) → address < count
+
+-- a place names a marked object
+pub record NamesMarked (marks : List Bool) (words : List (Option ℕ)) (place : ℕ) : Type 0 where
+  pub address : ℕ
+  pub is : slice_get words place ≡ Some (Some address)
+  pub marked : is_marked marks address ≡ true
+
+-- the first place from one on that doesn't name a marked object. None behind the last place does
+pub record IsFirstUnmarked (marks : List Bool) (words : List (Option ℕ)) (from place : ℕ) : Type 0 where
+  pub from_on : from ≤ place
+  pub marked_before : (i : ℕ) → from ≤ i → i < place → NamesMarked marks words i
+  pub ends : NamesMarked marks words place → ⊥
