@@ -309,7 +309,11 @@ const TOLD: [(&str, Reply, &str); 6] = [
         Reply::Refused(Refusal::Nil),
         "1 0 put r1 10 r7 = refused 1 Nil",
     ),
-    ("0 new r10 12 340", Reply::Named(Some(5)), "1 0 new r10 12 340 = #5"),
+    (
+        "0 new r10 12 340",
+        Reply::Named(Some(5)),
+        "1 0 new r10 12 340 = #5",
+    ),
     (
         "1 write r0 0 18446744073709551615",
         Reply::Done,
