@@ -12,15 +12,16 @@ use object_graph::{Finding, Judge};
 use script_text::RecordEvents;
 use std::alloc::{AllocError, Global};
 
-/// Judges the events that are left, to the last or to the first that isn't allowed.
+/// Judges the events that are left, to the last, to the first that isn't allowed, or to a line with a fault.
 fn judge_events(judge: &mut Judge, events: &mut RecordEvents<'_>) -> Result<Finding, AllocError>
     requires config { judge.old.config ≡ events.old.config }
     requires taken { HasTaken judge.old [] }
     requires few { length events.old.events < 2 ^ 64 }
-    ensures { IfOk result (Finds (first_state events.old.config) events.old.events) }
+    ensures finds { IfOk result (Finds (first_state events.old.config) events.old.events) }
+    ensures fault { events.new.fault ≡ events.old.fault }
 {
     let mut count = 0u64;
-    'lines: while let Some(event) = events.next_event() {
+    'lines: while let Ok(Some(event)) = events.next_event() {
         count += 1;
         match judge.take(&event) {
             Ok(None) => {}
@@ -37,12 +38,13 @@ fn judge_events(judge: &mut Judge, events: &mut RecordEvents<'_>) -> Result<Find
     Ok(Finding::Allowed(count))
 }
 
-/// Judges a record, of which all events are left, in a graph of its sizes.
+/// Judges a record as far as no line has a fault, in a graph of its sizes. No event was taken before.
 fn find_events(alloc: Global, events: &mut RecordEvents<'_>) -> Result<Finding, JudgeFault>
     requires few { length events.old.events < 2 ^ 64 }
     ensures suits { IfOk result (λ finding. Suits events.old.config) }
     ensures finds { IfOk result (Finds (first_state events.old.config) events.old.events) }
-    ensures fault { IfErr result (IsJudgeFault events.old.config) }
+    ensures unjudged { IfErr result (IsJudgeFault events.old.config) }
+    ensures fault { events.new.fault ≡ events.old.fault }
 {
     let config = events.config();
     if let Err(fault) = config.check() {
@@ -61,8 +63,8 @@ fn find_events(alloc: Global, events: &mut RecordEvents<'_>) -> Result<Finding, 
     }
 }
 
-/// What the judge finds of a record's text, or why it isn't judged: a line has a fault, its sizes don't suit, or memory was refused. The
-/// text is read twice, for its faults and for its events.
+/// What the judge finds of a record's text, or why it isn't judged: a line has a fault, its sizes don't suit, or memory was refused. Each
+/// line is read once. A line's fault comes first, wherever it stands: so the lines that weren't judged are read for one.
 pub(crate) fn find_in(alloc: Global, text: &[u8]) -> Result<Finding, JobFault>
     ensures { FindsIn text.now result }
 {
@@ -70,7 +72,11 @@ pub(crate) fn find_in(alloc: Global, text: &[u8]) -> Result<Finding, JobFault>
         Ok(events) => events,
         Err(fault) => return Err(JobFault::Line(fault)),
     };
-    match find_events(alloc, &mut events) {
+    let found = find_events(alloc, &mut events);
+    if let Err(fault) = events.check_rest() {
+        return Err(JobFault::Line(fault));
+    }
+    match found {
         Ok(finding) => Ok(finding),
         Err(fault) => Err(JobFault::Judge(fault)),
     }

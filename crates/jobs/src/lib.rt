@@ -3,7 +3,7 @@
 //!
 //! ```text
 //!   FILE -- read_plan --> Plan -- a run, in some order --> Record -- answer --> output
-//!   FILE -- RecordEvents, its text read twice --> Event -- Judge::take --> Finding -- write_verdict, write_finding --> output
+//!   FILE -- RecordEvents, one by one --> Event -- Judge::take --> Finding -- write_verdict, write_finding --> output
 //!   FILE -- LineBuffer, line by line --> Event -- Judge::take --> Finding -- write_told --> output
 //!   FILE -- read_record --> Record -- its steps done again, by the crates above, and compared: first_other
 //!   a fault of any of these -- tell --> its line on standard error

@@ -23,12 +23,43 @@ fn record_fault_of(alloc: Global, text: &[u8]) -> Option<LineFault> {
     }
 }
 
-/// The fault of a record's text, if its events are to be taken one by one; none where it is a record.
-fn taken_fault_of(text: &[u8]) -> Option<LineFault> {
+/// The fault of a record's text whose lines are read for a fault alone; none where it is a record.
+fn rest_fault_of(text: &[u8]) -> Option<LineFault> {
     match RecordEvents::new(text) {
-        Ok(_) => None,
+        Ok(events) => events.check_rest().err(),
         Err(fault) => Some(fault),
     }
+}
+
+/// Takes a record's events one by one, to their end or to the first fault.
+fn taken_fault_of(rt: &impl Abort, text: &[u8]) -> Option<LineFault> {
+    let mut events = match RecordEvents::new(text) {
+        Ok(events) => events,
+        Err(fault) => return Some(fault),
+    };
+    for _ in 0..text.len() {
+        match events.next_event() {
+            Ok(Some(_)) => {}
+            Ok(None) => {
+                assert_eq!(rt; events.check_rest(), Ok(()));
+                return None;
+            }
+            Err(fault) => {
+                assert_eq!(rt; events.next_event(), Err(fault));
+                assert_eq!(rt; events.check_rest(), Err(fault));
+                return Some(fault);
+            }
+        }
+    }
+    None
+}
+
+/// The fault of a record's text; none where it is a record. However the text is read, the fault is the same.
+fn fault_of(rt: &impl Abort, alloc: Global, text: &[u8]) -> Option<LineFault> {
+    let fault = record_fault_of(alloc, text);
+    assert_eq!(rt; rest_fault_of(text), fault);
+    assert_eq!(rt; taken_fault_of(rt, text), fault);
+    fault
 }
 
 /// Second lines of records whose count is faulty.
@@ -119,8 +150,41 @@ fn check_record_faults(
     for line in lines {
         let text = format!(in alloc; "heap 4 16 8 1 0\n{line}\n")?;
         let fault = Some(LineFault { line: 2, kind });
-        assert_eq!(rt; record_fault_of(alloc, text.as_bytes()), fault, "{line}");
-        assert_eq!(rt; taken_fault_of(text.as_bytes()), fault, "{line}");
+        assert_eq!(rt; fault_of(rt, alloc, text.as_bytes()), fault, "{line}");
+    }
+    Ok(())
+}
+
+/// Faults behind good events, each with its line: in the middle, in the last line, of a line that is cut, and the first of two.
+const LATE_FAULTS: [(&str, u64, Kind); 5] = [
+    (
+        "heap 4 16 8 1 0\n1 0 drop r0 = ok\n2 0 drop r0 = done\n3 0 drop r0 = ok\n",
+        3,
+        Kind::BadReply,
+    ),
+    (
+        "heap 4 16 8 1 0\n1 0 drop r0 = ok\n2 gc begin = ok\n4 0 drop r0 = ok\n",
+        4,
+        Kind::BadCount,
+    ),
+    ("heap 4 16 8 1 0\n1 0 drop r0 = ok\n2", 3, Kind::Cut),
+    (
+        "heap 4 16 8 1 0\n1 0 drop r0 = ok\n2 0 drop r8 = ok\n3 0 drop r0 = o",
+        3,
+        Kind::BadStep,
+    ),
+    (
+        "heap 4 16 8 1 0\n1 0 drop r0 = ok\n\n3 1 drop r0 = ok\n",
+        3,
+        Kind::BadCount,
+    ),
+];
+
+#[test]
+fn late_faults(rt: HostRuntime) -> Result<(), Fail> {
+    for (text, line, kind) in LATE_FAULTS {
+        let fault = Some(LineFault { line, kind });
+        assert_eq!(rt; fault_of(&rt, rt.alloc(), text.as_bytes()), fault, "{text}");
     }
     Ok(())
 }
@@ -139,8 +203,7 @@ fn record_faults(rt: HostRuntime) -> Result<(), Fail> {
 fn an_empty_record(rt: HostRuntime) -> Result<(), Fail> {
     let (line, kind) = (1, Kind::BadHeap);
     let fault = Some(LineFault { line, kind });
-    assert_eq!(rt; record_fault_of(rt.alloc(), b""), fault);
-    assert_eq!(rt; taken_fault_of(b""), fault);
+    assert_eq!(rt; fault_of(&rt, rt.alloc(), b""), fault);
     Ok(())
 }
 
@@ -246,7 +309,11 @@ const TOLD: [(&str, Reply, &str); 6] = [
         Reply::Refused(Refusal::Nil),
         "1 0 put r1 10 r7 = refused 1 Nil",
     ),
-    ("0 new r10 12 340", Reply::Named(Some(5)), "1 0 new r10 12 340 = #5"),
+    (
+        "0 new r10 12 340",
+        Reply::Named(Some(5)),
+        "1 0 new r10 12 340 = #5",
+    ),
     (
         "1 write r0 0 18446744073709551615",
         Reply::Done,
@@ -293,10 +360,11 @@ fn check_taken(rt: &impl Abort, alloc: Global, text: &str) -> Result<(), Fail> {
     };
     assert_eq!(rt; events.config(), history.config(), "{text}");
     for event in history.events() {
-        assert_eq!(rt; events.next_event(), Some(*event), "{text}");
+        assert_eq!(rt; events.check_rest(), Ok(()), "{text}");
+        assert_eq!(rt; events.next_event(), Ok(Some(*event)), "{text}");
     }
     for _ in 0..2 {
-        assert_eq!(rt; events.next_event(), None, "{text}");
+        assert_eq!(rt; events.next_event(), Ok(None), "{text}");
     }
     Ok(())
 }
@@ -316,8 +384,7 @@ fn beginnings_of_records(rt: HostRuntime) -> Result<(), Fail> {
         let text = text.as_bytes();
         let mut line = 1u64;
         for end in 1..text.len() {
-            let fault = record_fault_of(alloc, &text[..end]);
-            assert_eq!(rt; taken_fault_of(&text[..end]), fault, "{end}");
+            let fault = fault_of(&rt, alloc, &text[..end]);
             if text[end - 1] == b'\n' {
                 line = line.saturating_add(1);
                 assert_eq!(rt; fault, None, "{end}");

@@ -64,12 +64,7 @@ fn good_script(rt: HostRuntime) -> Result<(), Fail> {
 }
 
 /// Takes the steps of a script with these sizes one by one, and compares them and their lines.
-fn check_taken(
-    rt: &impl Abort,
-    text: &[u8],
-    steps: &[Step],
-    lines: &[&str],
-) -> Result<(), Fail> {
+fn check_taken(rt: &impl Abort, text: &[u8], steps: &[Step], lines: &[&str]) -> Result<(), Fail> {
     let Ok(mut script) = ScriptSteps::new(text) else {
         return Err(Fail::from("this is a script"));
     };
@@ -105,7 +100,15 @@ fn collections(rt: HostRuntime) -> Result<(), Fail> {
         return Err(Fail::from("this is a script"));
     };
     assert_eq!(rt; plan.steps(), steps.as_slice());
-    check_taken(&rt, text, &steps)
+    let lines = [
+        "gc begin",
+        "gc mark 4294967295",
+        "gc remark",
+        "gc cleanup",
+        "gc refine 10",
+        "gc pause 0",
+    ];
+    check_taken(&rt, text, &steps, &lines)
 }
 
 #[test]

@@ -1,17 +1,18 @@
-//! A record's events, read from its text one by one, so that no list of them is kept.
+//! A record's events, read from its text one by one, so that no list of them is kept and each line is read once.
 //!
 //! ```text
-//!   heap 4 16 8 1 0
-//!   1 0 new r0 1 1 = #0        new reads all lines once, for their faults
-//!   2 0 get r1 r0 0 = nil  <-- the lines that are left: next_event reads the first of them again
-//!   3 gc pause 100 = moved 0 0
+//!   heap 4 16 8 1 0            new reads this line alone
+//!   1 0 new r0 1 1 = #0
+//!   2 0 get r1 r0 0 = nil  <-- the lines that are left: next_event reads the first of them,
+//!   3 gc pause 100 = moved 0 0 check_rest all of them, for a fault alone
 //! ```
 
-ghost use Rattle.std.specs.Prelude.{◌≡◌, ◌≢◌, ◌<◌, ◌+◌, ◌^◌, ◌∷◌, [], length, OnOk, IfOk, IfErr, IfSome, IfNone};
+ghost use Rattle.std.specs.Prelude.{◌≡◌, ◌≢◌, ◌<◌, ◌+◌, ◌^◌, ◌∷◌, [], length, Some, None, Ok, Err};
+ghost use Rattle.std.specs.Prelude.{OnOk, IfOk, IfErr, IfSome, IfNone};
 ghost use Rattle.heap_steps.specs.Actors.{IsEvent};
 ghost use Rattle.script_text.specs.Lines.{pieces_of};
-ghost use Rattle.script_text.specs.Events.{events_of, record_of};
-ghost use Rattle.script_text.specs.EventsLeft.{IsFaultless};
+ghost use Rattle.script_text.specs.Events.{record_of};
+ghost use Rattle.script_text.specs.EventsLeft.{fault_ahead, history_of};
 
 use crate::fault::{Kind, LineFault};
 use crate::read::records::front_event;
@@ -21,15 +22,15 @@ use heap_steps::Event;
 use heap_words::config::Config;
 use std::marker::Model;
 
-/// Reads the lines behind a heap line to their end, for the first fault.
-fn check_events(config: &Config, lines: &[u8]) -> Result<(), LineFault>
-    requires { 1 + length lines.now < 2 ^ 64 }
-    ensures ok { OnOk result (IsFaultless 1 config.now lines.now) }
-    ensures fault { IfErr result (λ f. events_of 1 config.now (pieces_of lines.now) ≡ Err f) }
+/// Reads lines to their end for the first fault. The first of them is that of the event of this count.
+fn check_events(first: u64, config: &Config, lines: &[u8]) -> Result<(), LineFault>
+    requires { first + length lines.now < 2 ^ 64 }
+    ensures ok { OnOk result (fault_ahead first config.now (pieces_of lines.now) ≡ None) }
+    ensures fault { IfErr result (λ f. fault_ahead first config.now (pieces_of lines.now) ≡ Some f) }
     ensures memory { IfErr result (λ f. f.kind ≢ Kind.NoMemory) }
 {
     let mut rest = lines;
-    let mut count = 1u64;
+    let mut count = first;
     'lines: while has_feed(rest) {
         let front = front_event::<5>(count, config, rest);
         if let Err(kind) = front.event {
@@ -51,7 +52,8 @@ fn check_events(config: &Config, lines: &[u8]) -> Result<(), LineFault>
     }
 }
 
-/// A record's text without a fault. Clauses see its heap line and the events that are left, which are taken one by one.
+/// A record's text behind its heap line. Clauses see the heap line, the events that are left up to the first line with a fault, and that
+/// fault, if there is one. The events are taken one by one.
 #[derive(Drop)]
 pub struct RecordEvents<'a> {
     config: Config,
@@ -62,38 +64,33 @@ pub struct RecordEvents<'a> {
 
 impl<'a> Model for RecordEvents<'a> {
     ghost use Rattle.std.specs.Prelude.{◌<◌, ◌+◌, ◌^◌, length};
-    ghost use Rattle.heap_steps.specs.Actors.{EventList};
-    ghost use Rattle.script_text.specs.EventsLeft.{events_in, IsFaultless};
+    ghost use Rattle.script_text.specs.EventsLeft.{EventsLeft, left_in};
 
-    ghost Value = { EventList };
+    ghost Value = { EventsLeft };
 
-    ghost view = { λ r. record { config = r.config; events = events_in r.count r.config r.lines.now } };
+    ghost view = { λ r. left_in r.count r.config r.lines.now };
 
-    ghost invariant = { λ r. IsFaultless r.count r.config r.lines.now × (r.count + length r.lines.now < 2 ^ 64) };
+    ghost invariant = { λ r. r.count + length r.lines.now < 2 ^ 64 };
 }
 
 impl<'a> RecordEvents<'a> {
-    /// The record that a text spells, or the first fault of the text. All lines are read, and no memory is taken.
+    /// The record that a text spells, or the fault of its first line. No other line is read yet, and no memory is taken.
     ///
     /// ```rust
     /// let events = RecordEvents::new(record)?;
-    /// let fault = LineFault { line: 2, kind: Kind::BadCount };
-    /// assert_eq!(rt; RecordEvents::new(b"heap 4 16 8 1 0\n\n").err(), Some(fault));
+    /// let fault = LineFault { line: 1, kind: Kind::BadHeap };
+    /// assert_eq!(rt; RecordEvents::new(b"heap 4\n").err(), Some(fault));
     /// ```
     pub fn new(text: &'a [u8]) -> Result<RecordEvents<'a>, LineFault>
-        ensures history { result ≡ record_of text.now }
+        ensures history { IfOk result (λ left. record_of text.now ≡ history_of left) }
+        ensures few { IfOk result (λ left. length left.events < 2 ^ 64) }
+        ensures fault { IfErr result (λ fault. record_of text.now ≡ Err fault) }
         ensures memory { IfErr result (λ fault. fault.kind ≢ Kind.NoMemory) }
-        ensures few { IfOk result (λ r. length r.events < 2 ^ 64) }
     {
-        let HeapLine { config, length } = match first_line(text) {
-            Ok(line) => line,
-            Err(fault) => return Err(fault),
-        };
-        let lines = &text[length + 1..];
-        match check_events(&config, lines) {
-            Ok(()) => Ok(RecordEvents {
-                config,
-                lines,
+        match first_line(text) {
+            Ok(line) => Ok(RecordEvents {
+                config: line.config,
+                lines: &text[line.length + 1..],
                 count: 1,
             }),
             Err(fault) => Err(fault),
@@ -111,33 +108,65 @@ impl<'a> RecordEvents<'a> {
         self.config
     }
 
-    /// Takes the next event, read from its line. None where no event is left, and then nothing changes.
+    /// Takes the next event, read from its line. None where no event is left. There, and where the next line has a fault, nothing changes.
     ///
     /// ```rust
     /// let history = parse_record(alloc, record)?;
     /// let mut events = RecordEvents::new(record)?;
-    /// assert_eq!(rt; events.next_event(), Some(history.events()[0]));
-    /// assert_eq!(rt; events.next_event(), None);
+    /// assert_eq!(rt; events.next_event(), Ok(Some(history.events()[0])));
+    /// assert_eq!(rt; events.next_event(), Ok(None));
     /// ```
     #[inline(always)]
-    pub fn next_event(&mut self) -> Option<Event>
+    pub fn next_event(&mut self) -> Result<Option<Event>, LineFault>
         ensures config { self.new.config ≡ self.old.config }
-        ensures some { IfSome result (λ event. self.old.events ≡ event ∷ self.new.events) }
-        ensures known { IfSome result (IsEvent self.old.config) }
-        ensures none { IfNone result (self.old.events ≡ []) }
-        ensures same { IfNone result (self.new ≡ self.old) }
+        ensures kept { self.new.fault ≡ self.old.fault }
+        ensures some { IfOk result (λ next. IfSome next (λ event. self.old.events ≡ event ∷ self.new.events)) }
+        ensures known { IfOk result (λ next. IfSome next (IsEvent self.old.config)) }
+        ensures none { IfOk result (λ next. IfNone next (self.old.events ≡ [])) }
+        ensures good { IfOk result (λ next. IfNone next (self.old.fault ≡ None)) }
+        ensures same { IfOk result (λ next. IfNone next (self.new ≡ self.old)) }
+        ensures last { IfErr result (λ fault. self.old.events ≡ []) }
+        ensures fault { IfErr result (λ fault. self.old.fault ≡ Some fault) }
+        ensures memory { IfErr result (λ fault. fault.kind ≢ Kind.NoMemory) }
+        ensures still { IfErr result (λ fault. self.new ≡ self.old) }
     {
         let lines = self.lines;
-        if lines.is_empty() {
-            return None;
+        if !has_feed(lines) {
+            if lines.is_empty() {
+                return Ok(None);
+            }
+            return Err(LineFault {
+                line: self.count + 1,
+                kind: Kind::Cut,
+            });
         }
         let config = self.config;
         let front = front_event::<6>(self.count, &config, lines);
-        let Ok(event) = front.event else {
-            return None;
-        };
-        self.lines = &lines[front.length + 1..];
-        self.count += 1;
-        Some(event)
+        match front.event {
+            Ok(event) => {
+                self.lines = &lines[front.length + 1..];
+                self.count += 1;
+                Ok(Some(event))
+            }
+            Err(kind) => Err(LineFault {
+                line: self.count + 1,
+                kind,
+            }),
+        }
+    }
+
+    /// Reads all lines that are left for a fault, and takes none of them.
+    ///
+    /// ```rust
+    /// assert_eq!(rt; RecordEvents::new(record)?.check_rest(), Ok(()));
+    /// let fault = LineFault { line: 2, kind: Kind::BadCount };
+    /// assert_eq!(rt; RecordEvents::new(b"heap 4 16 8 1 0\n\n")?.check_rest(), Err(fault));
+    /// ```
+    pub fn check_rest(&self) -> Result<(), LineFault>
+        ensures good { OnOk result (self.now.fault ≡ None) }
+        ensures fault { IfErr result (λ fault. self.now.fault ≡ Some fault) }
+        ensures memory { IfErr result (λ fault. fault.kind ≢ Kind.NoMemory) }
+    {
+        check_events(self.count, &self.config, self.lines)
     }
 }

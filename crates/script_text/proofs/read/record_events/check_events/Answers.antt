@@ -4,7 +4,7 @@ use Rattle.script_text.specs.Feeds.{end_of, line_of}
 use Rattle.script_text.specs.Lines.{pieces_of}
 use Rattle.script_text.proofs.Parts.Pieces.{behind, behind_is, pieces_ended}
 use Rattle.script_text.proofs.Reading.RecordStops.{event_line_never}
-use Rattle.script_text.proofs.Reading.LeftEvents.{one_read, fails_at, ends_good, ends_cut}
+use Rattle.script_text.proofs.Reading.LeftEvents.{same_fault, its_fault, no_fault, cut_fault}
 use Rattle.script_text.proofs.read.record_events.check_events.Goals as goal
 
 pub returns-in-Err-clause-fault : goal.returns-in-Err-clause-fault
@@ -12,8 +12,9 @@ returns-in-Err-clause-fault c =
     let rest = c.lines.rest.now in
     let after = behind (end_of rest + 1) rest in
     let piece : pieces_of rest ≡ line_of rest ∷ pieces_of after = pieces_ended rest (end_of rest) (c.lines-test.ensures.found refl) refl in
-    fails_at c.args.config.now c.lines.count rest (line_of rest) after c.args.lines.now c.in-Err.kind piece
-    (sym c.front_event-front.ensures.event ∙ c.in-Err.is) c.lines.invariant.so_far
+    c.lines.invariant.so_far
+    ∙ its_fault c.lines.count c.args.config.now rest (line_of rest) after c.in-Err.kind piece
+    (sym c.front_event-front.ensures.event ∙ c.in-Err.is)
 
 pub returns-in-Err-clause-memory : goal.returns-in-Err-clause-memory
 returns-in-Err-clause-memory c = event_line_never c.lines.count c.args.config.now (line_of c.lines.rest.now) c.in-Err.kind
@@ -28,17 +29,20 @@ lines-preserved c =
     let piece : pieces_of rest ≡ line_of rest ∷ pieces_of after = pieces_ended rest front.length ended c.front_event-front.ensures.length in
     let within : front.length < length rest = c.front_event-front.ensures.within in
     record {
-      so_far = one_read c.args.config.now c.lines.count rest (line_of rest) after c.args.lines.now _ piece
-          (sym c.front_event-front.ensures.event ∙ c.in_default.is) c.lines.invariant.so_far;
+      so_far = c.lines.invariant.so_far
+          ∙ same_fault c.lines.count c.args.config.now rest (line_of rest) after _ piece
+          (sym c.front_event-front.ensures.event ∙ c.in_default.is);
       count =
           let count = c.lines.invariant.count in
           omega (arith, count, within, ap length (behind_is (front.length + 1) rest), length-drop (front.length + 1) rest);
     }
 
 pub returns-then-is_empty-clause-ok : goal.returns-then-is_empty-clause-ok
-returns-then-is_empty-clause-ok c = ends_good c.args.config.now c.lines.count c.lines.rest.now c.args.lines.now
-    (c.lines-test.ensures.none refl) (sym c.is_empty.ensures ∙ c.if-is_empty.true) c.lines.invariant.so_far
+returns-then-is_empty-clause-ok c = c.lines.invariant.so_far
+    ∙ no_fault c.lines.count c.args.config.now c.lines.rest.now (c.lines-test.ensures.none refl)
+    (sym c.is_empty.ensures ∙ c.if-is_empty.true)
 
 pub returns-else-is_empty-clause-fault : goal.returns-else-is_empty-clause-fault
-returns-else-is_empty-clause-fault c = ends_cut c.args.config.now c.lines.count c.lines.rest.now c.args.lines.now
-    (c.lines-test.ensures.none refl) (sym c.is_empty.ensures ∙ c.if-is_empty.false) c.lines.invariant.so_far
+returns-else-is_empty-clause-fault c = c.lines.invariant.so_far
+    ∙ cut_fault c.lines.count c.args.config.now c.lines.rest.now (c.lines-test.ensures.none refl)
+    (sym c.is_empty.ensures ∙ c.if-is_empty.false)

@@ -1,56 +1,76 @@
-use Rattle.std.proofs.Common.{◌≡◌, ◌<◌, ◌∷◌, ◌+◌, ◌∙◌, length, refl, sym, ap, arith}
-use Rattle.std.proofs.lemmas.List.{length-drop}
-use Rattle.heap_steps.specs.Actors.{EventList}
+use Rattle.std.proofs.Common.{◌≡◌, ◌∷◌, ◌+◌, ◌∙◌, refl, sym, ap}
+use Rattle.script_text.specs.EventsLeft.{EventsLeft}
 use Rattle.script_text.specs.Feeds.{end_of, line_of}
 use Rattle.script_text.specs.Lines.{pieces_of}
-use Rattle.script_text.proofs.Parts.Pieces.{behind, behind_is, pieces_ended}
-use Rattle.script_text.proofs.Reading.LeftEvents.{first_left, none_wrong, none_left, some_ended}
+use Rattle.script_text.proofs.Parts.Pieces.{behind, pieces_ended}
+use Rattle.script_text.proofs.Reading.RecordStops.{event_line_never}
+use Rattle.script_text.proofs.Reading.LeftEvents.{next_ahead, same_fault, none_ahead, its_fault, none_left, no_fault, cut_fault}
 use Rattle.script_text.proofs.read.record_events.RecordEvents.next_event.Goals as goal
 
 pub returns-then-is_empty-clause-none : goal.returns-then-is_empty-clause-none
 returns-then-is_empty-clause-none c =
-    ap (λ (r : EventList). r.events) (sym c.self.view_is)
-    ∙ none_left c.self.inside.count c.self.inside.config c.self.inside.lines.now (sym c.is_empty.ensures ∙ c.if-is_empty.true)
+    ap (λ (r : EventsLeft). r.events) (sym c.self.view_is)
+    ∙ none_left c.self.inside.count c.self.inside.config c.self.inside.lines.now (c.has_feed.ensures.none c.if-not-has_feed.true)
 
-pub front_event-front-requires : goal.front_event-front-requires
-front_event-front-requires c = record {
-  ended = some_ended c.self.inside.count c.self.inside.config c.self.inside.lines.now (sym c.is_empty.ensures ∙ c.if-is_empty.false)
-      c.self.invariant.0;
-}
+pub returns-then-is_empty-clause-good : goal.returns-then-is_empty-clause-good
+returns-then-is_empty-clause-good c =
+    ap (λ (r : EventsLeft). r.fault) (sym c.self.view_is)
+    ∙ no_fault c.self.inside.count c.self.inside.config c.self.inside.lines.now (c.has_feed.ensures.none c.if-not-has_feed.true)
+    (sym c.is_empty.ensures ∙ c.if-is_empty.true)
 
-pub returns-in_default-clause-none : goal.returns-in_default-clause-none
-returns-in_default-clause-none c =
+pub returns-then-not-has_feed-clause-last : goal.returns-then-not-has_feed-clause-last
+returns-then-not-has_feed-clause-last c =
+    ap (λ (r : EventsLeft). r.events) (sym c.self.view_is)
+    ∙ none_left c.self.inside.count c.self.inside.config c.self.inside.lines.now (c.has_feed.ensures.none c.if-not-has_feed.true)
+
+pub returns-then-not-has_feed-clause-fault : goal.returns-then-not-has_feed-clause-fault
+returns-then-not-has_feed-clause-fault c =
+    ap (λ (r : EventsLeft). r.fault) (sym c.self.view_is)
+    ∙ cut_fault c.self.inside.count c.self.inside.config c.self.inside.lines.now (c.has_feed.ensures.none c.if-not-has_feed.true)
+    (sym c.is_empty.ensures ∙ c.if-is_empty.false)
+
+pub returns-in-Ok-clause-kept : goal.returns-in-Ok-clause-kept
+returns-in-Ok-clause-kept c =
+    let s = c.self.inside in
+    let rest = s.lines.now in
+    let front = c.front_event-front.result in
+    let after = behind (front.length + 1) rest in
+    let piece : pieces_of rest ≡ line_of rest ∷ pieces_of after =
+    pieces_ended rest front.length (c.if-not-has_feed.ensures.found refl) c.front_event-front.ensures.length in
+    sym (ap (λ (r : EventsLeft). r.fault) (sym c.self.view_is)
+    ∙ same_fault s.count s.config rest (line_of rest) after c.in-Ok.event piece (sym c.front_event-front.ensures.event ∙ c.in-Ok.is))
+
+pub returns-in-Ok-clause-some : goal.returns-in-Ok-clause-some
+returns-in-Ok-clause-some c =
+    let s = c.self.inside in
+    let rest = s.lines.now in
+    let front = c.front_event-front.result in
+    let after = behind (front.length + 1) rest in
+    let piece : pieces_of rest ≡ line_of rest ∷ pieces_of after =
+    pieces_ended rest front.length (c.if-not-has_feed.ensures.found refl) c.front_event-front.ensures.length in
+    ap (λ (r : EventsLeft). r.events) (sym c.self.view_is)
+    ∙ next_ahead s.count s.config rest (line_of rest) after c.in-Ok.event piece (sym c.front_event-front.ensures.event ∙ c.in-Ok.is)
+
+pub returns-in-Err-clause-last : goal.returns-in-Err-clause-last
+returns-in-Err-clause-last c =
     let s = c.self.inside in
     let rest = s.lines.now in
     let after = behind (end_of rest + 1) rest in
-    let ended = some_ended s.count s.config rest (sym c.is_empty.ensures ∙ c.if-is_empty.false) c.self.invariant.0 in
-    let piece : pieces_of rest ≡ line_of rest ∷ pieces_of after = pieces_ended rest (end_of rest) ended refl in
-    absurd (none_wrong s.count s.config rest (line_of rest) after c.in_default.field-0 piece
-    (sym c.front_event-front.ensures.event ∙ c.in_default.is) c.self.invariant.0)
+    let piece : pieces_of rest ≡ line_of rest ∷ pieces_of after =
+    pieces_ended rest (end_of rest) (c.if-not-has_feed.ensures.found refl) refl in
+    ap (λ (r : EventsLeft). r.events) (sym c.self.view_is)
+    ∙ none_ahead s.count s.config rest (line_of rest) after c.in-Err.kind piece (sym c.front_event-front.ensures.event ∙ c.in-Err.is)
 
-pub invariant_of-self : goal.invariant_of-self
-invariant_of-self c =
+pub returns-in-Err-clause-fault : goal.returns-in-Err-clause-fault
+returns-in-Err-clause-fault c =
     let s = c.self.inside in
     let rest = s.lines.now in
-    let front = c.front_event-front.result in
-    let after = behind (front.length + 1) rest in
-    let ended = some_ended s.count s.config rest (sym c.is_empty.ensures ∙ c.if-is_empty.false) c.self.invariant.0 in
-    let piece : pieces_of rest ≡ line_of rest ∷ pieces_of after = pieces_ended rest front.length ended c.front_event-front.ensures.length in
-    let within : front.length < length rest = c.front_event-front.ensures.within in
-    let few = c.self.invariant.1 in (
-      (first_left s.count s.config rest (line_of rest) after c.in-Ok.event piece (sym c.front_event-front.ensures.event ∙ c.in-Ok.is)
-          c.self.invariant.0).0,
-      omega (arith, few, within, ap length (behind_is (front.length + 1) rest), length-drop (front.length + 1) rest),
-    )
+    let after = behind (end_of rest + 1) rest in
+    let piece : pieces_of rest ≡ line_of rest ∷ pieces_of after =
+    pieces_ended rest (end_of rest) (c.if-not-has_feed.ensures.found refl) refl in
+    ap (λ (r : EventsLeft). r.fault) (sym c.self.view_is)
+    ∙ its_fault s.count s.config rest (line_of rest) after c.in-Err.kind piece (sym c.front_event-front.ensures.event ∙ c.in-Err.is)
 
-pub returns-clause-some : goal.returns-clause-some
-returns-clause-some c =
-    let s = c.self.inside in
-    let rest = s.lines.now in
-    let front = c.front_event-front.result in
-    let after = behind (front.length + 1) rest in
-    let ended = some_ended s.count s.config rest (sym c.is_empty.ensures ∙ c.if-is_empty.false) c.self.invariant.0 in
-    let piece : pieces_of rest ≡ line_of rest ∷ pieces_of after = pieces_ended rest front.length ended c.front_event-front.ensures.length in
-    ap (λ (r : EventList). r.events) (sym c.self.view_is)
-    ∙ (first_left s.count s.config rest (line_of rest) after c.in-Ok.event piece (sym c.front_event-front.ensures.event ∙ c.in-Ok.is)
-    c.self.invariant.0).1
+pub returns-in-Err-clause-memory : goal.returns-in-Err-clause-memory
+returns-in-Err-clause-memory c = event_line_never c.self.inside.count c.self.inside.config (line_of c.self.inside.lines.now) c.in-Err.kind
+    (sym c.front_event-front.ensures.event ∙ c.in-Err.is)
