@@ -117,6 +117,20 @@ module _ (t : Table) (g : IsShaped t) (kept : ℕ → Option Stored) (stands : S
             (subst (λ (n : ℕ). IsObjectCovered t.words_per_region kept len card new n) same here).each i v c y;
       }) ((turn_next old new left rest x shape h e grows here).done a l d)
 
+  -- where one tile has the whole card, an object with a field in it is that tile's
+  pub whole_over : (new : ℕ → ℕ → Bool) (shape : Shape) (size : ℕ) → 0 < len → IsPlacedTile t first shape → first ≤ card * len
+      → IsObjectCovered t.words_per_region kept len card new first → size ≡ size_of_shape shape → card * len + len ≤ first + size → AreDone new
+  whole_over new shape size z tile low here is over a l d = record {
+    each = λ i v c y.
+        let words = tile_words shape tile.tile size tile.shape_is is in
+        let above = div_low (field_word a i) len card z y in
+        let high = div_high (field_word a i) len card z y in
+        let holder : IsHolder t first (field_word a i) =
+        record { tile = tile.tile; tile_is = tile.tile_is; low = omega (arith, low, above); high = omega (arith, high, words, over) } in
+        let same = one_holder t first a (field_word a i) g holder (field_holder t kept a i v stands c) in
+        (subst (λ (n : ℕ). IsObjectCovered t.words_per_region kept len card new n) same here).each i v c y;
+  }
+
   pub turn_last : (covered : ℕ → ℕ → Bool) (left : List (Addr × Shape)) → Turn covered left → left ≡ [] → AreDone covered
   turn_last covered left h e a l d = ⊎_elim (λ p. p) (λ p. absurd (subst (λ (l : List (Addr × Shape)). IsAmong a l) e p)) (h.done a l d)
 

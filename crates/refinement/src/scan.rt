@@ -118,7 +118,9 @@ fn scan_object(
     last
 }
 
-/// Adds the card for the fields of one tile that lie in it, if the tile is a kept object. `home` is the card's region.
+/// Adds the card for the fields of one tile that lie in it, if the tile is a kept object. `home` is the card's region. It is part of its
+/// callers, so that a card that one tile has whole costs no call.
+#[inline(always)]
 fn scan_tile(
     table: &RegionTable,
     tams: &Tams,
@@ -149,7 +151,8 @@ fn scan_tile(
 
 /// Adds the card for the fields of kept objects that lie in it, over the tiles of a region from the one on that holds the
 /// card's first word. Answers how many tiles it looked at.
-fn scan_tiles(
+#[inline(never)]
+fn scan_walk(
     table: &RegionTable,
     tams: &Tams,
     marks: &Marks,
@@ -184,6 +187,36 @@ fn scan_tiles(
         }
     }
     looked
+}
+
+/// The same, whose first tile is looked at before there is a walk: most cards lie within one object, or hold one and its filler.
+fn scan_tiles(
+    table: &RegionTable,
+    tams: &Tams,
+    marks: &Marks,
+    sets: &mut RememberedSets,
+    card_words: u32,
+    card: Card,
+    first: Addr,
+) -> u32
+    requires stands { CanScan table.now tams.now marks.now card_words sets.old }
+    requires card { card < card_count sets.old }
+    requires holder { IsHolder table.now first (card * card_words) }
+    ensures looked { result ≤ card_words }
+    ensures adds { AddsCard table.now.words_per_region (kept_in table.now tams.now marks.now) card_words card sets.old sets.new }
+    ensures covered { AreObjectsCovered table.now (kept_in table.now tams.now marks.now) card_words card (may_lead sets.new) first }
+{
+    table.law();
+    let from = card.number() * card_words;
+    let shape = table.tile(first);
+    if first.word() + shape.size() < from + card_words {
+        return scan_walk(table, tams, marks, sets, card_words, card, first);
+    }
+    let home = table.region_of(Addr::new(from)).number();
+    scan_tile(
+        table, tams, marks, sets, card_words, card, first, shape, home, home,
+    );
+    1
 }
 
 /// Adds a card to the sets of the regions that its crossing fields lead into, and to no other. It walks from the tile that

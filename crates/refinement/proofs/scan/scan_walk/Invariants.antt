@@ -4,7 +4,7 @@ use Rattle.remembered_sets.specs.Sets.{may_lead}
 use Rattle.refinement.specs.Refining.{AddsCard}
 use Rattle.refinement.proofs.Counted.{IsCount}
 use Rattle.refinement.proofs.Scanned.{IsTurn}
-use Rattle.refinement.proofs.scan.scan_tiles.Given as goal
+use Rattle.refinement.proofs.scan.scan_walk.Given as goal
 
 abbrev pub invariant-loop-at : goal.invariant-loop-at
 invariant-loop-at l = record {
