@@ -21,21 +21,30 @@ fn judge_events(judge: &mut Judge, events: &mut RecordEvents<'_>) -> Result<Find
     ensures fault { events.new.fault ≡ events.old.fault }
 {
     let mut count = 0u64;
-    'lines: while let Ok(Some(event)) = events.next_event() {
-        count += 1;
-        match judge.take(&event) {
-            Ok(None) => {}
-            Ok(Some(given)) => {
+    'lines: loop {
+        if let Some(event) = events.next_usual() {
+            count += 1;
+            if let Some(given) = judge.take(&event)? {
                 return Ok(Finding::Refused {
                     number: count,
                     event,
                     given,
                 });
             }
-            Err(fault) => return Err(fault),
+            continue;
+        }
+        let Ok(Some(event)) = events.next_event() else {
+            return Ok(Finding::Allowed(count));
+        };
+        count += 1;
+        if let Some(given) = judge.take(&event)? {
+            return Ok(Finding::Refused {
+                number: count,
+                event,
+                given,
+            });
         }
     }
-    Ok(Finding::Allowed(count))
 }
 
 /// Judges a record as far as no line has a fault, in a graph of its sizes. No event was taken before.

@@ -350,6 +350,23 @@ fn told_lines(rt: HostRuntime) -> Result<(), Fail> {
     Ok(())
 }
 
+/// Takes the events of a record one by one, the usual ones as such: they are these. No event is taken where none is left.
+fn check_usual(rt: &impl Abort, text: &[u8], wanted: &[Event]) -> Result<(), Fail> {
+    let Ok(mut events) = RecordEvents::new(text) else {
+        return Err(Fail::from("this is a record"));
+    };
+    for event in wanted {
+        let taken = match events.next_usual() {
+            Some(taken) => Ok(Some(taken)),
+            None => events.next_event(),
+        };
+        assert_eq!(rt; taken, Ok(Some(*event)));
+    }
+    assert_eq!(rt; events.next_usual(), None);
+    assert_eq!(rt; events.next_event(), Ok(None));
+    Ok(())
+}
+
 /// Takes the events of a record one by one, and compares them with those that are read at once.
 fn check_taken(rt: &impl Abort, alloc: Global, text: &str) -> Result<(), Fail> {
     let Ok(history) = parse_record(alloc, text.as_bytes()) else {
@@ -366,7 +383,7 @@ fn check_taken(rt: &impl Abort, alloc: Global, text: &str) -> Result<(), Fail> {
     for _ in 0..2 {
         assert_eq!(rt; events.next_event(), Ok(None), "{text}");
     }
-    Ok(())
+    check_usual(rt, text.as_bytes(), history.events())
 }
 
 #[test]

@@ -3,8 +3,8 @@
 //! ```text
 //!   heap 4 16 8 1 0            new reads this line alone
 //!   1 0 new r0 1 1 = #0
-//!   2 0 get r1 r0 0 = nil  <-- the lines that are left: next_event reads the first of them,
-//!   3 gc pause 100 = moved 0 0 check_rest all of them, for a fault alone
+//!   2 0 get r1 r0 0 = nil  <-- the lines that are left: next_event reads the first of them, next_usual does where it is a usual one,
+//!   3 gc pause 100 = moved 0 0 check_rest reads all of them, for a fault alone
 //! ```
 
 ghost use Rattle.std.specs.Prelude.{◌≡◌, ◌≢◌, ◌<◌, ◌+◌, ◌^◌, ◌∷◌, [], length, Some, None, Ok, Err};
@@ -17,6 +17,7 @@ ghost use Rattle.script_text.specs.EventsLeft.{fault_ahead, history_of};
 use crate::fault::{Kind, LineFault};
 use crate::read::records::front_event;
 use crate::read::script::{HeapLine, first_line};
+use crate::read::usual_events::{EventLine, usual_event};
 use crate::read::words::has_feed;
 use heap_steps::Event;
 use heap_words::config::Config;
@@ -108,6 +109,36 @@ impl<'a> RecordEvents<'a> {
         self.config
     }
 
+    /// Takes the next event, where its line is one of the usual ones, which are read in one go. Where it isn't, or no event is left, none is
+    /// taken and nothing changes: `next_event` takes whatever is left. The event is made where the caller has it, and not copied.
+    ///
+    /// ```rust
+    /// let history = parse_record(alloc, record)?;
+    /// let mut events = RecordEvents::new(record)?;
+    /// assert_eq!(rt; events.next_usual(), Some(history.events()[0]));
+    /// assert_eq!(rt; events.next_usual(), None);
+    /// ```
+    #[inline(always)]
+    pub fn next_usual(&mut self) -> Option<Event>
+        ensures config { self.new.config ≡ self.old.config }
+        ensures kept { self.new.fault ≡ self.old.fault }
+        ensures some { IfSome result (λ event. self.old.events ≡ event ∷ self.new.events) }
+        ensures known { IfSome result (IsEvent self.old.config) }
+        ensures same { IfNone result (self.new ≡ self.old) }
+    {
+        let lines = self.lines;
+        if !has_feed(lines) {
+            return None;
+        }
+        let config = self.config;
+        let Some(EventLine { event, length }) = usual_event::<6>(self.count, &config, lines) else {
+            return None;
+        };
+        self.lines = &lines[length + 1..];
+        self.count += 1;
+        Some(event)
+    }
+
     /// Takes the next event, read from its line. None where no event is left. There, and where the next line has a fault, nothing changes.
     ///
     /// ```rust
@@ -116,7 +147,7 @@ impl<'a> RecordEvents<'a> {
     /// assert_eq!(rt; events.next_event(), Ok(Some(history.events()[0])));
     /// assert_eq!(rt; events.next_event(), Ok(None));
     /// ```
-    #[inline(always)]
+    #[inline(never)]
     pub fn next_event(&mut self) -> Result<Option<Event>, LineFault>
         ensures config { self.new.config ≡ self.old.config }
         ensures kept { self.new.fault ≡ self.old.fault }
@@ -141,7 +172,7 @@ impl<'a> RecordEvents<'a> {
             });
         }
         let config = self.config;
-        let front = front_event::<6>(self.count, &config, lines);
+        let front = front_event::<8>(self.count, &config, lines);
         match front.event {
             Ok(event) => {
                 self.lines = &lines[front.length + 1..];
