@@ -14,3 +14,4 @@ pub mod Feeds
 pub mod Fronts
 pub mod StepsLeft
 pub mod EventsLeft
+pub mod Waiting

@@ -171,13 +171,16 @@ pub one_piece : (text : List ℕ) (at : ℕ) → at ≤ end_of text → length t
 one_piece text at within past = slice_split_none (λ b. eqb b 10) text (λ k d lt. fails_before_first (λ b. eqb b 10) text k d (omega arith))
 
 -- the first line feed is no later than one that stands there
-pub ended_by : (text : List ℕ) (at : ℕ) → at < length text → get_or text at 0 ≡ 10 → end_of text < length text
-ended_by text at lt feed =
+pub first_is_first : (text : List ℕ) (at : ℕ) → get_or text at 0 ≡ 10 → end_of text ≤ at
+first_is_first text at feed =
     elim (cases_lt at (end_of text)) [
       | inl before ↦ (let no : eqb (get_or text at 0) 10 ≡ false = fails_before_first (λ b. eqb b 10) text at 0 before in
           let yes : eqb (get_or text at 0) 10 ≡ true = rw feed refl in absurd cc)
-      | inr past ↦ omega arith
+      | inr past ↦ past
     ]
+
+pub ended_by : (text : List ℕ) (at : ℕ) → at < length text → get_or text at 0 ≡ 10 → end_of text < length text
+ended_by text at lt feed = omega (arith, first_is_first text at feed)
 
 -- the text behind its first line
 pub ended_piece : (text : List ℕ) → end_of text < length text → pieces_of text ≡ line_of text ∷ pieces_of (drop (end_of text + 1) text)

@@ -1,9 +1,17 @@
 -- What waits in a buffer between two places.
-use Rattle.std.proofs.Common.{◌≡◌, ℕ, ◌+◌, ◌-◌, ◌<◌, ◌≤◌, List, ◌++◌, length, take, drop, sym, ap, subst, ◌∙◌, arith}
+use Rattle.std.proofs.Common.{◌≡◌, ℕ, ◌+◌, ◌-◌, ◌<◌, ◌≤◌, List, ◌∷◌, ◌++◌, length, take, drop, get_or, eqb, sym, ap, subst, ◌∙◌, arith}
 use Rattle.std.proofs.Math.Seq.{take-append-add}
+use Rattle.std.proofs.lemmas.Bool.{ne_eqb}
+use Rattle.std.proofs.lemmas.Grind.{get_or_default_zero}
 use Rattle.std.proofs.lemmas.List.{length-take, length-take-le, length-drop, length-append, take-append-le, drop-take, drop-drop, take_at}
+use Rattle.std.proofs.lemmas.List.{get_or-take, get_or-drop}
+use Rattle.std.proofs.lemmas.List.Splits.{slice_split_none}
 use borrow.Rule.Slice.PartMut.{put_mid, post_of}
-use Rattle.script_text.specs.Awaited.{Begins}
+use Rattle.script_text.specs.Awaited.{Begins, IsUnended}
+use Rattle.script_text.specs.Feeds.{end_of, line_of}
+use Rattle.script_text.specs.Lines.{pieces_of}
+use Rattle.script_text.specs.Waiting.{EndsWhole}
+use Rattle.script_text.proofs.Parts.Splitting.{ended_by, ended_piece, first_is_first}
 
 -- the bytes between two places
 abbrev pub waiting : List ℕ → ℕ → ℕ → List ℕ
@@ -18,16 +26,68 @@ rest_is bytes start end n lt =
     ap (λ (k : ℕ). drop (n + 1) (take k (drop start bytes))) parts ∙ drop-take (n + 1) (end - (start + (n + 1))) (drop start bytes)
     ∙ ap (take (end - (start + (n + 1)))) (drop-drop (n + 1) start bytes)
 
+-- the line feed before the place where the whole lines end
+last_feed : (bytes : List ℕ) (start whole end : ℕ) → EndsWhole bytes start whole end → start < whole
+    → get_or (waiting bytes start end) (whole - 1 - start) 0 ≡ 10
+last_feed bytes start whole end w lt =
+    let there : start + (whole - 1 - start) ≡ whole - 1 = omega arith in
+    get_or-take (end - start) (drop start bytes) (whole - 1 - start) 0 (omega (arith, w.within))
+    ∙ get_or-drop start bytes (whole - 1 - start) 0 ∙ ap (λ (k : ℕ). get_or bytes k 0) there ∙ w.feed lt
+
+size_of_waiting : (bytes : List ℕ) (start end : ℕ) → end ≤ length bytes → length (waiting bytes start end) ≡ end - start
+size_of_waiting bytes start end fits = length-take-le (end - start) (drop start bytes) (omega (arith, length-drop start bytes))
+
+-- a whole line waits
+pub waits_whole : (bytes : List ℕ) (start whole end : ℕ) → EndsWhole bytes start whole end → end ≤ length bytes → start < whole
+    → end_of (waiting bytes start end) < length (waiting bytes start end)
+waits_whole bytes start whole end w fits lt =
+    ended_by (waiting bytes start end) (whole - 1 - start) (omega (arith, size_of_waiting bytes start end fits, w.within))
+    (last_feed bytes start whole end w lt)
+
+-- no whole line waits
+pub waits_cut : (bytes : List ℕ) (start end : ℕ) → EndsWhole bytes start start end → end ≤ length bytes
+    → IsUnended (waiting bytes start end)
+waits_cut bytes start end w fits =
+    slice_split_none (λ b. eqb b 10) (waiting bytes start end) (λ k d lt.
+    let size : length (waiting bytes start end) ≡ end - start = size_of_waiting bytes start end fits in
+    let here : get_or (waiting bytes start end) k d ≡ get_or bytes (start + k) 0 =
+    get_or_default_zero (waiting bytes start end) k d lt ∙ get_or-take (end - start) (drop start bytes) k 0 (omega (arith, size))
+    ∙ get_or-drop start bytes k 0 in
+    ap (λ (b : ℕ). eqb b 10) here ∙ ne_eqb (get_or bytes (start + k) 0) 10 (w.clear (start + k) (omega arith) (omega (arith, size))))
+
 -- the line at the front is taken
-pub line_taken : (self seen bytes : List ℕ) (start end n : ℕ) → waiting seen start end ≡ self → seen ≡ bytes
-    → n < length (waiting seen start end)
-    → Begins (waiting seen start end) (take n (waiting seen start end)) (drop (n + 1) (waiting seen start end)) →
-    Begins self (take n self) (waiting bytes (start + (n + 1)) end)
-line_taken self seen bytes start end n is same lt begins =
-    let here : Begins self (take n self) (drop (n + 1) self) = subst (λ (t : List ℕ). Begins t (take n t) (drop (n + 1) t)) is begins in
-    let rest : drop (n + 1) self ≡ waiting bytes (start + (n + 1)) end =
-    ap (drop (n + 1)) (sym is) ∙ rest_is seen start end n lt ∙ ap (λ (b : List ℕ). waiting b (start + (n + 1)) end) same in
-    subst (λ (t : List ℕ). Begins self (take n self) t) rest here
+line_behind : (bytes : List ℕ) (start whole end : ℕ) → EndsWhole bytes start whole end → end ≤ length bytes → start < whole
+    → Begins (waiting bytes start end) (line_of (waiting bytes start end))
+    (waiting bytes (start + (end_of (waiting bytes start end) + 1)) end)
+line_behind bytes start whole end w fits lt =
+    let t = waiting bytes start end in
+    let ended : end_of t < length t = waits_whole bytes start whole end w fits lt in
+    ended_piece t ended ∙ ap (λ (rest : List ℕ). line_of t ∷ pieces_of rest) (rest_is bytes start end (end_of t) ended)
+
+pub line_taken : (self seen bytes : List ℕ) (start whole end n : ℕ) → waiting seen start end ≡ self → seen ≡ bytes
+    → EndsWhole bytes start whole end → end ≤ length bytes → start < whole → n ≡ end_of (waiting seen start end) →
+    Begins self (line_of self) (waiting bytes (start + (n + 1)) end)
+line_taken self seen bytes start whole end n is same w fits lt ends =
+    let t : waiting bytes start end ≡ self = ap (λ (b : List ℕ). waiting b start end) (sym same) ∙ is in
+    let e : n ≡ end_of (waiting bytes start end) = ends ∙ ap (λ (b : List ℕ). end_of (waiting b start end)) same in
+    let here : Begins self (line_of self) (waiting bytes (start + (end_of (waiting bytes start end) + 1)) end) =
+    subst (λ (s : List ℕ). Begins s (line_of s) (waiting bytes (start + (end_of (waiting bytes start end) + 1)) end)) t
+    (line_behind bytes start whole end w fits lt) in
+    subst (λ (k : ℕ). Begins self (line_of self) (waiting bytes (start + (k + 1)) end)) (sym e) here
+
+-- and the whole lines behind it end where they did
+pub still_whole : (seen bytes : List ℕ) (start whole end n : ℕ) → seen ≡ bytes → EndsWhole bytes start whole end → end ≤ length bytes
+    → start < whole → n ≡ end_of (waiting seen start end) → EndsWhole bytes (start + (n + 1)) whole end
+still_whole seen bytes start whole end n same w fits lt ends =
+    let e : n ≡ end_of (waiting bytes start end) = ends ∙ ap (λ (b : List ℕ). end_of (waiting b start end)) same in
+    let first : end_of (waiting bytes start end) ≤ whole - 1 - start =
+    first_is_first (waiting bytes start end) (whole - 1 - start) (last_feed bytes start whole end w lt) in
+    record {
+      begun = omega (arith, e, first);
+      within = w.within;
+      feed = λ some. w.feed lt;
+      clear = w.clear;
+    }
 
 -- what waits is turned to the front
 turned : (bytes new : List ℕ) (start end : ℕ) → start ≤ end → end ≤ length bytes

@@ -12,16 +12,18 @@ ghost use Rattle.std.specs.Prelude.{◌≡◌, ◌≤◌, ◌<◌, ◌+◌, ◌-
 ghost use Rattle.std.specs.Prelude.{Ok, Err, IfOk, IfErr, IfSome, IfNone, true, false};
 ghost use Rattle.std.specs.Io.KnownBytes.{IsAtEnd};
 ghost use Rattle.heap_steps.specs.Actors.{IsEvent};
+ghost use Rattle.script_text.specs.Feeds.{end_of, line_of};
 ghost use Rattle.script_text.specs.Lines.{heap_line_of};
 ghost use Rattle.script_text.specs.Events.{event_line_of};
 ghost use Rattle.script_text.specs.Watched.{Gives, FailsToGive};
 ghost use Rattle.script_text.specs.Awaited.{Begins, IsUnended, IsNext};
+ghost use Rattle.script_text.specs.Waiting.{EndsWhole};
 
 use crate::fault::{Kind, ReadFault};
-use crate::read::records::{FrontEvent, front_event};
+use crate::read::records::front_event;
 use crate::read::script::{LONGEST_LINE, heap_line};
 use crate::read::watched::WatchedReader;
-use crate::read::words::{has_feed, split_line};
+use crate::read::words::split_front;
 use heap_steps::Event;
 use heap_words::config::Config;
 use std::alloc::{AllocError, Global};
@@ -47,37 +49,32 @@ struct FrontHeap {
     config: Result<Config, Kind>,
 }
 
-/// What the line at a text's front gives as a heap line, where a line feed ends it.
-fn front_heap(text: &[u8]) -> Option<FrontHeap>
-    ensures within { IfSome result (λ f. f.length < length text.now) }
-    ensures line { IfSome result (λ f. Begins text.now (take f.length text.now) (drop (f.length + 1) text.now)) }
-    ensures config { IfSome result (λ f. f.config ≡ heap_line_of (take f.length text.now)) }
-    ensures none { IfNone result (IsUnended text.now) }
+/// What the line at a text's front gives as a heap line. A line feed ends it.
+fn front_heap(text: &[u8]) -> FrontHeap
+    requires ended { end_of text.now < length text.now }
+    ensures length { result.length ≡ end_of text.now }
+    ensures config { result.config ≡ heap_line_of (line_of text.now) }
 {
     let mut words: [&[u8]; 12] = [&text[..0]; 12];
-    let Some(front) = split_line(text, &mut words) else {
-        return None;
-    };
-    let config = heap_line(&text[..front.length], &words[..front.count]);
-    Some(FrontHeap {
+    let front = split_front(text, &mut words);
+    FrontHeap {
         length: front.length,
-        config,
-    })
+        config: heap_line(&text[..front.length], &words[..front.count]),
+    }
 }
 
-/// What the line at a text's front gives as that of an event of this count, where a line feed ends it.
-fn whole_event(text: &[u8], count: u64, config: &Config) -> Option<FrontEvent>
-    ensures within { IfSome result (λ f. f.length < length text.now) }
-    ensures line { IfSome result (λ f. Begins text.now (take f.length text.now) (drop (f.length + 1) text.now)) }
-    ensures event { IfSome result (λ f. f.event ≡ event_line_of count config.now (take f.length text.now)) }
-    ensures known { IfSome result (λ f. IfOk f.event (IsEvent config.now)) }
-    ensures none { IfNone result (IsUnended text.now) }
+/// Where the whole lines of some bytes end: behind the last line feed, or at the front, where there is none. It is looked for from the end.
+fn whole_end(bytes: &[u8]) -> usize
+    ensures { EndsWhole bytes.now 0 result (length bytes.now) }
 {
-    if has_feed(text) {
-        Some(front_event::<7>(count, config, text))
-    } else {
-        None
+    let mut at = bytes.len();
+    while at > 0 {
+        if bytes[at - 1] == b'\n' {
+            return at;
+        }
+        at -= 1;
     }
+    0
 }
 
 /// Moves the bytes between two places to the front, and reads once behind them. Answers where what was read ends.
@@ -109,17 +106,21 @@ fn read_behind<R: Read>(
 pub struct LineBuffer {
     bytes: Vec<u8>,
     start: usize,
+    /// Where the whole lines end. It is found whenever more was read: so no line feed is looked for where a line is taken.
+    whole: usize,
     end: usize,
 }
 
 impl Model for LineBuffer {
     ghost use Rattle.std.specs.Prelude.{◌≡◌, ◌≤◌, ◌-◌, ℕ, List, length, take, drop};
+    ghost use Rattle.script_text.specs.Waiting.{EndsWhole};
 
     ghost Value = { List ℕ };
 
     ghost view = { λ b. take (b.end - b.start) (drop b.start b.bytes.items) };
 
-    ghost invariant = { λ b. (b.start ≤ b.end) × (b.end ≤ length b.bytes.items) × (length b.bytes.items ≡ 8192) };
+    ghost invariant = { λ b. EndsWhole b.bytes.items b.start b.whole b.end × (b.end ≤ length b.bytes.items)
+        × (length b.bytes.items ≡ 8192) };
 }
 
 impl LineBuffer {
@@ -138,6 +139,7 @@ impl LineBuffer {
         Ok(LineBuffer {
             bytes,
             start: 0,
+            whole: 0,
             end: 0,
         })
     }
@@ -156,9 +158,10 @@ impl LineBuffer {
             Begins self.old line rest × (heap_line_of line ≡ Err k) × (self.new ≡ self.old))) }
         ensures none { IfNone result (IsUnended self.old × (self.new ≡ self.old)) }
     {
-        let Some(front) = front_heap(&self.bytes[self.start..self.end]) else {
+        if self.start == self.whole {
             return None;
-        };
+        }
+        let front = front_heap(&self.bytes[self.start..self.end]);
         match front.config {
             Ok(config) => {
                 self.start += front.length + 1;
@@ -169,6 +172,7 @@ impl LineBuffer {
     }
 
     /// The same of an event of this count.
+    #[inline(always)]
     fn take_event(&mut self, count: u64, config: &Config) -> Option<Result<Event, Kind>>
         ensures event { IfSome result (λ r. IfOk r (λ e. (line : List ℕ) ×
             Begins self.old line self.new × (event_line_of count config.now line ≡ Ok e) × IsEvent config.now e)) }
@@ -176,9 +180,10 @@ impl LineBuffer {
             Begins self.old line rest × (event_line_of count config.now line ≡ Err k) × (self.new ≡ self.old))) }
         ensures none { IfNone result (IsUnended self.old × (self.new ≡ self.old)) }
     {
-        let Some(front) = whole_event(&self.bytes[self.start..self.end], count, config) else {
+        if self.start == self.whole {
             return None;
-        };
+        }
+        let front = front_event::<7>(count, config, &self.bytes[self.start..self.end]);
         match front.event {
             Ok(event) => {
                 self.start += front.length + 1;
@@ -204,10 +209,16 @@ impl LineBuffer {
         match read_behind(reader, &mut self.bytes, self.start, self.end) {
             Ok(end) => {
                 self.start = 0;
+                self.whole = whole_end(&self.bytes[..end]);
                 self.end = end;
                 Ok(end > waiting)
             }
-            Err(fault) => Err(NextFault::Read(fault)),
+            Err(fault) => {
+                self.start = 0;
+                self.whole = 0;
+                self.end = 0;
+                Err(NextFault::Read(fault))
+            }
         }
     }
 
