@@ -1,5 +1,5 @@
 -- on the schedule that a generator draws
-use Rattle.std.proofs.Common.{◌≡◌, ◌+◌, ◌-◌, ◌<◌, ◌∷◌, ◌++◌, ◌∙◌}
+use Rattle.std.proofs.Common.{◌≡◌, ◌+◌, ◌-◌, ◌<◌, ◌≤◌, ◌∷◌, ◌++◌, ◌∙◌}
 use Rattle.std.proofs.Common.{ℕ, zero, suc, Bool, List, [], length, take, drop, refl, ap, sym, arith, get_or}
 use Rattle.std.specs.Prelude.{slice_set, slice_index}
 use Rattle.heap_steps.specs.declared.step.Step.{Step}
@@ -36,6 +36,11 @@ open_is k [] n below = absurd (omega arith)
 open_is k (zero ∷ ns) n below = let h = open_is (suc k) ns n below in (suc h.0, omega (arith, h.1), omega (arith, h.2), h.3)
 open_is k (suc m ∷ ns) zero below = (0, omega arith, omega arith, omega arith)
 open_is k (suc m ∷ ns) (suc n) below = let h = open_is (suc k) ns n (omega arith) in (suc h.0, omega (arith, h.1), omega (arith, h.2), h.3)
+
+pub open_few : (k : ℕ) (ns : List ℕ) → length (open_from k ns) ≤ length ns
+open_few k [] = omega arith
+open_few k (zero ∷ ns) = let h = open_few (suc k) ns in omega arith
+open_few k (suc n ∷ ns) = let h = open_few (suc k) ns in omega arith
 
 -- an actor that has lines left after its turn stays open
 pub open_same : (k : ℕ) (ns : List ℕ) (p : ℕ) → 1 < get_or ns p 0 → open_from k (one_less ns p) ≡ open_from k ns

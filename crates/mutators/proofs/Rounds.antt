@@ -22,7 +22,7 @@ use Rattle.mutators.specs.Draws.{lefts, lefts_of, one_less, scripted_actors, Pic
 use Rattle.mutators.specs.Draws.{drawn, total, after_round, counts_of, drawn_actors}
 use Rattle.mutators.proofs.Rows.{next_row, place_is}
 use Rattle.mutators.proofs.Drops.{open_after}
-use Rattle.mutators.proofs.Draws.{lefts_at, length-lefts, lefts_moved, open_is, drawn_more, drawn_none, none_open, total_less}
+use Rattle.mutators.proofs.Draws.{lefts_at, length-lefts, lefts_moved, open_is, open_few, drawn_more, drawn_none, none_open, total_less}
 
 pub actors_push : (es : List Event) (e : Event) → is_scripted e.actor ≡ true
     → scripted_actors (es ++ e ∷ []) ≡ scripted_actors es ++ e.actor ∷ []
@@ -92,6 +92,12 @@ picks_open d word keeps some =
     let h = open_is 0 (lefts_of d) (word % length (open_places (lefts_of d))) (omega arith) in
     let at : pick word (lefts_of d) ≡ h.0 = omega (arith, h.1) in
     (omega (arith, at, h.2, length-lefts d.scripts d.places, keeps.each_script), rw at h.3)
+
+-- no more places are open than there are scripts
+pub few_open : (d : JournalState) (items : List ℕ) → Keeps d → items ≡ open_places (lefts_of d) → length items ≤ 65
+few_open d items keeps is =
+    let h = open_few 0 (lefts_of d) in
+    omega (arith, h, ap (λ (l : List ℕ). length l) is, length-lefts d.scripts d.places, keeps.each_script, keeps.few)
 
 -- the code reads the place that the word picks
 pub picked : (d : JournalState) (word len p : ℕ) (items : List ℕ) → items ≡ open_places (lefts_of d) → 0 < length items → len ≡ length items

@@ -164,8 +164,8 @@ fn rows_of(alloc: Global, config: &Config, steps: &[Step]) -> Result<Rows, Alloc
     })
 }
 
-/// Adds an event, for which there is room. It stands alone, so that a step is copied as a whole.
-#[inline(never)]
+/// Adds an event, for which there is room.
+#[inline(always)]
 fn note(events: &mut Vec<Event>, actor: Actor, step: &Step, reply: Reply)
     requires { vec_len events.old < vec_capacity events.old }
     ensures { events.new.items ≡ events.old.items ++ event_of actor step.now reply ∷ [] }
@@ -319,8 +319,19 @@ impl Journal {
         }
     }
 
-    /// Does the next line of the script at a place.
+    /// Does the next line of the script at a place, by a call.
     fn scripted_turn(&mut self, actor: Actor, k: usize) -> Result<Turn, AllocError>
+        requires seat { k ≤ mutators_of self.old }
+        requires actor { actor ≡ scripted (mutators_of self.old) k }
+        ensures plan { SamePlan self.old self.new }
+        ensures turn { MatchResult result (λ t. TurnIs t self.old self.new actor) (λ _. self.new ≡ self.old) }
+    {
+        self.turn_at(actor, k)
+    }
+
+    /// Does the next line of the script at a place, within its caller.
+    #[inline(always)]
+    pub(crate) fn turn_at(&mut self, actor: Actor, k: usize) -> Result<Turn, AllocError>
         requires seat { k ≤ mutators_of self.old }
         requires actor { actor ≡ scripted (mutators_of self.old) k }
         ensures plan { SamePlan self.old self.new }

@@ -93,10 +93,10 @@ fn scripted_round(
     ensures asked { (markers refiners : ℕ)
         → OnOk result (AreAsked markers refiners journal.old.events → AreAsked markers refiners journal.new.events) }
 {
-    let n = word as usize % unfinished.len();
-    let place = unfinished[n];
     let mutators = journal.config().mutators as usize;
-    journal.turn(scripted_at(mutators, place))?;
+    let n = (word % unfinished.len() as u32) as usize;
+    let place = unfinished[n];
+    journal.turn_at(scripted_at(mutators, place), place)?;
     keep_if(unfinished, n, journal.is_left(place));
     Ok(())
 }

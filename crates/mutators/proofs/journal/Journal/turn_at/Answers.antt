@@ -3,7 +3,7 @@ use Rattle.std.proofs.Common.{rules, ◌<◌, ◌≤◌, ap, arith, length}
 use Rattle.std.proofs.lemmas.List.{length-map}
 use Rattle.mutators.specs.Journals.{mutators_of}
 use Rattle.mutators.proofs.Rows.{row_turn, line_at, next_is, none_is, none_turn, place_is}
-use Rattle.mutators.proofs.journal.Journal.scripted_turn.Goals as goal
+use Rattle.mutators.proofs.journal.Journal.turn_at.Goals as goal
 
 pub returns-then-place-len-clause-turn : goal.returns-then-place-len-clause-turn
 returns-then-place-len-clause-turn c =
