@@ -119,7 +119,8 @@ module _ (t : Table) (g : IsShaped t) (kept : ℕ → Option Stored) (stands : S
 
   -- where one tile has the whole card, an object with a field in it is that tile's
   pub whole_over : (new : ℕ → ℕ → Bool) (shape : Shape) (size : ℕ) → 0 < len → IsPlacedTile t first shape → first ≤ card * len
-      → IsObjectCovered t.words_per_region kept len card new first → size ≡ size_of_shape shape → card * len + len ≤ first + size → AreDone new
+      → IsObjectCovered t.words_per_region kept len card new first → size ≡ size_of_shape shape → card * len + len ≤ first + size
+      → AreDone new
   whole_over new shape size z tile low here is over a l d = record {
     each = λ i v c y.
         let words = tile_words shape tile.tile size tile.shape_is is in

@@ -109,8 +109,8 @@ impl<'a> RecordEvents<'a> {
         self.config
     }
 
-    /// Takes the next event, where its line is one of the usual ones, which are read in one go. Where it isn't, or no event is left, none is
-    /// taken and nothing changes: `next_event` takes whatever is left. The event is made where the caller has it, and not copied.
+    /// Takes the next event, where its line is one of the usual ones, which are read in one go. Where it isn't, or no event is left, none
+    /// is taken and nothing changes: `next_event` takes whatever is left. The event is made where the caller has it, and not copied.
     ///
     /// ```rust
     /// let history = parse_record(alloc, record)?;

@@ -34,7 +34,8 @@ returns-in-Some-2-clause-finds c =
     let k = c.take.new.self in
     found_no all.config all.events j k c.lines.events.events c.next_usual.new.self.events c.in-Some.event c.lines.count c.in-Some-2.given
     c.lines.invariant.within c.in-Some.ensures.some
-    (λ es taken. subst (λ (told : Option Given). TakesNext j k es c.in-Some.event told) c.in-Some-2.is (c.in_ok-given.ensures.told es taken))
+    (λ es taken. subst (λ (told : Option Given). TakesNext j k es c.in-Some.event told) c.in-Some-2.is
+    (c.in_ok-given.ensures.told es taken))
 
 pub lines-preserved : goal.lines-preserved
 lines-preserved c =
