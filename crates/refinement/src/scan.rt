@@ -189,7 +189,7 @@ fn scan_walk(
     looked
 }
 
-/// The same, whose first tile is looked at before there is a walk: most cards lie within one object, or hold one and its filler.
+/// The same, whose first tile is looked at before there is a walk: so a card that lies within one object costs none.
 fn scan_tiles(
     table: &RegionTable,
     tams: &Tams,
