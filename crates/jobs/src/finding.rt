@@ -22,6 +22,7 @@ fn judge_events(judge: &mut Judge, events: &mut RecordEvents<'_>) -> Result<Find
 {
     let mut count = 0u64;
     'lines: loop {
+        // A usual event is judged where it is read, and not copied to where another one would be.
         if let Some(event) = events.next_usual() {
             count += 1;
             if let Some(given) = judge.take(&event)? {
