@@ -1,20 +1,20 @@
 //! The clearing of weak slots, at the end of marking.
 //!
 //! A weak slot is a field that marking doesn't follow, so an object that weak slots alone lead to is found dead. While
-//! marking runs, a mutator that reads one saves what it read, which is marked for it. Once all is marked that will be,
+//! marking runs, a mutator that reads one saves what it read, if that is old, and so it is marked. Once all is marked that will be,
 //! each slot of an object that stays either leads to what stays too, or becomes nil; the target's space can be
 //! reclaimed only after that.
 //!
 //! ```text
 //!                    made      marking runs          marking ends                          later
-//!   a weak slot      nil --->  stored and read as -> its target is marked, or new: stays    it holds what is kept
-//!                              a pointer is; what    its target is old and unmarked: nil    or nil
+//!   a weak slot      nil --->  what is overwritten -> its target is marked, or new: stays    it holds what is kept
+//!                              isn't saved; what      its target is old and unmarked: nil    or nil
 //!                              is read is saved
-//!   of a dead object                                 stays, and is reclaimed with it
+//!   of a dead object                                  stays, and is reclaimed with it
 //! ```
 //!
-//! New is what was made since marking began. Only objects with weak slots are looked at, each once: where there is none,
-//! nothing is walked.
+//! New is what was made since marking began. Only objects with weak slots are looked at, each once: the set of their starts
+//! is searched, and no region is walked.
 
 ghost use Rattle.std.specs.Prelude.{◌≡◌, ◌↔◌, IsSome, IsTrue};
 ghost use Rattle.heap_model.specs.Weak.{cleared_word};

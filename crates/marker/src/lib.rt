@@ -29,8 +29,8 @@
 //! Where an object is marked, its words are added to its region's count. So how many words of a region are marked is known by a look
 //! (`live`), and a pause walks no marks.
 //!
-//! A scan costs the object's pointers, and `begin` the bitmap, the regions and the roots in use. `finish` walks the regions that
-//! have weak slots, and no other call walks a region. No call takes memory but `Marker::new`.
+//! A scan costs the object's pointers, and `begin` the bitmap, the regions and the roots in use. `finish` looks at the objects that
+//! have weak slots, and no call walks a region. No call takes memory but `Marker::new`.
 #![tactic(auto)]
 
 mod clearing;
