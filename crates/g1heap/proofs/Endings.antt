@@ -8,6 +8,7 @@ use Rattle.heap_steps.specs.declared.fault.RunFault.TheVariants as runs
 use Rattle.heap_steps.specs.Faults.{IsRunFault}
 use Rattle.mutators.specs.Interleavings.{IsRunOf, IsThreadsFault}
 use Rattle.mutators.specs.Draws.{scripted_actors, drawn_by}
+use Rattle.mutators.specs.Rounds.{AreDrawn}
 use Rattle.jobs.proofs.Endings.{Comes}
 use Rattle.g1heap.specs.Runs.{AreFew, CanStart, IsDrawnRun, IsThreadedRun, IsCountedFault}
 
@@ -47,24 +48,27 @@ all_suit workers refiners markers not_over =
 -- the record of a run is one that the seed drew
 abbrev pub IsDrawn : ℕ → ℕ → ℕ → StepList → EventList → Type 0
 IsDrawn seed refiners markers plan r = IsRunOf plan markers refiners r × (scripted_actors r.events ≡ drawn_by seed markers refiners plan)
+    × AreDrawn seed markers refiners plan r.events
 
-both_ok : (P Q : EventList → Type 0) (outcome : Result EventList RunFault) → IfOk outcome P → IfOk outcome Q → IfOk outcome (λ r. P r × Q r)
-both_ok P Q (Ok r) p q = (p, q)
-both_ok P Q (Err f) p q = tt
+all_ok : (P Q R : EventList → Type 0) (outcome : Result EventList RunFault) → IfOk outcome P → IfOk outcome Q → IfOk outcome R
+    → IfOk outcome (λ r. P r × Q r × R r)
+all_ok P Q R (Ok r) p q s = (p, q, s)
+all_ok P Q R (Err f) p q s = tt
 
 -- what `simulate` says
 pub comes_drawn : (plan : StepList) (seed refiners markers : ℕ) (outcome : Result EventList RunFault)
     → IfOk outcome (IsRunOf plan markers refiners) →
     IfOk outcome (λ r. scripted_actors r.events ≡ drawn_by seed markers refiners plan)
+    → IfOk outcome (λ r. AreDrawn seed markers refiners plan r.events)
     → (outcome ≡ Err runs.BadWorkers) ↔ IsOver refiners markers →
     IfErr outcome (λ f. f ≢ runs.BadWorkers → IsRunFault plan.config f)
     → Comes (IsDrawnRun seed refiners markers) (IsCountedFault (AreFew refiners markers) IsRunFault) plan outcome
-comes_drawn plan seed refiners markers outcome run drawn bad fault =
+comes_drawn plan seed refiners markers outcome run drawn rounds bad fault =
     comes_counted (IsDrawn seed refiners markers) (IsDrawnRun seed refiners markers) IsRunFault plan outcome
-    (both_ok (IsRunOf plan markers refiners)
-    (λ r. scripted_actors r.events ≡ drawn_by seed markers refiners plan) outcome run drawn) bad
+    (all_ok (IsRunOf plan markers refiners) (λ r. scripted_actors r.events ≡ drawn_by seed markers refiners plan)
+    (λ r. AreDrawn seed markers refiners plan r.events) outcome run drawn rounds) bad
     (λ over suits. omega (arith, over, suits)) (both_suit refiners markers) fault
-    (λ r suit is. record { counts = suit; run = is.0; drawn = is.1 })
+    (λ r suit is. record { counts = suit; run = is.0; drawn = is.1; rounds = is.2 })
 
 -- what `run_threads` says
 pub comes_threaded : (plan : StepList) (workers refiners markers : ℕ) (outcome : Result EventList RunFault)

@@ -8,6 +8,7 @@ use Rattle.heap_steps.specs.declared.fault.RunFault.{RunFault}
 use Rattle.heap_steps.specs.declared.fault.RunFault.TheVariants as runs
 use Rattle.mutators.specs.Interleavings.{IsRunOf, IsThreadsFault}
 use Rattle.mutators.specs.Draws.{scripted_actors, drawn_by}
+use Rattle.mutators.specs.Rounds.{AreDrawn}
 use Rattle.command_line.specs.declared.Order.{Order}
 use Rattle.command_line.specs.declared.Order.TheVariants.{File, Drawn, Concurrent}
 use Rattle.jobs.specs.declared.faults.JobFault.{JobFault}
@@ -18,11 +19,13 @@ use Rattle.jobs.specs.Runs.{Ends, Tells}
 abbrev pub AreFew : ℕ → ℕ → Type 0
 AreFew refiners markers = (refiners ≤ 8) × (markers ≤ 8)
 
--- the record is a run of the plan's actors, each with its own lines in their order; who of them takes the next turn, the seed draws
+-- the record is a run of the plan's actors, each with its own lines in their order; who takes the next turn, background actors too, the seed
+-- draws
 pub record IsDrawnRun (seed refiners markers : ℕ) (plan : StepList) (r : EventList) : Type 0 where
   pub counts : AreFew refiners markers
   pub run : IsRunOf plan markers refiners r
   pub drawn : scripted_actors r.events ≡ drawn_by seed markers refiners plan
+  pub rounds : AreDrawn seed markers refiners plan r.events
 
 -- the numbers of workers and of background actors are in range
 abbrev pub CanStart : ℕ → ℕ → ℕ → Type 0

@@ -1,7 +1,8 @@
 -- The rounds of a schedule.
 use Rattle.std.proofs.Common.{◌≡◌, ◌+◌, ◌<◌, ◌≤◌, ◌∷◌, ◌++◌, ◌∙◌, ◌==◌, ◌%◌}
 use Rattle.std.proofs.Common.{ℕ, zero, suc, Bool, true, false, cond, List, [], Some, None, length, map, refl, ap, sym, subst}
-use Rattle.std.proofs.Common.{arith, get_or, take, drop, add-one, append_assoc}
+use Rattle.std.proofs.Common.{arith, get_or, take, drop, add-one, append_assoc, inl, inr}
+use Rattle.std.proofs.lemmas.Bool.{lt-ltb}
 use Rattle.std.specs.Prelude.{slice_set, slice_index, slice_get, filter, All}
 use Rattle.std.proofs.lemmas.List.{map-append}
 use Rattle.std.proofs.lemmas.List.Elements.{filter-append, All-append}
@@ -16,10 +17,11 @@ use Rattle.mutators.specs.declared.journal.Turn.{Turn}
 use Rattle.mutators.specs.declared.journal.Turn.TheVariants.{Done, Idle, End}
 use Rattle.mutators.specs.Scripts.{scripted, lines_of, is_scripted, mark_4}
 use Rattle.mutators.specs.Journals.{JournalState, Keeps, mutators_of, script_at, event_of}
-use Rattle.mutators.specs.Turns.{TurnIs, SamePlan, next_step, next_at, moved}
+use Rattle.mutators.specs.Turns.{TurnIs, SamePlan, Takes, next_step, next_at, moved}
 use Rattle.mutators.specs.Interleavings.{IsAsked, AreAsked}
-use Rattle.mutators.specs.Draws.{lefts, lefts_of, one_less, scripted_actors, Picks, open_places, pick, IsRound, rest_of}
-use Rattle.mutators.specs.Draws.{drawn, total, after_round, counts_of, drawn_actors}
+use Rattle.mutators.specs.Draws.{lefts, lefts_of, one_less, scripted_actors, Picks, open_places, pick, IsRound, LeavesScripts, rest_of}
+use Rattle.mutators.specs.Draws.{drawn, total, after_round, counts_of, drawn_actors, has_background}
+use Rattle.mutators.specs.Rounds.{HasTurn, HasTurnIf, TakesRound, TakesRounds, background_by}
 use Rattle.mutators.proofs.Rows.{next_row, place_is}
 use Rattle.mutators.proofs.Drops.{open_after}
 use Rattle.mutators.proofs.Draws.{lefts_at, length-lefts, lefts_moved, open_is, open_few, drawn_more, drawn_none, none_open, total_less}
@@ -84,6 +86,89 @@ takes_row d e End a k keeps turn actor some same =
     let row' : k < length (lefts_of d) = row_is (lefts_of d) k some in
     let row : k < length d.scripts = omega (arith, length-lefts d.scripts d.places) in
     absurd (line_is d k row some (sym h.0 ∙ ap (λ (y : Actor). next_step d y) (sym actor) ∙ turn.1))
+
+-- a scripted actor with a line left does it in its turn
+pub takes_line : (d e : JournalState) (t : Turn) (a : Actor) (k : ℕ) → TurnIs t d e a → a ≡ scripted (mutators_of d) k
+    → 0 < get_or (lefts_of d) k 0 → Takes d e (scripted (mutators_of d) k)
+takes_line d e Done a k takes actor some = subst (λ (y : Actor). Takes d e y) actor takes
+takes_line d e Idle a k turn actor some =
+    let h = next_row d k in absurd (cc (turn.0, actor, h.2, ap is_scripted actor))
+takes_line d e End a k turn actor some =
+    let h = next_row d k in
+    let row' : k < length (lefts_of d) = row_is (lefts_of d) k some in
+    let row : k < length d.scripts = omega (arith, length-lefts d.scripts d.places) in
+    absurd (line_is d k row some (sym h.0 ∙ ap (λ (y : Actor). next_step d y) (sym actor) ∙ turn.1))
+
+-- whatever a turn came to, it was one
+pub has_turn : (d e : JournalState) (t : Turn) (a b : Actor) → a ≡ b → TurnIs t d e a → HasTurn d e b
+has_turn d e Done a b same takes = inl (subst (λ (y : Actor). Takes d e y) same takes)
+has_turn d e Idle a b same turn = inr (ap (λ (y : Actor). next_step d y) (sym same) ∙ turn.1, turn.2)
+has_turn d e End a b same turn = inr (ap (λ (y : Actor). next_step d y) (sym same) ∙ turn.1, turn.2)
+
+-- the words of a round with background actors
+two_words : (next : Lcg → ℕ × Lcg) (markers refiners : ℕ) (g g' h : Lcg) → g' ≡ (next g).1 → h ≡ (next g').1 → 0 < markers + refiners
+    → h ≡ after_round next (has_background markers refiners) g
+two_words next markers refiners g g' h first second some =
+    second ∙ ap (λ (x : Lcg). (next x).1) first
+    ∙ ap (λ (b : Bool). after_round next b g) (sym (lt-ltb 0 (markers + refiners) some))
+
+-- a round with background actors is a line of a script and a turn of one of those
+pub two_turns : (next : Lcg → ℕ × Lcg) (markers refiners word other : ℕ) (d between e : JournalState) (g g' h : Lcg)
+    → word ≡ (next g).0 → g' ≡ (next g).1 → other ≡ (next g').0 → h ≡ (next g').1 → 0 < markers + refiners
+    → Takes d between (scripted (mutators_of d) (pick word (lefts_of d)))
+    → HasTurn between e (background_by other markers refiners) → TakesRound next markers refiners d g e h
+two_turns next markers refiners word other d between e g g' h is first is' second some takes turn =
+    let turn' : HasTurn between e (background_by (next (next g).1).0 markers refiners) =
+    subst (λ (w : ℕ). HasTurn between e (background_by w markers refiners)) (is' ∙ ap (λ (x : Lcg). (next x).0) first) turn in
+    record {
+      between = between;
+      line = subst (λ (w : ℕ). Takes d between (scripted (mutators_of d) (pick w (lefts_of d)))) is takes;
+      beside = subst (λ (b : Bool). HasTurnIf b between e (background_by (next (next g).1).0 markers refiners))
+          (sym (lt-ltb 0 (markers + refiners) some)) turn';
+      words = two_words next markers refiners g g' h first second some;
+    }
+
+pub two_picks : (next : Lcg → ℕ × Lcg) (markers refiners word : ℕ) (d between e : JournalState) (g g' h : Lcg)
+    → word ≡ (next g).0 → g' ≡ (next g).1 → h ≡ (next g').1 → 0 < markers + refiners
+    → Picks d between (pick word (lefts_of d)) → LeavesScripts between e → IsRound next (has_background markers refiners) d g e h
+two_picks next markers refiners word d between e g g' h is first second some picks leaves =
+    let here : Picks d between (pick (next g).0 (lefts_of d)) =
+    subst (λ (w : ℕ). Picks d between (pick w (lefts_of d))) is picks in
+    record {
+      picks = record { actors = leaves.actors ∙ here.actors; left = leaves.left ∙ here.left; some = here.some };
+      words = two_words next markers refiners g g' h first second some;
+    }
+
+-- one round more
+round_more : (next : Lcg → ℕ × Lcg) (markers refiners n : ℕ) (d e f : JournalState) (g h k : Lcg)
+    → TakesRounds next markers refiners n d g e h → TakesRound next markers refiners e h f k
+    → TakesRounds next markers refiners (suc n) d g f k
+round_more next markers refiners zero d e f g h k was round =
+    (f, k, subst (λ (x : JournalState × Lcg). TakesRound next markers refiners x.0 x.1 f k) (λ i. (was.0 i, was.1 i)) round, (refl, refl))
+round_more next markers refiners (suc n) d e f g h k was round =
+    (was.0, was.1, was.2, round_more next markers refiners n was.0 e f was.1 h k was.3 round)
+
+-- some rounds were taken, as many as there are fewer lines left
+abbrev pub HasGone : (Lcg → ℕ × Lcg) → ℕ → ℕ → JournalState → Lcg → JournalState → Lcg → Type 0
+HasGone next markers refiners d g e h =
+    (n : ℕ) × (n + total (lefts_of e) ≡ total (lefts_of d)) × TakesRounds next markers refiners n d g e h
+
+pub goes_on : (next : Lcg → ℕ × Lcg) (markers refiners : ℕ) (d e f : JournalState) (g h k : Lcg)
+    → HasGone next markers refiners d g e h → IsRound next (has_background markers refiners) e h f k
+    → TakesRound next markers refiners e h f k → HasGone next markers refiners d g f k
+goes_on next markers refiners d e f g h k was round takes =
+    let less = total_less (lefts_of e) (pick (next h).0 (lefts_of e)) round.picks.some in
+    let left : total (lefts_of f) ≡ total (one_less (lefts_of e) (pick (next h).0 (lefts_of e))) = ap total round.picks.left in
+    (suc was.0, omega (arith, was.1, less, left), round_more next markers refiners was.0 d e f g h k was.2 takes)
+
+-- where no place is open, all rounds were taken
+pub all_gone : (next : Lcg → ℕ × Lcg) (markers refiners : ℕ) (d e : JournalState) (g h : Lcg)
+    → HasGone next markers refiners d g e h → length (open_places (lefts_of e)) ≡ 0
+    → TakesRounds next markers refiners (total (lefts_of d)) d g e h
+all_gone next markers refiners d e g h was over =
+    let none = (none_open 0 (lefts_of e) over).0 in
+    let all : was.0 ≡ total (lefts_of d) = omega (arith, was.1, none) in
+    subst (λ (n : ℕ). TakesRounds next markers refiners n d g e h) all was.2
 
 -- a word picks a place with a line left
 pub picks_open : (d : JournalState) (word : ℕ) → Keeps d → 0 < length (open_places (lefts_of d))

@@ -3,3 +3,4 @@ pub mod Journals
 pub mod Turns
 pub mod Interleavings
 pub mod Draws
+pub mod Rounds

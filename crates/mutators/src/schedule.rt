@@ -9,9 +9,12 @@ ghost use Rattle.std.specs.Prelude.{◌≡◌, ◌+◌, ◌<◌, ◌≤◌, ◌�
 ghost use Rattle.std.specs.Prelude.{ℕ, false, OnOk, IfOk, IfErr, length, take, drop};
 ghost use Rattle.rand_pcg.specs.Pcg.{pcg32};
 ghost use Rattle.heap_steps.specs.Faults.{IsRunFault};
+ghost use Rattle.rand_pcg.specs.Lcg.{Lcg};
 ghost use Rattle.mutators.specs.Scripts.{scripted, is_scripted};
-ghost use Rattle.mutators.specs.Turns.{SamePlan, IsCast};
-ghost use Rattle.mutators.specs.Draws.{open_places, lefts_of, pick, Picks, LeavesScripts, IsRound};
+ghost use Rattle.mutators.specs.Journals.{mutators_of};
+ghost use Rattle.mutators.specs.Turns.{SamePlan, IsCast, Takes};
+ghost use Rattle.mutators.specs.Draws.{open_places, lefts_of, pick, total, Picks, LeavesScripts, IsRound};
+ghost use Rattle.mutators.specs.Rounds.{background, background_by, HasTurn, TakesRound, TakesRounds, AreDrawn};
 ghost use Rattle.mutators.specs.Draws.{has_background, scripted_actors, drawn_by, rest_of};
 ghost use Rattle.mutators.specs.Interleavings.{IsAsked, AreAsked, IsRunOf};
 
@@ -31,6 +34,7 @@ fn draw(words: &mut Lcg64Xsh32) -> u32
 fn background_at(place: u32, markers: u32, refiners: u32) -> Actor
     requires place { place < markers + refiners }
     requires small { (markers ≤ 8) × (refiners ≤ 8) }
+    ensures is { result ≡ background markers place }
     ensures asked { IsAsked markers refiners result }
     ensures background { is_scripted result ≡ false }
     ensures cast { (m : ℕ) → IsCast m result }
@@ -89,6 +93,7 @@ fn scripted_round(
     requires some { 0 < length unfinished.old.items }
     ensures plan { SamePlan journal.old journal.new }
     ensures picks { OnOk result (Picks journal.old journal.new (pick word (lefts_of journal.old))) }
+    ensures takes { OnOk result (Takes journal.old journal.new (scripted (mutators_of journal.old) (pick word (lefts_of journal.old)))) }
     ensures unfinished { OnOk result (unfinished.new.items ≡ open_places (lefts_of journal.new)) }
     ensures asked { (markers refiners : ℕ)
         → OnOk result (AreAsked markers refiners journal.old.events → AreAsked markers refiners journal.new.events) }
@@ -111,6 +116,7 @@ fn background_round(
     requires small { (markers ≤ 8) × (refiners ≤ 8) }
     ensures plan { SamePlan journal.old journal.new }
     ensures leaves { OnOk result (LeavesScripts journal.old journal.new) }
+    ensures turn { OnOk result (HasTurn journal.old journal.new (background_by word markers refiners)) }
     ensures asked { OnOk result (AreAsked markers refiners journal.old.events → AreAsked markers refiners journal.new.events) }
 {
     let actor = background_at(word % (markers + refiners), markers, refiners);
@@ -132,6 +138,7 @@ fn one_round(
     ensures plan { SamePlan journal.old journal.new }
     ensures unfinished { OnOk result (unfinished.new.items ≡ open_places (lefts_of journal.new)) }
     ensures round { OnOk result (IsRound pcg32 (has_background markers refiners) journal.old words.old journal.new words.new) }
+    ensures turns { OnOk result (TakesRound pcg32 markers refiners journal.old words.old journal.new words.new) }
     ensures asked { OnOk result (AreAsked markers refiners journal.old.events → AreAsked markers refiners journal.new.events) }
 {
     let word = draw(words);
@@ -156,6 +163,7 @@ fn all_rounds(
     ensures plan { SamePlan journal.old journal.new }
     ensures drawn { OnOk result (scripted_actors journal.new.events
         ≡ scripted_actors journal.old.events ++ rest_of pcg32 (has_background markers refiners) words journal.old) }
+    ensures rounds { OnOk result ((rest : Lcg) × TakesRounds pcg32 markers refiners (total (lefts_of journal.old)) journal.old words journal.new rest) }
     ensures asked { OnOk result (AreAsked markers refiners journal.old.events → AreAsked markers refiners journal.new.events) }
     ensures over { OnOk result (length (open_places (lefts_of journal.new)) ≡ 0) }
 {
@@ -167,8 +175,9 @@ fn all_rounds(
 }
 
 /// Does a plan's scripts in a new heap, in the order that the words of a seed draw, with so many refiners and markers beside.
-/// The record's events are an interleaving of the whole scripts, and the scripted actors take their turns in the order drawn. More than 8
-/// refiners or markers are `BadWorkers`; else the fault is the first of the sizes, or want of memory.
+/// The record's events are an interleaving of the whole scripts, and all actors take their turns in the order drawn; a background actor
+/// that has nothing to do in its turn does nothing. More than 8 refiners or markers are `BadWorkers`; else the fault is the first of the
+/// sizes, or want of memory.
 ///
 /// ```rust
 /// let record = simulate(alloc, &plan, 7, 0, 0)?;
@@ -184,6 +193,7 @@ pub fn simulate(
 ) -> Result<Record, RunFault>
     ensures run { IfOk result (IsRunOf plan.now markers refiners) }
     ensures drawn { IfOk result (λ r. scripted_actors r.events ≡ drawn_by seed markers refiners plan.now) }
+    ensures rounds { IfOk result (λ r. AreDrawn seed markers refiners plan.now r.events) }
     ensures bad { (result ≡ Err RunFault.BadWorkers) ↔ ((8 < refiners) ⊎ (8 < markers)) }
     ensures fault { IfErr result (λ f. f ≢ RunFault.BadWorkers → IsRunFault plan.now.config f) }
 {

@@ -13,7 +13,7 @@
 
 ghost use Rattle.std.specs.Prelude.{◌≡◌, ◌+◌, ◌≤◌, ◌<◌, ◌≢◌, ◌↔◌, ◌⊎◌};
 ghost use Rattle.std.specs.Prelude.{ℕ, [], length, sum, slice_index, vec_capacity, vec_len};
-ghost use Rattle.std.specs.Prelude.{IfOk, IfErr, IfSome, IsFalse, IsTrue, None, true};
+ghost use Rattle.std.specs.Prelude.{IfOk, IfErr, IfSome, IsFalse, IsTrue, None, Some, true, false};
 ghost use Rattle.crossbeam_queue.specs.Passes.{IsPassOf};
 ghost use Rattle.heap_words.specs.Configs.{Suits};
 ghost use Rattle.heap_words.specs.declared.config.Config.{Config};
@@ -283,6 +283,9 @@ fn room_of<C: Crew, R: Wait>(
 /// The fault of a run whose workers are joined, if it has one.
 fn stopped_by(fault: bool, started: u32, is_ended: bool) -> Option<RunFault>
     ensures fault { IfSome result (λ f. (config : Config) → Suits config → IsThreadsFault config f) }
+    ensures memory { (result ≡ Some RunFault.NoMemory) ↔ (fault ≡ true) }
+    ensures worker { result ≡ Some RunFault.NoWorker → started ≡ 0 }
+    ensures unfinished { result ≡ Some RunFault.Unfinished → is_ended ≡ false }
     ensures ended { result ≡ None → is_ended ≡ true }
 {
     if fault {
@@ -312,6 +315,8 @@ fn finish(
     ensures done { IfOk result (λ t. t.done ≡ done) }
     ensures events { IfOk result (λ t. t.history.events ≡ journal.events) }
     ensures fault { IfErr result (λ f. Suits plan.now.config → IsThreadsFault plan.now.config f) }
+    ensures memory { (result ≡ Err RunFault.NoMemory) ↔ (fault ≡ true) }
+    ensures worker { result ≡ Err RunFault.NoWorker → started ≡ 0 }
 {
     let is_ended = journal.is_ended();
     if let Some(fault) = stopped_by(fault, started, is_ended) {

@@ -10,5 +10,5 @@ returns g c =
     ends (IsDrawnRun c.args.seed c.args.refiners c.args.markers)
     (IsCountedFault (AreFew c.args.refiners c.args.markers) IsRunFault) c.in_ok-plan.plan _ _ _ _ c.simulate-outcome.result c.answer.result
     c.in_ok-plan.ensures
-    (comes_drawn c.in_ok-plan.plan c.args.seed c.args.refiners c.args.markers c.simulate-outcome.result run.run run.drawn run.bad
-    run.fault) c.answer.ensures
+    (comes_drawn c.in_ok-plan.plan c.args.seed c.args.refiners c.args.markers c.simulate-outcome.result run.run run.drawn
+    run.rounds run.bad run.fault) c.answer.ensures

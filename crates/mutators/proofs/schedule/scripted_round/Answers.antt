@@ -3,7 +3,7 @@ use Rattle.heap_steps.specs.declared.step.Step.{Step}
 use Rattle.mutators.specs.Scripts.{scripted}
 use Rattle.mutators.specs.Draws.{lefts_of, pick, one_less}
 use Rattle.mutators.specs.Journals.{mutators_of}
-use Rattle.mutators.proofs.Rounds.{takes_row, picks_open, picked, kept, few_open}
+use Rattle.mutators.proofs.Rounds.{takes_row, takes_line, picks_open, picked, kept, few_open}
 use Rattle.mutators.proofs.Drops.{left_here, lefts_len}
 use Rattle.mutators.proofs.Rows.{place_is}
 use Rattle.mutators.proofs.schedule.scripted_round.Goals as goal
@@ -53,6 +53,21 @@ returns-clause-picks c =
     let turn = takes_row d c.turn_at.new.self c.in_ok-turn_at.field-0 c.scripted_at.result (pick c.args.word (lefts_of d)) keeps
     c.in_ok-turn_at.ensures.turn actor within.1 c.in_ok-turn_at.ensures.plan in
     turn.0
+
+pub returns-clause-takes : goal.returns-clause-takes
+returns-clause-takes c =
+    let d = c.args.journal.now in
+    let keeps = c.config-mutators.ensures.keeps in
+    let count : c.len.result ≡ length c.args.unfinished.now.items = search rules in
+    let place : c.index-place.result.now ≡ pick c.args.word (lefts_of d) =
+    picked d c.args.word c.len.result c.index-place.result.now c.args.unfinished.now.items c.requires.unfinished
+    c.requires.some count c.index-place.ensures in
+    let within = picks_open d c.args.word keeps (subst (λ (l : List ℕ). 0 < length l) c.requires.unfinished c.requires.some) in
+    let m : c.config-mutators.result.mutators ≡ mutators_of d = ap (λ x. x.mutators) c.config-mutators.ensures.value in
+    let actor : c.scripted_at.result ≡ scripted (mutators_of d) (pick c.args.word (lefts_of d)) =
+    c.scripted_at.ensures.is ∙ ap (λ (p : ℕ × ℕ). scripted p.0 p.1) (λ i. (m i, place i)) in
+    takes_line d c.turn_at.new.self c.in_ok-turn_at.field-0 c.scripted_at.result (pick c.args.word (lefts_of d))
+    c.in_ok-turn_at.ensures.turn actor within.1
 
 pub returns-clause-unfinished : goal.returns-clause-unfinished
 returns-clause-unfinished c =
