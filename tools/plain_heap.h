@@ -369,28 +369,13 @@ public:
         return evacuate();
     }
 
-    // What the words of a region are, of a run each region's own: of objects that the last finished marking marked, of objects that it didn't,
-    // of objects made since it began, of fillers.
+protected:
+    // What the words of the tiles that start in a region are: of objects that the last finished marking marked, of objects that it didn't, of
+    // objects made since it began, of fillers.
     struct Shares {
-        Kind kind;
-        Number used, marked, dead, fresh, filler;
+        Number marked, dead, fresh, filler;
     };
 
-    Shares shares(Number number) const {
-        const Region& region = regions_[number];
-        Shares found{region.kind, region.top - bottom(number), 0, 0, 0, 0};
-        if (region.kind == Kind::First || region.kind == Kind::Rest) {
-            Number head = number;
-            while (regions_[head].kind == Kind::Rest) --head;
-            share_of(bottom(head), found) = found.used;
-        }
-        if (region.kind != Kind::Ordinary) return found;
-        for (Address at = bottom(number); at < region.top; at += tile_size(words_[at]))
-            share_of(at, found) += tile_size(words_[at]);
-        return found;
-    }
-
-protected:
     // The share that the tile at an address counts to.
     Number& share_of(Address at, Shares& shares) const {
         if (!is_object(words_[at])) return shares.filler;

@@ -1,5 +1,6 @@
 "use strict";
-// The texts of the page, read. A moment is found by its place in the list of moments, a region's row by the moment.
+// The texts of the page, read. A moment is found by its place in the list of moments, a region's row by the moment. Names and data words
+// have 64 bits, more than a number of this language holds, so they stay texts; all other numbers are small.
 
 // The lines of a text, without the empty one at its end.
 function linesOf(text) {
@@ -11,9 +12,8 @@ function linesOf(text) {
 
 // The heap line's sizes.
 function readSizes(line) {
-  const [format, ...numbers] = line.split(" ");
-  const [regions, words, buffer, mutators, firstName, card = 8] = numbers.map(Number);
-  return { line, format, regions, words, buffer, mutators, firstName, card };
+  const [format, regions, words, buffer, mutators, firstName, card = "8"] = line.split(" ");
+  return { line, format, regions: Number(regions), words: Number(words), buffer: Number(buffer), mutators: Number(mutators), firstName, card: Number(card) };
 }
 
 // An event of a record's line: `COUNT ACTOR STEP = REPLY`.
@@ -25,11 +25,11 @@ function readEvent(line) {
   return { count: Number(words[0]), actor: words[1], verb: words[2], step, reply: line.slice(equals + 3), collector };
 }
 
-const MOMENT = ["event", "handedOut", "live", "free", "queued", "dirty", "copied", "marking", "scanned", "nextName"];
+const MOMENT = ["event", "handedOut", "live", "free", "queued", "dirty", "copied", "marking", "scanned"];
 
 // A moment's numbers.
 function readMoment(words) {
-  const moment = { current: null, buffers: [], queue: [], logs: [], roots: [], tiles: true };
+  const moment = { nextName: words[10], current: null, buffers: [], queue: [], logs: [], roots: [], tiles: true };
   MOMENT.forEach((field, place) => { moment[field] = Number(words[place + 1]); });
   if (words[11] !== "-") moment.current = Number(words[11]);
   return moment;
@@ -46,12 +46,12 @@ function readOfMoment(moment, words) {
   }
 }
 
-// The fields of one kind: names, null for nil, "?" for no object; and how many aren't told.
+// The fields of one kind: names or data words, null for nil, "?" for no object; and how many aren't told.
 function readFields(words) {
   const fields = { told: [], more: 0 };
   for (const word of words) {
     if (word.startsWith("+")) fields.more = Number(word.slice(1));
-    else fields.told.push(word === "-" ? null : word === "?" ? "?" : Number(word));
+    else fields.told.push(word === "-" ? null : word);
   }
   fields.count = fields.told.length + fields.more;
   return fields;
@@ -65,7 +65,7 @@ function readTile(words) {
   const parts = words.slice(4).join(" ").split(";").map((part) => readFields(part.split(" ").filter((word) => word)));
   const [pointers, weaks, values] = parts;
   return {
-    offset: Number(words[1]), name: Number(words[2]), part: PART[words[3][0]], progress: PROGRESS[words[3][1]] || null,
+    offset: Number(words[1]), name: words[2], part: PART[words[3][0]], progress: PROGRESS[words[3][1]] || null,
     pointers, weaks, values, size: 2 + pointers.count + weaks.count + values.count,
   };
 }

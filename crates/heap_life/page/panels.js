@@ -171,7 +171,7 @@ function nameButton(name, choose) {
 }
 
 function fieldsCell(fields, choose, names) {
-  const parts = fields.told.flatMap((field) => [names ? nameButton(field, choose) : String(field), " "]);
+  const parts = fields.told.flatMap((field) => [names ? nameButton(field, choose) : field, " "]);
   if (fields.more) parts.push(`and ${fields.more} more`);
   return make("td", {}, parts);
 }

@@ -5,7 +5,9 @@
 /// The text.
 pub(crate) const SCRIPT_LIFE: &str = "\
 \"use strict\";\n\
-// The texts of the page, read. A moment is found by its place in the list of moments, a region's row by the moment.\n\
+// The texts of the page, read. A moment is found by its place in the list of moments, a region's row by the moment. Names and d\
+ata words\n\
+// have 64 bits, more than a number of this language holds, so they stay texts; all other numbers are small.\n\
 \n\
 // The lines of a text, without the empty one at its end.\n\
 function linesOf(text) {\n\
@@ -17,9 +19,9 @@ function linesOf(text) {\n\
 \n\
 // The heap line's sizes.\n\
 function readSizes(line) {\n\
-\x20 const [format, ...numbers] = line.split(\" \");\n\
-\x20 const [regions, words, buffer, mutators, firstName, card = 8] = numbers.map(Number);\n\
-\x20 return { line, format, regions, words, buffer, mutators, firstName, card };\n\
+\x20 const [format, regions, words, buffer, mutators, firstName, card = \"8\"] = line.split(\" \");\n\
+\x20 return { line, format, regions: Number(regions), words: Number(words), buffer: Number(buffer), mutators: Number(mutators), fir\
+stName, card: Number(card) };\n\
 }\n\
 \n\
 // An event of a record's line: `COUNT ACTOR STEP = REPLY`.\n\
@@ -31,12 +33,11 @@ function readEvent(line) {\n\
 \x20 return { count: Number(words[0]), actor: words[1], verb: words[2], step, reply: line.slice(equals + 3), collector };\n\
 }\n\
 \n\
-const MOMENT = [\"event\", \"handedOut\", \"live\", \"free\", \"queued\", \"dirty\", \"copied\", \"marking\", \"scanned\", \"nex\
-tName\"];\n\
+const MOMENT = [\"event\", \"handedOut\", \"live\", \"free\", \"queued\", \"dirty\", \"copied\", \"marking\", \"scanned\"];\n\
 \n\
 // A moment's numbers.\n\
 function readMoment(words) {\n\
-\x20 const moment = { current: null, buffers: [], queue: [], logs: [], roots: [], tiles: true };\n\
+\x20 const moment = { nextName: words[10], current: null, buffers: [], queue: [], logs: [], roots: [], tiles: true };\n\
 \x20 MOMENT.forEach((field, place) => { moment[field] = Number(words[place + 1]); });\n\
 \x20 if (words[11] !== \"-\") moment.current = Number(words[11]);\n\
 \x20 return moment;\n\
@@ -53,12 +54,12 @@ function readOfMoment(moment, words) {\n\
 \x20 }\n\
 }\n\
 \n\
-// The fields of one kind: names, null for nil, \"?\" for no object; and how many aren't told.\n\
+// The fields of one kind: names or data words, null for nil, \"?\" for no object; and how many aren't told.\n\
 function readFields(words) {\n\
 \x20 const fields = { told: [], more: 0 };\n\
 \x20 for (const word of words) {\n\
 \x20   if (word.startsWith(\"+\")) fields.more = Number(word.slice(1));\n\
-\x20   else fields.told.push(word === \"-\" ? null : word === \"?\" ? \"?\" : Number(word));\n\
+\x20   else fields.told.push(word === \"-\" ? null : word);\n\
 \x20 }\n\
 \x20 fields.count = fields.told.length + fields.more;\n\
 \x20 return fields;\n\
@@ -72,7 +73,7 @@ function readTile(words) {\n\
 \x20 const parts = words.slice(4).join(\" \").split(\";\").map((part) => readFields(part.split(\" \").filter((word) => word)));\n\
 \x20 const [pointers, weaks, values] = parts;\n\
 \x20 return {\n\
-\x20   offset: Number(words[1]), name: Number(words[2]), part: PART[words[3][0]], progress: PROGRESS[words[3][1]] || null,\n\
+\x20   offset: Number(words[1]), name: words[2], part: PART[words[3][0]], progress: PROGRESS[words[3][1]] || null,\n\
 \x20   pointers, weaks, values, size: 2 + pointers.count + weaks.count + values.count,\n\
 \x20 };\n\
 }\n\

@@ -190,7 +190,7 @@ function nameButton(name, choose) {\n\
 }\n\
 \n\
 function fieldsCell(fields, choose, names) {\n\
-\x20 const parts = fields.told.flatMap((field) => [names ? nameButton(field, choose) : String(field), \" \"]);\n\
+\x20 const parts = fields.told.flatMap((field) => [names ? nameButton(field, choose) : field, \" \"]);\n\
 \x20 if (fields.more) parts.push(`and ${fields.more} more`);\n\
 \x20 return make(\"td\", {}, parts);\n\
 }\n\
