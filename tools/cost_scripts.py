@@ -429,17 +429,20 @@ STEPS = {
 }
 
 
-def write_steps(path, ready, steps, count):
-    """Writes a script that takes so many steps."""
+def steps_of(ready, steps, count):
+    """A script that takes so many steps."""
+    return ready + [steps[place % len(steps)] for place in range(count)]
+
+
+def write_lines(path, lines):
     with open(path, "w") as file:
-        file.write("\n".join(ready + [steps[place % len(steps)] for place in range(count)]) + "\n")
+        file.write("\n".join(lines) + "\n")
 
 
 def write(folder, names=SCRIPTS):
     os.makedirs(folder, exist_ok=True)
     for name in names:
-        with open(os.path.join(folder, name + ".heap"), "w") as file:
-            file.write("\n".join(SCRIPTS[name]()) + "\n")
+        write_lines(os.path.join(folder, name + ".heap"), SCRIPTS[name]())
 
 
 def main():

@@ -67,6 +67,11 @@ int main(int count, char **words)
         for (long place = 0; place < 2 * size; place++) g1_new_object(&heap, 0, 2, 1, WORDS / 2 - 3);
         mark();
         if (times > 0) sum += g1_cleanup(&heap).first;
+    } else if (strcmp(step, "make") == 0) {
+        for (long i = 0; i < times; i++) {
+            g1_free(&heap);
+            if (g1_new(&heap, &sizes) != G1_DONE) return 1;
+        }
     } else if (strcmp(step, "begin") == 0) {
         g1_new_object(&heap, 0, 0, 1, 5);
         if (times > 0) sum += g1_begin(&heap).code;
