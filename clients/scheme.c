@@ -19,7 +19,7 @@
 
 /* Registers: those of the machine, and behind them its stack, a row of frames. */
 enum { EXPRESSION, ENVIRONMENT, VALUE, REST, PART, OTHER, STACK };
-enum { MOST_REGISTERS = 65536, MOST_SYMBOLS = 4096, MOST_NAME = 255 };
+enum { MOST_REGISTERS = 65536, MOST_SYMBOLS = 4096, MOST_NAME = 255, MOST_NESTED = 10000 };
 /* The tag of an object is its data word 0; that of nil, the empty list, is 0. */
 enum { NIL, NUMBER, BOOLEAN, SYMBOL, STRING, PAIR, VECTOR, CLOSURE, MACRO, PRIMITIVE, CONTINUATION, BINDING };
 static const char *const kinds[] = {"the empty list", "a number", "a truth value", "a symbol", "a string", "a pair", "a vector",
@@ -33,6 +33,7 @@ static const char *file_name;
 static FILE *input, *output;
 static unsigned line_number = 1;
 static const char *prelude_left; /* what of the prelude isn't read yet, or NULL */
+static int nested;               /* how deep the reader or the printer is within lists */
 static jmp_buf after_mistake;
 
 /* The stack: a frame begins at a register, and says what is to be done with a value. */
@@ -44,15 +45,14 @@ enum { DO_IF, DO_SET, DO_DEFINE, DO_SEQUENCE, DO_CALL, DO_MACRO };
 
 static void print(reg it, int quoted);
 
-/* Tells a mistake, with the value in a register where there is one, and gives the expression up. */
-static _Noreturn void mistake(int has_value, reg value, const char *form, ...)
+static void begin_mistake(void)
 {
-    va_list words;
     fflush(stdout);
     if (file_name != NULL) fprintf(stderr, "%s, the expression that ends in line %u: ", file_name, line_number);
-    va_start(words, form);
-    vfprintf(stderr, form, words);
-    va_end(words);
+}
+/* Ends the line of a mistake, with the value in a register where there is one, and gives the expression up. */
+static _Noreturn void end_mistake(int has_value, reg value)
+{
     if (has_value) {
         m_move(VALUE, value);
         fputs(": ", stderr);
@@ -62,11 +62,26 @@ static _Noreturn void mistake(int has_value, reg value, const char *form, ...)
     fputc('\n', stderr);
     longjmp(after_mistake, 1);
 }
+static _Noreturn void mistake(int has_value, reg value, const char *form, ...)
+{
+    va_list words;
+    begin_mistake();
+    va_start(words, form);
+    vfprintf(stderr, form, words);
+    va_end(words);
+    end_mistake(has_value, value);
+}
 
 static reg room(uint32_t registers)
 {
     if (MOST_REGISTERS - top <= registers) mistake(0, 0, "the stack of %u registers is full: a recursion is too deep", MOST_REGISTERS);
     return top;
+}
+/* The reader and the printer call themselves for what is in a list or a vector. */
+static void go_deeper(void)
+{
+    if (nested == MOST_NESTED) mistake(0, 0, "more than %d lists, quotations and vectors are within one another", MOST_NESTED);
+    nested++;
 }
 static void push(reg it) { m_move(room(1), it), top++; }
 static void leave(reg base) { m_scope(base), top = base; }
@@ -190,47 +205,72 @@ static void read_word(int c)
     }
     put_back(c);
     text[length] = 0;
+    if (memchr(text, 0, length) != NULL) mistake(0, 0, "a word with a zero byte in it");
     errno = 0;
     value = strtoll(text, &end, 10);
     if (end == text || *end != 0) symbol(VALUE, intern(text));
     else if (errno != 0) mistake(0, 0, "a number beyond 64 bits: %s", text);
     else number(VALUE, value);
 }
-/* Reads an expression into VALUE; 0 at the end of the text. Its frame holds a list's pairs: the first and the last. */
+static int read_expression(void);
+static void need_expression(const char *where)
+{
+    if (!read_expression()) mistake(0, 0, "the text ends within a %s", where);
+}
+static int is_dot(reg it) { return m_tag(it) == SYMBOL && m_read(it, 1) == DOT; }
+/* What follows a list's dot. */
+static void read_tail(reg list)
+{
+    int c = next_mark();
+    if (m_tag(list) == NIL) mistake(0, 0, "a list begins with a dot");
+    if (c == ')') mistake(0, 0, "nothing follows the dot of a list");
+    put_back(c);
+    need_expression("list");
+    m_put(list + 1, 1, VALUE);
+    if (is_dot(VALUE) || next_mark() != ')') mistake(1, VALUE, "a list doesn't end after what follows its dot");
+}
+/* A list, into VALUE. Its frame holds its pairs: the first and the last. */
+static void read_list(void)
+{
+    reg base = room(3);
+    top += 2;
+    for (int c; (c = next_mark()) != ')';) {
+        put_back(c);
+        need_expression("list");
+        if (is_dot(VALUE)) {
+            read_tail(base);
+            break;
+        }
+        m_drop(PART), cons(VALUE, VALUE, PART);
+        if (m_tag(base) == NIL) m_move(base, VALUE);
+        else m_put(base + 1, 1, VALUE);
+        m_move(base + 1, VALUE);
+    }
+    m_move(VALUE, base);
+    leave(base);
+}
+/* Reads an expression into VALUE; 0 at the end of the text. */
 static int read_expression(void)
 {
     int c = next_mark();
-    reg base = room(3);
     if (c == EOF) return 0;
     if (c == ')') mistake(0, 0, "a ')' without its '('");
+    go_deeper();
     if (c == '"') read_string();
-    else if (c == '\'') {
-        if (!read_expression()) mistake(0, 0, "the text ends behind a quote");
+    else if (c == '(') read_list();
+    else if (c != '\'') read_word(c);
+    else {
+        need_expression("quotation");
         m_drop(PART);
         cons(VALUE, VALUE, PART);
         symbol(PART, QUOTE);
         cons(VALUE, PART, VALUE);
-    } else if (c != '(') read_word(c);
-    else {
-        top += 2;
-        while ((c = next_mark()) != ')') {
-            int dotted;
-            put_back(c);
-            if (!read_expression()) mistake(0, 0, "the text ends within a list");
-            dotted = m_tag(VALUE) == SYMBOL && m_read(VALUE, 1) == DOT && m_tag(base) == PAIR;
-            if (dotted && !read_expression()) mistake(0, 0, "the text ends within a list");
-            if (!dotted) m_drop(PART), cons(VALUE, VALUE, PART);
-            if (m_tag(base) == NIL) m_move(base, VALUE);
-            else m_put(base + 1, 1, VALUE);
-            m_move(base + 1, VALUE);
-        }
-        m_move(VALUE, base);
-        leave(base);
     }
+    nested--;
     return 1;
 }
 
-/* The printer: what a register holds. Its frame is one register for each list around. */
+/* The printer: what a register holds. Its frames are registers too. */
 static void print_string(reg it)
 {
     size_t length;
@@ -241,12 +281,20 @@ static void print_string(reg it)
         else fprintf(output, bytes[i] == '"' || bytes[i] == '\\' ? "\\%c" : "%c", bytes[i]);
     fputc('"', output);
 }
+/* A list that leads back into itself is cut short: a register waits for it to come back, farther on each time. */
 static void print_list(reg it, int quoted)
 {
-    reg at = room(2);
+    reg at = room(3);
     const char *before = "(";
-    push(it), push(it);
-    for (; m_tag(at) == PAIR; cdr(at, at), before = " ") {
+    uint32_t steps = 0, most = 1;
+    push(it), push(it), push(it);
+    for (; m_tag(at) == PAIR; cdr(at, at), before = " ", steps++) {
+        if (steps != 0 && m_same(at, at + 2)) {
+            fputs(" ..", output);
+            m_drop(at);
+            break;
+        }
+        if (steps == most) m_move(at + 2, at), steps = 0, most *= 2;
         fputs(before, output);
         car(at + 1, at);
         print(at + 1, quoted);
@@ -271,15 +319,21 @@ static void print_vector(reg it, int quoted)
 static void print(reg it, int quoted)
 {
     size_t length;
+    const char *bytes;
+    go_deeper();
     switch (m_tag(it)) {
     case NIL: fputs("()", output); break;
     case NUMBER: fprintf(output, "%" PRId64, value_of(it)); break;
     case BOOLEAN: case SYMBOL: fputs(names[value_of(it)], output); break;
-    case STRING: if (quoted) print_string(it); else fputs(bytes_of(it, &length), output); break;
+    case STRING:
+        if (quoted) print_string(it);
+        else bytes = bytes_of(it, &length), fwrite(bytes, 1, length, output);
+        break;
     case PAIR: print_list(it, quoted); break;
     case VECTOR: print_vector(it, quoted); break;
     default: fprintf(output, "#<%s>", kinds[m_tag(it)] + 2);
     }
+    nested--;
 }
 
 #include "scheme_primitives.h"
@@ -294,8 +348,9 @@ static reg end_frame(void) { return frames[--depth].base; }
 /* Leads PART to the binding of a symbol's number, or to the symbol in EXPRESSION itself; the answer is the field of the value. */
 static uint32_t find(uint64_t id)
 {
-    for (m_move(PART, ENVIRONMENT); m_tag(PART) == BINDING; m_get(PART, PART, 0))
-        if (m_read(PART, 1) == id) return 1;
+    uint64_t found;
+    for (m_move(PART, ENVIRONMENT); (found = m_word(PART, 1, UINT64_MAX)) != UINT64_MAX; m_get(PART, PART, 0))
+        if (found == id) return 1;
     m_move(PART, EXPRESSION);
     return 0;
 }
@@ -314,6 +369,13 @@ static void need_symbol(reg it)
 static void need_part(const char *form)
 {
     if (m_tag(REST) != PAIR) mistake(1, EXPRESSION, "%s lacks a part", form);
+}
+/* What is left of a list of operands or of a body has to be a list. Answers whether there is more. */
+static int has_more(reg list)
+{
+    uint64_t tag = m_tag(list);
+    if (tag != PAIR && tag != NIL) mistake(1, list, "a list of operands or of a body ends with a dot");
+    return tag == PAIR;
 }
 /* A closure of the parameters in PART and the body in REST. */
 static void closure(unsigned tag)
@@ -338,6 +400,7 @@ static void bind_arguments(reg first, uint32_t count, reg procedure)
     uint32_t taken = 0;
     for (; m_tag(REST) == PAIR && taken < count; taken++) {
         car(OTHER, REST);
+        need_symbol(OTHER);
         bind(OTHER, first + taken);
         cdr(REST, REST);
     }
@@ -420,6 +483,7 @@ static int evaluate(void)
     case SET: case DEFINE_MACRO:
         need_part(names[form]), car(PART, REST), cdr(REST, REST), need_part(names[form]);
         if (form == DEFINE_MACRO) {
+            if (m_tag(PART) != PAIR) mistake(1, EXPRESSION, "define-macro wants a name and parameters in a list");
             car(EXPRESSION, PART), need_symbol(EXPRESSION), cdr(PART, PART), closure(MACRO), set_global(EXPRESSION, VALUE);
             return m_move(VALUE, EXPRESSION), RETURN;
         }
@@ -434,13 +498,13 @@ static int evaluate(void)
     push(EXPRESSION), push(ENVIRONMENT);
     begin_frame(DO_CALL);
     m_drop(PART), push(PART), push(ENVIRONMENT), push(VALUE);
-    for (; m_tag(REST) == PAIR; cdr(REST, REST)) car(PART, REST), push(PART);
+    for (; has_more(REST); cdr(REST, REST)) car(PART, REST), push(PART);
     return CALL;
 }
 
 static int sequence(void)
 {
-    if (m_tag(REST) != PAIR) return m_drop(VALUE), RETURN;
+    if (!has_more(REST)) return m_drop(VALUE), RETURN;
     car(EXPRESSION, REST), cdr(REST, REST);
     if (m_tag(REST) == NIL) return EVALUATE;                     /* the last one has no frame: a tail call */
     begin_frame(DO_SEQUENCE), push(REST), push(ENVIRONMENT);
@@ -455,17 +519,18 @@ static int give_value(void)
     m_move(REST, base), m_move(ENVIRONMENT, base + 1);
     if (what == DO_CALL) {
         push(VALUE);
-        if (m_tag(REST) != PAIR) return CALL;
+        if (!has_more(REST)) return CALL;
         car(EXPRESSION, REST), cdr(REST, REST), m_move(base, REST);
         return EVALUATE;
     }
     leave(end_frame());
     switch (what) {
     case DO_IF:
-        cdr(REST, REST), need_part("if");
-        if (is_false(VALUE)) cdr(REST, REST);
-        if (m_tag(REST) != PAIR) return m_drop(VALUE), RETURN;
-        car(EXPRESSION, REST);
+        cdr(OTHER, REST);
+        if (m_tag(OTHER) != PAIR) mistake(1, REST, "if lacks a part");
+        if (is_false(VALUE)) cdr(OTHER, OTHER);
+        if (!has_more(OTHER)) return m_drop(VALUE), RETURN;
+        car(EXPRESSION, OTHER);
         return EVALUATE;
     case DO_SEQUENCE: return SEQUENCE;
     case DO_MACRO:                                               /* the expansion takes the place of the expression, for good */
@@ -497,8 +562,9 @@ static int call(void)
             return CALL;
         }
         if (which == APPLY) {                                    /* (f a b) in place of (apply f '(a b)) */
-            m_move(procedure, first), m_move(PART, first + 1), leave(first);
+            m_move(procedure, first), m_move(PART, first + 1), m_move(REST, PART), leave(first);
             for (; m_tag(PART) == PAIR; cdr(PART, PART)) car(VALUE, PART), push(VALUE);
+            if (m_tag(PART) != NIL) mistake(1, REST, "apply wants a list of arguments");
             return CALL;
         }
         primitive(which, first, count);
@@ -541,7 +607,7 @@ static void start(void)
 static int evaluate_all(int person)
 {
     if (setjmp(after_mistake) != 0) {
-        depth = 0, leave(STACK), output = stdout;
+        depth = 0, nested = 0, leave(STACK), output = stdout;
         if (!person) return 1;
     }
     for (;;) {

@@ -101,10 +101,15 @@ static void convert(uint32_t which, reg it)
     }
     bytes = bytes_of(it, &length);
     if (which == SYMBOL_TO_STRING) string(VALUE, bytes, length);
-    else if (which == STRING_TO_SYMBOL) symbol(VALUE, intern(bytes));
-    else {
-        int64_t value = strtoll(bytes, &end, 10);
-        if (end == bytes || *end != 0) truth(0);
+    else if (which == STRING_TO_SYMBOL) {
+        if (strlen(bytes) != length) mistake(1, it, "string->symbol: a zero byte stands in the string");
+        symbol(VALUE, intern(bytes));
+    } else {
+        int64_t value;
+        errno = 0;
+        value = strtoll(bytes, &end, 10);
+        if (length == 0 || isspace((unsigned char)*bytes) || end != bytes + length) truth(0);
+        else if (errno != 0) mistake(1, it, "string->number: a number beyond 64 bits");
         else number(VALUE, value);
     }
 }
@@ -147,14 +152,19 @@ static void primitive(uint32_t which, reg first, uint32_t count)
     case DISPLAY: print(first, 0), m_drop(VALUE); break;
     case WRITE: print(first, 1), m_drop(VALUE); break;
     case NEWLINE: putchar('\n'), m_drop(VALUE); break;
-    case ERROR: need(which, first, STRING); mistake(count == 2, first + count - 1, "%s", bytes_of(first, &(size_t){0})); break;
+    case ERROR:
+        need(which, first, STRING);
+        begin_mistake(), output = stderr, print(first, 0);
+        end_mistake(count == 2, first + count - 1);
     case STRING_LENGTH: need(which, first, STRING), number(VALUE, (int64_t)m_read(first, 1)); break;
     case STRING_APPEND: append_strings(first, count); break;
     case SUBSTRING: substring(first, first + 1, first + 2); break;
     case STRING_EQUAL: {
         size_t one, other;
+        const char *left, *right;
         need(which, first, STRING), need(which, first + 1, STRING);
-        truth(strcmp(bytes_of(first, &one), bytes_of(first + 1, &other)) == 0 && one == other);
+        left = bytes_of(first, &one), right = bytes_of(first + 1, &other);
+        truth(one == other && memcmp(left, right, one) == 0);
         break;
     }
     case NUMBER_TO_STRING: case STRING_TO_NUMBER: case SYMBOL_TO_STRING: case STRING_TO_SYMBOL: convert(which, first); break;

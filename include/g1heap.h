@@ -6,7 +6,7 @@
    next few, and g1_scope leaves it.
 
        g1_heap heap = G1_HEAP_NONE;
-       g1_sizes sizes = {256, 1024, 128, 1, 0, 64, 16, 64};
+       g1_sizes sizes = {256, 1024, 127, 1, 0, 64, 16, 64};
        if (g1_new(&heap, &sizes) != G1_DONE) return 1;
        g1_new_object(&heap, 0, 0, 1, 1);        // register 0 of mutator 0 holds a new object of one pointer and one data word
        g1_write(&heap, 0, 0, 0, 42);            // its data word 0 is 42
@@ -27,8 +27,9 @@
    call waits, or calls back. None is for a signal handler.
 
    WHAT IS PROVED of each call, and what isn't, stands in docs/EMBEDDING.md. In short: whatever numbers a program gives in whatever order,
-   each answer is the one that a graph of objects gives from which nothing is ever freed or moved, or G1_FULL where there is no place, and
-   no memory but the heap's is touched. Nothing is proved of C code.
+   each answer is the one that a graph of objects gives from which nothing is ever freed or moved, or G1_FULL for a new object where the
+   rules of placement find no place (docs/TEXTS.md, "Where a new object goes"), and no memory but the heap's is touched. Nothing is proved
+   of C code.
 
    SPEED. A call is a function call with a few checks, where a pointer in C is one load; docs/EMBEDDING.md has figures. */
 #ifndef G1HEAP_H
@@ -53,7 +54,7 @@ typedef struct g1_heap {
 typedef struct g1_sizes {
     uint32_t regions;    /* 2 to 1,024 */
     uint32_t words;      /* of a region: a power of two, 16 to 16,384; regions * words is at most 16,777,216 */
-    uint32_t buffer;     /* words of a mutator's allocation buffer: 4 to words / 2 */
+    uint32_t buffer;     /* words of a mutator's allocation buffer: 4 to words / 2; words / 8 - 1 is a good one */
     uint32_t mutators;   /* 1 to 64 */
     uint64_t first_name; /* the first object's name; each later one's is one higher */
     uint32_t card;       /* words of a card: 8, 16, 32 or 64, and at most words */
@@ -77,7 +78,7 @@ enum {
 
     G1_NIL = 16,          /* the register that should name an object is nil */
     G1_NO_FIELD = 17,     /* the object has no such field */
-    G1_FULL = 18,         /* there is no place for the new object now: collect, and try again */
+    G1_FULL = 18,         /* no place was found for the new object: collect, and try again */
     G1_TOO_BIG = 19,      /* the new object is larger than the heap */
     G1_NAMES_SPENT = 20,  /* no names are left */
     G1_MARK_RUNNING = 21, /* marking is running */
@@ -150,6 +151,10 @@ g1_answer g1_put_weak(g1_heap *heap, uint32_t mutator, uint32_t object, uint32_t
 g1_answer g1_weaks(g1_heap *heap, uint32_t mutator, uint32_t object);
 g1_answer g1_scope(g1_heap *heap, uint32_t mutator, uint32_t first);
 
+/* FULL: an object of more than half a region needs free regions side by side. Another one needs its words above the top of the current
+   region, or a free region; if it has at most `buffer` words, it needs them in the mutator's buffer, or room for a whole new buffer there.
+   So words may be unused that would hold the object. */
+
 /* The steps of the collector, taken whenever the program likes.
 
    Call         Step of a script   What it does                                                             Done         Refused
@@ -181,7 +186,7 @@ g1_answer g1_pause(g1_heap *heap, uint32_t words);
    g1_registers      how many registers each mutator has
    g1_name           the name that a register holds: two registers hold the same object where these are the same
 
-   g1_free_regions and g1_used_words look at each region, g1_live_words at each marked object too; the others cost less than a step. */
+   g1_used_words and g1_live_words add up a count of each region; the others cost less than a step. */
 g1_answer g1_free_regions(const g1_heap *heap);
 g1_answer g1_used_words(const g1_heap *heap);
 g1_answer g1_live_words(const g1_heap *heap);

@@ -21,9 +21,16 @@ class Record:
         self.write_line(f"heap3 {regions} {region} 4 {mutators + 1} 0 8 {global_count + 1} {registers}")
 
     def write_line(self, line):
-        line = line.encode("ascii") + b"\n"
-        if len(line) > 121 or self.file.write(line) != len(line):
-            raise OSError("a line wasn't written")
+        """Writes a line whole. Where that fails the record is closed: what came later would stand in a line that is cut."""
+        try:
+            line = line.encode("ascii")
+            if len(line) > 120 or b"\n" in line:
+                raise ValueError("an event is one line of at most 120 bytes")
+            if self.file.write(line + b"\n") != len(line) + 1:
+                raise OSError("a line wasn't written")
+        except (OSError, ValueError):
+            self.close()
+            raise
 
     def close(self):
         self.file.close()
@@ -51,28 +58,40 @@ class Record:
 
     def get(self, m, to, of, i, name):
         self.event(f"{m} get r{to} r{of} {i} = {spelled(name)}")
+
     def getweak(self, m, to, of, i, name):
         self.event(f"{m} getweak r{to} r{of} {i} = {spelled(name)}")
+
     def put(self, m, of, i, source):
         self.event(f"{m} put r{of} {i} {'nil' if source is None else f'r{source}'} = ok")
+
     def putweak(self, m, of, i, source):
         self.event(f"{m} putweak r{of} {i} {'nil' if source is None else f'r{source}'} = ok")
+
     def read(self, m, of, j, word):
         self.event(f"{m} read r{of} {j} = {word}")
+
     def write(self, m, of, j, word):
         self.event(f"{m} write r{of} {j} {word} = ok")
+
     def move(self, m, to, source):
         self.event(f"{m} move r{to} r{source} = ok")
+
     def drop(self, m, it):
         self.event(f"{m} drop r{it} = ok")
+
     def load(self, m, to, place, name):
         self.event(f"{m} load r{to} g{place} = {spelled(name)}")
+
     def save(self, m, place, source):
         self.event(f"{m} save g{place} r{source} = ok")
+
     def scope(self, m, first):
         self.event(f"{m} scope r{first} = ok")
+
     def shape(self, m, of, pointers, words):
         self.event(f"{m} shape r{of} = {pointers} {words}")
+
     def weaks(self, m, of, weaks):
         self.event(f"{m} weaks r{of} = {weaks}")
 
