@@ -19,8 +19,8 @@ use Rattle.jobs.specs.Runs.{Ends, Tells}
 abbrev pub AreFew : ℕ → ℕ → Type 0
 AreFew refiners markers = (refiners ≤ 8) × (markers ≤ 8)
 
--- the record is a run of the plan's actors, each with its own lines in their order; who takes the next turn, background actors too, the seed
--- draws
+-- the record is a run of the plan's actors, each with its own lines in their order; the seed draws who takes the next turn, background
+-- actors too
 pub record IsDrawnRun (seed refiners markers : ℕ) (plan : StepList) (r : EventList) : Type 0 where
   pub counts : AreFew refiners markers
   pub run : IsRunOf plan markers refiners r

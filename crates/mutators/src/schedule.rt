@@ -163,7 +163,8 @@ fn all_rounds(
     ensures plan { SamePlan journal.old journal.new }
     ensures drawn { OnOk result (scripted_actors journal.new.events
         ≡ scripted_actors journal.old.events ++ rest_of pcg32 (has_background markers refiners) words journal.old) }
-    ensures rounds { OnOk result ((rest : Lcg) × TakesRounds pcg32 markers refiners (total (lefts_of journal.old)) journal.old words journal.new rest) }
+    ensures rounds { OnOk result ((rest : Lcg)
+        × TakesRounds pcg32 markers refiners (total (lefts_of journal.old)) journal.old words journal.new rest) }
     ensures asked { OnOk result (AreAsked markers refiners journal.old.events → AreAsked markers refiners journal.new.events) }
     ensures over { OnOk result (length (open_places (lefts_of journal.new)) ≡ 0) }
 {

@@ -49,6 +49,8 @@ returns-clause-drawn c =
 pub returns-clause-rounds : goal.returns-clause-rounds
 returns-clause-rounds c =
     let over : length (open_places (lefts_of c.rounds.journal)) ≡ 0 =
-    ap (λ (l : List ℕ). length l) (sym c.rounds.invariant.left) ∙ search rules in
-    (c.rounds.words, all_gone pcg32 c.args.markers c.args.refiners c.args.journal.now c.rounds.journal c.args.words c.rounds.words
-    c.rounds.invariant.gone over)
+    ap (λ (l : List ℕ). length l) (sym c.rounds.invariant.left) ∙ search rules in (
+      c.rounds.words,
+      all_gone pcg32 c.args.markers c.args.refiners c.args.journal.now c.rounds.journal c.args.words c.rounds.words
+          c.rounds.invariant.gone over,
+    )
