@@ -19,8 +19,6 @@ mod actors;
 mod in_order;
 mod perform;
 mod program;
-#[cfg(test)]
-mod tests;
 
 use program::program;
 use script_text::{WatchedReader, WatchedWriter};
