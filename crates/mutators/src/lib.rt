@@ -24,6 +24,3 @@ mod threads;
 pub use journal::{Journal, Turn};
 pub use schedule::simulate;
 pub use threads::{Threaded, run_threads, run_threads_seen};
-
-#[cfg(test)]
-mod tests;
