@@ -41,21 +41,20 @@ extern "C" {
 
 /* What the policy knows of its heap, in regions unless it says otherwise. The counts at the end are for the client. */
 typedef struct g1_policy {
-    uint32_t regions, words; /* of the heap; words of a region */
-    uint32_t buffer;         /* words of a buffer */
-    uint32_t buffers;        /* words of two buffers for each mutator */
-    uint32_t reserve;        /* a cycle ends before fewer are free */
-    uint32_t begin_at;       /* so many free: a cycle begins */
-    uint32_t pause_at;       /* so many free: a pause of new regions */
-    uint32_t asked;          /* words asked for since the last look, without those of the running span */
-    uint32_t span, left;     /* words that may be asked for before anything is looked at, and what is left of them */
-    uint32_t open;           /* words that are surely left in the region that was taken last, where each object is looked at */
-    uint32_t rest, mutator;  /* words that are left in the buffer of a mutator, there too */
-    uint32_t pace;           /* objects to scan at each look */
-    uint64_t marked;         /* objects that the last cycle marked */
-    uint64_t cycles, pauses; /* whole cycles; pauses, those of cycles too */
-    uint64_t scanned;        /* objects that all cycles marked */
-    uint64_t copied;         /* words that all pauses copied */
+    uint32_t regions, words;         /* of the heap; words of a region */
+    uint32_t buffer, buffers;        /* words of a buffer; of two for each mutator */
+    uint32_t reserve;                /* a cycle ends before fewer are free */
+    uint32_t begin_at;               /* so many free: a cycle begins */
+    uint32_t pause_at;               /* so many free: a pause of new regions */
+    uint32_t asked;                  /* words asked for since the collector's last steps, without those of `until` */
+    uint32_t until, left;            /* words that may be asked for before anything is looked at, and what is left of them */
+    uint32_t open;                   /* where each object is looked at: words that are surely left in the region that was taken last */
+    uint32_t buffer_left, buffer_of; /* there too: words that are surely left in the buffer of a mutator */
+    uint32_t pace;                   /* objects to scan at each look */
+    uint64_t marked;                 /* objects that the last cycle marked */
+    uint64_t cycles, pauses;         /* whole cycles; pauses, those of cycles too */
+    uint64_t scanned;                /* objects that all cycles marked */
+    uint64_t copied;                 /* words that all pauses copied */
 } g1_policy;
 
 /* How hard g1_collect is to try: what is due; what a running cycle brings, or a whole collection; a whole collection. */
@@ -90,7 +89,7 @@ static inline void g1_policy_span(g1_policy *policy, uint32_t free)
 static inline uint64_t g1_policy_pause(g1_heap *heap, g1_policy *policy, uint32_t words)
 {
     g1_answer moved = g1_pause(heap, words);
-    policy->open = policy->rest = 0;
+    policy->open = policy->buffer_left = 0;
     policy->pauses++, policy->copied += moved.first;
     return moved.first;
 }
@@ -154,7 +153,7 @@ static inline void g1_policy_begin(g1_heap *heap, g1_policy *policy)
     uint32_t free = g1_free_count(heap), room = free > policy->reserve ? free - policy->reserve : 1;
     uint64_t objects = policy->cycles == 0 ? g1_used_words(heap).first / 4 : policy->marked;
     policy->pace = (uint32_t)(16 + objects * 3 / 2 / room);
-    policy->rest = 0;
+    policy->buffer_left = 0;
     g1_begin(heap);
 }
 
@@ -163,7 +162,7 @@ static inline void g1_collect(g1_heap *heap, g1_policy *policy, int pressure)
 {
     uint32_t free = g1_free_count(heap);
     int marking = g1_marking(heap).first == 1;
-    policy->asked = policy->span = policy->left = 0;
+    policy->asked = policy->until = policy->left = 0;
     if (pressure != G1_DUE) {
         if (marking && pressure == G1_WHOLE) g1_remark(heap);
         if (!marking || pressure == G1_WHOLE) g1_begin(heap);
@@ -192,7 +191,7 @@ static inline int g1_policy_may(const g1_policy *policy, uint32_t mutator, uint6
     if (last && taken + G1_KEPT >= policy->regions) return 1;
     if (size > policy->words / 2) return 0;
     if (size > policy->buffer) return size <= policy->open;
-    return policy->buffer <= policy->open || (mutator == policy->mutator && size <= policy->rest);
+    return policy->buffer <= policy->open || (mutator == policy->buffer_of && size <= policy->buffer_left);
 }
 
 /* Notes an object of at most half a region that was made where so many regions were free before and after. A buffer of which nothing is
@@ -200,29 +199,29 @@ static inline int g1_policy_may(const g1_policy *policy, uint32_t mutator, uint6
 static inline void g1_policy_note(g1_policy *policy, uint32_t mutator, uint32_t size, uint32_t before, uint32_t after)
 {
     uint32_t cut = g1_most(size, policy->buffer);
-    if (after >= before && mutator == policy->mutator && size <= policy->rest) {
-        policy->rest -= size;
+    if (after >= before && mutator == policy->buffer_of && size <= policy->buffer_left) {
+        policy->buffer_left -= size;
         return;
     }
-    if (after < before) policy->open = policy->words, policy->rest = 0;
+    if (after < before) policy->open = policy->words, policy->buffer_left = 0;
     if (cut > policy->open) {
-        policy->open = policy->rest = 0;
+        policy->open = policy->buffer_left = 0;
         return;
     }
     policy->open -= cut;
-    if (size <= policy->buffer) policy->mutator = mutator, policy->rest = cut - size;
+    if (size <= policy->buffer) policy->buffer_of = mutator, policy->buffer_left = cut - size;
 }
 
 /* Sets how many words may be asked for, by objects of at most half a region, before anything is looked at again: up to the next half region
    at most, and so that more regions than the kept ones stay free whatever is left over in buffers and regions. a words that are asked for
    cut at most 2 a words and a buffer for each mutator, and c words that are cut take at most 2 c and a region. */
-static inline void g1_policy_rest(g1_policy *policy, uint32_t free)
+static inline void g1_policy_wait(g1_policy *policy, uint32_t free)
 {
     uint64_t above = free > G1_KEPT + 1 ? (uint64_t)(free - G1_KEPT - 1) * policy->words : 0;
     uint64_t most = above > policy->buffers ? (above - policy->buffers) / 4 : 0;
     uint32_t due = policy->words / 2 - g1_least(policy->asked, policy->words / 2);
-    policy->span = policy->left = (uint32_t)(most < due ? most : due);
-    if (policy->left != 0) policy->open = policy->rest = 0;
+    policy->until = policy->left = (uint32_t)(most < due ? most : due);
+    if (policy->left != 0) policy->open = policy->buffer_left = 0;
 }
 
 static inline g1_answer g1_new_any(g1_heap *heap, uint32_t mutator, uint32_t to, uint32_t pointers, uint32_t weaks, uint32_t values)
@@ -237,7 +236,7 @@ static inline g1_answer g1_make_looking(g1_heap *heap, g1_policy *policy, uint32
     uint64_t size = (uint64_t)2 + pointers + weaks + values;
     g1_answer made = {G1_FULL, 0, 0};
     uint32_t free, after;
-    policy->asked += policy->span - policy->left + (uint32_t)(size < policy->words ? size : policy->words);
+    policy->asked += policy->until - policy->left + (uint32_t)(size < policy->words ? size : policy->words);
     if (policy->asked * 2 >= policy->words) g1_collect(heap, policy, G1_DUE);
     for (int pressure = G1_PRESSED;; pressure++) {
         free = g1_free_count(heap);
@@ -250,7 +249,7 @@ static inline g1_answer g1_make_looking(g1_heap *heap, g1_policy *policy, uint32
     after = g1_free_count(heap);
     if (made.code == G1_NAME && size <= policy->words / 2 && free <= G1_KEPT + 1)
         g1_policy_note(policy, mutator, (uint32_t)size, free, after);
-    g1_policy_rest(policy, after);
+    g1_policy_wait(policy, after);
     return made;
 }
 
@@ -262,10 +261,9 @@ static inline g1_answer g1_make(g1_heap *heap, g1_policy *policy, uint32_t mutat
     uint64_t size = (uint64_t)2 + pointers + weaks + values;
     g1_answer made;
     if (size >= policy->left) return g1_make_looking(heap, policy, mutator, to, pointers, weaks, values);
-    made = g1_new_any(heap, mutator, to, pointers, weaks, values);
-    if (made.code == G1_FULL) return g1_make_looking(heap, policy, mutator, to, pointers, weaks, values);
     policy->left -= (uint32_t)size;
-    return made;
+    made = g1_new_any(heap, mutator, to, pointers, weaks, values);
+    return made.code != G1_FULL ? made : g1_make_looking(heap, policy, mutator, to, pointers, weaks, values);
 }
 
 #ifdef __cplusplus

@@ -41,6 +41,12 @@ static uint32_t fill(uint32_t size)
     return count;
 }
 
+static void drop_most(uint32_t count)
+{
+    for (uint32_t slot = 0; slot < count; slot++)
+        if (slot % 8 != 0) drop_slot(slot);
+}
+
 /* Full of objects that live, seven of eight of which then die: none of 20 new ones is refused. */
 static void fill_and_drop(void)
 {
@@ -52,8 +58,7 @@ static void fill_and_drop(void)
             count = fill(sizes[j]);
             is(count < SLOTS && count * sizes[j] * 2 > (regions[i] - 2) * 256, "full too early", regions[i], sizes[j]);
             is(g1_free_count(&heap) == 2, "two regions aren't kept", regions[i], sizes[j]);
-            for (uint32_t slot = 0; slot < count; slot++)
-                if (slot % 8 != 0) drop_slot(slot);
+            drop_most(count);
             for (int more = 0; more < 20; more++) refused += make(0, 1, sizes[j]) != G1_NAME;
             is(refused == 0, "refused though most died", regions[i], sizes[j]);
         }
@@ -86,6 +91,13 @@ static void use_large(void)
     start(16, 64, 7, 1);
     for (uint32_t size = 64 * 13; size <= 64 * 16; size += 64)
         is(make(0, 0, size) == G1_NAME, "an object of nearly the whole heap", size, g1_free_count(&heap)), g1_drop(&heap, 0, 0);
+    start(24, 256, 31, 1);
+    drop_most(fill(16));
+    is(make(0, 0, 256 * 12) == G1_NAME, "half of the heap at once, where most died", g1_free_count(&heap), 0);
+    start(16, 64, 7, 1);
+    make(0, 0, 100), g1_begin(&heap), g1_drop(&heap, 0, 0);
+    g1_collect(&heap, &policy, G1_WHOLE);
+    is(g1_free_count(&heap) == 16, "a whole collection while marking ran", g1_free_count(&heap), 0);
 }
 
 /* Where a heap is full too, what names no step is told as that. */
@@ -95,7 +107,8 @@ static void use_wrongly(void)
     for (int full = 0; full < 2; full++) {
         is(make(2, 0, 4) == G1_NO_STEP && make(0, 8, 4) == G1_NO_STEP, "no such mutator or register", (uint32_t)full, 0);
         is(g1_make(&heap, &policy, 0, 0, 0, 256, 0).code == G1_NO_STEP, "too many weak slots", (uint32_t)full, 0);
-        is(make(0, 0, 65) == G1_TOO_BIG, "too big", (uint32_t)full, 0);
+        uint64_t cycles = policy.cycles;
+        is(make(0, 0, 65) == G1_TOO_BIG && policy.cycles == cycles, "too big", (uint32_t)full, 0);
         is(g1_make(&heap, &policy, 0, 0, UINT32_MAX, 0, UINT32_MAX).code == G1_TOO_BIG, "too big", (uint32_t)full, 1);
         fill(8);
     }
