@@ -1,4 +1,6 @@
 pub mod Parts
 pub mod Moments
+mod Rates
+pub mod Courses
 mod Drawn
 mod Redrawn

@@ -1,5 +1,5 @@
 -- The moments of a run.
-use Rattle.std.specs.Prelude.{◌≡◌, ℕ, ◌+◌, ◌≤◌, ◌⊎◌, Bool, true, false, min, All, List, [], ◌∷◌, ◌++◌, length, map, take}
+use Rattle.std.specs.Prelude.{◌≡◌, ℕ, ◌+◌, ◌<◌, ◌≤◌, ◌⊎◌, ⊤, Bool, true, false, min, All, List, [], ◌∷◌, ◌++◌, length, map, take}
 use Rattle.heap_words.specs.declared.config.Config.{Config}
 use Rattle.heap_steps.specs.declared.step.Event.{Event}
 use Rattle.heap_steps.specs.declared.step.Reply.{Reply}
@@ -11,6 +11,7 @@ use Rattle.step_core.specs.Stands.{CoreState, Stands}
 use Rattle.step_core.specs.Histories.{Runs, RunsTo, step_in, actor_in}
 use Rattle.heap_life.specs.Numbers.{IsNumbersOf}
 use Rattle.heap_life.specs.Paces.{IsDue, IsPaceFor, most_moments}
+use Rattle.heap_life.specs.declared.pace.Pace.{Pace}
 use Rattle.heap_life.specs.declared.life.Moment.{Moment}
 use Rattle.heap_life.specs.declared.life.Life.{Life}
 
@@ -52,8 +53,25 @@ abbrev pub HasMoment : List Moment → ℕ → Type 0
 HasMoment [] n = ⊥
 HasMoment (m ∷ ms) n = (m.event ≡ n) ⊎ HasMoment ms n
 
+-- each of the moments has fewer events behind it than those after it
+abbrev pub AreRising : List Moment → Type 0
+AreRising [] = ⊤
+AreRising (m ∷ ms) = All (λ later. m.event < later.event) ms × AreRising ms
+
+-- The steps of some events were done from a first core on, which led to core c: the history has them with their replies, and the moments
+-- are exactly those that the pace wants, in their order
+pub record IsLived (first : CoreState) (p : Pace) (events : List Event) (c : CoreState) (history : EventList) (ms : List Moment) : Type 0 where
+  pub config : history.config ≡ first.config
+  pub steps : map step_in history.events ≡ map step_in events
+  pub actors : map actor_in history.events ≡ map actor_in events
+  pub runs : (s : State) → Stands s first → Runs s first history.events c
+  pub each : All (IsMomentFrom first history.events) ms
+  pub due : (n : ℕ) → n ≤ length events → IsDue p events n → HasMoment ms n
+  pub only : All (λ m. IsDue p events m.event) ms
+  pub rising : AreRising ms
+
 -- A life of a new heap over the steps of some events: its record is a run of the graph with these steps and actors, each of its moments is
--- one of the run, and there is one wherever the pace wants one, which is the one that was asked for where it makes few enough
+-- one of the run, there is one wherever the pace wants one and nowhere else, in rising order, and the pace is for these events
 pub record IsLifeOf (every : ℕ) (events : EventList) (life : Life) : Type 0 where
   pub config : life.history.config ≡ events.config
   pub steps : map step_in life.history.events ≡ map step_in events.events
@@ -65,3 +83,5 @@ pub record IsLifeOf (every : ℕ) (events : EventList) (life : Life) : Type 0 wh
   pub each : All (IsMomentOf events.config life.history.events) life.moments.items
   pub pace : IsPaceFor every (most_moments events.config) events.events life.pace
   pub due : (n : ℕ) → n ≤ length events.events → IsDue life.pace events.events n → HasMoment life.moments.items n
+  pub only : All (λ m. IsDue life.pace events.events m.event) life.moments.items
+  pub rising : AreRising life.moments.items

@@ -1,0 +1,5 @@
+use Rattle.heap_life.proofs.Courses.{IsCourseOf}
+use Rattle.heap_life.proofs.course.live_on.Given as goal
+
+abbrev pub invariant-loop-index : goal.invariant-loop-index
+invariant-loop-index l = IsCourseOf l.initial.core l.pace l.events l.index l.core l.course
