@@ -4,3 +4,5 @@ mod Rates
 pub mod Courses
 mod Drawn
 mod Redrawn
+pub mod Putting
+pub mod NamedRoots

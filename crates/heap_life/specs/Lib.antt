@@ -3,6 +3,8 @@ pub mod Numbers
 pub mod Paces
 pub mod Lives
 pub mod Courses
+pub mod Telling
+pub mod RegionTexts
 pub mod Pages
 pub mod Drawings
 pub mod Redrawings
