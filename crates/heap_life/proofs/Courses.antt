@@ -11,7 +11,11 @@ use Rattle.step_core.specs.Stands.{CoreState, Stands}
 use Rattle.step_core.specs.Histories.{Runs, step_in, actor_in}
 use Rattle.heap_life.specs.Paces.{counts, counted, one_if, IsShown, IsDue}
 use Rattle.heap_life.specs.Numbers.{IsNumbersOf}
-use Rattle.heap_life.specs.Lives.{moved_by, moved_in, IsMomentFrom, HasMoment, NotesIf, AreRising, IsLived}
+use Rattle.heap_life.specs.Lives.{moved_by, moved_in, IsMomentFrom, HasMoment, NotesIf, NotesTold, ToldBy, IsToldOf, AreRising, IsLived}
+use Rattle.heap_life.specs.Tolds.{Told}
+use Rattle.heap_life.specs.Tellers.{HasTold}
+use Rattle.heap_life.specs.declared.moment_text.Teller.{Teller}
+use Rattle.heap_life.proofs.Shown.{told_grown, told_noted, told_start}
 use Rattle.heap_life.specs.Courses.{shows, Passes}
 use Rattle.heap_life.specs.declared.life.Moment.{Moment}
 use Rattle.heap_life.specs.declared.pace.Pace.{Pace}
@@ -20,7 +24,7 @@ use Rattle.heap_life.proofs.Moments.{grown_at, many_more, counted_at, one_most, 
 use Rattle.heap_life.proofs.Moments.{shown_ahead, stops}
 
 -- n events of the list are done from a first core on
-pub record IsCourseOf (first : CoreState) (p : Pace) (xs : List Event) (n : ℕ) (c : CoreState) (x : Course) : Type 0 where
+pub record IsCourseOf (most : ℕ) (t : Told) (first : CoreState) (p : Pace) (xs : List Event) (n : ℕ) (c : CoreState) (x : Course) : Type 0 where
   pub history : (s : State) → Stands s first → Runs s first x.done.events c
   pub steps : map step_in x.done.events ≡ take n (map step_in xs)
   pub actors : map actor_in x.done.events ≡ take n (map actor_in xs)
@@ -37,6 +41,8 @@ pub record IsCourseOf (first : CoreState) (p : Pace) (xs : List Event) (n : ℕ)
   pub rising : AreRising x.moments.items
   pub start : n ≡ 0 → x.behind ≡ true
   pub behind : (i : ℕ) → suc i ≡ n → IsShown p xs i → x.behind ≡ true
+  pub told : IsToldOf most t first x.done.events x.moments.items x.teller
+  pub teller : length x.teller.last.items ≡ c.config.regions
   pub why : x.behind ≡ true → (n ≡ 0) ⊎ ((i : ℕ) × (suc i ≡ n) × IsShown p xs i)
 
 -- ---- why a moment is due
@@ -100,11 +106,16 @@ rising_noted false c event copied ms ms' h rising below = subst (λ (l : List Mo
 wider : (ms : List Moment) (n : ℕ) → All (λ (k : Moment). k.event < n) ms → All (λ (k : Moment). k.event < n + 1) ms
 wider ms n h = λ k d lt. let less = h k d lt in omega arith
 
+teller_size : (due : Bool) (c : CoreState) (event copied : ℕ) (ms ms' : List Moment) (x y : Teller)
+    → (h : NotesIf due c event copied ms ms') → ToldBy due c event copied ms ms' h x y → length y.last.items ≡ length x.last.items
+teller_size true c event copied ms ms' x y h told = told.size
+teller_size false c event copied ms ms' x y h told = ap (λ (z : Teller). length z.last.items) told
+
 -- ---- a course, and one event more
 
-pub passed : (first : CoreState) (p : Pace) (xs : List Event) (n : ℕ) (e : Event) (c c' : CoreState) (x y : Course)
-    → IsCourseOf first p xs n c x → n < length xs → slice_get xs n ≡ Some e → Passes p e n c c' x y → IsCourseOf first p xs (n + 1) c' y
-passed first p xs n e c c' x y inv lt at h =
+pub passed : (most : ℕ) (t : Told) (first : CoreState) (p : Pace) (xs : List Event) (n : ℕ) (e : Event) (c c' : CoreState) (x y : Course)
+    → IsCourseOf most t first p xs n c x → n < length xs → slice_get xs n ≡ Some e → Passes p e n c c' x y → IsCourseOf most t first p xs (n + 1) c' y
+passed most t first p xs n e c c' x y inv lt at h =
     let made = h.made in
     let events = h.events in
     let due = x.behind || shows p e.step x.counted || n % p.every == 0 in
@@ -133,6 +144,12 @@ passed first p xs n e c c' x y inv lt at h =
       below = noted_all (λ (m : Moment). m.event < n + 1) due c n x.copied x.moments.items y.moments.items h.notes
           (wider x.moments.items n inv.below) (λ m is here. omega arith);
       rising = rising_noted due c n x.copied x.moments.items y.moments.items h.notes inv.rising inv.below;
+      told = subst (λ (es : List Event). IsToldOf most t first es y.moments.items y.teller) (sym events)
+          (told_grown most t first x.done.events made y.moments.items y.teller
+          (told_noted most t due first c x.done.events n x.copied x.moments.items y.moments.items x.teller y.teller h.notes h.told
+          (sym inv.many) inv.history inv.told));
+      teller = teller_size due c n x.copied x.moments.items y.moments.items x.teller y.teller h.notes h.told ∙ inv.teller
+          ∙ sym (ap (λ (k : Config). k.regions) h.passed.config);
       start = λ none. absurd (omega (arith, none));
       behind = λ i is shown. let same : i ≡ n = omega (arith, is) in
           h.behind ∙ ahead (subst (λ (k : ℕ). IsShown p xs k) same shown);
@@ -141,10 +158,13 @@ passed first p xs n e c c' x y inv lt at h =
 
 -- ---- the whole course
 
-pub begun : (first : CoreState) (p : Pace) (xs : List Event) (x : Course) → x.done.config ≡ first.config → x.done.events ≡ []
+pub begun : (most : ℕ) (t : Told) (first : CoreState) (p : Pace) (xs : List Event) (x : Course) → x.done.config ≡ first.config → x.done.events ≡ []
     → x.counted ≡ 0 → x.copied ≡ 0 → x.behind ≡ true → x.moments.items ≡ []
-    → ((s : State) → Stands s first → Runs s first [] first) → IsCourseOf first p xs 0 first x
-begun first p xs x sizes events counted copied behind moments runs = record {
+    → ((s : State) → Stands s first → Runs s first [] first) → HasTold t x.teller → x.teller.most ≡ most
+    → length x.teller.last.items ≡ first.config.regions → IsCourseOf most t first p xs 0 first x
+begun most t first p xs x sizes events counted copied behind moments runs told limit teller = record {
+  told = told_start most t first x.done.events x.moments.items x.teller moments told limit;
+  teller = teller;
   history = λ s st. subst (λ (es : List Event). Runs s first es first) (sym events) (runs s st);
   steps = ap (λ (es : List Event). map step_in es) events;
   actors = ap (λ (es : List Event). map actor_in es) events;
@@ -164,9 +184,10 @@ begun first p xs x sizes events counted copied behind moments runs = record {
   why = λ is. inl refl;
 }
 
-pub lived : (first : CoreState) (p : Pace) (xs : List Event) (c : CoreState) (x : Course) (ms : List Moment) (n : ℕ) → n ≡ length xs
-    → IsCourseOf first p xs n c x → NotesIf true c (length xs) x.copied x.moments.items ms → IsLived first p xs c x.done ms
-lived first p xs c x ms n is inv notes = record {
+pub lived : (most : ℕ) (t : Told) (first : CoreState) (p : Pace) (xs : List Event) (c : CoreState) (x : Course) (ms : List Moment)
+    (y : Teller) (n : ℕ) → n ≡ length xs → IsCourseOf most t first p xs n c x
+    → NotesTold true c (length xs) x.copied x.moments.items ms x.teller y → IsLived most t first p xs c x.done ms y
+lived most t first p xs c x ms y n is inv noted = let notes = noted.0 in record {
   config = inv.sizes;
   steps = inv.steps ∙ take_all n (map step_in xs) (let l = length-map xs step_in in omega arith);
   actors = inv.actors ∙ take_all n (map actor_in xs) (let l = length-map xs actor_in in omega arith);
@@ -178,4 +199,6 @@ lived first p xs c x ms n is inv notes = record {
       (λ m due here. subst (λ (k : ℕ). IsDue p xs k) (sym here) (inr (inl refl)));
   rising = rising_noted true c (length xs) x.copied x.moments.items ms notes inv.rising
       (subst (λ (k : ℕ). All (λ (m : Moment). m.event < k) x.moments.items) is inv.below);
+  told = told_noted most t true first c x.done.events (length xs) x.copied x.moments.items ms x.teller y notes noted.1
+      (sym is ∙ sym inv.many) inv.history inv.told;
 }

@@ -6,3 +6,5 @@ mod Drawn
 mod Redrawn
 pub mod Putting
 pub mod NamedRoots
+pub mod Tellings
+pub mod Shown

@@ -6,7 +6,7 @@ use Rattle.object_graph.specs.State.{State}
 use Rattle.step_core.specs.Stands.{CoreState}
 use Rattle.step_core.specs.Histories.{Runs}
 use Rattle.heap_life.specs.Paces.{counts, one_if}
-use Rattle.heap_life.specs.Lives.{moved_by, NotesIf}
+use Rattle.heap_life.specs.Lives.{moved_by, NotesIf, ToldBy}
 use Rattle.heap_life.specs.declared.pace.Pace.{Pace}
 use Rattle.heap_life.specs.declared.course.Course.{Course}
 
@@ -31,3 +31,5 @@ pub record Passes (p : Pace) (e : Event) (n : ℕ) (c c' : CoreState) (x y : Cou
   pub copied : y.copied ≡ min (x.copied + moved_by made.reply) 18446744073709551615
   pub behind : y.behind ≡ shows p e.step x.counted
   pub notes : NotesIf (x.behind || shows p e.step x.counted || n % p.every == 0) c n x.copied x.moments.items y.moments.items
+  pub told : ToldBy (x.behind || shows p e.step x.counted || n % p.every == 0) c n x.copied x.moments.items y.moments.items notes x.teller
+      y.teller

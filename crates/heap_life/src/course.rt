@@ -2,7 +2,9 @@
 
 ghost use Rattle.std.specs.Prelude.{◌≡◌, ◌<◌, ◌+◌, ◌%◌, ◌==◌, ◌||◌, IfOk, ℕ, OnOk, Some, length, slice_get};
 ghost use Rattle.heap_steps.specs.Actors.{AreEvents, IsStep, IsStepOf};
-ghost use Rattle.heap_life.specs.Lives.{moved_by, NotesIf, IsLived};
+ghost use Rattle.heap_life.specs.Lives.{moved_by, NotesTold, IsLived};
+ghost use Rattle.heap_life.specs.Tolds.{nothing_told};
+ghost use Rattle.heap_life.specs.Tellers.{HasTold};
 ghost use Rattle.heap_life.specs.Courses.{IsDone, Passes};
 
 use crate::life::Moment;
@@ -71,7 +73,7 @@ fn words_moved(reply: Reply) -> u64
     }
 }
 
-/// Adds a moment, where one is due.
+/// Adds a moment and tells it, where one is due.
 fn note_if(
     due: bool,
     core: &Core,
@@ -80,15 +82,18 @@ fn note_if(
     event: u64,
     copied: u64,
 ) -> Result<(), AllocError>
-    ensures { OnOk result (NotesIf due core.now event copied moments.old.items moments.new.items) }
+    requires { length teller.old.last.items ≡ core.now.config.regions }
+    ensures { OnOk result (NotesTold due core.now event copied moments.old.items moments.new.items teller.old teller.new) }
 {
     if !due {
         return Ok(());
     }
+    core.remembers();
+    let numbers = numbers_of(core);
     let moment = Moment {
         event,
         copied,
-        numbers: numbers_of(core),
+        numbers,
     };
     moments.push(moment)?;
     teller.tell(core, &moment);
@@ -130,6 +135,7 @@ fn pass(
     requires step { IsStep core.old.config event.step }
     requires sizes { course.old.done.config ≡ core.old.config }
     requires few { course.old.counted < 18446744073709551615 }
+    requires teller { length course.old.teller.last.items ≡ core.old.config.regions }
     ensures { OnOk result (Passes pace.now event index core.old core.new course.old course.new) }
 {
     let ahead = pace.shows(event.step, course.counted);
@@ -159,8 +165,11 @@ pub(crate) fn live_on(
     pace: &Pace,
     teller: Teller,
 ) -> Result<Course, AllocError>
-    requires { AreEvents core.old.config events.now }
-    ensures { IfOk result (λ x. IsLived core.old pace.now events.now core.new x.done x.moments.items) }
+    requires events { AreEvents core.old.config events.now }
+    requires teller { length teller.last.items ≡ core.old.config.regions }
+    requires told { HasTold (nothing_told teller.tiles) teller }
+    ensures { IfOk result (λ x. IsLived teller.most (nothing_told teller.tiles) core.old pace.now events.now core.new x.done
+        x.moments.items x.teller) }
 {
     let mut course = Course {
         done: Record::with_room(alloc, core.config(), events.len())?,

@@ -13,7 +13,8 @@ ghost use Rattle.heap_steps.specs.Actors.{AreEvents, IsStep, IsStepOf};
 ghost use Rattle.heap_steps.specs.Faults.{IsRunFault};
 ghost use Rattle.step_core.specs.Histories.{step_in, actor_in, actor_of};
 ghost use Rattle.heap_life.specs.Paces.{most_moments};
-ghost use Rattle.heap_life.specs.Lives.{IsLived, IsLifeOf};
+ghost use Rattle.heap_life.specs.Lives.{IsLifeFrom, IsLifeOf};
+ghost use Rattle.heap_life.specs.Tolds.{tells_tiles};
 
 use crate::course::live_on;
 use crate::moment_text::Teller;
@@ -85,7 +86,9 @@ fn most_moments(config: &Config) -> u64
 }
 
 /// Whether a heap of these sizes has its tiles told.
-fn tells_tiles(config: &Config) -> bool {
+fn tells_tiles(config: &Config) -> bool
+    ensures { result ≡ tells_tiles config.now }
+{
     u64::from(config.regions) * u64::from(config.words) <= u64::from(TOLD_WORDS)
 }
 
@@ -121,18 +124,19 @@ pub fn planned(alloc: Global, plan: &Plan) -> Result<Record, AllocError>
 /// The life of a core over the steps of events.
 fn life_of(alloc: Global, core: &mut Core, events: &[Event], pace: Pace) -> Result<Life, AllocError>
     requires { AreEvents core.old.config events.now }
-    ensures lived { IfOk result (λ l. IsLived core.old pace events.now core.new l.history l.moments.items) }
+    ensures lived { IfOk result (λ l. IsLifeFrom core.old pace events.now core.new l) }
     ensures pace { IfOk result (λ l. l.pace ≡ pace) }
 {
     let config = core.config();
     let teller = Teller::new(alloc, config.regions, tells_tiles(&config), TOLD_BYTES)?;
     let course = live_on(alloc, core, events, &pace, teller)?;
     let (history, moments, teller) = course.into_parts();
+    let told = teller.into_text()?;
     Ok(Life {
         history,
         pace,
         moments,
-        told: teller.into_text()?,
+        told,
     })
 }
 

@@ -9,9 +9,12 @@
 //!   r ..                                                                                    regions, as `region_text` has them
 //! ```
 
-ghost use Rattle.std.specs.Prelude.{◌≡◌, ◌<◌, ◌≤◌, ℕ, [], None, Some, length, take, flat_map, slice_index_or};
+ghost use Rattle.std.specs.Prelude.{◌≡◌, ◌<◌, ◌≤◌, ◌&&◌, ℕ, [], None, Some, All, IfOk};
+ghost use Rattle.std.specs.Prelude.{length, take, flat_map, slice_index_or, nat_le};
 ghost use Rattle.script_text.specs.Texts.{Adds, spaced_number};
 ghost use Rattle.heap_life.specs.Telling.{buffer_of, current_text, heap_text, log_of, queue_text, roots_text, state_text};
+ghost use Rattle.heap_life.specs.RegionTexts.{region_text};
+ghost use Rattle.heap_life.specs.Tolds.{TellsRegion, TellsRegions, end_text};
 ghost use Rattle.heap_life.specs.Telling.{named, root_at, root_text, text_below, totals_text};
 
 use crate::life::Moment;
@@ -29,16 +32,6 @@ const MOST_CARDS: u32 = 512;
 
 /// How many roots are told.
 const MOST_ROOTS: u32 = 64;
-
-/// What is told of moments, and what was told last of each region.
-#[derive(Drop)]
-pub struct Teller {
-    text: Text,
-    block: Text,
-    last: Vec<Text>,
-    tiles: bool,
-    most: usize,
-}
 
 /// The current region's number, or a dash.
 fn put_current(buffers: &AllocBuffers, text: &mut Text, regions: u32)
@@ -212,20 +205,100 @@ fn put_heap(core: &Core, text: &mut Text, moment: &Moment)
     put_roots(core, text);
 }
 
+/// Tells a region, unless its lines are those that were told of it last. `block` has room for them.
+fn tell_region(
+    core: &Core,
+    region: RegionNo,
+    tiles: bool,
+    block: &mut Text,
+    last: &mut Text,
+    text: &mut Text,
+)
+    requires { region < length core.now.table.regions }
+    ensures { TellsRegion (region_text tiles core.now region) last.old last.new text.old text.new }
+{
+    block.clear();
+    put_region(core, block, region, tiles);
+    if block.is(last) {
+        return;
+    }
+    last.clear();
+    last.put_text(block);
+    text.put_text(last);
+}
+
+/// Tells the regions that aren't as they were told last.
+fn tell_regions(core: &Core, tiles: bool, block: &mut Text, last: &mut Vec<Text>, text: &mut Text)
+    requires { length last.old.items ≡ length core.now.table.regions }
+    ensures told { TellsRegions (region_text tiles core.now) (length core.now.table.regions) last.old.items last.new.items text.old
+        text.new }
+    ensures size { length last.new.items ≡ length last.old.items }
+{
+    let count = core.table().region_count();
+    for number in 0..count {
+        let region = RegionNo::new(number);
+        tell_region(core, region, tiles, block, &mut last[number as usize], text);
+    }
+}
+
+/// Adds that tiles are told no more, where they were.
+fn put_end(text: &mut Text, before: bool, tiles: bool)
+    ensures { Adds text.old (end_text before tiles) text.new }
+{
+    if before && !tiles {
+        text.put("z\n");
+    }
+}
+
+/// Whether tiles are told with a text of so many bytes, where they were told before.
+fn tells_on(before: bool, length: usize, most: usize) -> bool
+    ensures { result ≡ (before && nat_le length most) }
+{
+    before && length <= most
+}
+
+/// So many empty texts.
+fn empty_texts(alloc: Global, count: u32) -> Result<Vec<Text>, AllocError>
+    ensures size { IfOk result (λ texts. length texts.items ≡ count) }
+    ensures empty { IfOk result (λ texts. All (λ text. text ≡ Some []) texts.items) }
+{
+    let mut texts = Vec::new(alloc);
+    for _number in 0..count {
+        texts.push(Text::new(alloc))?;
+    }
+    Ok(texts)
+}
+
+/// What is told of moments, and what was told last of each region.
+#[derive(Drop)]
+pub struct Teller {
+    /// What was told.
+    pub text: Text,
+    /// Room for the lines of a region.
+    pub block: Text,
+    /// What was told last of each region.
+    pub last: Vec<Text>,
+    /// Whether tiles are told.
+    pub tiles: bool,
+    /// With how many bytes told tiles aren't any more.
+    pub most: usize,
+}
+
 impl Teller {
+    ghost use Rattle.heap_life.specs.Tolds.{nothing_told};
+    ghost use Rattle.heap_life.specs.Tellers.{HasTold, TellsMoment};
+
     /// Nothing is told yet, of so many regions. Tiles are told until so many bytes are.
-    pub fn new(
-        alloc: Global,
-        regions: u32,
-        tiles: bool,
-        most: usize,
-    ) -> Result<Teller, AllocError> {
-        let mut last = Vec::new(alloc);
-        for _ in 0..regions {
-            last.push(Text::new(alloc))?;
-        }
+    pub fn new(alloc: Global, regions: u32, tiles: bool, most: usize) -> Result<Teller, AllocError>
+        ensures told { IfOk result (HasTold (nothing_told tiles)) }
+        ensures limit { IfOk result (λ x. x.most ≡ most) }
+        ensures tiles { IfOk result (λ x. x.tiles ≡ tiles) }
+        ensures size { IfOk result (λ x. length x.last.items ≡ regions) }
+    {
+        let last = empty_texts(alloc, regions)?;
+        let text = Text::new(alloc);
         Ok(Teller {
-            text: Text::new(alloc),
+            text,
             block: Text::new(alloc),
             last,
             tiles,
@@ -234,36 +307,21 @@ impl Teller {
     }
 
     /// What was told, unless memory was refused.
-    pub fn into_text(self) -> Result<Vec<u8>, AllocError> {
+    pub fn into_text(self) -> Result<Vec<u8>, AllocError>
+        ensures { IfOk result (λ bytes. self.text ≡ Some bytes.items) }
+    {
         self.text.into_bytes()
     }
 
-    /// Tells a region, unless it is as it was told last.
-    fn tell_region(&mut self, core: &Core, region: RegionNo)
-        requires { region < length core.now.table.regions }
-    {
-        self.block.clear();
-        put_region(core, &mut self.block, region, self.tiles);
-        let Some(last) = self.last.get_mut(region.number() as usize) else {
-            return;
-        };
-        if self.block.is(last) {
-            return;
-        }
-        last.clear();
-        last.put_text(&self.block);
-        self.text.put_text(last);
-    }
-
     /// Tells a moment.
-    pub fn tell(&mut self, core: &Core, moment: &Moment) {
+    pub fn tell(&mut self, core: &Core, moment: &Moment)
+        requires { length self.old.last.items ≡ length core.now.table.regions }
+        ensures { TellsMoment core.now moment.now self.old self.new }
+    {
         put_heap(core, &mut self.text, moment);
-        if self.tiles && self.text.len() > self.most {
-            self.tiles = false;
-            self.text.put("z\n");
-        }
-        for number in 0..core.table().region_count() {
-            self.tell_region(core, RegionNo::new(number));
-        }
+        let tiles = tells_on(self.tiles, self.text.len(), self.most);
+        put_end(&mut self.text, self.tiles, tiles);
+        self.tiles = tiles;
+        tell_regions(core, tiles, &mut self.block, &mut self.last, &mut self.text);
     }
 }

@@ -1,4 +1,6 @@
-use Rattle.std.proofs.Common.{◌∙◌, ◌≤◌, ℕ, List, length, map, ap, subst, sym}
+use Rattle.std.proofs.Common.{◌≡◌, ◌∙◌, ◌≤◌, ℕ, List, length, map, take, ap, subst, sym}
+use Rattle.step_core.specs.Stands.{CoreState}
+use Rattle.heap_life.specs.Tolds.{nothing_told, tells_tiles, told_of}
 use Rattle.std.specs.Prelude.{All}
 use Rattle.heap_words.specs.declared.config.Config.{Config}
 use Rattle.heap_steps.specs.Actors.{AreEvents}
@@ -32,7 +34,9 @@ returns-in-Ok-life_of-clause-life c =
     let es = life.history.events in
     let ms = life.moments.items in
     let made = c.in-Ok.ensures in
-    let lived = c.in-Ok-life_of.ensures.lived in
+    let from = c.in-Ok-life_of.ensures.lived in
+    let lived = from.lived in
+    let shown = lived.told.shown in
     let pace = c.in-Ok-life_of.ensures.pace in
     let events = c.events-2.ensures.events in
     let config = c.config-config.result in
@@ -57,4 +61,11 @@ returns-in-Ok-life_of-clause-life c =
       only = subst (λ (p : Pace). All (λ (m : Moment). IsDue p c.args.events.now.events m.event) ms) (sym pace)
           (subst (λ (l : List Event). All (λ (m : Moment). IsDue c.pace_of-pace.result l m.event) ms) events lived.only);
       rising = lived.rising;
+      shown = shown;
+      moments = lived.told.moments;
+      cores = subst (λ (k : Config). All (λ (x : Moment × CoreState). RunsTo k (take x.0.event es) x.1) shown) is
+          (λ i d lt. let after = lived.told.cores i d lt in
+          runs_to config c.in-Ok.core _ _ made.fresh made.core made.stands (after.runs (first_state config) made.stands));
+      told = subst (λ (k : Config). life.told.items ≡ (told_of 8000000 (nothing_told (tells_tiles k)) shown).text) (made.config ∙ is)
+          (lived.told.told life.told.items from.told).0;
     }
