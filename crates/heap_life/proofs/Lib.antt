@@ -1,4 +1,10 @@
 pub mod Parts
 pub mod Moments
+mod Rates
+pub mod Courses
 mod Drawn
 mod Redrawn
+pub mod Putting
+pub mod NamedRoots
+pub mod Tellings
+pub mod Shown

@@ -23,18 +23,19 @@ use Rattle.step_core.specs.Histories.{Runs, RunsTo}
 use Rattle.heap_life.specs.Numbers.{IsNumbersOf}
 use Rattle.heap_life.specs.declared.life.Moment.{Moment}
 use Rattle.heap_life.specs.declared.pace.Pace.{Pace}
-use Rattle.heap_life.specs.Paces.{counts, counted, one_if, IsShown, IsDue, IsPaceFor, most_moments}
+use Rattle.heap_life.specs.Paces.{counts, counts_with, counted, counted_with, one_if, IsShown, IsDue, IsPaceFor, most_moments}
 use Rattle.heap_life.specs.Lives.{moved_by, moved_in, IsMomentFrom, IsMomentOf, HasMoment, NotesIf}
 
 -- ---- counts and sums over one event more
 
-pub counted_more : (p : Pace) (es : List Event) (e : Event) → counted p (es ++ e ∷ []) ≡ counted p es + one_if (counts p e.step)
-counted_more p [] e = omega arith
-counted_more p (d ∷ es) e = let more = counted_more p es e in omega arith
+counted_more : (small : Bool) (es : List Event) (e : Event)
+    → counted_with small (es ++ e ∷ []) ≡ counted_with small es + one_if (counts_with small e.step)
+counted_more small [] e = omega arith
+counted_more small (d ∷ es) e = let more = counted_more small es e in omega arith
 
-pub counted_next : (p : Pace) (es : List Event) (i : ℕ) (d : Event) → i < length es
-    → counted p (take (i + 1) es) ≡ counted p (take i es) + one_if (counts p (get_or es i d).step)
-counted_next p es i d lt = ap (counted p) (take_more es i d lt) ∙ counted_more p (take i es) (get_or es i d)
+counted_next : (small : Bool) (es : List Event) (i : ℕ) (d : Event) → i < length es
+    → counted_with small (take (i + 1) es) ≡ counted_with small (take i es) + one_if (counts_with small (get_or es i d).step)
+counted_next small es i d lt = ap (counted_with small) (take_more es i d lt) ∙ counted_more small (take i es) (get_or es i d)
 
 pub moved_more : (es : List Event) (e : Event) → moved_in (es ++ e ∷ []) ≡ moved_in es + moved_by e.reply
 moved_more [] e = omega arith
@@ -145,9 +146,10 @@ shown_ahead p xs index count e at is h =
     let number : count % p.stride ≡ 0 = ap (λ (n : ℕ). n % p.stride) is ∙ h.nth in
     rw (counting, eq-eqb (count % p.stride) 0 number) refl
 
-pub counted_at : (p : Pace) (xs : List Event) (i : ℕ) (e : Event) → i < length xs → slice_get xs i ≡ Some e
-    → counted p (take (i + 1) xs) ≡ counted p (take i xs) + one_if (counts p e.step)
-counted_at p xs i e lt at = counted_next p xs i e lt ∙ ap (λ (d : Event). counted p (take i xs) + one_if (counts p d.step)) (here xs i e at)
+pub counted_at : (small : Bool) (xs : List Event) (i : ℕ) (e : Event) → i < length xs → slice_get xs i ≡ Some e
+    → counted_with small (take (i + 1) xs) ≡ counted_with small (take i xs) + one_if (counts_with small e.step)
+counted_at small xs i e lt at =
+    counted_next small xs i e lt ∙ ap (λ (d : Event). counted_with small (take i xs) + one_if (counts_with small d.step)) (here xs i e at)
 
 pub stops : (n every : ℕ) → n % every ≡ 0 → (n % every == 0) ≡ true
 stops n every e = eq-eqb (n % every) 0 e

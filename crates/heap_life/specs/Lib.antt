@@ -1,7 +1,12 @@
 pub mod Shares
 pub mod Numbers
 pub mod Paces
+pub mod Telling
+pub mod RegionTexts
+pub mod Tolds
+pub mod Tellers
 pub mod Lives
+pub mod Courses
 pub mod Pages
 pub mod Drawings
 pub mod Redrawings

@@ -1,5 +1,5 @@
 -- Which moments of a run are shown.
-use Rattle.std.specs.Prelude.{◌≡◌, ◌≤◌, ◌+◌, ◌*◌, ◌/◌, ◌%◌, ◌⊎◌, ◌∷◌}
+use Rattle.std.specs.Prelude.{◌≡◌, ◌<◌, ◌≤◌, ◌+◌, ◌*◌, ◌/◌, ◌%◌, ◌⊎◌, ◌∷◌}
 use Rattle.std.specs.Prelude.{ℕ, suc, min, max, Bool, true, false, List, [], Some, length, take, slice_get}
 use Rattle.heap_words.specs.declared.config.Config.{Config}
 use Rattle.heap_steps.specs.declared.step.Step.{Step}
@@ -8,21 +8,28 @@ use Rattle.heap_steps.specs.declared.step.CollectorStep.TheVariants as collector
 use Rattle.heap_steps.specs.declared.step.Event.{Event}
 use Rattle.heap_life.specs.declared.pace.Pace.{Pace}
 
--- whether a step counts: a collector's, and `mark` and `refine` only where the pace says so
+-- whether a step counts: a collector's, and `mark` and `refine` only where small steps count
+abbrev pub counts_with : Bool → Step → Bool
+counts_with small (steps.Mutator o) = false
+counts_with small (steps.Collector (collector.Mark k)) = small
+counts_with small (steps.Collector (collector.Refine k)) = small
+counts_with small (steps.Collector _) = true
+
+-- the same where the pace says so
 abbrev pub counts : Pace → Step → Bool
-counts p (steps.Mutator o) = false
-counts p (steps.Collector (collector.Mark k)) = p.small
-counts p (steps.Collector (collector.Refine k)) = p.small
-counts p (steps.Collector _) = true
+counts p step = counts_with p.small step
 
 abbrev pub one_if : Bool → ℕ
 one_if true = 1
 one_if false = 0
 
 -- how many of some events count
+abbrev pub counted_with : Bool → List Event → ℕ
+counted_with small [] = 0
+counted_with small (e ∷ es) = one_if (counts_with small e.step) + counted_with small es
+
 abbrev pub counted : Pace → List Event → ℕ
-counted p [] = 0
-counted p (e ∷ es) = one_if (counts p e.step) + counted p es
+counted p es = counted_with p.small es
 
 -- event i, from 0, has a moment before it and one behind it: it counts, and it is one of `stride`
 pub record IsShown (p : Pace) (es : List Event) (i : ℕ) : Type 0 where
@@ -39,6 +46,18 @@ IsDue p es n = (n ≡ 0) ⊎ (n ≡ length es) ⊎ (n % p.every ≡ 0) ⊎ IsSho
 abbrev pub most_moments : Config → ℕ
 most_moments c = max (min (268435456 / max (c.regions * c.words) 1) (min (262144 / max c.regions 1) 8000)) 64
 
--- a moment each `every` events was asked for: the pace has that, but where these alone would be more than half of the most moments
-abbrev pub IsPaceFor : ℕ → ℕ → List Event → Pace → Type 0
-IsPaceFor every most es p = length es / max every 1 ≤ most / 2 → p.every ≡ max every 1
+-- One of each `rate` of a whole is at most so many: the rate is the wish where that makes few enough, and else at most twice the least
+-- rate that does
+pub record IsRateFor (wish whole most rate : ℕ) : Type 0 where
+  pub wished : whole / wish ≤ most → rate ≡ wish
+  pub few : 0 < most → whole / rate ≤ most
+  pub near : most < whole / wish → (other : ℕ) → 0 < other → whole / other ≤ most → rate ≤ 2 * other
+
+-- The pace of some events, where a moment each `every` of them was asked for. Half of the most moments are for those: `every` is as asked
+-- where that is few enough. A quarter of them is for steps that count, which have two each: `mark` and `refine` count where all fit, and
+-- the stride is 1 where those that count fit
+pub record IsPaceFor (wish most : ℕ) (es : List Event) (p : Pace) : Type 0 where
+  pub every : IsRateFor (max wish 1) (length es) (most / 2) p.every
+  pub stride : IsRateFor 1 (counted p es) (most / 4) p.stride
+  pub all : counted_with true es ≤ most / 4 → p.small ≡ true
+  pub fewer : most / 4 < counted_with true es → p.small ≡ false

@@ -12,6 +12,7 @@
 //! The page's files are in `page/`; `tools/embed_page` makes the sources `page_parts` of them.
 #![tactic(auto)]
 
+mod course;
 mod draw;
 mod life;
 mod moment_text;
@@ -20,7 +21,6 @@ mod pace;
 mod pacing;
 mod page;
 mod page_parts;
-mod pieces;
 mod redraw;
 mod region_text;
 mod shares;

@@ -6,19 +6,19 @@
 //!   moments  0                  2               3           4       the first, the last, each `every`, and before and behind the pause
 //! ```
 
-ghost use Rattle.std.specs.Prelude.{◌≡◌, ◌≤◌, ◌<◌, ◌+◌, ◌%◌, ◌==◌, ◌||◌, All, IfOk, IfErr, ℕ, [], OnOk, Some, length, map, slice_get};
+ghost use Rattle.std.specs.Prelude.{◌≡◌, IfOk, IfErr, OnOk, map};
 ghost use Rattle.heap_words.specs.Configs.{Suits};
 ghost use Rattle.heap_words.specs.declared.config.Config.{Config};
 ghost use Rattle.heap_steps.specs.Actors.{AreEvents, IsStep, IsStepOf};
-ghost use Rattle.object_graph.specs.State.{State};
-ghost use Rattle.step_core.specs.Stands.{Stands};
 ghost use Rattle.heap_steps.specs.Faults.{IsRunFault};
-ghost use Rattle.step_core.specs.Histories.{Runs, step_in, actor_in, actor_of};
-ghost use Rattle.heap_life.specs.Paces.{counts, one_if, IsDue, most_moments};
-ghost use Rattle.heap_life.specs.Lives.{moved_by, IsMomentFrom, HasMoment, NotesIf, IsLifeOf};
+ghost use Rattle.step_core.specs.Histories.{step_in, actor_in, actor_of};
+ghost use Rattle.heap_life.specs.Paces.{most_moments};
+ghost use Rattle.heap_life.specs.Lives.{IsLifeFrom, IsLifeOf};
+ghost use Rattle.heap_life.specs.Tolds.{tells_tiles};
 
+use crate::course::live_on;
 use crate::moment_text::Teller;
-use crate::numbers::{Numbers, numbers_of};
+use crate::numbers::Numbers;
 use crate::pace::Pace;
 use crate::pacing::pace_of;
 use heap_steps::{Actor, Event, Plan, Record, Reply, RunFault, Step, run_fault};
@@ -49,112 +49,6 @@ pub struct Moment {
     pub copied: u64,
     /// The heap's numbers then.
     pub numbers: Numbers,
-}
-
-/// How many words a reply says were copied.
-fn words_moved(reply: Reply) -> u64
-    ensures { result ≡ moved_by reply }
-{
-    match reply {
-        Reply::Moved { words, .. } => u64::from(words),
-        _ => 0,
-    }
-}
-
-/// Adds a moment, where one is due.
-fn note_if(
-    due: bool,
-    core: &Core,
-    teller: &mut Teller,
-    moments: &mut Vec<Moment>,
-    event: u64,
-    copied: u64,
-) -> Result<(), AllocError>
-    ensures { OnOk result (NotesIf due core.now event copied moments.old.items moments.new.items) }
-{
-    if !due {
-        return Ok(());
-    }
-    let moment = Moment {
-        event,
-        copied,
-        numbers: numbers_of(core),
-    };
-    moments.push(moment)?;
-    teller.tell(core, &moment);
-    Ok(())
-}
-
-/// Whether a moment is due: behind a step that is shown, before one, or by the number of events.
-fn is_due(pace: &Pace, behind: bool, ahead: bool, done: u64) -> bool
-    ensures { result ≡ (behind || ahead || done % pace.now.every == 0) }
-{
-    behind || ahead || pace.is_stop(done)
-}
-
-/// The count of what counts, with a step more.
-fn count_on(pace: &Pace, step: Step, counted: u64) -> u64
-    requires { counted < 18446744073709551615 }
-    ensures { result ≡ counted + one_if (counts pace.now step) }
-{
-    if pace.counts(step) {
-        counted + 1
-    } else {
-        counted
-    }
-}
-
-/// The event at a place, whose step is one of a plan.
-fn event_at(events: &[Event], index: usize) -> Event
-    requires { index < length events.now }
-    ensures at { slice_get events.now index ≡ Some result }
-    ensures own { (config : Config) → AreEvents config events.now → IsStepOf config result.actor result.step }
-    ensures step { (config : Config) → AreEvents config events.now → IsStep config result.step }
-{
-    events[index]
-}
-
-/// Does the steps of events in their order, and adds the moments that the pace shows.
-pub(crate) fn live_on(
-    alloc: Global,
-    core: &mut Core,
-    events: &[Event],
-    pace: &Pace,
-    teller: &mut Teller,
-    moments: &mut Vec<Moment>,
-) -> Result<Record, AllocError>
-    requires events { AreEvents core.old.config events.now }
-    requires none { moments.old.items ≡ [] }
-    ensures config { IfOk result (λ r. r.config ≡ core.old.config) }
-    ensures steps { IfOk result (λ r. map step_in r.events ≡ map step_in events.now) }
-    ensures actors { IfOk result (λ r. map actor_in r.events ≡ map actor_in events.now) }
-    ensures runs { IfOk result (λ r. (s : State) → Stands s core.old → Runs s core.old r.events core.new) }
-    ensures each { IfOk result (λ r. All (IsMomentFrom core.old r.events) moments.new.items) }
-    ensures due { OnOk result ((n : ℕ) → n ≤ length events.now → IsDue pace.now events.now n → HasMoment moments.new.items n) }
-{
-    let mut done = Record::with_room(alloc, core.config(), events.len())?;
-    let mut counted = 0u64;
-    let mut copied = 0u64;
-    let mut behind = true;
-    for index in 0..events.len() {
-        let event = event_at(events, index);
-        let ahead = pace.shows(event.step, counted);
-        let due = is_due(pace, behind, ahead, index as u64);
-        note_if(due, core, teller, moments, index as u64, copied)?;
-        counted = count_on(pace, event.step, counted);
-        let reply = core.step(event.step);
-        core.whole();
-        core.remembers();
-        copied = copied.saturating_add(words_moved(reply));
-        done.push(Event {
-            actor: event.actor,
-            step: event.step,
-            reply,
-        })?;
-        behind = ahead;
-    }
-    note_if(true, core, teller, moments, events.len() as u64, copied)?;
-    Ok(done)
 }
 
 /// The life of a heap.
@@ -192,7 +86,9 @@ fn most_moments(config: &Config) -> u64
 }
 
 /// Whether a heap of these sizes has its tiles told.
-fn tells_tiles(config: &Config) -> bool {
+fn tells_tiles(config: &Config) -> bool
+    ensures { result ≡ tells_tiles config.now }
+{
     u64::from(config.regions) * u64::from(config.words) <= u64::from(TOLD_WORDS)
 }
 
@@ -228,23 +124,19 @@ pub fn planned(alloc: Global, plan: &Plan) -> Result<Record, AllocError>
 /// The life of a core over the steps of events.
 fn life_of(alloc: Global, core: &mut Core, events: &[Event], pace: Pace) -> Result<Life, AllocError>
     requires { AreEvents core.old.config events.now }
-    ensures config { IfOk result (λ l. l.history.config ≡ core.old.config) }
+    ensures lived { IfOk result (λ l. IsLifeFrom core.old pace events.now core.new l) }
     ensures pace { IfOk result (λ l. l.pace ≡ pace) }
-    ensures steps { IfOk result (λ l. map step_in l.history.events ≡ map step_in events.now) }
-    ensures actors { IfOk result (λ l. map actor_in l.history.events ≡ map actor_in events.now) }
-    ensures runs { IfOk result (λ l. (s : State) → Stands s core.old → Runs s core.old l.history.events core.new) }
-    ensures each { IfOk result (λ l. All (IsMomentFrom core.old l.history.events) l.moments.items) }
-    ensures due { IfOk result (λ l. (n : ℕ) → n ≤ length events.now → IsDue l.pace events.now n → HasMoment l.moments.items n) }
 {
     let config = core.config();
-    let mut teller = Teller::new(alloc, config.regions, tells_tiles(&config), TOLD_BYTES)?;
-    let mut moments = Vec::new(alloc);
-    let history = live_on(alloc, core, events, &pace, &mut teller, &mut moments)?;
+    let teller = Teller::new(alloc, config.regions, tells_tiles(&config), TOLD_BYTES)?;
+    let course = live_on(alloc, core, events, &pace, teller)?;
+    let (history, moments, teller) = course.into_parts();
+    let told = teller.into_text()?;
     Ok(Life {
         history,
         pace,
         moments,
-        told: teller.into_text()?,
+        told,
     })
 }
 

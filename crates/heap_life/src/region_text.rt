@@ -10,22 +10,26 @@
 //! Numbers are words, but for GREY, which counts objects. Tops at mark start are words above the region's bottom; NEXT and GREY are there
 //! while marking runs.
 
-ghost use Rattle.std.specs.Prelude.{◌<◌, length};
+ghost use Rattle.std.specs.Prelude.{◌<◌, length, flat_map};
+ghost use Rattle.script_text.specs.Texts.{Adds, spaced_number};
+ghost use Rattle.remembered_sets.specs.Sets.{set_of};
+ghost use Rattle.regions.specs.Table.{kind_of};
+ghost use Rattle.heap_life.specs.Telling.{text_below};
+ghost use Rattle.heap_life.specs.RegionTexts.{kind_text, region_line, region_text, rest_text, set_text, shares_text, tops_text, whole_text};
 
 use crate::numbers::used_words;
-use crate::pieces::Text;
 use crate::shares::{grey_count, live_words, shares_of};
 use crate::tile_text::put_tiles;
 use heap_words::addr::RegionNo;
 use regions::Kind;
+use remembered_sets::RememberedSets;
+use script_text::Text;
 use step_core::Core;
-
-/// Up to how many tiles a region has its tiles told.
-const MOST_TILES: u32 = 400;
 
 /// Adds the tops at mark start, and while marking runs how many objects are grey.
 fn put_tops(core: &Core, text: &mut Text, region: RegionNo)
     requires { region < length core.now.table.regions }
+    ensures { Adds text.old (tops_text core.now region) text.new }
 {
     core.remembers();
     let tams = &core.marker().tams;
@@ -40,6 +44,7 @@ fn put_tops(core: &Core, text: &mut Text, region: RegionNo)
 /// Adds what the words of a region are.
 fn put_shares(core: &Core, text: &mut Text, region: RegionNo)
     requires { region < length core.now.table.regions }
+    ensures { Adds text.old (shares_text core.now region) text.new }
 {
     core.remembers();
     let shares = shares_of(core, region);
@@ -52,13 +57,11 @@ fn put_shares(core: &Core, text: &mut Text, region: RegionNo)
     put_tops(core, text, region);
 }
 
-/// Adds a region's line.
-fn put_line(core: &Core, text: &mut Text, region: RegionNo)
+/// Adds what a region is, and what its words are.
+fn put_kind(core: &Core, text: &mut Text, region: RegionNo)
     requires { region < length core.now.table.regions }
+    ensures { Adds text.old (kind_text core.now region (kind_of core.now.table region)) text.new }
 {
-    core.remembers();
-    text.put("r");
-    text.put_number(u64::from(region.number()));
     match core.table().kind(region) {
         Kind::Free => text.put(" f"),
         Kind::Ordinary => {
@@ -74,43 +77,86 @@ fn put_line(core: &Core, text: &mut Text, region: RegionNo)
             text.put_number(u64::from(used_words(core, region)));
         }
     }
+}
+
+/// Adds a region's line.
+fn put_line(core: &Core, text: &mut Text, region: RegionNo)
+    requires { region < length core.now.table.regions }
+    ensures { Adds text.old (region_line core.now region) text.new }
+{
+    text.put("r");
+    text.put_number(u64::from(region.number()));
+    put_kind(core, text, region);
     text.put("\n");
 }
 
-/// Adds a region's remembered set, if it isn't empty.
-fn put_set(core: &Core, text: &mut Text, region: RegionNo)
-    requires { region < length core.now.table.regions }
+/// Adds the cards of a region's remembered set.
+fn put_cards(sets: &RememberedSets, text: &mut Text, region: RegionNo)
+    requires { region < length sets.now.sets }
+    ensures { Adds text.old (flat_map spaced_number (set_of sets.now region).inline) text.new }
+{
+    for place in 0..sets.card_count(region) {
+        text.put_number(u64::from(sets.card(region, place).number()));
+    }
+}
+
+/// Adds a region, if all its cards are in the remembered set of another.
+fn put_source(core: &Core, text: &mut Text, region: RegionNo, source: u32)
+    requires region { region < length core.now.table.regions }
+    requires source { source < length core.now.table.regions }
+    ensures { Adds text.old (whole_text (set_of core.now.sets region) source) text.new }
 {
     core.remembers();
-    let sets = core.sets();
-    let count = sets.card_count(region);
-    if count == 0 {
+    if core.sets().is_whole(region, RegionNo::new(source)) {
+        text.put_number(u64::from(source));
+    }
+}
+
+/// Adds the regions all of whose cards are in a region's remembered set.
+fn put_sources(core: &Core, text: &mut Text, region: RegionNo)
+    requires { region < length core.now.table.regions }
+    ensures { Adds text.old (text_below (whole_text (set_of core.now.sets region)) (length core.now.table.regions)) text.new }
+{
+    for source in 0..core.table().region_count() {
+        put_source(core, text, region, source);
+    }
+}
+
+/// Adds a region's remembered set, if it has cards.
+fn put_set(core: &Core, text: &mut Text, region: RegionNo)
+    requires { region < length core.now.table.regions }
+    ensures { Adds text.old (set_text core.now (set_of core.now.sets region)) text.new }
+{
+    core.remembers();
+    if core.sets().card_count(region) == 0 {
         return;
     }
     text.put("s");
-    for place in 0..count {
-        text.put_number(u64::from(sets.card(region, place).number()));
-    }
+    put_cards(core.sets(), text, region);
     text.put(" ;");
-    for number in 0..core.table().region_count() {
-        if sets.is_whole(region, RegionNo::new(number)) {
-            text.put_number(u64::from(number));
-        }
-    }
+    put_sources(core, text, region);
     text.put("\n");
 }
 
-/// Adds a region, with its tiles where they are asked for.
-pub(crate) fn put_region(core: &Core, text: &mut Text, region: RegionNo, tiles: bool)
+/// Adds what is told of a region below its line.
+fn put_rest(core: &Core, text: &mut Text, region: RegionNo, tiles: bool)
     requires { region < length core.now.table.regions }
+    ensures { Adds text.old (rest_text tiles core.now region (kind_of core.now.table region)) text.new }
 {
-    core.remembers();
-    put_line(core, text, region);
     if let Kind::Free = core.table().kind(region) {
         return;
     }
     put_set(core, text, region);
     if tiles {
-        put_tiles(core, text, region, MOST_TILES);
+        put_tiles(core, text, region);
     }
+}
+
+/// Adds a region, with its tiles where they are asked for.
+pub(crate) fn put_region(core: &Core, text: &mut Text, region: RegionNo, tiles: bool)
+    requires { region < length core.now.table.regions }
+    ensures { Adds text.old (region_text tiles core.now region) text.new }
+{
+    put_line(core, text, region);
+    put_rest(core, text, region, tiles);
 }

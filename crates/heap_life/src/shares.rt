@@ -7,6 +7,7 @@ ghost use Rattle.regions.specs.Walks.{IsPlacedTile};
 ghost use Rattle.step_core.specs.Stands.{kept_of};
 ghost use Rattle.step_core.specs.Measures.{live_in};
 ghost use Rattle.heap_life.specs.Shares.{part_in, AreSharesOf};
+ghost use Rattle.heap_life.specs.RegionTexts.{is_grey_at, is_grey_tile, grey_words};
 
 use heap_words::addr::{Addr, RegionNo};
 use regions::{Kind, Shape};
@@ -123,8 +124,9 @@ pub fn live_words(core: &Core, region: RegionNo) -> u32
 }
 
 /// Whether an object is grey: found by the marking that runs, and not scanned yet.
-pub(crate) fn is_grey(core: &Core, object: Addr) -> bool
+fn is_grey(core: &Core, object: Addr) -> bool
     requires { IsSome (object_at core.now.table object) }
+    ensures { result ≡ is_grey_at core.now object }
 {
     core.remembers();
     core.table().law();
@@ -138,6 +140,7 @@ pub(crate) fn is_grey(core: &Core, object: Addr) -> bool
 /// Whether a tile is a grey object.
 fn is_grey_tile(core: &Core, at: Addr, shape: Shape) -> bool
     requires { IsPlacedTile core.now.table at shape }
+    ensures { result ≡ is_grey_tile core.now at shape }
 {
     match shape {
         Shape::Object { .. } => is_grey(core, at),
@@ -148,6 +151,7 @@ fn is_grey_tile(core: &Core, at: Addr, shape: Shape) -> bool
 /// How many of a region's objects are grey.
 pub fn grey_count(core: &Core, region: RegionNo) -> u32
     requires { region < length core.now.table.regions }
+    ensures { result ≡ grey_words core.now region }
 {
     core.table().law();
     let mut count = 0u32;

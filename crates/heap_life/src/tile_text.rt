@@ -8,21 +8,29 @@
 //! STATE is `m` marked, `d` dead or `n` new by the marking that last came to its end; while marking runs there follows `n` new, `u` not
 //! found, `g` grey or `s` scanned. Of each kind of fields sixteen are told, and then how many more as `+N`.
 
-ghost use Rattle.std.specs.Prelude.{◌<◌, IsSome, length};
-ghost use Rattle.regions.specs.Table.{object_at};
-ghost use Rattle.regions.specs.Walks.{IsPlacedTile};
+ghost use Rattle.std.specs.Prelude.{◌≡◌, ◌*◌, ◌<◌, IsSome, length, flat_map, nat_le};
+ghost use Rattle.script_text.specs.Texts.{Adds};
+ghost use Rattle.regions.specs.Table.{object_at, pointers_at, weaks_at, values_at};
+ghost use Rattle.regions.specs.Walks.{IsPlacedTile, placed, tiles_of};
+ghost use Rattle.heap_life.specs.RegionTexts.{field_text, fields_text, filler_text, letter_text, more_text, object_text, pointers_text};
+ghost use Rattle.heap_life.specs.RegionTexts.{progress_text, region_tiles, tile_text, tiles_text, values_text};
 
-use crate::pieces::Text;
-use crate::shares::{Part, is_grey, part_of};
+use crate::shares::{Part, part_of};
 use heap_words::addr::{Addr, Ptr, RegionNo};
 use regions::{RegionTable, Shape};
+use script_text::Text;
 use step_core::{Core, object_name};
 
 /// How many fields of a kind are told.
 const SHOWN: u32 = 16;
 
+/// Up to how many tiles a region has its tiles told.
+const MOST_TILES: u32 = 400;
+
 /// Adds what a field names.
-fn put_field(table: &RegionTable, text: &mut Text, pointer: Ptr) {
+fn put_field(table: &RegionTable, text: &mut Text, pointer: Ptr)
+    ensures { Adds text.old (field_text table.now pointer) text.new }
+{
     let Some(at) = pointer else {
         text.put(" -");
         return;
@@ -34,38 +42,67 @@ fn put_field(table: &RegionTable, text: &mut Text, pointer: Ptr) {
 }
 
 /// Adds how many fields aren't told, if there are some.
-fn put_more(text: &mut Text, count: u32) {
+fn put_more(text: &mut Text, count: u32)
+    ensures { Adds text.old (more_text count) text.new }
+{
     if SHOWN < count {
         text.put(" +");
         text.put_digits(u64::from(count - SHOWN));
     }
 }
 
+/// Adds an object's pointers.
+fn put_pointers(table: &RegionTable, text: &mut Text, object: Addr)
+    requires { IsSome (object_at table.now object) }
+    ensures { Adds text.old (pointers_text table.now (pointers_at table.now object)) text.new }
+{
+    let count = table.pointer_count(object);
+    for field in 0..count.min(SHOWN) {
+        put_field(table, text, table.get_ptr(object, field));
+    }
+    put_more(text, count);
+}
+
+/// Adds an object's weak slots.
+fn put_weaks(table: &RegionTable, text: &mut Text, object: Addr)
+    requires { IsSome (object_at table.now object) }
+    ensures { Adds text.old (pointers_text table.now (weaks_at table.now object)) text.new }
+{
+    let count = table.weak_count(object);
+    for slot in 0..count.min(SHOWN) {
+        put_field(table, text, table.get_weak(object, slot));
+    }
+    put_more(text, count);
+}
+
+/// Adds an object's data.
+fn put_values(table: &RegionTable, text: &mut Text, object: Addr)
+    requires { IsSome (object_at table.now object) }
+    ensures { Adds text.old (values_text (values_at table.now object)) text.new }
+{
+    let count = table.value_count(object);
+    for field in 0..count.min(SHOWN) {
+        text.put_number(table.get_value(object, field));
+    }
+    put_more(text, count);
+}
+
 /// Adds an object's fields.
 fn put_fields(table: &RegionTable, text: &mut Text, object: Addr)
     requires { IsSome (object_at table.now object) }
+    ensures { Adds text.old (fields_text table.now object) text.new }
 {
-    let pointers = table.pointer_count(object);
-    for field in 0..pointers.min(SHOWN) {
-        put_field(table, text, table.get_ptr(object, field));
-    }
-    put_more(text, pointers);
+    put_pointers(table, text, object);
     text.put(" ;");
-    let weaks = table.weak_count(object);
-    for slot in 0..weaks.min(SHOWN) {
-        put_field(table, text, table.get_weak(object, slot));
-    }
-    put_more(text, weaks);
+    put_weaks(table, text, object);
     text.put(" ;");
-    let values = table.value_count(object);
-    for field in 0..values.min(SHOWN) {
-        text.put_number(table.get_value(object, field));
-    }
-    put_more(text, values);
+    put_values(table, text, object);
 }
 
 /// The letter of what an object counts as.
-fn letter(part: Part) -> &'static str {
+fn letter(part: Part) -> &'static str
+    ensures { result.now ≡ letter_text part }
+{
     match part {
         Part::Marked => "m",
         Part::Dead => "d",
@@ -77,6 +114,7 @@ fn letter(part: Part) -> &'static str {
 /// The letter of what the marking that runs knows of an object, none where none runs.
 fn progress(core: &Core, object: Addr) -> &'static str
     requires { IsSome (object_at core.now.table object) }
+    ensures { result.now ≡ progress_text core.now object }
 {
     if !core.marking() {
         return "";
@@ -93,22 +131,30 @@ fn progress(core: &Core, object: Addr) -> &'static str
     if !marker.bitmaps.next.get(object) {
         return "u";
     }
-    if is_grey(core, object) { "g" } else { "s" }
+    if marker.grey.is_scanned(object) {
+        "s"
+    } else {
+        "g"
+    }
 }
 
 /// Adds an object.
 fn put_object(core: &Core, text: &mut Text, object: Addr, part: Part)
     requires { IsSome (object_at core.now.table object) }
+    ensures { Adds text.old (object_text core.now object part) text.new }
 {
-    text.put_digits(core.table().name(object));
+    let table = core.table();
+    text.put_digits(table.name(object));
     text.put(" ");
     text.put(letter(part));
     text.put(progress(core, object));
-    put_fields(core.table(), text, object);
+    put_fields(table, text, object);
 }
 
 /// Adds a tile that is no object.
-fn put_filler(text: &mut Text, offset: u64, size: u32) {
+fn put_filler(text: &mut Text, offset: u64, size: u32)
+    ensures { Adds text.old (filler_text offset size) text.new }
+{
     text.put("x");
     text.put_number(offset);
     text.put_number(u64::from(size));
@@ -117,6 +163,7 @@ fn put_filler(text: &mut Text, offset: u64, size: u32) {
 /// Adds a tile.
 fn put_tile(core: &Core, text: &mut Text, region: RegionNo, at: Addr, shape: Shape)
     requires { IsPlacedTile core.now.table at shape }
+    ensures { Adds text.old (tile_text core.now region (at, shape)) text.new }
 {
     core.table().law();
     let bottom = u64::from(region.number()) * u64::from(core.table().words_per_region());
@@ -134,13 +181,14 @@ fn put_tile(core: &Core, text: &mut Text, region: RegionNo, at: Addr, shape: Sha
     text.put("\n");
 }
 
-/// Whether a region has at most so many tiles.
-fn has_few_tiles(table: &RegionTable, region: RegionNo, most: u32) -> bool
+/// Whether a region has few enough tiles to tell them.
+fn has_few_tiles(table: &RegionTable, region: RegionNo) -> bool
     requires { region < length table.now.regions }
+    ensures { result ≡ nat_le (length (placed (region * table.now.words_per_region) (tiles_of table.now region))) 400 }
 {
     let mut count = 0u32;
     for (_at, _shape) in table.walk(region) {
-        if count >= most {
+        if count >= MOST_TILES {
             return false;
         }
         count += 1;
@@ -148,16 +196,25 @@ fn has_few_tiles(table: &RegionTable, region: RegionNo, most: u32) -> bool
     true
 }
 
-/// Adds the tiles that start in a region, where they are at most so many; else that they are too many.
-pub(crate) fn put_tiles(core: &Core, text: &mut Text, region: RegionNo, most: u32)
+/// Adds a line for each tile that starts in a region.
+fn put_each(core: &Core, text: &mut Text, region: RegionNo)
     requires { region < length core.now.table.regions }
+    ensures { Adds text.old (flat_map (tile_text core.now region) (region_tiles core.now region)) text.new }
 {
     core.table().law();
-    if !has_few_tiles(core.table(), region, most) {
-        text.put("y\n");
-        return;
-    }
     for (at, shape) in core.table().walk(region) {
         put_tile(core, text, region, at, shape);
     }
+}
+
+/// Adds the tiles that start in a region, or that they are too many.
+pub(crate) fn put_tiles(core: &Core, text: &mut Text, region: RegionNo)
+    requires { region < length core.now.table.regions }
+    ensures { Adds text.old (tiles_text core.now region) text.new }
+{
+    if !has_few_tiles(core.table(), region) {
+        text.put("y\n");
+        return;
+    }
+    put_each(core, text, region);
 }

@@ -1,4 +1,6 @@
-use Rattle.std.proofs.Common.{◌∙◌, ◌≤◌, ℕ, List, length, map, ap, subst, sym}
+use Rattle.std.proofs.Common.{◌≡◌, ◌∙◌, ◌≤◌, ℕ, List, length, map, take, ap, subst, sym}
+use Rattle.step_core.specs.Stands.{CoreState}
+use Rattle.heap_life.specs.Tolds.{nothing_told, tells_tiles, told_of}
 use Rattle.std.specs.Prelude.{All}
 use Rattle.heap_words.specs.declared.config.Config.{Config}
 use Rattle.heap_steps.specs.Actors.{AreEvents}
@@ -9,6 +11,8 @@ use Rattle.heap_steps.specs.Faults.{IsRunFault}
 use Rattle.step_core.specs.Histories.{RunsTo, step_in, actor_in}
 use Rattle.step_core.proofs.Cores.Following.{history_is_run}
 use Rattle.heap_life.specs.Paces.{IsDue}
+use Rattle.heap_life.specs.declared.pace.Pace.{Pace}
+use Rattle.heap_life.specs.declared.life.Moment.{Moment}
 use Rattle.heap_life.specs.Lives.{IsMomentOf, HasMoment}
 use Rattle.heap_life.proofs.Moments.{runs_to, all_of_new, pace_for}
 use Rattle.heap_life.proofs.life.live.Goals as goal
@@ -30,14 +34,18 @@ returns-in-Ok-life_of-clause-life c =
     let es = life.history.events in
     let ms = life.moments.items in
     let made = c.in-Ok.ensures in
-    let lived = c.in-Ok-life_of.ensures in
+    let from = c.in-Ok-life_of.ensures.lived in
+    let lived = from.lived in
+    let shown = lived.told.shown in
+    let pace = c.in-Ok-life_of.ensures.pace in
+    let events = c.events-2.ensures.events in
     let config = c.config-config.result in
     let is = c.config-config.ensures in
     let runs = lived.runs (first_state config) made.stands in
     record {
       config = lived.config ∙ made.config ∙ is;
-      steps = lived.steps ∙ ap (λ (events : List Event). map step_in events) c.events-2.ensures.events;
-      actors = lived.actors ∙ ap (λ (events : List Event). map actor_in events) c.events-2.ensures.events;
+      steps = lived.steps ∙ ap (λ (events : List Event). map step_in events) events;
+      actors = lived.actors ∙ ap (λ (events : List Event). map actor_in events) events;
       last = runs.last;
       run = subst (λ (k : Config). IsRun (first_state k) es runs.last) is (history_is_run _ _ _ _ _ runs.history);
       end = c.life_of.new.core;
@@ -47,7 +55,17 @@ returns-in-Ok-life_of-clause-life c =
           (all_of_new config c.in-Ok.core es ms made.fresh made.core made.stands lived.each);
       pace = pace_for c.args.every c.from.result c.most_moments.result config c.args.events.now.config c.events.result.now
           c.args.events.now.events life.pace c.pace_of-pace.result
-          c.pace_of-pace.ensures c.from.ensures c.most_moments.ensures is c.events.ensures.events lived.pace;
-      due = subst (λ (events : List Event). (n : ℕ) → n ≤ length events → IsDue life.pace events n
-          → HasMoment ms n) c.events-2.ensures.events lived.due;
+          c.pace_of-pace.ensures c.from.ensures c.most_moments.ensures is c.events.ensures.events pace;
+      due = subst (λ (p : Pace). (n : ℕ) → n ≤ length c.args.events.now.events → IsDue p c.args.events.now.events n → HasMoment ms n)
+          (sym pace) (subst (λ (l : List Event). (n : ℕ) → n ≤ length l → IsDue c.pace_of-pace.result l n → HasMoment ms n) events lived.due);
+      only = subst (λ (p : Pace). All (λ (m : Moment). IsDue p c.args.events.now.events m.event) ms) (sym pace)
+          (subst (λ (l : List Event). All (λ (m : Moment). IsDue c.pace_of-pace.result l m.event) ms) events lived.only);
+      rising = lived.rising;
+      shown = shown;
+      moments = lived.told.moments;
+      cores = subst (λ (k : Config). All (λ (x : Moment × CoreState). RunsTo k (take x.0.event es) x.1) shown) is
+          (λ i d lt. let after = lived.told.cores i d lt in
+          runs_to config c.in-Ok.core _ _ made.fresh made.core made.stands (after.runs (first_state config) made.stands));
+      told = subst (λ (k : Config). life.told.items ≡ (told_of 8000000 (nothing_told (tells_tiles k)) shown).text) (made.config ∙ is)
+          (lived.told.told life.told.items from.told).0;
     }

@@ -1,5 +1,0 @@
-use Rattle.heap_life.proofs.Moments.{is_step}
-use Rattle.heap_life.proofs.life.event_at.Goals as goal
-
-pub returns-clause-step : goal.returns-clause-step
-returns-clause-step c config all = is_step config _ _ (all c.args.index _ c.requires)

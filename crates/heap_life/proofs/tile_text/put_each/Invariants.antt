@@ -1,0 +1,12 @@
+use Rattle.std.specs.List.{flat_map}
+use Rattle.regions.specs.Walks.{ArePlaced}
+use Rattle.heap_life.specs.RegionTexts.{region_tiles, tile_text}
+use Rattle.heap_life.proofs.Putting.{Leads}
+use Rattle.heap_life.proofs.tile_text.put_each.Given as goal
+
+abbrev pub invariant-loop-at : goal.invariant-loop-at
+invariant-loop-at l = record {
+  placed : ArePlaced l.core.table l.at-iterator;
+  leads : Leads l.initial.text l.text (flat_map (tile_text l.core l.region) l.at-iterator)
+      (flat_map (tile_text l.core l.region) (region_tiles l.core l.region));
+}

@@ -1,0 +1,143 @@
+-- What is told of a region.
+use Rattle.std.specs.Prelude.{◌+◌, ◌-◌, ◌*◌, ◌==◌, ◌&&◌, ℕ, min, Bool, true, false, not, if◌then◌else◌, List, [], ◌∷◌, ◌++◌, Option, Some, None}
+use Rattle.std.specs.Prelude.{length, take, codes, flat_map, slice_index, slice_index_or, nat_lt, nat_le}
+use Rattle.std.specs.Fmt.{decimal}
+use Rattle.heap_words.specs.declared.addr.Addr.{Addr}
+use Rattle.heap_model.specs.Heap.{Stored}
+use Rattle.script_text.specs.Texts.{spaced_number}
+use Rattle.regions.specs.Table.{Table, kind_of, used_of, object_at, pointers_at, weaks_at, values_at}
+use Rattle.regions.specs.Walks.{placed, tiles_of}
+use Rattle.regions.specs.declared.row.Kind.{Kind}
+use Rattle.regions.specs.declared.row.Kind.TheVariants as kinds
+use Rattle.regions.specs.declared.row.Shape.{Shape}
+use Rattle.regions.specs.declared.row.Shape.TheVariants.{Object, Filler, Forwarded}
+use Rattle.mark_bitmap.specs.Marks.{is_marked}
+use Rattle.mark_bitmap.specs.Tops.{is_below}
+use Rattle.remembered_sets.specs.Sets.{CardSet, set_of}
+use Rattle.step_core.specs.Stands.{CoreState, name_in}
+use Rattle.step_core.specs.Measures.{live_in}
+use Rattle.heap_life.specs.Shares.{part_in, part_words}
+use Rattle.heap_life.specs.Telling.{text_below}
+use Rattle.heap_life.specs.declared.shares.Part.{Part}
+use Rattle.heap_life.specs.declared.shares.Part.TheVariants as parts
+
+-- the marking that runs found the object at an address, and hasn't scanned it
+abbrev pub is_grey_at : CoreState → ℕ → Bool
+is_grey_at c a = is_marked c.marker.bitmaps.next a && not (is_marked c.marker.grey.scanned a)
+
+abbrev pub is_grey_tile : CoreState → ℕ → Shape → Bool
+is_grey_tile c a (Object p w d) = is_grey_at c a
+is_grey_tile c a _ = false
+
+abbrev pub grey_in : CoreState → List (Addr × Shape) → ℕ
+grey_in c [] = 0
+grey_in c (x ∷ xs) = (if is_grey_tile c x.0 x.1 then 1 else 0) + grey_in c xs
+
+-- the tiles that start in region k
+abbrev pub region_tiles : CoreState → ℕ → List (Addr × Shape)
+region_tiles c k = placed (k * c.table.words_per_region) (tiles_of c.table k)
+
+-- how many grey objects start in region k, as far as it fits 32 bits
+abbrev pub grey_words : CoreState → ℕ → ℕ
+grey_words c k = min (grey_in c (region_tiles c k)) 4294967295
+
+-- the top at mark start above the region's bottom, and while marking runs the next top and how many objects are grey
+abbrev pub tops_text : CoreState → ℕ → List ℕ
+tops_text c k = spaced_number (slice_index c.marker.tams.previous k - k * c.table.words_per_region)
+    ++ (if c.marker.running
+    then spaced_number (slice_index c.marker.tams.next k - k * c.table.words_per_region) ++ spaced_number (grey_words c k)
+    else [])
+
+-- words that are handed out, marked, dead, new, of fillers, live
+abbrev pub shares_text : CoreState → ℕ → List ℕ
+shares_text c k = spaced_number (used_of c.table k) ++ spaced_number (part_words c parts.Marked k)
+    ++ spaced_number (part_words c parts.Dead k) ++ spaced_number (part_words c parts.New k)
+    ++ spaced_number (part_words c parts.Filler k) ++ spaced_number (live_in c k) ++ tops_text c k
+
+abbrev pub kind_text : CoreState → ℕ → Kind → List ℕ
+kind_text c k kinds.Free = codes " f"
+kind_text c k kinds.Ordinary = codes " o" ++ shares_text c k
+kind_text c k kinds.First = codes " h" ++ shares_text c k
+kind_text c k kinds.Rest = codes " t" ++ spaced_number (used_of c.table k)
+
+abbrev pub region_line : CoreState → ℕ → List ℕ
+region_line c k = codes "r" ++ spaced_number k ++ kind_text c k (kind_of c.table k) ++ codes "\n"
+
+abbrev pub whole_text : CardSet → ℕ → List ℕ
+whole_text s k = if slice_index_or s.sources k false then spaced_number k else []
+
+-- a remembered set: its cards, and the regions all of whose cards are in it; nothing where it has no card
+abbrev pub set_text : CoreState → CardSet → List ℕ
+set_text c s = if length s.inline == 0 then []
+    else codes "s" ++ flat_map spaced_number s.inline ++ codes " ;" ++ text_below (whole_text s) (length c.table.regions) ++ codes "\n"
+
+-- ---- tiles
+
+abbrev pub name_text : Option ℕ → List ℕ
+name_text None = codes " ?"
+name_text (Some name) = spaced_number name
+
+-- what a field names: nil, an object, or no object
+abbrev pub field_text : Table → Option ℕ → List ℕ
+field_text t None = codes " -"
+field_text t (Some a) = name_text (name_in t (Some a))
+
+-- how many there are above 16
+abbrev pub more_text : ℕ → List ℕ
+more_text n = if nat_lt 16 n then codes " +" ++ decimal (n - 16) else []
+
+-- the first 16 of a kind of fields, and how many more there are
+abbrev pub pointers_text : Table → List (Option ℕ) → List ℕ
+pointers_text t xs = flat_map (field_text t) (take (min (length xs) 16) xs) ++ more_text (length xs)
+
+abbrev pub values_text : List ℕ → List ℕ
+values_text xs = flat_map spaced_number (take (min (length xs) 16) xs) ++ more_text (length xs)
+
+abbrev pub fields_text : Table → ℕ → List ℕ
+fields_text t a = pointers_text t (pointers_at t a) ++ codes " ;" ++ pointers_text t (weaks_at t a) ++ codes " ;" ++ values_text (values_at t a)
+
+abbrev pub letter_text : Part → List ℕ
+letter_text parts.Marked = codes "m"
+letter_text parts.Dead = codes "d"
+letter_text parts.New = codes "n"
+letter_text parts.Filler = codes "x"
+
+-- what the marking that runs knows of an object: new, not found, scanned or grey
+abbrev pub progress_text : CoreState → ℕ → List ℕ
+progress_text c a =
+    if not c.marker.running then []
+    else (if not (is_below c.table.words_per_region c.marker.tams.next a) then codes "n"
+    else (if not (is_marked c.marker.bitmaps.next a) then codes "u"
+    else (if is_marked c.marker.grey.scanned a then codes "s" else codes "g")))
+
+-- an object's name, its state and its fields
+abbrev pub stored_text : CoreState → ℕ → Part → Option Stored → List ℕ
+stored_text c a part None = []
+stored_text c a part (Some s) = decimal s.name ++ codes " " ++ letter_text part ++ progress_text c a ++ fields_text c.table a
+
+abbrev pub object_text : CoreState → ℕ → Part → List ℕ
+object_text c a part = stored_text c a part (object_at c.table a)
+
+abbrev pub filler_text : ℕ → ℕ → List ℕ
+filler_text offset size = codes "x" ++ spaced_number offset ++ spaced_number size
+
+abbrev pub shape_text : CoreState → ℕ → ℕ → Shape → List ℕ
+shape_text c offset a (Object p w d) = codes "o" ++ spaced_number offset ++ codes " " ++ object_text c a (part_in c a (Object p w d))
+shape_text c offset a (Filler n) = filler_text offset n
+shape_text c offset a (Forwarded to n) = filler_text offset n
+
+-- a tile of region k: its line
+abbrev pub tile_text : CoreState → ℕ → Addr × Shape → List ℕ
+tile_text c k x = shape_text c (x.0 - k * c.table.words_per_region) x.0 x.1 ++ codes "\n"
+
+-- the tiles of a region, or that they are more than 400
+abbrev pub tiles_text : CoreState → ℕ → List ℕ
+tiles_text c k = if nat_le (length (region_tiles c k)) 400 then flat_map (tile_text c k) (region_tiles c k) else codes "y\n"
+
+abbrev pub rest_text : Bool → CoreState → ℕ → Kind → List ℕ
+rest_text tiles c k kinds.Free = []
+rest_text tiles c k _ = set_text c (set_of c.sets k) ++ (if tiles then tiles_text c k else [])
+
+-- a region, with its tiles where they are told
+abbrev pub region_text : Bool → CoreState → ℕ → List ℕ
+region_text tiles c k = region_line c k ++ rest_text tiles c k (kind_of c.table k)
