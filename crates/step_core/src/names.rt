@@ -1,6 +1,6 @@
 //! Names of objects, found by their addresses: for a view, which follows dead objects' fields too.
 
-ghost use Rattle.std.specs.Prelude.{◌≡◌, IfSome, IsSome, Some};
+ghost use Rattle.std.specs.Prelude.{◌≡◌, IsSome, Some};
 ghost use Rattle.regions.specs.Table.{tile_in};
 ghost use Rattle.step_core.specs.Stands.{name_in};
 
@@ -10,11 +10,12 @@ use regions::{RegionTable, Shape};
 /// The name of the object that a tile is.
 fn tile_name(table: &RegionTable, at: Addr) -> Option<u64>
     requires { IsSome (tile_in table.now at) }
-    ensures { IfSome result (λ name. name_in table.now (Some at) ≡ Some name) }
+    ensures { result ≡ name_in table.now (Some at) }
 {
     match table.tile(at) {
         Shape::Object { .. } => Some(table.name(at)),
-        Shape::Filler { .. } | Shape::Forwarded { .. } => None,
+        Shape::Filler { .. } => None,
+        Shape::Forwarded { .. } => None,
     }
 }
 
@@ -26,13 +27,15 @@ fn tile_name(table: &RegionTable, at: Addr) -> Option<u64>
 /// assert_eq!(rt; object_name(core.table(), Addr::new(1)), None);
 /// ```
 pub fn object_name(table: &RegionTable, at: Addr) -> Option<u64>
-    ensures { IfSome result (λ name. name_in table.now (Some at) ≡ Some name) }
+    ensures { result ≡ name_in table.now (Some at) }
 {
     table.law();
     if at.word() >= table.region_count() * table.words_per_region() {
         return None;
     }
-    let first = table.first_tile(at)?;
+    let Some(first) = table.first_tile(at) else {
+        return None;
+    };
     if first.word() != at.word() {
         return None;
     }
