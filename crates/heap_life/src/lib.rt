@@ -20,7 +20,6 @@ mod pace;
 mod pacing;
 mod page;
 mod page_parts;
-mod pieces;
 mod redraw;
 mod region_text;
 mod shares;

@@ -12,9 +12,9 @@
 ghost use Rattle.std.specs.Prelude.{◌<◌, length};
 
 use crate::life::Moment;
-use crate::pieces::Text;
 use crate::region_text::put_region;
 use heap_words::addr::RegionNo;
+use script_text::Text;
 use std::alloc::{AllocError, Global};
 use step_core::Core;
 
@@ -186,7 +186,7 @@ impl Teller {
     /// Tells a moment.
     pub fn tell(&mut self, core: &Core, moment: &Moment) {
         put_heap(core, &mut self.text, moment);
-        if self.tiles && self.text.as_bytes().len() > self.most {
+        if self.tiles && self.text.len() > self.most {
             self.tiles = false;
             self.text.put("z\n");
         }

@@ -9,9 +9,8 @@ use crate::page_parts::{
     BEFORE, BEHIND, BETWEEN, END, SCRIPT_CURVES, SCRIPT_LANES, SCRIPT_LIFE, SCRIPT_OVER,
     SCRIPT_PAGE, SCRIPT_PANELS,
 };
-use crate::pieces::Text;
 use heap_steps::Record;
-use script_text::{WatchedWriter, write_record};
+use script_text::{Text, WatchedWriter, write_record};
 use std::alloc::{AllocError, Global};
 
 /// Up to how many events all lines of the record stand in the page.

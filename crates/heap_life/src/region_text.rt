@@ -13,11 +13,11 @@
 ghost use Rattle.std.specs.Prelude.{◌<◌, length};
 
 use crate::numbers::used_words;
-use crate::pieces::Text;
 use crate::shares::{grey_count, live_words, shares_of};
 use crate::tile_text::put_tiles;
 use heap_words::addr::RegionNo;
 use regions::Kind;
+use script_text::Text;
 use step_core::Core;
 
 /// Up to how many tiles a region has its tiles told.

@@ -12,10 +12,10 @@ ghost use Rattle.std.specs.Prelude.{◌<◌, IsSome, length};
 ghost use Rattle.regions.specs.Table.{object_at};
 ghost use Rattle.regions.specs.Walks.{IsPlacedTile};
 
-use crate::pieces::Text;
 use crate::shares::{Part, is_grey, part_of};
 use heap_words::addr::{Addr, Ptr, RegionNo};
 use regions::{RegionTable, Shape};
+use script_text::Text;
 use step_core::{Core, object_name};
 
 /// How many fields of a kind are told.

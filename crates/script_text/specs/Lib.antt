@@ -15,3 +15,4 @@ pub mod Fronts
 pub mod StepsLeft
 pub mod EventsLeft
 pub mod Waiting
+pub mod Texts

@@ -23,6 +23,7 @@
 //! - `write_record` appends the text of a record and no more, or a beginning of it where the writer refused. `RecordLines` does
 //!   the same event by event, or by a script's lines and the replies: so a record can be written as it is made. Either holds one buffer,
 //!   however long the record is.
+//! - `Text` is a text that is put together piece by piece, with no way out for each: its bytes, or none once memory was refused.
 //! - `put_text`, `put_number`, `put_event_text`, `put_reply`, `put_fault` and `write_bytes` are for other lines of a program: they put
 //!   texts into a buffer, and write bytes in their order.
 //!
@@ -61,6 +62,7 @@ pub use read::watched::WatchedReader;
 pub use write::bytes::{put_number, put_text};
 pub use write::lines::{put_event_text, put_reply};
 pub use write::record_lines::{RecordLines, write_record};
+pub use write::text::Text;
 pub use write::watched::WatchedWriter;
 pub use write::writing::write_bytes;
 pub use write::written::written_record_is_read;
