@@ -64,7 +64,8 @@ same_row t t' roots roots' letter first first' count count' a b same_table same_
     ∙ ap₂ (λ (n m : ℕ). roots_line t' roots' letter n m) same_first same_count) p
 
 -- the roots of a row below a place were put, and it is known whether there are some
-pub record IsRow (t : Table) (roots : List (Option ℕ)) (letter : List ℕ) (first place : ℕ) (some : Bool) (a b : Option (List ℕ)) : Type 0 where
+pub record IsRow (t : Table) (roots : List (Option ℕ)) (letter : List ℕ) (first place : ℕ) (some : Bool) (a b : Option
+    (List ℕ)) : Type 0 where
   pub text : Adds a (join_with_byte 44 (root_texts t roots letter first (place - first))) b
   pub some_are : some ≡ has_some (root_texts t roots letter first (place - first))
 

@@ -5,20 +5,19 @@ use Rattle.std.specs.Prelude.{◌==◌, IsSome, IsTrue, is_some, nat_lt, codes}
 use Rattle.std.specs.Fmt.{decimal}
 use Rattle.std.proofs.lemmas.Bool.{lt-ltb, le-ltb, eqb-true}
 use Rattle.script_text.specs.Texts.{Adds}
-use Rattle.heap_view.specs.declared.tile_lines.TheConstants.{SHOWN}
-use Rattle.heap_view.specs.Lists.{ended, each_spaced, more_text, titled, titled_line}
+use Rattle.heap_view.specs.Lists.{ended, each_spaced, more_text, shown, titled, titled_line}
 use Rattle.heap_view.specs.Areas.{is_current}
 use Rattle.heap_view.specs.Actors.{queue_line}
 use Rattle.heap_view.proofs.Putting.{adds_nothing, adds_then, adds_else}
 
-pub more_none : (n : ℕ) (t : Option (List ℕ)) → n ≤ SHOWN → Adds t (more_text n) t
+pub more_none : (n : ℕ) (t : Option (List ℕ)) → n ≤ shown → Adds t (more_text n) t
 unfolding more_text
-more_none n t few = adds_else t t (nat_lt SHOWN n) _ _ (le-ltb SHOWN n few) (adds_nothing t)
+more_none n t few = adds_else t t (nat_lt shown n) _ _ (le-ltb shown n few) (adds_nothing t)
 
-pub more_some : (n : ℕ) (a b : Option (List ℕ)) → SHOWN < n
-    → Adds a (codes " and " ++ decimal (n - SHOWN) ++ codes " more") b → Adds a (more_text n) b
+pub more_some : (n : ℕ) (a b : Option (List ℕ)) → shown < n
+    → Adds a (codes " and " ++ decimal (n - shown) ++ codes " more") b → Adds a (more_text n) b
 unfolding more_text
-more_some n a b many p = adds_then a b (nat_lt SHOWN n) _ _ (lt-ltb SHOWN n many) p
+more_some n a b many p = adds_then a b (nat_lt shown n) _ _ (lt-ltb shown n many) p
 
 pub titled_none : {A : Type 0} (title : List ℕ) (f : A → List ℕ) (xs : List A) (t : Option (List ℕ)) → length xs ≡ 0
     → Adds t (titled title f xs) t
@@ -27,7 +26,7 @@ titled_none title f [] t e = adds_nothing t
 titled_none title f (x ∷ xs) t e = absurd (cc)
 
 pub titled_some : {A : Type 0} (title : List ℕ) (f : A → List ℕ) (xs : List A) (a b : Option (List ℕ)) → (length xs ≡ 0 → ⊥)
-    → Adds a (title ++ each_spaced f (take SHOWN xs) ++ more_text (length xs)) b → Adds a (titled title f xs) b
+    → Adds a (title ++ each_spaced f (take shown xs) ++ more_text (length xs)) b → Adds a (titled title f xs) b
 unfolding titled
 titled_some title f [] a b some p = absurd (some refl)
 titled_some title f (x ∷ xs) a b some p = p

@@ -1,5 +1,6 @@
 -- The lines of roots, and of what each mutator has: its registers, its buffer and its logs.
-use Rattle.std.specs.Prelude.{ℕ, ◌-◌, Bool, true, false, List, [], ◌∷◌, ◌++◌, Option, Some, None, slice_get, slice_index_or, codes, if◌then◌else◌}
+use Rattle.std.specs.Prelude.{ℕ, ◌-◌, Bool, true, false, List, [], ◌∷◌, ◌++◌, Option, Some, None, codes, if◌then◌else◌}
+use Rattle.std.specs.Prelude.{slice_get, slice_index_or}
 use Rattle.std.specs.List.{flat_map, join_with_byte, range_with_len}
 use Rattle.std.specs.Fmt.{decimal}
 use Rattle.heap_words.specs.Configs.{globals_of, registers_of}

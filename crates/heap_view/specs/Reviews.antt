@@ -57,7 +57,8 @@ Reviews glance given left old new (Err (faults.Run fault)) = (input : List ℕ) 
     × ((history : EventList) × (record_of input ≡ Ok history) × IsRunFault history.config fault) × Stays old new
 Reviews glance given left old new (Err (faults.Judge fault)) = ⊥
 Reviews glance given left old new (Err (faults.Differs event)) = (input : List ℕ) × GivesAll given left input
-    × ((history : EventList) × (record_of input ≡ Ok history) × DiffersAt RunsFromNew (beginning_of glance.at history) event) × Stays old new
+    × ((history : EventList) × (record_of input ≡ Ok history)
+    × DiffersAt RunsFromNew (beginning_of glance.at history) event) × Stays old new
 Reviews glance given left old new (Err (faults.Write fault)) = (input : List ℕ) × GivesAll given left input
     × ((text : List ℕ) × IsReviewOfRecord glance input text × TakesPart old new text) × (fault ≢ writes.NoMemory)
 

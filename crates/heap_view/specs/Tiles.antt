@@ -1,5 +1,5 @@
 -- The lines of tiles: objects by their names, fields and state, fillers, and what has moved.
-use Rattle.std.specs.Prelude.{ℕ, ◌*◌, List, [], ◌++◌, Option, Some, None, is_some, codes, if◌then◌else◌}
+use Rattle.std.specs.Prelude.{ℕ, ◌*◌, Bool, true, false, List, [], ◌++◌, Option, Some, None, is_some, codes, if◌then◌else◌}
 use Rattle.std.specs.List.{flat_map}
 use Rattle.std.specs.Fmt.{decimal}
 use Rattle.heap_words.specs.declared.addr.Addr.{Addr}
@@ -22,10 +22,16 @@ unfoldable pub pointer_text : Table → Option ℕ → List ℕ
 pointer_text t None = codes "nil"
 pointer_text t (Some a) = named_text a (name_in t (Some a))
 
--- what the marking that runs knows of the object at an address: nothing of one made since it began
+-- what the marking that runs knows of an object, by whether it was made before that began, is marked, and is scanned
+abbrev pub progress_by : Bool → Bool → Bool → List ℕ
+progress_by false marked scanned = codes "new"
+progress_by true false scanned = codes "unmarked"
+progress_by true true false = codes "grey"
+progress_by true true true = codes "scanned"
+
 unfoldable pub progress_text : CoreState → ℕ → List ℕ
-progress_text c a = if below_next c.table c.marker.tams a then (if is_marked c.marker.bitmaps.next a then
-    (if is_marked c.marker.grey.scanned a then codes "scanned" else codes "grey") else codes "unmarked") else codes "new"
+progress_text c a = progress_by (below_next c.table c.marker.tams a) (is_marked c.marker.bitmaps.next a)
+    (is_marked c.marker.grey.scanned a)
 
 -- whether an object is kept
 unfoldable pub keeping_text : CoreState → ℕ → List ℕ

@@ -6,7 +6,8 @@ ghost use Rattle.satb_log.specs.Logs.{log_of};
 ghost use Rattle.script_text.specs.Texts.{Adds};
 ghost use Rattle.heap_view.specs.Lists.{titled_line};
 ghost use Rattle.heap_view.specs.Tiles.{pointer_text};
-ghost use Rattle.heap_view.specs.Actors.{root_text, roots_line, has_some, registers_line, globals_line, next_text, comma_text, none_text, buffer_line, logged_text, mutator_lines, actor_lines};
+ghost use Rattle.heap_view.specs.Actors.{comma_text, none_text, next_text, has_some, root_text, roots_line};
+ghost use Rattle.heap_view.specs.Actors.{globals_line, registers_line, buffer_line, logged_text, mutator_lines, actor_lines};
 
 use crate::card_lines::put_card_log;
 use crate::names::{put_pointer, put_spaced_pointer};

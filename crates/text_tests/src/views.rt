@@ -356,7 +356,10 @@ fn a_writer_that_fails(rt: HostRuntime) -> Result<(), Fail> {
         let taken = Vec::new(alloc);
         let mut reader = WatchedReader::new(script.as_bytes());
         let mut writer = WatchedWriter::new(Small { taken, room });
-        assert!(rt; view_script(alloc, &WHOLE, &mut reader, &mut writer).is_err(), "{room}");
+        assert!(rt;
+            view_script(alloc, &WHOLE, &mut reader, &mut writer).is_err(),
+            "{room}"
+        );
         let Small { taken, room: _ } = writer.into_inner();
         assert_eq!(rt; taken.as_slice(), &whole[..room], "{room}");
     }

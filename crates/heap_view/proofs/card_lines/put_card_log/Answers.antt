@@ -15,11 +15,13 @@ loop-place-init c = adds_nothing _
 
 pub loop-place-preserved : goal.loop-place-preserved
 loop-place-preserved c =
-    adds_more (λ (x : ℕ). codes " " ++ decimal x) (log_of c.args.cards.now c.args.mutator) _ _ _ _ _ c.logged_card.ensures c.loop-place.invariant
+    adds_more (λ (x : ℕ). codes " " ++ decimal x) (log_of c.args.cards.now c.args.mutator) _ _ _ _ _ c.logged_card.ensures
+    c.loop-place.invariant
     (adds_at (λ (x : ℕ). codes " " ++ decimal x) _ _ _ _ (sym c.number.ensures) c.put_number.ensures)
 
 pub returns : goal.returns
 returns c =
     let past : length (log_of c.args.cards.now c.args.mutator) ≤ c.loop-place.place = omega (arith, c.logged-count.ensures) in
     line_some _ decimal (log_of c.args.cards.now c.args.mutator) _ _ (λ n. c.if-count-eq0.false (c.logged-count.ensures ∙ n))
-    (then_adds _ _ _ _ _ (then_adds _ _ _ _ _ c.put.ensures (adds_all (λ (x : ℕ). codes " " ++ decimal x) (log_of c.args.cards.now c.args.mutator) _ _ _ past c.loop-place.invariant)) c.put-2.ensures)
+    (then_adds _ _ _ _ _ (then_adds _ _ _ _ _ c.put.ensures (adds_all (λ (x : ℕ). codes " " ++ decimal x) (log_of c.args.cards.now
+    c.args.mutator) _ _ _ past c.loop-place.invariant)) c.put-2.ensures)

@@ -10,7 +10,8 @@ loop-place-init c = adds_nothing _
 
 pub loop-place-preserved : goal.loop-place-preserved
 loop-place-preserved c =
-    adds_more (λ (x : ℕ). codes " " ++ decimal x) (set_of c.args.sets.now c.args.region).inline _ _ _ _ _ c.card.ensures c.loop-place.invariant
+    adds_more (λ (x : ℕ). codes " " ++ decimal x) (set_of c.args.sets.now c.args.region).inline _ _ _ _ _ c.card.ensures
+    c.loop-place.invariant
     (adds_at (λ (x : ℕ). codes " " ++ decimal x) _ _ _ _ (sym c.number.ensures) c.put_number.ensures)
 
 pub returns : goal.returns

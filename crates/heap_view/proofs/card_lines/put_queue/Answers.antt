@@ -21,4 +21,5 @@ pub returns : goal.returns
 returns c =
     let past : length c.args.cards.now.queue ≤ c.loop-place.place = omega (arith, c.queued-count.ensures) in
     queue_some _ _ _ (λ n. c.if-count-eq0.false (c.queued-count.ensures ∙ n))
-    (then_adds _ _ _ _ _ (then_adds _ _ _ _ _ c.put-2.ensures (adds_all (λ (x : ℕ). codes " " ++ decimal x) c.args.cards.now.queue _ _ _ past c.loop-place.invariant)) c.put-3.ensures)
+    (then_adds _ _ _ _ _ (then_adds _ _ _ _ _ c.put-2.ensures (adds_all (λ (x : ℕ). codes " " ++ decimal x)
+    c.args.cards.now.queue _ _ _ past c.loop-place.invariant)) c.put-3.ensures)

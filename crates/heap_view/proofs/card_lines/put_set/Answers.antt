@@ -14,4 +14,5 @@ pub returns : goal.returns
 unfolding set_line ended
 returns c =
     adds_else _ _ _ _ _ (ne_eqb _ _ (λ n. c.if-card_count-eq0.false (c.card_count.ensures ∙ n)))
-    (then_adds _ _ _ _ _ (then_adds _ _ _ _ _ (then_adds _ _ _ _ _ c.put.ensures c.put_cards.ensures) c.put_sources.ensures) c.put-2.ensures)
+    (then_adds _ _ _ _ _ (then_adds _ _ _ _ _ (then_adds _ _ _ _ _ c.put.ensures c.put_cards.ensures) c.put_sources.ensures)
+    c.put-2.ensures)

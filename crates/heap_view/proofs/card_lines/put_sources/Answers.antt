@@ -16,4 +16,5 @@ pub returns : goal.returns
 unfolding sources_text
 returns c =
     let all : c.args.regions ≡ c.loop-source.source = omega arith in
-    adds_at (λ (n : ℕ). flat_map (source_text (set_of c.args.sets.now c.args.region)) (range_with_len 0 n)) _ _ _ _ all c.loop-source.invariant
+    adds_at (λ (n : ℕ). flat_map (source_text (set_of c.args.sets.now c.args.region)) (range_with_len 0 n)) _ _ _ _ all
+    c.loop-source.invariant

@@ -12,4 +12,5 @@ returns-then-summary c = adds_at (λ (b : Bool). below_regions b c.args.core.now
 pub returns : goal.returns
 unfolding below_regions
 returns c =
-    adds_at (λ (b : Bool). below_regions b c.args.core.now) _ _ _ _ c.if-summary.false (then_adds _ _ _ _ _ (adds_at (λ (k : Cards). queue_line k.queue) _ _ _ _ (sym c.cards.ensures) c.put_queue.ensures) c.put_actors.ensures)
+    adds_at (λ (b : Bool). below_regions b c.args.core.now) _ _ _ _ c.if-summary.false (then_adds _ _ _ _ _ (adds_at
+    (λ (k : Cards). queue_line k.queue) _ _ _ _ (sym c.cards.ensures) c.put_queue.ensures) c.put_actors.ensures)

@@ -11,4 +11,5 @@ returns-in-Some c =
 pub returns-in-None : goal.returns-in-None
 unfolding viewed_regions
 returns-in-None c =
-    adds_at (λ (r : Option ℕ). viewed_regions r c.args.summary c.args.core.now) _ _ _ _ c.in-None.is (then_adds _ _ _ _ _ c.put_each.ensures c.put_below.ensures)
+    adds_at (λ (r : Option ℕ). viewed_regions r c.args.summary c.args.core.now) _ _ _ _ c.in-None.is (then_adds _ _ _ _ _
+    c.put_each.ensures c.put_below.ensures)

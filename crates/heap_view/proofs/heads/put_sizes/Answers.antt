@@ -9,4 +9,6 @@ pub returns : goal.returns
 returns c =
     let config = c.config-config.ensures.config in
     adds_as _ _ _ _ (sizes_are _ ∙ ap (λ (k : Config). line (heap_words k)) config)
-    (then_adds _ _ _ _ _ (then_adds _ _ _ _ _ (then_adds _ _ _ _ _ (then_adds _ _ _ _ _ (then_adds _ _ _ _ _ (then_adds _ _ _ _ _ (then_adds _ _ _ _ _ c.put_verb.ensures c.put_number.ensures) c.put_number-2.ensures) c.put_number-3.ensures) c.put_number-4.ensures) c.put_number-5.ensures) c.put_format.ensures) c.put.ensures)
+    (then_adds _ _ _ _ _ (then_adds _ _ _ _ _ (then_adds _ _ _ _ _ (then_adds _ _ _ _ _ (then_adds _ _ _ _ _ (then_adds _ _ _ _ _
+    (then_adds _ _ _ _ _ c.put_verb.ensures c.put_number.ensures) c.put_number-2.ensures) c.put_number-3.ensures)
+    c.put_number-4.ensures) c.put_number-5.ensures) c.put_format.ensures) c.put.ensures)

@@ -15,7 +15,8 @@ returns-in-Ordinary c = adds_at (kind_text c.args.table.now c.args.region) _ _ _
 pub returns-in-First : goal.returns-in-First
 unfolding kind_text
 returns-in-First c =
-    adds_at (kind_text c.args.table.now c.args.region) _ _ _ _ c.in-First.is (then_adds _ _ _ _ _ c.put-in-First.ensures (adds_at decimal _ _ _ _ (sym c.run_length.ensures) c.put_digits.ensures))
+    adds_at (kind_text c.args.table.now c.args.region) _ _ _ _ c.in-First.is (then_adds _ _ _ _ _ c.put-in-First.ensures
+    (adds_at decimal _ _ _ _ (sym c.run_length.ensures) c.put_digits.ensures))
 
 pub returns-in-Rest : goal.returns-in-Rest
 unfolding kind_text

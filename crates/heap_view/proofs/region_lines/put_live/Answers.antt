@@ -13,7 +13,8 @@ unfolding live_text
 returns-in-Ordinary c =
     let same = ap₂ (λ (t : Table) (m : Marker). live_bound_of t m.tams.previous m.bitmaps.previous c.args.region)
     (sym c.table.ensures) (sym c.marker.ensures) ∙ sym c.live_bound.ensures in
-    adds_at (live_text c.args.core.now c.args.region) _ _ _ _ c.in-Ordinary.is (then_adds _ _ _ _ _ c.put.ensures (adds_at decimal _ _ _ _ same c.put_digits.ensures))
+    adds_at (live_text c.args.core.now c.args.region) _ _ _ _ c.in-Ordinary.is (then_adds _ _ _ _ _ c.put.ensures
+    (adds_at decimal _ _ _ _ same c.put_digits.ensures))
 
 pub returns-in-Free : goal.returns-in-Free
 unfolding live_text

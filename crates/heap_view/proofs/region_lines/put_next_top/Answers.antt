@@ -14,4 +14,5 @@ pub returns : goal.returns
 unfolding next_top_text
 returns c =
     adds_then _ _ _ _ _ (sym c.marking.ensures ∙ c.if-not-marking.false)
-    (then_adds _ _ _ _ _ c.put.ensures (adds_at decimal _ _ _ _ (ap (λ (m : Marker). slice_index m.tams.next c.args.region) (sym c.marker.ensures) ∙ sym c.next.ensures ∙ sym c.word.ensures) c.put_digits.ensures))
+    (then_adds _ _ _ _ _ c.put.ensures (adds_at decimal _ _ _ _ (ap (λ (m : Marker). slice_index m.tams.next c.args.region) (sym
+    c.marker.ensures) ∙ sym c.next.ensures ∙ sym c.word.ensures) c.put_digits.ensures))

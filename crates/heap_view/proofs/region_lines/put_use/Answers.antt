@@ -7,4 +7,5 @@ use Rattle.heap_view.proofs.region_lines.put_use.Goals as goal
 pub returns : goal.returns
 unfolding use_text
 returns c =
-    then_adds _ _ _ _ _ (then_adds _ _ _ _ _ c.put_current.ensures (adds_at (λ (t : Table). words_text t c.args.region) _ _ _ _ (sym c.table.ensures) c.put_words.ensures)) c.put_live.ensures
+    then_adds _ _ _ _ _ (then_adds _ _ _ _ _ c.put_current.ensures (adds_at (λ (t : Table). words_text t c.args.region) _ _ _ _ (sym
+    c.table.ensures) c.put_words.ensures)) c.put_live.ensures

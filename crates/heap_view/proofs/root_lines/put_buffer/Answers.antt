@@ -15,4 +15,5 @@ pub returns-in-Some : goal.returns-in-Some
 unfolding buffer_line ended
 returns-in-Some c =
     adds_at buffer_line _ _ _ _ (c.open_buffer.ensures ∙ ap (λ (b : Option Buffer). Some b) c.in-Some.is)
-    (then_adds _ _ _ _ _ (then_adds _ _ _ _ _ (then_adds _ _ _ _ _ (then_adds _ _ _ _ _ (then_adds _ _ _ _ _ c.put.ensures c.put_digits.ensures) c.put-in-Some.ensures) c.put_digits-in-Some.ensures) c.put-in-Some-2.ensures) c.put-in-Some-3.ensures)
+    (then_adds _ _ _ _ _ (then_adds _ _ _ _ _ (then_adds _ _ _ _ _ (then_adds _ _ _ _ _ (then_adds _ _ _ _ _ c.put.ensures
+    c.put_digits.ensures) c.put-in-Some.ensures) c.put_digits-in-Some.ensures) c.put-in-Some-2.ensures) c.put-in-Some-3.ensures)

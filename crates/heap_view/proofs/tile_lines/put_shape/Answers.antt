@@ -38,4 +38,5 @@ returns-in-Filler c =
 pub returns-in-Forwarded : goal.returns-in-Forwarded
 unfolding shape_text
 returns-in-Forwarded c =
-    adds_at (shape_text c.args.core.now c.args.at) _ _ _ _ c.in-Forwarded.is (then_adds _ _ _ _ _ c.put-in-Forwarded.ensures (adds_at decimal _ _ _ _ (sym c.word.ensures) c.put_digits-in-Forwarded.ensures))
+    adds_at (shape_text c.args.core.now c.args.at) _ _ _ _ c.in-Forwarded.is (then_adds _ _ _ _ _ c.put-in-Forwarded.ensures
+    (adds_at decimal _ _ _ _ (sym c.word.ensures) c.put_digits-in-Forwarded.ensures))
