@@ -63,9 +63,7 @@ Reviews glance given left old new (Err (faults.Write fault)) = (input : List ℕ
     × ((text : List ℕ) × IsReviewOfRecord glance input text × TakesPart old new text) × (fault ≢ writes.NoMemory)
 
 -- A record was viewed so, and it was told so.
-pub record PerformsReview (at : Option ℕ) (given left : Reader) (old new err err' : Writer) (status : ℕ) : Type 0 where
-  pub glance : Glance
-  pub when : glance.at ≡ at
+pub record PerformsReview (glance : Glance) (given left : Reader) (old new err err' : Writer) (status : ℕ) : Type 0 where
   pub outcome : Result ⊤ JobFault
   pub views : Reviews glance given left old new outcome
   pub tells : Tells err err' outcome status

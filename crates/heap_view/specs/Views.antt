@@ -51,10 +51,8 @@ Views glance given left old new (Err (faults.Differs event)) = ⊥
 Views glance given left old new (Err (faults.Write fault)) = (input : List ℕ) × GivesAll given left input
     × ((text : List ℕ) × IsViewOfScript glance input text × TakesPart old new text) × (fault ≢ writes.NoMemory)
 
--- A script was viewed so, behind so many steps, and it was told so.
-pub record PerformsView (at : Option ℕ) (given left : Reader) (old new err err' : Writer) (status : ℕ) : Type 0 where
-  pub glance : Glance
-  pub when : glance.at ≡ at
+-- A script was viewed so, and it was told so.
+pub record PerformsView (glance : Glance) (given left : Reader) (old new err err' : Writer) (status : ℕ) : Type 0 where
   pub outcome : Result ⊤ JobFault
   pub views : Views glance given left old new outcome
   pub tells : Tells err err' outcome status
