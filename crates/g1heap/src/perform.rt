@@ -69,7 +69,7 @@ fn do_view<R: Read, W: Write, E: Write>(
     out: &mut WatchedWriter<W>,
     err: &mut WatchedWriter<E>,
 ) -> u8
-    ensures { DoesView recorded glance.now.at reader.old reader.new out.old out.new err.old err.new result }
+    ensures { DoesView recorded glance.now reader.old reader.new out.old out.new err.old err.new result }
 {
     if recorded {
         let viewed = view_record(alloc, glance, reader, out);

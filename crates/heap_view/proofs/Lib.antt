@@ -1,1 +1,7 @@
 pub mod Fronts
+pub mod Progress
+pub mod Putting
+pub mod Rows
+pub mod Sizes
+pub mod Titles
+pub mod Walked

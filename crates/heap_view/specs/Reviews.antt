@@ -5,19 +5,22 @@ use Rattle.heap_steps.specs.declared.step.Event.{Event}
 use Rattle.heap_steps.specs.Faults.{IsRunFault}
 use Rattle.script_text.specs.Lines.{FailsBy}
 use Rattle.script_text.specs.Events.{record_of}
-use Rattle.script_text.specs.Watched.{Reader, Writer, FailsToGive, Stays}
+use Rattle.script_text.specs.Watched.{Reader, Writer, FailsToGive, Takes, TakesPart, Stays}
 use Rattle.script_text.specs.declared.fault.WriteFault.TheVariants as writes
-use Rattle.step_core.specs.Histories.{RunsFromNew, step_in}
+use Rattle.step_core.specs.Stands.{CoreState}
+use Rattle.step_core.specs.Histories.{RunsFromNew, RunsTo, step_in}
 use Rattle.jobs.specs.Runs.{GivesAll, Tells}
 use Rattle.jobs.specs.declared.faults.JobFault.{JobFault}
 use Rattle.jobs.specs.declared.faults.JobFault.TheVariants as faults
 use Rattle.jobs.specs.Replays.{reply_in, DiffersAt}
-use Rattle.heap_view.specs.Views.{front, WritesText, WritesTextBeginning}
+use Rattle.heap_view.specs.declared.glance.Glance.{Glance}
+use Rattle.heap_view.specs.Glances.{view_text}
+use Rattle.heap_view.specs.Views.{front}
 
--- a new heap does the steps of these events, and gives each their replies
-pub record GoesAs (events : EventList) : Type 0 where
+-- a new heap does the steps of these events, gives each their replies, and then is this core
+pub record GoesTo (events : EventList) (core : CoreState) : Type 0 where
   pub ran : List Event
-  pub runs : RunsFromNew events.config ran
+  pub ends : RunsTo events.config ran core
   pub steps : map step_in ran ≡ map step_in events.events
   pub replies : map reply_in ran ≡ map reply_in events.events
 
@@ -25,11 +28,17 @@ pub record GoesAs (events : EventList) : Type 0 where
 abbrev pub beginning_of : Option ℕ → EventList → EventList
 beginning_of at history = record history { events = front at history.events }
 
--- the input is a record of which a new heap did the first so many steps, and gave their replies
-pub record RedoesWell (at : Option ℕ) (input : List ℕ) : Type 0 where
+-- the text is the view of the core at which the first so many events of a record ended
+pub record IsReviewOf (glance : Glance) (history : EventList) (text : List ℕ) : Type 0 where
+  pub core : CoreState
+  pub goes : GoesTo (beginning_of glance.at history) core
+  pub is : text ≡ view_text glance core
+
+-- the input is a record, and the text is the view of it
+pub record IsReviewOfRecord (glance : Glance) (input text : List ℕ) : Type 0 where
   pub history : EventList
   pub read : record_of input ≡ Ok history
-  pub goes : GoesAs (beginning_of at history)
+  pub viewed : IsReviewOf glance history text
 
 -- why a new heap didn't do the steps of these events and give them their replies
 abbrev pub IsRedoFault : EventList → JobFault → Type 0
@@ -38,21 +47,23 @@ IsRedoFault events (faults.Differs event) = DiffersAt RunsFromNew events event
 IsRedoFault events _ = ⊥
 
 -- How a view of a record behind so many events ended, as a script's. Nothing was written where the heap gives another reply to one of them
-abbrev pub Reviews : Option ℕ → Reader → Reader → Writer → Writer → Result ⊤ JobFault → Type 0
-Reviews at given left old new (Ok done) = (input : List ℕ) × GivesAll given left input × RedoesWell at input × WritesText old new
-Reviews at given left old new (Err (faults.Read fault)) = FailsToGive fault given left × Stays old new
-Reviews at given left old new (Err (faults.Line fault)) = (input : List ℕ) × GivesAll given left input
+abbrev pub Reviews : Glance → Reader → Reader → Writer → Writer → Result ⊤ JobFault → Type 0
+Reviews glance given left old new (Ok done) = (input : List ℕ) × GivesAll given left input
+    × ((text : List ℕ) × IsReviewOfRecord glance input text × Takes old new text)
+Reviews glance given left old new (Err (faults.Read fault)) = FailsToGive fault given left × Stays old new
+Reviews glance given left old new (Err (faults.Line fault)) = (input : List ℕ) × GivesAll given left input
     × FailsBy fault.kind fault input (record_of input) × Stays old new
-Reviews at given left old new (Err (faults.Run fault)) = (input : List ℕ) × GivesAll given left input
+Reviews glance given left old new (Err (faults.Run fault)) = (input : List ℕ) × GivesAll given left input
     × ((history : EventList) × (record_of input ≡ Ok history) × IsRunFault history.config fault) × Stays old new
-Reviews at given left old new (Err (faults.Judge fault)) = ⊥
-Reviews at given left old new (Err (faults.Differs event)) = (input : List ℕ) × GivesAll given left input
-    × ((history : EventList) × (record_of input ≡ Ok history) × DiffersAt RunsFromNew (beginning_of at history) event) × Stays old new
-Reviews at given left old new (Err (faults.Write fault)) = (input : List ℕ) × GivesAll given left input × RedoesWell at input
-    × WritesTextBeginning old new × (fault ≢ writes.NoMemory)
+Reviews glance given left old new (Err (faults.Judge fault)) = ⊥
+Reviews glance given left old new (Err (faults.Differs event)) = (input : List ℕ) × GivesAll given left input
+    × ((history : EventList) × (record_of input ≡ Ok history)
+    × DiffersAt RunsFromNew (beginning_of glance.at history) event) × Stays old new
+Reviews glance given left old new (Err (faults.Write fault)) = (input : List ℕ) × GivesAll given left input
+    × ((text : List ℕ) × IsReviewOfRecord glance input text × TakesPart old new text) × (fault ≢ writes.NoMemory)
 
 -- A record was viewed so, and it was told so.
-pub record PerformsReview (at : Option ℕ) (given left : Reader) (old new err err' : Writer) (status : ℕ) : Type 0 where
+pub record PerformsReview (glance : Glance) (given left : Reader) (old new err err' : Writer) (status : ℕ) : Type 0 where
   pub outcome : Result ⊤ JobFault
-  pub views : Reviews at given left old new outcome
+  pub views : Reviews glance given left old new outcome
   pub tells : Tells err err' outcome status

@@ -5,10 +5,13 @@ use Rattle.script_text.specs.Lines.{script_of, FailsBy}
 use Rattle.script_text.specs.Watched.{Reader, Writer, FailsToGive, Takes, TakesPart, Stays}
 use Rattle.script_text.specs.declared.fault.WriteFault.TheVariants as writes
 use Rattle.heap_steps.specs.Faults.{IsRunFault}
-use Rattle.step_core.specs.Histories.{IsRunInOrder}
-use Rattle.jobs.specs.Runs.{IsScriptRun, GivesAll, Tells}
+use Rattle.step_core.specs.Stands.{CoreState}
+use Rattle.step_core.specs.Histories.{IsRunInOrder, RunsTo}
+use Rattle.jobs.specs.Runs.{GivesAll, Tells}
 use Rattle.jobs.specs.declared.faults.JobFault.{JobFault}
 use Rattle.jobs.specs.declared.faults.JobFault.TheVariants as faults
+use Rattle.heap_view.specs.declared.glance.Glance.{Glance}
+use Rattle.heap_view.specs.Glances.{view_text}
 
 -- the first so many of a list, or all of it where no number is given
 abbrev pub front : {A : Type 0} → Option ℕ → List A → List A
@@ -19,38 +22,37 @@ front (Some n) xs = take n xs
 abbrev pub front_of : Option ℕ → StepList → StepList
 front_of at plan = record plan { steps = front at plan.steps }
 
--- the record is a run of the plan's first so many steps
-abbrev pub RunsFront : Option ℕ → StepList → EventList → Type 0
-RunsFront at plan r = IsRunInOrder (front_of at plan) r
+-- The text is the view of the core at which a run of the plan's first so many steps in a new heap ended
+pub record IsViewOf (glance : Glance) (plan : StepList) (text : List ℕ) : Type 0 where
+  pub events : EventList
+  pub runs : IsRunInOrder (front_of glance.at plan) events
+  pub core : CoreState
+  pub ends : RunsTo plan.config events.events core
+  pub is : text ≡ view_text glance core
 
--- the input is a script of which a new heap did the first so many steps, in the order of the file
-abbrev pub RunsWell : Option ℕ → List ℕ → Type 0
-RunsWell at input = (r : EventList) × IsScriptRun (RunsFront at) input r
+-- the input is a script, and the text is the view of it
+pub record IsViewOfScript (glance : Glance) (input text : List ℕ) : Type 0 where
+  pub plan : StepList
+  pub read : script_of input ≡ Ok plan
+  pub viewed : IsViewOf glance plan text
 
--- a text was written, and no more. Which one, no clause says
-abbrev pub WritesText : Writer → Writer → Type 0
-WritesText old new = (text : List ℕ) × Takes old new text
-
--- a beginning of a text was written, not all of it, and then the writer refused
-abbrev pub WritesTextBeginning : Writer → Writer → Type 0
-WritesTextBeginning old new = (text : List ℕ) × TakesPart old new text
-
--- How a view behind so many steps ended: the reader was `given` before and is `left` after, and the writer was `old` before and is `new`
--- after. At Ok, and where the writer refused, the script was run so far; otherwise nothing was written.
-abbrev pub Views : Option ℕ → Reader → Reader → Writer → Writer → Result ⊤ JobFault → Type 0
-Views at given left old new (Ok done) = (input : List ℕ) × GivesAll given left input × RunsWell at input × WritesText old new
-Views at given left old new (Err (faults.Read fault)) = FailsToGive fault given left × Stays old new
-Views at given left old new (Err (faults.Line fault)) = (input : List ℕ) × GivesAll given left input
+-- How a view ended: the reader was `given` before and is `left` after, and the writer was `old` before and is `new` after. The view was
+-- written at Ok, and no more; a beginning of it, and not all, where the writer refused; otherwise nothing.
+abbrev pub Views : Glance → Reader → Reader → Writer → Writer → Result ⊤ JobFault → Type 0
+Views glance given left old new (Ok done) = (input : List ℕ) × GivesAll given left input
+    × ((text : List ℕ) × IsViewOfScript glance input text × Takes old new text)
+Views glance given left old new (Err (faults.Read fault)) = FailsToGive fault given left × Stays old new
+Views glance given left old new (Err (faults.Line fault)) = (input : List ℕ) × GivesAll given left input
     × FailsBy fault.kind fault input (script_of input) × Stays old new
-Views at given left old new (Err (faults.Run fault)) = (input : List ℕ) × GivesAll given left input
+Views glance given left old new (Err (faults.Run fault)) = (input : List ℕ) × GivesAll given left input
     × ((plan : StepList) × (script_of input ≡ Ok plan) × IsRunFault plan.config fault) × Stays old new
-Views at given left old new (Err (faults.Judge fault)) = ⊥
-Views at given left old new (Err (faults.Differs event)) = ⊥
-Views at given left old new (Err (faults.Write fault)) = (input : List ℕ) × GivesAll given left input × RunsWell at input
-    × WritesTextBeginning old new × (fault ≢ writes.NoMemory)
+Views glance given left old new (Err (faults.Judge fault)) = ⊥
+Views glance given left old new (Err (faults.Differs event)) = ⊥
+Views glance given left old new (Err (faults.Write fault)) = (input : List ℕ) × GivesAll given left input
+    × ((text : List ℕ) × IsViewOfScript glance input text × TakesPart old new text) × (fault ≢ writes.NoMemory)
 
 -- A script was viewed so, and it was told so.
-pub record PerformsView (at : Option ℕ) (given left : Reader) (old new err err' : Writer) (status : ℕ) : Type 0 where
+pub record PerformsView (glance : Glance) (given left : Reader) (old new err err' : Writer) (status : ℕ) : Type 0 where
   pub outcome : Result ⊤ JobFault
-  pub views : Views at given left old new outcome
+  pub views : Views glance given left old new outcome
   pub tells : Tells err err' outcome status

@@ -1,83 +1,97 @@
 //! Dirty cards and remembered sets.
 
-ghost use Rattle.std.specs.Prelude.{◌<◌, length};
+ghost use Rattle.std.specs.Prelude.{◌<◌, ◌≤◌, length, codes};
+ghost use Rattle.std.specs.Fmt.{decimal};
+ghost use Rattle.cards.specs.Cards.{log_of};
+ghost use Rattle.remembered_sets.specs.Sets.{set_of};
+ghost use Rattle.script_text.specs.Texts.{Adds};
+ghost use Rattle.heap_view.specs.Lists.{each_spaced, titled_line};
+ghost use Rattle.heap_view.specs.Areas.{source_text, sources_text, set_line};
+ghost use Rattle.heap_view.specs.Actors.{queue_line};
 
-use crate::pieces::{write_number, write_text};
+use cards::CardTable;
 use heap_words::addr::RegionNo;
-use std::io::{Result, Write};
-use step_core::Core;
+use remembered_sets::RememberedSets;
+use script_text::Text;
 
-/// Writes the cards that stand one by one in a region's set. Answers whether there are some.
-fn write_cards<W: Write>(core: &Core, writer: &mut W, region: RegionNo) -> Result<bool>
-    requires { region < length core.now.sets.sets }
+/// Puts the cards that stand one by one in a region's set.
+fn put_cards(sets: &RememberedSets, text: &mut Text, region: RegionNo)
+    requires { region < length sets.now.sets }
+    ensures { Adds text.old (each_spaced decimal (set_of sets.now region).inline) text.new }
 {
-    let sets = core.sets();
-    let count = sets.card_count(region);
+    for place in 0..sets.card_count(region) {
+        text.put_number(sets.card(region, place).number() as u64);
+    }
+}
+
+/// Puts a region, if all its cards are in a region's set.
+fn put_source(sets: &RememberedSets, text: &mut Text, region: RegionNo, source: u32)
+    requires region { region < length sets.now.sets }
+    requires source { source < length sets.now.sets }
+    ensures { Adds text.old (source_text (set_of sets.now region) source) text.new }
+{
+    if !sets.is_whole(region, RegionNo::new(source)) {
+        return;
+    }
+    text.put(", all of region ");
+    text.put_digits(source as u64);
+}
+
+/// Puts the regions, of so many, all of whose cards are in a region's set.
+fn put_sources(sets: &RememberedSets, text: &mut Text, region: RegionNo, regions: u32)
+    requires region { region < length sets.now.sets }
+    requires regions { regions ≤ length sets.now.sets }
+    ensures { Adds text.old (sources_text (set_of sets.now region) regions) text.new }
+{
+    for source in 0..regions {
+        put_source(sets, text, region, source);
+    }
+}
+
+/// Puts a region's remembered set, if it isn't empty. Regions stand in it only beside cards.
+pub(crate) fn put_set(sets: &RememberedSets, text: &mut Text, region: RegionNo, regions: u32)
+    requires region { region < length sets.now.sets }
+    requires regions { regions ≤ length sets.now.sets }
+    ensures { Adds text.old (set_line (set_of sets.now region) regions) text.new }
+{
+    if sets.card_count(region) == 0 {
+        return;
+    }
+    text.put("  remembered cards:");
+    put_cards(sets, text, region);
+    put_sources(sets, text, region, regions);
+    text.put("\n");
+}
+
+/// Puts the queue of refinement, from its front.
+pub(crate) fn put_queue(cards: &CardTable, text: &mut Text)
+    ensures { Adds text.old (queue_line cards.now.queue) text.new }
+{
+    let count = cards.queued();
     if count == 0 {
-        return Ok(false);
+        text.put("queue of cards: none");
+        text.put("\n");
+        return;
     }
-    write_text(writer, "  remembered cards:")?;
+    text.put("queue of cards:");
     for place in 0..count {
-        write_number(writer, sets.card(region, place).number() as u64)?;
+        text.put_number(cards.queued_card(place).number() as u64);
     }
-    Ok(true)
+    text.put("\n");
 }
 
-/// Writes the regions all of whose cards are in a region's set.
-fn write_sources<W: Write>(core: &Core, writer: &mut W, region: RegionNo) -> Result<()>
-    requires { region < length core.now.sets.sets }
+/// Puts a mutator's card log, if it isn't empty.
+pub(crate) fn put_card_log(cards: &CardTable, text: &mut Text, mutator: u32)
+    requires { mutator < length cards.now.logs }
+    ensures { Adds text.old (titled_line (codes "  card log:") decimal (log_of cards.now mutator)) text.new }
 {
-    core.remembers();
-    for number in 0..core.table().region_count() {
-        if core.sets().is_whole(region, RegionNo::new(number)) {
-            write!(writer, ", all of region {number}")?;
-        }
-    }
-    Ok(())
-}
-
-/// Writes a region's remembered set, if it isn't empty. Regions stand in it only beside cards.
-pub(crate) fn write_remembered<W: Write>(
-    core: &Core,
-    writer: &mut W,
-    region: RegionNo,
-) -> Result<()>
-    requires { region < length core.now.table.regions }
-{
-    core.remembers();
-    if write_cards(core, writer, region)? {
-        write_sources(core, writer, region)?;
-        write_text(writer, "\n")?;
-    }
-    Ok(())
-}
-
-/// Writes the queue of refinement, from its front.
-pub(crate) fn write_queue<W: Write>(core: &Core, writer: &mut W) -> Result<()> {
-    let cards = core.cards();
-    write_text(writer, "queue of cards:")?;
-    if cards.queued() == 0 {
-        write_text(writer, " none")?;
-    }
-    for place in 0..cards.queued() {
-        write_number(writer, cards.queued_card(place).number() as u64)?;
-    }
-    write_text(writer, "\n")
-}
-
-/// Writes a mutator's card log, if it isn't empty.
-pub(crate) fn write_card_log<W: Write>(core: &Core, writer: &mut W, mutator: u32) -> Result<()>
-    requires { mutator < core.now.config.mutators }
-{
-    core.remembers();
-    let cards = core.cards();
     let count = cards.logged(mutator);
     if count == 0 {
-        return Ok(());
+        return;
     }
-    write_text(writer, "  card log:")?;
+    text.put("  card log:");
     for place in 0..count {
-        write_number(writer, cards.logged_card(mutator, place).number() as u64)?;
+        text.put_number(cards.logged_card(mutator, place).number() as u64);
     }
-    write_text(writer, "\n")
+    text.put("\n");
 }

@@ -1,12 +1,17 @@
-//! What of a heap is viewed, and the lines of a short view.
+//! What of a heap is viewed, and the text of that.
 
-ghost use Rattle.std.specs.Prelude.{◌<◌, length};
+ghost use Rattle.std.specs.Prelude.{◌≡◌, ◌<◌, length, IfOk};
+ghost use Rattle.std.specs.List.{flat_map, range_with_len};
+ghost use Rattle.script_text.specs.Texts.{Adds};
+ghost use Rattle.heap_view.specs.Glances.{state_lines, one_region, numbered_region, total_line, below_regions, viewed_regions, view_text};
 
-use crate::region_lines::{write_region, write_region_alone};
-use crate::root_lines::write_roots;
-use crate::{card_lines, write_sizes, write_state};
+use crate::card_lines::put_queue;
+use crate::heads::{put_sizes, put_state};
+use crate::region_lines::{put_region, put_region_line};
+use crate::root_lines::put_actors;
 use heap_words::addr::RegionNo;
-use std::io::{Result, Write};
+use script_text::Text;
+use std::alloc::{AllocError, Global};
 use step_core::Core;
 
 /// What of a heap is viewed, and when.
@@ -20,69 +25,96 @@ pub struct Glance {
     pub summary: bool,
 }
 
-/// Writes a region's lines, or its one line.
-fn write_one<W: Write>(core: &Core, writer: &mut W, region: RegionNo, summary: bool) -> Result<()>
+/// Puts a region's lines, or its one line.
+fn put_one(core: &Core, text: &mut Text, region: RegionNo, summary: bool)
     requires { region < length core.now.table.regions }
+    ensures { Adds text.old (one_region summary core.now region) text.new }
 {
     if summary {
-        write_region_alone(core, writer, region)
-    } else {
-        write_region(core, writer, region)
+        put_region_line(core, text, region);
+        return;
     }
+    put_region(core, text, region);
 }
 
-/// Writes the region of a number, if there is one.
-fn write_numbered<W: Write>(core: &Core, writer: &mut W, number: u32, summary: bool) -> Result<()> {
+/// Puts the region of a number, if there is one.
+fn put_numbered(core: &Core, text: &mut Text, number: u32, summary: bool)
+    ensures { Adds text.old (numbered_region summary core.now number) text.new }
+{
     core.table().law();
     if number < core.table().region_count() {
-        write_one(core, writer, RegionNo::new(number), summary)
-    } else {
-        writeln!(writer, "region {number}: there is none")
+        put_one(core, text, RegionNo::new(number), summary);
+        return;
+    }
+    text.put("region ");
+    text.put_digits(number as u64);
+    text.put(": there is none");
+    text.put("\n");
+}
+
+/// Puts each region.
+fn put_each(core: &Core, text: &mut Text, summary: bool)
+    ensures { Adds text.old (flat_map (one_region summary core.now) (range_with_len 0 (length core.now.table.regions))) text.new }
+{
+    for number in 0..core.table().region_count() {
+        let region = RegionNo::new(number);
+        put_one(core, text, region, summary);
     }
 }
 
-/// Writes what the regions add up to.
-fn write_totals<W: Write>(core: &Core, writer: &mut W) -> Result<()> {
+/// Puts what the regions add up to.
+fn put_totals(core: &Core, text: &mut Text)
+    ensures { Adds text.old (total_line core.now) text.new }
+{
     let config = core.config();
-    let words = u64::from(config.regions) * u64::from(config.words);
-    writeln!(
-        writer,
-        "in all: {} of {words} words handed out, {} live, {} of {} regions free, {} cards queued",
-        core.used_words(),
-        core.live_words(),
-        core.free_regions(),
-        config.regions,
-        core.queued()
-    )
+    text.put("in all: ");
+    text.put_digits(core.used_words());
+    text.put(" of ");
+    text.put_digits(config.regions as u64 * config.words as u64);
+    text.put(" words handed out, ");
+    text.put_digits(core.live_words());
+    text.put(" live, ");
+    text.put_digits(core.free_regions() as u64);
+    text.put(" of ");
+    text.put_digits(config.regions as u64);
+    text.put(" regions free, ");
+    text.put_digits(core.queued() as u64);
+    text.put(" cards queued");
+    text.put("\n");
 }
 
-/// Writes a line a region, and what they add up to.
-fn write_summary<W: Write>(core: &Core, writer: &mut W) -> Result<()> {
-    for number in 0..core.table().region_count() {
-        write_region_alone(core, writer, RegionNo::new(number))?;
+/// Puts what stands below the regions.
+fn put_below(core: &Core, text: &mut Text, summary: bool)
+    ensures { Adds text.old (below_regions summary core.now) text.new }
+{
+    if summary {
+        put_totals(core, text);
+        return;
     }
-    write_totals(core, writer)
+    put_queue(core.cards(), text);
+    put_actors(core, text);
 }
 
-/// Writes all regions, and what stands beside them.
-fn write_whole<W: Write>(core: &Core, writer: &mut W) -> Result<()> {
-    for number in 0..core.table().region_count() {
-        write_region(core, writer, RegionNo::new(number))?;
+/// Puts the region that is asked for, or each and what stands below them.
+fn put_viewed(core: &Core, text: &mut Text, region: Option<u32>, summary: bool)
+    ensures { Adds text.old (viewed_regions region summary core.now) text.new }
+{
+    match region {
+        Some(number) => put_numbered(core, text, number, summary),
+        None => {
+            put_each(core, text, summary);
+            put_below(core, text, summary);
+        }
     }
-    card_lines::write_queue(core, writer)?;
-    write_roots(core, writer)
 }
 
-/// Writes what of a heap is viewed.
-pub fn write_glance<W: Write>(core: &Core, writer: &mut W, glance: &Glance) -> Result<()> {
-    write_sizes(core, writer)?;
-    write_state(core, writer)?;
-    if let Some(number) = glance.region {
-        return write_numbered(core, writer, number, glance.summary);
-    }
-    if glance.summary {
-        write_summary(core, writer)
-    } else {
-        write_whole(core, writer)
-    }
+/// The text of what of a heap is viewed. The error is want of memory.
+pub fn view_text(alloc: Global, core: &Core, glance: &Glance) -> Result<Vec<u8>, AllocError>
+    ensures { IfOk result (λ text. text.items ≡ view_text glance.now core.now) }
+{
+    let mut text = Text::new(alloc);
+    put_sizes(core, &mut text);
+    put_state(core, &mut text);
+    put_viewed(core, &mut text, glance.region, glance.summary);
+    text.into_bytes()
 }

@@ -1,250 +1,199 @@
-//! The regions, each with its tiles.
+//! The regions, each with its tiles, or as one line.
 
-ghost use Rattle.std.specs.Prelude.{◌≡◌, ◌<◌, IsSome, length};
-ghost use Rattle.regions.specs.Table.{kind_of, object_at};
-ghost use Rattle.regions.specs.Walks.{IsPlacedTile};
-ghost use Rattle.regions.specs.declared.row.Kind.TheVariants as kinds;
+ghost use Rattle.std.specs.Prelude.{◌≡◌, ◌<◌, length};
+ghost use Rattle.regions.specs.Table.{kind_of, used_of};
+ghost use Rattle.remembered_sets.specs.Sets.{set_of};
+ghost use Rattle.script_text.specs.Texts.{Adds};
+ghost use Rattle.heap_view.specs.Areas.{kind_text, current_text, words_text, head_text, live_text, next_top_text, tops_text, body_lines};
+ghost use Rattle.heap_view.specs.Areas.{region_body, region_lines, use_text, line_body, region_line, set_line};
 
-use crate::card_lines::write_remembered;
-use crate::names::write_name;
-use crate::pieces::{write_number, write_text};
-use heap_words::addr::{Addr, RegionNo};
-use refinement::is_kept;
-use regions::{Kind, RegionTable, Shape};
-use std::io::{Result, Write};
+use crate::card_lines::put_set;
+use crate::tile_lines::put_tiles;
+use heap_words::addr::RegionNo;
+use regions::{Kind, RegionTable};
+use script_text::Text;
 use step_core::Core;
 
-/// How many pointers, how many weak slots and how many data words of an object are shown.
-const SHOWN: u32 = 8;
-
-/// Writes how many of an object's fields aren't shown, if there are some.
-fn write_more<W: Write>(writer: &mut W, count: u32) -> Result<()> {
-    if SHOWN < count {
-        write!(writer, " and {} more", count - SHOWN)
-    } else {
-        Ok(())
-    }
-}
-
-/// Writes the first pointers of an object, by the names that they lead to.
-fn write_pointers<W: Write>(table: &RegionTable, writer: &mut W, object: Addr) -> Result<()>
-    requires { IsSome (object_at table.now object) }
-{
-    let count = table.pointer_count(object);
-    if count == 0 {
-        return Ok(());
-    }
-    write_text(writer, ", pointers")?;
-    for field in 0..count.min(SHOWN) {
-        write_text(writer, " ")?;
-        write_name(table, writer, table.get_ptr(object, field))?;
-    }
-    write_more(writer, count)
-}
-
-/// Writes the first weak slots of an object, by the names that they hold.
-fn write_weaks<W: Write>(table: &RegionTable, writer: &mut W, object: Addr) -> Result<()>
-    requires { IsSome (object_at table.now object) }
-{
-    let count = table.weak_count(object);
-    if count == 0 {
-        return Ok(());
-    }
-    write_text(writer, ", weak slots")?;
-    for slot in 0..count.min(SHOWN) {
-        write_text(writer, " ")?;
-        write_name(table, writer, table.get_weak(object, slot))?;
-    }
-    write_more(writer, count)
-}
-
-/// Writes the first data words of an object.
-fn write_data<W: Write>(table: &RegionTable, writer: &mut W, object: Addr) -> Result<()>
-    requires { IsSome (object_at table.now object) }
-{
-    let count = table.value_count(object);
-    if count == 0 {
-        return Ok(());
-    }
-    write_text(writer, ", data")?;
-    for field in 0..count.min(SHOWN) {
-        write_number(writer, table.get_value(object, field))?;
-    }
-    write_more(writer, count)
-}
-
-/// What the marking that runs knows of an object.
-fn progress(core: &Core, object: Addr) -> &'static str
-    requires { IsSome (object_at core.now.table object) }
+/// Puts a region's top at the start of the marking that runs, if one does.
+fn put_next_top(core: &Core, text: &mut Text, region: RegionNo)
+    requires { region < length core.now.table.regions }
+    ensures { Adds text.old (next_top_text core.now region) text.new }
 {
     core.remembers();
-    let table = core.table();
-    table.law();
-    let marker = core.marker();
-    if !marker.tams.is_below_next(table.words_per_region(), object) {
-        return "new";
+    if !core.marking() {
+        return;
     }
-    if !marker.bitmaps.next.get(object) {
-        return "unmarked";
-    }
-    if marker.grey.is_scanned(object) {
-        "scanned"
-    } else {
-        "grey"
-    }
+    text.put(", next ");
+    text.put_digits(core.marker().tams.next(region).word() as u64);
 }
 
-/// Writes whether an object is kept, and what the marking that runs knows of it.
-fn write_keeping<W: Write>(core: &Core, writer: &mut W, object: Addr, kept: bool) -> Result<()>
-    requires { IsSome (object_at core.now.table object) }
-{
-    let keeping = if kept { "kept" } else { "dead" };
-    if core.marking() {
-        writeln!(writer, ", {keeping}, {}", progress(core, object))
-    } else {
-        writeln!(writer, ", {keeping}")
-    }
-}
-
-/// Writes an object.
-fn write_object<W: Write>(core: &Core, writer: &mut W, object: Addr, kept: bool) -> Result<()>
-    requires { IsSome (object_at core.now.table object) }
-{
-    let table = core.table();
-    write!(writer, "#{}", table.name(object))?;
-    write_pointers(table, writer, object)?;
-    write_weaks(table, writer, object)?;
-    write_data(table, writer, object)?;
-    write_keeping(core, writer, object, kept)
-}
-
-/// Writes a tile.
-fn write_tile<W: Write>(core: &Core, writer: &mut W, at: Addr, shape: Shape) -> Result<()>
-    requires { IsPlacedTile core.now.table at shape }
-{
-    core.remembers();
-    let marker = core.marker();
-    let kept = is_kept(
-        core.table(),
-        &marker.tams,
-        &marker.bitmaps.previous,
-        at,
-        shape,
-    );
-    write!(writer, "  at {}: ", at.word())?;
-    match &shape {
-        Shape::Object { .. } => write_object(core, writer, at, kept),
-        Shape::Filler { size } => writeln!(writer, "filler of {size}"),
-        Shape::Forwarded { to, .. } => writeln!(writer, "moved to {}", to.word()),
-    }
-}
-
-/// Writes the tiles that start in a region.
-fn write_tiles<W: Write>(core: &Core, writer: &mut W, region: RegionNo) -> Result<()>
+/// Puts a region's tops at mark start.
+fn put_tops(core: &Core, text: &mut Text, region: RegionNo)
     requires { region < length core.now.table.regions }
-{
-    core.table().law();
-    for (at, shape) in core.table().walk(region) {
-        write_tile(core, writer, at, shape)?;
-    }
-    Ok(())
-}
-
-/// Writes a region's tops at mark start.
-fn write_tops<W: Write>(core: &Core, writer: &mut W, region: RegionNo) -> Result<()>
-    requires { region < length core.now.table.regions }
+    ensures { Adds text.old (tops_text core.now region) text.new }
 {
     core.remembers();
     let tams = &core.marker().tams;
-    let previous = tams.previous(region).word();
-    write!(writer, "  top at mark start {previous}")?;
-    if core.marking() {
-        write!(writer, ", next {}", tams.next(region).word())?;
-    }
-    Ok(())
+    text.put("  top at mark start ");
+    text.put_digits(tams.previous(region).word() as u64);
+    put_next_top(core, text, region);
 }
 
-/// Writes the live bound of an ordinary region.
-fn write_live<W: Write>(core: &Core, writer: &mut W, region: RegionNo) -> Result<()>
+/// Puts the live bound of an ordinary region.
+fn put_live(core: &Core, text: &mut Text, region: RegionNo, kind: Kind)
     requires known { region < length core.now.table.regions }
-    requires ordinary { kind_of core.now.table region ≡ kinds.Ordinary }
+    requires kind { kind ≡ kind_of core.now.table region }
+    ensures { Adds text.old (live_text core.now region kind) text.new }
 {
     core.remembers();
-    let live = core.marker().live_bound(core.table(), region);
-    write!(writer, ", live bound {live}")
+    match kind {
+        Kind::Ordinary => {
+            text.put(", live bound ");
+            text.put_digits(core.marker().live_bound(core.table(), region) as u64);
+        }
+        Kind::Free => {}
+        Kind::First => {}
+        Kind::Rest => {}
+    }
 }
 
-/// Writes how many words of a region are handed out.
-fn write_words<W: Write>(table: &RegionTable, writer: &mut W, region: RegionNo) -> Result<()>
+/// How many words of a region are handed out.
+fn used_in(table: &RegionTable, region: RegionNo) -> u32
     requires { region < length table.now.regions }
+    ensures { result ≡ used_of table.now region }
 {
     table.law();
-    let words = table.words_per_region();
-    let used = table.top(region).word() - region.number() * words;
-    write!(writer, ", {used} of {words} words handed out")
+    table.top(region).word() - region.number() * table.words_per_region()
 }
 
-/// Writes a region that is in use.
-fn write_in_use<W: Write>(core: &Core, writer: &mut W, region: RegionNo) -> Result<()>
-    requires { region < length core.now.table.regions }
-{
-    if core.buffers().is_current(region) {
-        write_text(writer, ", current")?;
-    }
-    write_words(core.table(), writer, region)?;
-    write_text(writer, "\n")?;
-    write_tops(core, writer, region)?;
-    if let Kind::Ordinary = core.table().kind(region) {
-        write_live(core, writer, region)?;
-    }
-    write_text(writer, "\n")?;
-    write_remembered(core, writer, region)?;
-    write_tiles(core, writer, region)
-}
-
-/// Writes which kind a region is of.
-fn write_kind<W: Write>(table: &RegionTable, writer: &mut W, region: RegionNo) -> Result<()>
+/// Puts how many words of a region are handed out.
+fn put_words(table: &RegionTable, text: &mut Text, region: RegionNo)
     requires { region < length table.now.regions }
+    ensures { Adds text.old (words_text table.now region) text.new }
 {
-    match table.kind(region) {
-        Kind::Free => write_text(writer, "free"),
-        Kind::Ordinary => write_text(writer, "ordinary"),
-        Kind::First => write!(writer, "first of a run of {}", table.run_length(region)),
-        Kind::Rest => write_text(writer, "rest of a run"),
+    text.put(", ");
+    text.put_digits(used_in(table, region) as u64);
+    text.put(" of ");
+    text.put_digits(table.words_per_region() as u64);
+    text.put(" words handed out");
+}
+
+/// Puts whether new buffers are cut from a region.
+fn put_current(core: &Core, text: &mut Text, region: RegionNo)
+    ensures { Adds text.old (current_text core.now region) text.new }
+{
+    if !core.buffers().is_current(region) {
+        return;
+    }
+    text.put(", current");
+}
+
+/// Puts which kind a region is of.
+fn put_kind(table: &RegionTable, text: &mut Text, region: RegionNo, kind: Kind)
+    requires { region < length table.now.regions }
+    ensures { Adds text.old (kind_text table.now region kind) text.new }
+{
+    match kind {
+        Kind::Free => text.put("free"),
+        Kind::Ordinary => text.put("ordinary"),
+        Kind::First => {
+            text.put("first of a run of ");
+            text.put_digits(table.run_length(region) as u64);
+        }
+        Kind::Rest => text.put("rest of a run"),
     }
 }
 
-/// Writes a region as one line.
-pub(crate) fn write_region_alone<W: Write>(
-    core: &Core,
-    writer: &mut W,
-    region: RegionNo,
-) -> Result<()>
-    requires { region < length core.now.table.regions }
+/// Puts a region's number and its kind.
+fn put_head(table: &RegionTable, text: &mut Text, region: RegionNo)
+    requires { region < length table.now.regions }
+    ensures { Adds text.old (head_text table.now region) text.new }
 {
-    write!(writer, "region {}: ", region.number())?;
-    write_kind(core.table(), writer, region)?;
-    if let Kind::Free = core.table().kind(region) {
-        return write_text(writer, "\n");
-    }
-    if core.buffers().is_current(region) {
-        write_text(writer, ", current")?;
-    }
-    write_words(core.table(), writer, region)?;
-    if let Kind::Ordinary = core.table().kind(region) {
-        write_live(core, writer, region)?;
-    }
-    write_text(writer, "\n")
+    text.put("region ");
+    text.put_digits(region.number() as u64);
+    text.put(": ");
+    put_kind(table, text, region, table.kind(region));
 }
 
-/// Writes a region.
-pub(crate) fn write_region<W: Write>(core: &Core, writer: &mut W, region: RegionNo) -> Result<()>
+/// Puts a region's remembered set, if it isn't empty.
+fn put_remembered(core: &Core, text: &mut Text, region: RegionNo)
     requires { region < length core.now.table.regions }
+    ensures { Adds text.old (set_line (set_of core.now.sets region) (length core.now.table.regions)) text.new }
 {
-    write!(writer, "region {}: ", region.number())?;
-    write_kind(core.table(), writer, region)?;
-    if let Kind::Free = core.table().kind(region) {
-        return write_text(writer, "\n");
+    core.remembers();
+    put_set(core.sets(), text, region, core.table().region_count());
+}
+
+/// Puts a region that is in use, behind its kind.
+fn put_body(core: &Core, text: &mut Text, region: RegionNo, kind: Kind)
+    requires known { region < length core.now.table.regions }
+    requires kind { kind ≡ kind_of core.now.table region }
+    ensures { Adds text.old (body_lines core.now region kind) text.new }
+{
+    put_current(core, text, region);
+    put_words(core.table(), text, region);
+    text.put("\n");
+    put_tops(core, text, region);
+    put_live(core, text, region, kind);
+    text.put("\n");
+    put_remembered(core, text, region);
+    put_tiles(core, text, region);
+}
+
+/// Puts what the one line of a region in use says of its words.
+fn put_use(core: &Core, text: &mut Text, region: RegionNo, kind: Kind)
+    requires known { region < length core.now.table.regions }
+    requires kind { kind ≡ kind_of core.now.table region }
+    ensures { Adds text.old (use_text core.now region kind) text.new }
+{
+    put_current(core, text, region);
+    put_words(core.table(), text, region);
+    put_live(core, text, region, kind);
+}
+
+/// Puts what follows a region's kind in its one line: of a free one nothing.
+fn put_line_body(core: &Core, text: &mut Text, region: RegionNo, kind: Kind)
+    requires known { region < length core.now.table.regions }
+    requires kind { kind ≡ kind_of core.now.table region }
+    ensures { Adds text.old (line_body core.now region kind) text.new }
+{
+    match kind {
+        Kind::Free => {}
+        Kind::Ordinary => put_use(core, text, region, kind),
+        Kind::First => put_use(core, text, region, kind),
+        Kind::Rest => put_use(core, text, region, kind),
     }
-    write_in_use(core, writer, region)
+}
+
+/// Puts what follows a region's kind: of a free one nothing.
+fn put_region_body(core: &Core, text: &mut Text, region: RegionNo, kind: Kind)
+    requires known { region < length core.now.table.regions }
+    requires kind { kind ≡ kind_of core.now.table region }
+    ensures { Adds text.old (region_body core.now region kind) text.new }
+{
+    match kind {
+        Kind::Free => text.put("\n"),
+        Kind::Ordinary => put_body(core, text, region, kind),
+        Kind::First => put_body(core, text, region, kind),
+        Kind::Rest => put_body(core, text, region, kind),
+    }
+}
+
+/// Puts a region as one line.
+pub(crate) fn put_region_line(core: &Core, text: &mut Text, region: RegionNo)
+    requires { region < length core.now.table.regions }
+    ensures { Adds text.old (region_line core.now region) text.new }
+{
+    put_head(core.table(), text, region);
+    put_line_body(core, text, region, core.table().kind(region));
+    text.put("\n");
+}
+
+/// Puts a region.
+pub(crate) fn put_region(core: &Core, text: &mut Text, region: RegionNo)
+    requires { region < length core.now.table.regions }
+    ensures { Adds text.old (region_lines core.now region) text.new }
+{
+    put_head(core.table(), text, region);
+    put_region_body(core, text, region, core.table().kind(region));
 }

@@ -5,7 +5,7 @@ ghost use Rattle.heap_words.specs.Configs.{Suits};
 ghost use Rattle.heap_words.specs.declared.config.Config.{Config};
 ghost use Rattle.heap_steps.specs.Actors.{AreEvents, IsStep};
 ghost use Rattle.step_core.specs.Histories.{step_in};
-ghost use Rattle.heap_view.specs.Reviews.{GoesAs, IsRedoFault, Reviews, beginning_of};
+ghost use Rattle.heap_view.specs.Reviews.{GoesTo, IsRedoFault, IsReviewOf, Reviews, beginning_of};
 
 use crate::glance::Glance;
 use crate::view::{first_of, text_of};
@@ -32,7 +32,7 @@ fn steps_of(alloc: Global, events: &[Event]) -> Result<Vec<Step>, AllocError>
 /// A new heap behind the steps of events, whose replies have to be the heap's.
 fn core_over(alloc: Global, config: &Config, events: &[Event]) -> Result<Core, JobFault>
     requires { AreEvents config.now events.now }
-    ensures goes { OnOk result (GoesAs (record { config = config.now; events = events.now })) }
+    ensures goes { IfOk result (GoesTo (record { config = config.now; events = events.now })) }
     ensures suits { OnOk result (Suits config.now) }
     ensures fault { IfErr result (IsRedoFault (record { config = config.now; events = events.now })) }
 {
@@ -54,7 +54,7 @@ fn core_over(alloc: Global, config: &Config, events: &[Event]) -> Result<Core, J
 
 /// What is viewed of a new heap behind the first so many events of a record.
 fn review_of(alloc: Global, history: &Record, glance: &Glance) -> Result<Vec<u8>, JobFault>
-    ensures goes { OnOk result (GoesAs (beginning_of glance.now.at history.now)) }
+    ensures text { IfOk result (λ text. IsReviewOf glance.now history.now text.items) }
     ensures fault { IfErr result (IsRedoFault (beginning_of glance.now.at history.now)) }
 {
     let events = first_of(history.events(), glance.at);
@@ -77,7 +77,7 @@ pub fn view_record<R: Read, W: Write>(
     reader: &mut WatchedReader<R>,
     writer: &mut WatchedWriter<W>,
 ) -> Result<(), JobFault>
-    ensures { Reviews glance.now.at reader.old reader.new writer.old writer.new result }
+    ensures { Reviews glance.now reader.old reader.new writer.old writer.new result }
 {
     let history = read_record(alloc, reader)?;
     let text = match review_of(alloc, &history, glance) {

@@ -1,107 +1,185 @@
 //! Roots, and what each mutator has: its registers, its buffer and its logs.
 
-ghost use Rattle.std.specs.Prelude.{◌<◌};
+ghost use Rattle.std.specs.Prelude.{◌≡◌, ◌<◌, ◌≤◌, ◌-◌, ◌||◌, length, codes, slice_get};
+ghost use Rattle.std.specs.List.{flat_map, range_with_len};
+ghost use Rattle.satb_log.specs.Logs.{log_of};
+ghost use Rattle.script_text.specs.Texts.{Adds};
+ghost use Rattle.heap_view.specs.Lists.{titled_line};
+ghost use Rattle.heap_view.specs.Tiles.{pointer_text};
+ghost use Rattle.heap_view.specs.Actors.{comma_text, none_text, next_text, has_some, root_text, roots_line};
+ghost use Rattle.heap_view.specs.Actors.{globals_line, registers_line, buffer_line, logged_text, mutator_lines, actor_lines};
 
-use crate::card_lines::write_card_log;
-use crate::names::write_name;
-use crate::pieces::write_text;
-use heap_words::addr::Addr;
+use crate::card_lines::put_card_log;
+use crate::names::{put_pointer, put_spaced_pointer};
+use alloc_buffers::AllocBuffers;
+use heap_words::addr::Ptr;
 use regions::RegionTable;
-use std::io::{Result, Write};
+use root_table::Roots;
+use satb_log::logs::DeletionLogs;
+use script_text::Text;
 use step_core::Core;
 
-/// Writes the object that a root leads to, and where it stands.
-fn write_place<W: Write>(table: &RegionTable, writer: &mut W, at: Addr) -> Result<()> {
-    write_name(table, writer, Some(at))?;
-    write!(writer, " at {}", at.word())
+/// Puts a comma where roots stand before.
+fn put_comma(text: &mut Text, some: bool)
+    ensures { Adds text.old (comma_text some) text.new }
+{
+    if !some {
+        return;
+    }
+    text.put(",");
 }
 
-/// Writes the roots from one place up to another that aren't nil, each behind its letter and its number.
-fn write_places<W: Write>(
-    core: &Core,
-    writer: &mut W,
+/// Puts that all roots are nil, where none stand before.
+fn put_none(text: &mut Text, some: bool)
+    ensures { Adds text.old (none_text some) text.new }
+{
+    if some {
+        return;
+    }
+    text.put(" all nil");
+}
+
+/// Puts a root by its letter, its number and its object, and where that stands, behind a comma where others stand before it. Answers
+/// whether some stand there now.
+fn put_root(
+    table: &RegionTable,
+    text: &mut Text,
+    letter: &'static str,
+    number: u64,
+    root: Ptr,
+    some: bool,
+) -> bool
+    ensures put { Adds text.old (next_text some (root_text table.now letter.now number root)) text.new }
+    ensures some { result ≡ (some || has_some (root_text table.now letter.now number root)) }
+{
+    match root {
+        None => some,
+        Some(at) => {
+            put_comma(text, some);
+            text.put(" ");
+            text.put(letter);
+            text.put_digits(number);
+            text.put(" ");
+            put_pointer(table, text, root);
+            text.put(" at ");
+            text.put_digits(at.word() as u64);
+            true
+        }
+    }
+}
+
+/// Puts the roots from one place up to another that aren't nil, each behind its letter and its number.
+fn put_roots(
+    table: &RegionTable,
+    roots: &Roots,
+    text: &mut Text,
     letter: &'static str,
     first: usize,
     end: usize,
-) -> Result<()> {
-    let roots = core.roots();
+)
+    requires order { first ≤ end }
+    requires within { end ≤ length roots.now.words }
+    ensures { Adds text.old (roots_line table.now roots.now.words letter.now first (end - first)) text.new }
+{
     let mut some = false;
-    let mut from = first;
-    while let Some(place) = roots.next_named(from) {
-        if end <= place {
-            break;
-        }
-        if let Some(at) = roots.get(place) {
-            let mark = if some { "," } else { "" };
-            write!(writer, "{mark} {letter}{} ", place - first)?;
-            write_place(core.table(), writer, at)?;
-            some = true;
-        }
-        from = place + 1;
+    for place in first..end {
+        some = put_root(
+            table,
+            text,
+            letter,
+            (place - first) as u64,
+            roots.get(place),
+            some,
+        );
     }
-    if some {
-        write_text(writer, "\n")
-    } else {
-        write_text(writer, " all nil\n")
+    put_none(text, some);
+    text.put("\n");
+}
+
+/// Puts what is left of a mutator's buffer, if one is open.
+fn put_buffer(buffers: &AllocBuffers, text: &mut Text, mutator: u32)
+    requires { mutator < length buffers.now.open_buffers }
+    ensures { Adds text.old (buffer_line (slice_get buffers.now.open_buffers mutator)) text.new }
+{
+    match buffers.open_buffer(mutator) {
+        None => {}
+        Some(buffer) => {
+            text.put("  open buffer at ");
+            text.put_digits(buffer.next as u64);
+            text.put(", ");
+            text.put_digits(buffer.rest as u64);
+            text.put(" words left");
+            text.put("\n");
+        }
     }
 }
 
-/// Writes what is left of a mutator's buffer, if one is open.
-fn write_buffer<W: Write>(core: &Core, writer: &mut W, mutator: u32) -> Result<()>
-    requires { mutator < core.now.config.mutators }
+/// Puts a mutator's deletion log, if it isn't empty.
+fn put_deletion_log(table: &RegionTable, logs: &DeletionLogs, text: &mut Text, mutator: u32)
+    requires { mutator < length logs.now }
+    ensures { Adds text.old (titled_line (codes "  deletion log:") (logged_text table.now) (log_of logs.now mutator)) text.new }
 {
-    core.remembers();
-    let Some(buffer) = core.buffers().open_buffer(mutator) else {
-        return Ok(());
-    };
-    writeln!(
-        writer,
-        "  open buffer at {}, {} words left",
-        buffer.next, buffer.rest
-    )
-}
-
-/// Writes a mutator's deletion log, if it isn't empty.
-fn write_deletion_log<W: Write>(core: &Core, writer: &mut W, mutator: u32) -> Result<()>
-    requires { mutator < core.now.config.mutators }
-{
-    core.remembers();
-    let logs = &core.marker().logs;
     let count = logs.len(mutator);
     if count == 0 {
-        return Ok(());
+        return;
     }
-    write_text(writer, "  deletion log:")?;
+    text.put("  deletion log:");
     for place in 0..count {
-        write_text(writer, " ")?;
-        write_name(core.table(), writer, Some(logs.logged(mutator, place)))?;
+        put_spaced_pointer(table, text, Some(logs.logged(mutator, place)));
     }
-    write_text(writer, "\n")
+    text.put("\n");
 }
 
-/// Writes a mutator.
-fn write_mutator<W: Write>(core: &Core, writer: &mut W, mutator: u32) -> Result<()>
+/// Puts a mutator's registers.
+fn put_registers(core: &Core, text: &mut Text, mutator: u32)
     requires { mutator < core.now.config.mutators }
+    ensures { Adds text.old (registers_line core.now mutator) text.new }
 {
     core.remembers();
-    write!(writer, "mutator {mutator}:")?;
     let places = core.roots().places();
     let first = places.register(mutator, 0);
     let end = places.register(mutator, places.registers());
-    write_places(core, writer, "r", first, end)?;
-    write_buffer(core, writer, mutator)?;
-    write_card_log(core, writer, mutator)?;
-    write_deletion_log(core, writer, mutator)
+    put_roots(core.table(), core.roots(), text, "r", first, end);
 }
 
-/// Writes the globals, and each mutator.
-pub(crate) fn write_roots<W: Write>(core: &Core, writer: &mut W) -> Result<()> {
+/// Puts the globals.
+fn put_globals(core: &Core, text: &mut Text)
+    ensures { Adds text.old (globals_line core.now) text.new }
+{
     core.remembers();
-    write_text(writer, "globals:")?;
-    let places = core.roots().places();
-    write_places(core, writer, "g", 0, places.globals() as usize)?;
+    let end = core.roots().places().globals() as usize;
+    put_roots(core.table(), core.roots(), text, "g", 0, end);
+}
+
+/// Puts a mutator.
+fn put_mutator(core: &Core, text: &mut Text, mutator: u32)
+    requires { mutator < core.now.config.mutators }
+    ensures { Adds text.old (mutator_lines core.now mutator) text.new }
+{
+    core.remembers();
+    text.put("mutator ");
+    text.put_digits(mutator as u64);
+    text.put(":");
+    put_registers(core, text, mutator);
+    put_buffer(core.buffers(), text, mutator);
+    put_card_log(core.cards(), text, mutator);
+    put_deletion_log(core.table(), &core.marker().logs, text, mutator);
+}
+
+/// Puts each mutator.
+fn put_mutators(core: &Core, text: &mut Text)
+    ensures { Adds text.old (flat_map (mutator_lines core.now) (range_with_len 0 core.now.config.mutators)) text.new }
+{
     for mutator in 0..core.config().mutators {
-        write_mutator(core, writer, mutator)?;
+        put_mutator(core, text, mutator);
     }
-    Ok(())
+}
+
+/// Puts the globals, and each mutator.
+pub(crate) fn put_actors(core: &Core, text: &mut Text)
+    ensures { Adds text.old (actor_lines core.now) text.new }
+{
+    text.put("globals:");
+    put_globals(core, text);
+    put_mutators(core, text);
 }

@@ -3,11 +3,11 @@
 //! The view is gathered in memory, so that nothing is written before it is whole.
 
 ghost use Rattle.std.specs.Prelude.{◌≡◌, IfOk, IfErr};
-ghost use Rattle.heap_steps.specs.Actors.{EventList};
 ghost use Rattle.heap_steps.specs.Faults.{IsRunFault};
-ghost use Rattle.heap_view.specs.Views.{front, RunsFront, Views};
+ghost use Rattle.heap_view.specs.Glances.{view_text};
+ghost use Rattle.heap_view.specs.Views.{front, IsViewOf, Views};
 
-use crate::glance::{Glance, write_glance};
+use crate::glance::{Glance, view_text};
 use heap_steps::{Plan, RunFault};
 use jobs::{JobFault, read_plan};
 use script_text::{WatchedReader, WatchedWriter, write_bytes};
@@ -15,13 +15,13 @@ use std::alloc::Global;
 use std::io::{Read, Write};
 use step_core::{Core, run_to_core};
 
-/// The text of a view.
+/// The text of a view, whose only fault is want of memory.
 pub(crate) fn text_of(alloc: Global, core: &Core, glance: &Glance) -> Result<Vec<u8>, RunFault>
-    ensures { IfErr result (λ fault. fault ≡ RunFault.NoMemory) }
+    ensures text { IfOk result (λ text. text.items ≡ view_text glance.now core.now) }
+    ensures memory { IfErr result (λ fault. fault ≡ RunFault.NoMemory) }
 {
-    let mut text = Vec::new(alloc);
-    match write_glance(core, &mut text, glance) {
-        Ok(()) => Ok(text),
+    match view_text(alloc, core, glance) {
+        Ok(text) => Ok(text),
         Err(_) => Err(RunFault::NoMemory),
     }
 }
@@ -38,7 +38,7 @@ pub(crate) fn first_of<T>(items: &[T], at: Option<u32>) -> &[T]
 
 /// The view of a new heap behind the first so many steps of a plan.
 fn view_of(alloc: Global, plan: &Plan, glance: &Glance) -> Result<Vec<u8>, RunFault>
-    ensures run { IfOk result (λ text. (r : EventList) × RunsFront glance.now.at plan.now r) }
+    ensures text { IfOk result (λ text. IsViewOf glance.now plan.now text.items) }
     ensures fault { IfErr result (IsRunFault plan.now.config) }
 {
     match run_to_core(alloc, &plan.config(), first_of(plan.steps(), glance.at)) {
@@ -55,7 +55,7 @@ pub fn view_script<R: Read, W: Write>(
     reader: &mut WatchedReader<R>,
     writer: &mut WatchedWriter<W>,
 ) -> Result<(), JobFault>
-    ensures { Views glance.now.at reader.old reader.new writer.old writer.new result }
+    ensures { Views glance.now reader.old reader.new writer.old writer.new result }
 {
     let plan = read_plan(alloc, reader)?;
     let text = match view_of(alloc, &plan, glance) {

@@ -1,7 +1,7 @@
 //! Views of small heaps, written by hand, and a writer that fails.
 
-use heap_view::write_view;
-use script_text::parse;
+use heap_view::{Glance, view_script, view_text};
+use script_text::{WatchedReader, WatchedWriter, parse};
 use std::alloc::Global;
 use std::io;
 use std::io::{ErrorKind, Write};
@@ -21,13 +21,30 @@ fn heap_after(alloc: Global, script: &str) -> Result<Core, Fail> {
     Ok(core)
 }
 
+/// All of a heap, as it is after the last step.
+const WHOLE: Glance = Glance {
+    at: None,
+    region: None,
+    summary: false,
+};
+
 /// The heap after a script has this view.
-fn assert_view(rt: &impl Abort, alloc: Global, script: &str, view: &str) -> Result<(), Fail> {
+fn assert_glance(
+    rt: &impl Abort,
+    alloc: Global,
+    script: &str,
+    glance: &Glance,
+    view: &str,
+) -> Result<(), Fail> {
     let core = heap_after(alloc, script)?;
-    let mut written = Vec::new(alloc);
-    write_view(&core, &mut written)?;
+    let written = view_text(alloc, &core, glance)?;
     assert_eq!(rt; written.as_slice(), view.as_bytes(), "{script}");
     Ok(())
+}
+
+/// The heap after a script has this view, where all of it is viewed.
+fn assert_view(rt: &impl Abort, alloc: Global, script: &str, view: &str) -> Result<(), Fail> {
+    assert_glance(rt, alloc, script, &WHOLE, view)
 }
 
 #[test]
@@ -189,8 +206,7 @@ fn a_full_set(rt: HostRuntime) -> Result<(), Fail> {
     }
     script.push_str("gc pause 0\n")?;
     let core = heap_after(alloc, script.as_str())?;
-    let mut written = Vec::new(alloc);
-    write_view(&core, &mut written)?;
+    let written = view_text(alloc, &core, &WHOLE)?;
     let start = "\
 heap 3 256 128 1 0
 next name 20
@@ -332,18 +348,77 @@ impl Write for Small {
 #[test]
 fn a_writer_that_fails(rt: HostRuntime) -> Result<(), Fail> {
     let alloc = rt.alloc();
-    let core = heap_after(
-        alloc,
-        "heap 4 16 8 1 0\n0 new r0 1 1\n0 put r0 0 r0\ngc begin\n",
-    )?;
-    let mut whole = Vec::new(alloc);
-    write_view(&core, &mut whole)?;
+    let script = "heap 4 16 8 1 0\n0 new r0 1 1\n0 put r0 0 r0\ngc begin\n";
+    let core = heap_after(alloc, script)?;
+    let whole = view_text(alloc, &core, &WHOLE)?;
     assert!(rt; whole.len() > 100);
     for room in 0..whole.len() {
         let taken = Vec::new(alloc);
-        let mut writer = Small { taken, room };
-        assert!(rt; write_view(&core, &mut writer).is_err(), "{room}");
-        assert_eq!(rt; writer.taken.as_slice(), &whole[..room], "{room}");
+        let mut reader = WatchedReader::new(script.as_bytes());
+        let mut writer = WatchedWriter::new(Small { taken, room });
+        assert!(rt;
+            view_script(alloc, &WHOLE, &mut reader, &mut writer).is_err(),
+            "{room}"
+        );
+        let Small { taken, room: _ } = writer.into_inner();
+        assert_eq!(rt; taken.as_slice(), &whole[..room], "{room}");
+    }
+    Ok(())
+}
+
+/// A summary has a line a region, and what they add up to: in region 0 an object of 8 words lives, and one of 8 is dead.
+#[test]
+fn a_summary(rt: HostRuntime) -> Result<(), Fail> {
+    let script = "\
+heap 4 16 8 1 0
+0 new r0 1 5
+0 new r1 0 6
+0 drop r1
+gc begin
+gc remark
+0 new r1 0 1
+0 put r0 0 r1
+";
+    let view = "\
+heap 4 16 8 1 0
+next name 3
+marking doesn't run
+region 0: ordinary, 16 of 16 words handed out, live bound 8
+region 1: ordinary, current, 8 of 16 words handed out, live bound 8
+region 2: free
+region 3: free
+in all: 24 of 64 words handed out, 16 live, 2 of 4 regions free, 0 cards queued
+";
+    let glance = Glance {
+        at: None,
+        region: None,
+        summary: true,
+    };
+    assert_glance(&rt, rt.alloc(), script, &glance, view)
+}
+
+/// One region can be asked for, as its lines or as its one line, and one that isn't there.
+#[test]
+fn one_region(rt: HostRuntime) -> Result<(), Fail> {
+    let alloc = rt.alloc();
+    let script = "heap 2 16 8 1 0\n0 new r0 1 1\n";
+    let head = "heap 2 16 8 1 0\nnext name 1\nmarking doesn't run\n";
+    let lines = "\
+region 0: ordinary, current, 8 of 16 words handed out
+  top at mark start 0, live bound 8
+  at 0: #0, pointers nil, data 0, kept
+  at 4: filler of 4
+";
+    let line = "region 0: ordinary, current, 8 of 16 words handed out, live bound 8\n";
+    let none = "region 2: there is none\n";
+    for (region, summary, end) in [(0, false, lines), (0, true, line), (2, false, none)] {
+        let glance = Glance {
+            at: None,
+            region: Some(region),
+            summary,
+        };
+        let view = format!(in alloc; "{head}{end}")?;
+        assert_glance(&rt, alloc, script, &glance, view.as_str())?;
     }
     Ok(())
 }

@@ -1,7 +1,8 @@
-use Rattle.std.proofs.Common.{Err, ℕ, Bool, Option, true, false, inl, inr}
+use Rattle.std.proofs.Common.{Err, ℕ, Bool, true, false, inl, inr}
 use Rattle.script_text.specs.Watched.{Reader, Writer, FailsToGive, Stays}
 use Rattle.jobs.specs.Runs.{Tells}
 use Rattle.jobs.specs.Verdicts.{TellsVerdict}
+use Rattle.heap_view.specs.declared.glance.Glance.{Glance}
 use Rattle.g1heap.specs.Jobs.{DoesCheck, DoesView, DoesDraw}
 use Rattle.script_text.specs.declared.fault.ReadFault.TheVariants as reads
 use Rattle.jobs.specs.declared.faults.JobFault.TheVariants as faults
@@ -23,12 +24,12 @@ returns-in-Check g c = λ given left old new unread kept.
     rw c.in-Check.is (unread_check _ _ given left old new c.args.err.now c.conclude_verdict.new.err c.conclude_verdict.result unread kept
     c.conclude_verdict.ensures)
 
-unread_view : (recorded : Bool) (at : Option ℕ) (given left : Reader) (old new err err' : Writer) (status : ℕ)
+unread_view : (recorded : Bool) (glance : Glance) (given left : Reader) (old new err err' : Writer) (status : ℕ)
     → FailsToGive reads.CannotRead given left → Stays old new
-    → Tells err err' (Err (faults.Read reads.CannotRead)) status → DoesView recorded at given left old new err err' status
-unread_view false at given left old new err err' status unread kept tells =
+    → Tells err err' (Err (faults.Read reads.CannotRead)) status → DoesView recorded glance given left old new err err' status
+unread_view false glance given left old new err err' status unread kept tells =
     record { outcome = Err (faults.Read reads.CannotRead); views = (unread, kept); tells = tells }
-unread_view true at given left old new err err' status unread kept tells =
+unread_view true glance given left old new err err' status unread kept tells =
     record { outcome = Err (faults.Read reads.CannotRead); views = (unread, kept); tells = tells }
 
 unread_draw : (recorded : Bool) (every : ℕ) (given left : Reader) (old new err err' : Writer) (status : ℕ)

@@ -1,5 +1,0 @@
-use Rattle.regions.specs.Walks.{ArePlaced}
-use Rattle.heap_view.proofs.region_lines.write_tiles.Given as goal
-
-abbrev pub invariant-loop-at : goal.invariant-loop-at
-invariant-loop-at g l = ArePlaced l.core.table l.at-iterator
