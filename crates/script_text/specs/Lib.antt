@@ -15,3 +15,5 @@ pub mod Fronts
 pub mod StepsLeft
 pub mod EventsLeft
 pub mod Waiting
+pub mod Places
+pub mod Hints
