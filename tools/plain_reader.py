@@ -139,7 +139,8 @@ def read(text):
 VERBS = "new, newweak, get, getweak, put, putweak, read, write, move, drop, load, save, shape or weaks"
 THIRD_VERBS = VERBS.replace("shape", "scope, shape")
 COLLECTOR_VERBS = "begin, mark, remark, cleanup, refine or pause"
-HEAP_LINES = "heap REGIONS WORDS BUFFER MUTATORS FIRST, or heap2 and CARD behind these, or heap3 and CARD GLOBALS REGISTERS"
+SIZES = ["REGIONS", "WORDS", "BUFFER", "MUTATORS", "FIRST", "CARD", "GLOBALS", "REGISTERS"]
+HEAP_WORDS = {b"heap": 5, b"heap2": 6, b"heap3": 8}
 
 
 def places_of(texts):
@@ -182,17 +183,65 @@ def stop_of(line, count, sizes):
     return place + 2, "a reply, such as ok, nil, #3, 7, 1 2 or refused 1 Nil"
 
 
+def heap_stop_of(line):
+    """The same of a heap line."""
+    words = line.split(b" ")
+    if words[0] not in HEAP_WORDS:
+        return 1, "heap, heap2 or heap3"
+    for place, name in enumerate(SIZES[:HEAP_WORDS[words[0]]], 1):
+        limit = LARGE if name == "FIRST" else SMALL
+        if len(words) <= place or not is_number(words[place], limit):
+            return place + 1, f"{name}, a number up to {limit}"
+    return HEAP_WORDS[words[0]] + 2, "the line's end"
+
+
+def is_script_line(line, sizes):
+    """Whether a line is a step of a script of these sizes."""
+    actor, _, step = line.partition(b" ")
+    forms = None if actor[:1] in b"mf" else steps_of(actor, sizes)
+    return forms is not None and has_form(step, forms, sizes.limits)
+
+
+def mistake_of(text, line, number, kind, sizes):
+    """What is told of a common mistake that a record's line with a fault shows, or nothing."""
+    words = line.split(b" ")
+    if text[:2] in (b"\xff\xfe", b"\xfe\xff", b"h\0", b"\0h"):
+        return "the text is in UTF-16: save it as plain ASCII\n"
+    if number == 1 and text.startswith(b"\xef\xbb\xbf"):
+        return "the text begins with a byte order mark: save it without one\n"
+    if not line:
+        return "the line is blank: there are no blank lines\n" if text else "the text is empty\n"
+    if line.endswith(b"\r"):
+        return "a carriage return ends the line, as line ends of another system have it: a line feed alone ends a line\n"
+    if b"\t" in line:
+        return "a tab stands in the line: one space parts two words\n"
+    if line.startswith((b"#", b"//", b";", b"--")):
+        return "there are no comments\n"
+    if kind in ("Cut", "LongLine"):
+        return ""
+    if b"" in words[:12]:
+        return "one space parts two words, and none stands at either end\n"
+    if kind == "BadHeap":
+        if words[0] not in HEAP_WORDS and words[0].startswith(b"heap") and is_number(words[0][4:], LARGE):
+            return "this program reads heap, heap2 and heap3: the text may be of a newer format\n"
+        return ("a heap line is heap REGIONS WORDS BUFFER MUTATORS FIRST, or heap2 and CARD behind these, or heap3 and CARD GLOBALS "
+                "REGISTERS\n")
+    if is_script_line(line, sizes):
+        return "it is a script's line: run makes its record, and view and draw take a script without --record\n"
+    return ""
+
+
 def reason_of(text, fault):
-    """The line that tells what the first line with a fault lacks; nothing where the fault is none of a line."""
+    """What tells of the first line with a fault what it lacks, and of a mistake; nothing where the fault is none of a line."""
     found = re.fullmatch(r"g1heap: line (\d+): . (\w+)\n", fault)
     if found is None:
         return ""
     number, kind = int(found[1]), found[2]
     lines = text.split(b"\n")
-    line = lines[number - 1]
-    hints = {"Cut": "a line feed behind it", "LongLine": "at most 120 bytes", "BadHeap": HEAP_LINES}
-    if kind not in hints:
-        word, lack = stop_of(line, number - 1, sizes_of(lines[0]))
-        hints[kind] = f"word {word}: {lack}"
+    line, sizes = lines[number - 1], None
+    hint = {"Cut": "a line feed behind it", "LongLine": "at most 120 bytes"}.get(kind)
+    if hint is None:
+        sizes = sizes_of(lines[0])
+        hint = "word %d: %s" % (heap_stop_of(line) if kind == "BadHeap" else stop_of(line, number - 1, sizes))
     shown = "".join(chr(byte) if 32 <= byte <= 126 else "?" for byte in line[:120])
-    return f"line {number}: {shown}; {hints[kind]}\n"
+    return f"line {number}: {shown}; {hint}\n" + mistake_of(text, line, number, kind, sizes)

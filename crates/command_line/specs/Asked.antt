@@ -10,6 +10,7 @@ use Rattle.clap.specs.ValueTests.{is_numeral}
 use Rattle.clap.specs.Words.{Row, Text, first_of, one_of, subcommand_of}
 use Rattle.clap.specs.declared.error.kind.ErrorKind.TheVariants.{MissingRequiredArgument}
 use Rattle.command_line.specs.Program.{g1heap}
+use Rattle.command_line.specs.declared.Job.{Job}
 use Rattle.command_line.specs.declared.Order.{Order}
 use Rattle.command_line.specs.declared.Order.TheVariants.{File, Drawn, Concurrent}
 use Rattle.command_line.specs.declared.Task.{Task}
@@ -47,7 +48,7 @@ task_in name rows =
     if bytes_eq name (codes "run") then Some (Script File)
     else if bytes_eq name (codes "sim") then option_map Script (drawn_in rows)
     else if bytes_eq name (codes "threads") then option_map Script (threads_in rows)
-    else if bytes_eq name (codes "check") then Some (Check (flag_in (codes "explain") rows) (flag_in (codes "follow") rows))
+    else if bytes_eq name (codes "check") then Some (Check (flag_in (codes "follow") rows))
     else if bytes_eq name (codes "view")
     then Some (View (flag_in (codes "record") rows) (number_in 32 (codes "at") rows) (number_in 32 (codes "region") rows)
     (flag_in (codes "summary") rows))
@@ -55,12 +56,18 @@ task_in name rows =
     (number_in 32 (codes "every") rows)
     else None
 
--- a path, and what is done with the file
+-- a path, what is done with the file, and whether a fault is to be explained
 abbrev pub Asked : Type 0
-Asked = Text × Task
+Asked = Text × Task × Bool
 
 abbrev pub asked_in : Text → List Row → Option Asked
-asked_in name rows = option_and_then (λ task. option_map (λ file. (file, task)) (first_of (codes "FILE") rows)) (task_in name rows)
+asked_in name rows =
+    option_and_then (λ task. option_map (λ file. (file, task, flag_in (codes "explain") rows)) (first_of (codes "FILE") rows))
+    (task_in name rows)
+
+-- what a job was asked for
+abbrev pub asked_by : Job → Asked
+asked_by job = (job.file.now, job.task, job.explained)
 
 -- what the words ask for, the program's name first
 abbrev pub asked_of : List Text → Option Asked

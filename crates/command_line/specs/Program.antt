@@ -31,21 +31,25 @@ workers = record (count (codes "workers")) { required = true }
 abbrev pub schedule : Rule
 schedule = record (number (codes "schedule") (parser.Unsigned 0 18446744073709551615)) { required = true }
 
--- a subcommand that takes a path alone
-abbrev pub plain : Text → App
-plain name = with_rule (new_app name) file
-
--- a subcommand that runs a script by actors: a path, what its order needs, and the counts of background actors
-abbrev pub by_actors : Text → Rule → App
-by_actors name order = with_rule (with_rule (with_rule (plain name) order) (background (codes "refiners"))) (background (codes "markers"))
-
 -- an option that takes no value
 abbrev pub flag : Text → Rule
 flag name = record (new_rule name) { long = Some name; action = Some SetTrue }
 
+-- a subcommand that takes a path alone
+abbrev pub with_path : Text → App
+with_path name = with_rule (new_app name) file
+
+-- a subcommand that takes a path, and whether a fault is to be explained
+abbrev pub plain : Text → App
+plain name = with_rule (with_path name) (flag (codes "explain"))
+
+-- a subcommand that runs a script by actors: what its order needs, and the counts of background actors
+abbrev pub by_actors : Text → Rule → App
+by_actors name order = with_rule (with_rule (with_rule (plain name) order) (background (codes "refiners"))) (background (codes "markers"))
+
 -- the subcommand that judges a record
 abbrev pub checked : App
-checked = with_rule (with_rule (plain (codes "check")) (flag (codes "explain"))) (flag (codes "follow"))
+checked = with_rule (plain (codes "check")) (flag (codes "follow"))
 
 -- how many events there are to a moment, 1 where it isn't given
 abbrev pub every : Rule

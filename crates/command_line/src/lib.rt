@@ -1,16 +1,17 @@
 //! The command line of the program: its words, and what they ask for.
 //!
 //! ```text
-//!   g1heap run FILE                   Job { file: FILE, task: Task::Script(Order::File) }
-//!   g1heap sim FILE --schedule 7      Job { file: FILE, task: Task::Script(Order::Drawn { seed: 7, refiners: 0, markers: 0 }) }
-//!   g1heap threads FILE --workers 2   Job { file: FILE, task: Task::Script(Order::Concurrent { workers: 2, refiners: 0, markers: 0 }) }
-//!   g1heap check FILE                 Job { file: FILE, task: Task::Check { explained: false, followed: false } }
-//!   g1heap check FILE --explain       Job { file: FILE, task: Task::Check { explained: true, followed: false } }
-//!   g1heap check FILE --follow        Job { file: FILE, task: Task::Check { explained: false, followed: true } }
-//!   g1heap view FILE --at 9           Job { file: FILE, task: Task::View { recorded: false, at: Some(9), region: None, summary: false } }
-//!   g1heap draw FILE --every 10       Job { file: FILE, task: Task::Draw { every: 10, recorded: false } }
+//!   g1heap run FILE                   Task::Script(Order::File)
+//!   g1heap sim FILE --schedule 7      Task::Script(Order::Drawn { seed: 7, refiners: 0, markers: 0 })
+//!   g1heap threads FILE --workers 2   Task::Script(Order::Concurrent { workers: 2, refiners: 0, markers: 0 })
+//!   g1heap check FILE                 Task::Check { followed: false }
+//!   g1heap check FILE --follow        Task::Check { followed: true }
+//!   g1heap view FILE --at 9           Task::View { recorded: false, at: Some(9), region: None, summary: false }
+//!   g1heap draw FILE --every 10       Task::Draw { every: 10, recorded: false }
 //!   g1heap help, and every mistake    an `Error`, whose text is for the user
 //! ```
+//!
+//! A `Job` is such a task, FILE, and whether `--explain` stands there too, which each of these takes.
 //!
 //! Whether a count is in range, the run itself says.
 #![tactic(auto)]
@@ -20,10 +21,10 @@ ghost use Rattle.std.specs.Prelude.{[], ℕ, List, None, Some, IfOk, true, false
 ghost use Rattle.clap.specs.Words.{App, FailsBy, HasKind, first_of, found_of, kind_of, rows_of, rule_of};
 ghost use Rattle.clap.specs.Words.{subcommand_rows_of, with_rule, with_subcommand};
 ghost use Rattle.clap.specs.declared.error.kind.ErrorKind.TheVariants.{InvalidValue};
-ghost use Rattle.command_line.specs.Asked.{Asks, asked_in, asked_of, drawn_in, faults_of, flag_in, is_path, number_in, task_in, threads_in};
+ghost use Rattle.command_line.specs.Asked.{Asks, asked_by, asked_in, asked_of, drawn_in, faults_of, flag_in, is_path, number_in, task_in, threads_in};
 ghost use Rattle.command_line.specs.declared.Order.TheVariants.{Concurrent, Drawn, File};
 ghost use Rattle.command_line.specs.declared.Task.TheVariants.{Check, Draw, Script, View};
-ghost use Rattle.command_line.specs.Program.{IsReadAs, background, bare, by_actors, checked, count, drawn, every, file, flag, g1heap};
+ghost use Rattle.command_line.specs.Program.{IsReadAs, background, bare, by_actors, checked, count, drawn, every, file, flag, g1heap, with_path};
 ghost use Rattle.command_line.specs.Program.{number, plain, schedule, viewed, workers};
 
 use clap::builder::ValueParser;
@@ -55,9 +56,8 @@ pub enum Order {
 pub enum Task {
     /// A script is run, and its record written.
     Script(Order),
-    /// The events of a record are judged, and a no explained, or the record read as it is written, where that is asked for.
+    /// The events of a record are judged; or the record is read as it is written, where that is asked for.
     Check {
-        explained: bool,
         followed: bool,
     },
     /// A script is run, or a record's steps are done again, and a view of its heap written: behind so many steps, or the last one; of a
@@ -80,6 +80,7 @@ pub enum Task {
 pub struct Job<'a> {
     file: &'a str,
     task: Task,
+    explained: bool,
 }
 
 impl<'a> Job<'a> {
@@ -96,6 +97,13 @@ impl<'a> Job<'a> {
     {
         self.task
     }
+
+    /// Whether a fault is to be explained, and a no of `check`.
+    pub fn explained(&self) -> bool
+        ensures { result ≡ self.now.explained }
+    {
+        self.explained
+    }
 }
 
 /// What stands behind the list of subcommands.
@@ -107,6 +115,7 @@ step of a mutator, as `0 new r0 1 1`, or of the collector, as `gc begin`. A reco
 before the step and ` = REPLY` behind it.
 
 Status: 0, done; 1, a fault, told on standard error; 2, a command line that isn't understood; 3, `check` says no.
+With --explain a fault is followed by the line that has it, what may stand there, and what the mistake may be.
 
 docs/TEXTS.md has the formats, the steps and their replies; docs/FAULTS.md what a fault most often means.";
 
@@ -199,6 +208,16 @@ fn every<'a>(alloc: Global) -> Arg<'a>
     number(alloc, "every", help, ValueParser::signed(1, 1_000_000)).default_value("1")
 }
 
+/// The option that asks for more lines behind a fault's own.
+fn explain<'a>(alloc: Global) -> Arg<'a>
+    ensures rule { rule_of result ≡ flag (codes "explain") }
+    ensures own { result.global ≡ false }
+{
+    let help =
+        "Explains a fault: which line has it, what may stand there, what the mistake may be; and a no of check";
+    flag(alloc, "explain", help)
+}
+
 // What holds a command is let go by `drop`, one call: where it is let go unsaid, each of its fields is written out.
 
 /// Adds an argument, unless memory was refused before.
@@ -242,6 +261,20 @@ fn with_subcommand<'a>(
 }
 
 /// A subcommand that takes a path alone.
+fn with_path<'a>(
+    alloc: Global,
+    name: &'a str,
+    about: &'a str,
+    help: &'a str,
+) -> Result<Command<'a>, AllocError>
+    ensures { IfOk result (IsReadAs (with_path name.entry.now)) }
+{
+    Command::new(alloc, name)
+        .about(about)
+        .arg(path(alloc, help))
+}
+
+/// A subcommand that takes a path, and whether a fault is to be explained.
 fn plain<'a>(
     alloc: Global,
     name: &'a str,
@@ -250,9 +283,8 @@ fn plain<'a>(
 ) -> Result<Command<'a>, AllocError>
     ensures { IfOk result (IsReadAs (plain name.entry.now)) }
 {
-    Command::new(alloc, name)
-        .about(about)
-        .arg(path(alloc, help))
+    let command = with_path(alloc, name, about, help);
+    with_arg(command, explain(alloc))
 }
 
 /// A subcommand that runs a script by actors, in an order that takes one number.
@@ -319,9 +351,6 @@ fn check_command<'a>(alloc: Global) -> Result<Command<'a>, AllocError>
         "Judges a record by the graph alone",
         "A record, or - for standard input",
     );
-    let help =
-        "Says what the graph gives where the verdict is no, or what a line with a fault lacks";
-    let command = with_arg(command, flag(alloc, "explain", help));
     let help = "Judges each event as soon as its line is written, and says no at once";
     with_arg(command, flag(alloc, "follow", help))
 }
@@ -437,7 +466,6 @@ fn task_of(name: &str, found: &ArgMatches) -> Option<Task>
         "sim" => Some(Task::Script(drawn_order(found)?)),
         "threads" => Some(Task::Script(threads_order(found)?)),
         "check" => Some(Task::Check {
-            explained: flag_in(found, "explain"),
             followed: flag_in(found, "follow"),
         }),
         "view" => Some(Task::View {
@@ -463,16 +491,20 @@ fn path_in<'a>(found: &ArgMatches<'a>) -> Option<&'a str>
 
 /// What a subcommand's words ask for. `None`: the subcommand is unknown, or a value isn't there.
 fn job_of<'a>(name: &str, found: &ArgMatches<'a>) -> Option<Job<'a>>
-    ensures { option_map (λ job. (job.file.now, job.task)) result ≡ asked_in name.now (rows_of (found_of found.now)) }
+    ensures { option_map asked_by result ≡ asked_in name.now (rows_of (found_of found.now)) }
 {
     let task = task_of(name, found)?;
     let file = path_in(found)?;
-    Some(Job { file, task })
+    Some(Job {
+        file,
+        task,
+        explained: flag_in(found, "explain"),
+    })
 }
 
 /// What a parse's matches ask for. `None`: there is no subcommand, or it asks for nothing.
 fn job_found<'a>(matches: &ArgMatches<'a>) -> Option<Job<'a>>
-    ensures { option_map (λ job. (job.file.now, job.task)) result
+    ensures { option_map asked_by result
         ≡ option_and_then (λ found. asked_in found.0 found.1) (subcommand_rows_of matches.now) }
 {
     let (name, found) = matches.subcommand()?;
@@ -482,7 +514,7 @@ fn job_found<'a>(matches: &ArgMatches<'a>) -> Option<Job<'a>>
 /// What a command line's words ask for, by the commands that there are.
 fn job_among<'a>(command: &mut Command<'a>, words: &'a [String]) -> Result<Job<'a>, Error>
     requires { IsReadAs g1heap command.old }
-    ensures job { IfOk result (λ job. asked_of (map string_bytes words.entry.now) ≡ Some (job.file.now, job.task)) }
+    ensures job { IfOk result (λ job. asked_of (map string_bytes words.entry.now) ≡ Some (asked_by job)) }
     ensures faults { FailsBy (faults_of (map string_bytes words.entry.now)) result }
 {
     let matches = command.try_get_matches_from_mut(words)?;
@@ -496,7 +528,7 @@ fn job_among<'a>(command: &mut Command<'a>, words: &'a [String]) -> Result<Job<'
 
 /// What the words of a command line ask for, or the text for the user.
 pub fn read_words<'a>(alloc: Global, words: &'a [String]) -> Result<Job<'a>, Error>
-    ensures job { IfOk result (λ job. asked_of (map string_bytes words.entry.now) ≡ Some (job.file.now, job.task)) }
+    ensures job { IfOk result (λ job. asked_of (map string_bytes words.entry.now) ≡ Some (asked_by job)) }
     ensures faults { FailsBy (faults_of (map string_bytes words.entry.now)) result }
 {
     let mut command = command(alloc)?;
@@ -507,25 +539,34 @@ pub fn read_words<'a>(alloc: Global, words: &'a [String]) -> Result<Job<'a>, Err
 
 /// What the plainest words ask for, and that only want of memory refuses them. So each line of the picture above is proved.
 pub fn words_law()
-    ensures run { (program path : List ℕ) → is_path path ≡ true → Asks (program ∷ codes "run" ∷ path ∷ []) (path, Script File) }
+    ensures run { (program path : List ℕ) → is_path path ≡ true
+        → Asks (program ∷ codes "run" ∷ path ∷ []) (path, Script File, false) }
     ensures sim { (program path : List ℕ) → is_path path ≡ true
-        → Asks (program ∷ codes "sim" ∷ path ∷ codes "--schedule" ∷ codes "7" ∷ []) (path, Script (Drawn 7 0 0)) }
+        → Asks (program ∷ codes "sim" ∷ path ∷ codes "--schedule" ∷ codes "7" ∷ []) (path, Script (Drawn 7 0 0), false) }
     ensures threads { (program path : List ℕ) → is_path path ≡ true
-        → Asks (program ∷ codes "threads" ∷ path ∷ codes "--workers" ∷ codes "2" ∷ []) (path, Script (Concurrent 2 0 0)) }
-    ensures check { (program path : List ℕ) → is_path path ≡ true → Asks (program ∷ codes "check" ∷ path ∷ []) (path, Check false false) }
-    ensures explain { (program path : List ℕ) → is_path path ≡ true
-        → Asks (program ∷ codes "check" ∷ path ∷ codes "--explain" ∷ []) (path, Check true false) }
+        → Asks (program ∷ codes "threads" ∷ path ∷ codes "--workers" ∷ codes "2" ∷ []) (path, Script (Concurrent 2 0 0), false) }
+    ensures check { (program path : List ℕ) → is_path path ≡ true
+        → Asks (program ∷ codes "check" ∷ path ∷ []) (path, Check false, false) }
     ensures follow { (program path : List ℕ) → is_path path ≡ true
-        → Asks (program ∷ codes "check" ∷ path ∷ codes "--follow" ∷ []) (path, Check false true) }
+        → Asks (program ∷ codes "check" ∷ path ∷ codes "--follow" ∷ []) (path, Check true, false) }
     ensures view { (program path : List ℕ) → is_path path ≡ true
-        → Asks (program ∷ codes "view" ∷ path ∷ []) (path, View false None None false) }
-    ensures draw { (program path : List ℕ) → is_path path ≡ true → Asks (program ∷ codes "draw" ∷ path ∷ []) (path, Draw 1 false) }
+        → Asks (program ∷ codes "view" ∷ path ∷ []) (path, View false None None false, false) }
+    ensures draw { (program path : List ℕ) → is_path path ≡ true
+        → Asks (program ∷ codes "draw" ∷ path ∷ []) (path, Draw 1 false, false) }
     ensures every { (program path : List ℕ) → is_path path ≡ true
-        → Asks (program ∷ codes "draw" ∷ path ∷ codes "--every" ∷ codes "10" ∷ []) (path, Draw 10 false) }
+        → Asks (program ∷ codes "draw" ∷ path ∷ codes "--every" ∷ codes "10" ∷ []) (path, Draw 10 false, false) }
     ensures redraw { (program path : List ℕ) → is_path path ≡ true
-        → Asks (program ∷ codes "draw" ∷ path ∷ codes "--record" ∷ []) (path, Draw 1 true) }
+        → Asks (program ∷ codes "draw" ∷ path ∷ codes "--record" ∷ []) (path, Draw 1 true, false) }
     ensures at { (program path : List ℕ) → is_path path ≡ true
-        → Asks (program ∷ codes "view" ∷ path ∷ codes "--at" ∷ codes "9" ∷ []) (path, View false (Some 9) None false) }
+        → Asks (program ∷ codes "view" ∷ path ∷ codes "--at" ∷ codes "9" ∷ []) (path, View false (Some 9) None false, false) }
+    ensures run_explained { (program path : List ℕ) → is_path path ≡ true
+        → Asks (program ∷ codes "run" ∷ path ∷ codes "--explain" ∷ []) (path, Script File, true) }
+    ensures check_explained { (program path : List ℕ) → is_path path ≡ true
+        → Asks (program ∷ codes "check" ∷ path ∷ codes "--explain" ∷ []) (path, Check false, true) }
+    ensures view_explained { (program path : List ℕ) → is_path path ≡ true
+        → Asks (program ∷ codes "view" ∷ path ∷ codes "--explain" ∷ []) (path, View false None None false, true) }
+    ensures draw_explained { (program path : List ℕ) → is_path path ≡ true
+        → Asks (program ∷ codes "draw" ∷ path ∷ codes "--explain" ∷ []) (path, Draw 1 false, true) }
 {}
 
 /// The text for the user where a word isn't UTF-8.

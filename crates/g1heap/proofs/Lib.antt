@@ -1,2 +1,4 @@
 mod Endings
 mod OnItsWay
+mod Unread
+mod Asking

@@ -1,26 +1,36 @@
 -- What the program does with a job.
-use Rattle.std.specs.Prelude.{◌≡◌, ◌⊎◌, ℕ, Bool, true, false}
-use Rattle.script_text.specs.Watched.{Reader, Writer, Stays}
-use Rattle.g1heap.specs.Runs.{Performs}
+use Rattle.std.specs.Prelude.{◌≡◌, ◌⊎◌, ℕ, ⊤, Bool, List, Option, None, Some, Result, true, false, codes, if◌then◌else◌}
+use Rattle.script_text.specs.Watched.{Reader, Writer, FailsToGive, Stays}
+use Rattle.script_text.specs.declared.fault.ReadFault.{ReadFault}
+use Rattle.script_text.specs.declared.places.TextKind.{TextKind}
+use Rattle.script_text.specs.declared.places.TextKind.TheVariants as texts
+use Rattle.g1heap.specs.Runs.{EndsIn, Performs}
+use Rattle.jobs.specs.Reasons.{IsReadReason, TellsExplained, TellsMore}
+use Rattle.jobs.specs.Runs.{GivesAll}
+use Rattle.jobs.specs.declared.causes.Counts.{Counts}
 use Rattle.jobs.specs.Verdicts.{PerformsCheck}
 use Rattle.jobs.specs.Explanations.{PerformsExplain}
 use Rattle.jobs.specs.Followed.{PerformsFollow}
 use Rattle.heap_view.specs.declared.glance.Glance.{Glance}
-use Rattle.heap_view.specs.Views.{PerformsView}
-use Rattle.heap_view.specs.Reviews.{PerformsReview}
-use Rattle.heap_life.specs.Drawings.{PerformsDraw}
-use Rattle.heap_life.specs.Redrawings.{PerformsRedraw}
+use Rattle.heap_view.specs.Views.{PerformsView, Views}
+use Rattle.heap_view.specs.Reviews.{PerformsReview, Reviews}
+use Rattle.heap_life.specs.Drawings.{Draws, PerformsDraw}
+use Rattle.heap_life.specs.Redrawings.{PerformsRedraw, Redraws}
 use Rattle.jobs.specs.FaultLines.{TellsLine}
-use Rattle.jobs.specs.declared.faults.JobFault.TheVariants.{Run}
+use Rattle.jobs.specs.declared.faults.JobFault.{JobFault}
+use Rattle.jobs.specs.declared.faults.JobFault.TheVariants.{Read, Run}
 use Rattle.heap_steps.specs.declared.fault.RunFault.TheVariants.{NoMemory}
+use Rattle.command_line.specs.Asked.{Asked}
+use Rattle.command_line.specs.declared.Order.{Order}
+use Rattle.command_line.specs.declared.Order.TheVariants.{Concurrent, Drawn, File}
 use Rattle.command_line.specs.declared.Task.{Task}
 use Rattle.command_line.specs.declared.Task.TheVariants.{Script, Check, View, Draw}
 
--- a record was judged, and the verdict explained, or the record read as it is written, where that was asked for
-abbrev pub DoesCheck : Bool → Bool → Reader → Reader → Writer → Writer → Writer → Writer → ℕ → Type 0
-DoesCheck false false given left old new err err' status = PerformsCheck given left old new err err' status
-DoesCheck true false given left old new err err' status = PerformsExplain given left old new err err' status
-DoesCheck explained true given left old new err err' status = PerformsFollow explained given left old new err err' status
+-- a record in a file of this name was judged, and the verdict explained, or the record read as it is written, where that was asked for
+abbrev pub DoesCheck : List ℕ → Bool → Bool → Reader → Reader → Writer → Writer → Writer → Writer → ℕ → Type 0
+DoesCheck name false false given left old new err err' status = PerformsCheck given left old new err err' status
+DoesCheck name true false given left old new err err' status = PerformsExplain name given left old new err err' status
+DoesCheck name explained true given left old new err err' status = PerformsFollow explained given left old new err err' status
 
 -- what was asked for was viewed of a heap, of a record's or of a script's
 abbrev pub DoesView : Bool → Glance → Reader → Reader → Writer → Writer → Writer → Writer → ℕ → Type 0
@@ -32,17 +42,84 @@ abbrev pub DoesDraw : Bool → ℕ → Reader → Reader → Writer → Writer �
 DoesDraw false every given left old new err err' status = PerformsDraw every given left old new err err' status
 DoesDraw true every given left old new err err' status = PerformsRedraw every given left old new err err' status
 
--- a script was run, a record judged, a heap viewed, or its life drawn, and its end was told: what was read, what was written, what standard
--- error took, and the status
-abbrev pub DoesJob : Task → Reader → Reader → Writer → Writer → Writer → Writer → ℕ → Type 0
-DoesJob (Script order) given left old new err err' status = Performs order given left old new err err' status
-DoesJob (Check explained followed) given left old new err err' status = DoesCheck explained followed given left old new err err' status
-DoesJob (View recorded at region summary) given left old new err err' status =
-    DoesView recorded (record { at = at; region = region; summary = summary }) given left old new err err' status
-DoesJob (Draw every recorded) given left old new err err' status = DoesDraw recorded every given left old new err err' status
+-- what of a heap a task views
+abbrev pub glance_of : Option ℕ → Option ℕ → Bool → Glance
+glance_of at region summary = record { at = at; region = region; summary = summary }
 
--- a task was done, on some input; or memory was refused for what the words ask, and that was told
-abbrev pub DoesTask : Task → Writer → Writer → Writer → Writer → ℕ → Type 0
-DoesTask task old new err err' status =
-    ((given : Reader) × (left : Reader) × DoesJob task given left old new err err' status)
-    ⊎ ((status ≡ 1) × Stays old new × TellsLine (Run NoMemory) err err')
+-- How a task that does a heap's steps ended, whatever is told of it: what was read, what was written, and its outcome.
+abbrev pub EndsAs : Task → Reader → Reader → Writer → Writer → Result ⊤ JobFault → Type 0
+EndsAs (Script order) given left old new outcome = EndsIn order given left old new outcome
+EndsAs (View false at region summary) given left old new outcome = Views (glance_of at region summary) given left old new outcome
+EndsAs (View true at region summary) given left old new outcome = Reviews (glance_of at region summary) given left old new outcome
+EndsAs (Draw every false) given left old new outcome = Draws every given left old new outcome
+EndsAs (Draw every true) given left old new outcome = Redraws every given left old new outcome
+EndsAs (Check followed) given left old new outcome = ⊥
+
+-- what a task reads a text as
+abbrev pub kind_of : Task → TextKind
+kind_of (Script order) = texts.Script
+kind_of (Check followed) = texts.Record
+kind_of (View recorded at region summary) = if recorded then texts.Record else texts.Script
+kind_of (Draw every recorded) = if recorded then texts.Record else texts.Script
+
+-- how many threads and background actors an order has, and a task was asked for
+abbrev pub no_counts : Counts
+no_counts = record { workers = None; refiners = 0; markers = 0 }
+
+abbrev pub counts_in : Order → Counts
+counts_in File = no_counts
+counts_in (Drawn seed refiners markers) = record { workers = None; refiners = refiners; markers = markers }
+counts_in (Concurrent workers refiners markers) = record { workers = Some workers; refiners = refiners; markers = markers }
+
+abbrev pub counts_of : Task → Counts
+counts_of (Script order) = counts_in order
+counts_of _ = no_counts
+
+-- a reader that has all of a text before it
+abbrev pub reader_of : List ℕ → Reader
+reader_of text = record { left = Some text; refused = false }
+
+-- The task did with a text what it does with a reader of it, and its end was told and explained.
+pub record TellsOver (task : Task) (text : List ℕ) (old new err err' : Writer) (status : ℕ) : Type 0 where
+  pub rest : Reader
+  pub outcome : Result ⊤ JobFault
+  pub ends : EndsAs task (reader_of text) rest old new outcome
+  pub tells : TellsExplained (kind_of task) text (counts_of task) err err' outcome status
+
+-- the reader gave a text, to its end, and the task was done over it
+abbrev pub DoesOver : Task → Reader → Reader → Writer → Writer → Writer → Writer → ℕ → Type 0
+DoesOver task given left old new err err' status = (text : List ℕ) × GivesAll given left text × TellsOver task text old new err err' status
+
+-- A file of this name could not be read, and that was told and explained; nothing was written.
+pub record IsUnread (name : List ℕ) (given left : Reader) (old new err err' : Writer) (status : ℕ) : Type 0 where
+  pub fault : ReadFault
+  pub fails : FailsToGive fault given left
+  pub stays : Stays old new
+  pub status : status ≡ 1
+  pub tells : TellsMore (Read fault) (IsReadReason name) err err'
+
+-- a task was done whose faults are to be explained
+abbrev pub DoesExplained : List ℕ → Task → Reader → Reader → Writer → Writer → Writer → Writer → ℕ → Type 0
+DoesExplained name task given left old new err err' status =
+    DoesOver task given left old new err err' status ⊎ IsUnread name given left old new err err' status
+
+-- A script was run, a record judged, a heap viewed, or its life drawn, and its end was told, and explained where that was asked for: what was
+-- read of the file of this name, what was written, what standard error took, and the status.
+abbrev pub DoesJob : Asked → Reader → Reader → Writer → Writer → Writer → Writer → ℕ → Type 0
+DoesJob (name, Check followed, explained) given left old new err err' status =
+    DoesCheck name explained followed given left old new err err' status
+DoesJob (name, Script order, false) given left old new err err' status = Performs order given left old new err err' status
+DoesJob (name, View recorded at region summary, false) given left old new err err' status =
+    DoesView recorded (glance_of at region summary) given left old new err err' status
+DoesJob (name, Draw every recorded, false) given left old new err err' status = DoesDraw recorded every given left old new err err' status
+DoesJob (name, task, true) given left old new err err' status = DoesExplained name task given left old new err err' status
+
+-- what was asked for was done, on the program's own input where the path is `-`, else on some input
+abbrev pub DoesAsked : Asked → Reader → Reader → Writer → Writer → Writer → Writer → ℕ → Type 0
+DoesAsked asked input input' old new err err' status = (given : Reader) × (left : Reader)
+    × (asked.0 ≡ codes "-" → (given ≡ input) × (left ≡ input')) × DoesJob asked given left old new err err' status
+
+-- the same; or memory was refused for the words, and that was told
+abbrev pub DoesTask : Asked → Reader → Reader → Writer → Writer → Writer → Writer → ℕ → Type 0
+DoesTask asked input input' old new err err' status =
+    DoesAsked asked input input' old new err err' status ⊎ ((status ≡ 1) × Stays old new × TellsLine (Run NoMemory) err err')

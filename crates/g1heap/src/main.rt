@@ -16,6 +16,7 @@
 #![tactic(auto)]
 
 mod actors;
+mod explained;
 mod in_order;
 mod perform;
 mod program;

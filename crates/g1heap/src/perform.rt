@@ -1,9 +1,12 @@
 //! What the program does with a job.
 
+ghost use Rattle.std.specs.Prelude.{false};
 ghost use Rattle.g1heap.specs.Runs.{EndsIn};
+ghost use Rattle.command_line.specs.Asked.{asked_by};
 ghost use Rattle.g1heap.specs.Jobs.{DoesCheck, DoesDraw, DoesJob, DoesView};
 
 use crate::actors::{simulate_script, thread_script};
+use crate::explained::do_explained;
 use crate::in_order::run_script;
 use command_line::{Job, Order, Task};
 use heap_life::{draw_record, draw_script};
@@ -16,7 +19,7 @@ use std::sync::Wait;
 use std::thread::Threads;
 
 /// Does a script's steps in an order.
-fn do_script<H: Threads + Wait + Sync, R: Read, W: Write>(
+pub(crate) fn do_script<H: Threads + Wait + Sync, R: Read, W: Write>(
     rt: &H,
     alloc: Global,
     order: Order,
@@ -40,21 +43,23 @@ fn do_script<H: Threads + Wait + Sync, R: Read, W: Write>(
     }
 }
 
-/// Judges a record, with the reason of a no where it is to be explained, or as it is written, and answers the program's status.
+/// Judges a record in a file of this name, with the reason of a no where it is to be explained, or as it is written, and answers the
+/// program's status.
 fn do_check<R: Read, W: Write, E: Write>(
     alloc: Global,
+    name: &str,
     explained: bool,
     followed: bool,
     reader: &mut WatchedReader<R>,
     out: &mut WatchedWriter<W>,
     err: &mut WatchedWriter<E>,
 ) -> u8
-    ensures { DoesCheck explained followed reader.old reader.new out.old out.new err.old err.new result }
+    ensures { DoesCheck name.now explained followed reader.old reader.new out.old out.new err.old err.new result }
 {
     if followed {
         perform_follow(alloc, explained, reader, out, err)
     } else if explained {
-        perform_explain(alloc, reader, out, err)
+        perform_explain(alloc, name, reader, out, err)
     } else {
         perform_check(alloc, reader, out, err)
     }
@@ -100,26 +105,24 @@ fn do_draw<R: Read, W: Write, E: Write>(
     }
 }
 
-/// Does the job, and answers the program's status.
-pub fn perform<H: Threads + Wait + Sync, R: Read, W: Write, E: Write>(
+/// Does a task with a file of this name, whose faults aren't to be explained, and answers the program's status.
+fn do_plain<H: Threads + Wait + Sync, R: Read, W: Write, E: Write>(
     rt: &H,
     alloc: Global,
-    job: &Job,
+    name: &str,
+    task: Task,
     reader: &mut WatchedReader<R>,
     out: &mut WatchedWriter<W>,
     err: &mut WatchedWriter<E>,
 ) -> u8
-    ensures { DoesJob job.now.task reader.old reader.new out.old out.new err.old err.new result }
+    ensures { DoesJob (name.now, task, false) reader.old reader.new out.old out.new err.old err.new result }
 {
-    match job.task() {
+    match task {
         Task::Script(order) => {
             let outcome = do_script(rt, alloc, order, reader, out);
             conclude(outcome, err)
         }
-        Task::Check {
-            explained,
-            followed,
-        } => do_check(alloc, explained, followed, reader, out, err),
+        Task::Check { followed } => do_check(alloc, name, false, followed, reader, out, err),
         Task::View {
             recorded,
             at,
@@ -134,5 +137,30 @@ pub fn perform<H: Threads + Wait + Sync, R: Read, W: Write, E: Write>(
             do_view(alloc, recorded, &glance, reader, out, err)
         }
         Task::Draw { every, recorded } => do_draw(alloc, recorded, every, reader, out, err),
+    }
+}
+
+/// Does the job, and answers the program's status.
+pub fn perform<H: Threads + Wait + Sync, R: Read, W: Write, E: Write>(
+    rt: &H,
+    alloc: Global,
+    job: &Job,
+    reader: &mut WatchedReader<R>,
+    out: &mut WatchedWriter<W>,
+    err: &mut WatchedWriter<E>,
+) -> u8
+    ensures { DoesJob (asked_by job.now) reader.old reader.new out.old out.new err.old err.new result }
+{
+    let task = job.task();
+    if !job.explained() {
+        return do_plain(rt, alloc, job.file(), task, reader, out, err);
+    }
+    match task {
+        Task::Check { followed } => {
+            do_check(alloc, job.file(), true, followed, reader, out, err)
+        }
+        Task::Script(_) | Task::View { .. } | Task::Draw { .. } => {
+            do_explained(rt, alloc, job.file(), task, reader, out, err)
+        }
     }
 }

@@ -1,36 +1,78 @@
 //! The whole program: its words, the file that they name, and the status.
 
-ghost use Rattle.std.specs.Prelude.{◌≡◌, ◌≢◌, ◌≤◌, ◌⊎◌, map, string_bytes};
+ghost use Rattle.std.specs.Prelude.{◌≡◌, ◌≢◌, ◌≤◌, ◌⊎◌, Bool, map, string_bytes};
 ghost use Rattle.clap.specs.Values.{kind_of};
 ghost use Rattle.script_text.specs.Watched.{Reader, Writer, FailsToGive, Stays};
 ghost use Rattle.jobs.specs.FaultLines.{TellsLine};
-ghost use Rattle.command_line.specs.Asked.{Asked, Asks};
-ghost use Rattle.g1heap.specs.Jobs.{DoesJob, DoesTask};
+ghost use Rattle.command_line.specs.Asked.{Asked, Asks, asked_by};
+ghost use Rattle.command_line.specs.declared.Task.TheVariants.{Check};
+ghost use Rattle.g1heap.specs.Jobs.{DoesAsked, DoesCheck, DoesJob, DoesTask};
 
 use crate::perform::perform;
 use clap::Error;
 use clap::error::ErrorKind;
 use command_line::{Job, Task, misspelt, read_words};
 use heap_steps::RunFault;
-use jobs::{JobFault, conclude, conclude_verdict};
+use jobs::{JobFault, conclude, conclude_unread, conclude_verdict};
 use script_text::{ReadFault, WatchedReader, WatchedWriter};
 use std::alloc::Global;
 use std::env::Env;
 use std::fs::Files;
-use std::io::{Read, Write};
+use std::io::{ErrorKind as Reason, Read, Write};
 use std::sync::Wait;
 use std::thread::Threads;
 use std::{env, fs, io};
 
-/// Tells that a job's file can't be read, and answers the program's status.
-fn conclude_unread<E: Write>(task: Task, err: &mut WatchedWriter<E>) -> u8
+/// Tells that a record to be judged can't be opened, and why where that is to be explained, and answers the program's status.
+fn unopened_check<E: Write>(
+    name: &str,
+    explained: bool,
+    followed: bool,
+    reason: Reason,
+    err: &mut WatchedWriter<E>,
+) -> u8
     ensures { (given left : Reader) (old new : Writer) → FailsToGive ReadFault.CannotRead given left → Stays old new
-        → DoesJob task given left old new err.old err.new result }
+        → DoesCheck name.now explained followed given left old new err.old err.new result }
 {
+    if followed {
+        return conclude_verdict(Err(JobFault::Read(ReadFault::CannotRead)), err);
+    }
+    if explained {
+        return conclude_unread(ReadFault::CannotRead, name, Some(reason), err);
+    }
+    conclude_verdict(Err(JobFault::Read(ReadFault::CannotRead)), err)
+}
+
+/// Tells that the file of another task can't be opened, and why where that is to be explained, and answers the program's status.
+fn unopened_task<E: Write>(
+    name: &str,
+    task: Task,
+    explained: bool,
+    reason: Reason,
+    err: &mut WatchedWriter<E>,
+) -> u8
+    requires { (followed : Bool) → task ≢ Check followed }
+    ensures { (given left : Reader) (old new : Writer) → FailsToGive ReadFault.CannotRead given left → Stays old new
+        → DoesJob (name.now, task, explained) given left old new err.old err.new result }
+{
+    if explained {
+        return conclude_unread(ReadFault::CannotRead, name, Some(reason), err);
+    }
+    conclude(Err(JobFault::Read(ReadFault::CannotRead)), err)
+}
+
+/// Tells that a job's file can't be opened, and why where that is to be explained, and answers the program's status.
+fn conclude_unopened<E: Write>(job: &Job, reason: Reason, err: &mut WatchedWriter<E>) -> u8
+    ensures { (given left : Reader) (old new : Writer) → FailsToGive ReadFault.CannotRead given left → Stays old new
+        → DoesJob (asked_by job.now) given left old new err.old err.new result }
+{
+    let task = job.task();
     match task {
-        Task::Check { .. } => conclude_verdict(Err(JobFault::Read(ReadFault::CannotRead)), err),
+        Task::Check { followed } => {
+            unopened_check(job.file(), job.explained(), followed, reason, err)
+        }
         Task::Script(_) | Task::View { .. } | Task::Draw { .. } => {
-            conclude(Err(JobFault::Read(ReadFault::CannotRead)), err)
+            unopened_task(job.file(), task, job.explained(), reason, err)
         }
     }
 }
@@ -43,11 +85,11 @@ pub fn open_and_perform<H: Files + Threads + Wait + Sync, W: Write, E: Write>(
     out: &mut WatchedWriter<W>,
     err: &mut WatchedWriter<E>,
 ) -> u8
-    ensures { (given left : Reader) × DoesJob job.now.task given left out.old out.new err.old err.new result }
+    ensures { (given left : Reader) × DoesJob (asked_by job.now) given left out.old out.new err.old err.new result }
 {
     match fs::open(rt, job.file()) {
         Ok(file) => perform(rt, alloc, job, &mut WatchedReader::new(file), out, err),
-        Err(_) => conclude_unread(job.task(), err),
+        Err(error) => conclude_unopened(job, error.kind(), err),
     }
 }
 
@@ -60,7 +102,7 @@ fn read_and_perform<H: Files + Threads + Wait + Sync, I: Read, W: Write, E: Writ
     out: &mut WatchedWriter<W>,
     err: &mut WatchedWriter<E>,
 ) -> u8
-    ensures { (given left : Reader) × DoesJob job.now.task given left out.old out.new err.old err.new result }
+    ensures { DoesAsked (asked_by job.now) input.old input.new out.old out.new err.old err.new result }
 {
     if job.file() == "-" {
         return perform(rt, alloc, job, input, out, err);
@@ -103,7 +145,7 @@ pub fn do_words<H: Files + Threads + Wait + Sync, I: Read, W: Write, E: Write>(
     out: &mut WatchedWriter<W>,
     err: &mut WatchedWriter<E>,
 ) -> u8
-    ensures asked { (asked : Asked) → Asks (map string_bytes words.now) asked → DoesTask asked.1 out.old out.new err.old err.new result }
+    ensures asked { (asked : Asked) → Asks (map string_bytes words.now) asked → DoesTask asked input.old input.new out.old out.new err.old err.new result }
     ensures most { result ≤ 3 }
 {
     match read_words(alloc, words) {

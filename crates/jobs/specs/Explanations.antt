@@ -1,5 +1,5 @@
 -- A record that is read and judged, and the verdict that is written with its reason.
-use Rattle.std.specs.Prelude.{◌≡◌, ◌≢◌, ◌⊎◌, ℕ, ◌+◌, ◌-◌, List, [], ◌∷◌, ◌++◌, Result, Ok, Err, Some, codes, slice_get}
+use Rattle.std.specs.Prelude.{◌≡◌, ◌≢◌, ◌⊎◌, ℕ, ◌+◌, List, [], ◌∷◌, ◌++◌, Result, Ok, Err, codes}
 use Rattle.std.specs.Fmt.{decimal}
 use Rattle.heap_words.specs.Configs.{Suits}
 use Rattle.heap_steps.specs.Actors.{EventList}
@@ -15,13 +15,14 @@ use Rattle.heap_steps.specs.declared.step.CollectorStep.{CollectorStep}
 use Rattle.heap_steps.specs.declared.step.CollectorStep.TheVariants as collector
 use Rattle.heap_steps.specs.declared.step.Event.{Event}
 use Rattle.script_text.specs.Events.{record_of}
-use Rattle.script_text.specs.Faults.{fault_reason}
-use Rattle.script_text.specs.Lines.{pieces_of}
+use Rattle.script_text.specs.Hints.{IsFaultReason}
 use Rattle.script_text.specs.Records.{reply_words, event_text}
 use Rattle.script_text.specs.Spelling.{spaced}
 use Rattle.script_text.specs.Watched.{Reader, Writer, FailsToGive, Takes, TakesPart, Stays}
 use Rattle.script_text.specs.declared.fault.LineFault.{LineFault}
+use Rattle.script_text.specs.declared.places.TextKind.TheVariants.{Record}
 use Rattle.script_text.specs.declared.fault.WriteFault.TheVariants as writes
+use Rattle.jobs.specs.Reasons.{TellsMore, IsReadReason}
 use Rattle.jobs.specs.Runs.{GivesAll}
 use Rattle.jobs.specs.Verdicts.{verdict_line, IsUnjudged, TellsVerdict}
 use Rattle.jobs.specs.declared.faults.JobFault.{JobFault}
@@ -75,14 +76,11 @@ WritesFinding input finding old new = IsExplained input finding × Takes old new
 abbrev pub WritesFindingBeginning : List ℕ → Writer → Writer → Type 0
 WritesFindingBeginning input old new = (finding : Finding) × IsExplained input finding × TakesPart old new (finding_text finding)
 
--- a line tells of a line of the input that has a fault: it shows that one, if it is there, and then says something
-abbrev pub IsFaultReason : LineFault → List ℕ → List ℕ → Type 0
-IsFaultReason fault input told = (line : List ℕ) → slice_get (pieces_of input) (fault.line - 1) ≡ Some line
-    → (hint : List ℕ) × (told ≡ fault_reason fault line hint)
-
--- such a line was written whole, or a beginning of it, and then the writer refused
-abbrev pub TellsHint : LineFault → List ℕ → Writer → Writer → Type 0
-TellsHint fault input old new = (told : List ℕ) × IsFaultReason fault input told × (Takes old new told ⊎ TakesPart old new told)
+-- what tells of a record's line with a fault was written whole, or a beginning of it, and then the writer refused
+pub record TellsHint (fault : LineFault) (input : List ℕ) (old new : Writer) : Type 0 where
+  pub told : List ℕ
+  pub reason : IsFaultReason Record fault input told
+  pub written : Takes old new told ⊎ TakesPart old new told
 
 -- How the judging of a record ended that is to be explained, as `Judges` has it of one that isn't; but of a line with a fault standard
 -- output is told too.
@@ -103,8 +101,13 @@ abbrev pub judged_by : Result Finding JobFault → Result Verdict JobFault
 judged_by (Ok finding) = Ok (verdict_of finding)
 judged_by (Err fault) = Err fault
 
--- A record was judged and explained so, and it was told so.
-pub record PerformsExplain (given left : Reader) (old new err err' : Writer) (status : ℕ) : Type 0 where
+-- How the judging of a file of this name was told, as without its reason; but where it can't be read, why
+abbrev pub TellsFinding : List ℕ → Writer → Writer → Result Finding JobFault → ℕ → Type 0
+TellsFinding name old new (Err (faults.Read fault)) status = (status ≡ 1) × TellsMore (faults.Read fault) (IsReadReason name) old new
+TellsFinding name old new outcome status = TellsVerdict old new (judged_by outcome) status
+
+-- A record in a file of this name was judged and explained so, and it was told so.
+pub record PerformsExplain (name : List ℕ) (given left : Reader) (old new err err' : Writer) (status : ℕ) : Type 0 where
   pub outcome : Result Finding JobFault
   pub explains : Explains given left old new outcome
-  pub tells : TellsVerdict err err' (judged_by outcome) status
+  pub tells : TellsFinding name err err' outcome status

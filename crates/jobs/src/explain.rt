@@ -7,19 +7,20 @@ ghost use Rattle.object_graph.specs.Reasons.{verdict_of};
 ghost use Rattle.object_graph.specs.declared.judge.Finding.{Finding};
 ghost use Rattle.jobs.specs.Verdicts.{IsJudged};
 ghost use Rattle.jobs.specs.Explanations.{form_text, given_text, reason_line, finding_text, judged_by, TellsHint, IsExplained};
-ghost use Rattle.jobs.specs.Explanations.{Explains, PerformsExplain};
+ghost use Rattle.jobs.specs.Explanations.{Explains, PerformsExplain, TellsFinding};
 
+use crate::causes::conclude_unread;
 use crate::faults::JobFault;
 use crate::finding::find_in;
 use crate::judge::{conclude_verdict, put_verdict};
 use heap_steps::{CollectorStep, Event};
 use object_graph::{Finding, Given, Verdict};
 use script_text::{
-    LineFault, REASON_ROOM, WatchedReader, WatchedWriter, WriteFault, put_event_text,
+    LineFault, REASON_ROOM, TextKind, WatchedReader, WatchedWriter, WriteFault, put_event_text,
     put_fault_reason, put_number, put_reply, put_text, read_text, write_bytes,
 };
 use std::alloc::Global;
-use std::io::{Read, Write};
+use std::io::{ErrorKind, Read, Write};
 
 /// The room that a verdict's line and its reason need.
 const ROOM: usize = 256;
@@ -123,7 +124,7 @@ fn write_hint<W: Write>(text: &[u8], fault: LineFault, writer: &mut WatchedWrite
     ensures { TellsHint fault text.now writer.old writer.new }
 {
     let mut buffer = [0u8; REASON_ROOM];
-    let at = put_fault_reason(&mut buffer, text, fault);
+    let at = put_fault_reason(&mut buffer, 0, TextKind::Record, text, fault);
     let _ = write_bytes(writer, &buffer[..at]);
 }
 
@@ -172,17 +173,49 @@ pub(crate) fn judged_by(outcome: Result<Finding, JobFault>) -> Result<Verdict, J
     }
 }
 
-/// Judges a record and explains the verdict, and answers the program's status.
+/// Tells why a file of this name wasn't judged, and answers the program's status.
+fn tell_unjudged<E: Write>(
+    name: &str,
+    reason: Option<ErrorKind>,
+    fault: JobFault,
+    err: &mut WatchedWriter<E>,
+) -> u8
+    ensures { TellsFinding name.now err.old err.new (Err fault) result }
+{
+    match fault {
+        JobFault::Read(fault) => conclude_unread(fault, name, reason, err),
+        _ => conclude_verdict(Err(fault), err),
+    }
+}
+
+/// Tells how a judging of a file of this name ended, with the system's reason where it can't be read, and answers the program's status.
+fn tell_finding<E: Write>(
+    name: &str,
+    reason: Option<ErrorKind>,
+    outcome: Result<Finding, JobFault>,
+    err: &mut WatchedWriter<E>,
+) -> u8
+    ensures { TellsFinding name.now err.old err.new outcome result }
+{
+    match outcome {
+        Ok(finding) => conclude_verdict(Ok(finding.verdict()), err),
+        Err(fault) => tell_unjudged(name, reason, fault, err),
+    }
+}
+
+/// Judges a record in a file of this name and explains the verdict, and answers the program's status. Where it can't be read, standard error
+/// is told why.
 pub fn perform_explain<R: Read, W: Write, E: Write>(
     alloc: Global,
+    name: &str,
     reader: &mut WatchedReader<R>,
     out: &mut WatchedWriter<W>,
     err: &mut WatchedWriter<E>,
 ) -> u8
-    ensures { PerformsExplain reader.old reader.new out.old out.new err.old err.new result }
+    ensures { PerformsExplain name.now reader.old reader.new out.old out.new err.old err.new result }
 {
     let outcome = explain_record(alloc, reader, out);
-    conclude_verdict(judged_by(outcome), err)
+    tell_finding(name, reader.reason(), outcome, err)
 }
 
 /// An explained verdict is the verdict that the text gets without it.

@@ -43,7 +43,7 @@ pub enum JobFault {
 }
 
 /// The room that a line needs.
-const ROOM: usize = 64;
+pub(crate) const ROOM: usize = 64;
 
 fn sizes_words(fault: NewFault) -> &'static [u8]
     ensures words { result.now ≡ sizes_words fault }
@@ -122,6 +122,17 @@ fn put_words(buffer: &mut [u8], at: usize, fault: JobFault) -> usize
     }
 }
 
+/// Puts a fault's line at a buffer's front, and answers where it ends.
+pub(crate) fn put_fault_line(buffer: &mut [u8], fault: JobFault) -> usize
+    requires { ROOM ≤ length buffer.old }
+    ensures put { take result buffer.new ≡ fault_line fault }
+    ensures end { result ≤ ROOM }
+{
+    let at = put_text(buffer, 0, b"g1heap: ");
+    let at = put_words(buffer, at, fault);
+    put_text(buffer, at, b"\n")
+}
+
 /// Writes a fault's line. Where that fails, the writer refused, and a beginning of the line is written. It takes no memory.
 pub fn tell<E: Write>(fault: JobFault, err: &mut WatchedWriter<E>) -> Result<(), WriteFault>
     ensures ok { OnOk result (Takes err.old err.new (fault_line fault)) }
@@ -129,9 +140,7 @@ pub fn tell<E: Write>(fault: JobFault, err: &mut WatchedWriter<E>) -> Result<(),
     ensures memory { result ≢ Err WriteFault.NoMemory }
 {
     let mut buffer = [0u8; ROOM];
-    let at = put_text(&mut buffer, 0, b"g1heap: ");
-    let at = put_words(&mut buffer, at, fault);
-    let at = put_text(&mut buffer, at, b"\n");
+    let at = put_fault_line(&mut buffer, fault);
     write_bytes(err, &buffer[..at])
 }
 

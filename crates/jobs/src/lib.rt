@@ -6,7 +6,7 @@
 //!   FILE -- RecordEvents, one by one --> Event -- Judge::take --> Finding -- write_verdict, write_finding --> output
 //!   FILE -- LineBuffer, line by line --> Event -- Judge::take --> Finding -- write_told --> output
 //!   FILE -- read_record --> Record -- its steps done again, by the crates above, and compared: first_other
-//!   a fault of any of these -- tell --> its line on standard error
+//!   a fault of any of these -- tell --> its line on standard error -- conclude_explained --> what explains it
 //! ```
 //!
 //! `Ends` says once, for any order of a script's steps, how its whole path ended: at Ok the input was a script, read to its end, and the
@@ -14,6 +14,7 @@
 //! which verdict. No heap is needed here: the runs are those of the crates above.
 #![tactic(auto)]
 
+mod causes;
 mod explain;
 mod faults;
 mod finding;
@@ -22,6 +23,7 @@ mod history;
 mod judge;
 mod script;
 
+pub use causes::{Counts, conclude_explained, conclude_unread};
 pub use explain::{explain_record, explained_law, perform_explain};
 pub use faults::{JobFault, JudgeFault, conclude, tell};
 pub use follow::{follow_law, follow_record, follow_status_law, perform_follow};

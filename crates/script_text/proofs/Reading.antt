@@ -9,3 +9,5 @@ pub mod Stops
 pub mod RecordStops
 pub mod LeftSteps
 pub mod LeftEvents
+pub mod Fitting
+pub mod StepsFit

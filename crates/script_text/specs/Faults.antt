@@ -1,5 +1,5 @@
 -- How faults are printed.
-use Rattle.std.specs.Prelude.{◌≡◌, ℕ, List, [], ◌∷◌, ◌++◌, codes, map, take, nat_lt, if◌then◌else◌}
+use Rattle.std.specs.Prelude.{◌≡◌, ℕ, List, ◌++◌, codes, map, take, nat_lt, if◌then◌else◌}
 use Rattle.std.specs.Fmt.{decimal}
 use Rattle.script_text.specs.declared.fault.Kind.{Kind}
 use Rattle.script_text.specs.declared.fault.Kind.TheVariants as kinds
@@ -37,10 +37,6 @@ shown_byte b = if nat_lt b 32 then 63 else (if nat_lt 126 b then 63 else b)
 -- the first 120 bytes of a line so
 abbrev pub shown : List ℕ → List ℕ
 shown line = map shown_byte (take 120 line)
-
--- the line that tells what a line with a fault lacks
-abbrev pub fault_reason : LineFault → List ℕ → List ℕ → List ℕ
-fault_reason f line hint = codes "line " ++ decimal f.line ++ codes ": " ++ shown line ++ codes "; " ++ hint ++ 10 ∷ []
 
 -- some text was put behind the first bytes
 abbrev pub PutsHint : ℕ → ℕ → List ℕ → List ℕ → Type 0

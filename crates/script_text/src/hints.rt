@@ -1,322 +1,177 @@
-//! What a line with a fault lacks, for a person's eyes: the line, the word at which reading it stopped, and what may stand there.
+//! What a line with a fault lacks, for a person's eyes: the line, the first word that doesn't fit, and what may stand there; and, of the
+//! commonest mistakes, what they are.
 //!
 //! ```text
-//!   line 5: 4 0 drop r9 = ok; word 4: a register below r8
+//!   line 5: 0 drop r9; word 3: a register below r8
+//!   line 2: 0 drop r0?; word 3: a register below r8
+//!   a carriage return ends the line: end each with a line feed alone
 //! ```
 
-ghost use Rattle.std.specs.Prelude.{◌≡◌, ◌≤◌, ◌+◌, ◌-◌, ◌++◌, ℕ, List, Some, length, map, take, slice_get};
-ghost use Rattle.script_text.specs.Lines.{pieces_of};
-ghost use Rattle.script_text.specs.Faults.{shown_byte, shown, fault_reason, PutsHint};
+ghost use Rattle.std.specs.Prelude.{◌≡◌, ◌≤◌, ◌+◌, ◌-◌, ◌++◌, ℕ, List, Some, Ok, codes, length, map, take, slice_get};
+ghost use Rattle.std.specs.Fmt.{decimal};
+ghost use Rattle.heap_words.specs.declared.config.Config.{Config};
+ghost use Rattle.script_text.specs.Lines.{heap_line_of, pieces_of, words_of};
+ghost use Rattle.script_text.specs.Faults.{shown_byte, shown};
+ghost use Rattle.script_text.specs.Hints.{place_words, place_text, stop_text, IsLine, NamesMisfit, NamesHeapMisfit};
+ghost use Rattle.script_text.specs.Hints.{IsHint, IsFaultReason, IsLineReason};
 
 use crate::fault::{Kind, LineFault};
-use crate::read::events::actor;
+use crate::mistakes::put_mistake;
+use crate::places::{Place, Stop, TextKind, heap_stop_in, no_sizes, stop_in};
 use crate::read::script::heap_line;
-use crate::read::words::{global, is_word, number, register, small_number, split_line};
+use crate::read::words::split_line;
 use crate::write::bytes::{put_byte, put_number, put_text};
-use heap_steps::Actor;
 use heap_words::config::{Config, Format};
 
-/// The room that a fault's reason needs.
-pub const REASON_ROOM: usize = 320;
+/// The room that the reason of a line's fault needs.
+pub const REASON_ROOM: usize = 480;
 
-/// The word of a line at which reading stopped, counted from 1, and a letter for what may stand there: C the count, A an actor, M and T a
-/// mutator's verb before and in the third format, K a verb of the collector, m and f those of background actors, R a register, G a global,
-/// V nil or a register, N, L and W a number of 32, 64 and 8 bits, = that sign, Y a reply.
-#[derive(Clone, Copy)]
-struct Stop {
-    word: u64,
-    place: u8,
-}
-
-/// The letters of the words behind a mutator's verb, or `?` where it is none.
-fn mutator_form(third: bool, verb: &[u8]) -> &'static [u8] {
-    if is_word(verb, b"new") {
-        b"RNN"
-    } else if is_word(verb, b"newweak") {
-        b"RNWN"
-    } else if is_word(verb, b"get") || is_word(verb, b"getweak") {
-        b"RRN"
-    } else if is_word(verb, b"put") || is_word(verb, b"putweak") {
-        b"RNV"
-    } else if is_word(verb, b"read") {
-        b"RN"
-    } else if is_word(verb, b"write") {
-        b"RNL"
-    } else if is_word(verb, b"move") {
-        b"RR"
-    } else if is_word(verb, b"load") {
-        b"RG"
-    } else if is_word(verb, b"save") {
-        b"GR"
-    } else if is_word(verb, b"drop") || is_word(verb, b"shape") || is_word(verb, b"weaks") {
-        b"R"
-    } else if third && is_word(verb, b"scope") {
-        b"R"
-    } else {
-        b"?"
-    }
-}
-
-/// The letters of the words behind a verb of the collector, or `?` where it is none.
-fn collector_form(verb: &[u8]) -> &'static [u8] {
-    if is_word(verb, b"mark") || is_word(verb, b"refine") || is_word(verb, b"pause") {
-        b"N"
-    } else if is_word(verb, b"begin") || is_word(verb, b"remark") || is_word(verb, b"cleanup") {
-        b""
-    } else {
-        b"?"
-    }
-}
-
-/// The letters of the words behind an actor's verb.
-fn form(actor: Actor, third: bool, verb: &[u8]) -> &'static [u8] {
-    match actor {
-        Actor::Mutator(_) => mutator_form(third, verb),
-        Actor::Collector => collector_form(verb),
-        Actor::Marker(_) => { if is_word(verb, b"mark") { b"N" } else { b"?" } }
-        Actor::Refiner(_) => { if is_word(verb, b"refine") { b"N" } else { b"?" } }
-    }
-}
-
-/// The letter of an actor's verbs.
-fn verbs(actor: Actor, third: bool) -> u8 {
-    match actor {
-        Actor::Mutator(_) => { if third { b'T' } else { b'M' } }
-        Actor::Collector => b'K',
-        Actor::Marker(_) => b'm',
-        Actor::Refiner(_) => b'f',
-    }
-}
-
-/// Whether a word is a register of these sizes.
-fn is_register(config: &Config, word: &[u8]) -> bool {
-    match register(word) {
-        Some(register) => register.number < config.registers(),
-        None => false,
-    }
-}
-
-/// Whether a word is a global of these sizes.
-fn is_global(config: &Config, word: &[u8]) -> bool {
-    match global(word) {
-        Some(global) => global.number < config.globals(),
-        None => false,
-    }
-}
-
-/// Whether a word may stand where a letter says.
-fn fits(place: u8, config: &Config, word: &[u8]) -> bool {
-    match place {
-        b'R' => is_register(config, word),
-        b'G' => is_global(config, word),
-        b'V' => is_word(word, b"nil") || is_register(config, word),
-        b'N' => small_number(word).is_some(),
-        b'L' => number(word, u64::MAX).is_some(),
-        _ => number(word, 255).is_some(),
-    }
-}
-
-/// The first of some words that may not stand where their letters say, the last one `=`.
-fn stop_behind(config: &Config, form: &[u8], words: &[&[u8]]) -> Stop {
-    let mut word = 4;
-    for (index, place) in form.iter().enumerate() {
-        if index >= words.len() {
-            return Stop {
-                word,
-                place: *place,
-            };
-        }
-        if !fits(*place, config, words[index]) {
-            return Stop {
-                word,
-                place: *place,
-            };
-        }
-        word = index as u64 + 5;
-    }
-    if form.len() < words.len() && is_word(words[form.len()], b"=") {
-        Stop {
-            word: word.saturating_add(1),
-            place: b'Y',
-        }
-    } else {
-        Stop { word, place: b'=' }
-    }
-}
-
-/// Where reading the line of an event of this count stopped, whose first words these are.
-fn stop_in(config: &Config, count: u64, words: &[&[u8]]) -> Stop {
-    let third = matches!(config.format, Format::V3 { .. });
-    let counted = match words {
-        [word, ..] => number(word, u64::MAX) == Some(count),
-        _ => false,
-    };
-    if !counted {
-        return Stop {
-            word: 1,
-            place: b'C',
-        };
-    }
-    let [_, word, rest @ ..] = words else {
-        return Stop {
-            word: 2,
-            place: b'A',
-        };
-    };
-    let Ok(actor) = actor(config, word) else {
-        return Stop {
-            word: 2,
-            place: b'A',
-        };
-    };
-    let [verb, rest @ ..] = rest else {
-        return Stop {
-            word: 3,
-            place: verbs(actor, third),
-        };
-    };
-    let form = form(actor, third, verb);
-    if is_word(form, b"?") {
-        return Stop {
-            word: 3,
-            place: verbs(actor, third),
-        };
-    }
-    stop_behind(config, form, rest)
-}
-
-/// A text, and a number.
-fn put_limit(buffer: &mut [u8], at: usize, text: &[u8], limit: u32) -> usize
-    requires { at + length text.now + 20 ≤ length buffer.old }
-    ensures put { PutsHint at result buffer.old buffer.new }
-    ensures end { result ≤ at + length text.now + 20 }
-{
-    let at = put_text(buffer, at, text);
-    put_number(buffer, at, limit as u64)
-}
-
-/// What may stand where a letter says, in sizes and at an event of this count.
-fn put_place(buffer: &mut [u8], at: usize, config: &Config, count: u64, place: u8) -> usize
-    requires { at + 120 ≤ length buffer.old }
-    ensures put { PutsHint at result buffer.old buffer.new }
-    ensures end { result ≤ at + 120 }
+/// The words that say what may stand at a place, before the limit that a heap's sizes set, if they do.
+fn place_words(place: Place, frames: bool) -> &'static [u8]
+    ensures words { result.now ≡ place_words place frames }
+    ensures short { length result.now ≤ 110 }
 {
     match place {
-        b'C' => {
-            let at = put_text(buffer, at, b"the count ");
-            put_number(buffer, at, count)
+        Place::Count(_) => b"the count ",
+        Place::ScriptActor => b"gc, or a mutator below ",
+        Place::RecordActor => b"gc, m0 to m7, f0 to f7, or a mutator below ",
+        Place::Action => {
+            if frames {
+                return b"new, newweak, get, getweak, put, putweak, read, write, move, drop, load, save, scope, shape or weaks";
+            }
+            b"new, newweak, get, getweak, put, putweak, read, write, move, drop, load, save, shape or weaks"
         }
-        b'A' => put_limit(
-            buffer,
-            at,
-            b"gc, m0 to m7, f0 to f7, or a mutator below ",
-            config.mutators,
-        ),
-        b'M' => put_text(
-            buffer,
-            at,
-            b"new, newweak, get, getweak, put, putweak, read, write, move, drop, load, save, shape or weaks",
-        ),
-        b'T' => put_text(
-            buffer,
-            at,
-            b"new, newweak, get, getweak, put, putweak, read, write, move, drop, load, save, scope, shape or weaks",
-        ),
-        b'K' => put_text(buffer, at, b"begin, mark, remark, cleanup, refine or pause"),
-        b'm' => put_text(buffer, at, b"mark"),
-        b'f' => put_text(buffer, at, b"refine"),
-        b'R' => put_limit(buffer, at, b"a register below r", config.registers()),
-        b'G' => put_limit(buffer, at, b"a global below g", config.globals()),
-        b'V' => put_limit(buffer, at, b"nil or a register below r", config.registers()),
-        b'N' => put_text(buffer, at, b"a number up to 4294967295"),
-        b'L' => put_text(buffer, at, b"a number up to 18446744073709551615"),
-        b'W' => put_text(buffer, at, b"a number up to 255"),
-        b'=' => put_text(buffer, at, b"= and a reply"),
-        _ => put_text(
-            buffer,
-            at,
-            b"a reply, such as ok, nil, #3, 7, 1 2 or refused 1 Nil",
-        ),
+        Place::Collection => b"begin, mark, remark, cleanup, refine or pause",
+        Place::Marking => b"mark",
+        Place::Refining => b"refine",
+        Place::Register => b"a register below r",
+        Place::Global => b"a global below g",
+        Place::Value => b"nil or a register below r",
+        Place::Small => b"a number up to 4294967295",
+        Place::Large => b"a number up to 18446744073709551615",
+        Place::Weaks => b"a number up to 255",
+        Place::Equals => b"= and a reply",
+        Place::Reply => b"a reply, such as ok, nil, #3, 7, 1 2 or refused 1 Nil",
+        Place::End => b"the line's end",
+        Place::Heap => b"heap, heap2 or heap3",
+        Place::Regions => b"REGIONS, a number up to 4294967295",
+        Place::RegionWords => b"WORDS, a number up to 4294967295",
+        Place::Buffer => b"BUFFER, a number up to 4294967295",
+        Place::Mutators => b"MUTATORS, a number up to 4294967295",
+        Place::FirstName => b"FIRST, a number up to 18446744073709551615",
+        Place::Card => b"CARD, a number up to 4294967295",
+        Place::Globals => b"GLOBALS, a number up to 4294967295",
+        Place::Registers => b"REGISTERS, a number up to 4294967295",
     }
 }
 
-/// A word's place in its line.
-fn put_word(buffer: &mut [u8], at: usize, word: u64) -> usize
-    requires { at + 27 ≤ length buffer.old }
-    ensures put { PutsHint at result buffer.old buffer.new }
-    ensures end { result ≤ at + 27 }
+/// What may stand at a place, in sizes.
+fn put_place(buffer: &mut [u8], at: usize, config: &Config, place: Place) -> usize
+    requires { at + 130 ≤ length buffer.old }
+    ensures put { take result buffer.new ≡ take at buffer.old ++ place_text config.now place }
+    ensures end { result ≤ at + 130 }
+{
+    let frames = matches!(config.format, Format::V3 { .. });
+    let at = put_text(buffer, at, place_words(place, frames));
+    match place {
+        Place::Count(count) => put_number(buffer, at, count),
+        Place::ScriptActor | Place::RecordActor => {
+            put_number(buffer, at, config.mutators as u64)
+        }
+        Place::Register | Place::Value => put_number(buffer, at, config.registers() as u64),
+        Place::Global => put_number(buffer, at, config.globals() as u64),
+        _ => at,
+    }
+}
+
+/// The word at which reading a line stopped, and what may stand there.
+fn put_stop(buffer: &mut [u8], at: usize, config: &Config, stop: Stop) -> usize
+    requires { at + 157 ≤ length buffer.old }
+    ensures put { take result buffer.new ≡ take at buffer.old ++ stop_text config.now stop }
+    ensures end { result ≤ at + 157 }
 {
     let at = put_text(buffer, at, b"word ");
-    let at = put_number(buffer, at, word);
-    put_text(buffer, at, b": ")
+    let at = put_number(buffer, at, stop.word);
+    let at = put_text(buffer, at, b": ");
+    put_place(buffer, at, config, stop.place)
 }
 
-/// The word at which reading the line of an event stopped, and what may stand there.
-fn put_stop(buffer: &mut [u8], at: usize, config: &Config, count: u64, stop: Stop) -> usize
-    requires { at + 147 ≤ length buffer.old }
-    ensures put { PutsHint at result buffer.old buffer.new }
-    ensures end { result ≤ at + 147 }
+/// A text's first line and what it is read as: the sizes that it gives.
+fn config_of(text: &[u8]) -> Option<Config>
+    ensures { (first : List ℕ) → IsLine text.now 1 first → (c : Config) → heap_line_of first ≡ Ok c → result ≡ Some c }
 {
-    let at = put_word(buffer, at, stop.word);
-    put_place(buffer, at, config, count, stop.place)
-}
-
-/// The sizes that a text's first line gives.
-fn config_of(text: &[u8]) -> Option<Config> {
     let mut words: [&[u8]; 12] = [&text[..0]; 12];
-    let first = split_line(text, &mut words)?;
+    let Some(first) = split_line(text, &mut words) else {
+        return None;
+    };
     heap_line(&text[..first.length], &words[..first.count]).ok()
 }
 
-/// What the line of an event lacks that stands at a text's front.
-fn put_line_hint(buffer: &mut [u8], at: usize, config: &Config, line: &[u8], count: u64) -> usize
-    requires { at + 147 ≤ length buffer.old }
-    ensures put { PutsHint at result buffer.old buffer.new }
-    ensures end { result ≤ at + 147 }
+/// What the line of a step lacks, or of an event.
+fn put_step_hint(
+    buffer: &mut [u8],
+    at: usize,
+    kind: TextKind,
+    text: &[u8],
+    line: u64,
+    words: &[&[u8]],
+) -> usize
+    requires { at + 157 ≤ length buffer.old }
+    ensures put { (hint : List ℕ)
+        × ((all : List ℕ) → map (λ w. w.now) words.now ≡ take 12 (words_of all) → NamesMisfit kind line text.now all hint)
+        × (take result buffer.new ≡ take at buffer.old ++ hint) }
+    ensures end { result ≤ at + 157 }
 {
-    let mut words: [&[u8]; 12] = [&line[..0]; 12];
-    match split_line(line, &mut words) {
-        Some(front) => {
-            let stop = stop_in(config, count, &words[..front.count]);
-            put_stop(buffer, at, config, count, stop)
-        }
-        None => put_text(buffer, at, b"a line feed"),
+    let Some(config) = config_of(text) else {
+        return put_text(buffer, at, b"a heap line before it");
+    };
+    match stop_in(kind, &config, line.saturating_sub(1), words) {
+        Some(stop) => put_stop(buffer, at, &config, stop),
+        None => at,
     }
 }
 
-/// The same in the sizes that a text's first line gives.
-fn put_event_hint(buffer: &mut [u8], at: usize, text: &[u8], line: &[u8], count: u64) -> usize
-    requires { at + 147 ≤ length buffer.old }
-    ensures put { PutsHint at result buffer.old buffer.new }
-    ensures end { result ≤ at + 147 }
+/// What a heap line lacks.
+fn put_heap_hint(buffer: &mut [u8], at: usize, words: &[&[u8]]) -> usize
+    requires { at + 157 ≤ length buffer.old }
+    ensures put { (hint : List ℕ) × ((n : ℕ) (input all : List ℕ) → map (λ w. w.now) words.now ≡ take 12 (words_of all)
+        → NamesHeapMisfit n input all hint) × (take result buffer.new ≡ take at buffer.old ++ hint) }
+    ensures end { result ≤ at + 157 }
 {
-    match config_of(text) {
-        Some(config) => put_line_hint(buffer, at, &config, line, count),
-        None => put_text(buffer, at, b"a heap line before it"),
+    match heap_stop_in(words) {
+        Some(stop) => put_stop(buffer, at, &no_sizes(), stop),
+        None => at,
     }
 }
 
-/// What a line lacks.
-fn put_hint(buffer: &mut [u8], at: usize, text: &[u8], line: &[u8], fault: LineFault) -> usize
-    requires { at + 147 ≤ length buffer.old }
-    ensures put { PutsHint at result buffer.old buffer.new }
-    ensures end { result ≤ at + 147 }
+/// What a line lacks, whose first words these are.
+fn put_hint(
+    buffer: &mut [u8],
+    at: usize,
+    kind: TextKind,
+    text: &[u8],
+    words: &[&[u8]],
+    fault: LineFault,
+) -> usize
+    requires { at + 157 ≤ length buffer.old }
+    ensures put { (hint : List ℕ)
+        × ((line : List ℕ) → (IsLine text.now fault.line line → map (λ w. w.now) words.now ≡ take 12 (words_of line))
+        → IsHint fault.kind kind fault.line text.now line hint)
+        × (take result buffer.new ≡ take at buffer.old ++ hint) }
+    ensures end { result ≤ at + 157 }
 {
     match fault.kind {
         Kind::Cut => put_text(buffer, at, b"a line feed behind it"),
         Kind::LongLine => put_text(buffer, at, b"at most 120 bytes"),
-        Kind::BadHeap => put_text(
-            buffer,
-            at,
-            b"heap REGIONS WORDS BUFFER MUTATORS FIRST, or heap2 and CARD behind these, or heap3 and CARD GLOBALS REGISTERS",
-        ),
-        _ => put_event_hint(buffer, at, text, line, fault.line.saturating_sub(1)),
+        Kind::NoMemory => put_text(buffer, at, b"memory to read it"),
+        Kind::BadHeap => put_heap_hint(buffer, at, words),
+        _ => put_step_hint(buffer, at, kind, text, fault.line, words),
     }
 }
 
 /// The text from a line on, if it has that line.
 fn behind(text: &[u8], line: u64) -> &[u8]
-    ensures { (l : List ℕ) → slice_get (pieces_of text.now) (line - 1) ≡ Some l → slice_get (pieces_of result.now) 0 ≡ Some l }
+    ensures { (k : ℕ) (l : List ℕ) → slice_get (pieces_of text.now) (line - 1 + k) ≡ Some l → slice_get (pieces_of result.now) k ≡ Some l }
 {
     let mut words: [&[u8]; 12] = [&text[..0]; 12];
     let mut rest = text;
@@ -379,8 +234,14 @@ fn front_of(line: &[u8]) -> &[u8]
     line
 }
 
-/// The first 120 bytes of a line, as a person reads them.
-fn put_shown(buffer: &mut [u8], at: usize, line: &[u8]) -> usize
+/// Puts the first 120 bytes of a line behind the first `at` bytes of a buffer, as a person reads them, and answers where they end.
+///
+/// ```rust
+/// let mut buffer = [0; 120];
+/// let end = put_shown(&mut buffer, 0, b"0 drop r0\r");
+/// assert_eq!(rt; &buffer[..end], b"0 drop r0?".as_slice());
+/// ```
+pub fn put_shown(buffer: &mut [u8], at: usize, line: &[u8]) -> usize
     requires { at + 120 ≤ length buffer.old }
     ensures put { take result buffer.new ≡ take at buffer.old ++ shown line.now }
     ensures end { result ≤ at + 120 }
@@ -388,25 +249,101 @@ fn put_shown(buffer: &mut [u8], at: usize, line: &[u8]) -> usize
     put_bytes(buffer, at, front_of(line))
 }
 
-/// Puts the line that tells what a line with a fault lacks at a buffer's front, and answers where it ends. The text has that line.
+/// Puts the front of a line that tells of a line of a text, whose bytes are given: which it is, and the line itself.
+fn put_line(buffer: &mut [u8], at: usize, number: u64, line: &[u8]) -> usize
+    requires { at + 149 ≤ length buffer.old }
+    ensures put { take result buffer.new ≡ take at buffer.old ++ (codes "line " ++ decimal number ++ codes ": " ++ shown line.now ++ codes "; ") }
+    ensures end { result ≤ at + 149 }
+{
+    let at = put_text(buffer, at, b"line ");
+    let at = put_number(buffer, at, number);
+    let at = put_text(buffer, at, b": ");
+    let at = put_shown(buffer, at, line);
+    put_text(buffer, at, b"; ")
+}
+
+/// Parts the first twelve words of the line at a text's front, and answers how many there are: none where no line feed ends it.
+fn split_words<'a>(text: &'a [u8], words: &mut [&'a [u8]]) -> usize
+    requires { length words.old ≡ 12 }
+    ensures words { (line next : List ℕ) → slice_get (pieces_of text.now) 0 ≡ Some line → slice_get (pieces_of text.now) 1 ≡ Some next
+        → map (λ w. w.now) (take result words.new) ≡ take 12 (words_of line) }
+    ensures within { result ≤ 12 }
+    ensures room { length words.new ≡ 12 }
+{
+    match split_line(text, words) {
+        Some(front) => front.count,
+        None => 0,
+    }
+}
+
+/// Puts the lines that tell what a line with a fault lacks behind the first `at` bytes of a buffer, and answers where they end: the line with
+/// the first word that doesn't fit, and where it is a common mistake, what it is. The text has that line.
 ///
 /// ```rust
 /// let mut buffer = [0; REASON_ROOM];
-/// put_fault_reason(&mut buffer, b"heep 4\n", LineFault { line: 1, kind: Kind::BadHeap });
-/// assert_eq!(rt; &buffer[..16], b"line 1: heep 4; ".as_slice());
+/// let fault = LineFault { line: 1, kind: Kind::BadHeap };
+/// let end = put_fault_reason(&mut buffer, 0, TextKind::Script, b"heap4 4\n", fault);
+/// assert_eq!(rt; &buffer[..45], b"line 1: heap4 4; word 1: heap, heap2 or heap3".as_slice());
+/// assert_eq!(rt; end, 122);
 /// ```
-pub fn put_fault_reason(buffer: &mut [u8], text: &[u8], fault: LineFault) -> usize
-    requires { length buffer.old ≡ REASON_ROOM }
-    ensures put { (line : List ℕ) → slice_get (pieces_of text.now) (fault.line - 1) ≡ Some line →
-        (hint : List ℕ) × (take result buffer.new ≡ fault_reason fault line hint) }
-    ensures end { result ≤ REASON_ROOM }
+pub fn put_fault_reason(
+    buffer: &mut [u8],
+    at: usize,
+    kind: TextKind,
+    text: &[u8],
+    fault: LineFault,
+) -> usize
+    requires { at + REASON_ROOM ≤ length buffer.old }
+    ensures put { (told : List ℕ) × IsFaultReason kind fault text.now told × (take result buffer.new ≡ take at buffer.old ++ told) }
+    ensures end { result ≤ at + REASON_ROOM }
 {
     let rest = behind(text, fault.line);
-    let at = put_text(buffer, 0, b"line ");
-    let at = put_number(buffer, at, fault.line);
-    let at = put_text(buffer, at, b": ");
-    let at = put_shown(buffer, at, first_line(rest));
-    let at = put_text(buffer, at, b"; ");
-    let at = put_hint(buffer, at, text, rest, fault);
+    let line = first_line(rest);
+    let mut words: [&[u8]; 12] = [&text[..0]; 12];
+    let count = split_words(rest, &mut words);
+    let at = put_line(buffer, at, fault.line, line);
+    let at = put_hint(buffer, at, kind, text, &words[..count], fault);
+    let at = put_text(buffer, at, b"\n");
+    let config = config_of(text);
+    put_mistake(
+        buffer,
+        at,
+        kind,
+        text,
+        line,
+        &words[..count],
+        config.as_ref(),
+        fault,
+    )
+}
+
+/// Puts a line that shows a line of a text and says something of it behind the first `at` bytes of a buffer, and answers where it ends. The
+/// text has that line.
+///
+/// ```rust
+/// let mut buffer = [0; REASON_ROOM];
+/// let end = put_line_reason(&mut buffer, 0, b"heap 1 16 8 1 0\n", 1, b"word 2: 2 to 1024");
+/// assert_eq!(rt; &buffer[..end], b"line 1: heap 1 16 8 1 0; word 2: 2 to 1024\n".as_slice());
+/// ```
+pub fn put_line_reason(buffer: &mut [u8], at: usize, text: &[u8], line: u64, hint: &[u8]) -> usize
+    requires room { at + REASON_ROOM ≤ length buffer.old }
+    requires short { length hint.now ≤ 150 }
+    ensures put { (told : List ℕ) × IsLineReason line text.now hint.now told × (take result buffer.new ≡ take at buffer.old ++ told) }
+    ensures end { result ≤ at + REASON_ROOM }
+{
+    let shown = first_line(behind(text, line));
+    let at = put_line(buffer, at, line, shown);
+    let at = put_text(buffer, at, hint);
     put_text(buffer, at, b"\n")
+}
+
+/// The sizes that the first line of a text gives, if it is a heap line.
+///
+/// ```rust
+/// assert_eq!(rt; sizes_in(script).is_some(), true);
+/// ```
+pub fn sizes_in(text: &[u8]) -> Option<Config>
+    ensures { (first : List ℕ) → IsLine text.now 1 first → (c : Config) → heap_line_of first ≡ Ok c → result ≡ Some c }
+{
+    config_of(text)
 }

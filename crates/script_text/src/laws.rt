@@ -1,16 +1,20 @@
 //! Laws of the texts of scripts and records.
 
-ghost use Rattle.std.specs.Prelude.{◌≡◌, ℕ, List, Some, Ok};
+ghost use Rattle.std.specs.Prelude.{◌≡◌, ◌↔◌, ℕ, List, None, Some, Ok};
+ghost use Rattle.heap_words.specs.declared.config.Config.{Config};
 ghost use Rattle.heap_steps.specs.Actors.{StepList, EventList};
 ghost use Rattle.heap_steps.specs.declared.step.Action.{Action};
 ghost use Rattle.heap_steps.specs.declared.step.Reply.{Reply};
+ghost use Rattle.heap_steps.specs.declared.step.Step.{Step};
 ghost use Rattle.script_text.specs.EventWords.{reply_of};
 ghost use Rattle.script_text.specs.Events.{record_of};
 ghost use Rattle.script_text.specs.Records.{reply_words, record_text};
 ghost use Rattle.script_text.specs.Fits.{Fits, ReplyFits, IsScript, IsRecord};
 ghost use Rattle.script_text.specs.Reading.{action_of};
 ghost use Rattle.script_text.specs.Spelling.{action_words, script_text};
-ghost use Rattle.script_text.specs.Lines.{script_of};
+ghost use Rattle.script_text.specs.Lines.{script_of, step_of};
+ghost use Rattle.script_text.specs.Places.{first_misfit, line_places};
+ghost use Rattle.script_text.specs.declared.places.TextKind.TheVariants.{Script};
 
 /// What is read of a text is spelled so, in the whole text.
 pub fn read_is_spelled()
@@ -42,4 +46,10 @@ pub fn read_record_is_spelled()
 /// A record that is spelled so is read.
 pub fn spelled_record_is_read()
     ensures { (r : EventList) → IsRecord r → record_of (record_text r) ≡ Ok r }
+{}
+
+/// The words of a script's line are read as a step if and only if none of them is the first that doesn't fit its place.
+pub fn fitting_words_are_read()
+    ensures { (c : Config) (n : ℕ) (words : List (List ℕ)) → ((s : Step) × (step_of c words ≡ Ok s))
+        ↔ (first_misfit c 1 (line_places Script c n words) words ≡ None) }
 {}

@@ -1,4 +1,5 @@
-use Rattle.command_line.proofs.Paths.{at, check, draw, every, explain, follow, redraw, run, sim, threads, view}
+use Rattle.command_line.proofs.Paths.{at, check, check_explained, draw, draw_explained, every, follow, redraw, run, run_explained, sim}
+use Rattle.command_line.proofs.Paths.{threads, view, view_explained}
 use Rattle.command_line.proofs.words_law.Goals as goal
 
 pub returns : goal.returns
@@ -7,11 +8,14 @@ returns c = record {
   sim = sim;
   threads = threads;
   check = check;
-  explain = explain;
   follow = follow;
   view = view;
   draw = draw;
   every = every;
   redraw = redraw;
   at = at;
+  run_explained = run_explained;
+  check_explained = check_explained;
+  view_explained = view_explained;
+  draw_explained = draw_explained;
 }

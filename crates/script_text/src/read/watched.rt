@@ -19,6 +19,7 @@ use std::marker::Model;
 pub struct WatchedReader<R: Read> {
     reader: R,
     refused: bool,
+    reason: Option<ErrorKind>,
 }
 
 impl<R: Read> Model for WatchedReader<R> {
@@ -42,7 +43,17 @@ impl<R: Read> WatchedReader<R> {
         WatchedReader {
             reader,
             refused: false,
+            reason: None,
         }
+    }
+
+    /// Why the reader refused, as the system has it. Which one it is, no clause says.
+    ///
+    /// ```rust
+    /// assert_eq!(rt; WatchedReader::new(script.as_slice()).reason().is_none(), true);
+    /// ```
+    pub fn reason(&self) -> Option<ErrorKind> {
+        self.reason
     }
 
     /// Puts all bytes to the end of input behind a text. Where that fails for another reason than want of memory, the reader refused.
@@ -65,6 +76,7 @@ impl<R: Read> WatchedReader<R> {
                     Err(ReadFault::NoMemory)
                 } else {
                     self.refused = true;
+                    self.reason = Some(error.kind());
                     Err(ReadFault::CannotRead)
                 }
             }

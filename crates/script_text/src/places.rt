@@ -1,0 +1,475 @@
+//! What may stand at each word's place in a line, and the first word that doesn't fit its place.
+
+ghost use Rattle.std.specs.Prelude.{◌≡◌, ◌+◌, ◌^◌, ◌<◌, ◌≤◌, ◌++◌, ℕ, List, Some, IfErr, IfOk, IfSome, length, map, option_map, take, drop};
+ghost use Rattle.heap_words.specs.declared.config.Config.{Config};
+ghost use Rattle.heap_steps.specs.Actors.{has_frames};
+ghost use Rattle.script_text.specs.declared.places.Place.{Place};
+ghost use Rattle.script_text.specs.Places.{actor_in, action_form, collection_form, verb_place, form_at, heap_form, fits_word, fits};
+ghost use Rattle.script_text.specs.Places.{actor_place, step_places, first_misfit, stop_in, no_sizes, heap_stop_in};
+
+use crate::read::events::actor;
+use crate::read::replies::reply;
+use crate::read::steps::mutator;
+use crate::read::words::{global, is_word, number, register, small_number};
+use heap_steps::Actor;
+use heap_words::config::{Config, Format};
+
+/// What a text is read as.
+#[derive(Clone, Copy, Debug, PartialEq, Eq)]
+pub enum TextKind {
+    Script,
+    Record,
+}
+
+/// What may stand at a word's place in a line.
+#[derive(Clone, Copy, Debug, PartialEq, Eq)]
+pub(crate) enum Place {
+    /// The count of an event.
+    Count(u64),
+    /// An actor of a script.
+    ScriptActor,
+    /// An actor of a record.
+    RecordActor,
+    /// A verb of a mutator.
+    Action,
+    /// A verb of the collector.
+    Collection,
+    /// The verb of a background marker.
+    Marking,
+    /// The verb of a background refiner.
+    Refining,
+    /// A register of the heap.
+    Register,
+    /// A global of the heap.
+    Global,
+    /// Nil, or a register of the heap.
+    Value,
+    /// A number of 32 bits.
+    Small,
+    /// A number of 64 bits.
+    Large,
+    /// A number of 8 bits.
+    Weaks,
+    /// The sign `=`.
+    Equals,
+    /// All words of a reply.
+    Reply,
+    /// No word.
+    End,
+    /// The word of a heap line's format.
+    Heap,
+    /// The numbers behind it.
+    Regions,
+    RegionWords,
+    Buffer,
+    Mutators,
+    FirstName,
+    Card,
+    Globals,
+    Registers,
+}
+
+/// A word of a line, counted from 1, and what may stand in its place.
+#[derive(Clone, Copy, Debug, PartialEq, Eq)]
+pub(crate) struct Stop {
+    pub(crate) word: u64,
+    pub(crate) place: Place,
+}
+
+/// The actor of a step in a text of this kind.
+fn actor_in(kind: TextKind, config: &Config, word: &[u8]) -> Option<Actor>
+    ensures { result ≡ actor_in kind config.now word.now }
+{
+    match kind {
+        TextKind::Record => actor(config, word).ok(),
+        TextKind::Script => {
+            if is_word(word, b"gc") {
+                return Some(Actor::Collector);
+            }
+            match mutator(config, word) {
+                Ok(mutator) => Some(Actor::Mutator(mutator)),
+                Err(_) => None,
+            }
+        }
+    }
+}
+
+/// What may stand behind a mutator's verb. `None`: the word is none.
+#[tactic(auto, unfolding(crate::specs::Places::action_form))]
+fn action_form(frames: bool, verb: &[u8]) -> Option<&'static [Place]>
+    ensures form { option_map (λ form. form.now) result ≡ action_form frames verb.now }
+    ensures short { IfSome result (λ form. length form.now ≤ 8) }
+{
+    if is_word(verb, b"new") {
+        Some(&[Place::Register, Place::Small, Place::Small])
+    } else if is_word(verb, b"newweak") {
+        Some(&[Place::Register, Place::Small, Place::Weaks, Place::Small])
+    } else if is_word(verb, b"get") {
+        Some(&[Place::Register, Place::Register, Place::Small])
+    } else if is_word(verb, b"getweak") {
+        Some(&[Place::Register, Place::Register, Place::Small])
+    } else if is_word(verb, b"put") {
+        Some(&[Place::Register, Place::Small, Place::Value])
+    } else if is_word(verb, b"putweak") {
+        Some(&[Place::Register, Place::Small, Place::Value])
+    } else if is_word(verb, b"read") {
+        Some(&[Place::Register, Place::Small])
+    } else if is_word(verb, b"write") {
+        Some(&[Place::Register, Place::Small, Place::Large])
+    } else if is_word(verb, b"move") {
+        Some(&[Place::Register, Place::Register])
+    } else if is_word(verb, b"load") {
+        Some(&[Place::Register, Place::Global])
+    } else if is_word(verb, b"save") {
+        Some(&[Place::Global, Place::Register])
+    } else if is_word(verb, b"drop") {
+        Some(&[Place::Register])
+    } else if is_word(verb, b"shape") {
+        Some(&[Place::Register])
+    } else if is_word(verb, b"weaks") {
+        Some(&[Place::Register])
+    } else if is_word(verb, b"scope") {
+        if frames {
+            Some(&[Place::Register])
+        } else {
+            None
+        }
+    } else {
+        None
+    }
+}
+
+/// The same of a verb of the collector.
+#[tactic(auto, unfolding(crate::specs::Places::collection_form))]
+fn collection_form(verb: &[u8]) -> Option<&'static [Place]>
+    ensures form { option_map (λ form. form.now) result ≡ collection_form verb.now }
+    ensures short { IfSome result (λ form. length form.now ≤ 8) }
+{
+    if is_word(verb, b"begin") {
+        Some(&[])
+    } else if is_word(verb, b"mark") {
+        Some(&[Place::Small])
+    } else if is_word(verb, b"remark") {
+        Some(&[])
+    } else if is_word(verb, b"cleanup") {
+        Some(&[])
+    } else if is_word(verb, b"refine") {
+        Some(&[Place::Small])
+    } else if is_word(verb, b"pause") {
+        Some(&[Place::Small])
+    } else {
+        None
+    }
+}
+
+/// Where a verb of the actor stands.
+fn verb_place(actor: Actor) -> Place
+    ensures { result ≡ verb_place actor }
+{
+    match actor {
+        Actor::Mutator(_) => Place::Action,
+        Actor::Collector => Place::Collection,
+        Actor::Marker(_) => Place::Marking,
+        Actor::Refiner(_) => Place::Refining,
+    }
+}
+
+/// What may stand behind a verb at such a place. `None`: the word is no verb there.
+fn form_at(frames: bool, place: Place, verb: &[u8]) -> Option<&'static [Place]>
+    ensures form { option_map (λ form. form.now) result ≡ form_at frames place verb.now }
+    ensures short { IfSome result (λ form. length form.now ≤ 8) }
+{
+    match place {
+        Place::Action => action_form(frames, verb),
+        Place::Collection => collection_form(verb),
+        Place::Marking => {
+            if is_word(verb, b"mark") {
+                Some(&[Place::Small])
+            } else {
+                None
+            }
+        }
+        Place::Refining => {
+            if is_word(verb, b"refine") {
+                Some(&[Place::Small])
+            } else {
+                None
+            }
+        }
+        _ => None,
+    }
+}
+
+/// What may stand behind the heap line's first word. `None`: it is no format's.
+#[tactic(auto, unfolding(crate::specs::Places::heap_form))]
+fn heap_form(verb: &[u8]) -> Option<&'static [Place]>
+    ensures form { option_map (λ form. form.now) result ≡ heap_form verb.now }
+    ensures short { IfSome result (λ form. length form.now ≤ 8) }
+{
+    if is_word(verb, b"heap") {
+        Some(&[
+            Place::Regions,
+            Place::RegionWords,
+            Place::Buffer,
+            Place::Mutators,
+            Place::FirstName,
+        ])
+    } else if is_word(verb, b"heap2") {
+        Some(&[
+            Place::Regions,
+            Place::RegionWords,
+            Place::Buffer,
+            Place::Mutators,
+            Place::FirstName,
+            Place::Card,
+        ])
+    } else if is_word(verb, b"heap3") {
+        Some(&[
+            Place::Regions,
+            Place::RegionWords,
+            Place::Buffer,
+            Place::Mutators,
+            Place::FirstName,
+            Place::Card,
+            Place::Globals,
+            Place::Registers,
+        ])
+    } else {
+        None
+    }
+}
+
+/// Whether a heap's steps leave frames of registers.
+fn has_frames(config: &Config) -> bool
+    ensures { result ≡ has_frames config.now.format }
+{
+    matches!(config.format, Format::V3 { .. })
+}
+
+/// Whether a word is a register of these sizes.
+fn is_register(config: &Config, word: &[u8]) -> bool
+    ensures { result ≡ fits_word config.now Place.Register word.now }
+{
+    match register(word) {
+        Some(register) => register.number < config.registers(),
+        None => false,
+    }
+}
+
+/// Whether a word is a global of these sizes.
+fn is_global(config: &Config, word: &[u8]) -> bool
+    ensures { result ≡ fits_word config.now Place.Global word.now }
+{
+    match global(word) {
+        Some(global) => global.number < config.globals(),
+        None => false,
+    }
+}
+
+/// Whether a word is this number.
+fn is_count(count: u64, word: &[u8]) -> bool
+    ensures { (config : Config) → result ≡ fits_word config (Place.Count count) word.now }
+{
+    match number(word, u64::MAX) {
+        Some(number) => number == count,
+        None => false,
+    }
+}
+
+/// Whether a word may stand at a place.
+fn fits_word(config: &Config, place: Place, word: &[u8]) -> bool
+    ensures { result ≡ fits_word config.now place word.now }
+{
+    match place {
+        Place::Count(count) => is_count(count, word),
+        Place::ScriptActor => actor_in(TextKind::Script, config, word).is_some(),
+        Place::RecordActor => actor_in(TextKind::Record, config, word).is_some(),
+        Place::Register => is_register(config, word),
+        Place::Global => is_global(config, word),
+        Place::Value => {
+            if is_word(word, b"nil") {
+                return true;
+            }
+            is_register(config, word)
+        }
+        Place::Large | Place::FirstName => number(word, u64::MAX).is_some(),
+        Place::Weaks => number(word, 255).is_some(),
+        Place::Equals => is_word(word, b"="),
+        Place::Heap => heap_form(word).is_some(),
+        Place::Action => action_form(has_frames(config), word).is_some(),
+        Place::Collection => collection_form(word).is_some(),
+        Place::Marking => is_word(word, b"mark"),
+        Place::Refining => is_word(word, b"refine"),
+        Place::Reply | Place::End => false,
+        _ => small_number(word).is_some(),
+    }
+}
+
+/// Whether the words that are left may stand from a place on.
+fn fits(config: &Config, place: Place, words: &[&[u8]]) -> bool
+    ensures { result ≡ fits config.now place (map (λ w. w.now) words.now) }
+{
+    let [word, ..] = words else {
+        return matches!(place, Place::End);
+    };
+    match place {
+        Place::Reply => reply(words).is_some(),
+        _ => fits_word(config, place, word),
+    }
+}
+
+/// The first of the places, counted from a number, at which the words that are left don't fit; else those that are left behind them.
+fn first_misfit<'a, 'b>(
+    config: &Config,
+    from: u64,
+    places: &[Place],
+    words: &'b [&'a [u8]],
+) -> Result<&'b [&'a [u8]], Stop>
+    requires { from + length places.now < 2 ^ 64 }
+    ensures stops { IfErr result (λ stop. (more : List Place) → first_misfit config.now from (places.now ++ more)
+        (map (λ w. w.now) words.entry.now) ≡ Some stop) }
+    ensures passes { IfOk result (λ left. (more : List Place) → first_misfit config.now from (places.now ++ more)
+        (map (λ w. w.now) words.entry.now) ≡ first_misfit config.now (from + length places.now) more (map (λ w. w.now) left.now)) }
+{
+    let mut left = words;
+    let mut word = from;
+    'places: for place in places {
+        if !fits(config, *place, left) {
+            return Err(Stop {
+                word,
+                place: *place,
+            });
+        }
+        left = behind_first(left);
+        word += 1;
+    }
+    Ok(left)
+}
+
+/// The words behind the first one.
+fn behind_first<'a, 'b>(words: &'b [&'a [u8]]) -> &'b [&'a [u8]]
+    ensures { map (λ w. w.now) result.now ≡ drop 1 (map (λ w. w.now) words.entry.now) }
+{
+    match words {
+        [_, rest @ ..] => rest,
+        [] => words,
+    }
+}
+
+/// The place of an actor.
+fn actor_place(kind: TextKind) -> Place
+    ensures { result ≡ actor_place kind }
+{
+    match kind {
+        TextKind::Script => Place::ScriptActor,
+        TextKind::Record => Place::RecordActor,
+    }
+}
+
+/// Where reading a step stops, from its actor's word on, behind which the line has to go on so.
+fn step_stop(
+    kind: TextKind,
+    config: &Config,
+    from: u64,
+    words: &[&[u8]],
+    end: &[Place],
+) -> Option<Stop>
+    requires { from + 10 + length end.now < 2 ^ 64 }
+    ensures { result ≡ first_misfit config.now from (step_places kind config.now (map (λ w. w.now) words.now) end.now)
+        (map (λ w. w.now) words.now) }
+{
+    let [word, rest @ ..] = words else {
+        return Some(Stop {
+            word: from,
+            place: actor_place(kind),
+        });
+    };
+    let Some(actor) = actor_in(kind, config, word) else {
+        return Some(Stop {
+            word: from,
+            place: actor_place(kind),
+        });
+    };
+    let place = verb_place(actor);
+    let [verb, rest @ ..] = rest else {
+        return Some(Stop {
+            word: from + 1,
+            place,
+        });
+    };
+    let Some(form) = form_at(has_frames(config), place, verb) else {
+        return Some(Stop {
+            word: from + 1,
+            place,
+        });
+    };
+    match first_misfit(config, from + 2, form, rest) {
+        Err(stop) => Some(stop),
+        Ok(left) => last_stop(config, from + 2 + form.len() as u64, end, left),
+    }
+}
+
+/// The first of a line's last places at which the words that are left don't fit.
+fn last_stop(config: &Config, from: u64, end: &[Place], words: &[&[u8]]) -> Option<Stop>
+    requires { from + length end.now < 2 ^ 64 }
+    ensures { result ≡ first_misfit config.now from end.now (map (λ w. w.now) words.now) }
+{
+    match first_misfit(config, from, end, words) {
+        Err(stop) => Some(stop),
+        Ok(_) => None,
+    }
+}
+
+/// Where reading the line of a step, or of the event of this count, stops, whose first twelve words these are.
+pub(crate) fn stop_in(kind: TextKind, config: &Config, count: u64, words: &[&[u8]]) -> Option<Stop>
+    ensures { (all : List (List ℕ)) → map (λ w. w.now) words.now ≡ take 12 all → result ≡ stop_in kind config.now count all }
+{
+    match kind {
+        TextKind::Script => step_stop(kind, config, 1, words, &[Place::End]),
+        TextKind::Record => {
+            let place = Place::Count(count);
+            if !fits(config, place, words) {
+                return Some(Stop { word: 1, place });
+            }
+            let rest = behind_first(words);
+            step_stop(kind, config, 2, rest, &[Place::Equals, Place::Reply])
+        }
+    }
+}
+
+/// The sizes that stand for none.
+pub(crate) fn no_sizes() -> Config
+    ensures { result ≡ no_sizes }
+{
+    Config {
+        format: Format::V1,
+        regions: 0,
+        words: 0,
+        buffer: 0,
+        mutators: 0,
+        first_name: 0,
+    }
+}
+
+/// Where reading a heap line stops, whose first twelve words these are.
+pub(crate) fn heap_stop_in(words: &[&[u8]]) -> Option<Stop>
+    ensures { (all : List (List ℕ)) → map (λ w. w.now) words.now ≡ take 12 all → result ≡ heap_stop_in all }
+{
+    let config = no_sizes();
+    let [verb, rest @ ..] = words else {
+        return Some(Stop {
+            word: 1,
+            place: Place::Heap,
+        });
+    };
+    let Some(form) = heap_form(verb) else {
+        return Some(Stop {
+            word: 1,
+            place: Place::Heap,
+        });
+    };
+    match first_misfit(&config, 2, form, rest) {
+        Err(stop) => Some(stop),
+        Ok(left) => last_stop(&config, 2 + form.len() as u64, &[Place::End], left),
+    }
+}
