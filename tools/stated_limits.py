@@ -3,7 +3,7 @@ import re
 
 CONSTANT = re.compile(r"^(?:pub(?:\(crate\))? )?(?:const )?(\w+)(?: V1)?(?:: \w+)? = (2 \^ \d+|1 << \d+|[\d_]+);?$", re.M)
 CONFIGS = "heap_words/specs/Configs.antt"
-FILES = (CONFIGS, "script_text/src/read/script.rt", "heap_life/src/life.rt", "heap_life/src/page.rt", "heap_life/src/region_text.rt",
+FILES = (CONFIGS, "script_text/src/read/script.rt", "heap_life/src/life.rt", "heap_life/src/page.rt", "heap_life/src/tile_text.rt",
          "heap_life/src/moment_text.rt")
 
 

@@ -33,38 +33,34 @@ is_value (c ∷ d ∷ rest) h = go (c == 45) refl h
 pub run : (program path : Text) → is_path path ≡ true → Asks (program ∷ codes "run" ∷ path ∷ []) (path, Script File, false)
 unfolding clap_on_literals
 run program path h =
-    let v = is_value path h in
-    (
-        rw v.no_end (rw v.no_name (rw v.no_letters (refl {a = Some (path, Script File, false)}))),
-        rw v.no_end (rw v.no_name (rw v.no_letters (refl {a = []}))),
+    let v = is_value path h in (
+      rw v.no_end (rw v.no_name (rw v.no_letters (refl {a = Some (path, Script File, false)}))),
+      rw v.no_end (rw v.no_name (rw v.no_letters (refl {a = []}))),
     )
 
 pub check : (program path : Text) → is_path path ≡ true → Asks (program ∷ codes "check" ∷ path ∷ []) (path, Check false, false)
 unfolding clap_on_literals
 check program path h =
-    let v = is_value path h in
-    (
-        rw v.no_end (rw v.no_name (rw v.no_letters (refl {a = Some (path, Check false, false)}))),
-        rw v.no_end (rw v.no_name (rw v.no_letters (refl {a = []}))),
+    let v = is_value path h in (
+      rw v.no_end (rw v.no_name (rw v.no_letters (refl {a = Some (path, Check false, false)}))),
+      rw v.no_end (rw v.no_name (rw v.no_letters (refl {a = []}))),
     )
 
 pub follow : (program path : Text) → is_path path ≡ true
     → Asks (program ∷ codes "check" ∷ path ∷ codes "--follow" ∷ []) (path, Check true, false)
 unfolding clap_on_literals
 follow program path h =
-    let v = is_value path h in
-    (
-        rw v.no_end (rw v.no_name (rw v.no_letters (refl {a = Some (path, Check true, false)}))),
-        rw v.no_end (rw v.no_name (rw v.no_letters (refl {a = []}))),
+    let v = is_value path h in (
+      rw v.no_end (rw v.no_name (rw v.no_letters (refl {a = Some (path, Check true, false)}))),
+      rw v.no_end (rw v.no_name (rw v.no_letters (refl {a = []}))),
     )
 
 pub view : (program path : Text) → is_path path ≡ true → Asks (program ∷ codes "view" ∷ path ∷ []) (path, View false None None false, false)
 unfolding clap_on_literals
 view program path h =
-    let v = is_value path h in
-    (
-        rw v.no_end (rw v.no_name (rw v.no_letters (refl {a = Some (path, View false None None false, false)}))),
-        rw v.no_end (rw v.no_name (rw v.no_letters (refl {a = []}))),
+    let v = is_value path h in (
+      rw v.no_end (rw v.no_name (rw v.no_letters (refl {a = Some (path, View false None None false, false)}))),
+      rw v.no_end (rw v.no_name (rw v.no_letters (refl {a = []}))),
     )
 
 pub sim : (program path : Text) → is_path path ≡ true
@@ -84,77 +80,70 @@ threads program path h =
 pub draw : (program path : Text) → is_path path ≡ true → Asks (program ∷ codes "draw" ∷ path ∷ []) (path, Draw 1 false, false)
 unfolding clap_on_literals
 draw program path h =
-    let v = is_value path h in
-    (
-        rw v.no_end (rw v.no_name (rw v.no_letters (refl {a = Some (path, Draw 1 false, false)}))),
-        rw v.no_end (rw v.no_name (rw v.no_letters (refl {a = []}))),
+    let v = is_value path h in (
+      rw v.no_end (rw v.no_name (rw v.no_letters (refl {a = Some (path, Draw 1 false, false)}))),
+      rw v.no_end (rw v.no_name (rw v.no_letters (refl {a = []}))),
     )
 
 pub every : (program path : Text) → is_path path ≡ true
     → Asks (program ∷ codes "draw" ∷ path ∷ codes "--every" ∷ codes "10" ∷ []) (path, Draw 10 false, false)
 unfolding clap_on_literals
 every program path h =
-    let v = is_value path h in
-    (
-        rw v.no_end (rw v.no_name (rw v.no_letters (refl {a = Some (path, Draw 10 false, false)}))),
-        rw v.no_end (rw v.no_name (rw v.no_letters (refl {a = []}))),
+    let v = is_value path h in (
+      rw v.no_end (rw v.no_name (rw v.no_letters (refl {a = Some (path, Draw 10 false, false)}))),
+      rw v.no_end (rw v.no_name (rw v.no_letters (refl {a = []}))),
     )
 
-pub redraw : (program path : Text) → is_path path ≡ true → Asks (program ∷ codes "draw" ∷ path ∷ codes "--record" ∷ []) (path, Draw 1 true, false)
+pub redraw : (program path : Text) → is_path path ≡ true
+    → Asks (program ∷ codes "draw" ∷ path ∷ codes "--record" ∷ []) (path, Draw 1 true, false)
 unfolding clap_on_literals
 redraw program path h =
-    let v = is_value path h in
-    (
-        rw v.no_end (rw v.no_name (rw v.no_letters (refl {a = Some (path, Draw 1 true, false)}))),
-        rw v.no_end (rw v.no_name (rw v.no_letters (refl {a = []}))),
+    let v = is_value path h in (
+      rw v.no_end (rw v.no_name (rw v.no_letters (refl {a = Some (path, Draw 1 true, false)}))),
+      rw v.no_end (rw v.no_name (rw v.no_letters (refl {a = []}))),
     )
 
 pub at : (program path : Text) → is_path path ≡ true
     → Asks (program ∷ codes "view" ∷ path ∷ codes "--at" ∷ codes "9" ∷ []) (path, View false (Some 9) None false, false)
 unfolding clap_on_literals
 at program path h =
-    let v = is_value path h in
-    (
-        rw v.no_end (rw v.no_name (rw v.no_letters (refl {a = Some (path, View false (Some 9) None false, false)}))),
-        rw v.no_end (rw v.no_name (rw v.no_letters (refl {a = []}))),
+    let v = is_value path h in (
+      rw v.no_end (rw v.no_name (rw v.no_letters (refl {a = Some (path, View false (Some 9) None false, false)}))),
+      rw v.no_end (rw v.no_name (rw v.no_letters (refl {a = []}))),
     )
 
 pub run_explained : (program path : Text) → is_path path ≡ true
     → Asks (program ∷ codes "run" ∷ path ∷ codes "--explain" ∷ []) (path, Script File, true)
 unfolding clap_on_literals
 run_explained program path h =
-    let v = is_value path h in
-    (
-        rw v.no_end (rw v.no_name (rw v.no_letters (refl {a = Some (path, Script File, true)}))),
-        rw v.no_end (rw v.no_name (rw v.no_letters (refl {a = []}))),
+    let v = is_value path h in (
+      rw v.no_end (rw v.no_name (rw v.no_letters (refl {a = Some (path, Script File, true)}))),
+      rw v.no_end (rw v.no_name (rw v.no_letters (refl {a = []}))),
     )
 
 pub check_explained : (program path : Text) → is_path path ≡ true
     → Asks (program ∷ codes "check" ∷ path ∷ codes "--explain" ∷ []) (path, Check false, true)
 unfolding clap_on_literals
 check_explained program path h =
-    let v = is_value path h in
-    (
-        rw v.no_end (rw v.no_name (rw v.no_letters (refl {a = Some (path, Check false, true)}))),
-        rw v.no_end (rw v.no_name (rw v.no_letters (refl {a = []}))),
+    let v = is_value path h in (
+      rw v.no_end (rw v.no_name (rw v.no_letters (refl {a = Some (path, Check false, true)}))),
+      rw v.no_end (rw v.no_name (rw v.no_letters (refl {a = []}))),
     )
 
 pub view_explained : (program path : Text) → is_path path ≡ true
     → Asks (program ∷ codes "view" ∷ path ∷ codes "--explain" ∷ []) (path, View false None None false, true)
 unfolding clap_on_literals
 view_explained program path h =
-    let v = is_value path h in
-    (
-        rw v.no_end (rw v.no_name (rw v.no_letters (refl {a = Some (path, View false None None false, true)}))),
-        rw v.no_end (rw v.no_name (rw v.no_letters (refl {a = []}))),
+    let v = is_value path h in (
+      rw v.no_end (rw v.no_name (rw v.no_letters (refl {a = Some (path, View false None None false, true)}))),
+      rw v.no_end (rw v.no_name (rw v.no_letters (refl {a = []}))),
     )
 
 pub draw_explained : (program path : Text) → is_path path ≡ true
     → Asks (program ∷ codes "draw" ∷ path ∷ codes "--explain" ∷ []) (path, Draw 1 false, true)
 unfolding clap_on_literals
 draw_explained program path h =
-    let v = is_value path h in
-    (
-        rw v.no_end (rw v.no_name (rw v.no_letters (refl {a = Some (path, Draw 1 false, true)}))),
-        rw v.no_end (rw v.no_name (rw v.no_letters (refl {a = []}))),
+    let v = is_value path h in (
+      rw v.no_end (rw v.no_name (rw v.no_letters (refl {a = Some (path, Draw 1 false, true)}))),
+      rw v.no_end (rw v.no_name (rw v.no_letters (refl {a = []}))),
     )

@@ -10,7 +10,8 @@
 
 ghost use Rattle.std.specs.Prelude.{◌≡◌, ◌≤◌, ◌+◌, ◌++◌, ℕ, List, Ok, length, take};
 ghost use Rattle.std.specs.Fmt.{decimal};
-ghost use Rattle.jobs.specs.Reasons.{sizes_hint, background_text, counts_text, reason_words, IsSizesReason, IsReason, IsReadReason, TellsMore};
+ghost use Rattle.jobs.specs.Reasons.{sizes_hint, background_text, counts_text, reason_words, IsSizesReason, IsReason, IsReadReason};
+ghost use Rattle.jobs.specs.Reasons.{TellsMore};
 ghost use Rattle.jobs.specs.Reasons.{TellsExplained};
 
 use crate::faults::{JobFault, JudgeFault, ROOM as LINE_ROOM, put_fault_line};

@@ -203,8 +203,8 @@ fn tell_finding<E: Write>(
     }
 }
 
-/// Judges a record in a file of this name and explains the verdict, and answers the program's status. Where it can't be read, standard error
-/// is told why.
+/// Judges a record in a file of this name and explains the verdict, and answers the program's status. Where it can't be read, standard
+/// error is told why.
 pub fn perform_explain<R: Read, W: Write, E: Write>(
     alloc: Global,
     name: &str,

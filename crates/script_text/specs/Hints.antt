@@ -20,7 +20,8 @@ abbrev pub place_words : Place → Bool → List ℕ
 place_words (places.Count n) frames = codes "the count "
 place_words places.ScriptActor frames = codes "gc, or a mutator below "
 place_words places.RecordActor frames = codes "gc, m0 to m7, f0 to f7, or a mutator below "
-place_words places.Action true = codes "new, newweak, get, getweak, put, putweak, read, write, move, drop, load, save, scope, shape or weaks"
+place_words places.Action true = codes
+    "new, newweak, get, getweak, put, putweak, read, write, move, drop, load, save, scope, shape or weaks"
 place_words places.Action false = codes "new, newweak, get, getweak, put, putweak, read, write, move, drop, load, save, shape or weaks"
 place_words places.Collection frames = codes "begin, mark, remark, cleanup, refine or pause"
 place_words places.Marking frames = codes "mark"

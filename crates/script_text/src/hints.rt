@@ -252,7 +252,8 @@ pub fn put_shown(buffer: &mut [u8], at: usize, line: &[u8]) -> usize
 /// Puts the front of a line that tells of a line of a text, whose bytes are given: which it is, and the line itself.
 fn put_line(buffer: &mut [u8], at: usize, number: u64, line: &[u8]) -> usize
     requires { at + 149 ≤ length buffer.old }
-    ensures put { take result buffer.new ≡ take at buffer.old ++ (codes "line " ++ decimal number ++ codes ": " ++ shown line.now ++ codes "; ") }
+    ensures put { take result buffer.new ≡ take at buffer.old ++ (codes "line " ++ decimal number ++ codes ": " ++ shown line.now
+        ++ codes "; ") }
     ensures end { result ≤ at + 149 }
 {
     let at = put_text(buffer, at, b"line ");
@@ -276,7 +277,8 @@ fn split_words<'a>(text: &'a [u8], words: &mut [&'a [u8]]) -> usize
     }
 }
 
-/// Puts the lines that tell what a line with a fault lacks behind the first `at` bytes of a buffer, and answers where they end: the line with
+/// Puts the lines that tell what a line with a fault lacks behind the first `at` bytes of a buffer, and answers where they end: the line
+/// with
 /// the first word that doesn't fit, and where it is a common mistake, what it is. The text has that line.
 ///
 /// ```rust

@@ -16,7 +16,8 @@ use Rattle.script_text.specs.declared.places.Place.{Place}
 use Rattle.script_text.specs.declared.places.Place.TheVariants as places
 use Rattle.script_text.specs.Places.{action_form, behind_verb, fits, fits_word}
 use Rattle.script_text.specs.Reading.{◌>>=◌, number_of, small, large, most_weaks, register_of, global_of, value_of, new_of, get_of, put_of}
-use Rattle.script_text.specs.Reading.{write_of, read_of, move_of, drop_of, load_of, save_of, shape_of, new_weak_of, get_weak_of, put_weak_of}
+use Rattle.script_text.specs.Reading.{write_of, read_of, move_of, drop_of, load_of, save_of, shape_of, new_weak_of, get_weak_of}
+use Rattle.script_text.specs.Reading.{put_weak_of}
 use Rattle.script_text.specs.Reading.{weaks_of, scope_of, longest_action_of, long_action_of, pair_action_of, lone_action_of, action_of}
 use Rattle.script_text.specs.Reading.{allowed_in, allowed_of}
 
@@ -125,19 +126,26 @@ unfolding allowed_of action_of longest_action_of long_action_of pair_action_of l
 new_fits c [] = refl
 new_fits c (a ∷ []) = no1 (fits_word c places.Register a)
 new_fits c (a ∷ b ∷ []) = no2 (fits_word c places.Register a) (fits_word c places.Small b)
-new_fits c (a ∷ b ∷ d ∷ []) = three (registers c) (some) (some) (λ r p d. actions.New r (record { pointers = p; values = d })) c refl refl refl (λ r p d. refl) (register_of a) (number_of small b) (number_of small d)
+new_fits c (a ∷ b ∷ d ∷ []) = three (registers c) (some) (some) (λ r p d. actions.New r (record { pointers = p; values = d })) c refl refl
+    refl (λ r p d. refl) (register_of a) (number_of small b) (number_of small d)
 new_fits c (a ∷ b ∷ d ∷ e ∷ []) = no3 (fits_word c places.Register a) (fits_word c places.Small b) (fits_word c places.Small d)
 new_fits c (a ∷ b ∷ d ∷ e ∷ g ∷ rest) = no3 (fits_word c places.Register a) (fits_word c places.Small b) (fits_word c places.Small d)
 
 pub newweak_fits : (c : Config) → (args : List (List ℕ))
-    → is_some (allowed_of c (codes "newweak" ∷ args)) ≡ all_fit c (places.Register ∷ places.Small ∷ places.Weaks ∷ places.Small ∷ places.End ∷ []) args
+    → is_some (allowed_of c (codes "newweak" ∷ args)) ≡ all_fit c (places.Register ∷ places.Small ∷ places.Weaks ∷ places.Small ∷ places.End
+    ∷ []) args
 unfolding allowed_of action_of longest_action_of long_action_of pair_action_of lone_action_of new_weak_of
 newweak_fits c [] = refl
 newweak_fits c (a ∷ []) = no1 (fits_word c places.Register a)
 newweak_fits c (a ∷ b ∷ []) = no2 (fits_word c places.Register a) (fits_word c places.Small b)
 newweak_fits c (a ∷ b ∷ d ∷ []) = no3 (fits_word c places.Register a) (fits_word c places.Small b) (fits_word c places.Weaks d)
-newweak_fits c (a ∷ b ∷ d ∷ e ∷ []) = four (registers c) (some) (some) (some) (λ r p w d. actions.NewWeak r (record { pointers = p; values = d }) w) c refl refl refl refl (λ r p w d. refl) (register_of a) (number_of small b) (number_of most_weaks d) (number_of small e)
-newweak_fits c (a ∷ b ∷ d ∷ e ∷ g ∷ rest) = no4 (fits_word c places.Register a) (fits_word c places.Small b) (fits_word c places.Weaks d) (fits_word c places.Small e)
+newweak_fits c (a ∷ b ∷ d ∷ e ∷ []) = four (registers c) (some) (some) (some) (λ r p w d. actions.NewWeak r (record {
+  pointers = p;
+  values =
+      d;
+}) w) c refl refl refl refl (λ r p w d. refl) (register_of a) (number_of small b) (number_of most_weaks d) (number_of small e)
+newweak_fits c (a ∷ b ∷ d ∷ e ∷ g ∷ rest) = no4 (fits_word c places.Register a) (fits_word c places.Small b) (fits_word c places.Weaks d)
+    (fits_word c places.Small e)
 
 pub get_fits : (c : Config) → (args : List (List ℕ))
     → is_some (allowed_of c (codes "get" ∷ args)) ≡ all_fit c (places.Register ∷ places.Register ∷ places.Small ∷ places.End ∷ []) args
@@ -145,7 +153,8 @@ unfolding allowed_of action_of longest_action_of long_action_of pair_action_of l
 get_fits c [] = refl
 get_fits c (a ∷ []) = no1 (fits_word c places.Register a)
 get_fits c (a ∷ b ∷ []) = no2 (fits_word c places.Register a) (fits_word c places.Register b)
-get_fits c (a ∷ b ∷ d ∷ []) = three (registers c) (registers c) (some) (λ r s i. actions.Get r s i) c refl refl refl (λ r s i. assoc (nat_lt r.number (registers_of c)) (nat_lt s.number (registers_of c)) true) (register_of a) (register_of b) (number_of small d)
+get_fits c (a ∷ b ∷ d ∷ []) = three (registers c) (registers c) (some) (λ r s i. actions.Get r s i) c refl refl refl (λ r s i. assoc (nat_lt
+    r.number (registers_of c)) (nat_lt s.number (registers_of c)) true) (register_of a) (register_of b) (number_of small d)
 get_fits c (a ∷ b ∷ d ∷ e ∷ []) = no3 (fits_word c places.Register a) (fits_word c places.Register b) (fits_word c places.Small d)
 get_fits c (a ∷ b ∷ d ∷ e ∷ g ∷ rest) = no3 (fits_word c places.Register a) (fits_word c places.Register b) (fits_word c places.Small d)
 
@@ -155,7 +164,8 @@ unfolding allowed_of action_of longest_action_of long_action_of pair_action_of l
 getweak_fits c [] = refl
 getweak_fits c (a ∷ []) = no1 (fits_word c places.Register a)
 getweak_fits c (a ∷ b ∷ []) = no2 (fits_word c places.Register a) (fits_word c places.Register b)
-getweak_fits c (a ∷ b ∷ d ∷ []) = three (registers c) (registers c) (some) (λ r s i. actions.GetWeak r s i) c refl refl refl (λ r s i. assoc (nat_lt r.number (registers_of c)) (nat_lt s.number (registers_of c)) true) (register_of a) (register_of b) (number_of small d)
+getweak_fits c (a ∷ b ∷ d ∷ []) = three (registers c) (registers c) (some) (λ r s i. actions.GetWeak r s i) c refl refl refl (λ r s i. assoc
+    (nat_lt r.number (registers_of c)) (nat_lt s.number (registers_of c)) true) (register_of a) (register_of b) (number_of small d)
 getweak_fits c (a ∷ b ∷ d ∷ e ∷ []) = no3 (fits_word c places.Register a) (fits_word c places.Register b) (fits_word c places.Small d)
 getweak_fits c (a ∷ b ∷ d ∷ e ∷ g ∷ rest) = no3 (fits_word c places.Register a) (fits_word c places.Register b) (fits_word c places.Small d)
 
@@ -165,7 +175,8 @@ unfolding allowed_of action_of longest_action_of long_action_of pair_action_of l
 put_fits c [] = refl
 put_fits c (a ∷ []) = no1 (fits_word c places.Register a)
 put_fits c (a ∷ b ∷ []) = no2 (fits_word c places.Register a) (fits_word c places.Small b)
-put_fits c (a ∷ b ∷ d ∷ []) = three (registers c) (some) (values c) (λ r i v. actions.Put r i v) c refl refl refl (λ r i v. assoc (nat_lt r.number (registers_of c)) (has_value_in c v) true) (register_of a) (number_of small b) (value_of d)
+put_fits c (a ∷ b ∷ d ∷ []) = three (registers c) (some) (values c) (λ r i v. actions.Put r i v) c refl refl refl (λ r i v. assoc (nat_lt
+    r.number (registers_of c)) (has_value_in c v) true) (register_of a) (number_of small b) (value_of d)
     ∙ ap (λ (t : Bool). fits_word c places.Register a && (fits_word c places.Small b && (t && true))) (value_fits c d)
 put_fits c (a ∷ b ∷ d ∷ e ∷ []) = no3 (fits_word c places.Register a) (fits_word c places.Small b) (fits_word c places.Value d)
 put_fits c (a ∷ b ∷ d ∷ e ∷ g ∷ rest) = no3 (fits_word c places.Register a) (fits_word c places.Small b) (fits_word c places.Value d)
@@ -176,7 +187,8 @@ unfolding allowed_of action_of longest_action_of long_action_of pair_action_of l
 putweak_fits c [] = refl
 putweak_fits c (a ∷ []) = no1 (fits_word c places.Register a)
 putweak_fits c (a ∷ b ∷ []) = no2 (fits_word c places.Register a) (fits_word c places.Small b)
-putweak_fits c (a ∷ b ∷ d ∷ []) = three (registers c) (some) (values c) (λ r i v. actions.PutWeak r i v) c refl refl refl (λ r i v. assoc (nat_lt r.number (registers_of c)) (has_value_in c v) true) (register_of a) (number_of small b) (value_of d)
+putweak_fits c (a ∷ b ∷ d ∷ []) = three (registers c) (some) (values c) (λ r i v. actions.PutWeak r i v) c refl refl refl (λ r i v. assoc
+    (nat_lt r.number (registers_of c)) (has_value_in c v) true) (register_of a) (number_of small b) (value_of d)
     ∙ ap (λ (t : Bool). fits_word c places.Register a && (fits_word c places.Small b && (t && true))) (value_fits c d)
 putweak_fits c (a ∷ b ∷ d ∷ e ∷ []) = no3 (fits_word c places.Register a) (fits_word c places.Small b) (fits_word c places.Value d)
 putweak_fits c (a ∷ b ∷ d ∷ e ∷ g ∷ rest) = no3 (fits_word c places.Register a) (fits_word c places.Small b) (fits_word c places.Value d)
@@ -197,7 +209,8 @@ unfolding allowed_of action_of longest_action_of long_action_of pair_action_of l
 write_fits c [] = refl
 write_fits c (a ∷ []) = no1 (fits_word c places.Register a)
 write_fits c (a ∷ b ∷ []) = no2 (fits_word c places.Register a) (fits_word c places.Small b)
-write_fits c (a ∷ b ∷ d ∷ []) = three (registers c) (some) (some) (λ r j v. actions.Write r j v) c refl refl refl (λ r j v. refl) (register_of a) (number_of small b) (number_of large d)
+write_fits c (a ∷ b ∷ d ∷ []) = three (registers c) (some) (some) (λ r j v. actions.Write r j v) c refl refl refl (λ r j v. refl)
+    (register_of a) (number_of small b) (number_of large d)
 write_fits c (a ∷ b ∷ d ∷ e ∷ []) = no3 (fits_word c places.Register a) (fits_word c places.Small b) (fits_word c places.Large d)
 write_fits c (a ∷ b ∷ d ∷ e ∷ g ∷ rest) = no3 (fits_word c places.Register a) (fits_word c places.Small b) (fits_word c places.Large d)
 
@@ -206,7 +219,8 @@ pub move_fits : (c : Config) → (args : List (List ℕ))
 unfolding allowed_of action_of longest_action_of long_action_of pair_action_of lone_action_of move_of
 move_fits c [] = refl
 move_fits c (a ∷ []) = no1 (fits_word c places.Register a)
-move_fits c (a ∷ b ∷ []) = two (registers c) (registers c) (λ r s. actions.Move r s) c refl refl (λ r s. assoc (nat_lt r.number (registers_of c)) (nat_lt s.number (registers_of c)) true) (register_of a) (register_of b)
+move_fits c (a ∷ b ∷ []) = two (registers c) (registers c) (λ r s. actions.Move r s) c refl refl (λ r s. assoc (nat_lt r.number
+    (registers_of c)) (nat_lt s.number (registers_of c)) true) (register_of a) (register_of b)
 move_fits c (a ∷ b ∷ d ∷ []) = no2 (fits_word c places.Register a) (fits_word c places.Register b)
 move_fits c (a ∷ b ∷ d ∷ e ∷ []) = no2 (fits_word c places.Register a) (fits_word c places.Register b)
 move_fits c (a ∷ b ∷ d ∷ e ∷ g ∷ rest) = no2 (fits_word c places.Register a) (fits_word c places.Register b)
@@ -216,7 +230,8 @@ pub load_fits : (c : Config) → (args : List (List ℕ))
 unfolding allowed_of action_of longest_action_of long_action_of pair_action_of lone_action_of load_of
 load_fits c [] = refl
 load_fits c (a ∷ []) = no1 (fits_word c places.Register a)
-load_fits c (a ∷ b ∷ []) = two (registers c) (globals c) (λ r g. actions.Load r g) c refl refl (λ r g. assoc (nat_lt r.number (registers_of c)) (nat_lt g.number (globals_of c)) true) (register_of a) (global_of b)
+load_fits c (a ∷ b ∷ []) = two (registers c) (globals c) (λ r g. actions.Load r g) c refl refl (λ r g. assoc (nat_lt r.number (registers_of
+    c)) (nat_lt g.number (globals_of c)) true) (register_of a) (global_of b)
 load_fits c (a ∷ b ∷ d ∷ []) = no2 (fits_word c places.Register a) (fits_word c places.Global b)
 load_fits c (a ∷ b ∷ d ∷ e ∷ []) = no2 (fits_word c places.Register a) (fits_word c places.Global b)
 load_fits c (a ∷ b ∷ d ∷ e ∷ g ∷ rest) = no2 (fits_word c places.Register a) (fits_word c places.Global b)
@@ -226,7 +241,8 @@ pub save_fits : (c : Config) → (args : List (List ℕ))
 unfolding allowed_of action_of longest_action_of long_action_of pair_action_of lone_action_of save_of
 save_fits c [] = refl
 save_fits c (a ∷ []) = no1 (fits_word c places.Global a)
-save_fits c (a ∷ b ∷ []) = two (globals c) (registers c) (λ g r. actions.Save g r) c refl refl (λ g r. assoc (nat_lt g.number (globals_of c)) (nat_lt r.number (registers_of c)) true) (global_of a) (register_of b)
+save_fits c (a ∷ b ∷ []) = two (globals c) (registers c) (λ g r. actions.Save g r) c refl refl (λ g r. assoc (nat_lt g.number (globals_of
+    c)) (nat_lt r.number (registers_of c)) true) (global_of a) (register_of b)
 save_fits c (a ∷ b ∷ d ∷ []) = no2 (fits_word c places.Global a) (fits_word c places.Register b)
 save_fits c (a ∷ b ∷ d ∷ e ∷ []) = no2 (fits_word c places.Global a) (fits_word c places.Register b)
 save_fits c (a ∷ b ∷ d ∷ e ∷ g ∷ rest) = no2 (fits_word c places.Global a) (fits_word c places.Register b)
@@ -265,7 +281,8 @@ pub scope_fits : (c : Config) → has_frames c.format ≡ true → (args : List 
     → is_some (allowed_of c (codes "scope" ∷ args)) ≡ all_fit c (places.Register ∷ places.End ∷ []) args
 unfolding allowed_of action_of longest_action_of long_action_of pair_action_of lone_action_of scope_of
 scope_fits c frames [] = refl
-scope_fits c frames (a ∷ []) = one (registers c) (λ r. actions.Scope r) c refl (λ r. ap (λ t. nat_lt r.number (registers_of c) && t) frames) (register_of a)
+scope_fits c frames (a ∷ []) = one (registers c) (λ r. actions.Scope r) c refl (λ r. ap (λ t. nat_lt r.number (registers_of c) && t) frames)
+    (register_of a)
 scope_fits c frames (a ∷ b ∷ []) = no1 (fits_word c places.Register a)
 scope_fits c frames (a ∷ b ∷ d ∷ []) = no1 (fits_word c places.Register a)
 scope_fits c frames (a ∷ b ∷ d ∷ e ∷ []) = no1 (fits_word c places.Register a)
@@ -405,7 +422,23 @@ no_form : (frames : Bool) (verb : List ℕ)
     → bytes_eq verb (codes "scope") ≡ false
     → action_form frames verb ≡ None
 unfolding action_form
-no_form frames verb e1 e2 e3 e4 e5 e6 e7 e8 e9 e10 e11 e12 e13 e14 e15 = rw (e1, e2, e3, e4, e5, e6, e7, e8, e9, e10, e11, e12, e13, e14, e15) refl
+no_form frames verb e1 e2 e3 e4 e5 e6 e7 e8 e9 e10 e11 e12 e13 e14 e15 = rw (
+  e1,
+  e2,
+  e3,
+  e4,
+  e5,
+  e6,
+  e7,
+  e8,
+  e9,
+  e10,
+  e11,
+  e12,
+  e13,
+  e14,
+  e15,
+) refl
 
 after_15 : (c : Config) (verb : List ℕ) (args : List (List ℕ))
     → bytes_eq verb (codes "new") ≡ false

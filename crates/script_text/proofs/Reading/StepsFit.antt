@@ -96,7 +96,8 @@ after_6 : (c : Config) (verb : List ℕ) (args : List (List ℕ))
     → CollectsBy c verb args
 after_6 c verb args e1 e2 e3 e4 e5 e6 =
     none_of c verb args e1 e2 e3 e4 e5 e6
-    ∙ sym (ap (λ (form : Option (List Place)). is_some form && all_fit c (behind_verb form (places.End ∷ [])) args) (no_form verb e1 e2 e3 e4 e5 e6))
+    ∙ sym (ap (λ (form : Option (List Place)). is_some form && all_fit c (behind_verb form (places.End ∷ [])) args) (no_form verb e1 e2 e3
+    e4 e5 e6))
 
 after_5_of : (c : Config) (verb : List ℕ) (args : List (List ℕ))
     → bytes_eq verb (codes "begin") ≡ false
@@ -177,7 +178,8 @@ step_fits c (actor ∷ rest) = go (bytes_eq actor (codes "gc")) (mutator_of c ac
         → is_some (when_read (if gc then (or_fault (collection_of rest) kinds.BadStep >>= λ k. Ok (steps.Collector k))
         else (m >>= λ m. or_fault (allowed_of c rest) kinds.BadStep >>= λ a. Ok (steps.Mutator (record { mutator = m; action = a })))))
         ≡ is_some (if gc then Some actors.Collector else option_map actors.Mutator (when_read m))
-        && all_fit c (verb_places c (if gc then Some actors.Collector else option_map actors.Mutator (when_read m)) rest (places.End ∷ [])) rest
+        && all_fit c (verb_places c (if gc then Some actors.Collector else option_map actors.Mutator (when_read m)) rest (places.End ∷ []))
+        rest
     go true m [] = refl
     go true m (verb ∷ args) = read_part (collection_of (verb ∷ args)) steps.Collector kinds.BadStep ∙ after_0_of c verb args
     go false (Ok m) [] = refl
@@ -186,7 +188,8 @@ step_fits c (actor ∷ rest) = go (bytes_eq actor (codes "gc")) (mutator_of c ac
     go false (Err k) rest = refl
 
 -- all words fit where none is the first that doesn't
-fit_where_none : (c : Config) (n : ℕ) (ps : List Place) (words : List (List ℕ)) → first_misfit c n ps words ≡ None → all_fit c ps words ≡ true
+fit_where_none : (c : Config) (n : ℕ) (ps : List Place) (words : List (List ℕ)) → first_misfit c n ps words ≡ None
+    → all_fit c ps words ≡ true
 fit_where_none c n [] words e = refl
 fit_where_none c n (p ∷ ps) words e = go (fits c p words) refl (fit_where_none c (n + 1) ps (drop 1 words))
   where
@@ -199,7 +202,8 @@ fit_where_none c n (p ∷ ps) words e = go (fits c p words) refl (fit_where_none
         let bad : Some (record { word = n; place = p }) ≡ None = rw is at e in
         cc
 
-none_where_fit : (c : Config) (n : ℕ) (ps : List Place) (words : List (List ℕ)) → all_fit c ps words ≡ true → first_misfit c n ps words ≡ None
+none_where_fit : (c : Config) (n : ℕ) (ps : List Place) (words : List (List ℕ)) → all_fit c ps words ≡ true
+    → first_misfit c n ps words ≡ None
 none_where_fit c n [] words e = refl
 none_where_fit c n (p ∷ ps) words e = go (fits c p words) refl (none_where_fit c (n + 1) ps (drop 1 words))
   where

@@ -9,6 +9,7 @@ returns g c =
     record {
       told = put.0;
       reason = put.1;
-      written = subst (λ (t : List ℕ). Takes c.args.writer.now c.write_bytes.new.writer t ⊎ TakesPart c.args.writer.now c.write_bytes.new.writer t)
+      written = subst (λ (t : List ℕ). Takes c.args.writer.now c.write_bytes.new.writer t ⊎ TakesPart c.args.writer.now
+          c.write_bytes.new.writer t)
           put.2 (one_way c.write_bytes.result c.write_bytes.ensures.ok c.write_bytes.ensures.err);
     }
