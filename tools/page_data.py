@@ -213,8 +213,16 @@ def exact():
     ])
 
 
+def dangling():
+    """A dead object whose fields lead to no object, and then one of them to another one that has its place."""
+    return "\n".join([
+        "heap 8 16 8 1 0", "0 new r0 1 1", "0 newweak r1 1 1 0", "0 new r2 0 10", "0 new r3 0 11", "0 put r1 0 r2", "0 putweak r1 0 r3",
+        "0 drop r1", "0 drop r2", "0 drop r3", "gc begin", "gc remark", "gc cleanup", "0 new r2 0 9", "0 read r0 0", "",
+    ])
+
+
 def broad():
-    """Long queues and logs, full remembered sets, many roots, objects of many fields of each kind, fields that lead to no object."""
+    """Long queues and logs, full remembered sets, many roots, objects of many fields of each kind."""
     lines = ["heap3 24 128 16 2 5 16 70 40", "0 new r0 0 1", "0 new r1 600 3", "1 new r39 16 16", "1 new r38 17 17", "1 newweak r37 15 18 20"]
     lines += [f"0 save g{number} r{number % 2}" for number in range(70)] + ["0 new r2 120 0", "0 new r3 120 0"]
     lines += [f"0 put r1 {place} r0" for place in range(0, 600, 9)] + ["0 put r2 5 r1", "0 put r3 9 r2", "1 putweak r37 17 r39", "1 put r38 16 r39"]
