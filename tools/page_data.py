@@ -167,7 +167,7 @@ def check_moment(count, name, moment, plain, last, tells_tiles):
     """The heap's lines, and each region's, as it was told last."""
     where = f"{name}, after event {moment.event}"
     wanted = told_heap(plain)
-    count.note(f"{where}: the heap", moment.lines == wanted, [it for it in zip(moment.lines, wanted) if it[0] != it[1]] or (moment.lines, wanted))
+    count.note(f"{where}: the heap", moment.lines == wanted, [*zip(moment.lines, wanted)])
     for region, lines in enumerate(plain.regions):
         wanted = told_region(lines, tells_tiles)
         if last.get(region) != wanted:
@@ -207,21 +207,36 @@ def check_page_text(count, name, page, record, lives, sizes, every=1):
 def exact():
     """Names and data words that no number of JavaScript holds exactly: two names that it takes for one, and the largest word."""
     return "\n".join([
-        "heap 4 32 12 1 9007199254740992", "0 new r0 3 3", "0 new r1 1 1", "0 write r0 0 18446744073709551615", "0 write r0 1 9007199254740993",
-        "0 write r1 0 18446744073709551614", "0 put r0 0 r1", "0 put r0 1 r0", "0 put r1 0 r0", "0 newweak r2 1 2 0", "0 putweak r2 1 r1",
-        "0 new r3 20 2", "0 put r3 19 r1", "gc begin", "gc mark 1", "0 write r3 1 12345678901234567890", "gc remark", "gc pause 32", "",
+        "heap 4 32 12 1 9007199254740992", "0 new r0 3 3", "0 new r1 1 1", "0 write r0 0 18446744073709551615",
+        "0 write r0 1 9007199254740993", "0 write r1 0 18446744073709551614", "0 put r0 0 r1", "0 put r0 1 r0", "0 put r1 0 r0",
+        "0 newweak r2 1 2 0", "0 putweak r2 1 r1", "0 new r3 20 2", "0 put r3 19 r1", "gc begin", "gc mark 1",
+        "0 write r3 1 12345678901234567890", "gc remark", "gc pause 32", "",
+    ])
+
+
+def dangling():
+    """A dead object whose fields lead to no object, and then one of them to another one that has its place."""
+    return "\n".join([
+        "heap 8 16 8 1 0", "0 new r0 1 1", "0 newweak r1 1 1 0", "0 new r2 0 10", "0 new r3 0 11", "0 put r1 0 r2", "0 putweak r1 0 r3",
+        "0 drop r1", "0 drop r2", "0 drop r3", "gc begin", "gc remark", "gc cleanup", "0 new r2 0 9", "0 read r0 0", "",
     ])
 
 
 def broad():
-    """Long queues and logs, full remembered sets, many roots, objects of many fields of each kind, fields that lead to no object."""
-    lines = ["heap3 24 128 16 2 5 16 70 40", "0 new r0 0 1", "0 new r1 600 3", "1 new r39 16 16", "1 new r38 17 17", "1 newweak r37 15 18 20"]
-    lines += [f"0 save g{number} r{number % 2}" for number in range(70)] + ["0 new r2 120 0", "0 new r3 120 0"]
-    lines += [f"0 put r1 {place} r0" for place in range(0, 600, 9)] + ["0 put r2 5 r1", "0 put r3 9 r2", "1 putweak r37 17 r39", "1 put r38 16 r39"]
+    """Long queues and logs, full remembered sets, many roots, objects of many fields of each kind."""
+    lines = ["heap3 24 128 16 2 5 16 70 40", "0 new r0 0 1", "0 new r1 600 3", "1 new r39 16 16", "1 new r38 17 17"]
+    lines += ["1 newweak r37 15 18 20"] + [f"0 save g{number} r{number % 2}" for number in range(70)]
+    lines += ["0 new r2 120 0", "0 new r3 120 0"] + [f"0 put r1 {place} r0" for place in range(0, 600, 9)]
+    lines += ["0 put r2 5 r1", "0 put r3 9 r2", "1 putweak r37 17 r39", "1 put r38 16 r39"]
     lines += [f"0 put r2 {place} r0" for place in range(1, 120, 15)] + ["gc refine 30", "0 new r4 2 1", "0 new r5 1 0", "0 put r4 0 r5"]
     lines += ["gc begin", "gc mark 2", "1 put r38 16 nil", "0 new r6 1 1", "gc mark 1", "gc remark", "0 drop r4", "0 drop r5", "gc begin"]
     lines += ["gc mark 1", "gc remark", "gc cleanup", "gc pause 100", "gc pause 200", "gc refine 5", "1 scope r30", "gc pause 0", ""]
     return "\n".join(lines)
+
+
+def special():
+    """Scripts that are short enough to be tried whole, by name."""
+    return {"exact numbers": exact(), "fields that lead nowhere": dangling(), "many of each kind": broad()}
 
 
 def long_queue():
@@ -231,7 +246,7 @@ def long_queue():
 
 
 def many_tiles():
-    """Regions of 400 and of 401 tiles: behind 400 objects of 2 words the next, of 302, needs another region."""
+    """Regions of 400 and of 401 tiles: after 400 objects of 2 words the next, of 302, needs another region."""
     lines = ["heap 4 1024 4 1 0"] + ["0 new r0 0 0"] * 400 + ["0 new r0 0 300"] + ["0 new r0 0 0"] * (360 + 400) + ["0 new r0 1 1"]
     return "\n".join([*lines, ""])
 

@@ -1,12 +1,12 @@
-// plain_life: does the lines of a heap script in order on the plain heap, and prints all of the heap after each event, and before the first.
+// plain_life: does the lines of a heap script in order on the plain heap, and prints all of the heap before the first and after each.
 //
 //   g++ -O2 -std=c++17 -o plain_life tools/plain_life.cpp
 //   plain_life FILE [EVENT ..]      after these events alone, where some are named
 //
 // The lines are those that docs/DRAWING.md describes under 'The data', from `m` to `x`, with each region after each event, and with nothing
-// left out: all cards of the queue, all roots, all tiles, all fields. Beside that `d MUTATOR ADDRESS ..` is a deletion log, `t REGION PREVIOUS
-// NEXT` are the tops at mark start of a region in use, by address, and a field that leads to no object is `?` and its address. The script has
-// to be one: nothing is tested. It is what tools/check_page and tools/check_views compare with.
+// left out: all cards of the queue, all roots, all tiles, all fields. Beside that `d MUTATOR ADDRESS ..` is a deletion log, `t REGION
+// PREVIOUS NEXT` are the tops at mark start of a region in use, by address, and a field that leads to no object is `?` and its address. The
+// script has to be one: nothing is tested. It is what tools/check_page and tools/check_views compare with.
 
 #include <cstdio>
 #include <fstream>
@@ -146,8 +146,8 @@ private:
         const Region& region = regions_[number];
         Shares shares{};
         each_tile(number, [&](Address at) { share_of(at, shares) += tile_size(words_[at]); });
-        std::printf("%c %u %u %u %u %u %u %u", region.kind == Kind::First ? 'h' : 'o', region.top - bottom(number), shares.marked, shares.dead,
-                    shares.fresh, shares.filler, live_words(number), region.previous_start - bottom(number));
+        std::printf("%c %u %u %u %u %u %u %u", region.kind == Kind::First ? 'h' : 'o', region.top - bottom(number), shares.marked,
+                    shares.dead, shares.fresh, shares.filler, live_words(number), region.previous_start - bottom(number));
         if (marking_) std::printf(" %u %u", region.next_start - bottom(number), grey_count(number));
         std::printf("\n");
     }

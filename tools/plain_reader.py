@@ -224,7 +224,7 @@ def mistake_of(text, line, number, kind, sizes):
     if kind == "BadHeap":
         if words[0] not in HEAP_WORDS and words[0].startswith(b"heap") and is_number(words[0][4:], LARGE):
             return "this program reads heap, heap2 and heap3: the text may be of a newer format\n"
-        return ("a heap line is heap REGIONS WORDS BUFFER MUTATORS FIRST, or heap2 and CARD behind these, or heap3 and CARD GLOBALS "
+        return ("a heap line is heap REGIONS WORDS BUFFER MUTATORS FIRST, or heap2 and CARD after these, or heap3 and CARD GLOBALS "
                 "REGISTERS\n")
     if is_script_line(line, sizes):
         return "it is a script's line: run makes its record, and view and draw take a script without --record\n"

@@ -48,7 +48,7 @@ fn told(mistake: Mistake) -> &'static [u8]
             b"this program reads heap, heap2 and heap3: the text may be of a newer format\n"
         }
         Mistake::HeapLine => {
-            b"a heap line is heap REGIONS WORDS BUFFER MUTATORS FIRST, or heap2 and CARD behind these, or heap3 and CARD GLOBALS REGISTERS\n"
+            b"a heap line is heap REGIONS WORDS BUFFER MUTATORS FIRST, or heap2 and CARD after these, or heap3 and CARD GLOBALS REGISTERS\n"
         }
         Mistake::RecordLine => {
             b"it is a record's line: check judges a record, and view and draw show its heap by --record\n"
