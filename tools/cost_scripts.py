@@ -193,6 +193,14 @@ def long_pause(count):
     return lines + ["gc pause 4294967295"] * count
 
 
+def copied_list(size, times):
+    """Pauses that copy a list of objects of so many words, nearly a region of them, and nothing else."""
+    lines = [heap(8, 1, 8)]
+    for _ in range(WORDS // size - 1):
+        lines += [f"0 new r1 {shape(size, 1)}", "0 put r1 0 r0", "0 move r0 r1"]
+    return lines + ["0 drop r1"] + [f"gc pause {WORDS}"] * times
+
+
 def covered_cards(count):
     lines = [heap(64)]
     # The region that is chosen holds seven objects of 8 words; what stands beside them in it at first isn't reached.
