@@ -1,10 +1,16 @@
 """The limits that documents state, as the sources have them, for tools/check_quotes."""
 import re
+import sys
 
 CONSTANT = re.compile(r"^(?:pub(?:\(crate\))? )?(?:const )?(\w+)(?: V1)?(?:: \w+)? = (2 \^ \d+|1 << \d+|[\d_]+);?$", re.M)
 CONFIGS = "heap_words/specs/Configs.antt"
-FILES = (CONFIGS, "script_text/src/read/script.rt", "heap_life/src/life.rt", "heap_life/src/page.rt", "heap_life/src/tile_text.rt",
-         "heap_life/src/moment_text.rt")
+# The files that have limits: the sizes of a heap, a script's lines, and what is told of a heap's life.
+FILES = re.compile(r"heap_words/specs/Configs\.antt|script_text/src/read/script\.rt|heap_life/src/\w+\.rt")
+
+
+class Constants(dict):
+    def __missing__(self, name):
+        sys.exit(f"stated_limits.py: no constant {name} is in the sources")
 
 
 def value(text):
@@ -15,7 +21,7 @@ def value(text):
 def of(sources):
     """Takes sources by their paths below crates/. Returns the numbers that may be said to be the most of something, by its unit; those of
     the rows of docs/TEXTS.md, by a fault's or an option's name; and those of the comments on sizes in include/g1heap.h."""
-    most = {name: value(text) for file in FILES for name, text in CONSTANT.findall(sources[file])}
+    most = Constants((name, value(text)) for file in sources if FILES.fullmatch(file) for name, text in CONSTANT.findall(sources[file]))
     region, heap = (most["region_limit"], most["max_region_words"]), (most["heap_limit"], most["max_words"])
     mutators, regions = (most["mutator_limit"], most["max_mutators"]), most["max_regions"]
     one, registers, roots = (most[f"max_{name}"] for name in ("globals", "registers", "roots"))
