@@ -1,7 +1,7 @@
 -- A course with one event more.
 use Rattle.std.proofs.Common.{◌≡◌, ◌+◌, ◌%◌, ◌<◌, ◌≤◌, ◌∷◌, ◌++◌, ◌∙◌}
-use Rattle.std.proofs.Common.{ℕ, zero, suc, Bool, true, false, Some, List, [], length, take, map, inl, inr, refl, sym, ap, subst, arith}
-use Rattle.std.specs.Prelude.{All, min, slice_get, slice_index_or, ◌||◌, ◌&&◌, ◌==◌, ◌⊎◌}
+use Rattle.std.proofs.Common.{ℕ, suc, Bool, true, false, Some, List, [], length, take, map, inl, inr, refl, sym, ap, subst, arith}
+use Rattle.std.specs.Prelude.{All, min, slice_get, ◌||◌, ◌&&◌, ◌==◌, ◌⊎◌}
 use Rattle.std.proofs.lemmas.List.Elements.{All-append, All-cons, All-tail, All-nil}
 use Rattle.std.proofs.lemmas.List.{take_all, length-map}
 use Rattle.heap_words.specs.declared.config.Config.{Config}
@@ -10,7 +10,6 @@ use Rattle.object_graph.specs.State.{State}
 use Rattle.step_core.specs.Stands.{CoreState, Stands}
 use Rattle.step_core.specs.Histories.{Runs, step_in, actor_in}
 use Rattle.heap_life.specs.Paces.{counts, counted, one_if, IsShown, IsDue}
-use Rattle.heap_life.specs.Numbers.{IsNumbersOf}
 use Rattle.heap_life.specs.Lives.{moved_by, moved_in, IsMomentFrom, HasMoment, NotesIf, NotesTold, ToldBy, IsToldOf, AreRising, IsLived}
 use Rattle.heap_life.specs.Tolds.{Told}
 use Rattle.heap_life.specs.Tellers.{HasTold}

@@ -1,6 +1,6 @@
 -- The roots that aren't nil, one after another; the current region; an object's text.
 use Rattle.std.proofs.Common.{◌≡◌, ◌∙◌, ◌+◌, ◌-◌, ◌<◌, ◌≤◌, ℕ, zero, suc, List, [], ◌∷◌, ◌++◌, Option, Some, None, length, take, drop}
-use Rattle.std.proofs.Common.{ap, sym, subst, refl, arith, inl, inr, drop-cons, add-one, add-zero}
+use Rattle.std.proofs.Common.{ap, sym, refl, arith, inl, inr, drop-cons, add-one}
 use Rattle.std.specs.Prelude.{IfSome, IsSome, codes, slice_index_or}
 use Rattle.std.specs.Fmt.{decimal}
 use Rattle.std.specs.List.{flat_map}

@@ -1,6 +1,6 @@
 -- Pieces that are put into a text one after another.
-use Rattle.std.proofs.Common.{◌≡◌, ◌∙◌, ◌+◌, ◌<◌, ◌≤◌, ℕ, zero, suc, Bool, true, false, List, [], ◌∷◌, ◌++◌, Option, Some, None}
-use Rattle.std.proofs.Common.{length, take, refl, sym, ap, subst, append_assoc, arith, add-zero, zero-add, add-one}
+use Rattle.std.proofs.Common.{◌≡◌, ◌∙◌, ◌+◌, ◌≤◌, ℕ, Bool, true, false, List, [], ◌∷◌, ◌++◌, Option, Some, None}
+use Rattle.std.proofs.Common.{length, take, refl, sym, ap, subst, append_assoc, add-one}
 use Rattle.std.specs.Prelude.{Result, Ok, Err, IfOk, slice_get, if◌then◌else◌, min}
 use Rattle.std.specs.List.{flat_map}
 use Rattle.std.proofs.lemmas.List.{append-nil, take_more, take_all, take_min}
@@ -88,3 +88,10 @@ leads_on a b d x rest old whole e h p = λ c q. h c (adds_as b c (x ++ rest) old
 pub leads_all : (a b : Option (List ℕ)) (rest whole : List ℕ) → rest ≡ [] → Leads a b rest whole → Adds a whole b
 unfolding Leads
 leads_all a b rest whole e h = h b (adds_as b b [] rest (sym e) (adds_nothing b))
+
+-- a text that ends with a piece
+pub ends_with : {V E : Type 0} (items : V → List ℕ) (a b d : Option (List ℕ)) (x y : List ℕ) (r : Result V E) → Adds a x b → Adds b y d
+    → IfOk r (λ v. d ≡ Some (items v)) → IfOk r (λ v. (front : List ℕ) × (items v ≡ front ++ y))
+ends_with items a b d x y (Err e) p q told = tt
+ends_with items a b None x y (Ok v) p q told = absurd (cc)
+ends_with items a b (Some z) x y (Ok v) p q told = (q.0, (let same : items v ≡ z = cc in same) ∙ q.2)

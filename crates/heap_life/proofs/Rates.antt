@@ -1,5 +1,5 @@
 -- How large a part is.
-use Rattle.std.proofs.Common.{◌≡◌, ◌<◌, ◌≤◌, ◌+◌, ◌*◌, ◌/◌, ℕ, arith, mul-le-mul_left}
+use Rattle.std.proofs.Common.{◌<◌, ◌≤◌, ◌+◌, ◌*◌, ◌/◌, ℕ, arith, mul-le-mul_left}
 use Rattle.std.proofs.Math.Nat.{div-mul-le_self, lt-mul-div-succ, lt_of_mul-lt-mul_left}
 
 -- a whole in m parts, or few more: they are below twice the least that leaves no more than m

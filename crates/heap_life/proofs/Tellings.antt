@@ -1,6 +1,6 @@
 -- Regions and moments that are told.
 use Rattle.std.proofs.Common.{◌≡◌, ◌∙◌, ◌+◌, ◌<◌, ◌≤◌, ℕ, Bool, true, false, List, [], ◌∷◌, ◌++◌, Option, Some, None}
-use Rattle.std.proofs.Common.{length, set, refl, sym, ap, subst, arith, inl, inr, append_assoc}
+use Rattle.std.proofs.Common.{length, set, refl, sym, ap, subst, arith, inl, inr}
 use Rattle.std.specs.Prelude.{All, slice_get, ◌&&◌, nat_le, if◌then◌else◌}
 use Rattle.std.specs.Str.{bytes_eq}
 use Rattle.std.specs.Prelude.{◌⊎◌}
@@ -14,7 +14,7 @@ use Rattle.step_core.specs.Stands.{CoreState}
 use Rattle.heap_life.specs.Telling.{text_below}
 use Rattle.heap_life.specs.Tolds.{Told, AreLast, TellsRegion, TellsRegions, end_text, news_of, told_of, with_moment}
 use Rattle.heap_life.specs.declared.life.Moment.{Moment}
-use Rattle.heap_life.proofs.Putting.{adds_as, adds_below, adds_nothing, then_adds}
+use Rattle.heap_life.proofs.Putting.{adds_as, adds_below, adds_nothing}
 
 -- ---- one region
 

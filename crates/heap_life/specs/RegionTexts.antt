@@ -1,6 +1,5 @@
 -- What is told of a region.
-use Rattle.std.specs.Prelude.{◌+◌, ◌-◌, ◌*◌, ◌==◌, ◌&&◌, ℕ, min, Bool, true, false, not, if◌then◌else◌, List, [], ◌∷◌, ◌++◌, Option, Some}
-use Rattle.std.specs.Prelude.{None}
+use Rattle.std.specs.Prelude.{◌+◌, ◌-◌, ◌*◌, ◌==◌, ◌&&◌, ℕ, min, Bool, false, not, if◌then◌else◌, List, [], ◌∷◌, ◌++◌, Option, Some, None}
 use Rattle.std.specs.Prelude.{length, take, codes, flat_map, slice_index, slice_index_or, nat_lt, nat_le}
 use Rattle.std.specs.Fmt.{decimal}
 use Rattle.heap_words.specs.declared.addr.Addr.{Addr}
@@ -95,8 +94,7 @@ abbrev pub values_text : List ℕ → List ℕ
 values_text xs = flat_map spaced_number (take (min (length xs) 16) xs) ++ more_text (length xs)
 
 abbrev pub fields_text : Table → ℕ → List ℕ
-fields_text t a = pointers_text t (pointers_at t a) ++ codes " ;" ++ pointers_text t (weaks_at t a) ++ codes " ;"
-    ++ values_text (values_at t a)
+fields_text t a = pointers_text t (pointers_at t a) ++ codes " ;" ++ pointers_text t (weaks_at t a) ++ codes " ;" ++ values_text (values_at t a)
 
 abbrev pub letter_text : Part → List ℕ
 letter_text parts.Marked = codes "m"

@@ -1,7 +1,6 @@
 -- What is told of a heap at a moment, beside its regions.
-use Rattle.std.specs.Prelude.{◌+◌, ◌-◌, ◌*◌, ◌==◌, ℕ, zero, suc, min, Bool, if◌then◌else◌, List, [], ◌∷◌, ◌++◌, Option, Some, None}
+use Rattle.std.specs.Prelude.{◌==◌, ℕ, zero, suc, min, if◌then◌else◌, List, [], ◌∷◌, ◌++◌, Option, Some, None}
 use Rattle.std.specs.Prelude.{length, take, codes, flat_map, slice_get, slice_index_or}
-use Rattle.std.specs.Fmt.{decimal}
 use Rattle.script_text.specs.Texts.{spaced_number}
 use Rattle.alloc_buffers.specs.declared.buffers.Buffer.{Buffer}
 use Rattle.step_core.specs.Stands.{CoreState}

@@ -2,14 +2,17 @@
 
 ghost use Rattle.std.specs.Prelude.{◌≡◌, ◌≤◌, ◌++◌, ℕ, List, IfOk, length};
 ghost use Rattle.script_text.specs.Records.{record_text};
-ghost use Rattle.heap_life.specs.Pages.{IsPageOf};
+ghost use Rattle.script_text.specs.Texts.{Adds};
+ghost use Rattle.heap_life.specs.Pages.{IsPageOf, facts_text, pace_text, sizes_text};
 
 use crate::life::{Life, Moment};
+use crate::pace::Pace;
 use crate::page_parts::{
     BEFORE, BEHIND, BETWEEN, END, SCRIPT_CURVES, SCRIPT_LANES, SCRIPT_LIFE, SCRIPT_OVER,
     SCRIPT_PAGE, SCRIPT_PANELS,
 };
 use heap_steps::Record;
+use heap_words::config::Config;
 use script_text::{Text, WatchedWriter, write_record};
 use std::alloc::{AllocError, Global};
 
@@ -71,26 +74,44 @@ fn lines_of(alloc: Global, life: &Life) -> Result<Vec<u8>, AllocError>
     near_lines(alloc, text.as_slice(), life.moments.as_slice())
 }
 
-/// Adds what the page says of itself first: the words of a card, the roots, the pace, how many events there are.
-fn put_facts(text: &mut Text, life: &Life) {
-    let config = life.history.config();
-    let pace = life.pace;
+/// Adds the words of a card, and how many roots there are.
+fn put_sizes(text: &mut Text, config: &Config)
+    ensures { Adds text.old (sizes_text config.now) text.new }
+{
     text.put("card");
     text.put_number(u64::from(config.card_words()));
     text.put("\nroots");
     text.put_number(u64::from(config.globals()));
     text.put_number(u64::from(config.registers()));
+}
+
+/// Adds the pace, and how many events there are.
+fn put_pace(text: &mut Text, pace: &Pace, events: u64)
+    ensures { Adds text.old (pace_text pace.now events) text.new }
+{
     text.put("\npace");
     text.put_number(pace.every);
     text.put_number(pace.stride);
-    text.put_number(u64::from(pace.small));
+    text.put_number(if pace.small { 1 } else { 0 });
     text.put("\nevents");
-    text.put_number(life.history.events().len() as u64);
+    text.put_number(events);
     text.put("\n");
 }
 
+/// Adds what the page says of itself first: the words of a card, the roots, the pace, how many events there are.
+fn put_facts(text: &mut Text, life: &Life)
+    ensures { Adds text.old (facts_text life.now) text.new }
+{
+    let config = life.history.config();
+    let events = life.history.events();
+    put_sizes(text, &config);
+    put_pace(text, &life.pace, events.len() as u64);
+}
+
 /// What stands between the record's lines and the moments'.
-fn text_between(alloc: Global, life: &Life) -> Result<Vec<u8>, AllocError> {
+fn text_between(alloc: Global, life: &Life) -> Result<Vec<u8>, AllocError>
+    ensures { IfOk result (λ text. (front : List ℕ) × (text.items ≡ front ++ facts_text life.now)) }
+{
     let mut text = Text::new(alloc);
     text.put(BETWEEN);
     put_facts(&mut text, life);

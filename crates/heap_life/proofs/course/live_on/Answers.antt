@@ -1,4 +1,4 @@
-use Rattle.std.proofs.Common.{◌∙◌, rules, refl, sym, subst, arith, ap}
+use Rattle.std.proofs.Common.{◌∙◌, rules, refl, sym, subst, arith}
 use Rattle.heap_words.specs.declared.config.Config.{Config}
 use Rattle.heap_steps.specs.Actors.{IsStep, IsStepOf}
 use Rattle.heap_life.specs.Tolds.{nothing_told}

@@ -1,6 +1,4 @@
-use Rattle.std.proofs.Common.{◌∙◌, ap, arith, refl, sym}
-use Rattle.std.specs.Prelude.{length}
-use Rattle.regions.specs.Table.{Table}
+use Rattle.std.proofs.Common.{◌∙◌, refl, sym}
 use Rattle.heap_life.proofs.Shown.{noted_told, not_noted}
 use Rattle.heap_life.proofs.course.note_if.Goals as goal
 

@@ -1,4 +1,4 @@
-use Rattle.std.proofs.Common.{◌≡◌, ◌∙◌, ◌<◌, List, Option, ℕ, ap, length, refl, arith, subst}
+use Rattle.std.proofs.Common.{◌∙◌, ◌<◌, ℕ, ap, length, refl, arith, subst}
 use Rattle.std.proofs.lemmas.Option.{slice_get_read}
 use Rattle.regions.specs.Table.{Table}
 use Rattle.heap_life.specs.RegionTexts.{region_text}
