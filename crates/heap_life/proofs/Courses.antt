@@ -23,26 +23,27 @@ use Rattle.heap_life.proofs.Moments.{grown_at, many_more, counted_at, one_most, 
 use Rattle.heap_life.proofs.Moments.{shown_ahead, stops}
 
 -- n events of the list are done from a first core on
-pub record IsCourseOf (most : ℕ) (t : Told) (first : CoreState) (p : Pace) (xs : List Event) (n : ℕ) (c : CoreState) (x : Course) : Type 0 where
-  pub history : (s : State) → Stands s first → Runs s first x.done.events c
-  pub steps : map step_in x.done.events ≡ take n (map step_in xs)
-  pub actors : map actor_in x.done.events ≡ take n (map actor_in xs)
-  pub config : c.config ≡ first.config
-  pub sizes : x.done.config ≡ first.config
-  pub many : length x.done.events ≡ n
-  pub counting : x.counted ≡ counted p (take n xs)
-  pub few : x.counted ≤ n
-  pub copying : x.copied ≡ min (moved_in x.done.events) 18446744073709551615
-  pub each : All (IsMomentFrom first x.done.events) x.moments.items
-  pub due : (k : ℕ) → k < n → IsDue p xs k → HasMoment x.moments.items k
-  pub only : All (λ m. IsDue p xs m.event) x.moments.items
-  pub below : All (λ m. m.event < n) x.moments.items
-  pub rising : AreRising x.moments.items
-  pub start : n ≡ 0 → x.behind ≡ true
-  pub behind : (i : ℕ) → suc i ≡ n → IsShown p xs i → x.behind ≡ true
-  pub told : IsToldOf most t first x.done.events x.moments.items x.teller
-  pub teller : length x.teller.last.items ≡ c.config.regions
-  pub why : x.behind ≡ true → (n ≡ 0) ⊎ ((i : ℕ) × (suc i ≡ n) × IsShown p xs i)
+pub record IsCourseOf (most : ℕ) (t : Told) (first : CoreState) (p : Pace) (xs : List Event) (n : ℕ) (c : CoreState) (x : Course) : Type 0
+  where
+    pub history : (s : State) → Stands s first → Runs s first x.done.events c
+    pub steps : map step_in x.done.events ≡ take n (map step_in xs)
+    pub actors : map actor_in x.done.events ≡ take n (map actor_in xs)
+    pub config : c.config ≡ first.config
+    pub sizes : x.done.config ≡ first.config
+    pub many : length x.done.events ≡ n
+    pub counting : x.counted ≡ counted p (take n xs)
+    pub few : x.counted ≤ n
+    pub copying : x.copied ≡ min (moved_in x.done.events) 18446744073709551615
+    pub each : All (IsMomentFrom first x.done.events) x.moments.items
+    pub due : (k : ℕ) → k < n → IsDue p xs k → HasMoment x.moments.items k
+    pub only : All (λ m. IsDue p xs m.event) x.moments.items
+    pub below : All (λ m. m.event < n) x.moments.items
+    pub rising : AreRising x.moments.items
+    pub start : n ≡ 0 → x.behind ≡ true
+    pub behind : (i : ℕ) → suc i ≡ n → IsShown p xs i → x.behind ≡ true
+    pub told : IsToldOf most t first x.done.events x.moments.items x.teller
+    pub teller : length x.teller.last.items ≡ c.config.regions
+    pub why : x.behind ≡ true → (n ≡ 0) ⊎ ((i : ℕ) × (suc i ≡ n) × IsShown p xs i)
 
 -- ---- why a moment is due
 
@@ -91,7 +92,8 @@ noted_all P false c event copied ms ms' h all here = subst (λ (l : List Moment)
 rising_more : (ms : List Moment) (m : Moment) → AreRising ms → All (λ (k : Moment). k.event < m.event) ms → AreRising (ms ++ m ∷ [])
 rising_more [] m rising below = (All-nil (λ (k : Moment). m.event < k.event), tt)
 rising_more (x ∷ ms) m rising below = (
-  All-append (λ (k : Moment). x.event < k.event) ms (m ∷ []) rising.0 (one_all (λ (k : Moment). x.event < k.event) m (below 0 x (omega arith))),
+  All-append (λ (k : Moment). x.event < k.event) ms (m ∷ []) rising.0 (one_all (λ (k : Moment). x.event < k.event) m (below 0 x (omega
+      arith))),
   rising_more ms m rising.1 (All-tail (λ (k : Moment). k.event < m.event) x ms below),
 )
 
@@ -113,7 +115,8 @@ teller_size false c event copied ms ms' x y h told = ap (λ (z : Teller). length
 -- ---- a course, and one event more
 
 pub passed : (most : ℕ) (t : Told) (first : CoreState) (p : Pace) (xs : List Event) (n : ℕ) (e : Event) (c c' : CoreState) (x y : Course)
-    → IsCourseOf most t first p xs n c x → n < length xs → slice_get xs n ≡ Some e → Passes p e n c c' x y → IsCourseOf most t first p xs (n + 1) c' y
+    → IsCourseOf most t first p xs n c x → n < length xs → slice_get xs n ≡ Some e → Passes p e n c c' x y
+    → IsCourseOf most t first p xs (n + 1) c' y
 passed most t first p xs n e c c' x y inv lt at h =
     let made = h.made in
     let events = h.events in
@@ -122,9 +125,11 @@ passed most t first p xs n e c c' x y inv lt at h =
     let why = why_due p xs n x.behind (shows p e.step x.counted) (n % p.every == 0) inv.why
     (is_shown p xs n x.counted e at inv.counting) (is_equal (n % p.every) 0) in
     record {
-      history = λ s st. subst (λ (es : List Event). Runs s first es c') (sym events) (h.passed.runs first x.done.events s (inv.history s st));
+      history = λ s st. subst (λ (es : List Event). Runs s first es c') (sym events) (h.passed.runs first x.done.events s (inv.history s
+          st));
       steps = ap (λ (es : List Event). map step_in es) events ∙ grown_at step_in x.done.events made xs n e inv.steps lt at h.passed.step;
-      actors = ap (λ (es : List Event). map actor_in es) events ∙ grown_at actor_in x.done.events made xs n e inv.actors lt at h.passed.actor;
+      actors = ap (λ (es : List Event). map actor_in es) events ∙ grown_at actor_in x.done.events made xs n e inv.actors lt at
+          h.passed.actor;
       config = h.passed.config ∙ inv.config;
       sizes = h.sizes ∙ inv.sizes;
       many = ap (λ (es : List Event). length es) events ∙ many_more x.done.events made n inv.many;
@@ -157,7 +162,8 @@ passed most t first p xs n e c c' x y inv lt at h =
 
 -- ---- the whole course
 
-pub begun : (most : ℕ) (t : Told) (first : CoreState) (p : Pace) (xs : List Event) (x : Course) → x.done.config ≡ first.config → x.done.events ≡ []
+pub begun : (most : ℕ) (t : Told) (first : CoreState) (p : Pace) (xs : List Event) (x : Course) → x.done.config ≡ first.config
+    → x.done.events ≡ []
     → x.counted ≡ 0 → x.copied ≡ 0 → x.behind ≡ true → x.moments.items ≡ []
     → ((s : State) → Stands s first → Runs s first [] first) → HasTold t x.teller → x.teller.most ≡ most
     → length x.teller.last.items ≡ first.config.regions → IsCourseOf most t first p xs 0 first x
@@ -175,7 +181,8 @@ begun most t first p xs x sizes events counted copied behind moments runs told l
   copying = copied ∙ sym (ap (λ (es : List Event). min (moved_in es) 18446744073709551615) events);
   each = subst (λ (l : List Moment). All (IsMomentFrom first x.done.events) l) (sym moments) (All-nil (IsMomentFrom first x.done.events));
   due = λ k lt is. absurd (omega (arith, lt));
-  only = subst (λ (l : List Moment). All (λ (m : Moment). IsDue p xs m.event) l) (sym moments) (All-nil (λ (m : Moment). IsDue p xs m.event));
+  only = subst (λ (l : List Moment). All (λ (m : Moment). IsDue p xs m.event) l) (sym moments) (All-nil (λ (m : Moment). IsDue p xs
+      m.event));
   below = subst (λ (l : List Moment). All (λ (m : Moment). m.event < 0) l) (sym moments) (All-nil (λ (m : Moment). m.event < 0));
   rising = subst AreRising (sym moments) tt;
   start = λ is. behind;

@@ -77,4 +77,5 @@ pub object_told : (c : CoreState) (a : ℕ) (part : Part) (name : ℕ) (o : Opti
     → Adds x (stored_text c a part o) y
 object_told c a part name None some named x y h = absurd (cc)
 object_told c a part name (Some s) some named x y h =
-    adds_at (λ (n : ℕ). decimal n ++ codes " " ++ letter_text part ++ progress_text c a ++ fields_text c.table a) x y s.name name (sym named) h
+    adds_at (λ (n : ℕ). decimal n ++ codes " " ++ letter_text part ++ progress_text c a
+    ++ fields_text c.table a) x y s.name name (sym named) h

@@ -58,7 +58,8 @@ pub told_noted : (most : ℕ) (t : Told) (due : Bool) (first c : CoreState) (es 
     (x y : Teller) → (h : NotesIf due c event copied ms ms') → ToldBy due c event copied ms ms' h x y → event ≡ length es
     → ((s : State) → Stands s first → Runs s first es c) → IsToldOf most t first es ms x → IsToldOf most t first es ms' y
 told_noted most t false first c es event copied ms ms' x y h told len runs was =
-    subst (λ (z : Teller). IsToldOf most t first es ms' z) (sym told) (subst (λ (l : List Moment). IsToldOf most t first es l x) (sym h) was)
+    subst (λ (z : Teller). IsToldOf most t first es ms' z) (sym told) (subst (λ (l : List Moment). IsToldOf most t first es l x) (sym h)
+    was)
 told_noted most t true first c es event copied ms ms' x y h told len runs was =
     let m = h.0 in
     let at : m.event ≡ event = h.2 in

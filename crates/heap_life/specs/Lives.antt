@@ -108,8 +108,8 @@ pub record IsLifeFrom (first : CoreState) (p : Pace) (events : List Event) (c : 
   pub told : teller.text ≡ Some life.told.items
 
 -- A life of a new heap over the steps of some events: its record is a run of the graph with these steps and actors, each of its moments is
--- one of the run, there is one wherever the pace wants one and nowhere else, in rising order, the pace is for these events, and what is told
--- is the text of the moments, each of a core to which its events lead
+-- one of the run, there is one wherever the pace wants one and nowhere else, in rising order, the pace is for these events, and what is
+-- told is the text of the moments, each of a core to which its events lead
 pub record IsLifeOf (every : ℕ) (events : EventList) (life : Life) : Type 0 where
   pub config : life.history.config ≡ events.config
   pub steps : map step_in life.history.events ≡ map step_in events.events

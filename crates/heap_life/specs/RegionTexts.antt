@@ -94,7 +94,8 @@ abbrev pub values_text : List ℕ → List ℕ
 values_text xs = flat_map spaced_number (take (min (length xs) 16) xs) ++ more_text (length xs)
 
 abbrev pub fields_text : Table → ℕ → List ℕ
-fields_text t a = pointers_text t (pointers_at t a) ++ codes " ;" ++ pointers_text t (weaks_at t a) ++ codes " ;" ++ values_text (values_at t a)
+fields_text t a = pointers_text t (pointers_at t a) ++ codes " ;" ++ pointers_text t (weaks_at t a) ++ codes " ;"
+    ++ values_text (values_at t a)
 
 abbrev pub letter_text : Part → List ℕ
 letter_text parts.Marked = codes "m"

@@ -31,10 +31,12 @@ note_if-requires c = c.loop-index.invariant.teller
 
 pub loop-index-preserved : goal.loop-index-preserved
 loop-index-preserved c =
-    passed c.args.teller.most (nothing_told c.args.teller.tiles) c.args.core.now c.args.pace.now c.args.events.now c.loop-index.index c.event_at-event.result c.loop-index.core c.pass.new.core
+    passed c.args.teller.most (nothing_told c.args.teller.tiles) c.args.core.now c.args.pace.now c.args.events.now c.loop-index.index
+    c.event_at-event.result c.loop-index.core c.pass.new.core
     c.loop-index.course c.pass.new.course c.loop-index.invariant c.loop-index-test.true c.event_at-event.ensures.at c.in_ok-pass.ensures
 
 pub returns : goal.returns
 returns c =
-    lived c.args.teller.most (nothing_told c.args.teller.tiles) c.args.core.now c.args.pace.now c.args.events.now c.loop-index.core c.loop-index.course c.note_if.new.moments.items
+    lived c.args.teller.most (nothing_told c.args.teller.tiles) c.args.core.now c.args.pace.now c.args.events.now c.loop-index.core
+    c.loop-index.course c.note_if.new.moments.items
     c.note_if.new.teller c.loop-index.index (omega arith) c.loop-index.invariant c.in_ok-note_if.ensures

@@ -57,7 +57,8 @@ returns-in-Ok-life_of-clause-life c =
           c.args.events.now.events life.pace c.pace_of-pace.result
           c.pace_of-pace.ensures c.from.ensures c.most_moments.ensures is c.events.ensures.events pace;
       due = subst (λ (p : Pace). (n : ℕ) → n ≤ length c.args.events.now.events → IsDue p c.args.events.now.events n → HasMoment ms n)
-          (sym pace) (subst (λ (l : List Event). (n : ℕ) → n ≤ length l → IsDue c.pace_of-pace.result l n → HasMoment ms n) events lived.due);
+          (sym pace) (subst (λ (l : List Event). (n : ℕ) → n ≤ length l → IsDue c.pace_of-pace.result l n
+          → HasMoment ms n) events lived.due);
       only = subst (λ (p : Pace). All (λ (m : Moment). IsDue p c.args.events.now.events m.event) ms) (sym pace)
           (subst (λ (l : List Event). All (λ (m : Moment). IsDue c.pace_of-pace.result l m.event) ms) events lived.only);
       rising = lived.rising;

@@ -26,6 +26,7 @@ returns-then-count-ge-MOST_ROOTS c =
 pub returns : goal.returns
 returns c =
     let ws = c.args.roots.now.words in
-    leads_all _ _ _ _ (told_none c.args.roots.now.words c.loop-place.from (64 - c.loop-place.count) (subst (λ (o : Option ℕ). MatchOption o (AreNil ws c.loop-place.from (length ws)) (IsNextNamed ws c.loop-place.from)) c.in_default.is
+    leads_all _ _ _ _ (told_none c.args.roots.now.words c.loop-place.from (64 - c.loop-place.count) (subst (λ (o : Option ℕ). MatchOption o
+    (AreNil ws c.loop-place.from (length ws)) (IsNextNamed ws c.loop-place.from)) c.in_default.is
     c.next_named.ensures.lowest))
     c.loop-place.invariant.leads

@@ -12,7 +12,8 @@ loop-number-init c = none_told _ _ _
 pub loop-number-preserved : goal.loop-number-preserved
 loop-number-preserved c =
     let count = c.region_count-count.ensures ∙ ap (λ (t : Table). length t.regions) c.table.ensures in
-    let lt : c.loop-number.number < length c.loop-number.last.items = (let size = c.loop-number.invariant.size in omega (arith, count, size)) in
+    let lt : c.loop-number.number < length c.loop-number.last.items = (let size = c.loop-number.invariant.size in
+    omega (arith, count, size)) in
     told_more (region_text c.args.tiles c.args.core.now) c.loop-number.number c.args.last.now.items c.loop-number.last.items c.args.text.now
     c.loop-number.text c.tell_region.new.text c.index_mut.result.now c.tell_region.new.last c.loop-number.invariant lt
     (slice_get_read c.loop-number.last.items (length c.loop-number.last.items) c.loop-number.number c.index_mut.result.now refl lt

@@ -23,12 +23,14 @@ loop-at-init c =
 
 pub put_tile-requires : goal.put_tile-requires
 put_tile-requires c =
-    let placed = subst (λ (l : List (Addr × Shape)). ArePlaced c.args.core.now.table l) c.in-Some.ensures.steps c.loop-at.invariant.placed in
+    let placed = subst (λ (l : List (Addr × Shape)). ArePlaced c.args.core.now.table l) c.in-Some.ensures.steps c.loop-at.invariant.placed
+    in
     placed.0
 
 pub loop-at-preserved : goal.loop-at-preserved
 loop-at-preserved c =
-    let placed = subst (λ (l : List (Addr × Shape)). ArePlaced c.args.core.now.table l) c.in-Some.ensures.steps c.loop-at.invariant.placed in
+    let placed = subst (λ (l : List (Addr × Shape)). ArePlaced c.args.core.now.table l) c.in-Some.ensures.steps c.loop-at.invariant.placed
+    in
     record {
       placed = placed.2;
       leads = leads_on _ _ _ _ _ _ _ (ap (flat_map (tile_text c.args.core.now c.args.region)) c.in-Some.ensures.steps)

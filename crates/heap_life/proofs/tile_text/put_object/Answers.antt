@@ -9,7 +9,8 @@ use Rattle.heap_life.proofs.tile_text.put_object.Goals as goal
 
 pub returns : goal.returns
 returns c =
-    let named = subst (λ (t : Table). IfSome (object_at t c.args.object) (λ (s : Stored). c.name.result ≡ s.name)) c.table-table.ensures c.name.ensures in
+    let named = subst (λ (t : Table). IfSome (object_at t c.args.object) (λ (s : Stored). c.name.result ≡ s.name)) c.table-table.ensures
+    c.name.ensures in
     object_told c.args.core.now c.args.object c.args.part c.name.result _ c.requires named _ _
     (then_adds _ _ _ _ _ (then_adds _ _ _ _ _ (then_adds _ _ _ _ _ (then_adds _ _ _ _ _ (c.put_digits.ensures)
     (c.put.ensures))
