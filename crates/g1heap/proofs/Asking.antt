@@ -7,4 +7,5 @@ use Rattle.command_line.specs.declared.Task.{Task}
 pub at_parts : (P : Asked → Type 0) (name name' : List ℕ) (task task' : Task) (explained explained' : Bool) → name ≡ name' → task ≡ task'
     → explained ≡ explained' → P (name, task, explained) → P (name', task', explained')
 at_parts P name name' task task' explained explained' n t e p =
-    subst (λ (x : Bool). P (name', task', x)) e (subst (λ (x : Task). P (name', x, explained)) t (subst (λ (x : List ℕ). P (x, task, explained)) n p))
+    let named = subst (λ (x : List ℕ). P (x, task, explained)) n p in
+    subst (λ (x : Bool). P (name', task', x)) e (subst (λ (x : Task). P (name', x, explained)) t named)

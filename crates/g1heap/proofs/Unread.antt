@@ -76,4 +76,4 @@ pub unread_more : (name : List ℕ) (task : Task) (given left : Reader) (old new
     → TellsMore (faults.Read reads.CannotRead) (IsReadReason name) err err' → DoesJob (name, task, true) given left old new err err' status
 unread_more name task given left old new err err' status other unread kept one tells =
     as_job name task given left old new err err' status other
-    (inr (record { fault = reads.CannotRead; fails = unread; stays = kept; status = one; tells = tells }))
+    (inr (record { fault = reads.CannotRead; fails = unread; stays = kept; one = one; tells = tells }))

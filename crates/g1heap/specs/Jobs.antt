@@ -95,7 +95,7 @@ pub record IsUnread (name : List ℕ) (given left : Reader) (old new err err' : 
   pub fault : ReadFault
   pub fails : FailsToGive fault given left
   pub stays : Stays old new
-  pub status : status ≡ 1
+  pub one : status ≡ 1
   pub tells : TellsMore (Read fault) (IsReadReason name) err err'
 
 -- a task was done whose faults are to be explained
@@ -103,8 +103,8 @@ abbrev pub DoesExplained : List ℕ → Task → Reader → Reader → Writer �
 DoesExplained name task given left old new err err' status =
     DoesOver task given left old new err err' status ⊎ IsUnread name given left old new err err' status
 
--- A script was run, a record judged, a heap viewed, or its life drawn, and its end was told, and explained where that was asked for: what was
--- read of the file of this name, what was written, what standard error took, and the status.
+-- A script was run, a record judged, a heap viewed, or its life drawn, and its end was told, and explained where that was asked for: what
+-- was read of the file of this name, what was written, what standard error took, and the status.
 abbrev pub DoesJob : Asked → Reader → Reader → Writer → Writer → Writer → Writer → ℕ → Type 0
 DoesJob (name, Check followed, explained) given left old new err err' status =
     DoesCheck name explained followed given left old new err err' status

@@ -1,6 +1,6 @@
 //! What the program does with a job.
 
-ghost use Rattle.std.specs.Prelude.{false};
+ghost use Rattle.std.specs.Prelude.{false, true};
 ghost use Rattle.g1heap.specs.Runs.{EndsIn};
 ghost use Rattle.command_line.specs.Asked.{asked_by};
 ghost use Rattle.g1heap.specs.Jobs.{DoesCheck, DoesDraw, DoesJob, DoesView};
@@ -140,6 +140,26 @@ fn do_plain<H: Threads + Wait + Sync, R: Read, W: Write, E: Write>(
     }
 }
 
+/// Does a task with a file of this name, and explains its fault, and answers the program's status.
+fn do_explaining<H: Threads + Wait + Sync, R: Read, W: Write, E: Write>(
+    rt: &H,
+    alloc: Global,
+    name: &str,
+    task: Task,
+    reader: &mut WatchedReader<R>,
+    out: &mut WatchedWriter<W>,
+    err: &mut WatchedWriter<E>,
+) -> u8
+    ensures { DoesJob (name.now, task, true) reader.old reader.new out.old out.new err.old err.new result }
+{
+    match task {
+        Task::Check { followed } => do_check(alloc, name, true, followed, reader, out, err),
+        Task::Script(_) | Task::View { .. } | Task::Draw { .. } => {
+            do_explained(rt, alloc, name, task, reader, out, err)
+        }
+    }
+}
+
 /// Does the job, and answers the program's status.
 pub fn perform<H: Threads + Wait + Sync, R: Read, W: Write, E: Write>(
     rt: &H,
@@ -151,16 +171,11 @@ pub fn perform<H: Threads + Wait + Sync, R: Read, W: Write, E: Write>(
 ) -> u8
     ensures { DoesJob (asked_by job.now) reader.old reader.new out.old out.new err.old err.new result }
 {
+    let name = job.file();
     let task = job.task();
-    if !job.explained() {
-        return do_plain(rt, alloc, job.file(), task, reader, out, err);
+    let explained = job.explained();
+    if explained {
+        return do_explaining(rt, alloc, name, task, reader, out, err);
     }
-    match task {
-        Task::Check { followed } => {
-            do_check(alloc, job.file(), true, followed, reader, out, err)
-        }
-        Task::Script(_) | Task::View { .. } | Task::Draw { .. } => {
-            do_explained(rt, alloc, job.file(), task, reader, out, err)
-        }
-    }
+    do_plain(rt, alloc, name, task, reader, out, err)
 }

@@ -66,13 +66,13 @@ fn conclude_unopened<E: Write>(job: &Job, reason: Reason, err: &mut WatchedWrite
     ensures { (given left : Reader) (old new : Writer) → FailsToGive ReadFault.CannotRead given left → Stays old new
         → DoesJob (asked_by job.now) given left old new err.old err.new result }
 {
+    let name = job.file();
     let task = job.task();
+    let explained = job.explained();
     match task {
-        Task::Check { followed } => {
-            unopened_check(job.file(), job.explained(), followed, reason, err)
-        }
+        Task::Check { followed } => unopened_check(name, explained, followed, reason, err),
         Task::Script(_) | Task::View { .. } | Task::Draw { .. } => {
-            unopened_task(job.file(), task, job.explained(), reason, err)
+            unopened_task(name, task, explained, reason, err)
         }
     }
 }
@@ -104,7 +104,8 @@ fn read_and_perform<H: Files + Threads + Wait + Sync, I: Read, W: Write, E: Writ
 ) -> u8
     ensures { DoesAsked (asked_by job.now) input.old input.new out.old out.new err.old err.new result }
 {
-    if job.file() == "-" {
+    let name = job.file();
+    if name == "-" {
         return perform(rt, alloc, job, input, out, err);
     }
     open_and_perform(rt, alloc, job, out, err)
@@ -145,7 +146,8 @@ pub fn do_words<H: Files + Threads + Wait + Sync, I: Read, W: Write, E: Write>(
     out: &mut WatchedWriter<W>,
     err: &mut WatchedWriter<E>,
 ) -> u8
-    ensures asked { (asked : Asked) → Asks (map string_bytes words.now) asked → DoesTask asked input.old input.new out.old out.new err.old err.new result }
+    ensures asked { (asked : Asked) → Asks (map string_bytes words.now) asked
+        → DoesTask asked input.old input.new out.old out.new err.old err.new result }
     ensures most { result ≤ 3 }
 {
     match read_words(alloc, words) {

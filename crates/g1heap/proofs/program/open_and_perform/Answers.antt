@@ -14,6 +14,5 @@ pub returns-in-Err : goal.returns-in-Err
 returns-in-Err g c = (
   fresh,
   spent,
-  rw (← c.task.ensures) (c.conclude_unread.ensures fresh spent _ _ (([], tt), refl)
-      (Keeps-refl c.args.out.now.held, refl)),
+  c.conclude_unopened.ensures fresh spent _ _ (([], tt), refl) (Keeps-refl c.args.out.now.held, refl),
 )
