@@ -8,4 +8,4 @@ returns-in-Ok-clause-asked g c = λ asked asks.
     let both : Some asked ≡ Some (asked_by c.in-Ok.job) = sym asks.0 ∙ c.in-Ok.ensures.job in
     let same : asked ≡ asked_by c.in-Ok.job = cc in
     inl (subst (λ (a : Asked). DoesAsked a c.args.input.now c.read_and_perform.new.input c.args.out.now c.read_and_perform.new.out
-        c.args.err.now c.read_and_perform.new.err c.read_and_perform.result) (sym same) c.read_and_perform.ensures)
+    c.args.err.now c.read_and_perform.new.err c.read_and_perform.result) (sym same) c.read_and_perform.ensures)
