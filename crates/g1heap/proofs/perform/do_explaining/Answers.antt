@@ -2,15 +2,6 @@ use Rattle.std.proofs.Common.{◌≡◌, inl, inr}
 use Rattle.g1heap.proofs.Unread.{as_job}
 use Rattle.g1heap.proofs.perform.do_explaining.Goals as goal
 
-pub do_explained-requires : goal.do_explained-requires
-do_explained-requires g c = λ followed is. elim c.in-Script.is [
-  | inl script ↦ (let e = script.1 in cc)
-  | inr other ↦ elim other [
-    | inl view ↦ (let e = view.4 in cc)
-    | inr draw ↦ (let e = draw.2 in cc)
-  ]
-]
-
 pub returns-in-Script : goal.returns-in-Script
 returns-in-Script g c =
     as_job c.args.name.now c.args.task c.args.reader.now c.do_explained.new.reader c.args.out.now c.do_explained.new.out c.args.err.now

@@ -14,4 +14,4 @@ returns-then-explained g c = λ given left old new unread kept.
 pub returns : goal.returns
 returns g c = λ given left old new unread kept.
     rw (c.if-followed.false, c.if-explained.false) (unread_check c.args.name.now given left old new c.args.err.now
-    c.conclude_verdict.new.err c.conclude_verdict.result unread kept c.conclude_verdict.ensures)
+    c.conclude_verdict-2.new.err c.conclude_verdict-2.result unread kept c.conclude_verdict-2.ensures)
