@@ -1,4 +1,6 @@
 mod Faults
 mod Numbers
+mod Explained
+mod Options
 mod Paths
 mod Shapes

@@ -10,12 +10,12 @@ use Rattle.command_line.specs.declared.Order.TheVariants.{Concurrent, Drawn, Fil
 use Rattle.command_line.specs.declared.Task.TheVariants.{Check, Draw, Script, View}
 
 -- a word that a parse takes for a value: not `--`, and no option
-record IsValue (word : Text) : Type 0 where
-  no_end : bytes_eq word (45 ∷ 45 ∷ []) ≡ false
-  no_name : long_of word ≡ None
-  no_letters : short_of word ≡ None
+pub record IsValue (word : Text) : Type 0 where
+  pub no_end : bytes_eq word (45 ∷ 45 ∷ []) ≡ false
+  pub no_name : long_of word ≡ None
+  pub no_letters : short_of word ≡ None
 
-is_value : (path : Text) → is_path path ≡ true → IsValue path
+pub is_value : (path : Text) → is_path path ≡ true → IsValue path
 is_value [] h = record { no_end = refl; no_name = refl; no_letters = refl }
 is_value (c ∷ []) h = go (c == 45) refl
   where
@@ -82,68 +82,5 @@ unfolding clap_on_literals
 draw program path h =
     let v = is_value path h in (
       rw v.no_end (rw v.no_name (rw v.no_letters (refl {a = Some (path, Draw 1 false, false)}))),
-      rw v.no_end (rw v.no_name (rw v.no_letters (refl {a = []}))),
-    )
-
-pub every : (program path : Text) → is_path path ≡ true
-    → Asks (program ∷ codes "draw" ∷ path ∷ codes "--every" ∷ codes "10" ∷ []) (path, Draw 10 false, false)
-unfolding clap_on_literals
-every program path h =
-    let v = is_value path h in (
-      rw v.no_end (rw v.no_name (rw v.no_letters (refl {a = Some (path, Draw 10 false, false)}))),
-      rw v.no_end (rw v.no_name (rw v.no_letters (refl {a = []}))),
-    )
-
-pub redraw : (program path : Text) → is_path path ≡ true
-    → Asks (program ∷ codes "draw" ∷ path ∷ codes "--record" ∷ []) (path, Draw 1 true, false)
-unfolding clap_on_literals
-redraw program path h =
-    let v = is_value path h in (
-      rw v.no_end (rw v.no_name (rw v.no_letters (refl {a = Some (path, Draw 1 true, false)}))),
-      rw v.no_end (rw v.no_name (rw v.no_letters (refl {a = []}))),
-    )
-
-pub at : (program path : Text) → is_path path ≡ true
-    → Asks (program ∷ codes "view" ∷ path ∷ codes "--at" ∷ codes "9" ∷ []) (path, View false (Some 9) None false, false)
-unfolding clap_on_literals
-at program path h =
-    let v = is_value path h in (
-      rw v.no_end (rw v.no_name (rw v.no_letters (refl {a = Some (path, View false (Some 9) None false, false)}))),
-      rw v.no_end (rw v.no_name (rw v.no_letters (refl {a = []}))),
-    )
-
-pub run_explained : (program path : Text) → is_path path ≡ true
-    → Asks (program ∷ codes "run" ∷ path ∷ codes "--explain" ∷ []) (path, Script File, true)
-unfolding clap_on_literals
-run_explained program path h =
-    let v = is_value path h in (
-      rw v.no_end (rw v.no_name (rw v.no_letters (refl {a = Some (path, Script File, true)}))),
-      rw v.no_end (rw v.no_name (rw v.no_letters (refl {a = []}))),
-    )
-
-pub check_explained : (program path : Text) → is_path path ≡ true
-    → Asks (program ∷ codes "check" ∷ path ∷ codes "--explain" ∷ []) (path, Check false, true)
-unfolding clap_on_literals
-check_explained program path h =
-    let v = is_value path h in (
-      rw v.no_end (rw v.no_name (rw v.no_letters (refl {a = Some (path, Check false, true)}))),
-      rw v.no_end (rw v.no_name (rw v.no_letters (refl {a = []}))),
-    )
-
-pub view_explained : (program path : Text) → is_path path ≡ true
-    → Asks (program ∷ codes "view" ∷ path ∷ codes "--explain" ∷ []) (path, View false None None false, true)
-unfolding clap_on_literals
-view_explained program path h =
-    let v = is_value path h in (
-      rw v.no_end (rw v.no_name (rw v.no_letters (refl {a = Some (path, View false None None false, true)}))),
-      rw v.no_end (rw v.no_name (rw v.no_letters (refl {a = []}))),
-    )
-
-pub draw_explained : (program path : Text) → is_path path ≡ true
-    → Asks (program ∷ codes "draw" ∷ path ∷ codes "--explain" ∷ []) (path, Draw 1 false, true)
-unfolding clap_on_literals
-draw_explained program path h =
-    let v = is_value path h in (
-      rw v.no_end (rw v.no_name (rw v.no_letters (refl {a = Some (path, Draw 1 false, true)}))),
       rw v.no_end (rw v.no_name (rw v.no_letters (refl {a = []}))),
     )

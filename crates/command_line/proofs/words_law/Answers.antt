@@ -1,5 +1,6 @@
-use Rattle.command_line.proofs.Paths.{at, check, check_explained, draw, draw_explained, every, follow, redraw, run, run_explained, sim}
-use Rattle.command_line.proofs.Paths.{threads, view, view_explained}
+use Rattle.command_line.proofs.Explained.{check_explained, draw_explained, run_explained, view_explained}
+use Rattle.command_line.proofs.Options.{at, every, redraw}
+use Rattle.command_line.proofs.Paths.{check, draw, follow, run, sim, threads, view}
 use Rattle.command_line.proofs.words_law.Goals as goal
 
 pub returns : goal.returns
