@@ -1,6 +1,6 @@
 //! Marking over tables made by hand.
 
-ghost use Rattle.std.specs.Prelude.{◌≡◌, ℕ, true, false, [], Some, length, slice_get, IfOk, IfSome};
+ghost use Rattle.std.specs.Prelude.{◌≡◌, ◌<◌, ℕ, true, false, [], Some, length, slice_get, IfOk, IfSome};
 ghost use Rattle.heap_words.specs.Configs.{Suits};
 ghost use Rattle.regions.specs.Table.{HasObject};
 ghost use Rattle.mark_bitmap.specs.Tops.{below_previous};
@@ -334,16 +334,16 @@ fn forgets_a_region(rt: HostRuntime) -> Result<(), Fail> {
     let region = RegionNo::new(0);
     let other = RegionNo::new(1);
     let bottom = Addr::new(0);
-    let second = Some(Addr::new(16));
+    let second = Addr::new(16);
     let mut marker = begun(rt.alloc(), &made.table, &roots)?;
     assert_eq!(rt; marker.finish(&mut made.table), 2);
     let found = previous_of(&made.table, &marker, region);
     assert_eq!(rt; found, (Some(bottom), Addr::new(3), 3));
     marker.forget(&made.table, region);
     let found = previous_of(&made.table, &marker, region);
-    assert_eq!(rt; found, (second, bottom, 0));
+    assert_eq!(rt; found, (Some(second), bottom, 0));
     let found = previous_of(&made.table, &marker, other);
-    assert_eq!(rt; found, (second, Addr::new(19), 3));
+    assert_eq!(rt; found, (Some(second), Addr::new(19), 3));
     Ok(())
 }
 
