@@ -33,11 +33,16 @@ fn forwarded(to: u32) -> Header {
 
 /// Words that were put together by hand from the layout.
 #[test]
-fn reads_and_writes_headers(rt: HostRuntime) {
+fn writes_headers(rt: HostRuntime) {
     assert_eq!(rt; encode_header(object(1, 0, 1)), 4_294_967_552);
     assert_eq!(rt; encode_header(object(1, 1, 1)), 72_057_598_332_895_488);
     assert_eq!(rt; encode_header(filler(5)), 1281);
     assert_eq!(rt; encode_header(forwarded(16)), 4098);
+}
+
+/// The same words, and some that are no header.
+#[test]
+fn reads_headers(rt: HostRuntime) {
     assert_eq!(rt; decode_header(4_294_967_552), Some(object(1, 0, 1)));
     assert_eq!(rt;
         decode_header(72_057_598_332_895_488),

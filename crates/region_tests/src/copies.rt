@@ -64,15 +64,14 @@ fn copies_to_the_lowest_free_region(rt: HostRuntime) -> Result<(), Fail> {
     let region = RegionNo::new(1);
     assert_eq!(rt; destinations.last(), None);
     assert_eq!(rt; copy(&mut table, &mut destinations, object), place);
+    let regions = (destinations.region(0), destinations.region(1));
+    assert_eq!(rt; regions, (destinations.last(), None));
     assert_eq!(rt; destinations.last(), Some(region));
-    assert_eq!(rt; destinations.region(0), Some(region));
-    assert_eq!(rt; destinations.region(1), None);
-    assert_eq!(rt; destinations.words(), 4);
-    assert_eq!(rt; table.free_count(), 2);
+    assert_eq!(rt; (destinations.words(), table.free_count()), (4, 2));
     assert_eq!(rt; table.first_tile(Addr::new(19)), Some(place));
     destinations.close();
-    assert_eq!(rt; destinations.last(), None);
-    assert_eq!(rt; destinations.region(0), None);
+    let closed = (destinations.last(), destinations.region(0));
+    assert_eq!(rt; closed, (None, None));
     assert_eq!(rt; destinations.words(), 0);
     Ok(())
 }
