@@ -67,6 +67,11 @@ class Browser:
                 actions += [{"type": "keyUp", "value": it} for it in [letter, *held]]
         self.of("actions", {"actions": [{"type": "key", "id": "keyboard", "actions": actions}]})
 
+    def choose_file(self, query, path):
+        """Chooses a file where the page asks for one."""
+        (element,) = self.of("element", {"using": "css selector", "value": query}).values()
+        self.of(f"element/{element}/value", {"text": str(path)})
+
     def size(self, width, height):
         """Makes the window's inside so large, a telephone's where it is narrow."""
         told = {"width": width, "height": height, "deviceScaleFactor": 1, "mobile": width < 500}

@@ -92,6 +92,7 @@ function aboutObjects(life, view) {
   const last = lastTold(life);
   if (!life.tells || (last !== null && view.moment > last)) return null;
   const { lines, total } = shapesAt(life, view.moment);
+  const told = untoldAt(life, view.moment) ? "Of the objects that are told: " : "";
   const head = (word, at) => make("th", { scope: "col", class: at ? "number" : "" }, word);
   const heads = ["shape", "objects", "words", "not reached", "dead"].map(head);
   const table = make(
@@ -103,7 +104,7 @@ function aboutObjects(life, view) {
   return make(
     "div",
     { class: "card" },
-    make("h3", {}, `${plural(total.all.objects, "object")}, ${plural(total.all.words, "word")}`),
+    make("h3", {}, `${told}${plural(total.all.objects, "object")}, ${plural(total.all.words, "word")}`),
     aboutReached(life, view.moment, total),
     lines.length ? make("div", { class: "scroll", tabindex: 0, role: "region", "aria-label": "Objects by shape" }, table) : null,
     lines.length ? make("p", { class: "rest" }, "A shape: pointers / weak slots / data words. The last two columns are words.") : null,

@@ -236,7 +236,8 @@ const KEYS = {
 function ownsKey(target, key) {
   if (target.matches("#wanted, textarea")) return key !== "Escape";
   const isPressed = key === " " || key === "Enter";
-  if (target.matches("button, a, summary, #names-file")) return isPressed;
+  if (target.matches("a")) return key === "Enter";
+  if (target.matches("button, summary, #names-file")) return isPressed;
   return target.matches(".scroll") && ["ArrowUp", "ArrowDown", "PageUp", "PageDown"].includes(key);
 }
 

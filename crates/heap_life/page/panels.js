@@ -261,7 +261,8 @@ function tilesTable(life, region, row, view, choose) {
   if (!row.tiles) return row.kind === "f" || row.kind === "t" ? null : make("p", {}, whyUntold(life, view.moment));
   const heads = ["address", "object", "state", "pointers", "weak slots", "data"].map((head) => make("th", { scope: "col" }, head));
   const lines = row.tiles.map((tile) => tileLine(tile, region, life, view, choose));
-  return make("div", { class: "scroll" }, make("table", {}, make("thead", {}, make("tr", {}, heads)), make("tbody", {}, lines)));
+  const table = make("table", {}, make("thead", {}, make("tr", {}, heads)), make("tbody", {}, lines));
+  return make("div", { class: "scroll", tabindex: 0, role: "region", "aria-label": `Objects of region ${region}` }, table);
 }
 
 // What is said of a region's tops, and of its remembered set.

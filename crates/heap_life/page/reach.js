@@ -11,6 +11,13 @@ function rootsAt(life, moment) {
   return life.moments[moment].roots.map(({ place, address }) => ({ place, address, name: names.has(address) ? names.get(address) : null }));
 }
 
+// How many regions have objects that aren't told at a moment.
+function untoldAt(life, moment) {
+  let untold = 0;
+  for (let region = 0; region < life.sizes.regions; region += 1) untold += tellsObjects(life, region, moment) ? 0 : 1;
+  return untold;
+}
+
 // What keeps the file from telling all that is reached, in words, or nothing.
 function unsureAt(life, moment, reached) {
   const why = [];
@@ -18,8 +25,7 @@ function unsureAt(life, moment, reached) {
   if (life.moments[moment].roots.length >= MOST_ROOTS) why.push(`of the roots the first ${MOST_ROOTS} are in the file`);
   const long = [...reached.keys()].filter((name) => places.get(name).tile.pointers.more).length;
   if (long) why.push(`${plural(long, "reached object has", "reached objects have")} pointers that aren't in the file`);
-  let untold = 0;
-  for (let region = 0; region < life.sizes.regions; region += 1) untold += tellsObjects(life, region, moment) ? 0 : 1;
+  const untold = untoldAt(life, moment);
   if (untold) why.push(`the objects of ${plural(untold, "region")} aren't in the file`);
   return why;
 }

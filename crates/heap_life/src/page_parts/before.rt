@@ -50,6 +50,7 @@ pub(crate) const BEFORE: &str = "\
 \x20 color-scheme: dark;\n\
 }\n\
 * { box-sizing: border-box; }\n\
+html { scroll-padding-top: 60px; }\n\
 body { margin: 0 auto; padding: 0 20px 28px; background: var(--paper); color: var(--ink); max-width: 1720px; }\n\
 header { display: flex; flex-wrap: wrap; align-items: center; gap: 4px 18px; padding: 10px 0 6px; }\n\
 h1 { font-size: 1.35rem; margin: 0; }\n\
@@ -83,13 +84,15 @@ button.name {\n\
 a { color: var(--link); }\n\
 summary { cursor: pointer; min-height: 24px; }\n\
 :focus-visible { outline: 3px solid var(--deep); outline-offset: 2px; }\n\
-kbd { font: inherit; border: 1px solid var(--edge); border-radius: 4px; padding: 0 6px; background: var(--sheet); }\n\
+kbd { display: inline-block; font: inherit; border: 1px solid var(--edge); border-radius: 4px; padding: 0 6px; background: var(-\
+-sheet); }\n\
 #keys {\n\
-\x20 display: grid; grid-template-columns: repeat(auto-fill, minmax(min(100%, 330px), 1fr)); gap: 4px 22px;\n\
+\x20 display: grid; grid-template-columns: repeat(auto-fill, minmax(min(100%, 400px), 1fr)); gap: 5px 22px;\n\
 \x20 margin: 0 0 8px; padding: 10px; background: var(--sheet); border-radius: 8px;\n\
 }\n\
 #keys[hidden] { display: none; }\n\
 #keys div { display: flex; gap: 10px; }\n\
+#keys dt { flex: none; max-width: 60%; }\n\
 #keys dd { margin: 0; color: var(--soft); }\n\
 #time {\n\
 \x20 position: sticky; top: 0; z-index: 3; display: flex; flex-wrap: wrap; align-items: center; gap: 4px 12px;\n\
@@ -159,7 +162,7 @@ ents: none;\n\
 }\n\
 .evacuated { fill: none; stroke: var(--pause); stroke-width: 2.5; stroke-dasharray: 7 4; pointer-events: none; }\n\
 .freed { fill: none; stroke: var(--deep); stroke-width: 2.5; stroke-dasharray: 2 4; pointer-events: none; }\n\
-#what, #region, #object, #naming { margin-top: 10px; scroll-margin-top: 70px; }\n\
+#what, #region, #object, #naming { margin-top: 10px; }\n\
 #what:empty, #region:empty, #object:empty { margin-top: 0; }\n\
 #pair { display: grid; grid-template-columns: repeat(auto-fit, minmax(min(100%, 330px), 1fr)); gap: 0 10px; align-items: start; \
 }\n\
@@ -189,10 +192,11 @@ heet);\n\
 .card h3:focus-visible { outline: 3px solid var(--deep); }\n\
 .card .close + h3 { display: inline-block; }\n\
 table { border-collapse: collapse; font-size: 0.92rem; font-variant-numeric: tabular-nums; margin-top: 6px; }\n\
-th, td { text-align: left; padding: 2px 14px 2px 0; vertical-align: top; }\n\
+th, td { text-align: left; padding: 2px 14px 2px 0; vertical-align: baseline; }\n\
 th { color: var(--soft); font-weight: 500; }\n\
 tr.chosen td { background: color-mix(in srgb, var(--deep) 18%, transparent); }\n\
 .number { text-align: right; }\n\
+#objects th { white-space: nowrap; }\n\
 th[scope=\"row\"] { font-variant-numeric: tabular-nums; color: var(--ink); }\n\
 .scroll { max-height: 330px; overflow: auto; }\n\
 .swatch {\n\
@@ -235,6 +239,8 @@ align: left;\n\
 .here { stroke: var(--ink); stroke-width: 1.5; }\n\
 .axis { stroke: var(--line); }\n\
 @media (max-width: 1000px) {\n\
+\x20 html { scroll-padding-top: 140px; }\n\
+\x20 th, td { padding-right: 9px; }\n\
 \x20 body { padding-inline: 12px; }\n\
 \x20 main { grid-template-columns: minmax(0, 1fr); }\n\
 \x20 #find { margin-left: 0; }\n\

@@ -102,6 +102,7 @@ function aboutObjects(life, view) {\n\
 \x20 const last = lastTold(life);\n\
 \x20 if (!life.tells || (last !== null && view.moment > last)) return null;\n\
 \x20 const { lines, total } = shapesAt(life, view.moment);\n\
+\x20 const told = untoldAt(life, view.moment) ? \"Of the objects that are told: \" : \"\";\n\
 \x20 const head = (word, at) => make(\"th\", { scope: \"col\", class: at ? \"number\" : \"\" }, word);\n\
 \x20 const heads = [\"shape\", \"objects\", \"words\", \"not reached\", \"dead\"].map(head);\n\
 \x20 const table = make(\n\
@@ -113,7 +114,7 @@ function aboutObjects(life, view) {\n\
 \x20 return make(\n\
 \x20   \"div\",\n\
 \x20   { class: \"card\" },\n\
-\x20   make(\"h3\", {}, `${plural(total.all.objects, \"object\")}, ${plural(total.all.words, \"word\")}`),\n\
+\x20   make(\"h3\", {}, `${told}${plural(total.all.objects, \"object\")}, ${plural(total.all.words, \"word\")}`),\n\
 \x20   aboutReached(life, view.moment, total),\n\
 \x20   lines.length ? make(\"div\", { class: \"scroll\", tabindex: 0, role: \"region\", \"aria-label\": \"Objects by shape\" }, tab\
 le) : null,\n\

@@ -244,7 +244,8 @@ const KEYS = {\n\
 function ownsKey(target, key) {\n\
 \x20 if (target.matches(\"#wanted, textarea\")) return key !== \"Escape\";\n\
 \x20 const isPressed = key === \" \" || key === \"Enter\";\n\
-\x20 if (target.matches(\"button, a, summary, #names-file\")) return isPressed;\n\
+\x20 if (target.matches(\"a\")) return key === \"Enter\";\n\
+\x20 if (target.matches(\"button, summary, #names-file\")) return isPressed;\n\
 \x20 return target.matches(\".scroll\") && [\"ArrowUp\", \"ArrowDown\", \"PageUp\", \"PageDown\"].includes(key);\n\
 }\n\
 \n\

@@ -277,8 +277,9 @@ function tilesTable(life, region, row, view, choose) {\n\
 \x20 const heads = [\"address\", \"object\", \"state\", \"pointers\", \"weak slots\", \"data\"].map((head) => make(\"th\", { scope\
 : \"col\" }, head));\n\
 \x20 const lines = row.tiles.map((tile) => tileLine(tile, region, life, view, choose));\n\
-\x20 return make(\"div\", { class: \"scroll\" }, make(\"table\", {}, make(\"thead\", {}, make(\"tr\", {}, heads)), make(\"tbody\", \
-{}, lines)));\n\
+\x20 const table = make(\"table\", {}, make(\"thead\", {}, make(\"tr\", {}, heads)), make(\"tbody\", {}, lines));\n\
+\x20 return make(\"div\", { class: \"scroll\", tabindex: 0, role: \"region\", \"aria-label\": `Objects of region ${region}` }, tabl\
+e);\n\
 }\n\
 \n\
 // What is said of a region's tops, and of its remembered set.\n\

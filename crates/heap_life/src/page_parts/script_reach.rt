@@ -19,6 +19,13 @@ function rootsAt(life, moment) {\n\
 ) : null }));\n\
 }\n\
 \n\
+// How many regions have objects that aren't told at a moment.\n\
+function untoldAt(life, moment) {\n\
+\x20 let untold = 0;\n\
+\x20 for (let region = 0; region < life.sizes.regions; region += 1) untold += tellsObjects(life, region, moment) ? 0 : 1;\n\
+\x20 return untold;\n\
+}\n\
+\n\
 // What keeps the file from telling all that is reached, in words, or nothing.\n\
 function unsureAt(life, moment, reached) {\n\
 \x20 const why = [];\n\
@@ -26,8 +33,7 @@ function unsureAt(life, moment, reached) {\n\
 \x20 if (life.moments[moment].roots.length >= MOST_ROOTS) why.push(`of the roots the first ${MOST_ROOTS} are in the file`);\n\
 \x20 const long = [...reached.keys()].filter((name) => places.get(name).tile.pointers.more).length;\n\
 \x20 if (long) why.push(`${plural(long, \"reached object has\", \"reached objects have\")} pointers that aren't in the file`);\n\
-\x20 let untold = 0;\n\
-\x20 for (let region = 0; region < life.sizes.regions; region += 1) untold += tellsObjects(life, region, moment) ? 0 : 1;\n\
+\x20 const untold = untoldAt(life, moment);\n\
 \x20 if (untold) why.push(`the objects of ${plural(untold, \"region\")} aren't in the file`);\n\
 \x20 return why;\n\
 }\n\
