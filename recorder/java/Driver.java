@@ -109,20 +109,21 @@ public final class Driver {
         final Map<Long, Node> places = new HashMap<>();
         final int spare = stacks.length;
 
-        void take(String step, Node it) {
-            int to = held.size();
+        /** Writes the step that reads an object into the first free register, which it keeps if it wasn't met before. */
+        void take(String verb, String from, Node it) {
+            String step = spare + verb + held.size() + from;
             if (it != null && places.putIfAbsent(it.name, it) == null) held.add(it);
             if (held.size() >= registers) throw new IllegalStateException("more objects are reached than a mutator has registers");
             String reply = it != null && places.get(it.name) != it ? "#18446744073709551614" : spell(it);
-            tell(String.format(step, to), reply);
+            tell(step, reply);
         }
 
         void takeRoots() {
-            for (int i = 0; i < globals.length; i++) take(spare + " load r%d g" + i, globals[i]);
+            for (int i = 0; i < globals.length; i++) take(" load r", " g" + i, globals[i]);
             for (int m = 0; m < spare; m++) {
                 for (int i = 0; i < stacks[m].length; i++) {
                     tell(m + " save g" + globals.length + " r" + i, "ok");
-                    take(spare + " load r%d g" + globals.length, stacks[m][i]);
+                    take(" load r", " g" + globals.length, stacks[m][i]);
                 }
             }
         }
@@ -132,12 +133,12 @@ public final class Driver {
             tell(spare + " shape r" + at, it.count() + " " + it.words.length);
             tell(spare + " weaks r" + at, "" + it.weaks.size());
             for (int j = 0; j < it.words.length; j++) tell(spare + " read r" + at + " " + j, Long.toUnsignedString(it.words[j]));
-            for (int i = 0; i < it.count(); i++) take(spare + " get r%d r" + at + " " + i, it.pointers[it.slack + i]);
+            for (int i = 0; i < it.count(); i++) take(" get r", " r" + at + " " + i, it.pointers[it.slack + i]);
             for (int i = 0; i < it.weaks.size(); i++) {
                 WeakReference<Node> slot = it.weaks.get(i);
                 Node found = slot == null ? null : slot.get();
                 if (found == null) it.weaks.set(i, null);
-                else take(spare + " getweak r%d r" + at + " " + i, found);
+                else take(" getweak r", " r" + at + " " + i, found);
             }
         }
 
@@ -192,11 +193,12 @@ public final class Driver {
         return Integer.parseInt(word.substring(1));
     }
 
-    private static String put(Node of, int count, long i) {
+    /** How a step ends that uses field or word i of an object that has so many. */
+    private static String outcome(Node of, int count, long i) {
         return of == null ? "refused 1 Nil" : i >= count ? "refused 2 NoField" : "ok";
     }
 
-    /** A step of mutator m that a script has: its reply, or null where it is none that this driver knows. */
+    /** Takes a step of mutator m, and gives its reply. */
     private String reply(int m, String[] words) {
         Node[] stack = stacks[m];
         switch (words[1]) {
@@ -225,7 +227,7 @@ public final class Driver {
         boolean weak = words[1].equals("getweak");
         Node of = stack[number(words[3])], found;
         long i = Long.parseLong(words[4]);
-        String refusal = put(of, of == null ? 0 : weak ? of.weaks.size() : of.count(), i);
+        String refusal = outcome(of, of == null ? 0 : weak ? of.weaks.size() : of.count(), i);
         if (!refusal.equals("ok")) return refusal;
         if (weak) {
             WeakReference<Node> slot = of.weaks.get((int) i);
@@ -241,7 +243,7 @@ public final class Driver {
         boolean weak = words[1].equals("putweak");
         Node of = stack[number(words[2])], value = words[4].equals("nil") ? null : stack[number(words[4])];
         long i = Long.parseLong(words[3]);
-        String reply = put(of, of == null ? 0 : weak ? of.weaks.size() : of.count(), i);
+        String reply = outcome(of, of == null ? 0 : weak ? of.weaks.size() : of.count(), i);
         if (!reply.equals("ok")) return reply;
         if (weak) of.weaks.set((int) i, value == null ? null : new WeakReference<>(value));
         else of.pointers[of.slack + (int) i] = value;
@@ -250,7 +252,7 @@ public final class Driver {
 
     private static String useWord(Node of, String[] words) {
         long j = Long.parseLong(words[3]);
-        String reply = put(of, of == null ? 0 : of.words.length, j);
+        String reply = outcome(of, of == null ? 0 : of.words.length, j);
         if (!reply.equals("ok")) return reply;
         if (words[1].equals("read")) return Long.toUnsignedString(of.words[(int) j]);
         of.words[(int) j] = Long.parseUnsignedLong(words[4]);
