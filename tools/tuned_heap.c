@@ -1,5 +1,5 @@
-/* An anchor: what a heap behind g1heap.h costs at least. It has the steps of mutators with the same answers, tests and barriers, laid out for
-   speed alone: an object's fields by its address, a register as one word, one test of a number and its row's bound, a byte for a card. It
+/* An anchor: what a heap behind g1heap.h costs at least. It has the steps of mutators with the same answers, tests and barriers, laid out
+   for speed alone: an object's fields by its address, a register as one word, one test of a number and its row's bound, a byte for a card. It
    has no names (an object's address is its name), no weak slots and no collector: nothing is ever freed, and a marking that began goes on.
    tools/measure_clients measures it; nothing of it is proved, and it is no part of the library.
 
