@@ -37,6 +37,3 @@ pub mod placement;
 
 pub use buffers::{AllocBuffers, Buffer};
 pub use placement::{Full, Place};
-
-#[cfg(test)]
-mod tests;

@@ -4,5 +4,3 @@ pub mod Copies
 pub mod FieldUpdates
 pub mod Loops
 pub mod WholePause
-pub mod Samples
-pub mod SampleTables

@@ -4,4 +4,3 @@ pub mod Turns
 pub mod Cursors
 pub mod Rooms
 pub mod Releasing
-pub mod Samples

@@ -36,6 +36,3 @@ mod visited;
 
 pub use pause::{Moved, evacuate};
 pub use room::PauseRoom;
-
-#[cfg(test)]
-mod tests;

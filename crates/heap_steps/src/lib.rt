@@ -29,8 +29,6 @@ mod allowed;
 mod fault;
 mod record;
 mod step;
-#[cfg(test)]
-mod tests;
 
 pub use fault::{RunFault, run_fault};
 pub use record::{Plan, Record};

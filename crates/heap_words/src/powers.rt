@@ -20,26 +20,3 @@ pub fn quotient(number: u32, size: u32) -> u32
         number / size
     }
 }
-
-#[cfg(test)]
-mod tests {
-    use super::*;
-    use std::test::Fail;
-
-    /// By powers of two, the first and the last of them, and by other sizes.
-    #[test]
-    fn divides(rt: HostRuntime) -> Result<(), Fail> {
-        for (number, size, found) in [
-            (0, 1, 0),
-            (4_294_967_295, 1, 4_294_967_295),
-            (1_000, 16, 62),
-            (1_008, 16, 63),
-            (4_294_967_295, 2_147_483_648, 1),
-            (1_000, 24, 41),
-            (4_294_967_295, 4_294_967_295, 1),
-        ] {
-            assert_eq!(rt; quotient(number, size), found, "{number} by {size}");
-        }
-        Ok(())
-    }
-}

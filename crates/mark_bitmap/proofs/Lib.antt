@@ -8,4 +8,3 @@ pub mod Spans
 pub mod LiveWords
 pub mod Summaries
 pub mod LiveBounds
-pub mod Samples

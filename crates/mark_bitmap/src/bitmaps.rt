@@ -49,27 +49,3 @@ impl Bitmaps {
         std::mem::swap(&mut self.previous, &mut self.next);
     }
 }
-
-#[cfg(test)]
-mod tests {
-    use super::*;
-    use heap_words::addr::Addr;
-    use std::test::Fail;
-
-    /// What was marked as next is previous after the exchange, and the other way round.
-    #[test]
-    fn exchanges_roles(rt: HostRuntime) -> Result<(), Fail> {
-        let mut both = Bitmaps::new(rt.alloc(), 128)?;
-        for (at, next) in [(5, true), (70, false)] {
-            if next && at < both.next.len() {
-                both.next.set(Addr::new(at));
-            } else if at < both.previous.len() {
-                both.previous.set(Addr::new(at));
-            }
-        }
-        both.swap_roles();
-        assert_eq!(rt; both.previous.next(Addr::new(0)), Some(Addr::new(5)));
-        assert_eq!(rt; both.next.next(Addr::new(0)), Some(Addr::new(70)));
-        Ok(())
-    }
-}

@@ -137,33 +137,3 @@ impl Fingers {
         lowest_of(&self.set, self.count)
     }
 }
-
-#[cfg(test)]
-mod tests {
-    use super::*;
-    use std::test::Fail;
-
-    /// Fingers are set, one twice, and fall, one twice; the lowest is found, and none where none is set.
-    #[test]
-    fn finds_the_lowest(rt: HostRuntime) -> Result<(), Fail> {
-        let mut fingers = Fingers::new(rt.alloc(), 10_000)?;
-        assert!(rt; fingers.is_empty());
-        assert_eq!(rt; fingers.lowest(), None);
-        fingers.set(70);
-        fingers.set(9_000);
-        fingers.set(3);
-        fingers.set(70);
-        assert_eq!(rt; fingers.lowest(), Some(3));
-        fingers.remove(70);
-        fingers.remove(70);
-        fingers.remove(3);
-        assert_eq!(rt; fingers.lowest(), Some(9_000));
-        fingers.remove(9_000);
-        assert!(rt; fingers.is_empty());
-        assert_eq!(rt; fingers.lowest(), None);
-        fingers.set(9_999);
-        fingers.clear();
-        assert!(rt; fingers.is_empty());
-        Ok(())
-    }
-}

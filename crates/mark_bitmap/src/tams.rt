@@ -177,37 +177,3 @@ pub fn below_law()
     ensures others { (words : ℕ) (tops : List ℕ) (k top a : ℕ) → 0 < words → is_in_region words k a ≡ false
         → is_below words (slice_set tops k top) a ≡ is_below words tops a }
 {}
-
-#[cfg(test)]
-mod tests {
-    use super::*;
-    use std::test::Fail;
-
-    /// Three regions of 16 words over a cycle: at first nothing lies below a top; then region 1 has its next top at
-    /// 20, which becomes the previous one, and is released.
-    #[test]
-    fn lives_over_a_cycle(rt: HostRuntime) -> Result<(), Fail> {
-        let mut tops = Tams::new(rt.alloc(), 3, 16)?;
-        let region = RegionNo::new(1);
-        for at in [0, 15, 16, 47, 48, 4_000_000_000] {
-            assert!(rt;
-                !tops.is_below_previous(16, Addr::new(at)) && !tops.is_below_next(16, Addr::new(at))
-            );
-        }
-        tops.set_next(region, Addr::new(20));
-        assert!(rt; tops.next(region) == Addr::new(20) && tops.previous(region) == Addr::new(16));
-        assert!(rt;
-            tops.is_below_next(16, Addr::new(19)) && !tops.is_below_next(16, Addr::new(20))
-        );
-        assert!(rt;
-            !tops.is_below_next(16, Addr::new(35)) && !tops.is_below_previous(16, Addr::new(19))
-        );
-        tops.swap_roles();
-        assert!(rt;
-            tops.is_below_previous(16, Addr::new(16)) && !tops.is_below_next(16, Addr::new(16))
-        );
-        tops.reset(region, Addr::new(16));
-        assert!(rt; tops.next(region) == Addr::new(16) && tops.previous(region) == Addr::new(16));
-        Ok(())
-    }
-}

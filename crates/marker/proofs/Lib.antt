@@ -11,6 +11,5 @@ pub mod Begun
 pub mod Logs
 pub mod Ended
 pub mod Forgotten
-pub mod Samples
 pub mod Slots
 pub mod Swept

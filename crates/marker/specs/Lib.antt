@@ -6,4 +6,3 @@ pub mod Steps
 pub mod Roots
 pub mod Clears
 pub mod Ends
-pub mod Samples

@@ -42,6 +42,3 @@ pub mod marker;
 mod scan;
 
 pub use marker::Marker;
-
-#[cfg(test)]
-mod tests;

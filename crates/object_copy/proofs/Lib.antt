@@ -1,4 +1,3 @@
 pub mod Frees
 pub mod Opened
 pub mod Copied
-pub mod Samples

@@ -20,6 +20,3 @@ pub mod destinations;
 
 pub use copies::copy;
 pub use destinations::Destinations;
-
-#[cfg(test)]
-mod tests;

@@ -4,4 +4,3 @@ pub mod Holders
 pub mod Fields
 pub mod Scanned
 pub mod Counted
-pub mod Samples

@@ -1,3 +1,2 @@
 pub mod Remembering
 pub mod Refining
-pub mod Samples

@@ -30,6 +30,3 @@ pub mod scan;
 pub use links::next_link;
 pub use refine::refine_one;
 pub use scan::{is_kept, scan_card};
-
-#[cfg(test)]
-mod tests;

@@ -4,5 +4,3 @@ pub mod Tiles
 pub mod LongRuns
 pub mod Walks
 pub mod Cards
-pub mod Samples
-pub mod WeakSamples

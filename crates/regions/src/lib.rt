@@ -34,6 +34,3 @@ mod weak_starts;
 pub use row::{Kind, Shape};
 pub use table::RegionTable;
 pub use walk::Walk;
-
-#[cfg(test)]
-mod tests;

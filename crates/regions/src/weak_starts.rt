@@ -135,31 +135,3 @@ impl RegionTable {
         }
     }
 }
-
-#[cfg(test)]
-mod tests {
-    use super::*;
-    use std::test::Fail;
-
-    /// Of regions of 100 addresses: an object with no weak slot isn't noted, the others are found one after the other, and
-    /// those of a region are gone with it.
-    #[test]
-    fn finds_the_next(rt: HostRuntime) -> Result<(), Fail> {
-        let mut starts = WeakStarts::new(rt.alloc(), 3, 100)?;
-        assert_eq!(rt; starts.next(0), None);
-        starts.note(5, 0);
-        starts.note(105, 1);
-        starts.note(199, 2);
-        starts.note(200, 255);
-        assert_eq!(rt; starts.next(0), Some(105));
-        assert_eq!(rt; starts.next(106), Some(199));
-        assert_eq!(rt; starts.next(200), Some(200));
-        assert_eq!(rt; starts.next(201), None);
-        starts.forget(105, 1);
-        starts.forget(200, 0);
-        assert_eq!(rt; starts.next(5), Some(199));
-        starts.release(1);
-        assert_eq!(rt; starts.next(0), Some(200));
-        Ok(())
-    }
-}

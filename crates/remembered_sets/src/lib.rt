@@ -28,6 +28,3 @@ mod set;
 pub mod sets;
 
 pub use sets::RememberedSets;
-
-#[cfg(test)]
-mod tests;

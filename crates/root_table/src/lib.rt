@@ -20,6 +20,3 @@ pub mod table;
 
 pub use places::Places;
 pub use table::Roots;
-
-#[cfg(test)]
-mod tests;

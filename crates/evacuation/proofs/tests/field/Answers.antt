@@ -1,7 +1,0 @@
-use Rattle.refinement.proofs.Samples.{tile_some}
-use Rattle.evacuation.proofs.Samples.{object_of_shape}
-use Rattle.evacuation.proofs.tests.field.Goals as goal
-
-pub field_count-requires : goal.field_count-requires
-field_count-requires c = object_of_shape c.args.table.now c.in_ok-at.at _ _ _ c.tile.result c.tile.ensures
-    (tile_some c.args.table.now c.in_ok-at.at c.args.word c.in_ok-at.ensures.holder) c.in-Object.is

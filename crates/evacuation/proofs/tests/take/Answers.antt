@@ -1,6 +1,0 @@
-use Rattle.std.proofs.Common.{refl}
-use Rattle.refinement.proofs.Samples.{take_sample}
-use Rattle.evacuation.proofs.tests.take.Goals as goal
-
-pub returns : goal.returns
-returns c = take_sample c.args.table.now c.take_free.new.self _ refl c.take_free.ensures.taken c.requires

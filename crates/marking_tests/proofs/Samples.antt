@@ -1,0 +1,336 @@
+-- Tables that tests build: each pointer leads to an object.
+use Rattle.std.proofs.Common.{◌≡◌, ◌≢◌, ◌+◌, ◌-◌, ◌*◌, ◌/◌, ◌%◌, ◌<◌, ◌≤◌, ◌∷◌, ◌++◌, ◌∙◌}
+use Rattle.std.proofs.Common.{inl, inr, ℕ, zero, suc, true, false, List, [], Option, Some, None, length, get_or, set, replicate, refl, sym}
+use Rattle.std.proofs.Common.{ap, subst, arith, get_or-set_same, get_or-set_other, length-set}
+use Rattle.std.specs.Prelude.{slice_get, IsSome}
+use Rattle.std.proofs.lemmas.Bool.{cases_lt, cases_eq}
+use Rattle.std.proofs.lemmas.Bool.Decides.{leb_tells}
+use Rattle.std.proofs.lemmas.List.{get_or-replicate, length-replicate, get_or_past}
+use Rattle.std.proofs.lemmas.Option.{slice_get_within, slice_get_read, get_or_from_slice_get}
+use Rattle.heap_model.specs.Heap.{Stored, IsClosed, fields, with_field}
+use Rattle.heap_model.proofs.Fields.{field_set}
+use Rattle.heap_model.proofs.Lists.{get-set_cases, get-append_cases}
+use Rattle.regions.specs.Tiles.{Tile, Object, Filler, tile_size, tile_at}
+use Rattle.regions.specs.Table.{Region, Free, Table, region_tile, region_at, tile_in, tile_object, object_at, stored_size}
+use Rattle.regions.specs.Table.{object_words, free_table, taken, first_free, set_field, push_tile, replace_tile, new_object}
+use Rattle.regions.specs.Table.{remainder, used_of, top_of, kind_of, HasObject}
+use Rattle.regions.specs.declared.row.Kind.TheVariants as kinds
+use Rattle.regions.specs.Shaped.{IsShaped}
+use Rattle.regions.specs.Walks.{IsHolder}
+use Rattle.regions.proofs.Tiles.Changes.{WritesObject, field_put, field_size, object_same}
+use Rattle.regions.proofs.Tiles.Placing.{region_taken, Pushed, filler_push, Replaces, filler_replaced}
+use Rattle.mark_bitmap.specs.Tops.{is_below, below_previous}
+use Rattle.marker.specs.Views.{heap_of}
+use Rattle.marker.specs.Stands.{IsKept, CanFollow, MarkerStands}
+use Rattle.marking_tests.specs.Samples.{IsLinked, LeadToObjects, Keeps}
+use Rattle.marker.specs.declared.marker.Marker.{Marker}
+use Rattle.marker.proofs.Forgotten.{table_stands}
+
+free_region : (n k : ℕ) → get_or (replicate n Free) k Free ≡ Free
+free_region n k = elim (cases_lt k n) [
+  | inl h ↦ get_or-replicate n k Free Free h
+  | inr h ↦ get_or_past (replicate n Free) k Free (omega (arith, h, length-replicate {A = Region} n Free))
+]
+
+pub free_linked : (t : Table) (count size : ℕ) → t ≡ free_table count size → IsLinked t
+unfolding object_at tile_in region_at free_table
+free_linked t count size e a i b x o f =
+    let none : object_at t a ≡ None =
+    ap (λ (u : Table). object_at u a) e ∙ ap (λ (r : Region). tile_object (region_tile r (a % size))) (free_region count (a / size)) in
+    absurd (cc)
+
+pub free_size : (t : Table) (count size : ℕ) → t ≡ free_table count size → (length t.regions ≡ count) × (t.words_per_region ≡ size)
+unfolding free_table
+free_size t count size e = (ap (λ (u : Table). length u.regions) e ∙ length-replicate count Free, ap (λ (u : Table). u.words_per_region) e)
+
+pub keeps_refl : (t : Table) → Keeps t t
+keeps_refl t = record { count = refl; size = refl; linked = λ l. l; tops = λ k. omega arith; stays = λ a o. o; words = λ a o. refl }
+
+pub keeps_trans : (t u v : Table) → Keeps t u → Keeps u v → Keeps t v
+keeps_trans t u v p q = record {
+  count = q.count ∙ p.count;
+  size = q.size ∙ p.size;
+  linked = λ l. q.linked (p.linked l);
+  tops = λ k. omega (arith, p.tops k, q.tops k);
+  stays = λ a h. q.stays a (p.stays a h);
+  words = λ a h. q.words a (p.stays a h) ∙ p.words a h;
+}
+
+-- where a region's words handed out are as many as before, or more, its top doesn't fall
+top_stays : (t t' : Table) (k : ℕ) → t'.words_per_region ≡ t.words_per_region → used_of t k ≤ used_of t' k → top_of t k ≤ top_of t' k
+top_stays t t' k size used =
+    let same : k * t'.words_per_region ≡ k * t.words_per_region = ap (λ (n : ℕ). k * n) size in
+    omega (arith, same, used)
+
+same_size : (t t' : Table) (a b : ℕ) → object_at t' b ≡ object_at t a → object_words t' b ≡ object_words t a
+unfolding object_words
+same_size t t' a b e = ap stored_size e
+
+same_objects : (t t' : Table) → length t'.regions ≡ length t.regions → t'.words_per_region ≡ t.words_per_region
+    → ((k : ℕ) → used_of t' k ≡ used_of t k) → ((a : ℕ) → object_at t' a ≡ object_at t a) → Keeps t t'
+same_objects t t' count size used same = record {
+  count = count;
+  size = size;
+  tops = λ k. top_stays t t' k size (omega (arith, used k));
+  linked = λ l a i b x o f. let h = l a i b x (sym (same a) ∙ o) f in record { object = h.object; is = same b ∙ h.is };
+  stays = λ a h. record { object = h.object; is = same a ∙ h.is };
+  words = λ a h. same_size t t' a a (same a);
+}
+
+pub take_keeps : (t t' : Table) (o : Option ℕ) → first_free t ≡ o → t' ≡ taken t o → Keeps t t'
+take_keeps t t' None f e = subst (λ (u : Table). Keeps t u) (sym e) (keeps_refl t)
+take_keeps t t' (Some k) f e =
+    let p = region_taken t k f in
+    subst (λ (u : Table). Keeps t u) (sym e)
+    (same_objects t (taken t (Some k)) p.count p.size p.used (λ a. object_same t (taken t (Some k)) a (p.others a)))
+
+module _ (t : Table) (x i b : ℕ) (z : 0 < t.words_per_region) (from : HasObject t x) (to : HasObject t b) where
+  abbrev s : Stored
+  s = from.object
+
+  abbrev u : Table
+  u = set_field t x i (Some b)
+
+  w : WritesObject t u x s (with_field s i (Some b))
+  w = field_put t x i (Some b) s z from.is
+
+  link_stays : (a : ℕ) → HasObject t a → HasObject u a
+  link_stays a h = elim (cases_eq a x) [
+    | inl same ↦ record { object = with_field s i (Some b); is = ap (object_at u) same ∙ w.is }
+    | inr other ↦ record { object = h.object; is = object_same t u a (w.others a other) ∙ h.is }
+  ]
+
+  link_words : (a : ℕ) → HasObject t a → object_words u a ≡ object_words t a
+  unfolding object_words
+  link_words a h = elim (cases_eq a x) [
+    | inl same ↦ ap (object_words u) same ∙ ap stored_size w.is ∙ field_size s i (Some b)
+        ∙ sym (ap stored_size from.is) ∙ sym (ap (object_words t) same)
+    | inr other ↦ ap stored_size (object_same t u a (w.others a other))
+  ]
+
+  linked : IsLinked t → IsLinked u
+  linked l a j c y o f = elim (cases_eq a x) [
+    | inl same ↦
+        let y_is : y ≡ with_field s i (Some b) = let e1 = w.is in let e2 = sym (ap (object_at u) same) ∙ o in cc in
+        let now : slice_get (set (fields s) i (Some b)) j ≡ Some (Some c) =
+        ap (λ k. slice_get k j) (sym (field_set s i (Some b)).fields_are) ∙ ap (λ (q : Stored). slice_get (fields q) j) (sym y_is) ∙ f in
+        elim (get-set_cases (fields s) i j (Some b) (Some c) now) [
+          | inl is ↦ let end : c ≡ b = cc in subst (λ (k : ℕ). HasObject u k) (sym end) (link_stays b to)
+          | inr was ↦ link_stays c (l x j c s from.is was)
+        ]
+    | inr other ↦ link_stays c (l a j c y (sym (object_same t u a (w.others a other)) ∙ o) f)
+  ]
+
+  pub link_keeps : (t' : Table) → t' ≡ set_field t x i (Some b) → Keeps t t'
+  link_keeps t' e = subst (λ (v : Table). Keeps t v) (sym e)
+      (record {
+        count = w.count;
+        size = w.size;
+        linked = linked;
+        tops = λ k. top_stays t u k w.size (omega (arith, w.used k));
+        stays = link_stays;
+        words = link_words;
+      })
+
+nil_alone : (n i b : ℕ) → slice_get (replicate n None) i ≡ Some (Some b) → ⊥
+nil_alone n i b e =
+    let inside : i < n =
+    let h = slice_get_within (replicate n None) i (Some b) e in
+    omega (arith, h, length-replicate {A = Option ℕ} n None) in
+    let read : get_or (replicate n None) i None ≡ Some b = get_or_from_slice_get (replicate n None) i (Some b) None e in
+    let none : get_or (replicate n None) i None ≡ None = get_or-replicate {A = Option ℕ} n i None None inside in
+    cc
+
+pub set_leads : (t : Table) (words : List (Option ℕ)) (k a : ℕ) → LeadToObjects t words → HasObject t a
+    → LeadToObjects t (set words k (Some a))
+set_leads t words k a l h i b e =
+    let inside : i < length words =
+    let p = slice_get_within (set words k (Some a)) i (Some b) e in
+    omega (arith, p, length-set words k (Some a)) in
+    let read : get_or (set words k (Some a)) i (Some b) ≡ Some b = get_or_from_slice_get (set words k (Some a)) i (Some b) (Some b) e in
+    elim (cases_eq i k) [
+      | inl same ↦
+          let wrote : get_or (set words k (Some a)) i (Some b) ≡ Some a =
+          ap (λ (j : ℕ). get_or (set words k (Some a)) j (Some b)) same
+          ∙ get_or-set_same words k (Some a) (Some b) (omega (arith, inside, same)) in
+          let end : b ≡ a = cc in subst (λ (x : ℕ). HasObject t x) (sym end) h
+      | inr other ↦ l i b (slice_get_read words (length words) i (Some b) refl inside
+          (sym (sym (get_or-set_other words k i (Some a) (Some b) other) ∙ read)))
+    ]
+
+-- a marker just made keeps every object
+pub linked_closed : (t : Table) (roots : List (Option ℕ)) (m : Marker) → IsLinked t → LeadToObjects t roots
+    → ((a : ℕ) → below_previous t m.tams a ≡ false) → IsClosed (heap_of t roots m)
+linked_closed t roots m linked leads none =
+    let kept : (a : ℕ) → (heap_of t roots m).kept a ≡ object_at t a = λ a. rw (none a) refl in
+    record {
+      root = λ j a e. let h = leads j a e in (h.object, kept a ∙ h.is);
+      field = λ b i a y e f. let h = linked b i a y (sym (kept b) ∙ e) f in (h.object, kept a ∙ h.is);
+    }
+
+nil_fields : (name n weak i b : ℕ) → slice_get (fields (new_object name n weak 0)) i ≡ Some (Some b) → ⊥
+nil_fields name n weak i b e = elim (get-append_cases (replicate n None) (replicate weak None) i (Some b) e) [
+  | inl q ↦ nil_alone n i b q
+  | inr q ↦ nil_alone weak q.0 b q.1
+]
+
+alone : (t : Tile) (j : ℕ) → 0 < j → tile_at j (t ∷ []) ≡ None
+alone t zero h = absurd (omega arith)
+alone t (suc j) h = elim (leb_tells (tile_size t) (suc j)) [ inl q ↦ rw q.0 refl | inr q ↦ rw q.0 refl ]
+
+-- an object with nil fields is made where a filler was pushed
+module _ (t t' t'' : Table) (k a n p weak name : ℕ) (shape : IsShaped t) (shape' : IsShaped t') (known : k < length t.regions)
+    (ordinary : kind_of t k ≡ kinds.Ordinary) (room : used_of t k + n ≤ t.words_per_region) (size : n ≡ 2 + p + weak)
+    (at : a ≡ top_of t k) (e : t' ≡ push_tile t k (Filler n))
+    (e' : t'' ≡ replace_tile t' a (Object (new_object name p weak 0) ∷ remainder (n - (2 + p + weak + 0)))) where
+  abbrev new : Stored
+  new = new_object name p weak 0
+
+  push : Pushed t t' k a (Filler n)
+  push = rw (e, at) (filler_push t k (Filler n) shape.positive shape.fitting known ordinary (omega (arith, size)) room tt)
+
+  whole : n - (2 + p + weak + 0) ≡ 0
+  whole = omega (arith, size)
+
+  words : tile_size (Object new) ≡ n
+  words = omega (arith, size, length-replicate {A = Option ℕ} p None, length-replicate {A = Option ℕ} weak None)
+
+  replaced : Replaces t' t'' a n (Object new ∷ [])
+  replaced =
+      let e2 : t'' ≡ replace_tile t' a (Object new ∷ []) = e' ∙ ap (λ (m : ℕ). replace_tile t' a (Object new ∷ remainder m)) whole in
+      subst (λ (u : Table). Replaces t' u a n (Object new ∷ [])) (sym e2)
+      (filler_replaced t' a n (Object new ∷ []) shape'.positive shape'.fitting push.is (omega (arith, size))
+      (omega (arith, words), tt) (omega (arith, words)) tt)
+
+  here : tile_in t'' a ≡ Some (Object new)
+  here = let z : a + 0 ≡ a = omega arith in ap (tile_in t'') (sym z) ∙ replaced.within 0 (omega (arith, size))
+
+  new_is : object_at t'' a ≡ Some new
+  unfolding object_at
+  new_is = ap tile_object here
+
+  middle : (y : ℕ) → y ≢ a → tile_in t'' y ≡ tile_in t' y
+  middle y apart = elim (cases_lt y a) [
+    | inl low ↦ replaced.others y (inl low)
+    | inr high ↦ elim (cases_lt y (a + n)) [
+      | inl inside ↦
+          let j : ℕ = y - a in
+          let y_is : a + j ≡ y = omega (arith, high) in
+          ap (tile_in t'') (sym y_is) ∙ replaced.within j (omega (arith, high, inside)) ∙ alone (Object new) j (omega (arith, high, apart))
+          ∙ sym (replaced.inside j (omega (arith, high, apart)) (omega (arith, high, inside))) ∙ ap (tile_in t') y_is
+      | inr past ↦ replaced.others y (inr past)
+    ]
+  ]
+
+  -- another object was there before, or there is none
+  other : (y : ℕ) → y ≢ a → object_at t'' y ≡ object_at t y
+  unfolding object_at
+  other y apart = ap tile_object (middle y apart ∙ push.others y apart)
+
+  was : object_at t a ≡ None
+  unfolding object_at
+  was = ap tile_object push.was
+
+  add_stays : (y : ℕ) → HasObject t y → HasObject t'' y
+  add_stays y h = elim (cases_eq y a) [
+    | inl same ↦ absurd (let o = sym (ap (object_at t) same) ∙ h.is in let w = was in cc)
+    | inr apart ↦ record { object = h.object; is = other y apart ∙ h.is }
+  ]
+
+  pub add_keeps : Keeps t t''
+  add_keeps = record {
+    count = replaced.count ∙ push.count;
+    size = replaced.size ∙ push.size;
+    linked = λ l y i b x o f. elim (cases_eq y a) [
+      | inl same ↦
+          let x_is : x ≡ new = let m = new_is in let o' = sym (ap (object_at t'') same) ∙ o in cc in
+          absurd (nil_fields name p weak i b (ap (λ (q : Stored). slice_get (fields q) i) (sym x_is) ∙ f))
+      | inr apart ↦ add_stays b (l y i b x (sym (other y apart) ∙ o) f)
+    ];
+    tops = λ j. top_stays t t'' j (replaced.size ∙ push.size) (elim (cases_eq j k) [
+      | inl same ↦
+          let used = push.used in
+          let now = ap (used_of t') same in
+          let was = ap (used_of t) same in
+          omega (arith, used, now, was, replaced.used j)
+      | inr apart ↦ omega (arith, push.used_others j apart, replaced.used j)
+    ]);
+    stays = add_stays;
+    words = λ y h. elim (cases_eq y a) [
+      | inl same ↦ absurd (let o = sym (ap (object_at t) same) ∙ h.is in let none = was in cc)
+      | inr apart ↦ same_size t t'' y y (other y apart)
+    ];
+  }
+
+  pub add_made : HasObject t'' a
+  add_made = record { object = new; is = new_is }
+
+pub add_there : (t t' : Table) (k a n : ℕ) → IsShaped t → k < length t.regions → kind_of t k ≡ kinds.Ordinary
+    → used_of t k + n ≤ t.words_per_region → 0 < n → a ≡ top_of t k
+    → t' ≡ push_tile t k (Filler n) → tile_in t' a ≡ Some (Filler n)
+add_there t t' k a n shape known ordinary room z at e =
+    rw (e, at) (filler_push t k (Filler n) shape.positive shape.fitting known ordinary z room tt).is
+
+pub each_push : (P : ℕ → Type 0) (items : List ℕ) (b : ℕ) → ((i a : ℕ) → slice_get items i ≡ Some a → P a) → P b → (i a : ℕ)
+    → slice_get (items ++ b ∷ []) i ≡ Some a → P a
+each_push P [] b all p zero a e = let same : b ≡ a = cc in subst P same p
+each_push P [] b all p (suc i) a e = cc
+each_push P (x ∷ xs) b all p zero a e = all zero a e
+each_push P (x ∷ xs) b all p (suc i) a e = each_push P xs b (λ j c. all (suc j) c) p i a e
+
+pub objects_push : (t t' : Table) (items now : List ℕ) (b : ℕ) → Keeps t t' → HasObject t' b → now ≡ items ++ b ∷ []
+    → ((i a : ℕ) → slice_get items i ≡ Some a → HasObject t a) → (i a : ℕ) → slice_get now i ≡ Some a → HasObject t' a
+objects_push t t' items now b k h e all i a f =
+    each_push (HasObject t') items b (λ j c g. k.stays c (all j c g)) h i a (ap (λ (l : List ℕ). slice_get l i) (sym e) ∙ f)
+
+pub object_read : (t : Table) (items : List ℕ) (n i a : ℕ) → n ≡ length items → i < n → a ≡ get_or items i a
+    → ((i a : ℕ) → slice_get items i ≡ Some a → HasObject t a) → HasObject t a
+object_read t items n i a len inside e all = all i a (slice_get_read items n i a len inside e)
+
+pub object_kept : (t : Table) (m m' : Marker) (a : ℕ) → ((b : ℕ) → below_previous t m.tams b ≡ false)
+    → m'.tams.previous ≡ m.tams.previous → HasObject t a → IsKept t m' a
+object_kept t m m' a none tops h =
+    let below : below_previous t m'.tams a ≡ false = ap (λ (l : List ℕ). is_below t.words_per_region l a) tops ∙ none a in
+    record { object = h.object; is = rw below h.is }
+
+-- the previous tops stay at the bottoms while marking runs
+pub none_below : (t : Table) (m m' : Marker) → ((a : ℕ) → below_previous t m.tams a ≡ false) → m'.tams.previous ≡ m.tams.previous
+    → (a : ℕ) → below_previous t m'.tams a ≡ false
+none_below t m m' none tops a = ap (λ (l : List ℕ). is_below t.words_per_region l a) tops ∙ none a
+
+kept_back : (t : Table) (m : Marker) (a : ℕ) → ((b : ℕ) → below_previous t m.tams b ≡ false) → IsKept t m a → HasObject t a
+kept_back t m a none k = let below = none a in record { object = k.object; is = rw below at k.is }
+
+-- a marker that marks a table of which it keeps every object can go on over a larger one
+pub grown_stands : (t t' : Table) (m : Marker) → MarkerStands t m → IsLinked t
+    → ((a : ℕ) → below_previous t m.tams a ≡ false) → Keeps t t' → MarkerStands t' m
+grown_stands t t' m st linked none k =
+    table_stands t t' m st k.count k.size (λ j h. let top = st.previous.top j h in omega (arith, top, k.tops j))
+    (λ j h. let top = st.next.top j h in omega (arith, top, k.tops j))
+    (λ a x _ o. stays a x o) (λ a x _ o. stays a x o) (λ a h. let o = st.previous.object a h in words a o.0 o.1)
+    (λ a h. let o = st.next.object a h in words a o.0 o.1) follows
+  where
+    stays : (a : ℕ) (x : Stored) → object_at t a ≡ Some x → (y : Stored) × (object_at t' a ≡ Some y)
+    stays a x o = let h = k.stays a (record { object = x; is = o }) in (h.object, h.is)
+
+    words : (a : ℕ) (x : Stored) → object_at t a ≡ Some x → object_words t' a ≡ object_words t a
+    words a x o = k.words a (record { object = x; is = o })
+
+    none' : (a : ℕ) → below_previous t' m.tams a ≡ false
+    none' a = ap (λ (n : ℕ). is_below n m.tams.previous a) k.size ∙ none a
+
+    kept : (a : ℕ) → IsKept t m a → IsKept t' m a
+    kept a q = object_kept t' m m a none' refl (k.stays a (kept_back t m a none q))
+
+    follows : m.running ≡ true → CanFollow t' m
+    follows on =
+        let f = st.follows on in
+        record {
+          closed = linked_closed t' [] m (k.linked linked) (λ i a e. absurd (let z = e in cc)) none';
+          marked = λ a h. kept a (f.marked a h);
+          logged_kept = λ a l. kept a (f.logged_kept a l);
+          logged_below = λ a l. ap (λ (n : ℕ). is_below n m.tams.next a) k.size ∙ f.logged_below a l;
+        }
+
+pub held : (t : Table) (a w : ℕ) → IsHolder t a w → IsSome (tile_in t a)
+held t a w h = rw h.tile_is refl

@@ -1,0 +1,27 @@
+//! Tests of the layers that marking stands on, and of marking. They go by public calls alone and stand apart from the crates that they try,
+//! so that these are proved once. The crate has nothing else, and nothing stands on it.
+//!
+//! `headers`, `sizes`, `memory`, `number_sets` and `bounded_sets` try `heap_words`, `roots` tries `root_table`, `steps` tries `heap_steps`,
+//! `marks` tries `mark_bitmap`, `logs` tries `satb_log`, and `cycles` the `marker`, over tables made by hand.
+#![tactic(auto)]
+
+#[cfg(test)]
+mod bounded_sets;
+#[cfg(test)]
+mod cycles;
+#[cfg(test)]
+mod headers;
+#[cfg(test)]
+mod logs;
+#[cfg(test)]
+mod marks;
+#[cfg(test)]
+mod memory;
+#[cfg(test)]
+mod number_sets;
+#[cfg(test)]
+mod roots;
+#[cfg(test)]
+mod sizes;
+#[cfg(test)]
+mod steps;

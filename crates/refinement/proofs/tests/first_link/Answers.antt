@@ -1,6 +1,0 @@
-use Rattle.refinement.proofs.Samples.{is_object, tile_some}
-use Rattle.refinement.proofs.tests.first_link.Goals as goal
-
-pub field_count-requires : goal.field_count-requires
-field_count-requires c = is_object c.args.table.now c.in-Some.at _ _ _ c.tile.result c.tile.ensures
-    (tile_some c.args.table.now c.in-Some.at c.new.result c.in-Some.ensures.holder) c.in-Object.is

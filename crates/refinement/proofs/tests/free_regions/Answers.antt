@@ -1,5 +1,0 @@
-use Rattle.refinement.proofs.Samples.{free_sample}
-use Rattle.refinement.proofs.tests.free_regions.Goals as goal
-
-pub returns : goal.returns
-returns c = free_sample c.in-Ok.table c.in-Ok.ensures.made

@@ -1,0 +1,243 @@
+-- Tables that tests build: each pointer leads into a region.
+use Rattle.std.proofs.Common.{◌≡◌, ◌≢◌, ◌+◌, ◌-◌, ◌*◌, ◌/◌, ◌%◌, ◌<◌, ◌≤◌, ◌∷◌, ◌∙◌}
+use Rattle.std.proofs.Common.{inl, inr, ℕ, zero, suc, Bool, List, [], Option, Some, None, length}
+use Rattle.std.proofs.Common.{get_or, set, replicate, refl, sym, ap, subst, arith}
+use Rattle.std.specs.Prelude.{slice_get, IsSome, IfSome}
+use Rattle.std.proofs.lemmas.Bool.{cases_lt, cases_eq}
+use Rattle.std.proofs.lemmas.Bool.Decides.{leb_tells}
+use Rattle.std.proofs.lemmas.List.{get_or-replicate, length-replicate, get_or_past}
+use Rattle.std.proofs.lemmas.Nat.{div_below}
+use Rattle.std.proofs.lemmas.Option.{slice_get_within, get_or_from_slice_get}
+use Rattle.heap_model.specs.Heap.{Stored, fields, with_field}
+use Rattle.heap_model.proofs.Fields.{field_set}
+use Rattle.heap_model.proofs.Lists.{get-append_cases}
+use Rattle.regions.specs.Tiles.{Tile, Object, Filler, Forwarded, tile_size, tile_at}
+use Rattle.regions.specs.Table.{Region, Free, First, Table, nth_region, first_run, is_free, with_run, region_tile, region_at, tile_in}
+use Rattle.regions.specs.Table.{tile_object, object_at, free_table, taken, first_free, set_field, push_tile, replace_tile, new_object}
+use Rattle.regions.specs.Table.{remainder, used_of, top_of, kind_of, fields_at}
+use Rattle.regions.specs.declared.row.Kind.TheVariants as kinds
+use Rattle.regions.specs.Shaped.{IsShaped}
+use Rattle.regions.specs.Shapes.{tile_shape}
+use Rattle.regions.specs.Walks.{IsHolder}
+use Rattle.regions.specs.declared.row.Shape.{Shape}
+use Rattle.regions.specs.declared.row.Shape.TheVariants as shapes
+use Rattle.regions.proofs.Tiles.Changes.{field_put, object_same}
+use Rattle.regions.proofs.Tiles.Placing.{region_taken, Pushed, filler_push, Replaces, filler_replaced}
+use Rattle.regions.proofs.LongRuns.RunLaws.{TakesRun, run_made, tile_of_region}
+use Rattle.mark_bitmap.specs.Tops.{Tops}
+use Rattle.remembered_sets.specs.Sets.{Sets}
+use Rattle.refinement.specs.Refining.{CanScan}
+use Rattle.region_tests.specs.Samples.{IsSample}
+use Rattle.regions.proofs.Words.Divides.{div_is}
+use Rattle.refinement.proofs.Holders.{field_at, kept_object}
+use Rattle.refinement.proofs.Remembered.{set_here, set_there}
+
+free_region : (n k : ℕ) → get_or (replicate n Free) k Free ≡ Free
+free_region n k = elim (cases_lt k n) [
+  | inl h ↦ get_or-replicate n k Free Free h
+  | inr h ↦ get_or_past (replicate n Free) k Free (omega (arith, h, length-replicate {A = Region} n Free))
+]
+
+pub free_sample : (t : Table) → t ≡ free_table 4 16 → IsSample t
+unfolding object_at tile_in region_at free_table
+free_sample t e = record {
+  count = ap (λ (u : Table). length u.regions) e ∙ length-replicate 4 Free;
+  words = ap (λ (u : Table). u.words_per_region) e;
+  inside = λ a i b x o f.
+      let none : object_at t a ≡ None =
+      ap (λ (u : Table). object_at u a) e ∙ ap (λ (r : Region). tile_object (region_tile r (a % 16))) (free_region 4 (a / 16)) in
+      absurd (cc);
+}
+
+same_objects : (t t' : Table) → length t'.regions ≡ length t.regions → t'.words_per_region ≡ t.words_per_region
+    → ((a : ℕ) → object_at t' a ≡ object_at t a) → IsSample t → IsSample t'
+same_objects t t' count size same s = record {
+  count = count ∙ s.count;
+  words = size ∙ s.words;
+  inside = λ a i b x o f. let h = s.inside a i b x (sym (same a) ∙ o) f in rw (count, size) h;
+}
+
+pub take_sample : (t t' : Table) (o : Option ℕ) → first_free t ≡ o → t' ≡ taken t o → IsSample t → IsSample t'
+take_sample t t' None f e s = subst IsSample (sym e) s
+take_sample t t' (Some k) f e s =
+    let p = region_taken t k f in
+    subst IsSample (sym e) (same_objects t (taken t (Some k)) p.count p.size (λ a. object_same t (taken t (Some k)) a (p.others a)) s)
+
+-- a field is set to an address of the heap
+pub link_sample : (t t' : Table) (a i b : ℕ) → 0 < t.words_per_region → i < length (fields_at t a) → b < 64
+    → t' ≡ set_field t a i (Some b) → IsSample t → IsSample t'
+link_sample t t' a i b z known small e s =
+    let f = field_at t a i known in
+    let u : Table = set_field t a i (Some b) in
+    let w = field_put t a i (Some b) f.object z f.is in
+    let near : b / t.words_per_region < length t.regions = rw (s.count, s.words) (div_below b 16 4 (omega arith) small) in
+    subst IsSample (sym e) (record {
+      count = w.count ∙ s.count;
+      words = w.size ∙ s.words;
+      inside = λ c j v x o g. rw (w.count, w.size) (elim (cases_eq c a) [
+        | inl same ↦
+            let is = w.is in
+            let o' : object_at u a ≡ Some x = ap (object_at u) (sym same) ∙ o in
+            let x_is : x ≡ with_field f.object i (Some b) = cc in
+            let set_is : fields (with_field f.object i (Some b)) ≡ set (fields f.object) i (Some b) =
+            (field_set f.object i (Some b)).fields_are in
+            let now : slice_get (set (fields f.object) i (Some b)) j ≡ Some (Some v) =
+            ap (λ l. slice_get l j) (sym set_is) ∙ ap (λ (q : Stored). slice_get (fields q) j) (sym x_is) ∙ g in
+            elim (cases_eq j i) [
+              | inl at ↦
+                  let v_is : Some v ≡ Some b = set_here (fields f.object) i (Some b) (Some v)
+                  (ap (λ (k : ℕ). slice_get (set (fields f.object) i (Some b)) k) (sym at) ∙ now) in
+                  let end : v ≡ b = cc in
+                  subst (λ (k : ℕ). k / t.words_per_region < length t.regions) (sym end) near
+              | inr apart ↦ s.inside a j v f.object f.is (set_there (fields f.object) i j (Some b) (Some v) apart now)
+            ]
+        | inr other ↦ s.inside c j v x (sym (object_same t u c (w.others c other)) ∙ o) g
+      ]);
+    })
+
+nil_alone : (n i b : ℕ) → slice_get (replicate n None) i ≡ Some (Some b) → ⊥
+nil_alone n i b e =
+    let inside : i < n =
+    let h = slice_get_within (replicate n None) i (Some b) e in
+    omega (arith, h, length-replicate {A = Option ℕ} n None) in
+    let read : get_or (replicate n None) i None ≡ Some b = get_or_from_slice_get (replicate n None) i (Some b) None e in
+    let none : get_or (replicate n None) i None ≡ None = get_or-replicate {A = Option ℕ} n i None None inside in
+    cc
+
+nil_fields : (name n weak i b : ℕ) → slice_get (fields (new_object name n weak 0)) i ≡ Some (Some b) → ⊥
+nil_fields name n weak i b e = elim (get-append_cases (replicate n None) (replicate weak None) i (Some b) e) [
+  | inl q ↦ nil_alone n i b q
+  | inr q ↦ nil_alone weak q.0 b q.1
+]
+
+alone : (t : Tile) (j : ℕ) → 0 < j → tile_at j (t ∷ []) ≡ None
+alone t zero h = absurd (omega arith)
+alone t (suc j) h = elim (leb_tells (tile_size t) (suc j)) [ inl q ↦ rw q.0 refl | inr q ↦ rw q.0 refl ]
+
+-- an object with nil fields is made where a filler was pushed
+module _ (t t' t'' : Table) (k a n p weak name : ℕ) (shape : IsShaped t) (shape' : IsShaped t') (known : k < length t.regions)
+    (ordinary : kind_of t k ≡ kinds.Ordinary) (room : used_of t k + n ≤ t.words_per_region) (size : n ≡ 2 + p + weak)
+    (at : a ≡ top_of t k) (e : t' ≡ push_tile t k (Filler n))
+    (e' : t'' ≡ replace_tile t' a (Object (new_object name p weak 0) ∷ remainder (n - (2 + p + weak + 0)))) where
+  abbrev new : Stored
+  new = new_object name p weak 0
+
+  push : Pushed t t' k a (Filler n)
+  push = rw (e, at) (filler_push t k (Filler n) shape.positive shape.fitting known ordinary (omega (arith, size)) room tt)
+
+  whole : n - (2 + p + weak + 0) ≡ 0
+  whole = omega (arith, size)
+
+  words : tile_size (Object new) ≡ n
+  words = omega (arith, size, length-replicate {A = Option ℕ} p None, length-replicate {A = Option ℕ} weak None)
+
+  replaced : Replaces t' t'' a n (Object new ∷ [])
+  replaced =
+      let e2 : t'' ≡ replace_tile t' a (Object new ∷ []) = e' ∙ ap (λ (m : ℕ). replace_tile t' a (Object new ∷ remainder m)) whole in
+      subst (λ (u : Table). Replaces t' u a n (Object new ∷ [])) (sym e2)
+      (filler_replaced t' a n (Object new ∷ []) shape'.positive shape'.fitting push.is (omega (arith, size))
+      (omega (arith, words), tt) (omega (arith, words)) tt)
+
+  here : tile_in t'' a ≡ Some (Object new)
+  here = let z : a + 0 ≡ a = omega arith in ap (tile_in t'') (sym z) ∙ replaced.within 0 (omega (arith, size))
+
+  new_is : object_at t'' a ≡ Some new
+  unfolding object_at
+  new_is = ap tile_object here
+
+  middle : (y : ℕ) → y ≢ a → tile_in t'' y ≡ tile_in t' y
+  middle y apart = elim (cases_lt y a) [
+    | inl low ↦ replaced.others y (inl low)
+    | inr high ↦ elim (cases_lt y (a + n)) [
+      | inl inside ↦
+          let j : ℕ = y - a in
+          let y_is : a + j ≡ y = omega (arith, high) in
+          ap (tile_in t'') (sym y_is) ∙ replaced.within j (omega (arith, high, inside)) ∙ alone (Object new) j (omega (arith, high, apart))
+          ∙ sym (replaced.inside j (omega (arith, high, apart)) (omega (arith, high, inside))) ∙ ap (tile_in t') y_is
+      | inr past ↦ replaced.others y (inr past)
+    ]
+  ]
+
+  -- another object was there before, or there is none
+  other : (y : ℕ) → y ≢ a → object_at t'' y ≡ object_at t y
+  unfolding object_at
+  other y apart = ap tile_object (middle y apart ∙ push.others y apart)
+
+  pub add_sample : IsSample t → IsSample t''
+  add_sample s =
+      let count : length t''.regions ≡ length t.regions = replaced.count ∙ push.count in
+      let words_are : t''.words_per_region ≡ t.words_per_region = replaced.size ∙ push.size in
+      record {
+        count = count ∙ s.count;
+        words = words_are ∙ s.words;
+        inside = λ y i b x o f. elim (cases_eq y a) [
+          | inl same ↦
+              let x_is : x ≡ new = let m = new_is in let o' = sym (ap (object_at t'') same) ∙ o in cc in
+              absurd (nil_fields name p weak i b (ap (λ (q : Stored). slice_get (fields q) i) (sym x_is) ∙ f))
+          | inr apart ↦ rw (count, words_are) (s.inside y i b x (sym (other y apart) ∙ o) f)
+        ];
+      }
+
+pub add_there : (t t' : Table) (k a n : ℕ) → IsShaped t → k < length t.regions → kind_of t k ≡ kinds.Ordinary
+    → used_of t k + n ≤ t.words_per_region → 0 < n → a ≡ top_of t k
+    → t' ≡ push_tile t k (Filler n) → tile_in t' a ≡ Some (Filler n)
+add_there t t' k a n shape known ordinary room z at e =
+    rw (e, at) (filler_push t k (Filler n) shape.positive shape.fitting known ordinary z room tt).is
+
+-- an object of nil pointers in the first region of a run
+first_alone : (p name o : ℕ) (x : Stored) → tile_object (region_tile (First (new_object name p 0 0)) o) ≡ Some x → x ≡ new_object name p 0 0
+first_alone p name zero x e = cc
+first_alone p name (suc o) x e = cc
+
+-- a humongous object is made
+pub run_sample : (t t' : Table) (m p name : ℕ) (o : Option ℕ) → 0 < t.words_per_region → 0 < m → first_run is_free m t.regions ≡ o
+    → t' ≡ with_run t m (new_object name p 0 0) o → IsSample t → IsSample t'
+unfolding object_at
+run_sample t t' m p name None z n f e s = subst IsSample (sym e) s
+run_sample t t' m p name (Some k) z n f e s = subst IsSample (sym e) (record {
+  count = r.count ∙ s.count;
+  words = r.size ∙ s.words;
+  inside = λ y i b x h g. rw (r.count, r.size) (elim (cases_eq y (k * t.words_per_region)) [
+    | inl same ↦
+        let region : y / u.words_per_region ≡ k =
+        ap (λ (w : ℕ). y / w) r.size ∙ div_is y t.words_per_region k (omega arith) (omega arith) in
+        let tile = tile_of_region u y (First new) (ap (nth_region u) region ∙ r.first) in
+        let is : x ≡ new = first_alone p name (y % u.words_per_region) x (ap tile_object (sym tile) ∙ h) in
+        absurd (nil_fields name p 0 i b (ap (λ (q : Stored). slice_get (fields q) i) (sym is) ∙ g))
+    | inr apart ↦ s.inside y i b x (ap tile_object (sym (r.others y apart)) ∙ h) g
+  ]);
+})
+  where
+    new : Stored
+    new = new_object name p 0 0
+
+    u : Table
+    u = with_run t m new (Some k)
+
+    r : TakesRun t u k m new
+    r = run_made t k m new z n f
+
+-- the marks and sets of such a table
+pub sample_scans : (t : Table) (tops : Tops) (previous : List Bool) (sets : Sets) → IsSample t → length previous ≡ 64 → length sets.sets ≡ 4
+    → sets.cards_per_region ≡ 2 → CanScan t tops previous 8 sets
+sample_scans t tops previous sets s marks count cards = record {
+  fit = record { whole_cards = s.words ∙ rw cards refl; each_region = count ∙ sym s.count };
+  each_word = rw (s.count, s.words) marks;
+  inside = record { each = λ a i v x k f. s.inside a i v x (kept_object t tops previous a x k) f };
+}
+
+-- a tile with an object's shape is one
+object_tile_is : (o : Option Tile) (p weak d : ℕ) (shape : Shape) → IfSome o (λ u. shape ≡ tile_shape u) → IsSome o
+    → shape ≡ shapes.Object p weak d → IsSome (tile_object o)
+object_tile_is None p weak d shape h some e = cc
+object_tile_is (Some (Object s)) p weak d shape h some e = refl
+object_tile_is (Some (Filler m)) p weak d shape h some e = cc
+object_tile_is (Some (Forwarded to m)) p weak d shape h some e = cc
+
+pub is_object : (t : Table) (a p weak d : ℕ) (shape : Shape) → IfSome (tile_in t a) (λ u. shape ≡ tile_shape u) → IsSome (tile_in t a)
+    → shape ≡ shapes.Object p weak d → IsSome (object_at t a)
+unfolding object_at
+is_object t a p weak d shape h some e = object_tile_is (tile_in t a) p weak d shape h some e
+
+pub tile_some : (t : Table) (a w : ℕ) → IsHolder t a w → IsSome (tile_in t a)
+tile_some t a w h = rw h.tile_is refl

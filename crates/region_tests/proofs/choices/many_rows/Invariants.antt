@@ -1,0 +1,5 @@
+use Rattle.std.proofs.Common.{◌<◌, All}
+use Rattle.region_tests.proofs.choices.many_rows.Given as goal
+
+abbrev pub invariant-loop-place : goal.invariant-loop-place
+invariant-loop-place l = All (λ row. row.live_bound < 1024) l.rows
