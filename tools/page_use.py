@@ -313,6 +313,8 @@ def check_names(count, browser, name, path):
     count.note(f"{name}: names for shapes of a file", shapes == ["leaf", "rest of them"], shapes)
     label = browser.run("heapLife.chooseName('1'); return document.querySelector('#object h3').textContent")
     count.note(f"{name}: an object's name for its shape", label == "The life of #1, leaf", label)
+    tiles = browser.run("return [...document.querySelectorAll('.tile-name')].map((tile) => tile.textContent)")
+    count.note(f"{name}: its name at its tile", "#1 leaf" in tiles, tiles)
 
 
 def check_use(count, browser, name, path, last):
