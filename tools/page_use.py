@@ -341,13 +341,14 @@ def check_end_of_objects(count, browser, name, path):
     said = browser.run("return [document.getElementById('told').textContent, document.getElementById('thinned').textContent]")
     event = browser.run(ends)
     count.note(f"{name}: where objects end", all(f"objects are told up to event {event:,}" in it.lower() for it in said), (event, said))
-    count.note(f"{name}: no objects after it", browser.run("return !document.getElementById('lost') && placesAt(life, view.moment).size === 0"))
+    none = "return !document.getElementById('lost') && placesAt(life, view.moment).size === 0"
+    count.note(f"{name}: no objects after it", browser.run(none))
     tab_to(browser, lambda it: it["panel"] == "told")
     browser.strike("Enter")
     told = browser.run("return placesAt(life, view.moment).size > 0 && !document.querySelector('#told p')")
     count.note(f"{name}: the last moment with objects by keys", told and event_of(browser) == event, event_of(browser))
     browser.strike("ArrowRight")
-    count.note(f"{name}: none at the next", browser.run("return placesAt(life, view.moment).size === 0"), event_of(browser))
+    count.note(f"{name}: none at the next", browser.run(none), event_of(browser))
 
 
 def check_reading(count, browser, name, path, event, act):
