@@ -271,7 +271,7 @@ static inline int64_t g1record_walk(g1record *r, const g1record_view *view) {
     return w.left;
 }
 
-/* The objects that a sync has taken: the one in held[i] stands in register i of the walk, and register `count` is for what isn't fresh. */
+/* The objects that a sync has taken: the one in held[i] is in register i of the walk, and register `count` is for what isn't fresh. */
 typedef struct {
     g1record_walker w;
     void **held;

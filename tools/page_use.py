@@ -313,6 +313,8 @@ def check_names(count, browser, name, path):
     count.note(f"{name}: names for shapes of a file", shapes == ["leaf", "rest of them"], shapes)
     label = browser.run("heapLife.chooseName('1'); return document.querySelector('#object h3').textContent")
     count.note(f"{name}: an object's name for its shape", label == "The life of #1, leaf", label)
+    tiles = browser.run("return [...document.querySelectorAll('.tile-name')].map((tile) => tile.textContent)")
+    count.note(f"{name}: its name at its tile", "#1 leaf" in tiles, tiles)
 
 
 def check_use(count, browser, name, path, last):
@@ -341,13 +343,14 @@ def check_end_of_objects(count, browser, name, path):
     said = browser.run("return [document.getElementById('told').textContent, document.getElementById('thinned').textContent]")
     event = browser.run(ends)
     count.note(f"{name}: where objects end", all(f"objects are told up to event {event:,}" in it.lower() for it in said), (event, said))
-    count.note(f"{name}: no objects after it", browser.run("return !document.getElementById('lost') && placesAt(life, view.moment).size === 0"))
+    none = "return !document.getElementById('lost') && placesAt(life, view.moment).size === 0"
+    count.note(f"{name}: no objects after it", browser.run(none))
     tab_to(browser, lambda it: it["panel"] == "told")
     browser.strike("Enter")
     told = browser.run("return placesAt(life, view.moment).size > 0 && !document.querySelector('#told p')")
     count.note(f"{name}: the last moment with objects by keys", told and event_of(browser) == event, event_of(browser))
     browser.strike("ArrowRight")
-    count.note(f"{name}: none at the next", browser.run("return placesAt(life, view.moment).size === 0"), event_of(browser))
+    count.note(f"{name}: none at the next", browser.run(none), event_of(browser))
 
 
 def check_reading(count, browser, name, path, event, act):

@@ -85,3 +85,51 @@ def worked_out(moment, sizes):
     }
     reached = objects.reached()
     return shown, reached == whole.reached() if objects.is_sure() else reached <= whole.reached()
+
+
+# ---- the lives of objects
+
+def told_objects(moment, sizes):
+    """The objects that a page tells at a moment, by name: region, address, words, state; and the regions whose objects it doesn't tell."""
+    found, untold = {}, set()
+    for region, lines in enumerate(moment.regions):
+        told = page_data.told_region(lines, page_data.has_tiles(sizes))
+        if told[0].split()[2] in "oh" and not any(line[0] in "ox" for line in told):
+            untold.add(region)
+        for words in (line.split() for line in told if line[0] == "o"):
+            size = 2 + sum(fields_count(word for word in part.split()) for part in " ".join(words[4:]).split(";"))
+            found[words[2]] = region, region * sizes.words + int(words[1]), size, words[3]
+    return found, untold
+
+
+def changes_of(last, place):
+    """What happened to an object from one moment to the next."""
+    notes = [f"moved from {last[1]} to {place[1]}, in region {place[0]}"] if place[1] != last[1] else []
+    said = [(1, "g", "found by marking: grey"), (1, "s", "scanned"), (0, "m", "marked when marking ended: live"),
+            (0, "d", "not marked when marking ended: dead")]
+    return notes + [text for at, letter, text in said if place[3][at:at + 1] == letter != last[3][at:at + 1]]
+
+
+def gone_from(region, untold):
+    if region in untold:
+        return f"told no more: the objects of region {region} aren't in this file from here on"
+    return f"gone from region {region}, or moved to where objects aren't told" if untold else f"gone: region {region} was reclaimed"
+
+
+def lives_of_objects(lives, sizes):
+    """What happened to each object that a page tells, a moment after each event: `[event, text]`, in order, by name."""
+    notes, last = {}, {}
+    for event in sorted(lives):
+        here, untold = told_objects(lives[event], sizes)
+        for name in sorted({*last, *here}):
+            place, before = here.get(name), last.get(name)
+            if place and before:
+                said = changes_of(before, place)
+            elif place:
+                how = "told again" if name in notes else "made"
+                said = [f"{how} in region {place[0]}, at {place[1]}, {place[2]} words"]
+            else:
+                said = [gone_from(before[0], untold)]
+            notes.setdefault(name, []).extend([event, text] for text in said)
+        last = here
+    return notes

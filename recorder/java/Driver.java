@@ -291,8 +291,11 @@ public final class Driver {
 
     public static void main(String[] words) throws Exception {
         Path script = Path.of(words[0]);
-        String sizes = Files.newBufferedReader(script).readLine();
-        Driver driver = new Driver(sizes.split(" "), words[1], words.length > 2 ? Long.parseLong(words[2]) : 0);
+        String[] sizes;
+        try (BufferedReader lines = Files.newBufferedReader(script)) {
+            sizes = lines.readLine().split(" ");
+        }
+        Driver driver = new Driver(sizes, words[1], words.length > 2 ? Long.parseLong(words[2]) : 0);
         List<Thread> threads = new ArrayList<>();
         Thread.setDefaultUncaughtExceptionHandler((thread, fault) -> {
             fault.printStackTrace();

@@ -4,7 +4,8 @@
     tests/recorder/threads.py RECORD THREADS shared|lent
 
 By `shared` thread t takes the steps of mutator t mod 63, in a range of its registers that is its own. By `lent` a thread takes a free
-number for each turn, and its objects are in globals of its own in between. The record ends with a walk; printed is how many objects it left.
+number for each turn, and its objects are in globals of its own in between. The record ends with a walk; printed is how many objects it
+left.
 """
 import random
 import sys

@@ -153,9 +153,10 @@ class Lanes {
     const row = rowAt(life, region, view.moment);
     const shares = sharesAt(life, region, view.moment);
     const moment = life.moments[view.moment];
-    const own = view.tiles && row.tiles ? [rowNumber(row), ...this.notReached(row, view.moment).map((tile) => tile.offset)].join(" ") : "";
+    const lost = () => this.notReached(row, view.moment).map((tile) => tile.offset);
+    const own = view.tiles && row.tiles ? [rowNumber(row), rulesGiven, ...lost()] : [];
     const numbers = [...Object.values(shares), row.top, row.next, row.grey, row.live];
-    return [row.kind, ...numbers, moment.current === region, view.region === region, own].join(" ");
+    return [row.kind, ...numbers, moment.current === region, view.region === region, ...own].join(" ");
   }
 
   // The tiles of a region that no root reaches.
@@ -212,7 +213,8 @@ class Lanes {
   // The name of a humongous object, where it is told.
   nameOf(lane, row, view) {
     if (!view.tiles || !row.tiles || this.layout.tall < 22) return;
-    shape("text", { class: "tile-name", x: this.layout.wide / 2, y: this.layout.tall / 2 + 4, text: `#${row.tiles[0].name}` }, lane);
+    const [text] = tileNames(row.tiles[0]);
+    shape("text", { class: "tile-name", x: this.layout.wide / 2, y: this.layout.tall / 2 + 4, text }, lane);
     if (this.notReached(row, view.moment).length) this.drawNotReached(lane, 0, row.used * this.layout.perWord);
   }
 
@@ -235,8 +237,8 @@ class Lanes {
       shape("rect", { class: `tile ${grey}`, fill: "none", ...frame }, lane);
       if (lost.has(tile)) this.drawNotReached(lane, x, width);
       if (tile.name === undefined || tall < 22) continue;
-      const label = `#${tile.name}`;
-      if (width > label.length * 8 + 4) shape("text", { class: "tile-name", x: x + width / 2, y: tall / 2 + 4, text: label }, lane);
+      const text = tileNames(tile).find((label) => width > label.length * 8 + 4);
+      if (text) shape("text", { class: "tile-name", x: x + width / 2, y: tall / 2 + 4, text }, lane);
     }
   }
 
@@ -257,6 +259,12 @@ class Lanes {
       if (tall > 20) shape("text", { class: "tile-name", x: wide - tall / 4 - 2, y: tall / 2 + 4, text: row.grey }, lane);
     }
   }
+}
+
+// What a tile may be called, the longest first.
+function tileNames(tile) {
+  const label = labelOf(tile);
+  return [...(label === null ? [] : [`#${tile.name} ${label}`]), `#${tile.name}`];
 }
 
 // A number of its own for each row that was read, so that a lane sees whether its tiles changed.

@@ -166,7 +166,7 @@ function sharesAt(life, region, moment) {
   return shares;
 }
 
-// What was worked out for a few moments, the last ones that were asked for.
+// What was worked out for a few keys, moments or names, the last ones that were asked for.
 class Kept {
   constructor(work, most = 12) {
     this.work = work;
@@ -174,12 +174,12 @@ class Kept {
     this.found = new Map();
   }
 
-  at(life, moment) {
-    if (!this.found.has(moment)) {
+  at(life, key) {
+    if (!this.found.has(key)) {
       if (this.found.size >= this.most) this.found.delete(this.found.keys().next().value);
-      this.found.set(moment, this.work(life, moment));
+      this.found.set(key, this.work(life, key));
     }
-    return this.found.get(moment);
+    return this.found.get(key);
   }
 }
 
@@ -276,8 +276,12 @@ function rootName(life, place) {
 }
 
 // Where an object is from which moment on, in the order of the moments; null where it is nowhere. The regions' lines are read for that, and
-// no more of them than have the name.
+// no more of them than have the name; what was found of a few names is kept.
 function stretchesOf(life, name) {
+  return STRETCHES.at(life, name);
+}
+
+const STRETCHES = new Kept((life, name) => {
   const wanted = new RegExp(`^o \\d+ ${name} `);
   const changes = [];
   life.rows.forEach((rows, region) => {
@@ -304,7 +308,7 @@ function stretchesOf(life, name) {
     stretches.push({ moment, place: { region: found[0], tile, address: found[0] * life.sizes.words + tile.offset } });
   });
   return stretches;
-}
+});
 
 // Why an object that was in a region is at no place that is told.
 function whyGone(life, region, moment) {

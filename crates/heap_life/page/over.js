@@ -66,7 +66,7 @@ function drawBuffers(lanes, view) {
     shape("rect", { class: "buffer", x: at.x + 1, y: at.y + 1, width: Math.max(1, width - 2), height: layout.tall - 2 }, lanes.over);
     if (width > 64 && layout.tall > 20) {
       const middle = { x: at.x + width / 2, y: at.y + layout.tall / 2 + 4 };
-      shape("text", { class: "tile-name", style: "fill:var(--ink)", ...middle, text: `buffer ${buffer.mutator}` }, lanes.over);
+      shape("text", { class: "tile-name framed", ...middle, text: `buffer ${buffer.mutator}` }, lanes.over);
     }
   }
 }

@@ -62,6 +62,11 @@ function describeMoment() {
   if (focused) link.focus({ preventScroll: true });
 }
 
+// Tells the style how high the head is, so that the curves and the steps fill the rest of the window.
+function fitSide() {
+  document.documentElement.style.setProperty("--head", `${at("side").parentElement.offsetTop}px`);
+}
+
 function fill(id, ...panels) {
   at(id).replaceChildren(...panels.filter((panel) => panel !== null));
 }
@@ -80,8 +85,9 @@ function draw() {
   view.fresh = step && step.verb === "pause" ? dirtyAt(life, view.moment) : [];
   lanes.draw(view);
   moveCurves(view.moment);
-  steps.draw(life.moments[view.moment].event);
   describeMoment();
+  fitSide();
+  steps.draw(life.moments[view.moment].event);
   keepFocus(drawPanels);
   at("slider").value = view.moment;
   at("slider").setAttribute("aria-valuetext", `after event ${life.moments[view.moment].event}`);

@@ -79,6 +79,8 @@ function namedBy(life, moment, name) {
 
 // The rules that a reader has given, in their order: `{ shape: [pointers, weak slots, data words], word, label }`, null where any fits.
 let rules = [];
+// How often rules were given, so that a lane sees whether names changed.
+let rulesGiven = 0;
 
 // Reads rules, one a line: pointers, weak slots, data words, the first data word, the name. `*` is any; what follows # is a comment.
 function readNames(text) {
@@ -100,6 +102,7 @@ function readNames(text) {
 
 function setNames(read) {
   rules = read;
+  rulesGiven += 1;
 }
 
 // How many fields of each kind an object has, as texts.

@@ -1,6 +1,6 @@
 //! Marking over tables made by hand.
 
-ghost use Rattle.std.specs.Prelude.{◌≡◌, ℕ, true, false, [], Some, length, slice_get, IfOk, IfSome};
+ghost use Rattle.std.specs.Prelude.{◌≡◌, ◌<◌, ℕ, true, false, [], Some, length, slice_get, IfOk, IfSome};
 ghost use Rattle.heap_words.specs.Configs.{Suits};
 ghost use Rattle.regions.specs.Table.{HasObject};
 ghost use Rattle.mark_bitmap.specs.Tops.{below_previous};
@@ -8,7 +8,7 @@ ghost use Rattle.satb_log.specs.Logs.{logged};
 ghost use Rattle.marker.specs.Stands.{MarkerStands, IsKept};
 ghost use Rattle.marking_tests.specs.Samples.{IsLinked, LeadToObjects, Keeps};
 
-use heap_words::addr::{Addr, RegionNo};
+use heap_words::addr::{Addr, Ptr, RegionNo};
 use heap_words::config::{Config, Format};
 use heap_words::header::{Count, FillerSize, HeaderCounts};
 use marker::Marker;
@@ -302,14 +302,27 @@ fn takes_what_was_logged(rt: HostRuntime) -> Result<(), Fail> {
     Ok(())
 }
 
-/// Gives a marking up that has logged nothing: what it marked stays in the next marks.
-fn give_up(marker: &mut Marker, _table: &RegionTable)
-    requires stands { MarkerStands _table.now marker.old }
-    requires unlogged { logged marker.old.logs ≡ [] }
-    ensures stands { MarkerStands _table.now marker.new }
-    ensures idle { marker.new.running ≡ false }
+/// The lowest of the previous marks, and of a region the previous top and the words that are counted of it.
+fn previous_of(table: &RegionTable, marker: &Marker, region: RegionNo) -> (Ptr, Addr, u32)
+    requires stands { MarkerStands table.now marker.now }
+    requires known { region < length table.now.regions }
 {
-    marker.running = false;
+    (
+        marker.bitmaps.previous.next(Addr::new(0)),
+        marker.tams.previous(region),
+        marker.live.previous(region),
+    )
+}
+
+/// The lowest of the next marks, and of a region the next top.
+fn next_of(table: &RegionTable, marker: &Marker, region: RegionNo) -> (Ptr, Addr)
+    requires stands { MarkerStands table.now marker.now }
+    requires known { region < length table.now.regions }
+{
+    (
+        marker.bitmaps.next.next(Addr::new(0)),
+        marker.tams.next(region),
+    )
 }
 
 /// Two marked objects of three words in two regions. Once the first region is forgotten, its mark is gone, its top is at its bottom and
@@ -319,18 +332,29 @@ fn forgets_a_region(rt: HostRuntime) -> Result<(), Fail> {
     let mut made = build(rt.alloc(), &[(1, 0), (1, 0)], &[(0, 0, 1)])?;
     let roots = roots_of(rt.alloc(), &made, &[(16, 0)])?;
     let region = RegionNo::new(0);
+    let other = RegionNo::new(1);
     let bottom = Addr::new(0);
+    let second = Addr::new(16);
     let mut marker = begun(rt.alloc(), &made.table, &roots)?;
     assert_eq!(rt; marker.finish(&mut made.table), 2);
-    assert_eq!(rt; marker.bitmaps.previous.next(bottom), Some(bottom));
-    assert_eq!(rt; marker.tams.previous(region), Addr::new(3));
-    assert_eq!(rt; marker.live.previous(region), 3);
+    let found = previous_of(&made.table, &marker, region);
+    assert_eq!(rt; found, (Some(bottom), Addr::new(3), 3));
     marker.forget(&made.table, region);
-    assert_eq!(rt; marker.bitmaps.previous.next(bottom), Some(Addr::new(16)));
-    assert_eq!(rt; marker.tams.previous(region), bottom);
-    assert_eq!(rt; marker.live.previous(region), 0);
-    assert_eq!(rt; marker.live.previous(RegionNo::new(1)), 3);
+    let found = previous_of(&made.table, &marker, region);
+    assert_eq!(rt; found, (Some(second), bottom, 0));
+    let found = previous_of(&made.table, &marker, other);
+    assert_eq!(rt; found, (Some(second), Addr::new(19), 3));
     Ok(())
+}
+
+/// Gives a marking up that has logged nothing: what it marked stays in the next marks.
+fn give_up(marker: &mut Marker, _table: &RegionTable)
+    requires stands { MarkerStands _table.now marker.old }
+    requires unlogged { logged marker.old.logs ≡ [] }
+    ensures stands { MarkerStands _table.now marker.new }
+    ensures idle { marker.new.running ≡ false }
+{
+    marker.running = false;
 }
 
 /// The same where the marks are the next, those of a marking that was given up.
@@ -342,11 +366,11 @@ fn forgets_the_next_marks(rt: HostRuntime) -> Result<(), Fail> {
     let bottom = Addr::new(0);
     let mut marker = begun(rt.alloc(), &made.table, &roots)?;
     give_up(&mut marker, &made.table);
-    assert_eq!(rt; marker.bitmaps.next.next(bottom), Some(bottom));
-    assert_eq!(rt; marker.tams.next(region), Addr::new(3));
+    let found = next_of(&made.table, &marker, region);
+    assert_eq!(rt; found, (Some(bottom), Addr::new(3)));
     marker.forget(&made.table, region);
-    assert_eq!(rt; marker.bitmaps.next.next(bottom), Some(Addr::new(16)));
-    assert_eq!(rt; marker.tams.next(region), bottom);
+    let found = next_of(&made.table, &marker, region);
+    assert_eq!(rt; found, (Some(Addr::new(16)), bottom));
     Ok(())
 }
 

@@ -1,7 +1,6 @@
 //! Marks, their roles, tops at mark start, and what is grey.
 
-ghost use Rattle.std.specs.Prelude.{◌≡◌, ◌<◌, false, length};
-ghost use Rattle.mark_bitmap.specs.Marks.{is_marked};
+ghost use Rattle.std.specs.Prelude.{◌≡◌, ◌<◌, length};
 ghost use Rattle.mark_bitmap.specs.Grey.{HasFingers};
 
 use heap_words::addr::{Addr, RegionNo};
@@ -11,6 +10,7 @@ use mark_bitmap::grey::Grey;
 use mark_bitmap::marks::{Marks, count_marked};
 use mark_bitmap::summary::Summary;
 use mark_bitmap::tams::Tams;
+use std::process::Abort;
 use std::test::Fail;
 
 /// Each call once: three addresses are marked, found in the set and beside another one, counted, and cleared.
@@ -87,19 +87,33 @@ fn lives_over_a_cycle(rt: HostRuntime) -> Result<(), Fail> {
     Ok(())
 }
 
-/// An object is marked, and so it is grey.
-fn mark(marks: &mut Marks, grey: &mut Grey, at: u32)
+/// An object that wasn't scanned is marked, and so it is grey.
+fn mark(rt: &impl Abort, marks: &mut Marks, grey: &mut Grey, at: u32)
     requires known { at < length marks.old }
     requires even { length marks.old ≡ length grey.old.scanned }
-    requires unscanned { is_marked grey.old.scanned at ≡ false }
     requires fingers { HasFingers marks.old grey.old }
     ensures marks { length marks.new ≡ length marks.old }
     ensures scanned { length grey.new.scanned ≡ length grey.old.scanned }
     ensures fingers { HasFingers marks.new grey.new }
 {
     let object = Addr::new(at);
+    assert!(rt; !grey.is_scanned(object));
     marks.set(object);
     grey.add(object);
+}
+
+/// The lowest grey object is this one, and it is scanned.
+fn scan(rt: &impl Abort, marks: &Marks, grey: &mut Grey, at: u32)
+    requires known { at < length grey.old.scanned }
+    requires even { length marks.now ≡ length grey.old.scanned }
+    requires fingers { HasFingers marks.now grey.old }
+    ensures scanned { length grey.new.scanned ≡ length grey.old.scanned }
+    ensures fingers { HasFingers marks.now grey.new }
+{
+    let object = Addr::new(at);
+    assert_eq!(rt; grey.any(marks), Some(object));
+    grey.remove(marks, object);
+    assert!(rt; grey.is_scanned(object));
 }
 
 /// Grey objects come by rising address; one that is marked below another one comes next all the same.
@@ -108,18 +122,12 @@ fn mark(marks: &mut Marks, grey: &mut Grey, at: u32)
 fn finds_what_is_below(rt: HostRuntime) -> Result<(), Fail> {
     let mut marks = Marks::new(rt.alloc(), 200)?;
     let mut grey = Grey::new(rt.alloc(), 200)?;
-    mark(&mut marks, &mut grey, 199);
-    assert!(rt; !grey.is_scanned(Addr::new(64)));
-    mark(&mut marks, &mut grey, 64);
-    assert_eq!(rt; grey.any(&marks), Some(Addr::new(64)));
-    grey.remove(&marks, Addr::new(64));
-    assert!(rt; grey.is_scanned(Addr::new(64)));
-    assert!(rt; !grey.is_scanned(Addr::new(3)));
-    mark(&mut marks, &mut grey, 3);
-    assert_eq!(rt; grey.any(&marks), Some(Addr::new(3)));
-    grey.remove(&marks, Addr::new(3));
-    assert_eq!(rt; grey.any(&marks), Some(Addr::new(199)));
-    grey.remove(&marks, Addr::new(199));
+    mark(&rt, &mut marks, &mut grey, 199);
+    mark(&rt, &mut marks, &mut grey, 64);
+    scan(&rt, &marks, &mut grey, 64);
+    mark(&rt, &mut marks, &mut grey, 3);
+    scan(&rt, &marks, &mut grey, 3);
+    scan(&rt, &marks, &mut grey, 199);
     assert_eq!(rt; grey.any(&marks), None);
     grey.clear();
     assert!(rt; !grey.is_scanned(Addr::new(64)));

@@ -1,3 +1,4 @@
 pub mod Samples
 pub mod Copied
 pub mod Evacuated
+pub mod Filled

@@ -1,5 +1,8 @@
+//! Tables of regions, changed call by call: what is written is read back.
+
 ghost use Rattle.std.specs.Prelude.{◌≡◌, ◌*◌, ◌<◌, ◌^◌, length, IfOk, IsSome};
 ghost use Rattle.regions.specs.Table.{free_table, object_at, pointers_at, weaks_at, fields_at, values_at};
+ghost use Rattle.region_tests.specs.Filled.{IsFilled};
 
 use crate::refining::{add, free_regions, take};
 use heap_words::addr::{Addr, Ptr, RegionNo};
@@ -141,9 +144,10 @@ fn makes_what_suits(rt: HostRuntime) {
 }
 
 /// A region is taken, a filler cut and split, and an object made in it.
-#[test]
-fn fills_a_region(rt: HostRuntime) -> Result<(), Fail> {
-    let Ok(mut table) = small_table(rt.alloc()) else {
+fn filled(rt: &impl Abort, alloc: Global) -> Result<RegionTable, Fail>
+    ensures { IfOk result IsFilled }
+{
+    let Ok(mut table) = small_table(alloc) else {
         return Err(Fail::from("a table is made"));
     };
     let region = RegionNo::new(0);
@@ -158,12 +162,33 @@ fn fills_a_region(rt: HostRuntime) -> Result<(), Fail> {
     table.make_object(object, FillerSize::new(5), 7, counts(1, 0, 1));
     table.set_ptr(object, 0, Some(rest));
     table.set_value(object, 0, 9);
+    Ok(table)
+}
+
+/// What was written to the object is read back, and the region has room for six words more.
+#[test]
+fn fills_a_region(rt: HostRuntime) -> Result<(), Fail> {
+    let table = filled(&rt, rt.alloc())?;
+    let region = RegionNo::new(0);
+    let object = Addr::new(0);
+    let rest = Addr::new(5);
     assert_eq!(rt; about(&table, object), (7, 1, 1, 4));
     assert_eq!(rt; fields(&table, object), (Some(rest), 9));
     assert!(rt; table.has_room(region, 6));
     assert!(rt; !table.has_room(region, 7));
+    check_first_tile(&rt, &table, Addr::new(4), Some(Addr::new(4)));
+    check_first_tile(&rt, &table, Addr::new(9), Some(rest));
+    check_first_tile(&rt, &table, Addr::new(10), None);
+    Ok(())
+}
+
+/// Its tiles cover the words that are handed out, one after the other.
+#[test]
+fn walks_over_a_region(rt: HostRuntime) -> Result<(), Fail> {
+    let table = filled(&rt, rt.alloc())?;
+    let rest = Addr::new(5);
     let mut end = 0;
-    for (at, shape) in table.walk(region) {
+    for (at, shape) in table.walk(RegionNo::new(0)) {
         assert_eq!(rt; at.word(), end);
         end = at.word().saturating_add(shape.size());
     }
@@ -172,9 +197,6 @@ fn fills_a_region(rt: HostRuntime) -> Result<(), Fail> {
         table.walk_from(rest).next(),
         Some((rest, Shape::Filler { size: 5 }))
     );
-    check_first_tile(&rt, &table, Addr::new(4), Some(Addr::new(4)));
-    check_first_tile(&rt, &table, Addr::new(9), Some(rest));
-    check_first_tile(&rt, &table, Addr::new(10), None);
     Ok(())
 }
 

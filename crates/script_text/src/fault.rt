@@ -114,8 +114,8 @@ impl fmt::Display for ReadFault {
 
     fn fmt<W: fmt::Write>(&self, f: &mut fmt::Formatter<W>) -> fmt::Result {
         match self {
-            ReadFault::CannotRead => write!(f, "1 CannotRead"),
-            ReadFault::NoMemory => write!(f, "2 NoMemory"),
+            ReadFault::CannotRead => f.write_str("1 CannotRead"),
+            ReadFault::NoMemory => f.write_str("2 NoMemory"),
         }
     }
 }
@@ -139,8 +139,8 @@ impl fmt::Display for WriteFault {
 
     fn fmt<W: fmt::Write>(&self, f: &mut fmt::Formatter<W>) -> fmt::Result {
         match self {
-            WriteFault::CannotWrite => write!(f, "1 CannotWrite"),
-            WriteFault::NoMemory => write!(f, "2 NoMemory"),
+            WriteFault::CannotWrite => f.write_str("1 CannotWrite"),
+            WriteFault::NoMemory => f.write_str("2 NoMemory"),
         }
     }
 }

@@ -22,7 +22,7 @@ pub enum TextKind {
 }
 
 /// What may stand at a word's place in a line.
-#[derive(Clone, Copy, Debug, PartialEq, Eq)]
+#[derive(Clone, Copy)]
 pub(crate) enum Place {
     /// The count of an event.
     Count(u64),
@@ -70,7 +70,7 @@ pub(crate) enum Place {
 }
 
 /// A word of a line, counted from 1, and what may stand in its place.
-#[derive(Clone, Copy, Debug, PartialEq, Eq)]
+#[derive(Clone, Copy)]
 pub(crate) struct Stop {
     pub(crate) word: u64,
     pub(crate) place: Place,

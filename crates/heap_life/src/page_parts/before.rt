@@ -156,10 +156,8 @@ text.small { font-size: 12px; }\n\
 .arrow.copy { stroke: var(--pause); stroke-width: 2.4; marker-end: url(#head-copy); }\n\
 .arrow.card { stroke: var(--deep); marker-end: url(#head-card); }\n\
 .arrow.weak { stroke-dasharray: 5 4; }\n\
-.bundle {\n\
-\x20 font-size: 12px; font-weight: 600; text-anchor: middle; paint-order: stroke; stroke: var(--paper); stroke-width: 4; pointer-ev\
-ents: none;\n\
-}\n\
+.bundle { font-size: 12px; font-weight: 600; text-anchor: middle; pointer-events: none; }\n\
+.bundle, .framed { fill: var(--ink); paint-order: stroke; stroke: var(--paper); stroke-width: 4; }\n\
 .evacuated { fill: none; stroke: var(--pause); stroke-width: 2.5; stroke-dasharray: 7 4; pointer-events: none; }\n\
 .freed { fill: none; stroke: var(--deep); stroke-width: 2.5; stroke-dasharray: 2 4; pointer-events: none; }\n\
 #what, #region, #object, #naming { margin-top: 10px; }\n\
@@ -208,7 +206,10 @@ th[scope=\"row\"] { font-variant-numeric: tabular-nums; color: var(--ink); }\n\
 .swatch.new { background: var(--new); }\n\
 .swatch.filler { background: var(--filler); }\n\
 .swatch.free { background: var(--sheet); }\n\
-#side { position: sticky; top: 52px; display: flex; flex-direction: column; height: calc(100vh - 60px); min-height: 420px; }\n\
+#side {\n\
+\x20 position: sticky; top: 52px; display: flex; flex-direction: column; height: calc(100vh - var(--head, 140px) - 8px); min-height\
+: 420px;\n\
+}\n\
 #record-view { flex: 1 1 0; min-height: 0; display: flex; flex-direction: column; }\n\
 #steps {\n\
 \x20 list-style: none; margin: 0; padding: 0; flex: 1 1 0; min-height: 0; overflow: auto;\n\

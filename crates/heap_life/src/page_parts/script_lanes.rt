@@ -163,10 +163,10 @@ vg);\n\
 \x20   const row = rowAt(life, region, view.moment);\n\
 \x20   const shares = sharesAt(life, region, view.moment);\n\
 \x20   const moment = life.moments[view.moment];\n\
-\x20   const own = view.tiles && row.tiles ? [rowNumber(row), ...this.notReached(row, view.moment).map((tile) => tile.offset)].join\
-(\" \") : \"\";\n\
+\x20   const lost = () => this.notReached(row, view.moment).map((tile) => tile.offset);\n\
+\x20   const own = view.tiles && row.tiles ? [rowNumber(row), rulesGiven, ...lost()] : [];\n\
 \x20   const numbers = [...Object.values(shares), row.top, row.next, row.grey, row.live];\n\
-\x20   return [row.kind, ...numbers, moment.current === region, view.region === region, own].join(\" \");\n\
+\x20   return [row.kind, ...numbers, moment.current === region, view.region === region, ...own].join(\" \");\n\
 \x20 }\n\
 \n\
 \x20 // The tiles of a region that no root reaches.\n\
@@ -224,8 +224,8 @@ vg);\n\
 \x20 // The name of a humongous object, where it is told.\n\
 \x20 nameOf(lane, row, view) {\n\
 \x20   if (!view.tiles || !row.tiles || this.layout.tall < 22) return;\n\
-\x20   shape(\"text\", { class: \"tile-name\", x: this.layout.wide / 2, y: this.layout.tall / 2 + 4, text: `#${row.tiles[0].name}` \
-}, lane);\n\
+\x20   const [text] = tileNames(row.tiles[0]);\n\
+\x20   shape(\"text\", { class: \"tile-name\", x: this.layout.wide / 2, y: this.layout.tall / 2 + 4, text }, lane);\n\
 \x20   if (this.notReached(row, view.moment).length) this.drawNotReached(lane, 0, row.used * this.layout.perWord);\n\
 \x20 }\n\
 \n\
@@ -249,9 +249,8 @@ vg);\n\
 \x20     shape(\"rect\", { class: `tile ${grey}`, fill: \"none\", ...frame }, lane);\n\
 \x20     if (lost.has(tile)) this.drawNotReached(lane, x, width);\n\
 \x20     if (tile.name === undefined || tall < 22) continue;\n\
-\x20     const label = `#${tile.name}`;\n\
-\x20     if (width > label.length * 8 + 4) shape(\"text\", { class: \"tile-name\", x: x + width / 2, y: tall / 2 + 4, text: label }\
-, lane);\n\
+\x20     const text = tileNames(tile).find((label) => width > label.length * 8 + 4);\n\
+\x20     if (text) shape(\"text\", { class: \"tile-name\", x: x + width / 2, y: tall / 2 + 4, text }, lane);\n\
 \x20   }\n\
 \x20 }\n\
 \n\
@@ -272,6 +271,12 @@ vg);\n\
 \x20     if (tall > 20) shape(\"text\", { class: \"tile-name\", x: wide - tall / 4 - 2, y: tall / 2 + 4, text: row.grey }, lane);\n\
 \x20   }\n\
 \x20 }\n\
+}\n\
+\n\
+// What a tile may be called, the longest first.\n\
+function tileNames(tile) {\n\
+\x20 const label = labelOf(tile);\n\
+\x20 return [...(label === null ? [] : [`#${tile.name} ${label}`]), `#${tile.name}`];\n\
 }\n\
 \n\
 // A number of its own for each row that was read, so that a lane sees whether its tiles changed.\n\

@@ -176,7 +176,7 @@ function sharesAt(life, region, moment) {\n\
 \x20 return shares;\n\
 }\n\
 \n\
-// What was worked out for a few moments, the last ones that were asked for.\n\
+// What was worked out for a few keys, moments or names, the last ones that were asked for.\n\
 class Kept {\n\
 \x20 constructor(work, most = 12) {\n\
 \x20   this.work = work;\n\
@@ -184,12 +184,12 @@ class Kept {\n\
 \x20   this.found = new Map();\n\
 \x20 }\n\
 \n\
-\x20 at(life, moment) {\n\
-\x20   if (!this.found.has(moment)) {\n\
+\x20 at(life, key) {\n\
+\x20   if (!this.found.has(key)) {\n\
 \x20     if (this.found.size >= this.most) this.found.delete(this.found.keys().next().value);\n\
-\x20     this.found.set(moment, this.work(life, moment));\n\
+\x20     this.found.set(key, this.work(life, key));\n\
 \x20   }\n\
-\x20   return this.found.get(moment);\n\
+\x20   return this.found.get(key);\n\
 \x20 }\n\
 }\n\
 \n\
@@ -287,8 +287,12 @@ function rootName(life, place) {\n\
 \n\
 // Where an object is from which moment on, in the order of the moments; null where it is nowhere. The regions' lines are read f\
 or that, and\n\
-// no more of them than have the name.\n\
+// no more of them than have the name; what was found of a few names is kept.\n\
 function stretchesOf(life, name) {\n\
+\x20 return STRETCHES.at(life, name);\n\
+}\n\
+\n\
+const STRETCHES = new Kept((life, name) => {\n\
 \x20 const wanted = new RegExp(`^o \\\\d+ ${name} `);\n\
 \x20 const changes = [];\n\
 \x20 life.rows.forEach((rows, region) => {\n\
@@ -315,7 +319,7 @@ function stretchesOf(life, name) {\n\
 \x20   stretches.push({ moment, place: { region: found[0], tile, address: found[0] * life.sizes.words + tile.offset } });\n\
 \x20 });\n\
 \x20 return stretches;\n\
-}\n\
+});\n\
 \n\
 // Why an object that was in a region is at no place that is told.\n\
 function whyGone(life, region, moment) {\n\

@@ -77,8 +77,7 @@ function drawBuffers(lanes, view) {\n\
 es.over);\n\
 \x20   if (width > 64 && layout.tall > 20) {\n\
 \x20     const middle = { x: at.x + width / 2, y: at.y + layout.tall / 2 + 4 };\n\
-\x20     shape(\"text\", { class: \"tile-name\", style: \"fill:var(--ink)\", ...middle, text: `buffer ${buffer.mutator}` }, lanes.o\
-ver);\n\
+\x20     shape(\"text\", { class: \"tile-name framed\", ...middle, text: `buffer ${buffer.mutator}` }, lanes.over);\n\
 \x20   }\n\
 \x20 }\n\
 }\n\

@@ -69,6 +69,11 @@ und.event)}`);\n\
 \x20 if (focused) link.focus({ preventScroll: true });\n\
 }\n\
 \n\
+// Tells the style how high the head is, so that the curves and the steps fill the rest of the window.\n\
+function fitSide() {\n\
+\x20 document.documentElement.style.setProperty(\"--head\", `${at(\"side\").parentElement.offsetTop}px`);\n\
+}\n\
+\n\
 function fill(id, ...panels) {\n\
 \x20 at(id).replaceChildren(...panels.filter((panel) => panel !== null));\n\
 }\n\
@@ -87,8 +92,9 @@ function draw() {\n\
 \x20 view.fresh = step && step.verb === \"pause\" ? dirtyAt(life, view.moment) : [];\n\
 \x20 lanes.draw(view);\n\
 \x20 moveCurves(view.moment);\n\
-\x20 steps.draw(life.moments[view.moment].event);\n\
 \x20 describeMoment();\n\
+\x20 fitSide();\n\
+\x20 steps.draw(life.moments[view.moment].event);\n\
 \x20 keepFocus(drawPanels);\n\
 \x20 at(\"slider\").value = view.moment;\n\
 \x20 at(\"slider\").setAttribute(\"aria-valuetext\", `after event ${life.moments[view.moment].event}`);\n\

@@ -89,6 +89,8 @@ function namedBy(life, moment, name) {\n\
 // The rules that a reader has given, in their order: `{ shape: [pointers, weak slots, data words], word, label }`, null where a\
 ny fits.\n\
 let rules = [];\n\
+// How often rules were given, so that a lane sees whether names changed.\n\
+let rulesGiven = 0;\n\
 \n\
 // Reads rules, one a line: pointers, weak slots, data words, the first data word, the name. `*` is any; what follows # is a com\
 ment.\n\
@@ -111,6 +113,7 @@ function readNames(text) {\n\
 \n\
 function setNames(read) {\n\
 \x20 rules = read;\n\
+\x20 rulesGiven += 1;\n\
 }\n\
 \n\
 // How many fields of each kind an object has, as texts.\n\

@@ -28,7 +28,7 @@ evacuate-moved-requires-clause-can c =
       sets_are = c.in_ok-sets.ensures;
       roots = c.in_ok-roots.ensures;
     } in
-    subst (λ (n : ℕ). CanEvacuate h (record { region = n; live_bound = 2 } ∷ []) 8) (sym c.new-6.ensures)
+    subst (λ (n : ℕ). CanEvacuate h (record { region = n; live_bound = 2 } ∷ []) 8) (sym c.new-5.ensures)
     (can_evacuate by_weak_slot two_cards (record { region = 1; live_bound = 2 }) weak_suited h fresh)
 
 pub evacuate-moved-requires-clause-each_region : goal.evacuate-moved-requires-clause-each_region

@@ -1,178 +1,33 @@
 use Rattle.std.proofs.Common.{arith, refl}
-use Rattle.region_tests.proofs.TableSamples.{fill_take, fill_push, fill_split, fill_make, fill_pointer, fill_value, usable1, usable_filled}
-use Rattle.region_tests.proofs.TableSamples.{filler2, filler3, sample_is, rest_is_tile, word_inside}
+use Rattle.region_tests.proofs.TableSamples.{usable_filled, sample_is, word_inside}
 use Rattle.region_tests.proofs.tables.fills_a_region.Goals as goal
 
-pub push_filler-requires-clause-ordinary : goal.push_filler-requires-clause-ordinary
-push_filler-requires-clause-ordinary g c =
-    let t1 = fill_take _ _ c.in-Ok.ensures c.take_free.ensures.taken in
-    (usable1 _ _ _ t1 c.new-region.ensures c.new.ensures).ordinary
-
-pub push_filler-requires-clause-room : goal.push_filler-requires-clause-room
-push_filler-requires-clause-room g c =
-    let t1 = fill_take _ _ c.in-Ok.ensures c.take_free.ensures.taken in
-    (usable1 _ _ _ t1 c.new-region.ensures c.new.ensures).room
-
-pub split_filler-requires-clause-there : goal.split_filler-requires-clause-there
-split_filler-requires-clause-there g c =
-    let t1 = fill_take _ _ c.in-Ok.ensures c.take_free.ensures.taken in
-    let t2 = fill_push _ _ _ _ t1 c.push_filler.ensures.pushed c.new-region.ensures c.new.ensures in
-    filler2 _ _ _ t2 c.new-object.ensures c.new-2.ensures
-
-pub make_object-requires-clause-there : goal.make_object-requires-clause-there
-make_object-requires-clause-there g c =
-    let t1 = fill_take _ _ c.in-Ok.ensures c.take_free.ensures.taken in
-    let t2 = fill_push _ _ _ _ t1 c.push_filler.ensures.pushed c.new-region.ensures c.new.ensures in
-    let t3 = fill_split _ _ _ _ _ t2 c.split_filler.ensures.split c.new-object.ensures c.new-2.ensures c.new-3.ensures in
-    filler3 _ _ _ t3 c.new-object.ensures c.new-4.ensures
-
-pub set_ptr-requires : goal.set_ptr-requires
-set_ptr-requires g c =
-    let t1 = fill_take _ _ c.in-Ok.ensures c.take_free.ensures.taken in
-    let t2 = fill_push _ _ _ _ t1 c.push_filler.ensures.pushed c.new-region.ensures c.new.ensures in
-    let t3 = fill_split _ _ _ _ _ t2 c.split_filler.ensures.split c.new-object.ensures c.new-2.ensures c.new-3.ensures in
-    let t4 = fill_make _ _ _ _ _ _ _ t3 c.make_object.ensures c.new-object.ensures c.new-4.ensures c.counts.ensures.pointers_are
-    c.counts.ensures.weaks_are c.counts.ensures.values_are in
-    (sample_is _ _ _ _ t4 c.new-object.ensures).pointers
-
-pub set_value-requires : goal.set_value-requires
-set_value-requires g c =
-    let t1 = fill_take _ _ c.in-Ok.ensures c.take_free.ensures.taken in
-    let t2 = fill_push _ _ _ _ t1 c.push_filler.ensures.pushed c.new-region.ensures c.new.ensures in
-    let t3 = fill_split _ _ _ _ _ t2 c.split_filler.ensures.split c.new-object.ensures c.new-2.ensures c.new-3.ensures in
-    let t4 = fill_make _ _ _ _ _ _ _ t3 c.make_object.ensures c.new-object.ensures c.new-4.ensures c.counts.ensures.pointers_are
-    c.counts.ensures.weaks_are c.counts.ensures.values_are in
-    let t5 = fill_pointer _ _ _ _ t4 c.set_ptr.ensures c.new-object.ensures c.new-rest.ensures in
-    (sample_is _ _ _ _ t5 c.new-object.ensures).values
-
 pub about-requires : goal.about-requires
-about-requires g c =
-    let t1 = fill_take _ _ c.in-Ok.ensures c.take_free.ensures.taken in
-    let t2 = fill_push _ _ _ _ t1 c.push_filler.ensures.pushed c.new-region.ensures c.new.ensures in
-    let t3 = fill_split _ _ _ _ _ t2 c.split_filler.ensures.split c.new-object.ensures c.new-2.ensures c.new-3.ensures in
-    let t4 = fill_make _ _ _ _ _ _ _ t3 c.make_object.ensures c.new-object.ensures c.new-4.ensures c.counts.ensures.pointers_are
-    c.counts.ensures.weaks_are c.counts.ensures.values_are in
-    let t5 = fill_pointer _ _ _ _ t4 c.set_ptr.ensures c.new-object.ensures c.new-rest.ensures in
-    let t6 = fill_value _ _ _ t5 c.set_value.ensures c.new-object.ensures in
-    (sample_is _ _ _ _ t6 c.new-object.ensures).object
+about-requires g c = (sample_is _ _ _ _ c.in_ok-table.ensures c.new-object.ensures).object
 
 pub fields-requires-clause-pointers : goal.fields-requires-clause-pointers
-fields-requires-clause-pointers g c =
-    let t1 = fill_take _ _ c.in-Ok.ensures c.take_free.ensures.taken in
-    let t2 = fill_push _ _ _ _ t1 c.push_filler.ensures.pushed c.new-region.ensures c.new.ensures in
-    let t3 = fill_split _ _ _ _ _ t2 c.split_filler.ensures.split c.new-object.ensures c.new-2.ensures c.new-3.ensures in
-    let t4 = fill_make _ _ _ _ _ _ _ t3 c.make_object.ensures c.new-object.ensures c.new-4.ensures c.counts.ensures.pointers_are
-    c.counts.ensures.weaks_are c.counts.ensures.values_are in
-    let t5 = fill_pointer _ _ _ _ t4 c.set_ptr.ensures c.new-object.ensures c.new-rest.ensures in
-    let t6 = fill_value _ _ _ t5 c.set_value.ensures c.new-object.ensures in
-    (sample_is _ _ _ _ t6 c.new-object.ensures).pointers
+fields-requires-clause-pointers g c = (sample_is _ _ _ _ c.in_ok-table.ensures c.new-object.ensures).pointers
 
 pub fields-requires-clause-values : goal.fields-requires-clause-values
-fields-requires-clause-values g c =
-    let t1 = fill_take _ _ c.in-Ok.ensures c.take_free.ensures.taken in
-    let t2 = fill_push _ _ _ _ t1 c.push_filler.ensures.pushed c.new-region.ensures c.new.ensures in
-    let t3 = fill_split _ _ _ _ _ t2 c.split_filler.ensures.split c.new-object.ensures c.new-2.ensures c.new-3.ensures in
-    let t4 = fill_make _ _ _ _ _ _ _ t3 c.make_object.ensures c.new-object.ensures c.new-4.ensures c.counts.ensures.pointers_are
-    c.counts.ensures.weaks_are c.counts.ensures.values_are in
-    let t5 = fill_pointer _ _ _ _ t4 c.set_ptr.ensures c.new-object.ensures c.new-rest.ensures in
-    let t6 = fill_value _ _ _ t5 c.set_value.ensures c.new-object.ensures in
-    (sample_is _ _ _ _ t6 c.new-object.ensures).values
+fields-requires-clause-values g c = (sample_is _ _ _ _ c.in_ok-table.ensures c.new-object.ensures).values
 
 pub has_room-requires-clause-known : goal.has_room-requires-clause-known
-has_room-requires-clause-known g c =
-    let t1 = fill_take _ _ c.in-Ok.ensures c.take_free.ensures.taken in
-    let t2 = fill_push _ _ _ _ t1 c.push_filler.ensures.pushed c.new-region.ensures c.new.ensures in
-    let t3 = fill_split _ _ _ _ _ t2 c.split_filler.ensures.split c.new-object.ensures c.new-2.ensures c.new-3.ensures in
-    let t4 = fill_make _ _ _ _ _ _ _ t3 c.make_object.ensures c.new-object.ensures c.new-4.ensures c.counts.ensures.pointers_are
-    c.counts.ensures.weaks_are c.counts.ensures.values_are in
-    let t5 = fill_pointer _ _ _ _ t4 c.set_ptr.ensures c.new-object.ensures c.new-rest.ensures in
-    let t6 = fill_value _ _ _ t5 c.set_value.ensures c.new-object.ensures in
-    (usable_filled _ _ _ t6 c.new-region.ensures).0
+has_room-requires-clause-known g c = (usable_filled _ _ _ c.in_ok-table.ensures c.new-region.ensures).0
 
 pub has_room-requires-clause-ordinary : goal.has_room-requires-clause-ordinary
-has_room-requires-clause-ordinary g c =
-    let t1 = fill_take _ _ c.in-Ok.ensures c.take_free.ensures.taken in
-    let t2 = fill_push _ _ _ _ t1 c.push_filler.ensures.pushed c.new-region.ensures c.new.ensures in
-    let t3 = fill_split _ _ _ _ _ t2 c.split_filler.ensures.split c.new-object.ensures c.new-2.ensures c.new-3.ensures in
-    let t4 = fill_make _ _ _ _ _ _ _ t3 c.make_object.ensures c.new-object.ensures c.new-4.ensures c.counts.ensures.pointers_are
-    c.counts.ensures.weaks_are c.counts.ensures.values_are in
-    let t5 = fill_pointer _ _ _ _ t4 c.set_ptr.ensures c.new-object.ensures c.new-rest.ensures in
-    let t6 = fill_value _ _ _ t5 c.set_value.ensures c.new-object.ensures in
-    (usable_filled _ _ _ t6 c.new-region.ensures).1
+has_room-requires-clause-ordinary g c = (usable_filled _ _ _ c.in_ok-table.ensures c.new-region.ensures).1
 
 pub has_room-requires-2-clause-known : goal.has_room-requires-2-clause-known
-has_room-requires-2-clause-known g c =
-    let t1 = fill_take _ _ c.in-Ok.ensures c.take_free.ensures.taken in
-    let t2 = fill_push _ _ _ _ t1 c.push_filler.ensures.pushed c.new-region.ensures c.new.ensures in
-    let t3 = fill_split _ _ _ _ _ t2 c.split_filler.ensures.split c.new-object.ensures c.new-2.ensures c.new-3.ensures in
-    let t4 = fill_make _ _ _ _ _ _ _ t3 c.make_object.ensures c.new-object.ensures c.new-4.ensures c.counts.ensures.pointers_are
-    c.counts.ensures.weaks_are c.counts.ensures.values_are in
-    let t5 = fill_pointer _ _ _ _ t4 c.set_ptr.ensures c.new-object.ensures c.new-rest.ensures in
-    let t6 = fill_value _ _ _ t5 c.set_value.ensures c.new-object.ensures in
-    (usable_filled _ _ _ t6 c.new-region.ensures).0
+has_room-requires-2-clause-known g c = (usable_filled _ _ _ c.in_ok-table.ensures c.new-region.ensures).0
 
 pub has_room-requires-2-clause-ordinary : goal.has_room-requires-2-clause-ordinary
-has_room-requires-2-clause-ordinary g c =
-    let t1 = fill_take _ _ c.in-Ok.ensures c.take_free.ensures.taken in
-    let t2 = fill_push _ _ _ _ t1 c.push_filler.ensures.pushed c.new-region.ensures c.new.ensures in
-    let t3 = fill_split _ _ _ _ _ t2 c.split_filler.ensures.split c.new-object.ensures c.new-2.ensures c.new-3.ensures in
-    let t4 = fill_make _ _ _ _ _ _ _ t3 c.make_object.ensures c.new-object.ensures c.new-4.ensures c.counts.ensures.pointers_are
-    c.counts.ensures.weaks_are c.counts.ensures.values_are in
-    let t5 = fill_pointer _ _ _ _ t4 c.set_ptr.ensures c.new-object.ensures c.new-rest.ensures in
-    let t6 = fill_value _ _ _ t5 c.set_value.ensures c.new-object.ensures in
-    (usable_filled _ _ _ t6 c.new-region.ensures).1
-
-pub walk-at-items-requires : goal.walk-at-items-requires
-walk-at-items-requires g c =
-    let t1 = fill_take _ _ c.in-Ok.ensures c.take_free.ensures.taken in
-    let t2 = fill_push _ _ _ _ t1 c.push_filler.ensures.pushed c.new-region.ensures c.new.ensures in
-    let t3 = fill_split _ _ _ _ _ t2 c.split_filler.ensures.split c.new-object.ensures c.new-2.ensures c.new-3.ensures in
-    let t4 = fill_make _ _ _ _ _ _ _ t3 c.make_object.ensures c.new-object.ensures c.new-4.ensures c.counts.ensures.pointers_are
-    c.counts.ensures.weaks_are c.counts.ensures.values_are in
-    let t5 = fill_pointer _ _ _ _ t4 c.set_ptr.ensures c.new-object.ensures c.new-rest.ensures in
-    let t6 = fill_value _ _ _ t5 c.set_value.ensures c.new-object.ensures in
-    (usable_filled _ _ _ t6 c.new-region.ensures).0
-
-pub walk_from-requires : goal.walk_from-requires
-walk_from-requires g c =
-    let t1 = fill_take _ _ c.in-Ok.ensures c.take_free.ensures.taken in
-    let t2 = fill_push _ _ _ _ t1 c.push_filler.ensures.pushed c.new-region.ensures c.new.ensures in
-    let t3 = fill_split _ _ _ _ _ t2 c.split_filler.ensures.split c.new-object.ensures c.new-2.ensures c.new-3.ensures in
-    let t4 = fill_make _ _ _ _ _ _ _ t3 c.make_object.ensures c.new-object.ensures c.new-4.ensures c.counts.ensures.pointers_are
-    c.counts.ensures.weaks_are c.counts.ensures.values_are in
-    let t5 = fill_pointer _ _ _ _ t4 c.set_ptr.ensures c.new-object.ensures c.new-rest.ensures in
-    let t6 = fill_value _ _ _ t5 c.set_value.ensures c.new-object.ensures in
-    rest_is_tile _ _ _ _ t6 c.new-rest.ensures
+has_room-requires-2-clause-ordinary g c = (usable_filled _ _ _ c.in_ok-table.ensures c.new-region.ensures).1
 
 pub check_first_tile-requires : goal.check_first_tile-requires
-check_first_tile-requires g c =
-    let t1 = fill_take _ _ c.in-Ok.ensures c.take_free.ensures.taken in
-    let t2 = fill_push _ _ _ _ t1 c.push_filler.ensures.pushed c.new-region.ensures c.new.ensures in
-    let t3 = fill_split _ _ _ _ _ t2 c.split_filler.ensures.split c.new-object.ensures c.new-2.ensures c.new-3.ensures in
-    let t4 = fill_make _ _ _ _ _ _ _ t3 c.make_object.ensures c.new-object.ensures c.new-4.ensures c.counts.ensures.pointers_are
-    c.counts.ensures.weaks_are c.counts.ensures.values_are in
-    let t5 = fill_pointer _ _ _ _ t4 c.set_ptr.ensures c.new-object.ensures c.new-rest.ensures in
-    let t6 = fill_value _ _ _ t5 c.set_value.ensures c.new-object.ensures in
-    word_inside _ _ _ _ t6 refl c.new-5.ensures (omega arith)
+check_first_tile-requires g c = word_inside _ _ _ _ c.in_ok-table.ensures refl c.new.ensures (omega arith)
 
 pub check_first_tile-requires-2 : goal.check_first_tile-requires-2
-check_first_tile-requires-2 g c =
-    let t1 = fill_take _ _ c.in-Ok.ensures c.take_free.ensures.taken in
-    let t2 = fill_push _ _ _ _ t1 c.push_filler.ensures.pushed c.new-region.ensures c.new.ensures in
-    let t3 = fill_split _ _ _ _ _ t2 c.split_filler.ensures.split c.new-object.ensures c.new-2.ensures c.new-3.ensures in
-    let t4 = fill_make _ _ _ _ _ _ _ t3 c.make_object.ensures c.new-object.ensures c.new-4.ensures c.counts.ensures.pointers_are
-    c.counts.ensures.weaks_are c.counts.ensures.values_are in
-    let t5 = fill_pointer _ _ _ _ t4 c.set_ptr.ensures c.new-object.ensures c.new-rest.ensures in
-    let t6 = fill_value _ _ _ t5 c.set_value.ensures c.new-object.ensures in
-    word_inside _ _ _ _ t6 refl c.new-7.ensures (omega arith)
+check_first_tile-requires-2 g c = word_inside _ _ _ _ c.in_ok-table.ensures refl c.new-3.ensures (omega arith)
 
 pub check_first_tile-requires-3 : goal.check_first_tile-requires-3
-check_first_tile-requires-3 g c =
-    let t1 = fill_take _ _ c.in-Ok.ensures c.take_free.ensures.taken in
-    let t2 = fill_push _ _ _ _ t1 c.push_filler.ensures.pushed c.new-region.ensures c.new.ensures in
-    let t3 = fill_split _ _ _ _ _ t2 c.split_filler.ensures.split c.new-object.ensures c.new-2.ensures c.new-3.ensures in
-    let t4 = fill_make _ _ _ _ _ _ _ t3 c.make_object.ensures c.new-object.ensures c.new-4.ensures c.counts.ensures.pointers_are
-    c.counts.ensures.weaks_are c.counts.ensures.values_are in
-    let t5 = fill_pointer _ _ _ _ t4 c.set_ptr.ensures c.new-object.ensures c.new-rest.ensures in
-    let t6 = fill_value _ _ _ t5 c.set_value.ensures c.new-object.ensures in
-    word_inside _ _ _ _ t6 refl c.new-8.ensures (omega arith)
+check_first_tile-requires-3 g c = word_inside _ _ _ _ c.in_ok-table.ensures refl c.new-4.ensures (omega arith)

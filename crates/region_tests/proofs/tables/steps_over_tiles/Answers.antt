@@ -1,4 +1,5 @@
-use Rattle.region_tests.proofs.TableSamples.{fill_take, step_push, step_make, step_field, filler_stepped, usable_step, stepped_is, stepped_rest}
+use Rattle.region_tests.proofs.TableSamples.{fill_take, step_push, step_make, step_field, filler_stepped}
+use Rattle.region_tests.proofs.TableSamples.{usable_step, stepped_is, stepped_rest}
 use Rattle.region_tests.proofs.tables.steps_over_tiles.Goals as goal
 
 pub push_filler-requires-clause-ordinary : goal.push_filler-requires-clause-ordinary
